@@ -1,13 +1,15 @@
-// A library with one function.
+//! What a program sees of the outside, and what it may rely on.
+//!
+//! A [`Site`] holds numbered files and one output tape under one clock of moments. Its whole meaning is one
+//! ghost member, `history`: the list of what has happened so far. What a file reads, which files a crash may
+//! leave at a moment, and what stands on the tape are definitions over it (`specs/History.antt`). A site that
+//! tells nothing, as a real directory, meets the same trait: there `tells` is false.
+//!
+//! A [`Clock`] gives moments in milliseconds.
 #![tactic(auto)]
 
-ghost use Rattle.std.specs.Prelude.{◌≡◌};
-ghost use Rattle.site_model.specs.Echo.{echo_of};
+mod clock;
+mod site;
 
-// The `ensures` clause is the contract: what `echo` returns is `echo_of` of its argument, a definition
-// in `specs/Echo.antt`, which a caller's clause can cite too.
-pub fn echo(x: usize) -> usize
-    ensures { result ≡ echo_of x }
-{
-    x
-}
+pub use clock::{Clock, LAST_MOMENT};
+pub use site::{Failed, Site};
