@@ -1,5 +1,5 @@
 -- What has happened outside so far, the newest step first, and what follows from it.
-use Rattle.std.specs.Prelude.{◌≡◌, ℕ, ◌+◌, ◌-◌, ◌≤◌, min, max, ◌==◌, if◌then◌else◌, List, [], ◌∷◌, ◌++◌, length, take, drop}
+use Rattle.std.specs.Prelude.{◌≡◌, Bool, true, ◌&&◌, nat_le, ℕ, ◌+◌, ◌-◌, ◌≤◌, min, max, ◌==◌, if◌then◌else◌, List, [], ◌∷◌, ◌++◌, length, take, drop}
 
 -- what happened to one file
 pub data Change : Type 0 where
@@ -57,10 +57,10 @@ abbrev pub IsKept : List Change → Type 0
 IsKept changes = (image : List ℕ) → Leaves changes image → image ≡ reads changes
 
 -- each write began inside its file or at its end
-abbrev pub WritesInside : List Change → Type 0
-WritesInside [] = Unit {0}
-WritesInside (wrote at size bytes ∷ changes) = (at ≤ length (reads changes)) × (length bytes ≤ size) × WritesInside changes
-WritesInside (synced ∷ changes) = WritesInside changes
+abbrev pub writes_inside : List Change → Bool
+writes_inside [] = true
+writes_inside (wrote at size bytes ∷ changes) = nat_le at (length (reads changes)) && nat_le (length bytes) size && writes_inside changes
+writes_inside (synced ∷ changes) = writes_inside changes
 
 -- what has been said, the oldest byte first
 abbrev pub tape : List Step → List ℕ

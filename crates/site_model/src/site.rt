@@ -1,6 +1,6 @@
 // The files and the tape.
-ghost use Rattle.std.specs.Prelude.{◌≡◌, ◌<◌, ◌≤◌, ℕ, List, length, IfOk, OnOk};
-ghost use Rattle.site_model.specs.History.{Step, changes_of, content_of, WritesInside};
+ghost use Rattle.std.specs.Prelude.{◌≡◌, true, ◌<◌, ◌≤◌, ℕ, List, length, IfOk, OnOk};
+ghost use Rattle.site_model.specs.History.{Step, changes_of, content_of, writes_inside};
 ghost use Rattle.site_model.specs.Calls.{HasCause, Reads, Writes, Syncs, Says};
 
 use std::fmt;
@@ -75,5 +75,5 @@ pub trait Site {
         ensures disk_faults { disk_faults self.new ≡ disk_faults self.old };
 
     /// Each write began inside its file, so what a read gives is one of the crash images.
-    ghost inside: { (site : Self) (file : ℕ) → tells → WritesInside (changes_of file (history site)) };
+    ghost inside: { (site : Self) (file : ℕ) → tells → writes_inside (changes_of file (history site)) ≡ true };
 }
