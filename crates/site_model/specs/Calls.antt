@@ -1,6 +1,6 @@
 -- What each call of the outside does to its history and its counts of faults.
-use Rattle.std.specs.Prelude.{◌≡◌, ◌⊎◌, ℕ, ◌+◌, ◌^◌, ◌<◌, ◌≤◌, ◌-◌, min, List, ◌∷◌, ◌++◌, length, take, drop, Result, OnOk, OnErr, IfOk}
-use Rattle.site_model.specs.History.{Step, on, wrote, synced, content_of, saying}
+use Rattle.std.specs.Prelude.{◌≡◌, ◌⊎◌, ℕ, ◌+◌, ◌^◌, ◌<◌, ◌≤◌, ◌-◌, min, List, ◌∷◌, length, take, drop, Result, OnOk, OnErr}
+use Rattle.site_model.specs.History.{Step, on, wrote, synced, saying}
 
 -- a count of faults rose, or had come to the last number that it can hold
 abbrev pub HasRisen : ℕ → ℕ → Type 0

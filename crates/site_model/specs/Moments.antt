@@ -1,6 +1,6 @@
 -- Claims on every moment between two histories.
 use Rattle.std.specs.Prelude.{◌≡◌, ◌≢◌, ℕ, List, ◌∷◌}
-use Rattle.site_model.specs.History.{Step, Change, changes_of, tape, Leaves}
+use Rattle.site_model.specs.History.{Step, changes_of, tape, Leaves}
 
 -- The new history goes on from the old one, and P holds of it at each moment from the old one to the new, both included.
 pub data Always (P : List Step → Type 0) (old : List Step) : List Step → Type 0 where

@@ -9,7 +9,9 @@
 #![tactic(auto)]
 
 mod clock;
+mod laws;
 mod site;
 
 pub use clock::{Clock, LAST_MOMENT};
+pub use laws::what_a_read_gives_is_an_image;
 pub use site::{Failed, Site};
