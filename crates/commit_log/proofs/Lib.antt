@@ -1,2 +1,5 @@
+pub mod Loops
+pub mod Opens
+pub mod Read
 pub mod Steps
 pub mod Written

@@ -1,3 +1,4 @@
+pub mod Outcomes
+pub mod Reading
 pub mod Segment
 pub mod States
-pub mod Outcomes

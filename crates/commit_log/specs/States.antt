@@ -10,6 +10,14 @@ pub record EndsAt (h : Header) (payloads : List (List ℕ)) (gate : ℕ) : Type 
   pub below : gate + 1 < 2 ^ 31
   pub fits : FitsHeader h
 
+-- bytes that are these frames, a gate that isn't open, and whatever stands behind it
+pub record IsSegment (bytes : List ℕ) (h : Header) (payloads : List (List ℕ)) (gate : ℕ) : Type 0 where
+  pub ends : EndsAt h payloads gate
+  pub byte : ℕ
+  pub rest : List ℕ
+  pub split : bytes ≡ segment_bytes h payloads ++ byte ∷ rest
+  pub closed : byte ≢ open_gate
+
 -- behind these frames stands a closed gate, all of it on the disk
 pub record IsResting (changes : List Change) (h : Header) (payloads : List (List ℕ)) (gate : ℕ) : Type 0 where
   pub ends : EndsAt h payloads gate

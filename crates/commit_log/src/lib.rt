@@ -13,15 +13,17 @@ mod append;
 // mod format;
 mod frame;
 mod header;
-// mod opening;
-// mod parse;
+mod opening;
+mod parse;
 mod payload;
+mod reading;
 // mod reopen;
 mod states;
 
 pub use header::Header;
-// pub use opening::{OpenError, Opened, read_log};
+pub use opening::{OpenError, Opened};
 pub use payload::Payload;
+pub use reading::read_log;
 pub use states::{BodyError, Bodied, Broken, Gated, Reopened, Resting, Synced};
 
 // cfg
