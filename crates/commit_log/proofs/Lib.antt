@@ -3,3 +3,4 @@ pub mod Opens
 pub mod Read
 pub mod Steps
 pub mod Written
+pub mod Formatting

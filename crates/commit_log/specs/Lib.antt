@@ -2,3 +2,4 @@ pub mod Outcomes
 pub mod Reading
 pub mod Segment
 pub mod States
+pub mod Writing

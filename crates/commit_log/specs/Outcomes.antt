@@ -38,5 +38,10 @@ AfterSettle steps h payloads payload (Err broken) = BreaksAs steps h payloads pa
 
 -- the frame is there exactly where the gate read open
 abbrev pub AfterReopen : List Step → Header → List (List ℕ) → List ℕ → Result Reopened Broken → Type 0
-AfterReopen steps h payloads payload (Ok found) = MatchBool found.open (RestsAs steps h (payloads ++ payload ∷ []) found.log) (RestsAs steps h payloads found.log)
+AfterReopen steps h payloads payload (Ok found) = MatchBool found.settled (RestsAs steps h (payloads ++ payload ∷ []) found.log) (RestsAs steps h payloads found.log)
 AfterReopen steps h payloads payload (Err broken) = BreaksAs steps h payloads payload broken
+
+-- the frame isn't there: its gate was never opened
+abbrev pub AfterDrop : List Step → Header → List (List ℕ) → List ℕ → Result Reopened Broken → Type 0
+AfterDrop steps h payloads payload (Ok found) = (found.settled ≡ false) × RestsAs steps h payloads found.log
+AfterDrop steps h payloads payload (Err broken) = BreaksAs steps h payloads payload broken

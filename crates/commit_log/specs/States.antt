@@ -1,8 +1,8 @@
 -- What stands on the disk in each state of a log.
-use Rattle.std.specs.Prelude.{◌≡◌, ◌≢◌, ◌⊎◌, ℕ, ◌+◌, ◌<◌, ◌^◌, List, [], ◌∷◌, ◌++◌, length, take}
+use Rattle.std.specs.Prelude.{◌≡◌, ◌≢◌, ◌⊎◌, Bool, true, false, ℕ, ◌+◌, ◌<◌, ◌^◌, List, [], ◌∷◌, ◌++◌, length, take}
 use Rattle.site_model.specs.History.{Change, reads, Leaves, IsKept}
 use Rattle.commit_log.specs.declared.header.Header.{Header}
-use Rattle.commit_log.specs.Segment.{Reading, segment, fresh, reading_of, segment_bytes, framed, open_gate, first_gate, FitsHeader}
+use Rattle.commit_log.specs.Segment.{Reading, segment, fresh, reading_of, header_bytes, segment_bytes, framed, open_gate, first_gate, FitsHeader}
 
 -- these frames end before the gate at this offset, and a file that ends with it is short enough
 pub record EndsAt (h : Header) (payloads : List (List ℕ)) (gate : ℕ) : Type 0 where
@@ -89,3 +89,35 @@ HasFramesOrOneMore h payloads payload gate next image = HasFrames h payloads gat
 -- while a file is formatted: it reads as before, or fresh, or as a segment with no frame
 abbrev pub IsFormatting : List ℕ → Header → List ℕ → Type 0
 IsFormatting content h image = (reading_of image ≡ reading_of content) ⊎ ((reading_of image ≡ fresh) ⊎ HasFrames h [] first_gate image)
+
+-- ---- formatting
+
+-- The first byte isn't open, and stands on the disk. So the file is fresh whatever follows it.
+pub record IsClosed (changes : List Change) : Type 0 where
+  pub byte : ℕ
+  pub rest : List ℕ
+  pub content : reads changes ≡ byte ∷ rest
+  pub closed : byte ≢ open_gate
+  pub kept : IsKept changes
+
+-- the header and the first gate stand behind it, on the disk too
+pub record IsHeaded (changes : List Change) (h : Header) : Type 0 where
+  pub byte : ℕ
+  pub rest : List ℕ
+  pub content : reads changes ≡ byte ∷ (header_bytes h ++ 0 ∷ rest)
+  pub fits : FitsHeader h
+  pub closed : byte ≢ open_gate
+  pub kept : IsKept changes
+
+-- whether the first of at least two bytes isn't open
+abbrev pub IsClosedContent : List ℕ → Bool → Type 0
+IsClosedContent content true = (byte : ℕ) × (rest : List ℕ) × (content ≡ byte ∷ rest) × (byte ≢ open_gate) × (1 < length content)
+IsClosedContent content false = (content ≡ []) ⊎ ((byte : ℕ) × (rest : List ℕ) × (content ≡ byte ∷ rest) × ((rest ≡ []) ⊎ (byte ≡ open_gate)))
+
+-- while the first byte is closed
+abbrev pub IsClosing : List ℕ → List ℕ → Type 0
+IsClosing content image = (reading_of image ≡ reading_of content) ⊎ (reading_of image ≡ fresh)
+
+-- while it is opened
+abbrev pub IsOpening : Header → List ℕ → Type 0
+IsOpening h image = (reading_of image ≡ fresh) ⊎ HasFrames h [] first_gate image

@@ -10,14 +10,14 @@
 #![tactic(auto)]
 
 mod append;
-// mod format;
+mod format;
 mod frame;
 mod header;
 mod opening;
 mod parse;
 mod payload;
 mod reading;
-// mod reopen;
+mod reopen;
 mod states;
 
 pub use header::Header;

@@ -71,7 +71,7 @@ pub struct Reopened {
     /// The log behind the frame where the gate reads open, else before it.
     pub log: Resting,
     /// Whether the gate reads open, so that the frame is settled. Else it is dropped.
-    pub open: bool,
+    pub settled: bool,
 }
 
 /// Why no frame was written.
