@@ -1,16 +1,13 @@
 -- What each step of formatting leaves.
-use Rattle.std.proofs.Common.{◌≡◌, ◌≢◌, ◌⊎◌, inl, inr, ⊎_elim, ℕ, zero, suc, ◌+◌, ◌-◌, ◌^◌, ◌<◌, ◌≤◌, min, max, true, false, cond, eqb, List, [], ◌∷◌, ◌++◌, length, get_or, take, drop, Result, Ok, Err, refl, sym, ap, subst, ◌∙◌, append_assoc, arith}
-use Rattle.std.specs.Prelude.{OnOk}
-use Rattle.std.proofs.lemmas.Bool.{cases_eq, cases_lt, ne_eqb}
-use Rattle.std.proofs.lemmas.List.{append-nil, take_at, drop_more, take-append-drop, length-append, length-take}
+use Rattle.std.proofs.Common.{◌≡◌, ◌≢◌, ◌⊎◌, inl, inr, ⊎_elim, ℕ, ◌+◌, ◌≤◌, true, false, cond, List, [], ◌∷◌, ◌++◌, length, take, drop, Result, refl, sym, ap, subst, ◌∙◌, append_assoc, arith}
+use Rattle.std.proofs.lemmas.Bool.{cases_eq, ne_eqb}
+use Rattle.std.proofs.lemmas.List.{append-nil, take-append-drop}
 use Rattle.site_model.specs.History.{Change, Step, on, wrote, synced, put, reads, changes_of, content_of, Torn, Leaves, IsKept}
-use Rattle.site_model.specs.Calls.{Writes, Syncs}
-use Rattle.site_model.specs.Moments.{Keeps, LeavesOnly}
-use Rattle.site_model.specs.Moments.Always.{begins, goes_on}
+use Rattle.site_model.specs.Moments.{LeavesOnly}
 use Rattle.site_model.proofs.Paths.{own_change, one_call, stays, leaves_then, leaves_weaker}
 use Rattle.site_model.proofs.Images.{torn_front, torn_within}
 use Rattle.commit_log.specs.declared.header.Header.{Header}
-use Rattle.commit_log.specs.Segment.{Reading, fresh, told, segment_at, reading_of, open_gate, header_bytes, segment_bytes, first_gate, FitsHeader}
+use Rattle.commit_log.specs.Segment.{fresh, told, segment_at, reading_of, open_gate, header_bytes, segment_bytes, first_gate, FitsHeader}
 use Rattle.commit_log.specs.States.{EndsAt, IsResting, IsClosed, IsClosedContent, IsHeaded, IsClosing, IsOpening, IsFormatting, HasFrames}
 use Rattle.commit_log.specs.Writing.{WritesSafely}
 use Rattle.commit_log.proofs.Written.{reads_closed, length-segment}
@@ -133,8 +130,8 @@ module _ (file : ℕ) (old : List Step) (stands : IsClosed (changes_of file old)
       safe_during file 1 bytes old new result (λ image. reading_of image ≡ fresh) writes
       (λ image left. ap reading_of (stands.kept image left ∙ stands.content) ∙ closed_fresh stands.byte stands.rest stands.closed)
       (λ now image left.
-        let torn : Torn 1 (length bytes) (content_of file old) image = subst (λ (l : List ℕ). Torn 1 (length bytes) l image) (stands.kept left.0 left.1) left.2 in
-        first_of image (torn_front 1 1 (length bytes) (content_of file old) image (omega arith) long torn ∙ front))
+      let torn : Torn 1 (length bytes) (content_of file old) image = subst (λ (l : List ℕ). Torn 1 (length bytes) l image) (stands.kept left.0 left.1) left.2 in
+      first_of image (torn_front 1 1 (length bytes) (content_of file old) image (omega arith) long torn ∙ front))
       (λ now short. ap reading_of (header_put now) ∙ closed_fresh stands.byte (now ++ drop (1 + length now) (content_of file old)) stands.closed)
 
   pub header_done : (h : Header) (bytes : List ℕ) (new : List Step) → FitsHeader h → bytes ≡ header_bytes h ++ 0 ∷ [] → new ≡ on file synced ∷ on file (wrote 1 (length bytes) bytes) ∷ old → IsHeaded (changes_of file new) h
@@ -177,9 +174,9 @@ open_during file old new h result stands writes =
     safe_during file 0 (open_gate ∷ []) old new result (IsOpening h) writes
     (λ image left. opening_first h stands.rest stands.byte image stands.fits (stands.kept image left ∙ stands.content))
     (λ now image left.
-      let torn : Torn 0 1 (content_of file old) image = subst (λ (l : List ℕ). Torn 0 1 l image) (stands.kept left.0 left.1) left.2 in
-      let found = torn_first stands.byte (header_bytes h ++ 0 ∷ stands.rest) image (subst (λ (l : List ℕ). Torn 0 1 l image) stands.content torn) in
-      opening_first h stands.rest found.0 image stands.fits found.1)
+    let torn : Torn 0 1 (content_of file old) image = subst (λ (l : List ℕ). Torn 0 1 l image) (stands.kept left.0 left.1) left.2 in
+    let found = torn_first stands.byte (header_bytes h ++ 0 ∷ stands.rest) image (subst (λ (l : List ℕ). Torn 0 1 l image) stands.content torn) in
+    opening_first h stands.rest found.0 image stands.fits found.1)
     (λ now short. opening_put h stands.byte stands.rest (content_of file old) now stands.fits stands.content short)
 
 pub open_done : (file : ℕ) (old new : List Step) (h : Header) → IsHeaded (changes_of file old) h → new ≡ on file synced ∷ on file (wrote 0 1 (open_gate ∷ [])) ∷ old

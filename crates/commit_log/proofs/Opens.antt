@@ -1,22 +1,21 @@
 -- Opening a log.
-use Rattle.std.proofs.Common.{◌≡◌, ◌≢◌, ◌==◌, Bool, MatchBool, ℕ, ◌+◌, ◌≤◌, ◌<◌, true, false, inl, inr, ⊎_elim, suc, List, [], ◌∷◌, ◌++◌, length, get_or, take, Result, Ok, Err, refl, sym, ap, subst, ◌∙◌, arith, eqb, cond}
+use Rattle.std.proofs.Common.{◌≡◌, ◌≢◌, ◌==◌, Bool, MatchBool, ℕ, true, false, inl, inr, suc, List, [], ◌∷◌, ◌++◌, length, get_or, take, Result, Ok, Err, sym, ap, subst, ◌∙◌, arith, eqb, cond}
 use Rattle.std.specs.Prelude.{IfOk}
 use Rattle.std.proofs.lemmas.Bool.{cases_Bool, eqb-true, eqb-false, ne_eqb}
 use Rattle.std.proofs.lemmas.List.{take_all, get_or_at, append_assoc}
 use Rattle.site_model.specs.History.{Change, Step, on, synced, reads, changes_of, content_of, Leaves, IsKept, writes_inside}
 use Rattle.site_model.specs.Calls.{Syncs}
 use Rattle.site_model.specs.Moments.{LeavesOnly}
-use Rattle.site_model.proofs.Paths.{own_change}
 use Rattle.site_model.proofs.Images.{reads_is_image}
 use Rattle.commit_log.specs.declared.header.Header.{Header}
-use Rattle.commit_log.specs.Segment.{Reading, fresh, damaged, segment, told, reading_of, segment_at, segment_bytes, framed, open_gate}
+use Rattle.commit_log.specs.Segment.{fresh, segment, told, reading_of, segment_at, segment_bytes, framed, open_gate}
 use Rattle.commit_log.specs.States.{EndsAt, IsResting, IsSegment, IsBroken, IsBeforeOrAfter}
 use Rattle.commit_log.proofs.Read.{IsBytes, segment_begins}
 use Rattle.commit_log.specs.declared.states.Broken.{Broken}
 use Rattle.commit_log.specs.declared.states.Reopened.{Reopened}
 use Rattle.commit_log.specs.Outcomes.{RestsAs, AfterReopen, AfterDrop}
 use Rattle.commit_log.proofs.Written.{segment-push}
-use Rattle.commit_log.proofs.Steps.{sync_during, synced_changes, after_sync}
+use Rattle.commit_log.proofs.Steps.{sync_during, synced_changes}
 
 -- a sync leaves no image that wasn't there before
 pub opening_during : {T E : Type 0} (file : ℕ) (old mid new : List Step) (result : Result T E) → Syncs file old mid result → new ≡ mid → writes_inside (changes_of file old) ≡ true
@@ -24,7 +23,7 @@ pub opening_during : {T E : Type 0} (file : ℕ) (old mid new : List Step) (resu
 opening_during file old mid new result syncs same inside =
     subst (λ (steps : List Step). LeavesOnly file old steps (Leaves (changes_of file old))) (sym same)
     (sync_during file old mid (Leaves (changes_of file old)) result syncs (λ image left. left)
-      (λ image left. subst (Leaves (changes_of file old)) (sym left) (reads_is_image (changes_of file old) inside)))
+    (λ image left. subst (Leaves (changes_of file old)) (sym left) (reads_is_image (changes_of file old) inside)))
 
 -- a sync changes nothing that is read
 pub content_synced : (file : ℕ) (old new : List Step) → new ≡ on file synced ∷ old → content_of file new ≡ content_of file old
@@ -100,8 +99,8 @@ module _ (changes : List Change) (h : Header) (payloads : List (List ℕ)) (payl
         byte = 0;
         rest = behind.0;
         content =
-        broken.content.split ∙ ap (λ (b : ℕ). segment_bytes h payloads ++ b ∷ broken.content.rest) is_open ∙ ap (λ (l : List ℕ). segment_bytes h payloads ++ open_gate ∷ l) behind.1
-        ∙ sym (append_assoc (segment_bytes h payloads) (open_gate ∷ framed payload) (0 ∷ behind.0)) ∙ ap (λ (l : List ℕ). l ++ 0 ∷ behind.0) (sym (segment-push h payloads payload));
+            broken.content.split ∙ ap (λ (b : ℕ). segment_bytes h payloads ++ b ∷ broken.content.rest) is_open ∙ ap (λ (l : List ℕ). segment_bytes h payloads ++ open_gate ∷ l) behind.1
+            ∙ sym (append_assoc (segment_bytes h payloads) (open_gate ∷ framed payload) (0 ∷ behind.0)) ∙ ap (λ (l : List ℕ). l ++ 0 ∷ behind.0) (sym (segment-push h payloads payload));
         closed = omega arith;
         kept = λ image left. left;
       }

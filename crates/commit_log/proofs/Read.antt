@@ -3,12 +3,12 @@ use Rattle.std.proofs.Common.{◌≡◌, ◌≢◌, ℕ, zero, suc, ◌+◌, ◌
 use Rattle.std.specs.List.{flat_map}
 use Rattle.std.specs.Int.{Width, w32, w64, byte_len, from_be_bytes, to_be_bytes}
 use Rattle.std.proofs.lemmas.Bool.{ltb-true, ltb-false, eqb-true, eqb-false, and_parts, cases_lt, cases_Bool}
-use Rattle.std.proofs.lemmas.List.{append-nil, take-append-drop, length-append, length-take, length-drop, get_or-take, get_or-drop, get_or_past}
+use Rattle.std.proofs.lemmas.List.{take-append-drop, length-append, length-take, get_or-take, get_or-drop, get_or_past}
 use Rattle.std.proofs.lemmas.List.Concat.{flat_map-cons}
 use Rattle.std.proofs.lemmas.Nat.{be_bytes_4, be_bytes_8}
 use Rattle.commit_log.specs.declared.header.Header.{Header}
-use Rattle.commit_log.specs.Segment.{◌>>=◌, open_gate, signature, header_bytes, FitsHeader, framed, frame_bytes, segment_bytes, constant_at, number_at, header_at, frame_at, frames_from, first_gate, segment_at}
-use Rattle.commit_log.specs.States.{EndsAt, IsSegment}
+use Rattle.commit_log.specs.Segment.{◌>>=◌, open_gate, signature, header_bytes, FitsHeader, framed, frame_bytes, constant_at, number_at, header_at, frame_at, frames_from, first_gate, segment_at}
+use Rattle.commit_log.specs.States.{IsSegment}
 use Rattle.commit_log.proofs.Written.{length-framed, length-segment}
 
 abbrev pub IsBytes : List ℕ → Type 0
@@ -63,8 +63,7 @@ number_begins w at limit bytes n rest back fits is =
     let n-is : from_be_bytes w front ≡ n = ap (λ (p : ℕ × List ℕ). p.0) parts.1 in
     let rest-is : drop (byte_len w) bytes ≡ rest = ap (λ (p : ℕ × List ℕ). p.1) parts.1 in
     let there = back front (omega (arith, length-take (byte_len w) bytes)) (front_bytes (byte_len w) bytes fits) in
-    let spelled : to_be_bytes w n ≡ front = ap (to_be_bytes w) (sym n-is) ∙ there.0 in
-    (
+    let spelled : to_be_bytes w n ≡ front = ap (to_be_bytes w) (sym n-is) ∙ there.0 in (
       record {
         split = sym (take-append-drop (byte_len w) bytes) ∙ ap (λ (l : List ℕ). l ++ drop (byte_len w) bytes) (sym spelled) ∙ ap (λ (l : List ℕ). to_be_bytes w n ++ l) rest-is;
         fits = subst IsBytes rest-is (behind_bytes (byte_len w) bytes fits);
@@ -173,9 +172,9 @@ frames_begin (suc most) at (gate ∷ bytes) x fits low is = elim (cases_Bool (eq
       byte = later.byte;
       rest = later.rest;
       split =
-      ap (λ (g : ℕ). g ∷ bytes) is_open ∙ ap (λ (l : List ℕ). open_gate ∷ l) (split ∙ ap (λ (l : List ℕ). framed payload ++ l) later.split)
-      ∙ sym (append_assoc (frame_bytes payload) (flat_map frame_bytes payloads) (later.byte ∷ later.rest))
-      ∙ ap (λ (l : List ℕ). l ++ later.byte ∷ later.rest) (sym (flat_map-cons frame_bytes payload payloads));
+          ap (λ (g : ℕ). g ∷ bytes) is_open ∙ ap (λ (l : List ℕ). open_gate ∷ l) (split ∙ ap (λ (l : List ℕ). framed payload ++ l) later.split)
+          ∙ sym (append_assoc (frame_bytes payload) (flat_map frame_bytes payloads) (later.byte ∷ later.rest))
+          ∙ ap (λ (l : List ℕ). l ++ later.byte ∷ later.rest) (sym (flat_map-cons frame_bytes payload payloads));
       closed = later.closed;
       place = omega (arith, later.place, ap length (flat_map-cons frame_bytes payload payloads), length-append (frame_bytes payload) (flat_map frame_bytes payloads), length-framed payload);
       below = later.below;
@@ -197,7 +196,7 @@ segment_begins bytes h payloads gate fits is =
       byte = later.byte;
       rest = later.rest;
       split =
-      ap (λ (l : List ℕ). open_gate ∷ l) (first.0.split ∙ ap (λ (l : List ℕ). header_bytes a.0.0 ++ l) later.split)
-      ∙ sym (append_assoc (open_gate ∷ header_bytes a.0.0) (flat_map frame_bytes b.0.0) (later.byte ∷ later.rest));
+          ap (λ (l : List ℕ). open_gate ∷ l) (first.0.split ∙ ap (λ (l : List ℕ). header_bytes a.0.0 ++ l) later.split)
+          ∙ sym (append_assoc (open_gate ∷ header_bytes a.0.0) (flat_map frame_bytes b.0.0) (later.byte ∷ later.rest));
       closed = later.closed;
     })

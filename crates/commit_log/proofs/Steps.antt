@@ -1,16 +1,15 @@
 -- What each device call of an append leaves.
-use Rattle.std.proofs.Common.{◌≡◌, ◌≢◌, ◌⊎◌, inl, inr, ⊎_elim, ℕ, zero, suc, ◌+◌, ◌-◌, ◌^◌, ◌<◌, ◌≤◌, List, [], ◌∷◌, ◌++◌, length, get_or, take, drop, Result, Ok, Err, refl, sym, ap, subst, ◌∙◌, append_assoc, arith}
-use Rattle.std.specs.Prelude.{OnOk}
+use Rattle.std.proofs.Common.{◌≡◌, ◌≢◌, inl, inr, ℕ, ◌+◌, ◌^◌, ◌<◌, ◌≤◌, List, [], ◌∷◌, ◌++◌, length, get_or, take, drop, Result, refl, sym, ap, subst, ◌∙◌, append_assoc, arith}
 use Rattle.std.proofs.lemmas.Bool.{cases_eq}
-use Rattle.std.proofs.lemmas.List.{append-nil, take_at, drop_at, take_all, drop_all, drop_more, take-append-drop, length-append, length-take, length-drop}
-use Rattle.site_model.specs.History.{Change, Step, on, wrote, synced, put, reads, changes_of, content_of, Torn, Leaves, IsKept}
+use Rattle.std.proofs.lemmas.List.{append-nil, take_at, drop_at, drop_more, take-append-drop, length-append}
+use Rattle.site_model.specs.History.{Change, Step, on, wrote, synced, put, reads, changes_of, Torn, Leaves}
 use Rattle.site_model.specs.Calls.{Writes, Syncs}
 use Rattle.site_model.specs.Moments.{LeavesOnly}
-use Rattle.site_model.proofs.Paths.{own_change, one_call, stays}
-use Rattle.site_model.proofs.Images.{torn_front, torn_within, take-put, drop-put}
+use Rattle.site_model.proofs.Paths.{own_change, one_call}
+use Rattle.site_model.proofs.Images.{torn_front, torn_within}
 use Rattle.commit_log.specs.declared.header.Header.{Header}
 use Rattle.commit_log.specs.Segment.{open_gate, segment_bytes, framed}
-use Rattle.commit_log.specs.States.{EndsAt, IsResting, IsBodied, IsSynced, IsGated, IsBroken, IsBeforeOrAfter, Rests, HasFrames, HasFramesOrOneMore}
+use Rattle.commit_log.specs.States.{EndsAt, IsResting, IsBodied, IsSynced, IsGated, IsBroken, IsBeforeOrAfter, HasFrames, HasFramesOrOneMore}
 use Rattle.commit_log.proofs.Written.{segment-push, length-framed, reads_closed}
 
 -- a list, its part before a place, the byte there and what follows

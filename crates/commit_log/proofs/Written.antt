@@ -1,14 +1,14 @@
 -- What was written is read again.
-use Rattle.std.proofs.Common.{◌≡◌, ◌≢◌, ℕ, zero, suc, ◌+◌, ◌^◌, ◌<◌, ◌≤◌, Bool, true, false, cond, ltb, eqb, ◌&&◌, List, [], ◌∷◌, ◌++◌, length, take, drop, Result, Ok, Err, refl, sym, ap, subst, ◌∙◌, append_assoc, arith}
+use Rattle.std.proofs.Common.{◌≡◌, ◌≢◌, ℕ, zero, suc, ◌+◌, ◌^◌, ◌<◌, ◌≤◌, true, false, ltb, eqb, List, [], ◌∷◌, ◌++◌, length, Ok, refl, sym, ap, ◌∙◌, append_assoc, arith}
 use Rattle.std.specs.List.{flat_map}
 use Rattle.std.specs.Int.{Width, w32, w64, byte_len, from_be_bytes, to_be_bytes}
-use Rattle.std.proofs.lemmas.Bool.{le-ltb, lt-ltb, ne_eqb, and_from}
+use Rattle.std.proofs.lemmas.Bool.{le-ltb, lt-ltb, ne_eqb}
 use Rattle.std.proofs.lemmas.List.{append-nil, take_at, drop_at, length-append}
 use Rattle.std.proofs.lemmas.List.Concat.{flat_map-append, flat_map-cons}
 use Rattle.std.proofs.lemmas.Nat.{from_be_bytes-to_be_bytes_4, from_be_bytes-to_be_bytes_8}
 use Rattle.commit_log.specs.declared.header.Header.{Header}
-use Rattle.commit_log.specs.Segment.{◌>>=◌, Reading, segment, told, open_gate, signature, header_bytes, FitsHeader, framed, frame_bytes, segment_bytes, constant_at, number_at, header_at, frame_at, frames_from, first_gate, segment_at, reading_of}
-use Rattle.commit_log.specs.States.{EndsAt, IsBeforeOrAfter, HasFrames, HasFramesOrOneMore}
+use Rattle.commit_log.specs.Segment.{told, open_gate, signature, header_bytes, FitsHeader, framed, frame_bytes, segment_bytes, number_at, header_at, frame_at, frames_from, first_gate, segment_at, reading_of}
+use Rattle.commit_log.specs.States.{EndsAt, HasFrames}
 
 pub length-framed : (payload : List ℕ) → length (framed payload) ≡ 4 + length payload
 length-framed payload = length-append (to_be_bytes w32 (length payload)) payload
@@ -71,7 +71,7 @@ frames_again (payload ∷ payloads) (suc most) at byte rest closed enough below 
     let next : at + 5 + length payload + length (flat_map frame_bytes payloads) ≡ at + length (flat_map frame_bytes (payload ∷ payloads)) = omega (arith, long) in
     ap (frames_from (suc most) at) regrouped
     ∙ rw (frame_again (at + 1) payload behind more (omega (arith, below, long)), frames_again payloads most (at + 5 + length payload) byte rest closed (omega arith) (omega (arith, below, long)))
-      (ap (λ (n : ℕ). Ok (payload ∷ payloads, n)) next)
+    (ap (λ (n : ℕ). Ok (payload ∷ payloads, n)) next)
 
 length-header : (h : Header) → length (header_bytes h) ≡ 32
 length-header h = refl

@@ -1,6 +1,6 @@
 -- What each call leaves, by its answer.
-use Rattle.std.specs.Prelude.{◌≡◌, ℕ, Bool, true, false, List, [], ◌∷◌, ◌++◌, Result, Ok, Err, MatchBool}
-use Rattle.site_model.specs.History.{Step, changes_of, content_of, IsKept}
+use Rattle.std.specs.Prelude.{◌≡◌, ℕ, false, List, [], ◌∷◌, ◌++◌, Result, Ok, Err, MatchBool}
+use Rattle.site_model.specs.History.{Step, changes_of}
 use Rattle.commit_log.specs.declared.header.Header.{Header}
 use Rattle.commit_log.specs.declared.states.Resting.{Resting}
 use Rattle.commit_log.specs.declared.states.Bodied.{Bodied}

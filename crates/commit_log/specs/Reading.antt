@@ -1,15 +1,13 @@
 -- What opening a log answers.
-use Rattle.std.specs.Prelude.{◌≡◌, ℕ, List, Result, Ok, Err, Vec, ◌<◌}
-use Rattle.std.specs.declared.alloc.Global.{Global}
+use Rattle.std.specs.Prelude.{◌≡◌, ℕ, List, Result, Ok, Err}
 use Rattle.site_model.specs.History.{Step, changes_of, content_of, IsKept}
-use Rattle.commit_log.specs.declared.header.Header.{Header}
 use Rattle.commit_log.specs.declared.opening.Opened.{Opened}
 use Rattle.commit_log.specs.declared.opening.OpenError.{OpenError}
 use Rattle.commit_log.specs.declared.opening.OpenError.TheVariants.{Fresh, Damaged, SiteFault, Memory}
 use Rattle.commit_log.specs.declared.parse.Parsed.{Parsed}
 use Rattle.commit_log.specs.declared.parse.ParseError.{ParseError}
 use Rattle.commit_log.specs.declared.parse.ParseError.TheVariants as errors
-use Rattle.commit_log.specs.Segment.{Reading, fresh, damaged, segment, reading_of}
+use Rattle.commit_log.specs.Segment.{fresh, damaged, segment, reading_of}
 use Rattle.commit_log.specs.Outcomes.{RestsAs}
 
 -- What a step of reading returned, seen by view, is what the definition gives, unless memory ran out.

@@ -2,7 +2,7 @@
 use Rattle.std.specs.Prelude.{◌≡◌, ◌≢◌, ◌⊎◌, Bool, true, false, ℕ, ◌+◌, ◌<◌, ◌^◌, List, [], ◌∷◌, ◌++◌, length, take}
 use Rattle.site_model.specs.History.{Change, reads, Leaves, IsKept}
 use Rattle.commit_log.specs.declared.header.Header.{Header}
-use Rattle.commit_log.specs.Segment.{Reading, segment, fresh, reading_of, header_bytes, segment_bytes, framed, open_gate, first_gate, FitsHeader}
+use Rattle.commit_log.specs.Segment.{segment, fresh, reading_of, header_bytes, segment_bytes, framed, open_gate, first_gate, FitsHeader}
 
 -- these frames end before the gate at this offset, and a file that ends with it is short enough
 pub record EndsAt (h : Header) (payloads : List (List ℕ)) (gate : ℕ) : Type 0 where

@@ -9,7 +9,7 @@ ghost use Rattle.commit_log.specs.States.{IsResting, IsBodied, IsSynced, IsGated
 ghost use Rattle.commit_log.specs.Outcomes.{AfterBody, AfterSync, AfterGate, AfterSettle};
 
 use crate::frame::{OPEN_GATE, behind_gate};
-use crate::states::{BodyError, Bodied, Broken, Gated, Resting, Synced};
+use crate::states::{Bodied, BodyError, Broken, Gated, Resting, Synced};
 use site_model::Site;
 use std::alloc::Global;
 

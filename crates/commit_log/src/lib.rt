@@ -24,7 +24,7 @@ pub use header::Header;
 pub use opening::{OpenError, Opened};
 pub use payload::Payload;
 pub use reading::read_log;
-pub use states::{BodyError, Bodied, Broken, Gated, Reopened, Resting, Synced};
+pub use states::{Bodied, BodyError, Broken, Gated, Reopened, Resting, Synced};
 
 // cfg
 // mod tests;

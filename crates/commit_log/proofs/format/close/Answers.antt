@@ -1,9 +1,9 @@
-use Rattle.std.proofs.Common.{◌∷◌, [], List, ℕ, subst}
+use Rattle.std.proofs.Common.{◌∷◌, [], List, subst}
 use Rattle.site_model.specs.History.{Step, content_of}
 use Rattle.commit_log.specs.States.{IsClosedContent}
 use Rattle.commit_log.specs.Writing.{WritesSafely}
 use Rattle.std.proofs.lemmas.Result.{on_ok_weaker}
-use Rattle.commit_log.proofs.Formatting.{close_during, close_done, already_closed, closing_stays}
+use Rattle.commit_log.proofs.Formatting.{close_during, close_done, closing_stays}
 use Rattle.commit_log.proofs.format.close.Goals as goal
 
 pub returns-in-Ok-true-clause-during : goal.returns-in-Ok-true-clause-during

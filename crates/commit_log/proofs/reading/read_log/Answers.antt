@@ -1,5 +1,4 @@
-use Rattle.std.proofs.Common.{◌≡◌, ◌∙◌, ap, sym, refl, subst, List, ℕ}
-use Rattle.site_model.specs.History.{content_of}
+use Rattle.std.proofs.Common.{◌∙◌, ap, sym, refl, subst, List, ℕ}
 use Rattle.commit_log.specs.Segment.{reading_of}
 use Rattle.commit_log.specs.States.{IsSegment}
 use Rattle.commit_log.proofs.Opens.{opening_during, whole_read, opened_rests}

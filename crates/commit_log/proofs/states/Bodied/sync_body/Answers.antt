@@ -1,5 +1,5 @@
-use Rattle.std.proofs.Common.{List, ℕ, sym, subst}
-use Rattle.site_model.specs.History.{Change, changes_of}
+use Rattle.std.proofs.Common.{List, sym, subst}
+use Rattle.site_model.specs.History.{Change}
 use Rattle.commit_log.specs.States.{IsSynced, IsBroken}
 use Rattle.commit_log.proofs.Steps.{bodied_images, bodied_synced_images, bodied_synced, bodied_broken, bodied_synced_broken, after_sync, synced_changes, sync_during}
 use Rattle.commit_log.proofs.states.Bodied.sync_body.Goals as goal

@@ -1,5 +1,5 @@
-use Rattle.std.proofs.Common.{List, ℕ, [], ◌∷◌, ◌++◌, sym, subst}
-use Rattle.site_model.specs.History.{Change, changes_of}
+use Rattle.std.proofs.Common.{List, [], ◌∷◌, ◌++◌, sym, subst}
+use Rattle.site_model.specs.History.{Change}
 use Rattle.commit_log.specs.States.{IsResting, IsBroken}
 use Rattle.commit_log.proofs.Steps.{gated_images, gated_synced_images, settled, gated_broken, gated_synced_broken, after_sync, synced_changes, sync_during}
 use Rattle.commit_log.proofs.states.Gated.settle.Goals as goal

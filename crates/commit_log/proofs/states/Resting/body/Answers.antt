@@ -1,7 +1,5 @@
-use Rattle.std.proofs.Common.{◌≡◌, ◌+◌, ◌-◌, ◌^◌, ◌<◌, ◌∙◌, arith}
-use Rattle.site_model.specs.History.{changes_of}
+use Rattle.std.proofs.Common.{◌∙◌, arith}
 use Rattle.site_model.proofs.Paths.{stays}
-use Rattle.commit_log.specs.States.{HasFrames}
 use Rattle.commit_log.proofs.Steps.{resting_images, body_during, body_broken, body_done}
 use Rattle.commit_log.proofs.states.Resting.body.Goals as goal
 

@@ -1,6 +1,4 @@
-use Rattle.std.proofs.Common.{List, ℕ, sym, subst, arith}
-use Rattle.site_model.specs.History.{Change, changes_of}
-use Rattle.commit_log.specs.States.{IsSynced, IsBroken}
+use Rattle.std.proofs.Common.{arith}
 use Rattle.commit_log.proofs.Steps.{synced_long, gate_during, gate_done, gate_fails}
 use Rattle.commit_log.proofs.states.Synced.gate.Goals as goal
 
