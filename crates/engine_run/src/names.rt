@@ -1,6 +1,7 @@
 //! Names and keys: short words over few bytes.
 
 ghost use Rattle.std.specs.Prelude.{◌≡◌, ◌≤◌, length, true, IfOk};
+ghost use Rattle.std.specs.List.{list_all};
 ghost use Rattle.engine_run.specs.Names.{is_name, is_key, goes_on_name, stands_in_key};
 
 use std::alloc::{AllocError, Global};
@@ -49,10 +50,22 @@ fn goes_on_name(byte: u8) -> bool
     byte.is_ascii_alphanumeric() || byte == b'_'
 }
 
+fn go_on_name(bytes: &[u8]) -> bool
+    ensures { result ≡ list_all goes_on_name bytes.now }
+{
+    bytes.iter().all(|byte| goes_on_name(*byte))
+}
+
 fn stands_in_key(byte: u8) -> bool
     ensures { result ≡ stands_in_key byte }
 {
     goes_on_name(byte) || byte == b'-' || byte == b'.'
+}
+
+fn stand_in_key(bytes: &[u8]) -> bool
+    ensures { result ≡ list_all stands_in_key bytes.now }
+{
+    bytes.iter().all(|byte| stands_in_key(*byte))
 }
 
 pub(crate) fn is_name(bytes: &[u8]) -> bool
@@ -65,7 +78,7 @@ pub(crate) fn is_name(bytes: &[u8]) -> bool
         [] => false,
         [first, rest @ ..] => {
             if first.is_ascii_alphabetic() {
-                rest.iter().all(|byte| goes_on_name(*byte))
+                go_on_name(rest)
             } else {
                 false
             }
@@ -79,7 +92,7 @@ pub(crate) fn is_key(bytes: &[u8]) -> bool
     if bytes.is_empty() || bytes.len() > MOST_BYTES {
         return false;
     }
-    bytes.iter().all(|byte| stands_in_key(*byte))
+    stand_in_key(bytes)
 }
 
 impl Name {

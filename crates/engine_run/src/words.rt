@@ -5,6 +5,12 @@ ghost use Rattle.engine_run.specs.Words.{run_words};
 
 use crate::text::Text;
 
+fn is_word(text: &Text, word: &str) -> bool
+    ensures { IsTrue result ↔ (text.now ≡ word.now) }
+{
+    text.as_str() == word
+}
+
 /// Whether the words are the one command: a run in one partition.
 pub(crate) fn is_run_command(words: &[Text]) -> bool
     ensures { IsTrue result ↔ (words.now ≡ run_words) }
@@ -12,11 +18,11 @@ pub(crate) fn is_run_command(words: &[Text]) -> bool
     let [first, second, third] = words else {
         return false;
     };
-    if first.as_str() != "run" {
+    if !is_word(first, "run") {
         return false;
     }
-    if second.as_str() != "--partitions" {
+    if !is_word(second, "--partitions") {
         return false;
     }
-    third.as_str() == "1"
+    is_word(third, "1")
 }
