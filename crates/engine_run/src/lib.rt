@@ -3,10 +3,14 @@
 //! Each reader takes any bytes, and gives exactly what the definitions in `specs/` say of them, unless memory runs out.
 #![tactic(auto)]
 
+mod error;
+mod flow_file;
 mod names;
 mod text;
+mod values;
 mod words;
 
+pub use flow_file::Flow;
 pub use names::{Key, Name};
 pub use text::{Text, TextError};
 
