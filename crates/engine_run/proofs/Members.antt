@@ -1,5 +1,5 @@
 -- Reading bytes as JSON, the one member of an object, and the parts of an array.
-use Rattle.std.proofs.Common.{◌≡◌, ◌≢◌, ℕ, List, [], ◌∷◌, length, true, false, Bool, Some, None, refl, Option, map, rules, arith}
+use Rattle.std.proofs.Common.{◌≡◌, ◌≢◌, ℕ, List, [], ◌∷◌, length, true, false, Bool, Some, None, refl, Option, arith}
 use Rattle.std.specs.Prelude.{String, string_bytes}
 use Rattle.std.specs.List.{slice_get}
 use Rattle.std.specs.Str.{IsUtf8, is_utf8}
@@ -10,7 +10,7 @@ use Rattle.serde_json.specs.Read.{read}
 use Rattle.serde_json.specs.View.{members_view, items_view, view}
 use Rattle.serde_json.specs.declared.value.Value.{Value}
 use Rattle.engine_run.specs.Reading.{guard}
-use Rattle.engine_run.specs.Values.{data_of, one_member, two, four}
+use Rattle.engine_run.specs.Values.{data_of, count, one_member, two, four}
 
 guarded : {X : Type 0} (b : Bool) (o : Option X) → (b ≡ true → o ≡ None) → guard b o ≡ None
 guarded true o h = h refl
@@ -21,6 +21,10 @@ data_some bs d u e = rw (is_utf8-from_IsUtf8 bs u) e
 
 pub data_none : (bs : List ℕ) → (IsUtf8 bs → read bs ≡ None) → data_of bs ≡ None
 data_none bs h = guarded (is_utf8 bs) (read bs) (λ e. h (IsUtf8-from_is_utf8 bs e))
+
+pub count_members : (es : List (String Global × Value)) → count (members_view es) ≡ length es
+count_members [] = refl
+count_members (x ∷ es) = omega (arith, count_members es)
 
 -- of entries whose number is 1, the first is the one member
 pub one_member_of : (es : List (String Global × Value)) (k : String Global) (v : Value) → length es ≡ 1 → slice_get es 0 ≡ Some (k, v) → one_member (members_view es) ≡ Some (string_bytes k, view v)

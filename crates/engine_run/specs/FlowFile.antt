@@ -1,5 +1,5 @@
 -- The flow that a file gives: {"flows":{F:[["call",x,"add",{"list":[i,j]}],["return",{"v":x}]]}}.
-use Rattle.std.specs.Prelude.{ℕ, List, ◌&&◌, codes, Option, Some, None, nat_le}
+use Rattle.std.specs.Prelude.{ℕ, List, ◌&&◌, codes, Option, Some, nat_le}
 use Rattle.std.specs.Str.{bytes_eq}
 use Rattle.serde_json.specs.Data.{Data}
 use Rattle.serde_json.specs.Find.{as_number, as_u64}

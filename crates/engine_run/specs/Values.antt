@@ -1,5 +1,5 @@
 -- What JSON values hold.
-use Rattle.std.specs.Prelude.{ℕ, List, Bool, false, Option, Some, None}
+use Rattle.std.specs.Prelude.{ℕ, ◌+◌, ◌==◌, List, Bool, false, Option, Some, None}
 use Rattle.std.specs.Option.{option_map_or}
 use Rattle.std.specs.Str.{is_utf8, bytes_eq}
 use Rattle.serde_json.specs.Data.{Data, Items, no_items, item, Members, no_members, member}
@@ -19,6 +19,15 @@ is_word word d = option_map_or (λ text. bytes_eq text word) (as_str d) false
 -- the name that it is
 abbrev pub name_in : Data → Option (List ℕ)
 name_in d = as_str d >>= λ text. guard (is_name text) (Some text)
+
+-- how many members they are
+abbrev pub count : Members → ℕ
+count no_members = 0
+count (member key d rest) = 1 + count rest
+
+-- whether it is an object of n members
+abbrev pub has_members : ℕ → Data → Bool
+has_members n d = option_map_or (λ members. count members == n) (as_object d) false
 
 -- the one member among them
 abbrev pub one_member : Members → Option (List ℕ × Data)

@@ -6,12 +6,14 @@
 mod error;
 mod flow_file;
 mod names;
+mod request_file;
 mod text;
 mod values;
 mod words;
 
 pub use flow_file::Flow;
 pub use names::{Key, Name};
+pub use request_file::Requests;
 pub use text::{Text, TextError};
 
 #[cfg(test)]

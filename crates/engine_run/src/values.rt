@@ -4,7 +4,7 @@ ghost use Rattle.std.specs.Prelude.{◌≡◌, true, IfSome, option_map};
 ghost use Rattle.serde_json.specs.View.{view};
 ghost use Rattle.engine_run.specs.Names.{is_name};
 ghost use Rattle.engine_run.specs.Reading.{Gives};
-ghost use Rattle.engine_run.specs.Values.{data_of, is_word, name_in, only_member, only_at, two_items, four_items};
+ghost use Rattle.engine_run.specs.Values.{data_of, is_word, name_in, has_members, only_member, only_at, two_items, four_items};
 
 use crate::error::ReadError;
 use crate::names;
@@ -50,6 +50,16 @@ pub(crate) fn name_in(value: &Value) -> Option<&str>
             }
         }
         None => None,
+    }
+}
+
+#[tactic(auto, using(crate::proofs::Members::count_members))]
+pub(crate) fn has_members(value: &Value, count: usize) -> bool
+    ensures { result ≡ has_members count (view value.now) }
+{
+    match value.as_object() {
+        Some(members) => members.len() == count,
+        None => false,
     }
 }
 
