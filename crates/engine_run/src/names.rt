@@ -105,6 +105,7 @@ impl Name {
         Ok(Name { bytes })
     }
 
+    /// The bytes, where they lie.
     pub fn as_bytes(&self) -> &[u8]
         ensures same { result.now ≡ self.now }
         ensures name { is_name self.now ≡ true }
@@ -113,6 +114,7 @@ impl Name {
         self.bytes.as_slice()
     }
 
+    /// A copy with memory of its own.
     pub fn clone(&self, alloc: Global) -> Result<Name, AllocError>
         ensures { IfOk result (λ n. n ≡ self.now) }
     {
@@ -131,6 +133,7 @@ impl Key {
         Ok(Key { bytes })
     }
 
+    /// The bytes, where they lie.
     pub fn as_bytes(&self) -> &[u8]
         ensures same { result.now ≡ self.now }
         ensures key { is_key self.now ≡ true }
@@ -139,6 +142,7 @@ impl Key {
         self.bytes.as_slice()
     }
 
+    /// A copy with memory of its own.
     pub fn clone(&self, alloc: Global) -> Result<Key, AllocError>
         ensures { IfOk result (λ k. k ≡ self.now) }
     {

@@ -30,17 +30,20 @@ impl Model for Text {
 /// Why bytes gave no text.
 #[derive(Debug, Drop, Error)]
 pub enum TextError {
+    /// The length is looked at first, so it is given whatever the bytes are.
     #[error("{length} bytes are too many for a text")]
     TooLong { length: usize },
+    /// The bytes before the offset are the longest front that is UTF-8.
     #[error("no UTF-8 from byte {offset} on")]
     NotUtf8 { offset: usize },
+    /// Comes only for bytes that are a text.
     #[error("out of memory")]
     Memory,
 }
 
 impl Text {
-    #[tactic(auto, using(crate::proofs::Texts::utf8_passes))]
     /// Copies the bytes, once they are known to be a text.
+    #[tactic(auto, using(crate::proofs::Texts::utf8_passes))]
     pub fn read(alloc: Global, bytes: &[u8]) -> Result<Text, TextError>
         ensures text { IfOk result (λ t. (t ≡ bytes.now) × IsText bytes.now) }
         ensures fault { IfErr result (Explains bytes.now) }
@@ -61,6 +64,7 @@ impl Text {
         }
     }
 
+    /// The bytes, where they lie.
     pub fn as_bytes(&self) -> &[u8]
         ensures same { result.now ≡ self.now }
         ensures text { IsText self.now }
@@ -68,6 +72,7 @@ impl Text {
         self.bytes.as_slice()
     }
 
+    /// The text, where it lies. The bytes aren't looked at again.
     #[tactic(auto, using(crate::proofs::Texts::utf8_where_passes))]
     pub fn as_str(&self) -> &str
         ensures { result.now ≡ self.now }
@@ -75,6 +80,7 @@ impl Text {
         unsafe { str::from_utf8_unchecked(self.bytes.as_slice()) }
     }
 
+    /// A copy with memory of its own.
     pub fn clone(&self, alloc: Global) -> Result<Text, AllocError>
         ensures { IfOk result (λ t. t ≡ self.now) }
     {
