@@ -1,0 +1,78 @@
+-- How the history of a record goes on with one more entry.
+use Rattle.std.proofs.Common.{◌≡◌, inl, inr, ℕ, ◌+◌, ◌<◌, ◌≤◌, Bool, true, ◌&&◌, List, [], ◌∷◌, ◌++◌, length, take, get_or, refl, sym, ◌∙◌, ap, cond, arith}
+use Rattle.std.proofs.lemmas.Bool.{cases_eq, le-leb, eq-eqb, ne_eqb}
+use Rattle.std.proofs.lemmas.List.{take_more}
+use Rattle.site_model.specs.History.{Step, Change, on, said, wrote, synced, changes_of, reads, content_of, writes_inside, saying}
+use Rattle.site_memory.specs.declared.kept.Kept.{Kept}
+use Rattle.site_memory.specs.declared.kept.Kept.TheVariants.{Wrote, Byte, Synced, Said}
+use Rattle.site_memory.specs.Record.{grown, next, replayed, history_of}
+
+replayed_push : (entries : List Kept) (entry : Kept) (steps : List Step) → replayed (entries ++ entry ∷ []) steps ≡ next entry (replayed entries steps)
+replayed_push [] entry steps = refl
+replayed_push (first ∷ entries) entry steps = replayed_push entries entry (next first steps)
+
+pub history_empty : history_of [] ≡ []
+unfolding history_of
+history_empty = refl
+
+pub history_push : (entries : List Kept) (entry : Kept) → history_of (entries ++ entry ∷ []) ≡ next entry (history_of entries)
+unfolding history_of
+history_push entries entry = replayed_push entries entry []
+
+-- a write with one byte more
+pub history_byte : (entries : List Kept) (file at size byte : ℕ) (bytes : List ℕ) (steps : List Step)
+    → history_of entries ≡ on file (wrote at size bytes) ∷ steps
+    → history_of (entries ++ Byte byte ∷ []) ≡ on file (wrote at size (bytes ++ byte ∷ [])) ∷ steps
+history_byte entries file at size byte bytes steps is = history_push entries (Byte byte) ∙ ap (grown byte) is
+
+pub saying_push : (bytes : List ℕ) (byte : ℕ) (steps : List Step) → saying (bytes ++ byte ∷ []) steps ≡ said byte ∷ saying bytes steps
+saying_push [] byte steps = refl
+saying_push (first ∷ bytes) byte steps = saying_push bytes byte (said first ∷ steps)
+
+pub history_said : (entries : List Kept) (byte : ℕ) (line : List ℕ) (steps : List Step)
+    → history_of entries ≡ saying line steps
+    → history_of (entries ++ Said byte ∷ []) ≡ saying (line ++ byte ∷ []) steps
+history_said entries byte line steps is = history_push entries (Said byte) ∙ ap (λ (l : List Step). said byte ∷ l) is ∙ sym (saying_push line byte steps)
+
+pub changes_saying : (file : ℕ) (line : List ℕ) (steps : List Step) → changes_of file (saying line steps) ≡ changes_of file steps
+changes_saying file [] steps = refl
+changes_saying file (byte ∷ line) steps = changes_saying file line (said byte ∷ steps)
+
+-- which change is the newest of a file
+pub own_change : (file : ℕ) (change : Change) (steps : List Step) → changes_of file (on file change ∷ steps) ≡ change ∷ changes_of file steps
+own_change file change steps = ap (λ b. cond b (change ∷ changes_of file steps) (changes_of file steps)) (eq-eqb file file refl)
+
+pub other_change : (other file : ℕ) (change : Change) (steps : List Step) → (other ≡ file → ⊥) → changes_of other (on file change ∷ steps) ≡ changes_of other steps
+other_change other file change steps apart = ap (λ b. cond b (change ∷ changes_of other steps) (changes_of other steps)) (ne_eqb other file apart)
+
+-- each write of each file began inside it
+abbrev pub AllInside : List Step → Type 0
+AllInside steps = (file : ℕ) → writes_inside (changes_of file steps) ≡ true
+
+inside_on : (file : ℕ) (change : Change) (steps : List Step) → AllInside steps → writes_inside (change ∷ changes_of file steps) ≡ true → AllInside (on file change ∷ steps)
+inside_on file change steps before here other = elim (cases_eq other file) [
+  | inl is ↦ ap (λ (f : ℕ). writes_inside (changes_of f (on file change ∷ steps))) is ∙ ap writes_inside (own_change file change steps) ∙ here
+  | inr apart ↦ ap writes_inside (other_change other file change steps apart) ∙ before other
+]
+
+pub inside_wrote : (entries : List Kept) (file at size : ℕ) (bytes : List ℕ) (steps : List Step)
+    → history_of entries ≡ on file (wrote at size bytes) ∷ steps
+    → AllInside steps → at ≤ length (content_of file steps) → length bytes ≤ size → AllInside (history_of entries)
+inside_wrote entries file at size bytes steps is before within fits other =
+    ap (λ (s : List Step). writes_inside (changes_of other s)) is
+    ∙ inside_on file (wrote at size bytes) steps before
+        (both (both (le-leb at (length (content_of file steps)) within) (le-leb (length bytes) size fits)) (before file)) other
+  where
+    both : {a b : Bool} → a ≡ true → b ≡ true → (a && b) ≡ true
+    both {b = b} p q = ap (λ x. x && b) p ∙ q
+
+pub inside_synced : (entries : List Kept) (file : ℕ) (steps : List Step) → history_of entries ≡ on file synced ∷ steps → AllInside steps → AllInside (history_of entries)
+inside_synced entries file steps is before other =
+    ap (λ (s : List Step). writes_inside (changes_of other s)) is ∙ inside_on file synced steps before (before file) other
+
+pub inside_said : (entries : List Kept) (line : List ℕ) (steps : List Step) → history_of entries ≡ saying line steps → AllInside steps → AllInside (history_of entries)
+inside_said entries line steps is before other =
+    ap (λ (s : List Step). writes_inside (changes_of other s)) is ∙ ap writes_inside (changes_saying other line steps) ∙ before other
+
+pub inside_empty : (entries : List Kept) → history_of entries ≡ [] → AllInside (history_of entries)
+inside_empty entries is other = ap (λ (s : List Step). writes_inside (changes_of other s)) is
