@@ -3,6 +3,7 @@ use Rattle.std.proofs.Common.{◌≡◌, inl, inr, ℕ, ◌+◌, ◌<◌, ◌≤
 use Rattle.std.proofs.lemmas.Bool.{cases_eq, le-leb, eq-eqb, ne_eqb}
 use Rattle.std.proofs.lemmas.List.{take_more}
 use Rattle.site_model.specs.History.{Step, Change, on, said, wrote, synced, changes_of, reads, content_of, writes_inside, saying}
+use Rattle.site_model.proofs.Paths.{own_change, other_change}
 use Rattle.site_memory.specs.declared.kept.Kept.{Kept}
 use Rattle.site_memory.specs.declared.kept.Kept.TheVariants.{Wrote, Byte, Synced, Said}
 use Rattle.site_memory.specs.Record.{grown, next, replayed, history_of}
@@ -38,13 +39,6 @@ pub changes_saying : (file : ℕ) (line : List ℕ) (steps : List Step) → chan
 changes_saying file [] steps = refl
 changes_saying file (byte ∷ line) steps = changes_saying file line (said byte ∷ steps)
 
--- which change is the newest of a file
-pub own_change : (file : ℕ) (change : Change) (steps : List Step) → changes_of file (on file change ∷ steps) ≡ change ∷ changes_of file steps
-own_change file change steps = ap (λ b. cond b (change ∷ changes_of file steps) (changes_of file steps)) (eq-eqb file file refl)
-
-pub other_change : (other file : ℕ) (change : Change) (steps : List Step) → (other ≡ file → ⊥) → changes_of other (on file change ∷ steps) ≡ changes_of other steps
-other_change other file change steps apart = ap (λ b. cond b (change ∷ changes_of other steps) (changes_of other steps)) (ne_eqb other file apart)
-
 -- each write of each file began inside it
 abbrev pub AllInside : List Step → Type 0
 AllInside steps = (file : ℕ) → writes_inside (changes_of file steps) ≡ true
@@ -76,3 +70,7 @@ inside_said entries line steps is before other =
 
 pub inside_empty : (entries : List Kept) → history_of entries ≡ [] → AllInside (history_of entries)
 inside_empty entries is other = ap (λ (s : List Step). writes_inside (changes_of other s)) is
+
+-- one entry more of a list
+pub history_more : (entries : List Kept) (i : ℕ) (d : Kept) → i < length entries → history_of (take (i + 1) entries) ≡ next (get_or entries i d) (history_of (take i entries))
+history_more entries i d below = ap history_of (take_more entries i d below) ∙ history_push (take i entries) (get_or entries i d)

@@ -3,5 +3,6 @@
 
 mod kept;
 mod record;
+mod replay;
 
 pub use kept::Kept;
