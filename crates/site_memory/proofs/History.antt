@@ -2,7 +2,7 @@
 use Rattle.std.proofs.Common.{◌≡◌, inl, inr, ℕ, ◌+◌, ◌<◌, ◌≤◌, Bool, true, ◌&&◌, List, [], ◌∷◌, ◌++◌, length, take, get_or, refl, sym, ◌∙◌, ap, cond, arith}
 use Rattle.std.proofs.lemmas.Bool.{cases_eq, le-leb, eq-eqb, ne_eqb}
 use Rattle.std.proofs.lemmas.List.{take_more}
-use Rattle.site_model.specs.History.{Step, Change, on, said, wrote, synced, changes_of, reads, content_of, writes_inside, saying}
+use Rattle.site_model.specs.History.{Step, Change, on, said, wrote, synced, changes_of, reads, content_of, writes_inside, saying, tape}
 use Rattle.site_model.proofs.Paths.{own_change, other_change}
 use Rattle.site_memory.specs.declared.kept.Kept.{Kept}
 use Rattle.site_memory.specs.declared.kept.Kept.TheVariants.{Wrote, Byte, Synced, Said}
@@ -55,7 +55,7 @@ pub inside_wrote : (entries : List Kept) (file at size : ℕ) (bytes : List ℕ)
 inside_wrote entries file at size bytes steps is before within fits other =
     ap (λ (s : List Step). writes_inside (changes_of other s)) is
     ∙ inside_on file (wrote at size bytes) steps before
-        (both (both (le-leb at (length (content_of file steps)) within) (le-leb (length bytes) size fits)) (before file)) other
+    (both (both (le-leb at (length (content_of file steps)) within) (le-leb (length bytes) size fits)) (before file)) other
   where
     both : {a b : Bool} → a ≡ true → b ≡ true → (a && b) ≡ true
     both {b = b} p q = ap (λ x. x && b) p ∙ q
@@ -74,3 +74,15 @@ inside_empty entries is other = ap (λ (s : List Step). writes_inside (changes_o
 -- one entry more of a list
 pub history_more : (entries : List Kept) (i : ℕ) (d : Kept) → i < length entries → history_of (take (i + 1) entries) ≡ next (get_or entries i d) (history_of (take i entries))
 history_more entries i d below = ap history_of (take_more entries i d below) ∙ history_push (take i entries) (get_or entries i d)
+
+pub length-grown : (byte : ℕ) (steps : List Step) → length (grown byte steps) ≡ length steps
+length-grown byte [] = refl
+length-grown byte (said other ∷ steps) = refl
+length-grown byte (on file synced ∷ steps) = refl
+length-grown byte (on file (wrote at size bytes) ∷ steps) = refl
+
+pub tape-grown : (byte : ℕ) (steps : List Step) → tape (grown byte steps) ≡ tape steps
+tape-grown byte [] = refl
+tape-grown byte (said other ∷ steps) = refl
+tape-grown byte (on file synced ∷ steps) = refl
+tape-grown byte (on file (wrote at size bytes) ∷ steps) = refl

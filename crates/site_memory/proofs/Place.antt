@@ -21,10 +21,10 @@ grows file byte (said other ∷ steps) = (refl, refl)
 grows file byte (on other synced ∷ steps) = (refl, refl)
 grows file byte (on other (wrote at size bytes) ∷ steps) =
     elim (file == other) as (λ (b : Bool). Grows
-        (cond b (Some (min at (length (content_of file steps)) + length bytes)) None) byte
-        (reads (cond b (wrote at size bytes ∷ changes_of file steps) (changes_of file steps)))
-        (reads (cond b (wrote at size (bytes ++ byte ∷ []) ∷ changes_of file steps) (changes_of file steps)))
-        (cond b (Some (min at (length (content_of file steps)) + length (bytes ++ byte ∷ []))) None)) [
+    (cond b (Some (min at (length (content_of file steps)) + length bytes)) None) byte
+    (reads (cond b (wrote at size bytes ∷ changes_of file steps) (changes_of file steps)))
+    (reads (cond b (wrote at size (bytes ++ byte ∷ []) ∷ changes_of file steps) (changes_of file steps)))
+    (cond b (Some (min at (length (content_of file steps)) + length (bytes ++ byte ∷ []))) None)) [
       | true ↦ (reach_le at bytes (content_of file steps), put_more at byte bytes (content_of file steps), ap Some longer)
       | false ↦ (refl, refl)
     ]
@@ -36,7 +36,7 @@ place_grows : (place : Place) (file byte : ℕ) (steps : List Step) → IsPlace 
     → Grows place.cursor byte (content_of file steps) (content_of file (grown byte steps)) (cursor_of file (grown byte steps))
 place_grows place file byte steps is =
     subst (λ (o : Option ℕ). Grows o byte (content_of file steps) (content_of file (grown byte steps)) (cursor_of file (grown byte steps)))
-      (sym is.cursor_is) (grows file byte steps)
+    (sym is.cursor_is) (grows file byte steps)
 
 -- the cursor lies in the file
 pub within : (place : Place) (file : ℕ) (steps : List Step) → IsPlace place file steps → IfSome place.cursor (λ c. c ≤ place.length)

@@ -21,12 +21,16 @@ put_more at byte bytes old =
   where
     front : List ℕ
     front = take at old ++ bytes
+
     tail : List ℕ
     tail = drop (at + length bytes) old
+
     c : ℕ
     c = min at (length old) + length bytes
+
     longer : at + length (bytes ++ byte ∷ []) ≡ at + length bytes + 1
     longer = omega (arith, length_push bytes byte)
+
     behind : drop (at + length bytes + 1) old ≡ drop (c + 1) (front ++ tail)
     behind = sym (drop-drop 1 (at + length bytes) old) ∙ ap (λ (l : List ℕ). drop 1 l) (sym (drop_at front tail c (reach at bytes old))) ∙ drop-drop 1 c (front ++ tail)
 
@@ -50,5 +54,6 @@ get_or-put_other c byte k old within apart = elim (cases_lt k c) [
   where
     long : length (take c old ++ byte ∷ []) ≡ c + 1
     long = omega (arith, length_push (take c old) byte, length-take c old)
+
     back : c ≤ k → c + 1 + (k - (c + 1)) ≡ k
     back above = omega arith

@@ -1,2 +1,4 @@
+pub mod Memory
 pub mod Place
 pub mod Record
+pub mod Tick

@@ -1,8 +1,17 @@
-//! The outside in memory, for tests.
+//! The outside in memory, for tests: a [`MemorySite`] whose files and tape are data, and a [`TickClock`] that moves
+//! when it is told to. Both fail where a test lists it.
 #![tactic(auto)]
 
+mod faults;
 mod kept;
+mod memory;
+mod plan;
 mod record;
 mod replay;
+mod tick;
+mod walks;
 
 pub use kept::Kept;
+pub use memory::MemorySite;
+pub use plan::Kind;
+pub use tick::TickClock;

@@ -35,6 +35,7 @@ impl Record {
     pub(crate) fn write(&mut self, file: u32, at: u64, bytes: &[u8]) -> Result<(), Failed>
         requires { at ≤ length (content_of file (history_of self.old.kept.items)) }
         ensures kept { OnOk result (history_of self.new.kept.items ≡ on file (wrote at (length bytes.now) bytes.now) ∷ history_of self.old.kept.items) }
+        ensures either { (history_of self.new.kept.items ≡ on file (wrote at (length bytes.now) bytes.now) ∷ history_of self.old.kept.items) ⊎ (history_of self.new.kept.items ≡ history_of self.old.kept.items) }
         ensures room { OnOk result ((self.new.bytes + length bytes.now ≡ self.old.bytes) × (self.new.calls + 1 ≡ self.old.calls)) }
         ensures unchanged { OnErr result (self.new ≡ self.old) }
         ensures no_room { OnErr result ((self.old.bytes < length bytes.now) ⊎ (self.old.calls ≡ 0)) }
@@ -48,6 +49,24 @@ impl Record {
         Ok(())
     }
 
+    /// Writes and syncs, or Err without room for both.
+    pub(crate) fn prepare(&mut self, file: u32, at: u64, bytes: &[u8]) -> Result<(), Failed>
+        requires { at ≤ length (content_of file (history_of self.old.kept.items)) }
+        ensures kept { OnOk result (history_of self.new.kept.items ≡ on file synced ∷ on file (wrote at (length bytes.now) bytes.now) ∷ history_of self.old.kept.items) }
+        ensures room { OnOk result ((self.new.bytes + length bytes.now ≡ self.old.bytes) × (self.new.calls + 2 ≡ self.old.calls)) }
+        ensures unchanged { OnErr result (self.new ≡ self.old) }
+        ensures no_room { OnErr result ((self.old.bytes < length bytes.now) ⊎ (self.old.calls < 2)) }
+    {
+        if self.calls < 2 {
+            return Err(Failed);
+        }
+        match self.write(file, at, bytes) {
+            Ok(()) => self.sync_with_room(file),
+            Err(failed) => return Err(failed),
+        }
+        Ok(())
+    }
+
     /// Err only without room.
     pub(crate) fn sync(&mut self, file: u32) -> Result<(), Failed>
         ensures kept { OnOk result (history_of self.new.kept.items ≡ on file synced ∷ history_of self.old.kept.items) }
@@ -58,9 +77,18 @@ impl Record {
         if self.calls == 0 {
             return Err(Failed);
         }
+        self.sync_with_room(file);
+        Ok(())
+    }
+
+    fn sync_with_room(&mut self, file: u32)
+        requires { 0 < self.old.calls }
+        ensures kept { history_of self.new.kept.items ≡ on file synced ∷ history_of self.old.kept.items }
+        ensures bytes { self.new.bytes ≡ self.old.bytes }
+        ensures calls { self.new.calls + 1 ≡ self.old.calls }
+    {
         self.kept.push_reserved(Kept::Synced { file });
         self.calls -= 1;
-        Ok(())
     }
 
     /// Err only without room.

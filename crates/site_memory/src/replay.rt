@@ -39,7 +39,11 @@ fn step(place: Place, entry: Kept, file: u32, at: u64, out: &mut [u8]) -> Place
 {
     let length = place.length;
     match entry {
-        Kept::Wrote { file: other, at: start, .. } => {
+        Kept::Wrote {
+            file: other,
+            at: start,
+            ..
+        } => {
             if other == file {
                 return Place {
                     length,

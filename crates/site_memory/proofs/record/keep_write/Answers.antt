@@ -18,7 +18,7 @@ loop-byte-preserved c = record {
       ap history_of c.push_reserved-in-loop-byte.ensures.items
       ∙ history_byte _ c.args.file c.args.at (length c.args.bytes.now) (get_or c.args.bytes.now c.loop-byte.byte-index 0) (take c.loop-byte.byte-index c.args.bytes.now) _ c.loop-byte.invariant.history
       ∙ ap (λ l. on c.args.file (wrote c.args.at (length c.args.bytes.now) l) ∷ history_of c.args.kept.now.items)
-          (sym (take_more c.args.bytes.now c.loop-byte.byte-index 0 (omega arith)));
+      (sym (take_more c.args.bytes.now c.loop-byte.byte-index 0 (omega arith)));
   len = search rules;
   capacity = search rules;
 }

@@ -22,9 +22,9 @@ loop-entry-preserved c =
     record {
       place =
           subst (λ s. IsPlace c.step-place.result c.args.file s) (sym (history_more c.args.kept.now c.loop-entry.entry-index _ below))
-            (c.step-place.ensures.place _ c.loop-entry.invariant.place);
+          (c.step-place.ensures.place _ c.loop-entry.invariant.place);
       shows =
           subst (λ s. Shows (content_of c.args.file s) c.args.at c.step-place.new.out) (sym (history_more c.args.kept.now c.loop-entry.entry-index _ below))
-            (c.step-place.ensures.shows _ c.loop-entry.invariant.place c.loop-entry.invariant.shows);
+          (c.step-place.ensures.shows _ c.loop-entry.invariant.place c.loop-entry.invariant.shows);
       short = omega arith;
     }

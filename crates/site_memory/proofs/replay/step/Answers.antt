@@ -8,4 +8,4 @@ use Rattle.site_memory.proofs.replay.step.Goals as goal
 pub returns-in-Byte-clause-shows : goal.returns-in-Byte-clause-shows
 returns-in-Byte-clause-shows c steps is shows =
     subst (λ e. Shows (content_of c.args.file (next e steps)) c.args.at c.follow.new.out) (sym c.in-Byte.is)
-      (shows_byte c.args.place c.args.file c.in-Byte.byte c.args.at c.args.out.now c.follow.new.out steps is c.follow.ensures.out shows)
+    (shows_byte c.args.place c.args.file c.in-Byte.byte c.args.at c.args.out.now c.follow.new.out steps is c.follow.ensures.out shows)
