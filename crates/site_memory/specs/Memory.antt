@@ -23,3 +23,11 @@ bytes_left site = site.record.bytes
 -- how many more writes, syncs and lines it has room for
 abbrev pub calls_left : MemorySite → ℕ
 calls_left site = site.record.calls
+
+-- how many bytes it was made with room for
+abbrev pub bytes_at_first : MemorySite → ℕ
+bytes_at_first site = site.bytes
+
+-- how many writes, syncs and lines it was made with room for
+abbrev pub calls_at_first : MemorySite → ℕ
+calls_at_first site = site.calls

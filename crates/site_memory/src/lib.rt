@@ -3,6 +3,7 @@
 #![tactic(auto)]
 
 mod faults;
+mod image;
 mod kept;
 mod memory;
 mod plan;
@@ -11,7 +12,11 @@ mod replay;
 mod tick;
 mod walks;
 
+pub use image::Pick;
 pub use kept::Kept;
 pub use memory::MemorySite;
 pub use plan::Kind;
 pub use tick::TickClock;
+
+#[cfg(test)]
+mod tests;

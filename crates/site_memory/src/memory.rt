@@ -1,15 +1,16 @@
 // The site in memory.
 ghost use Rattle.std.specs.Prelude.{◌≡◌, ◌⊎◌, ◌+◌, ◌≤◌, ◌<◌, ◌∷◌, [], length, IfOk, OnOk, OnErr};
-ghost use Rattle.site_model.specs.History.{on, wrote, synced, content_of, tape};
+ghost use Rattle.site_model.specs.History.{IsImage, on, wrote, synced, content_of, tape, back_to};
 ghost use Rattle.site_memory.specs.Record.{history_of};
-ghost use Rattle.site_memory.specs.Memory.{memory_history, memory_disk_faults, memory_say_faults, bytes_left, calls_left};
+ghost use Rattle.site_memory.specs.Memory.{memory_history, memory_disk_faults, memory_say_faults, bytes_left, calls_left, bytes_at_first, calls_at_first};
 
 use crate::faults::raised;
+use crate::image::{cut, image_of};
 use crate::plan::Plan;
 use crate::record::Record;
 use crate::replay::replay;
 use crate::walks::{content_in, count_steps, tape_in};
-use crate::{Kept, Kind};
+use crate::{Kept, Kind, Pick};
 use site_model::{Failed, Site};
 use std::alloc::{AllocError, Global};
 
@@ -21,6 +22,9 @@ use std::alloc::{AllocError, Global};
 #[derive(Drop)]
 pub struct MemorySite {
     record: Record,
+    // The room that it was made with.
+    bytes: u64,
+    calls: u64,
     plan: Plan,
     disk_faults: u64,
     say_faults: u64,
@@ -40,10 +44,14 @@ impl MemorySite {
         ensures say_faults { IfOk result (λ site. memory_say_faults site ≡ 0) }
         ensures bytes { IfOk result (λ site. bytes_left site ≡ bytes) }
         ensures calls { IfOk result (λ site. calls_left site ≡ calls) }
+        ensures bytes_at_first { IfOk result (λ site. bytes_at_first site ≡ bytes) }
+        ensures calls_at_first { IfOk result (λ site. calls_at_first site ≡ calls) }
     {
         let record = Record::new(alloc, bytes, calls)?;
         Ok(MemorySite {
             record,
+            bytes,
+            calls,
             plan: Plan::new(fails),
             disk_faults: 0,
             say_faults: 0,
@@ -77,6 +85,28 @@ impl MemorySite {
         ensures { IfOk result (λ bytes. bytes.items ≡ content_of file (memory_history self.now)) }
     {
         content_in(alloc, &self.record.kept, file)
+    }
+
+    /// A site that starts from what a crash at this moment may leave, with the tape of that moment. It has as much
+    /// room behind that as this one was made with, and no call of it fails.
+    pub fn image(&self, alloc: Global, moment: u64, pick: Pick) -> Result<MemorySite, AllocError>
+        ensures image { IfOk result (λ site. IsImage (back_to moment (memory_history self.now)) (λ file. content_of file (memory_history site))) }
+        ensures tape { IfOk result (λ site. tape (memory_history site) ≡ tape (back_to moment (memory_history self.now))) }
+        ensures disk_faults { IfOk result (λ site. memory_disk_faults site ≡ 0) }
+        ensures say_faults { IfOk result (λ site. memory_say_faults site ≡ 0) }
+        ensures bytes { IfOk result (λ site. bytes_left site ≡ bytes_at_first self.now) }
+        ensures calls { IfOk result (λ site. calls_left site ≡ calls_at_first self.now) }
+    {
+        let end = cut(&self.record.kept, moment);
+        let kept = image_of(alloc, &self.record.kept[..end], pick)?;
+        Ok(MemorySite {
+            record: Record::behind(kept, self.bytes, self.calls)?,
+            bytes: self.bytes,
+            calls: self.calls,
+            plan: Plan::new(Vec::new(alloc)),
+            disk_faults: 0,
+            say_faults: 0,
+        })
     }
 
     /// What was kept of each call, the oldest first.

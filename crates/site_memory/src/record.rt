@@ -31,6 +31,20 @@ impl Record {
         Ok(Record { kept, bytes, calls })
     }
 
+    /// The record of these entries, with as much room behind them.
+    pub(crate) fn behind(mut kept: Vec<Kept>, bytes: u64, calls: u64) -> Result<Record, AllocError>
+        requires { (file : ℕ) → writes_inside (changes_of file (history_of kept.items)) ≡ true }
+        ensures history { IfOk result (λ made. history_of made.kept.items ≡ history_of kept.items) }
+        ensures bytes { IfOk result (λ made. made.bytes ≡ bytes) }
+        ensures calls { IfOk result (λ made. made.calls ≡ calls) }
+    {
+        let Some(room) = bytes.checked_add(calls) else {
+            return Err(AllocError);
+        };
+        kept.reserve(room as usize)?;
+        Ok(Record { kept, bytes, calls })
+    }
+
     /// Err only without room.
     pub(crate) fn write(&mut self, file: u32, at: u64, bytes: &[u8]) -> Result<(), Failed>
         requires { at ≤ length (content_of file (history_of self.old.kept.items)) }
@@ -108,7 +122,7 @@ impl Record {
     }
 }
 
-fn keep_write(kept: &mut Vec<Kept>, file: u32, at: u64, bytes: &[u8])
+pub(crate) fn keep_write(kept: &mut Vec<Kept>, file: u32, at: u64, bytes: &[u8])
     requires { vec_len kept.old + length bytes.now + 1 ≤ vec_capacity kept.old }
     ensures history { history_of kept.new.items ≡ on file (wrote at (length bytes.now) bytes.now) ∷ history_of kept.old.items }
     ensures len { vec_len kept.new ≡ vec_len kept.old + length bytes.now + 1 }
@@ -124,7 +138,7 @@ fn keep_write(kept: &mut Vec<Kept>, file: u32, at: u64, bytes: &[u8])
     }
 }
 
-fn keep_line(kept: &mut Vec<Kept>, line: &[u8])
+pub(crate) fn keep_line(kept: &mut Vec<Kept>, line: &[u8])
     requires { vec_len kept.old + length line.now ≤ vec_capacity kept.old }
     ensures history { history_of kept.new.items ≡ saying line.now (history_of kept.old.items) }
     ensures len { vec_len kept.new ≡ vec_len kept.old + length line.now }

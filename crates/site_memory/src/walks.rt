@@ -1,6 +1,6 @@
 // What a whole record says: how many steps, the tape, the content of a file.
-ghost use Rattle.std.specs.Prelude.{◌≡◌, ◌+◌, ◌≤◌, List, length, IfOk, OnOk};
-ghost use Rattle.site_model.specs.History.{Step, content_of, tape};
+ghost use Rattle.std.specs.Prelude.{◌≡◌, ◌==◌, if◌then◌else◌, ◌+◌, ◌≤◌, List, length, IfOk, OnOk};
+ghost use Rattle.site_model.specs.History.{Step, changes_of, content_of, tape};
 ghost use Rattle.site_memory.specs.Record.{history_of, next};
 
 use crate::Kept;
@@ -27,6 +27,35 @@ pub(crate) fn steps_in(entry: Kept) -> u64
         Kept::Synced { .. } => 1,
         Kept::Said(_) => 1,
     }
+}
+
+// How many changes of the file the entries are.
+pub(crate) fn count_changes(kept: &[Kept], file: u32) -> u64
+    ensures { result ≡ length (changes_of file (history_of kept.now)) }
+{
+    let mut changes = 0;
+    for entry in kept {
+        changes += changes_in(*entry, file);
+    }
+    changes
+}
+
+fn changes_in(entry: Kept, file: u32) -> u64
+    ensures changes { (steps : List Step) → length (changes_of file (next entry steps)) ≡ length (changes_of file steps) + result }
+    ensures bound { result ≤ 1 }
+{
+    match entry {
+        Kept::Wrote { file: other, .. } => one_if_same(file, other),
+        Kept::Synced { file: other } => one_if_same(file, other),
+        Kept::Byte(_) => 0,
+        Kept::Said(_) => 0,
+    }
+}
+
+fn one_if_same(file: u32, other: u32) -> u64
+    ensures { result ≡ (if file == other then 1 else 0) }
+{
+    if file == other { 1 } else { 0 }
 }
 
 pub(crate) fn tape_in(alloc: Global, kept: &[Kept]) -> Result<Vec<u8>, AllocError>
