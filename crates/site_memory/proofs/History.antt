@@ -1,11 +1,12 @@
 -- How the history of a record goes on with one more entry.
-use Rattle.std.proofs.Common.{◌≡◌, inl, inr, ℕ, ◌+◌, ◌<◌, ◌≤◌, Bool, true, ◌&&◌, List, [], ◌∷◌, ◌++◌, length, take, get_or, refl, sym, ◌∙◌, ap, cond, arith}
+use Rattle.std.proofs.Common.{◌≡◌, inl, inr, ℕ, ◌+◌, ◌-◌, ◌<◌, ◌≤◌, Bool, true, ◌&&◌, List, [], ◌∷◌, ◌++◌, length, take, drop, get_or, refl, sym, ◌∙◌, ap, cond, arith}
 use Rattle.std.proofs.lemmas.Bool.{cases_eq, le-leb, eq-eqb, ne_eqb}
-use Rattle.std.proofs.lemmas.List.{take_more}
-use Rattle.site_model.specs.History.{Step, Change, on, said, wrote, synced, changes_of, reads, content_of, writes_inside, saying, tape}
+use Rattle.std.proofs.lemmas.List.{take_more, take-append-drop, drop_more, drop-drop}
+use Rattle.site_model.specs.History.{Step, Change, on, said, wrote, synced, changes_of, reads, content_of, writes_inside, saying, tape, back_to}
 use Rattle.site_model.proofs.Paths.{own_change, other_change}
 use Rattle.site_memory.specs.declared.kept.Kept.{Kept}
 use Rattle.site_memory.specs.declared.kept.Kept.TheVariants.{Wrote, Byte, Synced, Said}
+use Rattle.site_memory.specs.Start.{AllInside}
 use Rattle.site_memory.specs.Record.{grown, next, replayed, history_of}
 
 replayed_push : (entries : List Kept) (entry : Kept) (steps : List Step) → replayed (entries ++ entry ∷ []) steps ≡ next entry (replayed entries steps)
@@ -39,11 +40,10 @@ pub changes_saying : (file : ℕ) (line : List ℕ) (steps : List Step) → chan
 changes_saying file [] steps = refl
 changes_saying file (byte ∷ line) steps = changes_saying file line (said byte ∷ steps)
 
--- each write of each file began inside it
-abbrev pub AllInside : List Step → Type 0
-AllInside steps = (file : ℕ) → writes_inside (changes_of file steps) ≡ true
+pub both : {a b : Bool} → a ≡ true → b ≡ true → (a && b) ≡ true
+both {b = b} p q = ap (λ x. x && b) p ∙ q
 
-inside_on : (file : ℕ) (change : Change) (steps : List Step) → AllInside steps → writes_inside (change ∷ changes_of file steps) ≡ true → AllInside (on file change ∷ steps)
+pub inside_on : (file : ℕ) (change : Change) (steps : List Step) → AllInside steps → writes_inside (change ∷ changes_of file steps) ≡ true → AllInside (on file change ∷ steps)
 inside_on file change steps before here other = elim (cases_eq other file) [
   | inl is ↦ ap (λ (f : ℕ). writes_inside (changes_of f (on file change ∷ steps))) is ∙ ap writes_inside (own_change file change steps) ∙ here
   | inr apart ↦ ap writes_inside (other_change other file change steps apart) ∙ before other
@@ -56,9 +56,6 @@ inside_wrote entries file at size bytes steps is before within fits other =
     ap (λ (s : List Step). writes_inside (changes_of other s)) is
     ∙ inside_on file (wrote at size bytes) steps before
     (both (both (le-leb at (length (content_of file steps)) within) (le-leb (length bytes) size fits)) (before file)) other
-  where
-    both : {a b : Bool} → a ≡ true → b ≡ true → (a && b) ≡ true
-    both {b = b} p q = ap (λ x. x && b) p ∙ q
 
 pub inside_synced : (entries : List Kept) (file : ℕ) (steps : List Step) → history_of entries ≡ on file synced ∷ steps → AllInside steps → AllInside (history_of entries)
 inside_synced entries file steps is before other =
@@ -86,3 +83,61 @@ tape-grown byte [] = refl
 tape-grown byte (said other ∷ steps) = refl
 tape-grown byte (on file synced ∷ steps) = refl
 tape-grown byte (on file (wrote at size bytes) ∷ steps) = refl
+
+-- an entry that is a step of its own
+pub next_step : (entry : Kept) (steps : List Step) → length (next entry steps) ≡ length steps + 1 → (step : Step) × (next entry steps ≡ step ∷ steps)
+next_step (Wrote file at size) steps is = (on file (wrote at size []), refl)
+next_step (Synced file) steps is = (on file synced, refl)
+next_step (Said byte) steps is = (said byte, refl)
+next_step (Byte byte) steps is = absurd (omega (arith, length-grown byte steps))
+
+replayed-append : (front back : List Kept) (steps : List Step) → replayed (front ++ back) steps ≡ replayed back (replayed front steps)
+replayed-append [] back steps = refl
+replayed-append (entry ∷ front) back steps = replayed-append front back (next entry steps)
+
+no_shorter : (entries : List Kept) (steps : List Step) → length steps ≤ length (replayed entries steps)
+no_shorter [] steps = omega arith
+no_shorter (Wrote file at size ∷ entries) steps = omega (arith, no_shorter entries (on file (wrote at size []) ∷ steps))
+no_shorter (Synced file ∷ entries) steps = omega (arith, no_shorter entries (on file synced ∷ steps))
+no_shorter (Said byte ∷ entries) steps = omega (arith, no_shorter entries (said byte ∷ steps))
+no_shorter (Byte byte ∷ entries) steps = omega (arith, no_shorter entries (grown byte steps), length-grown byte steps)
+
+stays_deeper : (entries : List Kept) (newer step : Step) (steps : List Step)
+    → drop (length (replayed entries (newer ∷ step ∷ steps)) - length (step ∷ steps)) (replayed entries (newer ∷ step ∷ steps)) ≡ step ∷ steps
+    → drop (length (replayed entries (newer ∷ step ∷ steps)) - length steps) (replayed entries (newer ∷ step ∷ steps)) ≡ steps
+stays_deeper entries newer step steps is =
+    ap (λ (n : ℕ). drop n (replayed entries (newer ∷ step ∷ steps))) one_more
+    ∙ sym (drop-drop 1 (length (replayed entries (newer ∷ step ∷ steps)) - length (step ∷ steps)) (replayed entries (newer ∷ step ∷ steps)))
+    ∙ ap (λ (s : List Step). drop 1 s) is
+  where
+    one_more : length (replayed entries (newer ∷ step ∷ steps)) - length steps ≡ length (replayed entries (newer ∷ step ∷ steps)) - length (step ∷ steps) + 1
+    one_more = omega (arith, no_shorter entries (newer ∷ step ∷ steps))
+
+-- what is below the newest step stays
+stays_below : (entries : List Kept) (step : Step) (steps : List Step)
+    → drop (length (replayed entries (step ∷ steps)) - length steps) (replayed entries (step ∷ steps)) ≡ steps
+stays_below [] step steps = ap (λ (n : ℕ). drop n (step ∷ steps)) one
+  where
+    one : length (step ∷ steps) - length steps ≡ 1
+    one = omega arith
+stays_below (Wrote file at size ∷ entries) step steps = stays_deeper entries (on file (wrote at size [])) step steps (stays_below entries (on file (wrote at size [])) (step ∷ steps))
+stays_below (Synced file ∷ entries) step steps = stays_deeper entries (on file synced) step steps (stays_below entries (on file synced) (step ∷ steps))
+stays_below (Said byte ∷ entries) step steps = stays_deeper entries (said byte) step steps (stays_below entries (said byte) (step ∷ steps))
+stays_below (Byte byte ∷ entries) (said other) steps = stays_below entries (said other) steps
+stays_below (Byte byte ∷ entries) (on file synced) steps = stays_below entries (on file synced) steps
+stays_below (Byte byte ∷ entries) (on file (wrote at size bytes)) steps = stays_below entries (on file (wrote at size (bytes ++ byte ∷ []))) steps
+
+-- the history at the moment that ends before this entry
+pub history_cut : (entries : List Kept) (i : ℕ) (d : Kept) → i < length entries
+    → length (next (get_or entries i d) (history_of (take i entries))) ≡ length (history_of (take i entries)) + 1
+    → history_of (take i entries) ≡ back_to (length (history_of (take i entries))) (history_of entries)
+unfolding history_of
+history_cut entries i d below one =
+    let here : (step : Step) × (next (get_or entries i d) (replayed (take i entries) []) ≡ step ∷ replayed (take i entries) []) = next_step (get_or entries i d) (replayed (take i entries) []) one in
+    let whole : replayed entries [] ≡ replayed (drop (i + 1) entries) (here.0 ∷ replayed (take i entries) []) =
+    ap (λ (l : List Kept). replayed l []) (sym (take-append-drop i entries))
+    ∙ replayed-append (take i entries) (drop i entries) []
+    ∙ ap (λ (l : List Kept). replayed l (replayed (take i entries) [])) (drop_more entries i d below)
+    ∙ ap (λ (s : List Step). replayed (drop (i + 1) entries) s) here.1 in
+    sym (stays_below (drop (i + 1) entries) here.0 (replayed (take i entries) []))
+    ∙ ap (λ (s : List Step). drop (length s - length (replayed (take i entries) [])) s) (sym whole)

@@ -1,3 +1,4 @@
 pub mod History
 pub mod Place
 pub mod Put
+pub mod Start

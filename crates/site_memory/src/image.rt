@@ -1,7 +1,8 @@
 // What a crash may leave of a record.
-ghost use Rattle.std.specs.Prelude.{◌≡◌, true, ◌⊎◌, ◌+◌, ◌≤◌, ◌<◌, [], ◌∷◌, ℕ, List, length, take, IfOk, OnOk, slice_index};
-ghost use Rattle.site_model.specs.History.{Torn, Leaves, IsImage, on, wrote, synced, changes_of, content_of, writes_inside, back_to, saying, tape};
+ghost use Rattle.std.specs.Prelude.{◌≡◌, ◌⊎◌, ◌+◌, ◌≤◌, ◌<◌, [], ◌∷◌, ℕ, List, length, take, IfOk, OnOk, slice_index};
+ghost use Rattle.site_model.specs.History.{Step, Change, Torn, Leaves, IsImage, on, wrote, synced, changes_of, content_of, back_to, saying, tape};
 ghost use Rattle.site_memory.specs.Record.{history_of, next};
+ghost use Rattle.site_memory.specs.Start.{AllInside, IsStart};
 
 use crate::Kept;
 use crate::record::{keep_line, keep_write};
@@ -21,49 +22,80 @@ pub enum Pick {
 
 /// The record of a site that starts from such an image of these entries, and from their tape.
 pub(crate) fn image_of(alloc: Global, kept: &[Kept], pick: Pick) -> Result<Vec<Kept>, AllocError>
-    requires { (file : ℕ) → writes_inside (changes_of file (history_of kept.now)) ≡ true }
+    requires { AllInside (history_of kept.now) }
     ensures image { IfOk result (λ made. IsImage (history_of kept.now) (λ file. content_of file (history_of made.items))) }
     ensures tape { IfOk result (λ made. tape (history_of made.items) ≡ tape (history_of kept.now)) }
-    ensures inside { IfOk result (λ made. (file : ℕ) → writes_inside (changes_of file (history_of made.items)) ≡ true) }
+    ensures inside { IfOk result (λ made. AllInside (history_of made.items)) }
 {
     let mut made = files_of(alloc, kept, pick)?;
+    add_tape(alloc, &mut made, kept)?;
+    Ok(made)
+}
+
+fn add_tape(alloc: Global, made: &mut Vec<Kept>, kept: &[Kept]) -> Result<(), AllocError>
+    ensures { OnOk result (history_of made.new.items ≡ saying (tape (history_of kept.now)) (history_of made.old.items)) }
+{
     let line = tape_in(alloc, kept)?;
     made.reserve(line.len())?;
-    keep_line(&mut made, &line);
-    Ok(made)
+    keep_line(made, &line);
+    Ok(())
 }
 
-fn files_of(alloc: Global, kept: &[Kept], pick: Pick) -> Result<Vec<Kept>, AllocError> {
+// A record of the files alone, each with one image.
+fn files_of(alloc: Global, kept: &[Kept], pick: Pick) -> Result<Vec<Kept>, AllocError>
+    requires { AllInside (history_of kept.now) }
+    ensures { IfOk result (λ made. IsStart (history_of kept.now) (history_of kept.now) (history_of made.items)) }
+{
     let mut made = Vec::new(alloc);
     for entry in kept {
-        if let Some(file) = file_in(*entry) {
-            add_once(alloc, &mut made, kept, file, pick)?;
-        }
+        add_changed(alloc, &mut made, kept, *entry, pick)?;
     }
     Ok(made)
 }
 
-// The file that an entry changes.
-fn file_in(entry: Kept) -> Option<u32> {
+// Adds the file that this entry changes.
+fn add_changed(
+    alloc: Global,
+    made: &mut Vec<Kept>,
+    kept: &[Kept],
+    entry: Kept,
+    pick: Pick,
+) -> Result<(), AllocError>
+    requires { AllInside (history_of kept.now) }
+    ensures { OnOk result ((walked : List Step) → IsStart (history_of kept.now) walked (history_of made.old.items)
+        → IsStart (history_of kept.now) (next entry walked) (history_of made.new.items)) }
+{
     match entry {
-        Kept::Wrote { file, .. } => Some(file),
-        Kept::Synced { file } => Some(file),
-        Kept::Byte(_) => None,
-        Kept::Said(_) => None,
+        Kept::Wrote { file, .. } => {
+            add_once(alloc, made, kept, file, pick)?;
+            Ok(())
+        }
+        Kept::Synced { file } => {
+            add_once(alloc, made, kept, file, pick)?;
+            Ok(())
+        }
+        Kept::Byte(_) => Ok(()),
+        Kept::Said(_) => Ok(()),
     }
 }
 
+// Adds a file that isn't there yet.
 fn add_once(
     alloc: Global,
     made: &mut Vec<Kept>,
     kept: &[Kept],
     file: u32,
     pick: Pick,
-) -> Result<(), AllocError> {
-    if count_changes(made, file) == 0 {
-        let bytes = image_in(alloc, kept, file, pick)?;
-        add_file(made, file, &bytes)?;
+) -> Result<(), AllocError>
+    requires { AllInside (history_of kept.now) }
+    ensures { OnOk result ((walked : List Step) (change : Change) → IsStart (history_of kept.now) walked (history_of made.old.items)
+        → IsStart (history_of kept.now) (on file change ∷ walked) (history_of made.new.items)) }
+{
+    if count_changes(made, file) > 0 {
+        return Ok(());
     }
+    let bytes = image_in(alloc, kept, file, pick)?;
+    add_file(made, file, &bytes)?;
     Ok(())
 }
 
@@ -81,11 +113,14 @@ fn add_file(made: &mut Vec<Kept>, file: u32, bytes: &[u8]) -> Result<(), AllocEr
 
 // What the crash leaves of one file.
 fn image_in(alloc: Global, kept: &[Kept], file: u32, pick: Pick) -> Result<Vec<u8>, AllocError>
-    requires { writes_inside (changes_of file (history_of kept.now)) ≡ true }
+    requires { AllInside (history_of kept.now) }
     ensures { IfOk result (λ bytes. Leaves (changes_of file (history_of kept.now)) bytes.items) }
 {
     match pick {
-        Pick::All => content_in(alloc, kept, file),
+        Pick::All => {
+            let bytes = content_in(alloc, kept, file)?;
+            Ok(bytes)
+        }
         Pick::Stable => torn_in(alloc, kept, file, None),
         Pick::Torn(byte) => torn_in(alloc, kept, file, Some(byte)),
     }
@@ -96,21 +131,44 @@ fn torn_in(alloc: Global, kept: &[Kept], file: u32, fill: Option<u8>) -> Result<
 {
     let mut image = Vec::new(alloc);
     for (i, entry) in kept.iter().enumerate() {
-        match *entry {
-            Kept::Wrote {
-                file: other,
-                at,
-                size,
-            } if other == file => tear(&mut image, at, size, fill)?,
-            Kept::Synced { file: other } if other == file => image = content_in(
-                alloc,
-                &kept[..i],
-                file,
-            )?,
-            _ => {}
-        }
+        leave(alloc, &mut image, &kept[..i], *entry, file, fill)?;
     }
     Ok(image)
+}
+
+// What the crash leaves after one more entry.
+fn leave(
+    alloc: Global,
+    image: &mut Vec<u8>,
+    before: &[Kept],
+    entry: Kept,
+    file: u32,
+    fill: Option<u8>,
+) -> Result<(), AllocError>
+    ensures { OnOk result (Leaves (changes_of file (history_of before.now)) image.old.items
+        → Leaves (changes_of file (next entry (history_of before.now))) image.new.items) }
+{
+    match entry {
+        Kept::Wrote {
+            file: other,
+            at,
+            size,
+        } => {
+            if other != file {
+                return Ok(());
+            }
+            tear(image, at, size, fill)
+        }
+        Kept::Synced { file: other } => {
+            if other != file {
+                return Ok(());
+            }
+            *image = content_in(alloc, before, file)?;
+            Ok(())
+        }
+        Kept::Byte(_) => Ok(()),
+        Kept::Said(_) => Ok(()),
+    }
 }
 
 // The range that was written, with its bytes filled, or as it was.

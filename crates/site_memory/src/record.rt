@@ -3,6 +3,7 @@ ghost use Rattle.std.specs.Prelude.{◌≡◌, true, ◌⊎◌, ◌+◌, ◌<◌
 ghost use Rattle.std.proofs.Props.{props};
 ghost use Rattle.site_model.specs.History.{Step, on, wrote, synced, changes_of, content_of, writes_inside, saying};
 ghost use Rattle.site_memory.specs.Record.{history_of};
+ghost use Rattle.site_memory.specs.Start.{AllInside};
 
 use crate::Kept;
 use site_model::Failed;
@@ -33,7 +34,7 @@ impl Record {
 
     /// The record of these entries, with as much room behind them.
     pub(crate) fn behind(mut kept: Vec<Kept>, bytes: u64, calls: u64) -> Result<Record, AllocError>
-        requires { (file : ℕ) → writes_inside (changes_of file (history_of kept.items)) ≡ true }
+        requires { AllInside (history_of kept.items) }
         ensures history { IfOk result (λ made. history_of made.kept.items ≡ history_of kept.items) }
         ensures bytes { IfOk result (λ made. made.bytes ≡ bytes) }
         ensures calls { IfOk result (λ made. made.calls ≡ calls) }
