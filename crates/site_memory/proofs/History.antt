@@ -6,8 +6,7 @@ use Rattle.site_model.specs.History.{Step, Change, on, said, wrote, synced, chan
 use Rattle.site_model.proofs.Paths.{own_change, other_change}
 use Rattle.site_memory.specs.declared.kept.Kept.{Kept}
 use Rattle.site_memory.specs.declared.kept.Kept.TheVariants.{Wrote, Byte, Synced, Said}
-use Rattle.site_memory.specs.Start.{AllInside}
-use Rattle.site_memory.specs.Record.{grown, next, replayed, history_of}
+use Rattle.site_memory.specs.Record.{AllInside, grown, next, replayed, history_of}
 
 replayed_push : (entries : List Kept) (entry : Kept) (steps : List Step) → replayed (entries ++ entry ∷ []) steps ≡ next entry (replayed entries steps)
 replayed_push [] entry steps = refl

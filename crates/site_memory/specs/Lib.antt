@@ -1,4 +1,5 @@
 pub mod Memory
+pub mod Picked
 pub mod Place
 pub mod Record
 pub mod Start

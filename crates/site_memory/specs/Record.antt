@@ -1,6 +1,6 @@
 -- The history that a record says.
-use Rattle.std.specs.Prelude.{ℕ, List, [], ◌∷◌, ◌++◌}
-use Rattle.site_model.specs.History.{Step, on, said, wrote, synced}
+use Rattle.std.specs.Prelude.{◌≡◌, true, ℕ, List, [], ◌∷◌, ◌++◌}
+use Rattle.site_model.specs.History.{Step, on, said, wrote, synced, changes_of, writes_inside}
 use Rattle.site_memory.specs.declared.kept.Kept.{Kept}
 use Rattle.site_memory.specs.declared.kept.Kept.TheVariants.{Wrote, Byte, Synced, Said}
 
@@ -24,3 +24,7 @@ replayed (entry ∷ entries) steps = replayed entries (next entry steps)
 -- the history that a record says
 unfoldable pub history_of : List Kept → List Step
 history_of entries = replayed entries []
+
+-- each write of each file began inside it
+abbrev pub AllInside : List Step → Type 0
+AllInside steps = (file : ℕ) → writes_inside (changes_of file steps) ≡ true

@@ -6,15 +6,16 @@ mod faults;
 mod image;
 mod kept;
 mod memory;
+mod pick;
 mod plan;
 mod record;
 mod replay;
 mod tick;
 mod walks;
 
-pub use image::Pick;
 pub use kept::Kept;
 pub use memory::MemorySite;
+pub use pick::Pick;
 pub use plan::Kind;
 pub use tick::TickClock;
 

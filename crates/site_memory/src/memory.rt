@@ -1,6 +1,7 @@
 // The site in memory.
-ghost use Rattle.std.specs.Prelude.{◌≡◌, ◌⊎◌, ◌+◌, ◌≤◌, ◌<◌, ◌∷◌, [], length, IfOk, OnOk, OnErr};
-ghost use Rattle.site_model.specs.History.{IsImage, on, wrote, synced, content_of, tape, back_to};
+ghost use Rattle.std.specs.Prelude.{◌≡◌, ◌⊎◌, ◌+◌, ◌≤◌, ◌<◌, ◌∷◌, [], ℕ, length, IfOk, OnOk, OnErr};
+ghost use Rattle.site_model.specs.History.{IsImage, on, wrote, synced, changes_of, content_of, tape, back_to};
+ghost use Rattle.site_memory.specs.Picked.{picked};
 ghost use Rattle.site_memory.specs.Record.{history_of};
 ghost use Rattle.site_memory.specs.Memory.{memory_history, memory_disk_faults, memory_say_faults, bytes_left, calls_left, bytes_at_first, calls_at_first};
 
@@ -90,6 +91,7 @@ impl MemorySite {
     /// A site that starts from what a crash at this moment may leave, with the tape of that moment. It has as much
     /// room behind that as this one was made with, and no call of it fails.
     pub fn image(&self, alloc: Global, moment: u64, pick: Pick) -> Result<MemorySite, AllocError>
+        ensures picked { IfOk result (λ site. (file : ℕ) → content_of file (memory_history site) ≡ picked pick (changes_of file (back_to moment (memory_history self.now)))) }
         ensures image { IfOk result (λ site. IsImage (back_to moment (memory_history self.now)) (λ file. content_of file (memory_history site))) }
         ensures tape { IfOk result (λ site. tape (memory_history site) ≡ tape (back_to moment (memory_history self.now))) }
         ensures disk_faults { IfOk result (λ site. memory_disk_faults site ≡ 0) }

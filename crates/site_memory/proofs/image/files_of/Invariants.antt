@@ -4,4 +4,4 @@ use Rattle.site_memory.specs.Start.{IsStart}
 use Rattle.site_memory.proofs.image.files_of.Given as goal
 
 abbrev pub invariant-loop-entry : goal.invariant-loop-entry
-invariant-loop-entry l = IsStart (history_of l.kept) (history_of (take l.entry-index l.kept)) (history_of l.made.items)
+invariant-loop-entry l = IsStart l.pick (history_of l.kept) (history_of (take l.entry-index l.kept)) (history_of l.made.items)

@@ -1,5 +1,0 @@
-use Rattle.std.proofs.Common.{◌≡◌, ◌⊎◌, ℕ, ◌<◌, ◌≤◌, get_or}
-use Rattle.site_memory.proofs.image.overwrite.Given as goal
-
-abbrev pub invariant-loop-i : goal.invariant-loop-i
-invariant-loop-i l = (k : ℕ) → (k < l.at) ⊎ (l.end ≤ k) → get_or l.image k 0 ≡ get_or l.initial.image k 0
