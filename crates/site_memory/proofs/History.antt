@@ -1,8 +1,8 @@
 -- How the history of a record goes on with one more entry.
-use Rattle.std.proofs.Common.{◌≡◌, inl, inr, ℕ, ◌+◌, ◌-◌, ◌<◌, ◌≤◌, Bool, true, ◌&&◌, List, [], ◌∷◌, ◌++◌, length, take, drop, get_or, refl, sym, ◌∙◌, ap, cond, arith}
-use Rattle.std.proofs.lemmas.Bool.{cases_eq, le-leb, eq-eqb, ne_eqb}
+use Rattle.std.proofs.Common.{◌≡◌, inl, inr, ℕ, ◌+◌, ◌-◌, ◌<◌, ◌≤◌, Bool, true, ◌&&◌, List, [], ◌∷◌, ◌++◌, length, take, drop, get_or, refl, sym, ◌∙◌, ap, arith}
+use Rattle.std.proofs.lemmas.Bool.{cases_eq, le-leb}
 use Rattle.std.proofs.lemmas.List.{take_more, take-append-drop, drop_more, drop-drop}
-use Rattle.site_model.specs.History.{Step, Change, on, said, wrote, synced, changes_of, reads, content_of, writes_inside, saying, tape, back_to}
+use Rattle.site_model.specs.History.{Step, Change, on, said, wrote, synced, changes_of, content_of, writes_inside, saying, tape, back_to}
 use Rattle.site_model.proofs.Paths.{own_change, other_change}
 use Rattle.site_memory.specs.declared.kept.Kept.{Kept}
 use Rattle.site_memory.specs.declared.kept.Kept.TheVariants.{Wrote, Byte, Synced, Said}

@@ -1,10 +1,9 @@
 -- How a replay of one file goes on.
-use Rattle.std.proofs.Common.{◌≡◌, ◌≢◌, ◌==◌, inl, inr, ℕ, ◌+◌, ◌<◌, ◌≤◌, min, max, Option, Some, None, MatchOption, IfSome, Bool, true, false, cond, List, [], ◌∷◌, ◌++◌, length, take, drop, get_or, refl, sym, ◌∙◌, ap, subst, arith, add-zero}
+use Rattle.std.proofs.Common.{◌≡◌, ◌≢◌, ◌==◌, inl, inr, ℕ, ◌+◌, ◌≤◌, min, max, Option, Some, None, MatchOption, IfSome, Bool, true, false, cond, List, [], ◌∷◌, ◌++◌, length, take, drop, get_or, refl, sym, ◌∙◌, ap, subst, arith, add-zero}
 use Rattle.std.proofs.lemmas.Bool.{cases_eq, eq-eqb, ne_eqb}
 use Rattle.std.proofs.lemmas.List.{length_push, append-nil, take-append-drop}
-use Rattle.site_model.specs.History.{Step, Change, on, said, wrote, synced, changes_of, reads, content_of, put}
+use Rattle.site_model.specs.History.{Step, on, said, wrote, synced, changes_of, reads, content_of, put}
 use Rattle.site_model.proofs.Images.{length-put}
-use Rattle.site_model.proofs.Paths.{own_change, other_change}
 use Rattle.site_memory.specs.declared.replay.Place.{Place}
 use Rattle.site_memory.specs.Record.{grown}
 use Rattle.site_memory.specs.Place.{cursor_of, IsPlace, Shows, IsShown}

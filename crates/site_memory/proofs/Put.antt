@@ -1,9 +1,8 @@
 -- One byte more behind the bytes that were put.
-use Rattle.std.proofs.Common.{◌≡◌, ◌≢◌, inl, inr, ℕ, ◌+◌, ◌-◌, ◌<◌, ◌≤◌, min, max, List, [], ◌∷◌, ◌++◌, length, take, drop, get_or, refl, sym, ◌∙◌, ap, arith, length-append, length-take, length-drop, append_assoc}
+use Rattle.std.proofs.Common.{◌≡◌, ◌≢◌, inl, inr, ℕ, ◌+◌, ◌-◌, ◌≤◌, min, List, [], ◌∷◌, ◌++◌, length, take, drop, get_or, sym, ◌∙◌, ap, arith, length-append, length-take, append_assoc}
 use Rattle.std.proofs.lemmas.Bool.{cases_lt}
-use Rattle.std.proofs.lemmas.List.{take_at, drop_at, drop-drop, get_or_at, get_or-append_right, get_or_append_left, get_or-take, get_or-drop, length_push, places}
+use Rattle.std.proofs.lemmas.List.{take_at, drop_at, drop-drop, get_or_at, get_or-append_right, get_or_append_left, get_or-take, get_or-drop, length_push}
 use Rattle.site_model.specs.History.{put}
-use Rattle.site_model.proofs.Images.{length-put}
 
 -- how far the bytes reach
 pub reach : (at : ℕ) (bytes old : List ℕ) → length (take at old ++ bytes) ≡ min at (length old) + length bytes

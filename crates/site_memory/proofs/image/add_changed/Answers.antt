@@ -1,5 +1,4 @@
 use Rattle.std.proofs.Common.{sym, subst}
-use Rattle.site_model.specs.History.{wrote, synced}
 use Rattle.site_memory.specs.Record.{history_of, next}
 use Rattle.site_memory.specs.Start.{IsStart}
 use Rattle.site_memory.proofs.Start.{start_grown, start_said}

@@ -1,4 +1,4 @@
-use Rattle.std.proofs.Common.{◌≡◌, ◌<◌, ◌+◌, arith, length, take, ap, ◌∙◌, sym, subst}
+use Rattle.std.proofs.Common.{◌≡◌, ◌<◌, ◌+◌, arith, length, take, ap, ◌∙◌, sym}
 use Rattle.site_model.specs.History.{back_to}
 use Rattle.site_memory.specs.Record.{history_of}
 use Rattle.site_memory.proofs.History.{history_empty, history_more, history_cut}

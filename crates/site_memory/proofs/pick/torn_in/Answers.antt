@@ -1,7 +1,6 @@
-use Rattle.std.proofs.Common.{◌<◌, arith, length, take, ap, ◌∙◌, sym}
+use Rattle.std.proofs.Common.{◌<◌, arith, length, ap, ◌∙◌, sym}
 use Rattle.site_model.specs.History.{changes_of}
 use Rattle.site_memory.specs.Picked.{torn}
-use Rattle.site_memory.specs.Record.{history_of}
 use Rattle.site_memory.proofs.History.{history_empty, history_more}
 use Rattle.site_memory.proofs.pick.torn_in.Goals as goal
 

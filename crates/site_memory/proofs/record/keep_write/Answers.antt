@@ -1,4 +1,4 @@
-use Rattle.std.proofs.Common.{arith, rules, ap, ◌∙◌, ◌∷◌, [], sym, take, get_or, length}
+use Rattle.std.proofs.Common.{arith, rules, ap, ◌∙◌, ◌∷◌, sym, take, get_or, length}
 use Rattle.std.proofs.lemmas.List.{take_more}
 use Rattle.site_model.specs.History.{on, wrote}
 use Rattle.site_memory.specs.Record.{history_of}

@@ -1,6 +1,5 @@
-use Rattle.std.proofs.Common.{◌≡◌, ◌<◌, arith, None, List, [], ◌∷◌, length, take, ap, subst, sym}
-use Rattle.site_model.specs.History.{Step, content_of}
-use Rattle.site_memory.specs.Record.{history_of, next}
+use Rattle.std.proofs.Common.{◌<◌, arith, None, length, subst, sym}
+use Rattle.site_model.specs.History.{content_of}
 use Rattle.site_memory.specs.Place.{IsPlace, Shows}
 use Rattle.site_memory.proofs.History.{history_empty, history_more}
 use Rattle.site_memory.proofs.Place.{place_empty, within}

@@ -1,7 +1,7 @@
-use Rattle.std.proofs.Common.{List, ◌∷◌, ap, subst, sym}
-use Rattle.site_model.specs.History.{Step, content_of}
-use Rattle.site_memory.specs.Record.{next, grown}
-use Rattle.site_memory.specs.Place.{IsPlace, Shows}
+use Rattle.std.proofs.Common.{subst, sym}
+use Rattle.site_model.specs.History.{content_of}
+use Rattle.site_memory.specs.Record.{next}
+use Rattle.site_memory.specs.Place.{Shows}
 use Rattle.site_memory.proofs.Place.{shows_byte}
 use Rattle.site_memory.proofs.replay.step.Goals as goal
 
