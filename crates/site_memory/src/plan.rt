@@ -1,0 +1,64 @@
+// Which calls fail.
+ghost use Rattle.std.specs.Prelude.{◌<◌};
+
+/// A kind of call.
+#[derive(Clone, Copy, Debug, PartialEq, Eq)]
+pub enum Kind {
+    Length,
+    Read,
+    Write,
+    Sync,
+    /// The four above together.
+    Device,
+    Say,
+}
+
+/// How many calls there were of each kind, and the numbers of those that fail.
+#[derive(Drop)]
+pub(crate) struct Plan {
+    fails: Vec<(Kind, u64)>,
+    calls: [u64; 6],
+}
+
+impl Plan {
+    pub(crate) fn new(fails: Vec<(Kind, u64)>) -> Plan {
+        Plan {
+            fails,
+            calls: [0; 6],
+        }
+    }
+
+    pub(crate) fn calls(&self, kind: Kind) -> u64 {
+        self.calls[slot(kind)]
+    }
+
+    /// Counts a call, of a device also as one of the four together, and says whether it is to fail.
+    pub(crate) fn call(&mut self, kind: Kind) -> bool {
+        let listed = self.count(kind);
+        if kind == Kind::Say {
+            return listed;
+        }
+        let listed_as_device = self.count(Kind::Device);
+        listed || listed_as_device
+    }
+
+    fn count(&mut self, kind: Kind) -> bool {
+        let slot = slot(kind);
+        let number = self.calls[slot];
+        self.calls[slot] = number.saturating_add(1);
+        self.fails.contains(&(kind, number))
+    }
+}
+
+fn slot(kind: Kind) -> usize
+    ensures { result < 6 }
+{
+    match kind {
+        Kind::Length => 0,
+        Kind::Read => 1,
+        Kind::Write => 2,
+        Kind::Sync => 3,
+        Kind::Device => 4,
+        Kind::Say => 5,
+    }
+}

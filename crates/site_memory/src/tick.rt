@@ -1,0 +1,85 @@
+// The clock in memory.
+ghost use Rattle.std.specs.Prelude.{◌≡◌, ◌≤◌, ◌<◌, ◌^◌};
+
+use crate::faults::raised;
+use site_model::{Clock, Failed, LAST_MOMENT};
+
+/// A clock that stands still until it is waited for, and fails where it is told to.
+///
+/// A listed call fails and is counted as a fault, and the clock stays as it is.
+#[derive(Drop)]
+pub struct TickClock {
+    at: u64,
+    latest: u64,
+    calls: u64,
+    faults: u64,
+    fails: Vec<u64>,
+    ghost range: { at < 2 ^ 63 },
+}
+
+impl TickClock {
+    ghost use Rattle.site_memory.specs.Tick.{tick_latest, tick_faults};
+
+    /// A clock at this moment. The calls with these numbers fail, counted from 0 over both kinds.
+    pub fn new(at: u64, fails: Vec<u64>) -> TickClock
+        requires { at ≤ LAST_MOMENT }
+        ensures latest { tick_latest result ≡ 0 }
+        ensures faults { tick_faults result ≡ 0 }
+    {
+        TickClock {
+            at,
+            latest: 0,
+            calls: 0,
+            faults: 0,
+            fails,
+        }
+    }
+
+    /// The greatest moment that it gave, or 0.
+    pub fn latest(&self) -> u64
+        ensures { result ≡ tick_latest self.now }
+    {
+        self.latest
+    }
+
+    /// How often it has failed.
+    pub fn faults(&self) -> u64
+        ensures { result ≡ tick_faults self.now }
+    {
+        self.faults
+    }
+}
+
+// Counts a call, and says whether it is to fail.
+fn call(calls: &mut u64, fails: &[u64]) -> bool {
+    let number = *calls;
+    *calls = number.saturating_add(1);
+    fails.contains(&number)
+}
+
+impl Clock for TickClock {
+    ghost use Rattle.site_memory.specs.Tick.{tick_latest, tick_faults};
+
+    ghost latest = { tick_latest };
+
+    ghost clock_faults = { tick_faults };
+
+    fn now(&mut self) -> Result<u64, Failed> {
+        if call(&mut self.calls, &self.fails) {
+            self.faults = raised(self.faults);
+            return Err(Failed);
+        }
+        self.latest = self.latest.max(self.at);
+        Ok(self.at)
+    }
+
+    fn wait_until(&mut self, moment: u64) -> Result<u64, Failed> {
+        if call(&mut self.calls, &self.fails) {
+            self.faults = raised(self.faults);
+            return Err(Failed);
+        }
+        self.at = self.at.max(moment);
+        self.latest = self.latest.max(self.at);
+        Ok(self.at)
+    }
+}
