@@ -1,6 +1,9 @@
 // The real site: the files of a directory, and standard output.
 ghost use Rattle.std.specs.Prelude.{[]};
 
+#[cfg(test)]
+mod tests;
+
 use crate::directory::Directory;
 use crate::fault::counted;
 use site_model::{Failed, Site};
