@@ -1,13 +1,12 @@
 // What no clause says: which bytes the disk gives, which names the files have, and when a fault is counted.
 use super::{FileSite, print_at_once};
-use crate::wall_clock::WallClock;
-use site_model::{Clock, Failed, Site};
+use site_model::{Failed, Site};
 use std::alloc::AllocError;
 use std::cell::Cell;
 use std::io::ErrorKind;
 use std::test::Fail;
-use std::time::{Duration, SystemTime, UNIX_EPOCH};
-use std::{env, fmt, fs, io, rt};
+use std::time::{SystemTime, UNIX_EPOCH};
+use std::{env, fmt, fs, io};
 
 // A new directory, whose name holds the time in nanoseconds.
 fn new_directory(rt: &HostRuntime, name: &str) -> io::Result<String> {
@@ -117,6 +116,7 @@ fn reads_what_may_not_be_written(rt: HostRuntime) -> Result<(), Fail> {
 }
 
 // Standard output that takes two bytes at a time and is cut off by a signal now and then, and that fails at its end.
+#[derive(Drop)]
 struct Narrow {
     room: Cell<usize>,
     was_cut_off: Cell<bool>,
@@ -156,35 +156,5 @@ fn says_whole_lines(rt: HostRuntime) -> Result<(), Fail> {
     assert_eq!(rt; out.room.get(), 3);
     assert!(rt; print_at_once(&out, b"hello").is_err());
     assert_eq!(rt; out.room.get(), 0);
-    Ok(())
-}
-
-// A clock that stands still.
-struct Still(Duration);
-
-impl rt::Clock for Still {
-    fn monotonic(&self) -> io::Result<Duration> {
-        Ok(self.0)
-    }
-
-    fn since_1970(&self) -> io::Result<Duration> {
-        Ok(self.0)
-    }
-}
-
-#[test]
-fn reads_the_clock(rt: HostRuntime) -> Result<(), Fail> {
-    let mut clock = WallClock::new(rt);
-    let first = clock.now()?;
-    let second = clock.now()?;
-    assert!(rt; 1_700_000_000_000 < first && first <= second);
-    let soon = second.saturating_add(5);
-    assert!(rt; clock.wait_until(soon)? >= soon);
-
-    let mut clock = WallClock::new(Still(Duration::from_millis(1234)));
-    assert_eq!(rt; clock.wait_until(1234), Ok(1234));
-    assert_eq!(rt; clock.wait_until(1235), Err(Failed));
-    let mut clock = WallClock::new(Still(Duration::from_secs(u64::MAX)));
-    assert_eq!(rt; clock.now(), Err(Failed));
     Ok(())
 }
