@@ -1,5 +1,6 @@
 // The numbered files of a directory, each opened once and kept open.
-ghost use Rattle.std.specs.Prelude.{◌≤◌, ◌<◌, length, IfOk, IfSome};
+ghost use Rattle.netherite_cli.specs.FileNumbers.{IsFileNumber};
+ghost use Rattle.std.specs.Prelude.{◌≡◌, ◌≤◌, ◌<◌, true, false, length, IfOk, IfSome, IsErr, OnOk, OnErr};
 
 use crate::file_name::FileName;
 use std::alloc::{AllocError, Global};
@@ -47,7 +48,9 @@ impl Directory {
     }
 
     /// How many bytes the file has.
-    pub fn length(&mut self, rt: &impl Files<File = File>, number: u32) -> io::Result<u64> {
+    pub fn length(&mut self, rt: &impl Files<File = File>, number: u32) -> io::Result<u64>
+        ensures file { OnOk result (IsFileNumber number) }
+    {
         match self.find(rt, number)? {
             Some(place) => Ok(self.opened[place].file.metadata()?.len()),
             None => Ok(0),
@@ -62,6 +65,7 @@ impl Directory {
         at: u64,
         out: &mut [u8],
     ) -> io::Result<usize>
+        ensures file { OnOk result (IsFileNumber number) }
         ensures count { IfOk result (λ n. n ≤ length out.old) }
     {
         match self.find(rt, number)? {
@@ -77,7 +81,9 @@ impl Directory {
         number: u32,
         at: u64,
         bytes: &[u8],
-    ) -> io::Result<()> {
+    ) -> io::Result<()>
+        ensures file { OnOk result (IsFileNumber number) }
+    {
         let place = match self.find(rt, number)? {
             Some(place) => place,
             None => self.make(rt, number)?,
@@ -86,7 +92,9 @@ impl Directory {
     }
 
     /// Makes what a read of the file gives durable, and its name too.
-    pub fn sync(&mut self, rt: &impl Files<File = File>, number: u32) -> io::Result<()> {
+    pub fn sync(&mut self, rt: &impl Files<File = File>, number: u32) -> io::Result<()>
+        ensures file { OnOk result (IsFileNumber number) }
+    {
         match self.find(rt, number)? {
             Some(place) => self.opened[place].sync(rt, self.path.as_str()),
             None => Ok(()),
@@ -96,8 +104,10 @@ impl Directory {
     // The place of a file among the open ones, if it is in the directory. It is opened for writing where that is
     // allowed.
     fn find(&mut self, rt: &impl Files<File = File>, number: u32) -> io::Result<Option<usize>>
+        ensures file { OnOk result (IsFileNumber number) }
         ensures place { IfOk result (λ found. IfSome found (λ place. place < length self.new.opened.items)) }
     {
+        let name = name_of(number)?;
         let known = self
             .opened
             .iter()
@@ -105,7 +115,7 @@ impl Directory {
         if known.is_some() {
             return Ok(known);
         }
-        self.name(number)?;
+        self.point_to(name)?;
         match open_there(rt, self.file_path.as_str()) {
             Ok(file) => Ok(Some(self.keep(number, file)?)),
             Err(error) if error.kind() == ErrorKind::NotFound => Ok(None),
@@ -117,16 +127,14 @@ impl Directory {
     fn make(&mut self, rt: &impl Files<File = File>, number: u32) -> io::Result<usize>
         ensures place { IfOk result (λ place. place < length self.new.opened.items) }
     {
-        self.name(number)?;
+        let name = name_of(number)?;
+        self.point_to(name)?;
         let file = File::create_new(rt, self.file_path.as_str())?;
         self.keep(number, file)
     }
 
-    // Sets the path to a file's. A number that is no file's is an error.
-    fn name(&mut self, number: u32) -> io::Result<()> {
-        let Some(name) = FileName::from_number(number) else {
-            return Err(io::Error::from(ErrorKind::InvalidInput));
-        };
+    // Sets the path to a file's.
+    fn point_to(&mut self, name: FileName) -> io::Result<()> {
         self.file_path.clear();
         write!(self.file_path, "{}/{name}", self.path)?;
         Ok(())
@@ -147,7 +155,11 @@ impl Directory {
 }
 
 impl OpenedFile {
-    fn sync(&mut self, rt: &impl Files<File = File>, directory: &str) -> io::Result<()> {
+    fn sync(&mut self, rt: &impl Files<File = File>, directory: &str) -> io::Result<()>
+        ensures failing { self.old.sync_has_failed ≡ true → IsErr result }
+        ensures failed { OnErr result (self.new.sync_has_failed ≡ true) }
+        ensures done { OnOk result (self.new.name_is_loose ≡ false) }
+    {
         if self.sync_has_failed {
             return Err(io::Error::from(ErrorKind::Other));
         }
@@ -160,6 +172,13 @@ impl OpenedFile {
         self.sync_has_failed = false;
         Ok(())
     }
+}
+
+// A number that is no file's is an error.
+fn name_of(number: u32) -> io::Result<FileName>
+    ensures file { OnOk result (IsFileNumber number) }
+{
+    FileName::from_number(number).ok_or(io::Error::from(ErrorKind::InvalidInput))
 }
 
 // Opens a file that is there, for reading alone where it may not be written.

@@ -38,6 +38,7 @@ fn keeps_what_was_written(rt: HostRuntime) -> Result<(), Fail> {
     assert_eq!(rt; site.length(17), Ok(9));
     assert_eq!(rt; site.sync(17), Ok(()));
     assert_eq!(rt; site.sync(17), Ok(()));
+    assert_eq!(rt; site.say(b"kept\n"), Ok(()));
     assert_eq!(rt; site.disk_faults, 0);
     drop(site);
 
