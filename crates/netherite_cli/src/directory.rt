@@ -23,6 +23,8 @@ pub struct Directory {
     // the path of the file that is being opened, in memory that was set aside when the directory was
     file_path: String,
     opened: Vec<OpenedFile>,
+    // the names that were there when this run began are durable
+    names_are_durable: bool,
 }
 
 /// An open file.
@@ -44,6 +46,7 @@ impl Directory {
             path: String::from_str(alloc, path)?,
             file_path: String::with_capacity(alloc, path.len() + NAME_ROOM)?,
             opened: Vec::with_capacity(alloc, MOST_FILES)?,
+            names_are_durable: false,
         })
     }
 
@@ -117,7 +120,7 @@ impl Directory {
         }
         self.point_to(name)?;
         match open_there(rt, self.file_path.as_str()) {
-            Ok(file) => Ok(Some(self.keep(number, file)?)),
+            Ok(file) => Ok(Some(self.take(rt, number, file)?)),
             Err(error) if error.kind() == ErrorKind::NotFound => Ok(None),
             Err(error) => Err(error),
         }
@@ -130,7 +133,7 @@ impl Directory {
         let name = name_of(number)?;
         self.point_to(name)?;
         let file = File::create_new(rt, self.file_path.as_str())?;
-        self.keep(number, file)
+        self.keep(number, file, true)
     }
 
     // Sets the path to a file's.
@@ -140,14 +143,27 @@ impl Directory {
         Ok(())
     }
 
-    fn keep(&mut self, number: u32, file: File) -> io::Result<usize>
+    // Takes a file that was there. An earlier run may have crashed and left what it wrote, and the file's name, in the
+    // system's memory alone: both are made durable before anything rests on what the file holds.
+    fn take(&mut self, rt: &impl Files<File = File>, number: u32, file: File) -> io::Result<usize>
+        ensures place { IfOk result (λ place. place < length self.new.opened.items) }
+    {
+        file.sync_all()?;
+        if !self.names_are_durable {
+            sync_names(rt, self.path.as_str())?;
+            self.names_are_durable = true;
+        }
+        self.keep(number, file, false)
+    }
+
+    fn keep(&mut self, number: u32, file: File, name_is_loose: bool) -> io::Result<usize>
         ensures place { IfOk result (λ place. place < length self.new.opened.items) }
     {
         let place = self.opened.len();
         self.opened.push(OpenedFile {
             number,
             file,
-            name_is_loose: true,
+            name_is_loose,
             sync_has_failed: false,
         })?;
         Ok(place)
@@ -166,7 +182,7 @@ impl OpenedFile {
         self.sync_has_failed = true;
         self.file.sync_all()?;
         if self.name_is_loose {
-            File::open(rt, directory)?.sync_all()?;
+            sync_names(rt, directory)?;
             self.name_is_loose = false;
         }
         self.sync_has_failed = false;
@@ -179,6 +195,11 @@ fn name_of(number: u32) -> io::Result<FileName>
     ensures file { OnOk result (IsFileNumber number) }
 {
     FileName::from_number(number).ok_or(io::Error::from(ErrorKind::InvalidInput))
+}
+
+// Makes the names in a directory durable.
+fn sync_names(rt: &impl Files<File = File>, directory: &str) -> io::Result<()> {
+    File::open(rt, directory)?.sync_all()
 }
 
 // Opens a file that is there, for reading alone where it may not be written.
