@@ -1,6 +1,6 @@
 // The numbered files of a directory, each opened once and kept open.
 ghost use Rattle.netherite_cli.specs.FileNumbers.{IsFileNumber};
-ghost use Rattle.std.specs.Prelude.{◌≡◌, ◌≤◌, ◌<◌, true, false, length, IfOk, IfSome, IsErr, OnOk, OnErr};
+ghost use Rattle.std.specs.Prelude.{◌≡◌, ◌≤◌, ◌<◌, true, false, length, IfOk, IfSome, IsOk, IsErr, OnOk, OnErr};
 
 use crate::file_name::FileName;
 use std::alloc::{AllocError, Global};
@@ -193,6 +193,7 @@ impl OpenedFile {
 // A number that is no file's is an error.
 fn name_of(number: u32) -> io::Result<FileName>
     ensures file { OnOk result (IsFileNumber number) }
+    ensures there { IsFileNumber number → IsOk result }
 {
     FileName::from_number(number).ok_or(io::Error::from(ErrorKind::InvalidInput))
 }
