@@ -12,6 +12,7 @@ mod flow_file;
 mod input;
 mod names;
 mod request_file;
+mod state;
 mod text;
 mod values;
 mod words;
@@ -21,7 +22,8 @@ pub use data::{Scalar, Scalars, Value};
 pub use ended::{Cause, FlowFault, FlowPath, PlanPlace};
 pub use flow_file::Flow;
 pub use names::{Key, Name};
-pub use request_file::Requests;
+pub use request_file::{Kind, Requests};
+pub use state::{Found, Label, StartStage, State, WaitStage};
 pub use text::{Text, TextError};
 
 #[cfg(test)]
