@@ -1,7 +1,7 @@
 //! How far the two requests have come.
 
-ghost use Rattle.std.specs.Prelude.{◌≡◌};
-ghost use Rattle.engine_run.specs.State.{inbox, outbox, is_there, is_pending, took, fresh_state};
+ghost use Rattle.std.specs.Prelude.{◌≡◌, ◌<◌, ◌^◌, IfSome};
+ghost use Rattle.engine_run.specs.State.{inbox, outbox, is_there, is_pending, took, began, asked, arrived, answered, finished, work, IsSound, fresh_state};
 
 use crate::request_file::Kind;
 
@@ -140,8 +140,11 @@ impl State {
         self.is_there() && !self.finished
     }
 
+    /// Takes a request, once.
     fn take(self, kind: Kind) -> Option<State>
-        ensures { result ≡ took self kind }
+        ensures took { result ≡ took self kind }
+        ensures work { IfSome result (λ next. work next < work self) }
+        ensures sound { IsSound self → IfSome result IsSound }
     {
         match (kind, self.start, self.wait) {
             (Kind::Start, StartStage::Untaken, wait) => Some(State {
@@ -156,5 +159,117 @@ impl State {
             }),
             _ => None,
         }
+    }
+
+    /// The start reaches the instance, which begins.
+    fn begin(self, stamp: u64) -> Option<State>
+        requires { stamp < 2 ^ 63 }
+        ensures began { result ≡ began self self.start stamp }
+        ensures work { IfSome result (λ next. work next < work self) }
+        ensures sound { IsSound self → IfSome result IsSound }
+    {
+        if self.start != StartStage::Sent {
+            return None;
+        }
+        Some(State {
+            start: StartStage::Replied,
+            wait_replied_first: matches!(self.wait, WaitStage::Replied(_)),
+            last: stamp,
+            stamp: self.stamp.max(stamp),
+            ..self
+        })
+    }
+
+    /// The wait reaches the instance, or finds none.
+    fn ask(self, stamp: u64) -> Option<State>
+        requires { stamp < 2 ^ 63 }
+        ensures asked { result ≡ asked self self.wait stamp }
+        ensures work { IfSome result (λ next. work next < work self) }
+        ensures sound { IsSound self → IfSome result IsSound }
+    {
+        if self.wait != WaitStage::Sent {
+            return None;
+        }
+        if !self.is_there() {
+            return Some(State {
+                wait: WaitStage::Replied(Found::Missing),
+                wait_replied_first: false,
+                stamp: self.stamp.max(stamp),
+                ..self
+            });
+        }
+        if stamp < self.last {
+            return None;
+        }
+        Some(State {
+            wait: if self.finished {
+                WaitStage::Replied(Found::Ended)
+            } else {
+                WaitStage::Kept
+            },
+            wait_replied_first: false,
+            last: stamp,
+            stamp: self.stamp.max(stamp),
+            ..self
+        })
+    }
+
+    /// The instance is delivered the next message from the client.
+    fn to_instance(self, stamp: u64) -> Option<State>
+        requires { stamp < 2 ^ 63 }
+        ensures arrived { result ≡ arrived self (inbox self.start self.wait self.wait_sent_first) stamp }
+        ensures work { IfSome result (λ next. work next < work self) }
+        ensures sound { IsSound self → IfSome result IsSound }
+    {
+        match self.inbox() {
+            Some(Kind::Start) => self.begin(stamp),
+            Some(Kind::Wait) => self.ask(stamp),
+            None => None,
+        }
+    }
+
+    /// The client is delivered the next message from the instance.
+    fn to_client(self, stamp: u64) -> Option<State>
+        requires { stamp < 2 ^ 63 }
+        ensures answered { result ≡ answered self (outbox self.start self.wait self.wait_replied_first) stamp }
+        ensures work { IfSome result (λ next. work next < work self) }
+        ensures sound { IsSound self → IfSome result IsSound }
+    {
+        match (self.outbox(), self.wait) {
+            (Some(Kind::Start), _) => Some(State {
+                start: StartStage::Answered,
+                stamp: self.stamp.max(stamp),
+                ..self
+            }),
+            (Some(Kind::Wait), WaitStage::Replied(found)) => Some(State {
+                wait: WaitStage::Answered(found),
+                stamp: self.stamp.max(stamp),
+                ..self
+            }),
+            _ => None,
+        }
+    }
+
+    /// The activity finishes, and so does the instance. A wait that it kept is answered.
+    fn finish(self) -> Option<State>
+        ensures finished { result ≡ finished self }
+        ensures work { IfSome result (λ next. work next < work self) }
+        ensures sound { IsSound self → IfSome result IsSound }
+    {
+        if !self.is_pending() {
+            return None;
+        }
+        if self.wait == WaitStage::Kept {
+            return Some(State {
+                finished: true,
+                wait: WaitStage::Replied(Found::Ended),
+                wait_replied_first: false,
+                ..self
+            });
+        }
+        Some(State {
+            finished: true,
+            ..self
+        })
     }
 }
