@@ -139,3 +139,19 @@ pub record IsSound (s : State) : Type 0 where
   pub order : s.last ≤ s.stamp
   pub low : s.stamp < 2 ^ 63
   pub kept : KeptRightly s.wait (is_pending s.start s.finished)
+
+-- the moment that a label carries
+abbrev pub stamp_of : Label → ℕ
+stamp_of (Take kind) = 0
+stamp_of (ToInstance stamp) = stamp
+stamp_of (ToClient stamp) = stamp
+stamp_of Finish = 0
+
+-- the wait has its answer
+abbrev pub HasAnswer : WaitStage → Type 0
+HasAnswer (waits.Answered found) = Unit {0}
+HasAnswer other = ⊥
+
+-- nothing is left to do: the start has its answer, and once it was said the wait has too
+abbrev pub IsQuiet : State → Bool → Type 0
+IsQuiet s told = (s.start ≡ starts.Answered) × (told ≡ true → HasAnswer s.wait)

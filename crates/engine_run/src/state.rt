@@ -1,7 +1,7 @@
 //! How far the two requests have come.
 
-ghost use Rattle.std.specs.Prelude.{◌≡◌, ◌<◌, ◌^◌, IfSome};
-ghost use Rattle.engine_run.specs.State.{inbox, outbox, is_there, is_pending, took, began, asked, arrived, answered, finished, work, IsSound, fresh_state};
+ghost use Rattle.std.specs.Prelude.{◌≡◌, ◌≤◌, ◌<◌, ◌^◌, Some, IfSome, IfNone};
+ghost use Rattle.engine_run.specs.State.{inbox, outbox, is_there, is_pending, took, began, asked, arrived, answered, finished, applied, stamp_of, work, IsSound, IsQuiet, fresh_state};
 
 use crate::request_file::Kind;
 
@@ -271,5 +271,53 @@ impl State {
             finished: true,
             ..self
         })
+    }
+
+    /// What a label makes of the state. None where the machine has no such step.
+    pub fn apply(self, label: Label) -> Option<State>
+        requires { stamp_of label < 2 ^ 63 }
+        ensures applied { result ≡ applied self label }
+        ensures work { IfSome result (λ next. work next < work self) }
+        ensures sound { IsSound self → IfSome result IsSound }
+    {
+        match label {
+            Label::Take(kind) => self.take(kind),
+            Label::ToInstance(stamp) => self.to_instance(stamp),
+            Label::ToClient(stamp) => self.to_client(stamp),
+            Label::Finish => self.finish(),
+        }
+    }
+
+    /// The next label of a run and what it makes of the state: messages are delivered first, then the activity
+    /// finishes, then requests are taken, the wait only once the start's answer was said. None where nothing is left.
+    #[tactic(auto, using(crate::proofs::Progress::quiet_state))]
+    pub fn next(self, told: bool) -> Option<(Label, State)>
+        requires { IsSound self }
+        ensures step { IfSome result (λ found. applied self found.0 ≡ Some found.1) }
+        ensures stamp { IfSome result (λ found. stamp_of found.0 ≤ self.stamp) }
+        ensures work { IfSome result (λ found. work found.1 < work self) }
+        ensures sound { IfSome result (λ found. IsSound found.1) }
+        ensures quiet { IfNone result (IsQuiet self told) }
+    {
+        let stamp = self.stamp;
+        if let Some(next) = self.to_instance(stamp) {
+            return Some((Label::ToInstance(stamp), next));
+        }
+        if let Some(next) = self.to_client(stamp) {
+            return Some((Label::ToClient(stamp), next));
+        }
+        if let Some(next) = self.finish() {
+            return Some((Label::Finish, next));
+        }
+        if let Some(next) = self.take(Kind::Start) {
+            return Some((Label::Take(Kind::Start), next));
+        }
+        if !told {
+            return None;
+        }
+        match self.take(Kind::Wait) {
+            Some(next) => Some((Label::Take(Kind::Wait), next)),
+            None => None,
+        }
     }
 }
