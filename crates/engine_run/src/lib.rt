@@ -10,6 +10,7 @@ mod ended;
 mod error;
 mod flow_file;
 mod input;
+mod items;
 mod names;
 mod request_file;
 mod state;
