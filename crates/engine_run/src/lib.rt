@@ -4,6 +4,8 @@
 #![tactic(auto)]
 
 mod activities;
+mod answers;
+mod commit;
 mod data;
 mod digest;
 mod ended;
