@@ -1,3 +1,4 @@
+pub mod Behind
 pub mod Lines
 pub mod Members
 pub mod Progress

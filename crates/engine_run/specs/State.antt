@@ -130,15 +130,15 @@ abbrev pub work : State → ℕ
 work s = start_work s.start + wait_work s.wait + (if s.finished then 0 else 1)
 
 -- a wait is kept only while the activity is pending
-abbrev pub KeptRightly : WaitStage → Bool → Type 0
-KeptRightly waits.Kept pending = pending ≡ true
-KeptRightly other pending = Unit {0}
+abbrev pub is_kept_rightly : WaitStage → Bool → Bool
+is_kept_rightly waits.Kept pending = pending
+is_kept_rightly other pending = true
 
 -- what each state keeps true
 pub record IsSound (s : State) : Type 0 where
   pub order : s.last ≤ s.stamp
   pub low : s.stamp < 2 ^ 63
-  pub kept : KeptRightly s.wait (is_pending s.start s.finished)
+  pub kept : is_kept_rightly s.wait (is_pending s.start s.finished) ≡ true
 
 -- the moment that a label carries
 abbrev pub stamp_of : Label → ℕ
