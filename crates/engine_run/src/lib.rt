@@ -1,13 +1,20 @@
-// A library with one function.
+//! Reads what a run is given: its words, its flow file and its request file.
+//!
+//! Each reader takes any bytes, and gives exactly what the definitions in `specs/` say of them, unless memory runs out.
 #![tactic(auto)]
 
-ghost use Rattle.std.specs.Prelude.{◌≡◌};
-ghost use Rattle.engine_run.specs.Echo.{echo_of};
+mod error;
+mod flow_file;
+mod names;
+mod request_file;
+mod text;
+mod values;
+mod words;
 
-// The `ensures` clause is the contract: what `echo` returns is `echo_of` of its argument, a definition
-// in `specs/Echo.antt`, which a caller's clause can cite too.
-pub fn echo(x: usize) -> usize
-    ensures { result ≡ echo_of x }
-{
-    x
-}
+pub use flow_file::Flow;
+pub use names::{Key, Name};
+pub use request_file::Requests;
+pub use text::{Text, TextError};
+
+#[cfg(test)]
+mod tests;

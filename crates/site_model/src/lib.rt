@@ -9,9 +9,11 @@
 #![tactic(auto)]
 
 mod clock;
+mod front;
 mod laws;
 mod site;
 
 pub use clock::{Clock, LAST_MOMENT};
+pub use front::{FrontError, read_front};
 pub use laws::what_a_read_gives_is_an_image;
 pub use site::{Failed, Site};

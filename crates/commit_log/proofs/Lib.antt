@@ -1,0 +1,6 @@
+pub mod Loops
+pub mod Opens
+pub mod Read
+pub mod Steps
+pub mod Written
+pub mod Formatting

@@ -1,0 +1,5 @@
+pub mod Outcomes
+pub mod Reading
+pub mod Segment
+pub mod States
+pub mod Writing

@@ -1,0 +1,105 @@
+// Opening a log again after a call on it.
+ghost use Rattle.std.specs.Prelude.{◌≡◌, ◌==◌, ℕ, List, false, IfOk, IfErr, MatchBool, slice_index};
+ghost use Rattle.site_model.specs.History.{changes_of, content_of, Leaves};
+ghost use Rattle.site_model.specs.Calls.{HasCause, Syncs};
+ghost use Rattle.site_model.specs.Moments.{LeavesOnly};
+ghost use Rattle.commit_log.specs.declared.header.Header.{Header};
+ghost use Rattle.commit_log.specs.Segment.{open_gate};
+ghost use Rattle.commit_log.specs.States.{IsBodied, IsSynced, IsGated, IsBroken};
+ghost use Rattle.commit_log.specs.Outcomes.{AfterReopen, AfterDrop};
+
+use crate::frame::{CLOSED_GATE, OPEN_GATE};
+use crate::states::{Bodied, Broken, Gated, Reopened, Resting, Synced};
+use site_model::{Failed, Site};
+
+/// Syncs a file, and says whether a gate in it reads open.
+fn synced_gate<V: Site>(site: &mut V, file: u32, gate: u64) -> Result<bool, Failed>
+    ensures either { V.tells → Syncs file (V.history site.old) (V.history site.new) result }
+    ensures opened { V.tells → IfOk result (λ is_open. is_open ≡ (slice_index (content_of file (V.history site.old)) gate == open_gate)) }
+    ensures cause { HasCause (V.disk_faults site.old) (V.disk_faults site.new) result }
+    ensures say_faults { V.say_faults site.new ≡ V.say_faults site.old }
+{
+    site.sync(file)?;
+    let mut byte = [CLOSED_GATE];
+    let count = site.read(file, gate, &mut byte)?;
+    Ok(count == 1 && byte[0] == OPEN_GATE)
+}
+
+impl Broken {
+    /// Syncs the file and reads the gate. Where it reads open, the log rests behind the frame, else before it.
+    pub fn reopen<V: Site>(self, site: &mut V) -> Result<Reopened, Broken>
+        // A crash leaves what it could have left before.
+        ensures during { V.tells → LeavesOnly self.file (V.history site.old) (V.history site.new) (Leaves (changes_of self.file (V.history site.old))) }
+        ensures after { V.tells → (h : Header) (payloads : List (List ℕ)) (payload : List ℕ) → IsBroken (changes_of self.file (V.history site.old)) h payloads payload self.gate self.next
+            → AfterReopen (V.history site.new) h payloads payload result }
+        ensures opened { V.tells → IfOk result (λ found. found.settled ≡ (slice_index (content_of self.file (V.history site.old)) self.gate == open_gate)) }
+        ensures place { IfOk result (λ found. (found.log.file ≡ self.file) × MatchBool found.settled (found.log.gate ≡ self.next) (found.log.gate ≡ self.gate)) }
+        ensures broken { IfErr result (λ log. (log.file ≡ self.file) × (log.gate ≡ self.gate) × (log.next ≡ self.next)) }
+        ensures cause { HasCause (V.disk_faults site.old) (V.disk_faults site.new) result }
+        ensures say_faults { V.say_faults site.new ≡ V.say_faults site.old }
+    {
+        let Broken { file, gate, next } = self;
+        match synced_gate(site, file, gate) {
+            Ok(true) => Ok(Reopened {
+                log: Resting { file, gate: next },
+                settled: true,
+            }),
+            Ok(false) => Ok(Reopened {
+                log: Resting { file, gate },
+                settled: false,
+            }),
+            Err(_) => Err(Broken { file, gate, next }),
+        }
+    }
+}
+
+impl Bodied {
+    /// Opens the log again before its frame was synced. The frame is dropped.
+    pub fn reopen<V: Site>(self, site: &mut V) -> Result<Reopened, Broken>
+        ensures during { V.tells → LeavesOnly self.file (V.history site.old) (V.history site.new) (Leaves (changes_of self.file (V.history site.old))) }
+        ensures dropped { V.tells → (h : Header) (payloads : List (List ℕ)) (payload : List ℕ) → IsBodied (changes_of self.file (V.history site.old)) h payloads payload self.gate self.next
+            → AfterDrop (V.history site.new) h payloads payload result }
+        ensures opened { V.tells → IfOk result (λ found. found.settled ≡ (slice_index (content_of self.file (V.history site.old)) self.gate == open_gate)) }
+        ensures place { IfOk result (λ found. (found.log.file ≡ self.file) × MatchBool found.settled (found.log.gate ≡ self.next) (found.log.gate ≡ self.gate)) }
+        ensures broken { IfErr result (λ log. (log.file ≡ self.file) × (log.gate ≡ self.gate) × (log.next ≡ self.next)) }
+        ensures cause { HasCause (V.disk_faults site.old) (V.disk_faults site.new) result }
+        ensures say_faults { V.say_faults site.new ≡ V.say_faults site.old }
+    {
+        let Bodied { file, gate, next } = self;
+        Broken { file, gate, next }.reopen(site)
+    }
+}
+
+impl Synced {
+    /// Opens the log again before its gate was opened. The frame is dropped.
+    pub fn reopen<V: Site>(self, site: &mut V) -> Result<Reopened, Broken>
+        ensures during { V.tells → LeavesOnly self.file (V.history site.old) (V.history site.new) (Leaves (changes_of self.file (V.history site.old))) }
+        ensures dropped { V.tells → (h : Header) (payloads : List (List ℕ)) (payload : List ℕ) → IsSynced (changes_of self.file (V.history site.old)) h payloads payload self.gate self.next
+            → AfterDrop (V.history site.new) h payloads payload result }
+        ensures opened { V.tells → IfOk result (λ found. found.settled ≡ (slice_index (content_of self.file (V.history site.old)) self.gate == open_gate)) }
+        ensures place { IfOk result (λ found. (found.log.file ≡ self.file) × MatchBool found.settled (found.log.gate ≡ self.next) (found.log.gate ≡ self.gate)) }
+        ensures broken { IfErr result (λ log. (log.file ≡ self.file) × (log.gate ≡ self.gate) × (log.next ≡ self.next)) }
+        ensures cause { HasCause (V.disk_faults site.old) (V.disk_faults site.new) result }
+        ensures say_faults { V.say_faults site.new ≡ V.say_faults site.old }
+    {
+        let Synced { file, gate, next } = self;
+        Broken { file, gate, next }.reopen(site)
+    }
+}
+
+impl Gated {
+    /// Opens the log again before its gate was synced. Where the gate reads open the frame is settled, else dropped.
+    pub fn reopen<V: Site>(self, site: &mut V) -> Result<Reopened, Broken>
+        ensures during { V.tells → LeavesOnly self.file (V.history site.old) (V.history site.new) (Leaves (changes_of self.file (V.history site.old))) }
+        ensures after { V.tells → (h : Header) (payloads : List (List ℕ)) (payload : List ℕ) → IsGated (changes_of self.file (V.history site.old)) h payloads payload self.gate self.next
+            → AfterReopen (V.history site.new) h payloads payload result }
+        ensures opened { V.tells → IfOk result (λ found. found.settled ≡ (slice_index (content_of self.file (V.history site.old)) self.gate == open_gate)) }
+        ensures place { IfOk result (λ found. (found.log.file ≡ self.file) × MatchBool found.settled (found.log.gate ≡ self.next) (found.log.gate ≡ self.gate)) }
+        ensures broken { IfErr result (λ log. (log.file ≡ self.file) × (log.gate ≡ self.gate) × (log.next ≡ self.next)) }
+        ensures cause { HasCause (V.disk_faults site.old) (V.disk_faults site.new) result }
+        ensures say_faults { V.say_faults site.new ≡ V.say_faults site.old }
+    {
+        let Gated { file, gate, next } = self;
+        Broken { file, gate, next }.reopen(site)
+    }
+}

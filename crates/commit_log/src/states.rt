@@ -1,0 +1,94 @@
+// The states of a log. Each names its file and where its gate stands. No value of them takes memory.
+ghost use Rattle.std.specs.Prelude.{◌+◌, ◌<◌, ◌^◌};
+
+use thiserror::Error;
+
+/// At rest: behind the last frame stands a closed gate, all of it on the disk.
+#[derive(Debug, Drop)]
+pub struct Resting {
+    /// The file's number.
+    pub file: u32,
+    /// Where the closed gate stands.
+    pub gate: u64,
+    ghost below: { gate + 1 < 2 ^ 31 },
+}
+
+/// A frame is written behind the closed gate, and a closed gate behind it.
+#[derive(Debug, Drop)]
+pub struct Bodied {
+    /// The file's number.
+    pub file: u32,
+    /// Where the gate before the frame stands.
+    pub gate: u64,
+    /// Where the gate behind the frame stands.
+    pub next: u64,
+    ghost before: { gate < next },
+    ghost below: { next + 1 < 2 ^ 31 },
+}
+
+/// The frame is on the disk behind the closed gate.
+#[derive(Debug, Drop)]
+pub struct Synced {
+    /// The file's number.
+    pub file: u32,
+    /// Where the gate before the frame stands.
+    pub gate: u64,
+    /// Where the gate behind the frame stands.
+    pub next: u64,
+    ghost before: { gate < next },
+    ghost below: { next + 1 < 2 ^ 31 },
+}
+
+/// The gate is written open, and not yet safe.
+#[derive(Debug, Drop)]
+pub struct Gated {
+    /// The file's number.
+    pub file: u32,
+    /// Where the gate before the frame stands.
+    pub gate: u64,
+    /// Where the gate behind the frame stands.
+    pub next: u64,
+    ghost before: { gate < next },
+    ghost below: { next + 1 < 2 ^ 31 },
+}
+
+/// A call failed, and the frame may be there or not. Such a log is only opened again.
+#[derive(Debug, Drop)]
+pub struct Broken {
+    /// The file's number.
+    pub file: u32,
+    /// Where the gate before the frame stands.
+    pub gate: u64,
+    /// Where the gate behind the frame would stand.
+    pub next: u64,
+    ghost before: { gate < next },
+    ghost below: { next + 1 < 2 ^ 31 },
+}
+
+/// What `reopen` found.
+#[derive(Debug, Drop)]
+pub struct Reopened {
+    /// The log behind the frame where the gate reads open, else before it.
+    pub log: Resting,
+    /// Whether the gate reads open, so that the frame is settled. Else it is dropped.
+    pub settled: bool,
+}
+
+/// Why no frame was written.
+#[derive(Debug, Drop, Error)]
+pub enum BodyError {
+    /// The file would come to this length, which is not below the limit. Nothing was written.
+    #[error("the log would come to {length} bytes")]
+    Full {
+        /// The length that the file would have.
+        length: u64,
+        /// The log as it was.
+        log: Resting,
+    },
+    /// The write failed.
+    #[error("the disk failed")]
+    SiteFault(Broken),
+    /// Memory ran out. Nothing was written.
+    #[error("out of memory")]
+    Memory(Resting),
+}
