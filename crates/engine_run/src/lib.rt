@@ -3,17 +3,27 @@
 //! Each reader takes any bytes, and gives exactly what the definitions in `specs/` say of them, unless memory runs out.
 #![tactic(auto)]
 
+mod activities;
+mod data;
+mod digest;
+mod ended;
 mod error;
 mod flow_file;
+mod input;
 mod names;
 mod request_file;
+mod state;
 mod text;
 mod values;
 mod words;
 
+pub use activities::{Activities, Outcome, Table};
+pub use data::{Scalar, Scalars, Value};
+pub use ended::{Cause, FlowFault, FlowPath, PlanPlace};
 pub use flow_file::Flow;
 pub use names::{Key, Name};
-pub use request_file::Requests;
+pub use request_file::{Kind, Requests};
+pub use state::{Found, Label, StartStage, State, WaitStage};
 pub use text::{Text, TextError};
 
 #[cfg(test)]

@@ -22,8 +22,10 @@ pub struct Requests {
 
 /// Which of the two requests it is.
 #[derive(Clone, Copy, Debug, PartialEq, Eq)]
-enum Kind {
+pub enum Kind {
+    /// Request 1 starts the flow.
     Start,
+    /// Request 2 waits for its end.
     Wait,
 }
 
