@@ -20,6 +20,8 @@ mod replay;
 mod request_file;
 mod state;
 mod text;
+mod told;
+mod trail;
 mod values;
 mod words;
 
@@ -31,6 +33,7 @@ pub use names::{Key, Name};
 pub use request_file::{Kind, Requests};
 pub use state::{Found, Label, StartStage, State, WaitStage};
 pub use text::{Text, TextError};
+pub use trail::{Entry, Trail};
 
 #[cfg(test)]
 mod tests;
