@@ -155,3 +155,7 @@ HasAnswer other = ⊥
 -- nothing is left to do: the start has its answer, and once it was said the wait has too
 abbrev pub IsQuiet : State → Bool → Type 0
 IsQuiet s told = (s.start ≡ starts.Answered) × (told ≡ true → HasAnswer s.wait)
+
+-- what the client was answered stays so
+abbrev pub KeepsAnswers : State → State → Type 0
+KeepsAnswers s next = (s.start ≡ starts.Answered → next.start ≡ starts.Answered) × ((found : Found) → s.wait ≡ waits.Answered found → next.wait ≡ waits.Answered found)

@@ -18,6 +18,7 @@ mod recovered;
 mod recovery;
 mod replay;
 mod request_file;
+mod settle;
 mod state;
 mod text;
 mod told;

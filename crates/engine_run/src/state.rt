@@ -1,7 +1,7 @@
 //! How far the two requests have come.
 
 ghost use Rattle.std.specs.Prelude.{◌≡◌, ◌≤◌, ◌<◌, ◌^◌, Some, IfSome, IfNone};
-ghost use Rattle.engine_run.specs.State.{inbox, outbox, is_there, is_pending, took, began, asked, arrived, answered, finished, applied, stamp_of, work, IsSound, IsQuiet, fresh_state};
+ghost use Rattle.engine_run.specs.State.{inbox, outbox, is_there, is_pending, took, began, asked, arrived, answered, finished, applied, stamp_of, work, IsSound, IsQuiet, KeepsAnswers, fresh_state};
 
 use crate::request_file::Kind;
 
@@ -145,6 +145,7 @@ impl State {
         ensures took { result ≡ took self kind }
         ensures work { IfSome result (λ next. work next < work self) }
         ensures sound { IsSound self → IfSome result IsSound }
+        ensures keeps { IfSome result (KeepsAnswers self) }
     {
         match (kind, self.start, self.wait) {
             (Kind::Start, StartStage::Untaken, wait) => Some(State {
@@ -167,6 +168,7 @@ impl State {
         ensures began { result ≡ began self self.start stamp }
         ensures work { IfSome result (λ next. work next < work self) }
         ensures sound { IsSound self → IfSome result IsSound }
+        ensures keeps { IfSome result (KeepsAnswers self) }
     {
         if self.start != StartStage::Sent {
             return None;
@@ -186,6 +188,7 @@ impl State {
         ensures asked { result ≡ asked self self.wait stamp }
         ensures work { IfSome result (λ next. work next < work self) }
         ensures sound { IsSound self → IfSome result IsSound }
+        ensures keeps { IfSome result (KeepsAnswers self) }
     {
         if self.wait != WaitStage::Sent {
             return None;
@@ -220,6 +223,7 @@ impl State {
         ensures arrived { result ≡ arrived self (inbox self.start self.wait self.wait_sent_first) stamp }
         ensures work { IfSome result (λ next. work next < work self) }
         ensures sound { IsSound self → IfSome result IsSound }
+        ensures keeps { IfSome result (KeepsAnswers self) }
     {
         match self.inbox() {
             Some(Kind::Start) => self.begin(stamp),
@@ -234,6 +238,7 @@ impl State {
         ensures answered { result ≡ answered self (outbox self.start self.wait self.wait_replied_first) stamp }
         ensures work { IfSome result (λ next. work next < work self) }
         ensures sound { IsSound self → IfSome result IsSound }
+        ensures keeps { IfSome result (KeepsAnswers self) }
     {
         match (self.outbox(), self.wait) {
             (Some(Kind::Start), _) => Some(State {
@@ -255,6 +260,7 @@ impl State {
         ensures finished { result ≡ finished self }
         ensures work { IfSome result (λ next. work next < work self) }
         ensures sound { IsSound self → IfSome result IsSound }
+        ensures keeps { IfSome result (KeepsAnswers self) }
     {
         if !self.is_pending() {
             return None;
@@ -279,6 +285,7 @@ impl State {
         ensures applied { result ≡ applied self label }
         ensures work { IfSome result (λ next. work next < work self) }
         ensures sound { IsSound self → IfSome result IsSound }
+        ensures keeps { IfSome result (KeepsAnswers self) }
     {
         match label {
             Label::Take(kind) => self.take(kind),
@@ -297,6 +304,7 @@ impl State {
         ensures stamp { IfSome result (λ found. stamp_of found.0 ≤ self.stamp) }
         ensures work { IfSome result (λ found. work found.1 < work self) }
         ensures sound { IfSome result (λ found. IsSound found.1) }
+        ensures keeps { IfSome result (λ found. KeepsAnswers self found.1) }
         ensures quiet { IfNone result (IsQuiet self told) }
     {
         let stamp = self.stamp;

@@ -3,7 +3,7 @@
 ghost use Rattle.std.specs.Prelude.{◌≡◌, ◌≤◌, ◌<◌, ◌++◌, List, ℕ, length, Err, IfOk, IfErr, OnOk, OnErr};
 ghost use Rattle.site_model.specs.History.{changes_of, tape};
 ghost use Rattle.site_model.specs.Calls.{HasRisen};
-ghost use Rattle.engine_run.specs.Told.{said_of, is_start_told, TellsRightly, TapeAfter, IsFront, IsSaying};
+ghost use Rattle.engine_run.specs.Told.{said_of, is_start_told, TellsRightly, TellsAll, TapeAfter, IsFront, IsSaying};
 
 use crate::answers::{start_line, wait_line};
 use crate::ended::Cause;
@@ -112,6 +112,34 @@ fn say_wait<V: Site>(
     };
     match say(site, &line) {
         Ok(()) => Ok(Told::Both(found)),
+        Err(cause) => Err(cause),
+    }
+}
+
+/// Says what is due: the start's answer, then the wait's.
+pub(crate) fn say_due<V: Site>(
+    alloc: Global,
+    site: &mut V,
+    input: &Input,
+    state: State,
+    told: Told,
+) -> Result<Told, Cause>
+    requires { TellsRightly state told }
+    ensures tape { V.tells → (before : List ℕ) → tape (V.history site.old) ≡ before ++ said_of input.now told → TapeAfter input.now before (tape (V.history site.new)) result }
+    ensures right { IfOk result (TellsRightly state) }
+    ensures all { IfOk result (TellsAll state) }
+    ensures files { V.tells → (file : ℕ) → changes_of file (V.history site.new) ≡ changes_of file (V.history site.old) }
+    ensures saying { IfErr result IsSaying }
+    ensures fault { result ≡ Err Cause.SayFault → HasRisen (V.say_faults site.old) (V.say_faults site.new) }
+    ensures later { V.say_faults site.old ≤ V.say_faults site.new }
+    ensures disk_faults { V.disk_faults site.new ≡ V.disk_faults site.old }
+{
+    let told = match say_start(alloc, site, input, state, told) {
+        Ok(told) => told,
+        Err(cause) => return Err(cause),
+    };
+    match say_wait(alloc, site, input, state, told) {
+        Ok(told) => Ok(told),
         Err(cause) => Err(cause),
     }
 }
