@@ -1,5 +1,5 @@
 -- What saying a line leaves.
-use Rattle.std.proofs.Common.{◌≡◌, ◌++◌, ℕ, List, take, drop, Result, Ok, Err, sym, ◌∙◌, ap}
+use Rattle.std.proofs.Common.{◌≡◌, ◌++◌, ℕ, List, [], take, drop, Result, Ok, Err, refl, sym, ◌∙◌, ap}
 use Rattle.std.specs.Prelude.{OnOk}
 use Rattle.std.proofs.lemmas.List.{take-append-drop, append-nil, append_assoc}
 use Rattle.site_model.specs.History.{Step, tape, saying, changes_of}
@@ -9,7 +9,7 @@ use Rattle.engine_run.specs.declared.input.Input.{Input}
 use Rattle.engine_run.specs.declared.state.Found.{Found}
 use Rattle.engine_run.specs.declared.state.Found.TheVariants.{Ended}
 use Rattle.engine_run.specs.declared.told.Told.{Told}
-use Rattle.engine_run.specs.declared.told.Told.TheVariants.{Nothing, Start}
+use Rattle.engine_run.specs.declared.told.Told.TheVariants.{Nothing, Start, Both}
 use Rattle.engine_run.specs.Lines.{start_line, wait_line}
 use Rattle.engine_run.specs.Told.{said_of, IsFront, IsSaidFront}
 
@@ -47,3 +47,9 @@ wait_part input told found before old now part line start stood goes front whole
       goes ∙ ap (λ (l : List ℕ). l ++ part) one ∙ append_assoc before (start_line input) part,
       (found, (front.0, ap (λ (l : List ℕ). start_line input ++ l) (sym whole ∙ front.1) ∙ sym (append_assoc (start_line input) part front.0))),
     )
+
+-- what was said so far is a front of what will be
+pub told_front : (input : Input) (told : Told) → IsSaidFront input (said_of input told)
+told_front input Nothing = (Ended, (said_of input (Both Ended), refl))
+told_front input Start = (Ended, (wait_line input Ended, refl))
+told_front input (Both found) = (found, ([], sym (append-nil (said_of input (Both found)))))

@@ -21,6 +21,16 @@ ReadsFile content file (Err SiteFault) = Unit {0}
 ReadsFile content file (Err Memory) = Unit {0}
 ReadsFile content file (Err other) = ⊥
 
+-- what reading the input may end with
+abbrev pub IsInputCause : Cause → Type 0
+IsInputCause (BadFlows fault) = Unit {0}
+IsInputCause (BadRequests line) = Unit {0}
+IsInputCause (BadPlan place) = Unit {0}
+IsInputCause (TooLong file) = Unit {0}
+IsInputCause SiteFault = Unit {0}
+IsInputCause Memory = Unit {0}
+IsInputCause other = ⊥
+
 -- its length, unless it is too long
 abbrev pub LengthRead : List ℕ → ℕ → Result ℕ Cause → Type 0
 LengthRead content file (Ok n) = (n ≡ length content) × (nat_lt most_input (length content) ≡ false)

@@ -1,6 +1,7 @@
 //! How a run ends.
 
 
+use crate::trail::Trail;
 use thiserror::Error;
 
 /// Where a flow file is out of shape.
@@ -103,4 +104,19 @@ impl Cause {
             Cause::Memory => 11,
         }
     }
+}
+
+/// What a run gives back.
+#[derive(Drop)]
+pub struct Ended<V, C> {
+    /// The exit status.
+    pub status: u8,
+    /// Why it ended.
+    pub cause: Cause,
+    /// What it settled.
+    pub trail: Trail,
+    /// The site, whatever happened.
+    pub site: V,
+    /// The clock, whatever happened.
+    pub clock: C,
 }

@@ -1,9 +1,9 @@
 //! The three input files.
 
-ghost use Rattle.std.specs.Prelude.{◌≡◌, ◌≤◌, Err};
+ghost use Rattle.std.specs.Prelude.{◌≡◌, ◌≤◌, Err, IfErr};
 ghost use Rattle.site_model.specs.History.{content_of};
 ghost use Rattle.site_model.specs.Calls.{HasRisen};
-ghost use Rattle.engine_run.specs.Input.{ReadsFile, LengthRead, ReadsInput, FlowsRead, RequestsRead, PlanRead};
+ghost use Rattle.engine_run.specs.Input.{ReadsFile, LengthRead, IsInputCause, ReadsInput, FlowsRead, RequestsRead, PlanRead};
 
 use crate::digest::fnv;
 use crate::ended::{Cause, FlowFault, FlowPath, PlanPlace};
@@ -37,6 +37,7 @@ pub(crate) struct Input {
 /// The length of an input file, unless it is too long.
 fn input_length<V: Site>(site: &mut V, file: u32) -> Result<u64, Cause>
     ensures reads { V.tells → LengthRead (content_of file (V.history site.old)) file result }
+    ensures input_cause { IfErr result IsInputCause }
     ensures unchanged { V.history site.new ≡ V.history site.old }
     ensures later { V.disk_faults site.old ≤ V.disk_faults site.new }
     ensures fault { result ≡ Err Cause.SiteFault → HasRisen (V.disk_faults site.old) (V.disk_faults site.new) }
@@ -57,6 +58,7 @@ fn input_length<V: Site>(site: &mut V, file: u32) -> Result<u64, Cause>
 /// The bytes of an input file.
 fn read_file<V: Site>(alloc: Global, site: &mut V, file: u32) -> Result<Vec<u8>, Cause>
     ensures reads { V.tells → ReadsFile (content_of file (V.history site.old)) file result }
+    ensures input_cause { IfErr result IsInputCause }
     ensures unchanged { V.history site.new ≡ V.history site.old }
     ensures later { V.disk_faults site.old ≤ V.disk_faults site.new }
     ensures fault { result ≡ Err Cause.SiteFault → HasRisen (V.disk_faults site.old) (V.disk_faults site.new) }
@@ -76,6 +78,7 @@ fn read_file<V: Site>(alloc: Global, site: &mut V, file: u32) -> Result<Vec<u8>,
 /// The flow of file 0, and the digest of the file.
 fn read_flow_file<V: Site>(alloc: Global, site: &mut V) -> Result<(Flow, u64), Cause>
     ensures reads { V.tells → FlowsRead (content_of FLOWS (V.history site.old)) result }
+    ensures input_cause { IfErr result IsInputCause }
     ensures unchanged { V.history site.new ≡ V.history site.old }
     ensures later { V.disk_faults site.old ≤ V.disk_faults site.new }
     ensures fault { result ≡ Err Cause.SiteFault → HasRisen (V.disk_faults site.old) (V.disk_faults site.new) }
@@ -99,6 +102,7 @@ fn read_flow_file<V: Site>(alloc: Global, site: &mut V) -> Result<(Flow, u64), C
 /// The requests of file 1.
 fn read_request_file<V: Site>(alloc: Global, site: &mut V, flow: &Name) -> Result<Requests, Cause>
     ensures reads { V.tells → RequestsRead flow.now (content_of REQUESTS (V.history site.old)) result }
+    ensures input_cause { IfErr result IsInputCause }
     ensures unchanged { V.history site.new ≡ V.history site.old }
     ensures later { V.disk_faults site.old ≤ V.disk_faults site.new }
     ensures fault { result ≡ Err Cause.SiteFault → HasRisen (V.disk_faults site.old) (V.disk_faults site.new) }
@@ -118,6 +122,7 @@ fn read_request_file<V: Site>(alloc: Global, site: &mut V, flow: &Name) -> Resul
 /// Looks whether file 2 is empty.
 fn check_plan<V: Site>(site: &mut V) -> Result<(), Cause>
     ensures reads { V.tells → PlanRead (content_of PLAN (V.history site.old)) result }
+    ensures input_cause { IfErr result IsInputCause }
     ensures unchanged { V.history site.new ≡ V.history site.old }
     ensures later { V.disk_faults site.old ≤ V.disk_faults site.new }
     ensures fault { result ≡ Err Cause.SiteFault → HasRisen (V.disk_faults site.old) (V.disk_faults site.new) }
@@ -135,6 +140,7 @@ fn check_plan<V: Site>(site: &mut V) -> Result<(), Cause>
 /// Reads files 0, 1 and 2 in this order, each one's length first.
 pub(crate) fn read_input<V: Site>(alloc: Global, site: &mut V) -> Result<Input, Cause>
     ensures reads { V.tells → ReadsInput (λ file. content_of file (V.history site.old)) result }
+    ensures input_cause { IfErr result IsInputCause }
     ensures unchanged { V.history site.new ≡ V.history site.old }
     ensures later { V.disk_faults site.old ≤ V.disk_faults site.new }
     ensures fault { result ≡ Err Cause.SiteFault → HasRisen (V.disk_faults site.old) (V.disk_faults site.new) }

@@ -1,7 +1,7 @@
 //! Opening the log of the partition, and what its labels made.
 
-ghost use Rattle.std.specs.Prelude.{◌≡◌, ◌≤◌, Err, IfOk, IfErr, OnErr};
-ghost use Rattle.site_model.specs.History.{changes_of, content_of, tape, IsKept};
+ghost use Rattle.std.specs.Prelude.{◌≡◌, ◌≤◌, ◌∷◌, ℕ, Err, IfOk, IfErr, OnErr};
+ghost use Rattle.site_model.specs.History.{on, synced, changes_of, content_of, tape, IsKept};
 ghost use Rattle.site_model.specs.Calls.{HasRisen};
 ghost use Rattle.commit_log.specs.States.{Rests};
 ghost use Rattle.engine_run.specs.State.{fresh_state};
@@ -107,6 +107,7 @@ pub(crate) fn recover<V: Site>(
     ensures recovers { V.tells → Recovers (content_of LOG (V.history site.old)) result }
     ensures rests { V.tells → IfOk result (λ r. Rests (changes_of r.log.file (V.history site.new)) r.log.gate) }
     ensures place { IfOk result (λ r. r.log.file ≡ LOG) }
+    ensures untouched { V.tells → (other offset : ℕ) → result ≡ Err (Cause.Damaged other offset) → V.history site.new ≡ on LOG synced ∷ V.history site.old }
     ensures outside { IfErr result IsOpening }
     ensures fault { result ≡ Err Cause.SiteFault → HasRisen (V.disk_faults site.old) (V.disk_faults site.new) }
     ensures tape { V.tells → tape (V.history site.new) ≡ tape (V.history site.old) }

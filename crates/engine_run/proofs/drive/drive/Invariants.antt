@@ -1,0 +1,22 @@
+use Rattle.std.proofs.Common.{◌≡◌, ◌≤◌, ◌+◌, ◌*◌, ◌^◌, ◌++◌}
+use Rattle.site_model.specs.History.{changes_of, tape}
+use Rattle.commit_log.specs.States.{Rests}
+use Rattle.engine_run.specs.State.{work, IsSound}
+use Rattle.engine_run.specs.Told.{said_of, TellsRightly}
+use Rattle.engine_run.proofs.drive.drive.Given as goal
+
+-- what stays true from label to label
+abbrev pub invariant-labels : goal.invariant-labels
+invariant-labels g l = record {
+  sound : IsSound l.state;
+  right : TellsRightly l.state l.told;
+  short : l.position + work l.state ≤ 8;
+  room : l.log.gate + 231 * work l.state ≤ 2 ^ 20 + 1848;
+  rests : g.V.Site.tells → Rests (changes_of l.log.file (g.V.Site.history l.site)) l.log.gate;
+  said : g.V.Site.tells → tape (g.V.Site.history l.site) ≡ tape (g.V.Site.history l.fn.site) ++ said_of l.input l.told;
+  later : g.V.Site.disk_faults l.fn.site ≤ g.V.Site.disk_faults l.site;
+  later_say : g.V.Site.say_faults l.fn.site ≤ g.V.Site.say_faults l.site;
+}
+
+abbrev pub decreases-labels : goal.decreases-labels
+decreases-labels g l = work l.state

@@ -1,0 +1,20 @@
+-- What driving the labels ends with.
+use Rattle.std.specs.Prelude.{◌≡◌, ℕ, List, ◌++◌, Result, Ok, Err}
+use Rattle.engine_run.specs.declared.ended.Cause.{Cause}
+use Rattle.engine_run.specs.declared.ended.Cause.TheVariants.{SiteFault, SayFault, Memory}
+use Rattle.engine_run.specs.declared.input.Input.{Input}
+use Rattle.engine_run.specs.declared.state.Found.{Found}
+use Rattle.engine_run.specs.declared.told.Told.TheVariants.{Both}
+use Rattle.engine_run.specs.Told.{said_of, IsSaidFront}
+
+-- a fault of the outside, or want of memory
+abbrev pub IsDriving : Cause → Type 0
+IsDriving SiteFault = Unit {0}
+IsDriving SayFault = Unit {0}
+IsDriving Memory = Unit {0}
+IsDriving other = ⊥
+
+-- In the end both answers were said, and else a front of them.
+abbrev pub DrivesTape : Input → List ℕ → List ℕ → Result (Unit {0}) Cause → Type 0
+DrivesTape input before now (Ok done) = (found : Found) × (now ≡ before ++ said_of input (Both found))
+DrivesTape input before now (Err cause) = (said : List ℕ) × (now ≡ before ++ said) × IsSaidFront input said

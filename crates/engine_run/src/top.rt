@@ -1,0 +1,130 @@
+//! The top call.
+
+ghost use Rattle.std.specs.Prelude.{◌≡◌, ◌≢◌, ◌≤◌};
+ghost use Rattle.site_model.specs.History.{content_of, tape};
+ghost use Rattle.site_model.specs.Calls.{HasRisen};
+ghost use Rattle.engine_run.specs.Ended.{Answers, status_of};
+ghost use Rattle.engine_run.specs.Run.{Says, Untouched};
+ghost use Rattle.engine_run.specs.Words.{run_words};
+
+use crate::activities::Activities;
+use crate::drive::drive;
+use crate::ended::{Cause, Ended};
+use crate::input::read_input;
+use crate::recovery::recover;
+use crate::text::Text;
+use crate::trail::{Entry, Trail};
+use crate::words::is_run_command;
+use site_model::{Clock, Site};
+use std::alloc::Global;
+use std::sync::Wait;
+use std::thread::Threads;
+
+/// Reads the input, recovers, and drives the labels, in this order.
+fn perform<V: Site, A: Activities>(
+    alloc: Global,
+    site: &mut V,
+    acts: &A,
+    entries: &mut Vec<Entry>,
+) -> Cause
+    ensures answers { V.tells → Answers (λ file. content_of file (V.history site.old)) result }
+    ensures says { V.tells → Says (λ file. content_of file (V.history site.old)) (tape (V.history site.old)) (tape (V.history site.new)) result }
+    ensures untouched { V.tells → Untouched (V.history site.old) (V.history site.new) result }
+    ensures no_usage { result ≢ Cause.Usage }
+    ensures site_fault { result ≡ Cause.SiteFault → HasRisen (V.disk_faults site.old) (V.disk_faults site.new) }
+    ensures say_fault { result ≡ Cause.SayFault → HasRisen (V.say_faults site.old) (V.say_faults site.new) }
+    ensures disk_later { V.disk_faults site.old ≤ V.disk_faults site.new }
+    ensures say_later { V.say_faults site.old ≤ V.say_faults site.new }
+{
+    let input = match read_input(alloc, site) {
+        Ok(input) => input,
+        Err(cause) => return cause,
+    };
+    let recovered = match recover(alloc, site, &input) {
+        Ok(recovered) => recovered,
+        Err(cause) => return cause,
+    };
+    match drive(alloc, site, acts, &input, recovered, entries) {
+        Ok(()) => Cause::Done,
+        Err(cause) => cause,
+    }
+}
+
+/// `run` without threads. It returns for every input.
+pub fn run_alone<V: Site, C: Clock, A: Activities>(
+    alloc: Global,
+    words: &[Text],
+    site: V,
+    clock: C,
+    acts: &A,
+) -> Ended<V, C>
+    ensures status { result.status ≡ status_of result.cause }
+    ensures usage { words.now ≢ run_words → result.cause ≡ Cause.Usage }
+    ensures only_usage { result.cause ≡ Cause.Usage → words.now ≢ run_words }
+    ensures answers { V.tells → words.now ≡ run_words → Answers (λ file. content_of file (V.history site)) result.cause }
+    ensures says { V.tells → Says (λ file. content_of file (V.history site)) (tape (V.history site)) (tape (V.history result.site)) result.cause }
+    ensures untouched { V.tells → Untouched (V.history site) (V.history result.site) result.cause }
+    ensures site_fault { result.cause ≡ Cause.SiteFault → HasRisen (V.disk_faults site) (V.disk_faults result.site) }
+    ensures say_fault { result.cause ≡ Cause.SayFault → HasRisen (V.say_faults site) (V.say_faults result.site) }
+    ensures disk_later { V.disk_faults site ≤ V.disk_faults result.site }
+    ensures say_later { V.say_faults site ≤ V.say_faults result.site }
+    ensures clock { result.clock ≡ clock }
+{
+    let mut site = site;
+    let mut entries = Vec::new(alloc);
+    let cause = if is_run_command(words) {
+        perform(alloc, &mut site, acts, &mut entries)
+    } else {
+        Cause::Usage
+    };
+    Ended {
+        status: cause.status(),
+        cause,
+        trail: Trail::of(entries),
+        site,
+        clock,
+    }
+}
+
+/// Runs the workflow that the site's files ask for, and remembers it there: reads the words and files 0, 1 and 2,
+/// recovers what file 16 keeps, commits each step of the workflow before the next, and says each answer once what it
+/// answers is committed. `rt` may start and join threads; until there are any it isn't used. The clock isn't read yet.
+///
+/// A refusal is the first of these: the words, then files 0, 1 and 2 in this order, each one's length before its bytes,
+/// then file 16.
+pub fn run<
+    R: Threads + Wait + Sync,
+    V: Site + Send,
+    C: Clock + Send,
+    A: Activities + Sync,
+>(
+    rt: &R,
+    alloc: Global,
+    words: &[Text],
+    site: V,
+    clock: C,
+    acts: &A,
+) -> Ended<V, C>
+    ensures status { result.status ≡ status_of result.cause }
+
+    // The words alone decide on a usage fault.
+    ensures usage { words.now ≢ run_words → result.cause ≡ Cause.Usage }
+    ensures only_usage { result.cause ≡ Cause.Usage → words.now ≢ run_words }
+
+    // Which other causes there may be, by what the files read at the start.
+    ensures answers { V.tells → words.now ≡ run_words → Answers (λ file. content_of file (V.history site)) result.cause }
+
+    // A fault has its cause.
+    ensures site_fault { result.cause ≡ Cause.SiteFault → HasRisen (V.disk_faults site) (V.disk_faults result.site) }
+    ensures say_fault { result.cause ≡ Cause.SayFault → HasRisen (V.say_faults site) (V.say_faults result.site) }
+    ensures disk_later { V.disk_faults site ≤ V.disk_faults result.site }
+    ensures say_later { V.say_faults site ≤ V.say_faults result.site }
+
+    // What was said, and that a refusal changes nothing.
+    ensures says { V.tells → Says (λ file. content_of file (V.history site)) (tape (V.history site)) (tape (V.history result.site)) result.cause }
+    ensures untouched { V.tells → Untouched (V.history site) (V.history result.site) result.cause }
+    ensures clock { result.clock ≡ clock }
+{
+    let _ = rt;
+    run_alone(alloc, words, site, clock, acts)
+}
