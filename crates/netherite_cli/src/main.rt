@@ -12,17 +12,38 @@ mod file_name;
 mod file_site;
 mod wall_clock;
 
-use call::Call;
+use call::{Call, CallError};
+use engine_run::{Cause, Table, run};
+use file_site::FileSite;
 use std::process::ExitCode;
+use wall_clock::WallClock;
 
 fn main(rt: HostRuntime) -> ExitCode {
-    // No command is known yet.
-    let _call = Call::read(&rt);
-    end(&rt, "usage", 1)
+    let alloc = rt.alloc();
+    let call = match Call::read(&rt) {
+        Ok(call) => call,
+        Err(CallError::Usage) => return end(&rt, Cause::Usage),
+        Err(CallError::Memory) => return end(&rt, Cause::Memory),
+    };
+    let site = match FileSite::open(rt, alloc, call.directory.as_str()) {
+        Ok(site) => site,
+        Err(_) => return end(&rt, Cause::Memory),
+    };
+    let ended = run(
+        &rt,
+        alloc,
+        &call.words,
+        site,
+        WallClock::new(rt),
+        &Table,
+    );
+    end(&rt, ended.cause)
 }
 
-// The cause goes to standard error. Where that is closed, the status alone tells it.
-fn end(rt: &impl Eprint, cause: &str, status: u8) -> ExitCode {
-    let _ = eprintln!(rt; "netherite: {cause}");
-    ExitCode::from(status)
+// Ends with the cause's status. A fault goes to standard error; where that is closed, the status alone tells it.
+fn end(rt: &impl Eprint, cause: Cause) -> ExitCode {
+    if cause != Cause::Done {
+        let _ = eprintln!(rt; "netherite: {cause}");
+    }
+    ExitCode::from(cause.status())
 }
