@@ -1,5 +1,5 @@
 -- Where no label is possible, the requests are answered.
-use Rattle.std.proofs.Common.{◌≡◌, ℕ, ◌≤◌, ◌<◌, Bool, true, false, cond, ltb, Option, Some, None, refl, sym, ap, ◌∙◌, arith}
+use Rattle.std.proofs.Common.{◌≡◌, ℕ, Bool, true, false, ltb, None, refl}
 use Rattle.std.proofs.lemmas.Bool.{le-ltb}
 use Rattle.engine_run.specs.declared.request_file.Kind.TheVariants as kinds
 use Rattle.engine_run.specs.declared.state.StartStage.{StartStage}
@@ -7,7 +7,7 @@ use Rattle.engine_run.specs.declared.state.StartStage.TheVariants as starts
 use Rattle.engine_run.specs.declared.state.WaitStage.{WaitStage}
 use Rattle.engine_run.specs.declared.state.WaitStage.TheVariants as waits
 use Rattle.engine_run.specs.declared.state.State.{State}
-use Rattle.engine_run.specs.State.{inbox, outbox, took, arrived, answered, finished, IsSound, IsQuiet, HasAnswer}
+use Rattle.engine_run.specs.State.{inbox, outbox, took, arrived, answered, finished, IsSound, IsQuiet}
 
 abbrev made : StartStage → WaitStage → Bool → Bool → Bool → ℕ → ℕ → State
 made start wait done sent_first replied_first last stamp = record { start = start; wait = wait; finished = done; wait_sent_first = sent_first; wait_replied_first = replied_first; last = last; stamp = stamp }

@@ -1,8 +1,7 @@
 -- What an activity may give.
-use Rattle.std.specs.Prelude.{◌≡◌, ℕ, ℤ, Bool, true, false, ◌+ℤ◌, ◌&&◌, List, [], ◌∷◌, codes, if◌then◌else◌}
-use Rattle.std.specs.Int.{w64}
+use Rattle.std.specs.Prelude.{◌≡◌, ℕ, ℤ, Bool, ◌+ℤ◌, List, [], ◌∷◌, codes, if◌then◌else◌}
 use Rattle.std.specs.Str.{bytes_eq}
-use Rattle.std.specs.Prelude.{FitsSigned, pos, negsuc, ◌^◌, nat_lt}
+use Rattle.std.specs.Prelude.{pos, negsuc, ◌^◌, nat_lt}
 use Rattle.engine_run.specs.declared.data.Scalar.{Scalar}
 use Rattle.engine_run.specs.declared.data.Scalar.TheVariants as scalars
 use Rattle.engine_run.specs.declared.data.Value.{Value}

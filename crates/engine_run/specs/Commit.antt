@@ -1,5 +1,4 @@
 -- What a commit may end with.
-use Rattle.std.specs.Prelude.{Result, Ok, Err}
 use Rattle.engine_run.specs.declared.ended.Cause.{Cause}
 use Rattle.engine_run.specs.declared.ended.Cause.TheVariants.{SiteFault, Memory}
 

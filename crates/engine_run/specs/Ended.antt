@@ -9,7 +9,7 @@ use Rattle.engine_run.specs.declared.ended.FlowPath.TheVariants as paths
 use Rattle.engine_run.specs.declared.ended.PlanPlace.TheVariants as places
 use Rattle.engine_run.specs.FlowFile.{flow_in}
 use Rattle.engine_run.specs.RequestFile.{requests_in}
-use Rattle.commit_log.specs.Segment.{Reading, fresh, reading_of}
+use Rattle.commit_log.specs.Segment.{fresh, reading_of}
 
 -- the status of each cause
 abbrev pub status_of : Cause → ℕ

@@ -1,5 +1,5 @@
 -- How labels are spelled in a log. Numbers are big-endian.
-use Rattle.std.specs.Prelude.{ℕ, ◌+◌, List, [], ◌∷◌, ◌++◌, length}
+use Rattle.std.specs.Prelude.{ℕ, ◌+◌, List, ◌∷◌, ◌++◌, length}
 use Rattle.std.specs.Int.{w16, w32, w64, to_be_bytes}
 use Rattle.engine_run.specs.declared.request_file.Kind.TheVariants as kinds
 use Rattle.engine_run.specs.declared.state.Label.{Label}

@@ -2,7 +2,7 @@
 use Rattle.std.specs.Prelude.{◌≡◌, ◌⊎◌, ℕ, List, ◌∷◌, ◌++◌}
 use Rattle.site_model.specs.History.{Step, on, synced}
 use Rattle.engine_run.specs.declared.ended.Cause.{Cause}
-use Rattle.engine_run.specs.declared.ended.Cause.TheVariants.{Done, Usage, BadFlows, BadRequests, BadPlan, TooLong, SiteFault, SayFault, Damaged, Memory}
+use Rattle.engine_run.specs.declared.ended.Cause.TheVariants.{Done, SiteFault, SayFault, Damaged, Memory}
 use Rattle.engine_run.specs.declared.input.Input.{Input}
 use Rattle.engine_run.specs.declared.state.Found.{Found}
 use Rattle.engine_run.specs.declared.told.Told.TheVariants.{Both}

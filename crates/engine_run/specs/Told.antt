@@ -1,5 +1,5 @@
 -- What a run says.
-use Rattle.std.specs.Prelude.{◌≡◌, ℕ, List, [], ◌++◌, Option, Some, None, true, Result, Ok, Err, Bool, false}
+use Rattle.std.specs.Prelude.{◌≡◌, ℕ, List, [], ◌++◌, true, Result, Ok, Err, Bool, false}
 use Rattle.engine_run.specs.declared.input.Input.{Input}
 use Rattle.engine_run.specs.declared.state.StartStage.TheVariants as starts
 use Rattle.engine_run.specs.declared.state.WaitStage.TheVariants as waits

@@ -1,6 +1,15 @@
-//! Reads what a run is given: its words, its flow file and its request file.
+//! The engine. `run` reads what it is asked for, recovers what the log keeps, commits each step of the workflow before
+//! the next, and says each answer once what it answers is committed.
 //!
-//! Each reader takes any bytes, and gives exactly what the definitions in `specs/` say of them, unless memory runs out.
+//! - `words`, `flow_file`, `request_file` and `input` read the command and the three input files, and `error`, `names`,
+//!   `text`, `values` and `data` are what they give.
+//! - `state` is what the engine knows of its one workflow and its two requests, and which labels can come next.
+//! - `activities` are the tasks that an instance can call.
+//! - `items` are a label's bytes in the log, `commit` makes one durable, `replay` reads them back, and `recovery` opens
+//!   the log with `digest` in its header.
+//! - `answers` are the lines that are said, `told` keeps which of them were, `settle` takes one label from the state to
+//!   the log and back, and `drive` takes all of them.
+//! - `top` is the call that a program makes, `ended` is how it ends, and `trail` is what it settled.
 #![tactic(auto)]
 
 mod activities;
@@ -19,7 +28,6 @@ mod recovered;
 mod recovery;
 mod replay;
 mod request_file;
-
 mod settle;
 mod state;
 mod text;
@@ -35,9 +43,9 @@ pub use ended::{Cause, Ended, FlowFault, FlowPath, PlanPlace};
 pub use flow_file::Flow;
 pub use names::{Key, Name};
 pub use request_file::{Kind, Requests};
-pub use top::{run, run_alone};
 pub use state::{Found, Label, StartStage, State, WaitStage};
 pub use text::{Text, TextError};
+pub use top::{run, run_alone};
 pub use trail::{Entry, Trail};
 
 #[cfg(test)]

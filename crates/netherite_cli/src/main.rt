@@ -29,14 +29,7 @@ fn main(rt: HostRuntime) -> ExitCode {
         Ok(site) => site,
         Err(_) => return end(&rt, Cause::Memory),
     };
-    let ended = run(
-        &rt,
-        alloc,
-        &call.words,
-        site,
-        WallClock::new(rt),
-        &Table,
-    );
+    let ended = run(&rt, alloc, &call.words, site, WallClock::new(rt), &Table);
     end(&rt, ended.cause)
 }
 

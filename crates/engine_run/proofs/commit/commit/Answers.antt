@@ -1,4 +1,4 @@
-use Rattle.std.proofs.Common.{◌≡◌, ◌∷◌, [], ◌++◌, ◌∙◌}
+use Rattle.std.proofs.Common.{◌∷◌, [], ◌++◌, ◌∙◌}
 use Rattle.site_model.proofs.Paths.{leaves_only}
 use Rattle.engine_run.proofs.commit.commit.Goals as goal
 
