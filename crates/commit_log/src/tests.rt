@@ -1,0 +1,505 @@
+ghost use Rattle.std.specs.Prelude.{◌≡◌, ◌++◌, ◌∷◌, [], List, ℕ, IfOk, OnOk};
+ghost use Rattle.site_model.specs.History.{changes_of};
+ghost use Rattle.site_model.specs.Moments.{OnlyFile};
+ghost use Rattle.commit_log.specs.declared.header.Header.{Header};
+ghost use Rattle.commit_log.specs.States.{IsResting, IsSynced, IsSyncedThere, Rests};
+ghost use Rattle.commit_log.specs.Outcomes.{RestsAs};
+
+use crate::{BodyError, Broken, Header, OpenError, Opened, Reopened, Resting, Synced, read_log};
+use site_memory::{Kind, MemorySite, Pick};
+use site_model::Site;
+use std::alloc::Global;
+use std::process::Abort;
+use std::test::Fail;
+
+// An empty segment of partition 0 of 1, whose flows file holds `{}`.
+const HEADER: Header = Header {
+    partition: 0,
+    partitions: 1,
+    digest: 0x08F4_4B07_B590_1A25,
+    base: 0,
+};
+
+const EMPTY: [u8; 34] = [
+    0xC3, // the format's gate
+    0x4E, 0x45, 0x54, 0x48, 0x4C, 0x4F, 0x47, // NETHLOG
+    0x01, // the version
+    0x00, 0x00, 0x00, 0x00, // the partition
+    0x00, 0x00, 0x00, 0x01, // the partitions
+    0x08, 0xF4, 0x4B, 0x07, 0xB5, 0x90, 0x1A, 0x25, // the digest
+    0x00, 0x00, 0x00, 0x00, 0x00, 0x00, 0x00, 0x00, // the base position
+    0x00, // the first gate
+];
+
+// Client a's request 1 starts Sum/x with null.
+const PAYLOAD: [u8; 38] = [
+    0x00, 0x01, // one entry
+    0x00, 0x00, 0x00, 0x00, 0x00, 0x00, 0x00, 0x00, // its position
+    0x00, 0x00, 0x00, 0x00, 0x00, 0x00, 0x00, 0x00, // its incarnation
+    0x00, 0x01, // one item
+    0x20, // a message
+    0x03, 0x01, 0x61, // from the client a
+    0x01, 0x03, 0x53, 0x75, 0x6D, 0x01, 0x78, // to Sum/x
+    0x10, 0x00, // start with null
+    0x02, 0x00, 0x00, 0x00, 0x01, // and answer request 1
+];
+
+// The segment with that one frame.
+const ONE_FRAME: [u8; 77] = [
+    0xC3, // the format's gate
+    0x4E, 0x45, 0x54, 0x48, 0x4C, 0x4F, 0x47, // NETHLOG
+    0x01, // the version
+    0x00, 0x00, 0x00, 0x00, // the partition
+    0x00, 0x00, 0x00, 0x01, // the partitions
+    0x08, 0xF4, 0x4B, 0x07, 0xB5, 0x90, 0x1A, 0x25, // the digest
+    0x00, 0x00, 0x00, 0x00, 0x00, 0x00, 0x00, 0x00, // the base position
+    0xC3, // the first gate
+    0x00, 0x00, 0x00, 0x26, // the payload's length
+    0x00, 0x01, // the payload
+    0x00, 0x00, 0x00, 0x00, 0x00, 0x00, 0x00, 0x00, //
+    0x00, 0x00, 0x00, 0x00, 0x00, 0x00, 0x00, 0x00, //
+    0x00, 0x01, //
+    0x20, //
+    0x03, 0x01, 0x61, //
+    0x01, 0x03, 0x53, 0x75, 0x6D, 0x01, 0x78, //
+    0x10, 0x00, //
+    0x02, 0x00, 0x00, 0x00, 0x01, //
+    0x00, // the next gate
+];
+
+const LIMIT: u64 = 1 << 20;
+
+// A site whose file 1 holds these bytes, and where the device call with this number fails.
+fn site_of(rt: &impl Abort, alloc: Global, bytes: &[u8], fails: u64) -> MemorySite {
+    let fails = vec![in alloc; (Kind::Device, fails)].expect(rt, "memory");
+    let mut site = MemorySite::new(alloc, 1000, 40, fails).expect(rt, "memory");
+    site.prepare(1, 0, bytes).expect(rt, "room");
+    site
+}
+
+const NEVER: u64 = 1000;
+
+fn check_content(rt: &impl Abort, alloc: Global, site: &MemorySite, wanted: &[u8]) {
+    let content = site.content(alloc, 1).expect(rt, "memory");
+    assert_eq!(rt; content.as_slice(), wanted);
+}
+
+// Opens file 1, whose log rests then.
+fn open_rested<V: Site>(rt: &impl Abort, alloc: Global, site: &mut V) -> Opened
+    ensures { V.tells → Rests (changes_of result.log.file (V.history site.new)) result.log.gate }
+{
+    read_log(alloc, site, 1).expect(rt, "a log")
+}
+
+// The first two steps of a commit.
+fn synced<V: Site>(
+    alloc: Global,
+    site: &mut V,
+    log: Resting,
+    payload: &[u8],
+) -> Result<Synced, BodyError>
+    requires { V.tells → Rests (changes_of log.file (V.history site.old)) log.gate }
+    ensures frames { V.tells → (h : Header) (payloads : List (List ℕ)) → IsResting (changes_of log.file (V.history site.old)) h payloads log.gate
+        → IfOk result (λ made. IsSynced (changes_of made.file (V.history site.new)) h payloads payload.now made.gate made.next) }
+    ensures there { V.tells → IfOk result (λ made. IsSyncedThere (changes_of made.file (V.history site.new)) made.gate made.next) }
+    ensures file { IfOk result (λ made. made.file ≡ log.file) }
+    ensures only { V.tells → OnOk result (OnlyFile log.file (V.history site.old) (V.history site.new)) }
+{
+    let log = log.body(alloc, site, payload, LIMIT)?;
+    match log.sync_body(site) {
+        Ok(log) => Ok(log),
+        Err(broken) => Err(BodyError::SiteFault(broken)),
+    }
+}
+
+// A whole commit.
+fn commit<V: Site>(
+    alloc: Global,
+    site: &mut V,
+    log: Resting,
+    payload: &[u8],
+) -> Result<Resting, BodyError>
+    requires { V.tells → Rests (changes_of log.file (V.history site.old)) log.gate }
+    ensures frames { V.tells → (h : Header) (payloads : List (List ℕ)) → IsResting (changes_of log.file (V.history site.old)) h payloads log.gate
+        → IfOk result (λ made. RestsAs (V.history site.new) h (payloads ++ payload.now ∷ []) made) }
+    ensures file { IfOk result (λ made. made.file ≡ log.file) }
+    ensures only { V.tells → OnOk result (OnlyFile log.file (V.history site.old) (V.history site.new)) }
+{
+    let log = synced(alloc, site, log, payload)?;
+    let log = match log.gate(site) {
+        Ok(log) => log,
+        Err(broken) => return Err(BodyError::SiteFault(broken)),
+    };
+    match log.settle(site) {
+        Ok(log) => Ok(log),
+        Err(broken) => Err(BodyError::SiteFault(broken)),
+    }
+}
+
+#[test]
+fn the_two_examples(rt: HostRuntime) -> Result<(), Fail> {
+    let alloc = rt.alloc();
+    let mut site = MemorySite::new(alloc, 1000, 40, Vec::new(alloc))?;
+    let log = Resting::format(&mut site, 1, HEADER)?;
+    assert_eq!(rt; log.gate, 33);
+    check_content(&rt, alloc, &site, &EMPTY);
+    let log = open_rested(&rt, alloc, &mut site).log;
+    let log = commit(alloc, &mut site, log, &PAYLOAD)?;
+    assert_eq!(rt; log.gate, 76);
+    check_content(&rt, alloc, &site, &ONE_FRAME);
+    let opened = read_log(alloc, &mut site, 1)?;
+    assert_eq!(rt; opened.header, HEADER);
+    assert_eq!(rt; opened.log.gate, 76);
+    assert_eq!(rt; opened.payloads.len(), 1);
+    assert_eq!(rt; opened.payloads[0].as_bytes(), PAYLOAD.as_slice());
+    Ok(())
+}
+
+#[test]
+fn log_full(rt: HostRuntime) -> Result<(), Fail> {
+    let alloc = rt.alloc();
+    let mut site = site_of(&rt, alloc, &EMPTY, NEVER);
+    let log = open_rested(&rt, alloc, &mut site).log;
+    let Err(BodyError::Full { length, log }) = log.body(alloc, &mut site, &PAYLOAD, 77) else {
+        panic!(rt; "there is room");
+    };
+    assert_eq!(rt; length, 77);
+    assert_eq!(rt; log.gate, 33);
+    check_content(&rt, alloc, &site, &EMPTY);
+    assert_eq!(rt; log.body(alloc, &mut site, &PAYLOAD, 78)?.next, 76);
+    Ok(())
+}
+
+// What a file is to be read as.
+#[derive(Clone, Copy, Debug, PartialEq, Eq)]
+enum Wanted {
+    Fresh,
+    At(u64),
+    Log { payloads: usize, gate: u64 },
+}
+
+// A header and its payloads, spelled up to the gate behind them.
+fn spelled(rt: &impl Abort, alloc: Global, opened: &Opened) -> Vec<u8> {
+    let header = opened.header;
+    let mut bytes = Vec::new(alloc);
+    for part in [
+        [0xC3].as_slice(),
+        b"NETHLOG\x01",
+        &header.partition.to_be_bytes(),
+        &header.partitions.to_be_bytes(),
+        &header.digest.to_be_bytes(),
+        &header.base.to_be_bytes(),
+    ] {
+        bytes.extend_from_slice(part).expect(rt, "memory");
+    }
+    for payload in &opened.payloads {
+        let payload = payload.as_bytes();
+        bytes.push(0xC3).expect(rt, "memory");
+        bytes
+            .extend_from_slice(&(payload.len() as u32).to_be_bytes())
+            .expect(rt, "memory");
+        bytes.extend_from_slice(payload).expect(rt, "memory");
+    }
+    bytes
+}
+
+fn check_reading(rt: &impl Abort, alloc: Global, bytes: &[u8], wanted: Wanted, at: usize) {
+    let mut site = site_of(rt, alloc, bytes, NEVER);
+    match read_log(alloc, &mut site, 1) {
+        Ok(opened) => {
+            let found = Wanted::Log {
+                payloads: opened.payloads.len(),
+                gate: opened.log.gate,
+            };
+            assert_eq!(rt; found, wanted, "{at}");
+            let front = spelled(rt, alloc, &opened);
+            assert_eq!(rt; front.len() as u64, opened.log.gate);
+            assert!(rt; bytes.starts_with(&front), "{at}");
+        }
+        Err(OpenError::Fresh) => assert_eq!(rt; Wanted::Fresh, wanted, "{at}"),
+        Err(OpenError::Damaged { file: 1, offset }) => {
+            assert_eq!(rt; Wanted::At(offset), wanted, "{at}")
+        }
+        Err(other) => panic!(rt; "{other}"),
+    }
+}
+
+// What the first bytes of the example are, this many.
+fn wanted_of_front(length: u64) -> Wanted {
+    match length {
+        0..=1 => Wanted::Fresh,
+        2..=8 => Wanted::At(length),
+        9..=12 => Wanted::At(9),
+        13..=16 => Wanted::At(13),
+        17..=24 => Wanted::At(17),
+        25..=32 => Wanted::At(25),
+        33 => Wanted::At(33),
+        34..=76 => Wanted::At(34),
+        _ => Wanted::Log {
+            payloads: 1,
+            gate: 76,
+        },
+    }
+}
+
+// What the example is where the byte at this offset is turned over.
+fn wanted_of_flip(offset: u64) -> Wanted {
+    match offset {
+        0 => Wanted::Fresh,
+        1..=8 => Wanted::At(offset),
+        25 => Wanted::At(25),
+        33 => Wanted::Log {
+            payloads: 0,
+            gate: 33,
+        },
+        34..=37 => Wanted::At(34),
+        _ => Wanted::Log {
+            payloads: 1,
+            gate: 76,
+        },
+    }
+}
+
+#[test]
+fn each_prefix_and_each_byte(rt: HostRuntime) -> Result<(), Fail> {
+    let alloc = rt.alloc();
+    for length in 0..=77usize {
+        let wanted = wanted_of_front(length as u64);
+        check_reading(&rt, alloc, &ONE_FRAME[..length], wanted, length);
+    }
+    for offset in 0..77usize {
+        let mut bytes = ONE_FRAME;
+        bytes[offset] = !bytes[offset];
+        let wanted = wanted_of_flip(offset as u64);
+        check_reading(&rt, alloc, &bytes, wanted, offset);
+    }
+    Ok(())
+}
+
+#[test]
+fn each_gate_and_each_length(rt: HostRuntime) -> Result<(), Fail> {
+    let alloc = rt.alloc();
+    for (offset, byte, wanted) in [
+        (0usize, 0x00, Wanted::Fresh),
+        (
+            33,
+            0x00,
+            Wanted::Log {
+                payloads: 0,
+                gate: 33,
+            },
+        ),
+        (76, 0xC3, Wanted::At(77)),
+        (
+            37,
+            0x25,
+            Wanted::Log {
+                payloads: 1,
+                gate: 75,
+            },
+        ),
+        (37, 0x27, Wanted::At(34)),
+        (
+            37,
+            0x00,
+            Wanted::Log {
+                payloads: 1,
+                gate: 38,
+            },
+        ),
+        (34, 0x7F, Wanted::At(34)),
+        (25, 0x80, Wanted::At(25)),
+    ] {
+        let mut bytes = ONE_FRAME;
+        assert!(rt; offset < 77);
+        bytes[offset] = byte;
+        check_reading(&rt, alloc, &bytes, wanted, offset);
+    }
+    Ok(())
+}
+
+// Whether a gate written by this step reads open in what a crash leaves.
+fn is_open(step: u64, moment: u64, pick: Pick) -> bool {
+    moment > step || moment == step && (pick == Pick::All || pick == Pick::Torn(0xC3))
+}
+
+const PICKS: [Pick; 4] = [Pick::Stable, Pick::All, Pick::Torn(0x17), Pick::Torn(0xC3)];
+
+fn check_image(
+    rt: &impl Abort,
+    alloc: Global,
+    site: &MemorySite,
+    moment: u64,
+    pick: Pick,
+    wanted: Wanted,
+) {
+    let image = site.image(alloc, moment, pick).expect(rt, "memory");
+    let content = image.content(alloc, 1).expect(rt, "memory");
+    check_reading(rt, alloc, &content, wanted, moment as usize);
+}
+
+// Formats file 1 with the device call `fails` failing. Its last gate is written by step 5.
+fn check_stopped_format(
+    rt: &impl Abort,
+    alloc: Global,
+    mut site: MemorySite,
+    is_ok: bool,
+    steps: u64,
+) {
+    let before = site.moment();
+    let made = Resting::format(&mut site, 1, HEADER);
+    assert_eq!(rt; made.is_ok(), is_ok);
+    assert_eq!(rt; site.moment(), steps);
+    for moment in before..=steps {
+        for pick in PICKS {
+            let wanted = if is_open(5, moment, pick) {
+                Wanted::Log {
+                    payloads: 0,
+                    gate: 33,
+                }
+            } else {
+                Wanted::Fresh
+            };
+            check_image(rt, alloc, &site, moment, pick, wanted);
+        }
+    }
+}
+
+#[test]
+fn a_format_stops_at_each_device_call(rt: HostRuntime) -> Result<(), Fail> {
+    let alloc = rt.alloc();
+    // In a file that isn't there: length, write, sync, write, sync, write, sync.
+    for (call, steps) in [
+        (0, 0),
+        (1, 1),
+        (2, 1),
+        (3, 3),
+        (4, 3),
+        (5, 5),
+        (6, 5),
+        (NEVER, 6),
+    ] {
+        let fails = vec![in alloc; (Kind::Device, call)]?;
+        let site = MemorySite::new(alloc, 1000, 40, fails)?;
+        check_stopped_format(&rt, alloc, site, call == NEVER, steps);
+    }
+    // In a closed one the first byte isn't closed again: length, read, write, sync, write, sync.
+    for (call, steps) in [
+        (0, 2),
+        (1, 2),
+        (2, 3),
+        (3, 3),
+        (4, 5),
+        (5, 5),
+        (NEVER, 6),
+    ] {
+        let mut bytes = ONE_FRAME;
+        bytes[0] = 0x17;
+        let site = site_of(&rt, alloc, &bytes, call);
+        check_stopped_format(&rt, alloc, site, call == NEVER, steps);
+    }
+    Ok(())
+}
+
+const NEXT: [u8; 3] = [0xC3, 0x00, 0xC3];
+
+// The segment with one frame, or with `NEXT` behind it.
+fn frames(is_more: bool) -> Wanted {
+    if is_more {
+        Wanted::Log {
+            payloads: 2,
+            gate: 84,
+        }
+    } else {
+        Wanted::Log {
+            payloads: 1,
+            gate: 76,
+        }
+    }
+}
+
+#[test]
+fn an_append_stops_at_each_device_call(rt: HostRuntime) -> Result<(), Fail> {
+    let alloc = rt.alloc();
+    // Opening it took three: write, sync, write, sync.
+    for (call, steps) in [(3, 4), (4, 4), (5, 6), (6, 6), (NEVER, 7)] {
+        let mut site = site_of(&rt, alloc, &ONE_FRAME, call);
+        let log = open_rested(&rt, alloc, &mut site).log;
+        let made = commit(alloc, &mut site, log, &NEXT);
+        assert_eq!(rt; made.is_ok(), call == NEVER);
+        assert_eq!(rt; site.moment(), steps);
+        for moment in 3..=steps {
+            for pick in PICKS {
+                let wanted = frames(is_open(6, moment, pick));
+                check_image(&rt, alloc, &site, moment, pick, wanted);
+            }
+        }
+    }
+    Ok(())
+}
+
+fn check_reopened(
+    rt: &impl Abort,
+    alloc: Global,
+    site: &MemorySite,
+    found: Result<Reopened, Broken>,
+    settled: bool,
+) {
+    let found = found.expect(rt, "a log");
+    assert_eq!(rt; found.settled, settled);
+    assert_eq!(rt; found.log.gate, if settled { 84 } else { 76 });
+    check_image(rt, alloc, site, site.moment(), Pick::Stable, frames(settled));
+}
+
+#[test]
+fn reopen_after_each_call(rt: HostRuntime) -> Result<(), Fail> {
+    let alloc = rt.alloc();
+
+    // The body is written.
+    let mut site = site_of(&rt, alloc, &ONE_FRAME, NEVER);
+    let log = open_rested(&rt, alloc, &mut site).log;
+    let log = log.body(alloc, &mut site, &NEXT, LIMIT)?;
+    let found = log.reopen(&mut site);
+    check_reopened(&rt, alloc, &site, found, false);
+
+    // It is synced.
+    let mut site = site_of(&rt, alloc, &ONE_FRAME, NEVER);
+    let log = open_rested(&rt, alloc, &mut site).log;
+    let log = synced(alloc, &mut site, log, &NEXT)?;
+    let found = log.reopen(&mut site);
+    check_reopened(&rt, alloc, &site, found, false);
+
+    // The gate is open.
+    let mut site = site_of(&rt, alloc, &ONE_FRAME, NEVER);
+    let log = open_rested(&rt, alloc, &mut site).log;
+    let log = synced(alloc, &mut site, log, &NEXT)?.gate(&mut site)?;
+    let found = log.reopen(&mut site);
+    check_reopened(&rt, alloc, &site, found, true);
+
+    // The gate's write failed, and stands.
+    let mut site = site_of(&rt, alloc, &ONE_FRAME, 5);
+    let log = open_rested(&rt, alloc, &mut site).log;
+    let log = synced(alloc, &mut site, log, &NEXT)?;
+    let broken = log.gate(&mut site).expect_err(&rt, "a fault");
+    let found = broken.reopen(&mut site);
+    check_reopened(&rt, alloc, &site, found, true);
+
+    // The gate's write failed, for want of room.
+    let mut site = MemorySite::new(alloc, 85, 40, Vec::new(alloc))?;
+    site.prepare(1, 0, &ONE_FRAME)?;
+    let log = open_rested(&rt, alloc, &mut site).log;
+    let log = synced(alloc, &mut site, log, &NEXT)?;
+    let broken = log.gate(&mut site).expect_err(&rt, "a fault");
+    let found = broken.reopen(&mut site);
+    check_reopened(&rt, alloc, &site, found, false);
+
+    // The body's write failed, and stands.
+    let mut site = site_of(&rt, alloc, &ONE_FRAME, 3);
+    let log = open_rested(&rt, alloc, &mut site).log;
+    let Err(BodyError::SiteFault(broken)) = log.body(alloc, &mut site, &NEXT, LIMIT) else {
+        panic!(rt; "no fault");
+    };
+    let found = broken.reopen(&mut site);
+    check_reopened(&rt, alloc, &site, found, false);
+    Ok(())
+}
