@@ -194,9 +194,10 @@ fn spelled(rt: &impl Abort, alloc: Global, opened: &Opened) -> Vec<u8> {
     }
     for payload in &opened.payloads {
         let payload = payload.as_bytes();
+        let length = u32::try_from(payload.len()).expect(rt, "a length");
         bytes.push(0xC3).expect(rt, "memory");
         bytes
-            .extend_from_slice(&(payload.len() as u32).to_be_bytes())
+            .extend_from_slice(&length.to_be_bytes())
             .expect(rt, "memory");
         bytes.extend_from_slice(payload).expect(rt, "memory");
     }
