@@ -1,4 +1,4 @@
-ghost use Rattle.std.specs.Prelude.{◌≡◌, ◌++◌, ◌∷◌, [], List, ℕ, IfOk, OnOk};
+ghost use Rattle.std.specs.Prelude.{◌≡◌, ◌≢◌, ◌++◌, ◌∷◌, [], List, ℕ, IfOk, OnOk};
 ghost use Rattle.site_model.specs.History.{changes_of};
 ghost use Rattle.site_model.specs.Moments.{OnlyFile};
 ghost use Rattle.commit_log.specs.declared.header.Header.{Header};
@@ -502,5 +502,43 @@ fn reopen_after_each_call(rt: HostRuntime) -> Result<(), Fail> {
     };
     let found = broken.reopen(&mut site);
     check_reopened(&rt, alloc, &site, found, false);
+    Ok(())
+}
+
+// A commit on each of two files, in turn.
+fn commit_on_both<V: Site>(
+    alloc: Global,
+    site: &mut V,
+    first: Resting,
+    second: Resting,
+    one: &[u8],
+    other: &[u8],
+) -> Result<(Resting, Resting), BodyError>
+    requires apart { first.file ≢ second.file }
+    requires first_rests { V.tells → Rests (changes_of first.file (V.history site.old)) first.gate }
+    requires second_rests { V.tells → Rests (changes_of second.file (V.history site.old)) second.gate }
+    ensures on_first { V.tells → (h : Header) (payloads : List (List ℕ)) → IsResting (changes_of first.file (V.history site.old)) h payloads first.gate
+        → IfOk result (λ made. RestsAs (V.history site.new) h (payloads ++ one.now ∷ []) made.0) }
+    ensures on_second { V.tells → (h : Header) (payloads : List (List ℕ)) → IsResting (changes_of second.file (V.history site.old)) h payloads second.gate
+        → IfOk result (λ made. RestsAs (V.history site.new) h (payloads ++ other.now ∷ []) made.1) }
+{
+    let first = commit(alloc, site, first, one)?;
+    let second = commit(alloc, site, second, other)?;
+    Ok((first, second))
+}
+
+#[test]
+fn commits_on_two_files_in_turn(rt: HostRuntime) -> Result<(), Fail> {
+    let alloc = rt.alloc();
+    let mut site = site_of(&rt, alloc, &EMPTY, NEVER);
+    site.prepare(2, 0, &EMPTY)?;
+    let one = read_log(alloc, &mut site, 1)?.log;
+    let two = read_log(alloc, &mut site, 2)?.log;
+    let (one, two) = commit_on_both(alloc, &mut site, one, two, &PAYLOAD, &NEXT)?;
+    assert_eq!(rt; (one.gate, two.gate), (76, 41));
+    check_content(&rt, alloc, &site, &ONE_FRAME);
+    let opened = read_log(alloc, &mut site, 2)?;
+    assert_eq!(rt; opened.payloads.len(), 1);
+    assert_eq!(rt; opened.payloads[0].as_bytes(), NEXT.as_slice());
     Ok(())
 }
