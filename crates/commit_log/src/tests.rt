@@ -385,15 +385,7 @@ fn a_format_stops_at_each_device_call(rt: HostRuntime) -> Result<(), Fail> {
         check_stopped_format(&rt, alloc, site, call == NEVER, steps);
     }
     // In a closed one the first byte isn't closed again: length, read, write, sync, write, sync.
-    for (call, steps) in [
-        (0, 2),
-        (1, 2),
-        (2, 3),
-        (3, 3),
-        (4, 5),
-        (5, 5),
-        (NEVER, 6),
-    ] {
+    for (call, steps) in [(0, 2), (1, 2), (2, 3), (3, 3), (4, 5), (5, 5), (NEVER, 6)] {
         let mut bytes = ONE_FRAME;
         bytes[0] = 0x17;
         let site = site_of(&rt, alloc, &bytes, call);
@@ -449,7 +441,14 @@ fn check_reopened(
     let found = found.expect(rt, "a log");
     assert_eq!(rt; found.settled, settled);
     assert_eq!(rt; found.log.gate, if settled { 84 } else { 76 });
-    check_image(rt, alloc, site, site.moment(), Pick::Stable, frames(settled));
+    check_image(
+        rt,
+        alloc,
+        site,
+        site.moment(),
+        Pick::Stable,
+        frames(settled),
+    );
 }
 
 #[test]
