@@ -55,19 +55,25 @@ const ONE_FRAME: [u8; 77] = [
     0x00, 0x00, 0x00, 0x00, 0x00, 0x00, 0x00, 0x00, // the base position
     0xC3, // the first gate
     0x00, 0x00, 0x00, 0x26, // the payload's length
-    0x00, 0x01, // the payload
-    0x00, 0x00, 0x00, 0x00, 0x00, 0x00, 0x00, 0x00, //
-    0x00, 0x00, 0x00, 0x00, 0x00, 0x00, 0x00, 0x00, //
-    0x00, 0x01, //
-    0x20, //
-    0x03, 0x01, 0x61, //
-    0x01, 0x03, 0x53, 0x75, 0x6D, 0x01, 0x78, //
-    0x10, 0x00, //
-    0x02, 0x00, 0x00, 0x00, 0x01, //
+    0x00, 0x01, // the payload: one entry
+    0x00, 0x00, 0x00, 0x00, 0x00, 0x00, 0x00, 0x00, // its position
+    0x00, 0x00, 0x00, 0x00, 0x00, 0x00, 0x00, 0x00, // its incarnation
+    0x00, 0x01, // one item
+    0x20, // a message
+    0x03, 0x01, 0x61, // from the client a
+    0x01, 0x03, 0x53, 0x75, 0x6D, 0x01, 0x78, // to Sum/x
+    0x10, 0x00, // start with null
+    0x02, 0x00, 0x00, 0x00, 0x01, // and answer request 1
     0x00, // the next gate
 ];
 
+// The payload of a second frame.
+const NEXT: [u8; 3] = [0xC3, 0x00, 0xC3];
+
 const LIMIT: u64 = 1 << 20;
+
+// The number of no device call.
+const NEVER: u64 = 1000;
 
 // A site whose file 1 holds these bytes, and where the device call with this number fails.
 fn site_of(rt: &impl Abort, alloc: Global, bytes: &[u8], fails: u64) -> MemorySite {
@@ -76,8 +82,6 @@ fn site_of(rt: &impl Abort, alloc: Global, bytes: &[u8], fails: u64) -> MemorySi
     site.prepare(1, 0, bytes).expect(rt, "room");
     site
 }
-
-const NEVER: u64 = 1000;
 
 fn check_content(rt: &impl Abort, alloc: Global, site: &MemorySite, wanted: &[u8]) {
     let content = site.content(alloc, 1).expect(rt, "memory");
@@ -175,7 +179,8 @@ fn log_full(rt: HostRuntime) -> Result<(), Fail> {
 enum Wanted {
     Fresh,
     At(u64),
-    Log { payloads: usize, gate: u64 },
+    // So many payloads, and where the closed gate stands.
+    Log(usize, u64),
 }
 
 // A header and its payloads, spelled up to the gate behind them.
@@ -208,10 +213,7 @@ fn check_reading(rt: &impl Abort, alloc: Global, bytes: &[u8], wanted: Wanted, a
     let mut site = site_of(rt, alloc, bytes, NEVER);
     match read_log(alloc, &mut site, 1) {
         Ok(opened) => {
-            let found = Wanted::Log {
-                payloads: opened.payloads.len(),
-                gate: opened.log.gate,
-            };
+            let found = Wanted::Log(opened.payloads.len(), opened.log.gate);
             assert_eq!(rt; found, wanted, "{at}");
             let front = spelled(rt, alloc, &opened);
             assert_eq!(rt; front.len() as u64, opened.log.gate);
@@ -236,10 +238,7 @@ fn wanted_of_front(length: u64) -> Wanted {
         25..=32 => Wanted::At(25),
         33 => Wanted::At(33),
         34..=76 => Wanted::At(34),
-        _ => Wanted::Log {
-            payloads: 1,
-            gate: 76,
-        },
+        _ => Wanted::Log(1, 76),
     }
 }
 
@@ -249,15 +248,9 @@ fn wanted_of_flip(offset: u64) -> Wanted {
         0 => Wanted::Fresh,
         1..=8 => Wanted::At(offset),
         25 => Wanted::At(25),
-        33 => Wanted::Log {
-            payloads: 0,
-            gate: 33,
-        },
+        33 => Wanted::Log(0, 33),
         34..=37 => Wanted::At(34),
-        _ => Wanted::Log {
-            payloads: 1,
-            gate: 76,
-        },
+        _ => Wanted::Log(1, 76),
     }
 }
 
@@ -282,32 +275,11 @@ fn each_gate_and_each_length(rt: HostRuntime) -> Result<(), Fail> {
     let alloc = rt.alloc();
     for (offset, byte, wanted) in [
         (0usize, 0x00, Wanted::Fresh),
-        (
-            33,
-            0x00,
-            Wanted::Log {
-                payloads: 0,
-                gate: 33,
-            },
-        ),
+        (33, 0x00, Wanted::Log(0, 33)),
         (76, 0xC3, Wanted::At(77)),
-        (
-            37,
-            0x25,
-            Wanted::Log {
-                payloads: 1,
-                gate: 75,
-            },
-        ),
+        (37, 0x25, Wanted::Log(1, 75)),
         (37, 0x27, Wanted::At(34)),
-        (
-            37,
-            0x00,
-            Wanted::Log {
-                payloads: 1,
-                gate: 38,
-            },
-        ),
+        (37, 0x00, Wanted::Log(1, 38)),
         (34, 0x7F, Wanted::At(34)),
         (25, 0x80, Wanted::At(25)),
     ] {
@@ -319,7 +291,7 @@ fn each_gate_and_each_length(rt: HostRuntime) -> Result<(), Fail> {
     Ok(())
 }
 
-// Whether a gate written by this step reads open in what a crash leaves.
+// Whether a gate that this step opens reads open in what a crash at this moment leaves.
 fn is_open(step: u64, moment: u64, pick: Pick) -> bool {
     moment > step || moment == step && (pick == Pick::All || pick == Pick::Torn(0xC3))
 }
@@ -339,25 +311,30 @@ fn check_image(
     check_reading(rt, alloc, &content, wanted, moment as usize);
 }
 
-// Formats file 1 with the device call `fails` failing. Its last gate is written by step 5.
+// Whether a gate that this step closes, if it isn't 0, still reads open then.
+fn is_still_open(step: u64, moment: u64, pick: Pick) -> bool {
+    moment < step || moment == step && (pick == Pick::Stable || pick == Pick::Torn(0xC3))
+}
+
+// Formats file 1, which comes to so many steps. The format's gate is closed and opened by these.
 fn check_stopped_format(
     rt: &impl Abort,
     alloc: Global,
     mut site: MemorySite,
     is_ok: bool,
     steps: u64,
+    closes: u64,
+    opens: u64,
 ) {
-    let before = site.moment();
     let made = Resting::format(&mut site, 1, HEADER);
     assert_eq!(rt; made.is_ok(), is_ok);
     assert_eq!(rt; site.moment(), steps);
-    for moment in before..=steps {
+    for moment in 2..=steps {
         for pick in PICKS {
-            let wanted = if is_open(5, moment, pick) {
-                Wanted::Log {
-                    payloads: 0,
-                    gate: 33,
-                }
+            let wanted = if is_open(opens, moment, pick) {
+                Wanted::Log(0, 33)
+            } else if is_still_open(closes, moment, pick) {
+                Wanted::Log(1, 76)
             } else {
                 Wanted::Fresh
             };
@@ -369,52 +346,40 @@ fn check_stopped_format(
 #[test]
 fn a_format_stops_at_each_device_call(rt: HostRuntime) -> Result<(), Fail> {
     let alloc = rt.alloc();
-    // In a file that isn't there: length, write, sync, write, sync, write, sync.
-    for (call, steps) in [
-        (0, 0),
-        (1, 1),
-        (2, 1),
-        (3, 3),
-        (4, 3),
-        (5, 5),
-        (6, 5),
-        (NEVER, 6),
+    let mut closed = ONE_FRAME;
+    closed[0] = 0x17;
+    // How many steps there are where the call with each number fails, and at last where none does. Two steps made the
+    // file.
+    for (bytes, closes, opens, stops) in [
+        // length, write, sync, write, sync, write, sync
+        (b"".as_slice(), 0, 7, [2, 3, 3, 5, 5, 7, 7, 8].as_slice()),
+        // length, read, write, sync, write, sync
+        (&closed, 0, 5, &[2, 2, 3, 3, 5, 5, 6]),
+        // length, read, write, sync, write, sync, write, sync
+        (&ONE_FRAME, 3, 7, &[2, 2, 3, 3, 5, 5, 7, 7, 8]),
     ] {
-        let fails = vec![in alloc; (Kind::Device, call)]?;
-        let site = MemorySite::new(alloc, 1000, 40, fails)?;
-        check_stopped_format(&rt, alloc, site, call == NEVER, steps);
-    }
-    // In a closed one the first byte isn't closed again: length, read, write, sync, write, sync.
-    for (call, steps) in [(0, 2), (1, 2), (2, 3), (3, 3), (4, 5), (5, 5), (NEVER, 6)] {
-        let mut bytes = ONE_FRAME;
-        bytes[0] = 0x17;
-        let site = site_of(&rt, alloc, &bytes, call);
-        check_stopped_format(&rt, alloc, site, call == NEVER, steps);
+        for (call, steps) in stops.iter().enumerate() {
+            let site = site_of(&rt, alloc, bytes, call as u64);
+            let is_ok = call + 1 == stops.len();
+            check_stopped_format(&rt, alloc, site, is_ok, *steps, closes, opens);
+        }
     }
     Ok(())
 }
 
-const NEXT: [u8; 3] = [0xC3, 0x00, 0xC3];
-
 // The segment with one frame, or with `NEXT` behind it.
 fn frames(is_more: bool) -> Wanted {
     if is_more {
-        Wanted::Log {
-            payloads: 2,
-            gate: 84,
-        }
+        Wanted::Log(2, 84)
     } else {
-        Wanted::Log {
-            payloads: 1,
-            gate: 76,
-        }
+        Wanted::Log(1, 76)
     }
 }
 
 #[test]
 fn an_append_stops_at_each_device_call(rt: HostRuntime) -> Result<(), Fail> {
     let alloc = rt.alloc();
-    // Opening it took three: write, sync, write, sync.
+    // Opening it took three calls and a step. Then: write, sync, write, sync.
     for (call, steps) in [(3, 4), (4, 4), (5, 6), (6, 6), (NEVER, 7)] {
         let mut site = site_of(&rt, alloc, &ONE_FRAME, call);
         let log = open_rested(&rt, alloc, &mut site).log;
