@@ -6,7 +6,7 @@ ghost use Rattle.commit_log.specs.States.{IsResting, IsSynced, IsSyncedThere, Re
 ghost use Rattle.commit_log.specs.Outcomes.{RestsAs};
 
 use crate::{BodyError, Broken, Header, OpenError, Opened, Reopened, Resting, Synced, read_log};
-use site_memory::{Kind, MemorySite, Pick};
+use site_memory::{Kept, Kind, MemorySite, Pick};
 use site_model::Site;
 use std::alloc::Global;
 use std::process::Abort;
@@ -147,6 +147,24 @@ fn the_two_examples(rt: HostRuntime) -> Result<(), Fail> {
     let log = Resting::format(&mut site, 1, HEADER)?;
     assert_eq!(rt; log.gate, 33);
     check_content(&rt, alloc, &site, &EMPTY);
+    // The first byte is closed, and made safe, before the header is written behind it.
+    assert!(rt;
+        site.record().starts_with(&[
+            Kept::Wrote {
+                file: 1,
+                at: 0,
+                size: 1
+            },
+            Kept::Byte(0x00),
+            Kept::Synced { file: 1 },
+            Kept::Wrote {
+                file: 1,
+                at: 1,
+                size: 33
+            },
+            Kept::Byte(b'N'),
+        ])
+    );
     let log = open_rested(&rt, alloc, &mut site).log;
     let log = commit(alloc, &mut site, log, &PAYLOAD)?;
     assert_eq!(rt; log.gate, 76);
