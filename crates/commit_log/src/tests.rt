@@ -371,8 +371,8 @@ fn a_format_stops_at_each_device_call(rt: HostRuntime) -> Result<(), Fail> {
     for (bytes, closes, opens, stops) in [
         // length, write, sync, write, sync, write, sync
         (b"".as_slice(), 0, 7, [2, 3, 3, 5, 5, 7, 7, 8].as_slice()),
-        // length, read, write, sync, write, sync
-        (&closed, 0, 5, &[2, 2, 3, 3, 5, 5, 6]),
+        // length, read, sync, write, sync, write, sync
+        (&closed, 0, 6, &[2, 2, 2, 4, 4, 6, 6, 7]),
         // length, read, write, sync, write, sync, write, sync
         (&ONE_FRAME, 3, 7, &[2, 2, 3, 3, 5, 5, 7, 7, 8]),
     ] {
