@@ -56,6 +56,7 @@ pub fn read_log<V: Site>(alloc: Global, site: &mut V, file: u32) -> Result<Opene
     ensures opens { V.tells → OpensAs (content_of file (V.history site.old)) file (V.history site.new) result }
     ensures synced { V.tells → OnOk result (V.history site.new ≡ on file synced ∷ V.history site.old) }
     ensures synced_fresh { V.tells → result ≡ Err OpenError.Fresh → V.history site.new ≡ on file synced ∷ V.history site.old }
+    ensures place { IfOk result (λ found. found.log.file ≡ file) }
     ensures fault { result ≡ Err OpenError.SiteFault → HasRisen (V.disk_faults site.old) (V.disk_faults site.new) }
     ensures later { V.disk_faults site.old ≤ V.disk_faults site.new }
     ensures say_faults { V.say_faults site.new ≡ V.say_faults site.old }

@@ -1,3 +1,6 @@
+pub mod Behind
 pub mod Lines
 pub mod Members
+pub mod Progress
+pub mod Says
 pub mod Texts

@@ -3,18 +3,37 @@
 //! Each reader takes any bytes, and gives exactly what the definitions in `specs/` say of them, unless memory runs out.
 #![tactic(auto)]
 
+mod activities;
+mod answers;
+mod commit;
+mod data;
+mod digest;
+mod ended;
 mod error;
 mod flow_file;
+mod input;
+mod items;
 mod names;
+mod recovered;
+mod recovery;
+mod replay;
 mod request_file;
+mod state;
 mod text;
+mod told;
+mod trail;
 mod values;
 mod words;
 
+pub use activities::{Activities, Outcome, Table};
+pub use data::{Scalar, Scalars, Value};
+pub use ended::{Cause, FlowFault, FlowPath, PlanPlace};
 pub use flow_file::Flow;
 pub use names::{Key, Name};
-pub use request_file::Requests;
+pub use request_file::{Kind, Requests};
+pub use state::{Found, Label, StartStage, State, WaitStage};
 pub use text::{Text, TextError};
+pub use trail::{Entry, Trail};
 
 #[cfg(test)]
 mod tests;

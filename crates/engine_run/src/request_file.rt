@@ -22,8 +22,10 @@ pub struct Requests {
 
 /// Which of the two requests it is.
 #[derive(Clone, Copy, Debug, PartialEq, Eq)]
-enum Kind {
+pub enum Kind {
+    /// Request 1 starts the flow.
     Start,
+    /// Request 2 waits for its end.
     Wait,
 }
 
@@ -60,7 +62,8 @@ fn is_blank(line: &[u8]) -> bool
         .all(|byte| *byte == b' ' || *byte == b'\t' || *byte == b'\r')
 }
 
-fn behind<'t>(bytes: &'t [u8], front: &[u8]) -> Option<&'t [u8]>
+/// What stands behind a front that the bytes begin with.
+pub(crate) fn behind<'t>(bytes: &'t [u8], front: &[u8]) -> Option<&'t [u8]>
     ensures { option_map (λ rest. rest.now) result ≡ behind front.now bytes.now }
 {
     bytes.strip_prefix(front)

@@ -2,7 +2,7 @@
 use Rattle.std.proofs.Common.{◌≡◌, ◌≢◌, ◌==◌, inl, inr, ℕ, zero, suc, ◌+◌, ◌<◌, Bool, true, false, cond, List, [], ◌∷◌, ◌++◌, length, drop, refl, sym, ◌∙◌, ap, subst, arith, append_assoc}
 use Rattle.std.proofs.lemmas.Bool.{cases_eq, and_parts, le-leb}
 use Rattle.std.proofs.lemmas.List.{nil_from_length, append-nil, drop_all}
-use Rattle.site_model.specs.History.{Step, Change, on, said, wrote, synced, changes_of, reads, content_of, put, Leaves, IsImage, writes_inside, saying, tape}
+use Rattle.site_model.specs.History.{Step, Change, on, said, wrote, synced, changes_of, reads, content_of, put, Leaves, IsImage, writes_inside, saying, tape, IsKept}
 use Rattle.site_model.proofs.Paths.{own_change, other_change}
 use Rattle.site_memory.specs.Record.{AllInside, grown}
 use Rattle.site_memory.specs.Picked.{picked}
@@ -15,7 +15,7 @@ use Rattle.site_memory.proofs.Picked.{picked_leaves}
 -- the start
 
 pub start_empty : (pick : Pick) (old : List Step) → IsStart pick old [] []
-start_empty pick old = record { files = λ file. inr (refl, refl); no_tape = refl; inside = λ file. refl }
+start_empty pick old = record { files = λ file. inr (refl, refl); no_tape = refl; inside = λ file. refl; kept = λ file image left. left }
 
 -- the walk goes on by a step of another kind, or of a file that has its image
 start_walked : (pick : Pick) (old walked further new : List Step) → IsStart pick old walked new
@@ -24,6 +24,7 @@ start_walked pick old walked further new is on_further = record {
   files = λ file. elim (is.files file) [ inl left ↦ inl left | inr none ↦ inr (none.0, on_further file none.0 none.1) ];
   no_tape = is.no_tape;
   inside = is.inside;
+  kept = is.kept;
 }
 
 pub start_said : (pick : Pick) (byte : ℕ) (old walked new : List Step) → IsStart pick old walked new → IsStart pick old (said byte ∷ walked) new
@@ -74,6 +75,15 @@ inside_started file bytes new inside =
     (both (both (le-leb 0 (length (content_of file new)) (omega arith)) (le-leb (length bytes) (length bytes) (omega arith))) (inside file)) in
     inside_on file synced (on file (wrote 0 (length bytes) bytes) ∷ new) written (written file)
 
+kept_started : (file : ℕ) (bytes : List ℕ) (new : List Step) → ((other : ℕ) → IsKept (changes_of other new))
+    → (other : ℕ) → IsKept (changes_of other (started file bytes new))
+kept_started file bytes new kept other = elim (cases_eq other file) [
+  | inl own ↦
+      subst (λ (f : ℕ). IsKept (changes_of f (started file bytes new))) (sym own)
+      (subst (λ (cs : List Change). IsKept cs) (sym (own_change file synced (on file (wrote 0 (length bytes) bytes) ∷ new))) (λ image left. left))
+  | inr apart ↦ subst (λ (cs : List Change). IsKept cs) (sym (changes_started other file bytes new apart)) (kept other)
+]
+
 pub start_added : (pick : Pick) (file : ℕ) (change : Change) (bytes : List ℕ) (old walked new newer : List Step) → length (changes_of file new) ≡ 0
     → bytes ≡ picked pick (changes_of file old) → newer ≡ started file bytes new
     → IsStart pick old walked new → IsStart pick old (on file change ∷ walked) newer
@@ -88,6 +98,7 @@ start_added pick file change bytes old walked new newer none left same is = subs
   ];
   no_tape = is.no_tape;
   inside = inside_started file bytes new is.inside;
+  kept = kept_started file bytes new is.kept;
 })
 
 picked_none : (pick : Pick) → picked pick [] ≡ []
@@ -111,6 +122,11 @@ pub start_image : (pick : Pick) (old newer : List Step) → AllInside old
 start_image pick old newer inside is = record {
   each = λ file. subst (λ (l : List ℕ). Leaves (changes_of file old) l) (sym (is file)) (picked_leaves pick (changes_of file old) (inside file));
 }
+
+pub start_kept : (pick : Pick) (line : List ℕ) (old new newer : List Step) → newer ≡ saying line new → IsStart pick old old new
+    → (file : ℕ) → IsKept (changes_of file newer)
+start_kept pick line old new newer same is file =
+    subst (λ (cs : List Change). IsKept cs) (sym (ap (λ (s : List Step). changes_of file s) same ∙ changes_saying file line new)) (is.kept file)
 
 tape-saying : (line : List ℕ) (steps : List Step) → tape (saying line steps) ≡ tape steps ++ line
 tape-saying [] steps = sym (append-nil (tape steps))

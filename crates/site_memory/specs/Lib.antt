@@ -1,3 +1,4 @@
+pub mod Kinds
 pub mod Memory
 pub mod Picked
 pub mod Place

@@ -1,7 +1,9 @@
 -- What a site in memory is seen as.
-use Rattle.std.specs.Prelude.{ℕ, List}
+use Rattle.std.specs.Prelude.{ℕ, List, slice_index}
 use Rattle.site_model.specs.History.{Step}
 use Rattle.site_memory.specs.declared.memory.MemorySite.{MemorySite}
+use Rattle.site_memory.specs.declared.plan.Kind.{Kind}
+use Rattle.site_memory.specs.Kinds.{slot_of}
 use Rattle.site_memory.specs.Record.{history_of}
 
 -- what has happened so far, the newest step first
@@ -31,3 +33,7 @@ bytes_at_first site = site.bytes
 -- how many writes, syncs and lines it was made with room for
 abbrev pub calls_at_first : MemorySite → ℕ
 calls_at_first site = site.calls
+
+-- how many calls of a kind there were
+abbrev pub calls_of : Kind → MemorySite → ℕ
+calls_of kind site = slice_index site.plan.calls (slot_of kind)

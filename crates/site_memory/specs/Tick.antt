@@ -9,3 +9,7 @@ tick_latest clock = clock.latest
 -- how often it has failed
 abbrev pub tick_faults : TickClock → ℕ
 tick_faults clock = clock.faults
+
+-- the moment that it stands at
+abbrev pub tick_at : TickClock → ℕ
+tick_at clock = clock.at

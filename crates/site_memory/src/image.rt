@@ -1,6 +1,6 @@
 // The start of a site from what a crash leaves of another.
 ghost use Rattle.std.specs.Prelude.{◌≡◌, ◌≤◌, ◌∷◌, ℕ, List, length, take, IfOk, OnOk};
-ghost use Rattle.site_model.specs.History.{Step, Change, IsImage, on, wrote, synced, changes_of, content_of, back_to, saying, tape};
+ghost use Rattle.site_model.specs.History.{Step, Change, IsImage, IsKept, on, wrote, synced, changes_of, content_of, back_to, saying, tape};
 ghost use Rattle.site_memory.specs.Picked.{picked};
 ghost use Rattle.site_memory.specs.Record.{AllInside, history_of, next};
 ghost use Rattle.site_memory.specs.Start.{IsStart};
@@ -16,6 +16,7 @@ pub(crate) fn image_of(alloc: Global, kept: &[Kept], pick: Pick) -> Result<Vec<K
     requires { AllInside (history_of kept.now) }
     ensures picked { IfOk result (λ made. (file : ℕ) → content_of file (history_of made.items) ≡ picked pick (changes_of file (history_of kept.now))) }
     ensures image { IfOk result (λ made. IsImage (history_of kept.now) (λ file. content_of file (history_of made.items))) }
+    ensures kept { IfOk result (λ made. (file : ℕ) → IsKept (changes_of file (history_of made.items))) }
     ensures tape { IfOk result (λ made. tape (history_of made.items) ≡ tape (history_of kept.now)) }
     ensures inside { IfOk result (λ made. AllInside (history_of made.items)) }
 {

@@ -1,9 +1,10 @@
 // The site in memory.
 ghost use Rattle.std.specs.Prelude.{◌≡◌, ◌⊎◌, ◌+◌, ◌≤◌, ◌<◌, ◌∷◌, [], ℕ, length, IfOk, OnOk, OnErr};
-ghost use Rattle.site_model.specs.History.{IsImage, on, wrote, synced, changes_of, content_of, tape, back_to};
+ghost use Rattle.site_model.specs.History.{IsImage, IsKept, on, wrote, synced, changes_of, content_of, tape, back_to};
 ghost use Rattle.site_memory.specs.Picked.{picked};
 ghost use Rattle.site_memory.specs.Record.{history_of};
-ghost use Rattle.site_memory.specs.Memory.{memory_history, memory_disk_faults, memory_say_faults, bytes_left, calls_left, bytes_at_first, calls_at_first};
+ghost use Rattle.site_memory.specs.declared.plan.Kind.{Kind};
+ghost use Rattle.site_memory.specs.Memory.{memory_history, memory_disk_faults, memory_say_faults, bytes_left, calls_left, bytes_at_first, calls_at_first, calls_of};
 
 use crate::faults::raised;
 use crate::image::{cut, image_of};
@@ -47,6 +48,7 @@ impl MemorySite {
         ensures calls { IfOk result (λ site. calls_left site ≡ calls) }
         ensures bytes_at_first { IfOk result (λ site. bytes_at_first site ≡ bytes) }
         ensures calls_at_first { IfOk result (λ site. calls_at_first site ≡ calls) }
+        ensures no_calls { IfOk result (λ site. (kind : Kind) → calls_of kind site ≡ 0) }
     {
         let record = Record::new(alloc, bytes, calls)?;
         Ok(MemorySite {
@@ -68,6 +70,7 @@ impl MemorySite {
         ensures calls { OnOk result (calls_left self.new + 2 ≡ calls_left self.old) }
         ensures disk_faults { memory_disk_faults self.new ≡ memory_disk_faults self.old }
         ensures say_faults { memory_say_faults self.new ≡ memory_say_faults self.old }
+        ensures no_calls { (kind : Kind) → calls_of kind self.new ≡ calls_of kind self.old }
         ensures no_room { OnErr result ((bytes_left self.old < length bytes.now) ⊎ (calls_left self.old < 2)) }
         ensures unchanged { OnErr result (self.new ≡ self.old) }
     {
@@ -93,11 +96,13 @@ impl MemorySite {
     pub fn image(&self, alloc: Global, moment: u64, pick: Pick) -> Result<MemorySite, AllocError>
         ensures picked { IfOk result (λ site. (file : ℕ) → content_of file (memory_history site) ≡ picked pick (changes_of file (back_to moment (memory_history self.now)))) }
         ensures image { IfOk result (λ site. IsImage (back_to moment (memory_history self.now)) (λ file. content_of file (memory_history site))) }
+        ensures kept { IfOk result (λ site. (file : ℕ) → IsKept (changes_of file (memory_history site))) }
         ensures tape { IfOk result (λ site. tape (memory_history site) ≡ tape (back_to moment (memory_history self.now))) }
         ensures disk_faults { IfOk result (λ site. memory_disk_faults site ≡ 0) }
         ensures say_faults { IfOk result (λ site. memory_say_faults site ≡ 0) }
         ensures bytes { IfOk result (λ site. bytes_left site ≡ bytes_at_first self.now) }
         ensures calls { IfOk result (λ site. calls_left site ≡ calls_at_first self.now) }
+        ensures no_calls { IfOk result (λ site. (kind : Kind) → calls_of kind site ≡ 0) }
     {
         let end = cut(&self.record.kept, moment);
         let kept = image_of(alloc, &self.record.kept[..end], pick)?;
@@ -131,7 +136,9 @@ impl MemorySite {
     }
 
     /// How many calls of this kind there were, up to the last `u64`.
-    pub fn calls(&self, kind: Kind) -> u64 {
+    pub fn calls(&self, kind: Kind) -> u64
+        ensures { result ≡ calls_of kind self.now }
+    {
         self.plan.calls(kind)
     }
 }

@@ -1,5 +1,7 @@
 // Which calls fail.
-ghost use Rattle.std.specs.Prelude.{◌<◌};
+ghost use Rattle.std.specs.Prelude.{◌≡◌, ◌<◌, slice_index};
+ghost use Rattle.site_memory.specs.Kinds.{slot_of};
+ghost use Rattle.site_memory.specs.declared.plan.Kind.{Kind};
 
 /// A kind of call.
 #[derive(Clone, Copy, Debug, PartialEq, Eq)]
@@ -21,14 +23,18 @@ pub(crate) struct Plan {
 }
 
 impl Plan {
-    pub(crate) fn new(fails: Vec<(Kind, u64)>) -> Plan {
+    pub(crate) fn new(fails: Vec<(Kind, u64)>) -> Plan
+        ensures { (kind : Kind) → slice_index result.calls (slot_of kind) ≡ 0 }
+    {
         Plan {
             fails,
             calls: [0; 6],
         }
     }
 
-    pub(crate) fn calls(&self, kind: Kind) -> u64 {
+    pub(crate) fn calls(&self, kind: Kind) -> u64
+        ensures { result ≡ slice_index self.now.calls (slot_of kind) }
+    {
         self.calls[slot(kind)]
     }
 
@@ -51,7 +57,8 @@ impl Plan {
 }
 
 fn slot(kind: Kind) -> usize
-    ensures { result < 6 }
+    ensures value { result ≡ slot_of kind }
+    ensures bound { result < 6 }
 {
     match kind {
         Kind::Length => 0,

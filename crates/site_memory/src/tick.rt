@@ -1,5 +1,6 @@
 // The clock in memory.
-ghost use Rattle.std.specs.Prelude.{◌≡◌, ◌≤◌, ◌<◌, ◌^◌};
+ghost use Rattle.std.specs.Prelude.{◌≡◌, ◌≤◌, ◌<◌, ◌^◌, max, IfOk, OnErr};
+ghost use Rattle.site_model.specs.Calls.{HasCause};
 
 use crate::faults::raised;
 use site_model::{Clock, Failed, LAST_MOMENT};
@@ -18,11 +19,12 @@ pub struct TickClock {
 }
 
 impl TickClock {
-    ghost use Rattle.site_memory.specs.Tick.{tick_latest, tick_faults};
+    ghost use Rattle.site_memory.specs.Tick.{tick_at, tick_latest, tick_faults};
 
     /// A clock at this moment. The calls with these numbers fail, counted from 0 over both kinds.
     pub fn new(at: u64, fails: Vec<u64>) -> TickClock
         requires { at ≤ LAST_MOMENT }
+        ensures at { tick_at result ≡ at }
         ensures latest { tick_latest result ≡ 0 }
         ensures faults { tick_faults result ≡ 0 }
     {
@@ -58,13 +60,20 @@ fn call(calls: &mut u64, fails: &[u64]) -> bool {
 }
 
 impl Clock for TickClock {
-    ghost use Rattle.site_memory.specs.Tick.{tick_latest, tick_faults};
+    ghost use Rattle.site_memory.specs.Tick.{tick_at, tick_latest, tick_faults};
 
     ghost latest = { tick_latest };
 
     ghost clock_faults = { tick_faults };
 
-    fn now(&mut self) -> Result<u64, Failed> {
+    fn now(&mut self) -> Result<u64, Failed>
+        ensures range { IfOk result (λ t. t ≤ LAST_MOMENT) }
+        ensures latest { IfOk result (λ t. tick_latest self.new ≡ max (tick_latest self.old) t) }
+        ensures failed { OnErr result (tick_latest self.new ≡ tick_latest self.old) }
+        ensures cause { HasCause (tick_faults self.old) (tick_faults self.new) result }
+        ensures at { IfOk result (λ t. t ≡ tick_at self.old) }
+        ensures stays { tick_at self.new ≡ tick_at self.old }
+    {
         if call(&mut self.calls, &self.fails) {
             self.faults = raised(self.faults);
             return Err(Failed);
@@ -73,7 +82,17 @@ impl Clock for TickClock {
         Ok(self.at)
     }
 
-    fn wait_until(&mut self, moment: u64) -> Result<u64, Failed> {
+    fn wait_until(&mut self, moment: u64) -> Result<u64, Failed>
+        requires { moment ≤ LAST_MOMENT }
+        ensures reached { IfOk result (λ t. moment ≤ t) }
+        ensures range { IfOk result (λ t. t ≤ LAST_MOMENT) }
+        ensures latest { IfOk result (λ t. tick_latest self.new ≡ max (tick_latest self.old) t) }
+        ensures failed { OnErr result (tick_latest self.new ≡ tick_latest self.old) }
+        ensures cause { HasCause (tick_faults self.old) (tick_faults self.new) result }
+        ensures at { IfOk result (λ t. t ≡ max (tick_at self.old) moment) }
+        ensures moved { IfOk result (λ t. tick_at self.new ≡ t) }
+        ensures stays { OnErr result (tick_at self.new ≡ tick_at self.old) }
+    {
         if call(&mut self.calls, &self.fails) {
             self.faults = raised(self.faults);
             return Err(Failed);

@@ -16,7 +16,12 @@ pub enum FrontError {
 }
 
 /// The first `most` bytes of a file, or all where it has fewer, by one read.
-pub fn read_front<V: Site>(alloc: Global, site: &mut V, file: u32, most: u64) -> Result<Vec<u8>, FrontError>
+pub fn read_front<V: Site>(
+    alloc: Global,
+    site: &mut V,
+    file: u32,
+    most: u64,
+) -> Result<Vec<u8>, FrontError>
     ensures front { V.tells → IfOk result (λ v. v.items ≡ take most (content_of file (V.history site.old))) }
     ensures unchanged { V.history site.new ≡ V.history site.old }
     ensures later { V.disk_faults site.old ≤ V.disk_faults site.new }

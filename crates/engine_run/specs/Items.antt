@@ -1,0 +1,44 @@
+-- How labels are spelled in a log. Numbers are big-endian.
+use Rattle.std.specs.Prelude.{ℕ, ◌+◌, List, [], ◌∷◌, ◌++◌, length}
+use Rattle.std.specs.Int.{w16, w32, w64, to_be_bytes}
+use Rattle.engine_run.specs.declared.request_file.Kind.TheVariants as kinds
+use Rattle.engine_run.specs.declared.state.Label.{Label}
+use Rattle.engine_run.specs.declared.state.Label.TheVariants.{Take, ToInstance, ToClient, Finish}
+use Rattle.engine_run.specs.declared.input.Input.{Input}
+
+-- a name or a key behind its length
+abbrev pub word_bytes : List ℕ → List ℕ
+word_bytes word = length word ∷ word
+
+-- the client, and the instance
+abbrev pub client_id : Input → List ℕ
+client_id input = 3 ∷ word_bytes input.requests.client
+
+abbrev pub instance_id : Input → List ℕ
+instance_id input = 1 ∷ word_bytes input.flow.name ++ word_bytes input.requests.key
+
+-- start with null, answered as request 1
+abbrev pub start_body : List ℕ
+start_body = 16 ∷ 0 ∷ 2 ∷ to_be_bytes w32 1
+
+-- wait, as request 2
+abbrev pub wait_body : List ℕ
+wait_body = 19 ∷ to_be_bytes w32 2
+
+-- done with the sum, an integer
+abbrev pub sum_answer : Input → List ℕ
+sum_answer input = 0 ∷ 3 ∷ to_be_bytes w64 (input.flow.left + input.flow.right)
+
+abbrev pub item_bytes : Input → Label → List ℕ
+item_bytes input (Take kinds.Start) = 32 ∷ client_id input ++ instance_id input ++ start_body
+item_bytes input (Take kinds.Wait) = 32 ∷ client_id input ++ instance_id input ++ wait_body
+item_bytes input (ToInstance stamp) = 34 ∷ client_id input ++ instance_id input ++ to_be_bytes w64 stamp
+item_bytes input (ToClient stamp) = 34 ∷ instance_id input ++ client_id input ++ to_be_bytes w64 stamp
+item_bytes input Finish = 35 ∷ instance_id input ++ to_be_bytes w32 0 ++ sum_answer input
+
+-- an entry of one item, and a frame of one entry
+abbrev pub entry_bytes : Input → ℕ → ℕ → Label → List ℕ
+entry_bytes input position incarnation label = to_be_bytes w64 position ++ to_be_bytes w64 incarnation ++ to_be_bytes w16 1 ++ item_bytes input label
+
+abbrev pub payload_bytes : Input → ℕ → ℕ → Label → List ℕ
+payload_bytes input position incarnation label = to_be_bytes w16 1 ++ entry_bytes input position incarnation label

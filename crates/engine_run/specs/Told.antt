@@ -1,0 +1,53 @@
+-- What a run says.
+use Rattle.std.specs.Prelude.{◌≡◌, ℕ, List, [], ◌++◌, Option, Some, None, true, Result, Ok, Err, Bool, false}
+use Rattle.engine_run.specs.declared.input.Input.{Input}
+use Rattle.engine_run.specs.declared.state.StartStage.TheVariants as starts
+use Rattle.engine_run.specs.declared.state.WaitStage.TheVariants as waits
+use Rattle.engine_run.specs.declared.state.Found.{Found}
+use Rattle.engine_run.specs.declared.state.State.{State}
+use Rattle.engine_run.specs.declared.ended.Cause.{Cause}
+use Rattle.engine_run.specs.declared.ended.Cause.TheVariants.{SayFault, Memory}
+use Rattle.engine_run.specs.declared.told.Told.{Told}
+use Rattle.engine_run.specs.declared.told.Told.TheVariants.{Nothing, Start, Both}
+use Rattle.engine_run.specs.Lines.{start_line, wait_line}
+
+-- the lines said so far
+abbrev pub said_of : Input → Told → List ℕ
+said_of input Nothing = []
+said_of input Start = start_line input
+said_of input (Both found) = start_line input ++ wait_line input found
+
+abbrev pub is_start_told : Told → Bool
+is_start_told Nothing = false
+is_start_told Start = true
+is_start_told (Both found) = true
+
+-- only what the client was answered is said
+abbrev pub TellsRightly : State → Told → Type 0
+TellsRightly s Nothing = Unit {0}
+TellsRightly s Start = s.start ≡ starts.Answered
+TellsRightly s (Both found) = (s.start ≡ starts.Answered) × (s.wait ≡ waits.Answered found)
+
+-- and all of it
+abbrev pub TellsAll : State → Told → Type 0
+TellsAll s Nothing = s.start ≡ starts.Answered → ⊥
+TellsAll s Start = (found : Found) → s.wait ≡ waits.Answered found → ⊥
+TellsAll s (Both found) = Unit {0}
+
+abbrev pub IsFront : List ℕ → List ℕ → Type 0
+IsFront front whole = (rest : List ℕ) × (whole ≡ front ++ rest)
+
+-- what was said is a front of the two lines, with one of the answers that the wait may have
+abbrev pub IsSaidFront : Input → List ℕ → Type 0
+IsSaidFront input said = (found : Found) × IsFront said (said_of input (Both found))
+
+-- what stands on the tape behind what stood there before this run
+abbrev pub TapeAfter : Input → List ℕ → List ℕ → Result Told Cause → Type 0
+TapeAfter input before now (Ok told) = now ≡ before ++ said_of input told
+TapeAfter input before now (Err cause) = (part : List ℕ) × (now ≡ before ++ part) × IsSaidFront input part
+
+-- a fault of the tape, or want of memory
+abbrev pub IsSaying : Cause → Type 0
+IsSaying SayFault = Unit {0}
+IsSaying Memory = Unit {0}
+IsSaying other = ⊥

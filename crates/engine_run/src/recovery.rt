@@ -1,0 +1,123 @@
+//! Opening the log of the partition, and what its labels made.
+
+ghost use Rattle.std.specs.Prelude.{◌≡◌, ◌≤◌, Err, IfOk, IfErr, OnErr};
+ghost use Rattle.site_model.specs.History.{changes_of, content_of, tape, IsKept};
+ghost use Rattle.site_model.specs.Calls.{HasRisen};
+ghost use Rattle.commit_log.specs.States.{Rests};
+ghost use Rattle.engine_run.specs.State.{fresh_state};
+ghost use Rattle.engine_run.specs.Recovery.{IsRefused, IsOpening, Recovers};
+
+use crate::ended::Cause;
+use crate::error::ReadError;
+use crate::input::Input;
+use crate::recovered::Recovered;
+use crate::replay::replay_all;
+use crate::state::State;
+use commit_log::{Header, OpenError, Opened, Resting, read_log};
+use site_model::Site;
+use std::alloc::Global;
+
+/// The file of the partition's log.
+const LOG: u32 = 16;
+
+/// No log of this form of input comes to this length: it has seven frames at the most.
+const LONG: u64 = 1 << 20;
+
+fn damaged() -> Cause
+    ensures { result ≡ Cause.Damaged LOG 0 }
+{
+    Cause::Damaged {
+        file: LOG,
+        offset: 0,
+    }
+}
+
+/// Whether a log is this partition's, and of this flow file.
+fn is_ours(header: &Header, input: &Input) -> bool {
+    header.partition == 0
+        && header.partitions == 1
+        && header.digest == input.digest
+        && header.base == 0
+}
+
+/// What an open log holds.
+fn recover_opened(alloc: Global, input: &Input, opened: Opened) -> Result<Recovered, Cause>
+    ensures log { IfOk result (λ r. r.log ≡ opened.log) }
+    ensures refused { IfErr result IsRefused }
+{
+    let Opened {
+        header,
+        payloads,
+        log,
+    } = opened;
+    if !is_ours(&header, input) || log.gate > LONG {
+        return Err(damaged());
+    }
+    let replay = match replay_all(alloc, input, &payloads) {
+        Ok(replay) => replay,
+        Err(ReadError::Refused) => return Err(damaged()),
+        Err(ReadError::Memory) => return Err(Cause::Memory),
+    };
+    let incarnation = match replay.incarnation {
+        Some(last) => last + 1,
+        None => 0,
+    };
+    Ok(Recovered {
+        state: replay.state,
+        log,
+        position: replay.position,
+        incarnation,
+    })
+}
+
+/// Makes the log of a partition that has none.
+fn make_log<V: Site>(site: &mut V, input: &Input) -> Result<Recovered, Cause>
+    requires { V.tells → IsKept (changes_of LOG (V.history site.old)) }
+    ensures rests { V.tells → IfOk result (λ r. Rests (changes_of r.log.file (V.history site.new)) r.log.gate) }
+    ensures place { IfOk result (λ r. r.log.file ≡ LOG) }
+    ensures fresh { IfOk result (λ r. r.state ≡ fresh_state) }
+    ensures fault { OnErr result ((result ≡ Err Cause.SiteFault) × HasRisen (V.disk_faults site.old) (V.disk_faults site.new)) }
+    ensures tape { V.tells → tape (V.history site.new) ≡ tape (V.history site.old) }
+    ensures later { V.disk_faults site.old ≤ V.disk_faults site.new }
+    ensures say_faults { V.say_faults site.new ≡ V.say_faults site.old }
+{
+    let header = Header {
+        partition: 0,
+        partitions: 1,
+        digest: input.digest,
+        base: 0,
+    };
+    match Resting::format(site, LOG, header) {
+        Ok(log) => Ok(Recovered {
+            state: State::fresh(),
+            log,
+            position: 0,
+            incarnation: 0,
+        }),
+        Err(_) => Err(Cause::SiteFault),
+    }
+}
+
+/// Opens the log, or makes it where there is none.
+pub(crate) fn recover<V: Site>(
+    alloc: Global,
+    site: &mut V,
+    input: &Input,
+) -> Result<Recovered, Cause>
+    ensures recovers { V.tells → Recovers (content_of LOG (V.history site.old)) result }
+    ensures rests { V.tells → IfOk result (λ r. Rests (changes_of r.log.file (V.history site.new)) r.log.gate) }
+    ensures place { IfOk result (λ r. r.log.file ≡ LOG) }
+    ensures outside { IfErr result IsOpening }
+    ensures fault { result ≡ Err Cause.SiteFault → HasRisen (V.disk_faults site.old) (V.disk_faults site.new) }
+    ensures tape { V.tells → tape (V.history site.new) ≡ tape (V.history site.old) }
+    ensures later { V.disk_faults site.old ≤ V.disk_faults site.new }
+    ensures say_faults { V.say_faults site.new ≡ V.say_faults site.old }
+{
+    match read_log(alloc, site, LOG) {
+        Ok(opened) => recover_opened(alloc, input, opened),
+        Err(OpenError::Fresh) => make_log(site, input),
+        Err(OpenError::Damaged { .. }) => Err(damaged()),
+        Err(OpenError::SiteFault) => Err(Cause::SiteFault),
+        Err(OpenError::Memory) => Err(Cause::Memory),
+    }
+}

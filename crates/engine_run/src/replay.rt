@@ -1,0 +1,284 @@
+//! Reading the labels of a log, and applying them.
+
+ghost use Rattle.std.specs.Prelude.{◌≡◌, ◌+◌, ◌≤◌, ◌<◌, ◌^◌, ◌++◌, length, None, IsTrue, IfOk, IfSome};
+ghost use Rattle.engine_run.specs.Items.{item_bytes};
+ghost use Rattle.engine_run.specs.State.{stamp_of, work, IsSound, fresh_state};
+
+use crate::error::ReadError;
+use crate::input::Input;
+use crate::items::put_item;
+use crate::request_file::{Kind, behind};
+use crate::state::{Label, State};
+use commit_log::Payload;
+use std::alloc::{AllocError, Global};
+
+/// The moments that no clock gives.
+const MOMENTS: u64 = 1 << 63;
+
+/// The incarnations that no file has.
+const INCARNATIONS: u64 = 1 << 61;
+
+/// The most entries of a frame, and items of an entry.
+const MOST: u16 = 64;
+
+/// How far a log was read.
+#[derive(Clone, Copy, Debug)]
+pub(crate) struct Replay {
+    /// What its labels made.
+    pub(crate) state: State,
+    /// The position of the next entry.
+    pub(crate) position: u64,
+    /// The incarnation of the entry before, where there is one.
+    pub(crate) incarnation: Option<u64>,
+    ghost sound: { IsSound state },
+    ghost short: { position + work state ≤ 8 },
+}
+
+fn u16_at(bytes: &[u8]) -> Result<(u16, &[u8]), ReadError>
+    ensures { IfOk result (λ found. length found.1.now + 2 ≡ length bytes.now) }
+{
+    if bytes.len() < 2 {
+        return Err(ReadError::Refused);
+    }
+    let (front, rest) = bytes.split_at(2);
+    Ok((u16::from_be_bytes([front[0], front[1]]), rest))
+}
+
+fn u64_at(bytes: &[u8]) -> Result<(u64, &[u8]), ReadError>
+    ensures { IfOk result (λ found. length found.1.now + 8 ≡ length bytes.now) }
+{
+    if bytes.len() < 8 {
+        return Err(ReadError::Refused);
+    }
+    let (front, rest) = bytes.split_at(8);
+    let number = u64::from_be_bytes([
+        front[0], front[1], front[2], front[3], front[4], front[5], front[6], front[7],
+    ]);
+    Ok((number, rest))
+}
+
+/// A count from 1 to 64.
+fn count_at(bytes: &[u8]) -> Result<(u16, &[u8]), ReadError>
+    ensures { IfOk result (λ found. (1 ≤ found.0) × (found.0 ≤ 64)) }
+{
+    let (count, rest) = match u16_at(bytes) {
+        Ok(found) => found,
+        Err(error) => return Err(error),
+    };
+    if count == 0 || count > MOST {
+        return Err(ReadError::Refused);
+    }
+    Ok((count, rest))
+}
+
+/// The bytes behind the item of a label, which they begin with.
+fn behind_item<'b>(
+    alloc: Global,
+    input: &Input,
+    label: Label,
+    bytes: &'b [u8],
+) -> Result<Option<&'b [u8]>, AllocError>
+    ensures { IfOk result (λ found. IfSome found (λ rest. bytes.now ≡ item_bytes input.now label ++ rest.now)) }
+{
+    let mut item = Vec::with_capacity(alloc, 206)?;
+    put_item(&mut item, input, label)?;
+    let found = behind(bytes, item.as_slice());
+    Ok(found)
+}
+
+/// The moment that the item of a delivery ends with, where the bytes are long enough.
+fn stamp_in(input: &Input, bytes: &[u8]) -> Option<u64>
+    ensures { IfSome result (λ stamp. stamp < 2 ^ 63) }
+{
+    let words = input.requests.client.as_bytes().len()
+        + input.flow.name.as_bytes().len()
+        + input.requests.key.as_bytes().len();
+    let at = words + 6;
+    if bytes.len() < at + 8 {
+        return None;
+    }
+    let stamp = match u64_at(&bytes[at..]) {
+        Ok((stamp, _)) => stamp,
+        Err(_) => return None,
+    };
+    if stamp < MOMENTS { Some(stamp) } else { None }
+}
+
+/// The label whose item the bytes may begin with, by the item's tags.
+fn label_of(input: &Input, bytes: &[u8]) -> Option<Label>
+    ensures { IfSome result (λ label. stamp_of label < 2 ^ 63) }
+{
+    match bytes {
+        [0x20, .., _] => Some(Label::Take(Kind::Start)),
+        [0x22, 3, ..] => match stamp_in(input, bytes) {
+            Some(stamp) => Some(Label::ToInstance(stamp)),
+            None => None,
+        },
+        [0x22, 1, ..] => match stamp_in(input, bytes) {
+            Some(stamp) => Some(Label::ToClient(stamp)),
+            None => None,
+        },
+        [0x23, ..] => Some(Label::Finish),
+        _ => None,
+    }
+}
+
+/// The first item, and the bytes behind it.
+fn read_item<'b>(
+    alloc: Global,
+    input: &Input,
+    bytes: &'b [u8],
+) -> Result<(Label, &'b [u8]), ReadError>
+    ensures item { IfOk result (λ found. bytes.now ≡ item_bytes input.now found.0 ++ found.1.now) }
+    ensures stamp { IfOk result (λ found. stamp_of found.0 < 2 ^ 63) }
+{
+    let label = match label_of(input, bytes) {
+        Some(label) => label,
+        None => return Err(ReadError::Refused),
+    };
+    if let Some(rest) = behind_item(alloc, input, label, bytes)? {
+        return Ok((label, rest));
+    }
+    let wait = Label::Take(Kind::Wait);
+    match behind_item(alloc, input, wait, bytes)? {
+        Some(rest) => Ok((wait, rest)),
+        None => Err(ReadError::Refused),
+    }
+}
+
+/// The items of an entry, applied one after another.
+fn read_items<'b>(
+    alloc: Global,
+    input: &Input,
+    first: State,
+    count: u16,
+    bytes: &'b [u8],
+) -> Result<(State, &'b [u8]), ReadError>
+    requires { IsSound first }
+    ensures sound { IfOk result (λ found. IsSound found.0) }
+    ensures work { IfOk result (λ found. work found.0 + count ≤ work first) }
+{
+    let mut state = first;
+    let mut rest = bytes;
+    for done in 0..count {
+        let (label, behind) = match read_item(alloc, input, rest) {
+            Ok(found) => found,
+            Err(error) => return Err(error),
+        };
+        state = match state.apply(label) {
+            Some(next) => next,
+            None => return Err(ReadError::Refused),
+        };
+        rest = behind;
+    }
+    Ok((state, rest))
+}
+
+/// Whether an entry of this incarnation may follow.
+fn may_follow(before: Option<u64>, incarnation: u64) -> bool
+    ensures { IsTrue result → incarnation < 2 ^ 61 }
+{
+    if incarnation >= INCARNATIONS {
+        return false;
+    }
+    match before {
+        Some(least) => least <= incarnation,
+        None => true,
+    }
+}
+
+/// An entry: its position is the next one, and its incarnation isn't below the one before.
+fn read_entry<'b>(
+    alloc: Global,
+    input: &Input,
+    replay: Replay,
+    bytes: &'b [u8],
+) -> Result<(Replay, &'b [u8]), ReadError>
+    ensures { IfOk result (λ found. IfSome found.0.incarnation (λ i. i < 2 ^ 61)) }
+{
+    let (position, rest) = match u64_at(bytes) {
+        Ok(found) => found,
+        Err(error) => return Err(error),
+    };
+    let (incarnation, rest) = match u64_at(rest) {
+        Ok(found) => found,
+        Err(error) => return Err(error),
+    };
+    if position != replay.position || !may_follow(replay.incarnation, incarnation) {
+        return Err(ReadError::Refused);
+    }
+    let (count, rest) = match count_at(rest) {
+        Ok(found) => found,
+        Err(error) => return Err(error),
+    };
+    let (state, rest) = match read_items(alloc, input, replay.state, count, rest) {
+        Ok(found) => found,
+        Err(error) => return Err(error),
+    };
+    let replay = Replay {
+        state,
+        position: position + 1,
+        incarnation: Some(incarnation),
+    };
+    Ok((replay, rest))
+}
+
+/// A payload: the entries of a frame, and nothing behind them.
+fn read_payload(
+    alloc: Global,
+    input: &Input,
+    first: Replay,
+    bytes: &[u8],
+) -> Result<Replay, ReadError>
+    requires { IfSome first.incarnation (λ i. i < 2 ^ 61) }
+    ensures { IfOk result (λ found. IfSome found.incarnation (λ i. i < 2 ^ 61)) }
+{
+    let (count, rest) = match count_at(bytes) {
+        Ok(found) => found,
+        Err(error) => return Err(error),
+    };
+    let mut replay = first;
+    let mut rest = rest;
+    for done in 0..count {
+        let (next, behind) = match read_entry(alloc, input, replay, rest) {
+            Ok(found) => found,
+            Err(error) => return Err(error),
+        };
+        replay = next;
+        rest = behind;
+    }
+    if rest.is_empty() {
+        Ok(replay)
+    } else {
+        Err(ReadError::Refused)
+    }
+}
+
+fn nothing_read() -> Replay
+    ensures { result.incarnation ≡ None }
+{
+    Replay {
+        state: State::fresh(),
+        position: 0,
+        incarnation: None,
+    }
+}
+
+/// The labels of a log's payloads, applied from the fresh state on.
+pub(crate) fn replay_all(
+    alloc: Global,
+    input: &Input,
+    payloads: &[Payload],
+) -> Result<Replay, ReadError>
+    ensures { IfOk result (λ found. IfSome found.incarnation (λ i. i < 2 ^ 61)) }
+{
+    let mut replay = nothing_read();
+    for payload in payloads {
+        let next = match read_payload(alloc, input, replay, payload.as_bytes()) {
+            Ok(next) => next,
+            Err(error) => return Err(error),
+        };
+        replay = next;
+    }
+    Ok(replay)
+}

@@ -1,0 +1,117 @@
+//! Saying answers.
+
+ghost use Rattle.std.specs.Prelude.{◌≡◌, ◌≤◌, ◌<◌, ◌++◌, List, ℕ, length, Err, IfOk, IfErr, OnOk, OnErr};
+ghost use Rattle.site_model.specs.History.{changes_of, tape};
+ghost use Rattle.site_model.specs.Calls.{HasRisen};
+ghost use Rattle.engine_run.specs.Told.{said_of, is_start_told, TellsRightly, TapeAfter, IsFront, IsSaying};
+
+use crate::answers::{start_line, wait_line};
+use crate::ended::Cause;
+use crate::input::Input;
+use crate::state::{Found, StartStage, State, WaitStage};
+use site_model::Site;
+use std::alloc::Global;
+
+/// Which answers were said in this run.
+#[derive(Clone, Copy, Debug, PartialEq, Eq)]
+pub(crate) enum Told {
+    /// None.
+    Nothing,
+    /// The start's.
+    Start,
+    /// The start's, and then the wait's.
+    Both(Found),
+}
+
+impl Told {
+    /// Whether the start's answer was said.
+    pub(crate) fn is_start_told(self) -> bool
+        ensures { result ≡ is_start_told self }
+    {
+        self != Told::Nothing
+    }
+}
+
+/// Says a line.
+#[tactic(auto, using(crate::proofs::Says::said_part, crate::proofs::Says::said_whole, crate::proofs::Says::says_no_file))]
+fn say<V: Site>(site: &mut V, line: &[u8]) -> Result<(), Cause>
+    requires { 0 < length line.now }
+    ensures said { V.tells → OnOk result (tape (V.history site.new) ≡ tape (V.history site.old) ++ line.now) }
+    ensures part { V.tells → (part : List ℕ) × (tape (V.history site.new) ≡ tape (V.history site.old) ++ part) × IsFront part line.now }
+    ensures files { V.tells → (file : ℕ) → changes_of file (V.history site.new) ≡ changes_of file (V.history site.old) }
+    ensures fault { OnErr result ((result ≡ Err Cause.SayFault) × HasRisen (V.say_faults site.old) (V.say_faults site.new)) }
+    ensures later { V.say_faults site.old ≤ V.say_faults site.new }
+    ensures disk_faults { V.disk_faults site.new ≡ V.disk_faults site.old }
+{
+    match site.say(line) {
+        Ok(()) => Ok(()),
+        Err(_) => Err(Cause::SayFault),
+    }
+}
+
+/// Says the start's answer, where it is there and wasn't said.
+fn say_start<V: Site>(
+    alloc: Global,
+    site: &mut V,
+    input: &Input,
+    state: State,
+    told: Told,
+) -> Result<Told, Cause>
+    requires { TellsRightly state told }
+    ensures tape { V.tells → (before : List ℕ) → tape (V.history site.old) ≡ before ++ said_of input.now told → TapeAfter input.now before (tape (V.history site.new)) result }
+    ensures right { IfOk result (TellsRightly state) }
+    ensures all { IfOk result (λ next. next ≡ Told.Nothing → state.start ≡ StartStage.Answered → ⊥) }
+    ensures files { V.tells → (file : ℕ) → changes_of file (V.history site.new) ≡ changes_of file (V.history site.old) }
+    ensures saying { IfErr result IsSaying }
+    ensures fault { result ≡ Err Cause.SayFault → HasRisen (V.say_faults site.old) (V.say_faults site.new) }
+    ensures later { V.say_faults site.old ≤ V.say_faults site.new }
+    ensures disk_faults { V.disk_faults site.new ≡ V.disk_faults site.old }
+{
+    if told != Told::Nothing || state.start != StartStage::Answered {
+        return Ok(told);
+    }
+    let line = match start_line(alloc, input) {
+        Ok(line) => line,
+        Err(_) => return Err(Cause::Memory),
+    };
+    match say(site, &line) {
+        Ok(()) => Ok(Told::Start),
+        Err(cause) => Err(cause),
+    }
+}
+
+/// Says the wait's answer, where it is there and wasn't said, and the start's was.
+fn say_wait<V: Site>(
+    alloc: Global,
+    site: &mut V,
+    input: &Input,
+    state: State,
+    told: Told,
+) -> Result<Told, Cause>
+    requires { TellsRightly state told }
+    ensures tape { V.tells → (before : List ℕ) → tape (V.history site.old) ≡ before ++ said_of input.now told → TapeAfter input.now before (tape (V.history site.new)) result }
+    ensures right { IfOk result (TellsRightly state) }
+    ensures all { IfOk result (λ next. next ≡ Told.Start → (found : Found) → state.wait ≡ WaitStage.Answered found → ⊥) }
+    ensures still { IfOk result (λ next. next ≡ Told.Nothing → told ≡ Told.Nothing) }
+    ensures files { V.tells → (file : ℕ) → changes_of file (V.history site.new) ≡ changes_of file (V.history site.old) }
+    ensures saying { IfErr result IsSaying }
+    ensures fault { result ≡ Err Cause.SayFault → HasRisen (V.say_faults site.old) (V.say_faults site.new) }
+    ensures later { V.say_faults site.old ≤ V.say_faults site.new }
+    ensures disk_faults { V.disk_faults site.new ≡ V.disk_faults site.old }
+{
+    if told != Told::Start {
+        return Ok(told);
+    }
+    let found = match state.wait {
+        WaitStage::Answered(found) => found,
+        _ => return Ok(told),
+    };
+    let line = match wait_line(alloc, input, found) {
+        Ok(line) => line,
+        Err(_) => return Err(Cause::Memory),
+    };
+    match say(site, &line) {
+        Ok(()) => Ok(Told::Both(found)),
+        Err(cause) => Err(cause),
+    }
+}

@@ -1,0 +1,12 @@
+-- Bytes that are said stand behind the tape, and change no file.
+use Rattle.std.proofs.Common.{◌≡◌, ℕ, List, [], ◌∷◌, ◌++◌, refl, sym, ◌∙◌, append_assoc}
+use Rattle.std.proofs.lemmas.List.{append-nil}
+use Rattle.site_model.specs.History.{Step, said, saying, tape, changes_of}
+
+pub tape-saying : (bytes : List ℕ) (steps : List Step) → tape (saying bytes steps) ≡ tape steps ++ bytes
+tape-saying [] steps = sym (append-nil (tape steps))
+tape-saying (byte ∷ bytes) steps = tape-saying bytes (said byte ∷ steps) ∙ append_assoc (tape steps) (byte ∷ []) bytes
+
+pub changes_of-saying : (file : ℕ) (bytes : List ℕ) (steps : List Step) → changes_of file (saying bytes steps) ≡ changes_of file steps
+changes_of-saying file [] steps = refl
+changes_of-saying file (byte ∷ bytes) steps = changes_of-saying file bytes (said byte ∷ steps)
