@@ -3,6 +3,7 @@ use Rattle.std.proofs.Common.{◌≡◌, ◌≢◌, ◌⊎◌, inl, inr, ⊎_eli
 use Rattle.std.proofs.lemmas.Bool.{cases_eq, ne_eqb}
 use Rattle.std.proofs.lemmas.List.{append-nil, take-append-drop}
 use Rattle.site_model.specs.History.{Change, Step, on, wrote, synced, put, reads, changes_of, content_of, Torn, Leaves, IsKept}
+use Rattle.site_model.specs.Calls.{Syncs}
 use Rattle.site_model.specs.Moments.{LeavesOnly}
 use Rattle.site_model.proofs.Paths.{own_change, one_call, stays, leaves_then, leaves_weaker}
 use Rattle.site_model.proofs.Images.{torn_front, torn_within}
@@ -10,6 +11,7 @@ use Rattle.commit_log.specs.declared.header.Header.{Header}
 use Rattle.commit_log.specs.Segment.{fresh, told, segment_at, reading_of, open_gate, header_bytes, segment_bytes, first_gate, FitsHeader}
 use Rattle.commit_log.specs.States.{EndsAt, IsResting, IsClosed, IsClosedContent, IsHeaded, IsClosing, IsOpening, IsFormatting, HasFrames}
 use Rattle.commit_log.specs.Writing.{WritesSafely}
+use Rattle.commit_log.proofs.Steps.{synced_changes}
 use Rattle.commit_log.proofs.Written.{reads_closed, length-segment}
 
 -- a write and its sync: what holds of each image of the three histories that there may be holds at each moment
@@ -106,8 +108,21 @@ close_done file old new is =
       kept = λ image left. left;
     })
 
-pub already_closed : (file : ℕ) (old : List Step) → IsKept (changes_of file old) → IsClosedContent (content_of file old) true → IsClosed (changes_of file old)
-already_closed file old kept (byte, rest, split, closed, long) = record { byte = byte; rest = rest; content = split; closed = closed; kept = kept }
+-- a closed first byte, synced again
+pub closed_during : {T E : Type 0} (file : ℕ) (old new : List Step) (result : Result T E) → IsKept (changes_of file old)
+    → Syncs file old new result → LeavesOnly file old new (IsClosing (content_of file old))
+closed_during file old new result kept syncs =
+    one_call file synced old new (IsClosing (content_of file old)) syncs.either
+    (λ image left. inl (ap reading_of (kept image left)))
+    (λ image left. inl (ap reading_of left))
+
+pub closed_done : (file : ℕ) (old new : List Step) → IsClosedContent (content_of file old) true → new ≡ on file synced ∷ old → IsClosed (changes_of file new)
+closed_done file old new (byte, rest, split, closed, long) is =
+    subst IsClosed (sym (synced_changes file old new is)) (record { byte = byte; rest = rest; content = split; closed = closed; kept = λ image left. left })
+
+pub closed_long : (file : ℕ) (old new : List Step) → IsClosedContent (content_of file old) true → new ≡ on file synced ∷ old → 1 ≤ length (content_of file new)
+closed_long file old new (byte, rest, split, closed, long) is =
+    subst (λ (changes : List Change). 1 ≤ length (reads changes)) (sym (synced_changes file old new is)) (omega (arith, long))
 
 -- ---- the header behind a closed first byte
 

@@ -87,8 +87,8 @@ fn is_closed<V: Site>(site: &mut V, file: u32) -> Result<bool, Failed>
     Ok(count == 1 && byte[0] != OPEN_GATE)
 }
 
-/// Closes the first byte where it isn't closed and stable already. Where it is, it isn't written: of a byte that is
-/// written again a crash could make an open gate, before whatever stands behind it.
+/// Closes the first byte where it isn't closed and stable already, and syncs. Where it is, it isn't written: of a byte
+/// that is written again a crash could make an open gate, before whatever stands behind it.
 fn close<V: Site>(site: &mut V, file: u32) -> Result<(), Failed>
     ensures during { V.tells → IsKept (changes_of file (V.history site.old)) → LeavesOnly file (V.history site.old) (V.history site.new) (IsClosing (content_of file (V.history site.old))) }
     ensures ok { V.tells → IsKept (changes_of file (V.history site.old)) → OnOk result (IsClosed (changes_of file (V.history site.new))) }
@@ -97,7 +97,7 @@ fn close<V: Site>(site: &mut V, file: u32) -> Result<(), Failed>
     ensures say_faults { V.say_faults site.new ≡ V.say_faults site.old }
 {
     match is_closed(site, file) {
-        Ok(true) => Ok(()),
+        Ok(true) => site.sync(file),
         Ok(false) => write_safely(site, file, 0, &[CLOSED_GATE]),
         Err(failed) => Err(failed),
     }

@@ -26,5 +26,5 @@ pub use payload::Payload;
 pub use reading::read_log;
 pub use states::{Bodied, BodyError, Broken, Gated, Reopened, Resting, Synced};
 
-// cfg
-// mod tests;
+#[cfg(test)]
+mod tests;

@@ -1,0 +1,6 @@
+use Rattle.commit_log.proofs.tests.synced.Goals as goal
+
+pub returns-in-Ok-clause-there : goal.returns-in-Ok-clause-there
+returns-in-Ok-clause-there g c tells =
+    let (h, payloads, rests) = c.requires tells in
+    (h, payloads, c.args.payload.now, c.in-Ok.ensures.after tells h payloads c.args.payload.now (c.in_ok-log.ensures.after tells h payloads rests))
