@@ -4,6 +4,9 @@ use Rattle.engine_run.specs.declared.ended.Cause.{Cause}
 use Rattle.engine_run.specs.declared.ended.Cause.TheVariants.{SiteFault, SayFault, Memory}
 use Rattle.engine_run.specs.declared.input.Input.{Input}
 use Rattle.engine_run.specs.declared.state.Found.{Found}
+use Rattle.engine_run.specs.declared.state.Found.TheVariants.{Ended}
+use Rattle.engine_run.specs.declared.state.State.{State}
+use Rattle.engine_run.specs.State.{FindsInstance}
 use Rattle.engine_run.specs.declared.told.Told.TheVariants.{Both}
 use Rattle.engine_run.specs.Told.{said_of, IsSaidFront}
 
@@ -14,7 +17,7 @@ IsDriving SayFault = Unit {0}
 IsDriving Memory = Unit {0}
 IsDriving other = ⊥
 
--- In the end both answers were said, and else a front of them.
-abbrev pub DrivesTape : Input → List ℕ → List ℕ → Result (Unit {0}) Cause → Type 0
-DrivesTape input before now (Ok done) = (found : Found) × (now ≡ before ++ said_of input (Both found))
-DrivesTape input before now (Err cause) = (said : List ℕ) × (now ≡ before ++ said) × IsSaidFront input said
+-- In the end both answers were said, and else a front of them. A wait that finds the instance is answered its result.
+abbrev pub DrivesTape : State → Input → List ℕ → List ℕ → Result (Unit {0}) Cause → Type 0
+DrivesTape s input before now (Ok done) = (found : Found) × (now ≡ before ++ said_of input (Both found)) × (FindsInstance s → found ≡ Ended)
+DrivesTape s input before now (Err cause) = (said : List ℕ) × (now ≡ before ++ said) × IsSaidFront input said

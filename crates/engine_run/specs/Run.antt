@@ -5,13 +5,15 @@ use Rattle.engine_run.specs.declared.ended.Cause.{Cause}
 use Rattle.engine_run.specs.declared.ended.Cause.TheVariants.{Done, SiteFault, SayFault, Damaged, Memory}
 use Rattle.engine_run.specs.declared.input.Input.{Input}
 use Rattle.engine_run.specs.declared.state.Found.{Found}
+use Rattle.engine_run.specs.declared.state.Found.TheVariants.{Ended}
+use Rattle.commit_log.specs.Segment.{fresh, reading_of}
 use Rattle.engine_run.specs.declared.told.Told.TheVariants.{Both}
 use Rattle.engine_run.specs.Input.{HasForm}
 use Rattle.engine_run.specs.Told.{said_of, IsSaidFront}
 
--- both answers stand behind what stood on the tape
+-- Both answers stand behind what stood on the tape. Where the log was fresh, the wait's is the result.
 abbrev pub SaysAll : (ℕ → List ℕ) → List ℕ → List ℕ → Type 0
-SaysAll files before now = (input : Input) × HasForm files input × (found : Found) × (now ≡ before ++ said_of input (Both found))
+SaysAll files before now = (input : Input) × HasForm files input × (found : Found) × (now ≡ before ++ said_of input (Both found)) × (reading_of (files 16) ≡ fresh → found ≡ Ended)
 
 -- a front of them does, or nothing
 abbrev pub SaysFront : (ℕ → List ℕ) → List ℕ → List ℕ → Type 0

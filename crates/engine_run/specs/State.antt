@@ -140,6 +140,19 @@ pub record IsSound (s : State) : Type 0 where
   pub low : s.stamp < 2 ^ 63
   pub kept : is_kept_rightly s.wait (is_pending s.start s.finished) ≡ true
 
+-- a wait that was sent finds the instance, and one that was answered found it
+abbrev pub finds_instance : WaitStage → Bool → Bool
+finds_instance waits.Untaken there = true
+finds_instance waits.Sent there = there
+finds_instance waits.Kept there = true
+finds_instance (waits.Replied Missing) there = false
+finds_instance (waits.Replied Ended) there = true
+finds_instance (waits.Answered Missing) there = false
+finds_instance (waits.Answered Ended) there = true
+
+abbrev pub FindsInstance : State → Type 0
+FindsInstance s = finds_instance s.wait (is_there s.start) ≡ true
+
 -- the moment that a label carries
 abbrev pub stamp_of : Label → ℕ
 stamp_of (Take kind) = 0

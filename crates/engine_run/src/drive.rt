@@ -30,7 +30,7 @@ pub(crate) fn drive<V: Site, A: Activities>(
     entries: &mut Vec<Entry>,
 ) -> Result<(), Cause>
     requires { V.tells → Rests (changes_of recovered.log.file (V.history site.old)) recovered.log.gate }
-    ensures tape { V.tells → DrivesTape input.now (tape (V.history site.old)) (tape (V.history site.new)) result }
+    ensures tape { V.tells → DrivesTape recovered.state input.now (tape (V.history site.old)) (tape (V.history site.new)) result }
     ensures driving { IfErr result IsDriving }
     ensures fault { result ≡ Err Cause.SiteFault → HasRisen (V.disk_faults site.old) (V.disk_faults site.new) }
     ensures say_fault { result ≡ Err Cause.SayFault → HasRisen (V.say_faults site.old) (V.say_faults site.new) }

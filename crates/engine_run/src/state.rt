@@ -1,7 +1,7 @@
 //! How far the two requests have come.
 
-ghost use Rattle.std.specs.Prelude.{◌≡◌, ◌≤◌, ◌<◌, ◌^◌, Some, IfSome, IfNone};
-ghost use Rattle.engine_run.specs.State.{inbox, outbox, is_there, is_pending, took, began, asked, arrived, answered, finished, applied, stamp_of, work, IsSound, IsQuiet, KeepsAnswers, fresh_state};
+ghost use Rattle.std.specs.Prelude.{◌≡◌, ◌≤◌, ◌<◌, ◌^◌, true, Some, IfSome, IfNone};
+ghost use Rattle.engine_run.specs.State.{inbox, outbox, is_there, is_pending, took, began, asked, arrived, answered, finished, applied, stamp_of, work, IsSound, IsQuiet, KeepsAnswers, FindsInstance, fresh_state};
 
 use crate::request_file::Kind;
 
@@ -146,6 +146,7 @@ impl State {
         ensures work { IfSome result (λ next. work next < work self) }
         ensures sound { IsSound self → IfSome result IsSound }
         ensures keeps { IfSome result (KeepsAnswers self) }
+        ensures finds { FindsInstance self → (kind ≡ Kind.Wait → is_there self.start ≡ true) → IfSome result FindsInstance }
     {
         match (kind, self.start, self.wait) {
             (Kind::Start, StartStage::Untaken, wait) => Some(State {
@@ -169,6 +170,7 @@ impl State {
         ensures work { IfSome result (λ next. work next < work self) }
         ensures sound { IsSound self → IfSome result IsSound }
         ensures keeps { IfSome result (KeepsAnswers self) }
+        ensures finds { FindsInstance self → IfSome result FindsInstance }
     {
         if self.start != StartStage::Sent {
             return None;
@@ -189,6 +191,7 @@ impl State {
         ensures work { IfSome result (λ next. work next < work self) }
         ensures sound { IsSound self → IfSome result IsSound }
         ensures keeps { IfSome result (KeepsAnswers self) }
+        ensures finds { FindsInstance self → IfSome result FindsInstance }
     {
         if self.wait != WaitStage::Sent {
             return None;
@@ -224,6 +227,7 @@ impl State {
         ensures work { IfSome result (λ next. work next < work self) }
         ensures sound { IsSound self → IfSome result IsSound }
         ensures keeps { IfSome result (KeepsAnswers self) }
+        ensures finds { FindsInstance self → IfSome result FindsInstance }
     {
         match self.inbox() {
             Some(Kind::Start) => self.begin(stamp),
@@ -239,6 +243,7 @@ impl State {
         ensures work { IfSome result (λ next. work next < work self) }
         ensures sound { IsSound self → IfSome result IsSound }
         ensures keeps { IfSome result (KeepsAnswers self) }
+        ensures finds { FindsInstance self → IfSome result FindsInstance }
     {
         match (self.outbox(), self.wait) {
             (Some(Kind::Start), _) => Some(State {
@@ -261,6 +266,7 @@ impl State {
         ensures work { IfSome result (λ next. work next < work self) }
         ensures sound { IsSound self → IfSome result IsSound }
         ensures keeps { IfSome result (KeepsAnswers self) }
+        ensures finds { FindsInstance self → IfSome result FindsInstance }
     {
         if !self.is_pending() {
             return None;
@@ -299,12 +305,14 @@ impl State {
     /// finishes, then requests are taken, the wait only once the start's answer was said. None where nothing is left.
     #[tactic(auto, using(crate::proofs::Progress::quiet_state))]
     pub fn next(self, told: bool) -> Option<(Label, State)>
-        requires { IsSound self }
+        requires sound { IsSound self }
+        requires told { told ≡ true → self.start ≡ StartStage.Answered }
         ensures step { IfSome result (λ found. applied self found.0 ≡ Some found.1) }
         ensures stamp { IfSome result (λ found. stamp_of found.0 ≤ self.stamp) }
         ensures work { IfSome result (λ found. work found.1 < work self) }
         ensures sound { IfSome result (λ found. IsSound found.1) }
         ensures keeps { IfSome result (λ found. KeepsAnswers self found.1) }
+        ensures finds { FindsInstance self → IfSome result (λ found. FindsInstance found.1) }
         ensures quiet { IfNone result (IsQuiet self told) }
     {
         let stamp = self.stamp;

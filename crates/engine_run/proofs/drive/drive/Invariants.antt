@@ -1,7 +1,7 @@
 use Rattle.std.proofs.Common.{◌≡◌, ◌≤◌, ◌+◌, ◌*◌, ◌^◌, ◌++◌}
 use Rattle.site_model.specs.History.{changes_of, tape}
 use Rattle.commit_log.specs.States.{Rests}
-use Rattle.engine_run.specs.State.{work, IsSound}
+use Rattle.engine_run.specs.State.{work, IsSound, FindsInstance}
 use Rattle.engine_run.specs.Told.{said_of, TellsRightly}
 use Rattle.engine_run.proofs.drive.drive.Given as goal
 
@@ -10,6 +10,7 @@ abbrev pub invariant-labels : goal.invariant-labels
 invariant-labels g l = record {
   sound : IsSound l.state;
   right : TellsRightly l.state l.told;
+  finds : FindsInstance l.fn.recovered.state → FindsInstance l.state;
   short : l.position + work l.state ≤ 8;
   room : l.log.gate + 231 * work l.state ≤ 2 ^ 20 + 1848;
   rests : g.V.Site.tells → Rests (changes_of l.log.file (g.V.Site.history l.site)) l.log.gate;
