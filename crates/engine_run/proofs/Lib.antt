@@ -1,4 +1,5 @@
 pub mod Behind
+pub mod Commits
 pub mod Lines
 pub mod Members
 pub mod Progress

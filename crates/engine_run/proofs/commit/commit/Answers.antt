@@ -1,5 +1,6 @@
 use Rattle.std.proofs.Common.{◌∷◌, [], ◌++◌, ◌∙◌}
 use Rattle.site_model.proofs.Paths.{leaves_only}
+use Rattle.engine_run.proofs.Commits.{without, with_either, and_then}
 use Rattle.engine_run.proofs.commit.commit.Goals as goal
 
 pub returns-in-Err-SiteFault-clause-tape : goal.returns-in-Err-SiteFault-clause-tape
@@ -47,3 +48,65 @@ returns-in-Ok-settle-clause-rests g c tells =
     let synced = c.in-Ok-sync_body.ensures.after tells rests.0 rests.1 c.args.payload.now bodied in
     let gated = c.in-Ok-gate.ensures.after tells rests.0 rests.1 c.args.payload.now synced in
     (rests.0, rests.1 ++ c.args.payload.now ∷ [], c.in-Ok-settle.ensures.after tells rests.0 rests.1 c.args.payload.now gated)
+
+pub returns-in-Err-SiteFault-clause-during : goal.returns-in-Err-SiteFault-clause-during
+returns-in-Err-SiteFault-clause-during g c tells h payloads rests =
+    let one = without h payloads c.args.payload.now c.args.log.gate c.args.log.file (g.V.Site.history c.args.site.now) (g.V.Site.history c.body.new.site) (c.body.ensures.during tells h payloads rests) in
+    one
+
+pub returns-in-Err-Memory-clause-during : goal.returns-in-Err-Memory-clause-during
+returns-in-Err-Memory-clause-during g c tells h payloads rests =
+    let one = without h payloads c.args.payload.now c.args.log.gate c.args.log.file (g.V.Site.history c.args.site.now) (g.V.Site.history c.body.new.site) (c.body.ensures.during tells h payloads rests) in
+    one
+
+pub returns-in-Err-clause-during : goal.returns-in-Err-clause-during
+returns-in-Err-clause-during g c tells h payloads rests =
+    let one = without h payloads c.args.payload.now c.args.log.gate c.args.log.file (g.V.Site.history c.args.site.now) (g.V.Site.history c.body.new.site) (c.body.ensures.during tells h payloads rests) in
+    let bodied = c.in-Ok.ensures.after tells h payloads rests in
+    let file1 = c.in-Ok.ensures.place.0 in
+    let two = and_then c.args.log.file c.in-Ok.bodied.file (g.V.Site.history c.args.site.now) (g.V.Site.history c.body.new.site) (g.V.Site.history c.sync_body.new.site) file1 one (without h payloads c.args.payload.now c.in-Ok.bodied.gate c.in-Ok.bodied.file (g.V.Site.history c.body.new.site) (g.V.Site.history c.sync_body.new.site) (c.sync_body.ensures.during tells h payloads c.args.payload.now bodied)) in
+    two
+
+pub returns-in-Err-gate-clause-during : goal.returns-in-Err-gate-clause-during
+returns-in-Err-gate-clause-during g c tells h payloads rests =
+    let one = without h payloads c.args.payload.now c.args.log.gate c.args.log.file (g.V.Site.history c.args.site.now) (g.V.Site.history c.body.new.site) (c.body.ensures.during tells h payloads rests) in
+    let bodied = c.in-Ok.ensures.after tells h payloads rests in
+    let file1 = c.in-Ok.ensures.place.0 in
+    let two = and_then c.args.log.file c.in-Ok.bodied.file (g.V.Site.history c.args.site.now) (g.V.Site.history c.body.new.site) (g.V.Site.history c.sync_body.new.site) file1 one (without h payloads c.args.payload.now c.in-Ok.bodied.gate c.in-Ok.bodied.file (g.V.Site.history c.body.new.site) (g.V.Site.history c.sync_body.new.site) (c.sync_body.ensures.during tells h payloads c.args.payload.now bodied)) in
+    let synced = c.in-Ok-sync_body.ensures.after tells h payloads c.args.payload.now bodied in
+    let file2 = c.in-Ok-sync_body.ensures.place.0 ∙ file1 in
+    let kept = c.in-Ok-sync_body.synced in
+    let three = and_then c.args.log.file kept.file (g.V.Site.history c.args.site.now) (g.V.Site.history c.sync_body.new.site) (g.V.Site.history c.gate.new.site) file2 two (with_either h payloads c.args.payload.now kept.gate kept.next kept.file (g.V.Site.history c.sync_body.new.site) (g.V.Site.history c.gate.new.site) (c.gate.ensures.during tells h payloads c.args.payload.now synced)) in
+    three
+
+pub returns-in-Ok-settle-clause-during : goal.returns-in-Ok-settle-clause-during
+returns-in-Ok-settle-clause-during g c tells h payloads rests =
+    let one = without h payloads c.args.payload.now c.args.log.gate c.args.log.file (g.V.Site.history c.args.site.now) (g.V.Site.history c.body.new.site) (c.body.ensures.during tells h payloads rests) in
+    let bodied = c.in-Ok.ensures.after tells h payloads rests in
+    let file1 = c.in-Ok.ensures.place.0 in
+    let two = and_then c.args.log.file c.in-Ok.bodied.file (g.V.Site.history c.args.site.now) (g.V.Site.history c.body.new.site) (g.V.Site.history c.sync_body.new.site) file1 one (without h payloads c.args.payload.now c.in-Ok.bodied.gate c.in-Ok.bodied.file (g.V.Site.history c.body.new.site) (g.V.Site.history c.sync_body.new.site) (c.sync_body.ensures.during tells h payloads c.args.payload.now bodied)) in
+    let synced = c.in-Ok-sync_body.ensures.after tells h payloads c.args.payload.now bodied in
+    let file2 = c.in-Ok-sync_body.ensures.place.0 ∙ file1 in
+    let kept = c.in-Ok-sync_body.synced in
+    let three = and_then c.args.log.file kept.file (g.V.Site.history c.args.site.now) (g.V.Site.history c.sync_body.new.site) (g.V.Site.history c.gate.new.site) file2 two (with_either h payloads c.args.payload.now kept.gate kept.next kept.file (g.V.Site.history c.sync_body.new.site) (g.V.Site.history c.gate.new.site) (c.gate.ensures.during tells h payloads c.args.payload.now synced)) in
+    let gated = c.in-Ok-gate.ensures.after tells h payloads c.args.payload.now synced in
+    let file3 = c.in-Ok-gate.ensures.place.0 ∙ file2 in
+    let opened = c.in-Ok-gate.gated in
+    let four = and_then c.args.log.file opened.file (g.V.Site.history c.args.site.now) (g.V.Site.history c.gate.new.site) (g.V.Site.history c.settle.new.site) file3 three (with_either h payloads c.args.payload.now opened.gate opened.next opened.file (g.V.Site.history c.gate.new.site) (g.V.Site.history c.settle.new.site) (c.settle.ensures.during tells h payloads c.args.payload.now gated)) in
+    four
+
+pub returns-in-Err-settle-clause-during : goal.returns-in-Err-settle-clause-during
+returns-in-Err-settle-clause-during g c tells h payloads rests =
+    let one = without h payloads c.args.payload.now c.args.log.gate c.args.log.file (g.V.Site.history c.args.site.now) (g.V.Site.history c.body.new.site) (c.body.ensures.during tells h payloads rests) in
+    let bodied = c.in-Ok.ensures.after tells h payloads rests in
+    let file1 = c.in-Ok.ensures.place.0 in
+    let two = and_then c.args.log.file c.in-Ok.bodied.file (g.V.Site.history c.args.site.now) (g.V.Site.history c.body.new.site) (g.V.Site.history c.sync_body.new.site) file1 one (without h payloads c.args.payload.now c.in-Ok.bodied.gate c.in-Ok.bodied.file (g.V.Site.history c.body.new.site) (g.V.Site.history c.sync_body.new.site) (c.sync_body.ensures.during tells h payloads c.args.payload.now bodied)) in
+    let synced = c.in-Ok-sync_body.ensures.after tells h payloads c.args.payload.now bodied in
+    let file2 = c.in-Ok-sync_body.ensures.place.0 ∙ file1 in
+    let kept = c.in-Ok-sync_body.synced in
+    let three = and_then c.args.log.file kept.file (g.V.Site.history c.args.site.now) (g.V.Site.history c.sync_body.new.site) (g.V.Site.history c.gate.new.site) file2 two (with_either h payloads c.args.payload.now kept.gate kept.next kept.file (g.V.Site.history c.sync_body.new.site) (g.V.Site.history c.gate.new.site) (c.gate.ensures.during tells h payloads c.args.payload.now synced)) in
+    let gated = c.in-Ok-gate.ensures.after tells h payloads c.args.payload.now synced in
+    let file3 = c.in-Ok-gate.ensures.place.0 ∙ file2 in
+    let opened = c.in-Ok-gate.gated in
+    let four = and_then c.args.log.file opened.file (g.V.Site.history c.args.site.now) (g.V.Site.history c.gate.new.site) (g.V.Site.history c.settle.new.site) file3 three (with_either h payloads c.args.payload.now opened.gate opened.next opened.file (g.V.Site.history c.gate.new.site) (g.V.Site.history c.settle.new.site) (c.settle.ensures.during tells h payloads c.args.payload.now gated)) in
+    four
