@@ -1,10 +1,14 @@
 //! One label, one frame.
 
-ghost use Rattle.std.specs.Prelude.{◌≡◌, ◌+◌, ◌≤◌, ◌<◌, ◌^◌, Err, IfOk, IfErr};
+ghost use Rattle.std.specs.Prelude.{◌≡◌, ◌+◌, ◌≤◌, ◌<◌, ◌^◌, ◌++◌, [], ◌∷◌, ℕ, List, Err, IfOk, IfErr};
 ghost use Rattle.site_model.specs.History.{changes_of, tape};
 ghost use Rattle.site_model.specs.Calls.{HasRisen};
-ghost use Rattle.commit_log.specs.States.{Rests};
-ghost use Rattle.engine_run.specs.Commit.{IsOutside};
+ghost use Rattle.site_model.specs.Moments.{LeavesOnly};
+ghost use Rattle.commit_log.specs.declared.header.Header.{Header};
+ghost use Rattle.commit_log.specs.States.{Rests, IsResting};
+ghost use Rattle.commit_log.specs.Outcomes.{RestsAs};
+ghost use Rattle.engine_run.specs.Commit.{IsOutside, HoldsOneMore};
+ghost use Rattle.engine_run.specs.Items.{payload_bytes};
 
 use crate::activities::Activities;
 use crate::commit::commit;
@@ -47,8 +51,12 @@ pub(crate) fn settle_label<V: Site, A: Activities>(
 ) -> Result<Resting, Cause>
     requires room { log.gate + 232 < 2 ^ 31 }
     requires rests { V.tells → Rests (changes_of log.file (V.history site.old)) log.gate }
+    ensures during { V.tells → (h : Header) (payloads : List (List ℕ)) → IsResting (changes_of log.file (V.history site.old)) h payloads log.gate
+        → LeavesOnly log.file (V.history site.old) (V.history site.new) (HoldsOneMore h payloads (payload_bytes input.now entry.position entry.incarnation entry.label)) }
+    ensures after { V.tells → (h : Header) (payloads : List (List ℕ)) → IsResting (changes_of log.file (V.history site.old)) h payloads log.gate
+        → IfOk result (λ next. RestsAs (V.history site.new) h (payloads ++ payload_bytes input.now entry.position entry.incarnation entry.label ∷ []) next) }
     ensures rests { V.tells → IfOk result (λ next. Rests (changes_of next.file (V.history site.new)) next.gate) }
-    ensures place { IfOk result (λ next. next.gate ≤ log.gate + 231) }
+    ensures place { IfOk result (λ next. (next.file ≡ log.file) × (next.gate ≤ log.gate + 231)) }
     ensures tape { V.tells → tape (V.history site.new) ≡ tape (V.history site.old) }
     ensures outside { IfErr result IsOutside }
     ensures fault { result ≡ Err Cause.SiteFault → HasRisen (V.disk_faults site.old) (V.disk_faults site.new) }

@@ -1,0 +1,29 @@
+use Rattle.std.proofs.Common.{ℕ, List, [], ◌∷◌, ◌++◌, subst, ◌∙◌}
+use Rattle.commit_log.specs.Outcomes.{RestsAs}
+use Rattle.engine_run.specs.Items.{payload_bytes}
+use Rattle.engine_run.proofs.Commits.{not_yet, same_payload}
+use Rattle.engine_run.proofs.settle.settle_label.Goals as goal
+
+pub returns-then-is_err-clause-during : goal.returns-then-is_err-clause-during
+returns-then-is_err-clause-during g c tells h payloads rests = not_yet h payloads (payload_bytes c.args.input.now c.args.entry.position c.args.entry.incarnation c.args.entry.label) c.args.log.gate c.args.log.file (g.V.Site.history c.args.site.now) rests
+
+pub returns-in-Err-clause-during : goal.returns-in-Err-clause-during
+returns-in-Err-clause-during g c tells h payloads rests = not_yet h payloads (payload_bytes c.args.input.now c.args.entry.position c.args.entry.incarnation c.args.entry.label) c.args.log.gate c.args.log.file (g.V.Site.history c.args.site.now) rests
+
+pub returns-in-Err-payload-clause-during : goal.returns-in-Err-payload-clause-during
+returns-in-Err-payload-clause-during g c tells h payloads rests = not_yet h payloads (payload_bytes c.args.input.now c.args.entry.position c.args.entry.incarnation c.args.entry.label) c.args.log.gate c.args.log.file (g.V.Site.history c.args.site.now) rests
+
+pub returns-in-Ok-commit-clause-during : goal.returns-in-Ok-commit-clause-during
+returns-in-Ok-commit-clause-during g c tells h payloads rests =
+    same_payload h payloads c.deref.result.now (payload_bytes c.args.input.now c.args.entry.position c.args.entry.incarnation c.args.entry.label) c.args.log.file (g.V.Site.history c.args.site.now) (g.V.Site.history c.commit.new.site)
+        (c.deref.ensures.value ∙ c.in-Ok-payload.ensures.payload) (c.commit.ensures.during tells h payloads rests)
+
+pub returns-clause-during : goal.returns-clause-during
+returns-clause-during g c tells h payloads rests =
+    same_payload h payloads c.deref.result.now (payload_bytes c.args.input.now c.args.entry.position c.args.entry.incarnation c.args.entry.label) c.args.log.file (g.V.Site.history c.args.site.now) (g.V.Site.history c.commit.new.site)
+        (c.deref.ensures.value ∙ c.in-Ok-payload.ensures.payload) (c.commit.ensures.during tells h payloads rests)
+
+pub returns-in-Ok-commit-clause-after : goal.returns-in-Ok-commit-clause-after
+returns-in-Ok-commit-clause-after g c tells h payloads rests =
+    subst (λ (payload : List ℕ). RestsAs (g.V.Site.history c.commit.new.site) h (payloads ++ payload ∷ []) c.in-Ok-commit.log)
+        (c.deref.ensures.value ∙ c.in-Ok-payload.ensures.payload) (c.in-Ok-commit.ensures.after tells h payloads rests)
