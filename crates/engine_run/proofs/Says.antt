@@ -1,8 +1,10 @@
 -- What saying a line leaves.
-use Rattle.std.proofs.Common.{◌≡◌, ◌++◌, ℕ, List, [], take, drop, Result, Ok, Err, refl, sym, ◌∙◌, ap}
+use Rattle.std.proofs.Common.{◌≡◌, ◌++◌, ℕ, List, [], take, drop, Result, Ok, Err, ◌∷◌, refl, sym, ◌∙◌, ap, subst}
 use Rattle.std.specs.Prelude.{OnOk}
 use Rattle.std.proofs.lemmas.List.{take-append-drop, append-nil, append_assoc}
-use Rattle.site_model.specs.History.{Step, tape, changes_of}
+use Rattle.site_model.specs.History.{Step, tape, changes_of, saying, said}
+use Rattle.site_model.specs.Moments.Always.{begins, goes_on}
+use Rattle.site_model.proofs.Paths.{last, together, weaker}
 use Rattle.site_model.specs.Calls.{Says}
 use Rattle.site_model.proofs.Tape.{tape-saying, changes_of-saying}
 use Rattle.engine_run.specs.declared.input.Input.{Input}
@@ -11,7 +13,7 @@ use Rattle.engine_run.specs.declared.state.Found.TheVariants.{Ended}
 use Rattle.engine_run.specs.declared.told.Told.{Told}
 use Rattle.engine_run.specs.declared.told.Told.TheVariants.{Nothing, Start, Both}
 use Rattle.engine_run.specs.Lines.{start_line, wait_line}
-use Rattle.engine_run.specs.Told.{said_of, IsFront, IsSaidFront}
+use Rattle.engine_run.specs.Told.{said_of, IsFront, IsSaidFront, LeavesFiles}
 
 pub said_part : {T E : Type 0} (line : List ℕ) (old new : List Step) (result : Result T E) → Says line old new result
     → (part : List ℕ) × (tape new ≡ tape old ++ part) × IsFront part line
@@ -24,6 +26,22 @@ said_whole line old new (Err e) says = tt
 
 pub says_no_file : {T E : Type 0} (line : List ℕ) (old new : List Step) (result : Result T E) → Says line old new result → (file : ℕ) → changes_of file new ≡ changes_of file old
 says_no_file line old new result says file = ap (changes_of file) says.steps ∙ changes_of-saying file (take says.count line) old
+
+always_saying : (line : List ℕ) (old mid : List Step) → LeavesFiles old mid → LeavesFiles old (saying line mid)
+always_saying [] old mid before = before
+always_saying (byte ∷ line) old mid before = always_saying line old (said byte ∷ mid) (goes_on before (λ file. last before file))
+
+pub says_during : {T E : Type 0} (line : List ℕ) (old new : List Step) (result : Result T E) → Says line old new result → LeavesFiles old new
+says_during line old new result says =
+    subst (λ (steps : List Step). LeavesFiles old steps) (sym says.steps) (always_saying (take says.count line) old old (begins (λ file. refl)))
+
+-- nothing was said
+pub silence : (old : List Step) → LeavesFiles old old
+silence old = begins (λ file. refl)
+
+-- and more
+pub more_said : {old mid new : List Step} → LeavesFiles old mid → LeavesFiles mid new → LeavesFiles old new
+more_said before after = together before (weaker (λ steps same file. same file ∙ last before file) after)
 
 -- a part of the start's line
 pub start_part : (input : Input) (told : Told) (before old now part line : List ℕ) → told ≡ Nothing → old ≡ before ++ said_of input told → now ≡ old ++ part → IsFront part line → line ≡ start_line input

@@ -1,5 +1,7 @@
 -- What a run says.
 use Rattle.std.specs.Prelude.{◌≡◌, ℕ, List, [], ◌++◌, true, Result, Ok, Err, Bool, false}
+use Rattle.site_model.specs.History.{Step, changes_of}
+use Rattle.site_model.specs.Moments.{Always}
 use Rattle.engine_run.specs.declared.input.Input.{Input}
 use Rattle.engine_run.specs.declared.state.StartStage.TheVariants as starts
 use Rattle.engine_run.specs.declared.state.WaitStage.TheVariants as waits
@@ -45,6 +47,10 @@ IsSaidFront input said = (found : Found) × IsFront said (said_of input (Both fo
 abbrev pub TapeAfter : Input → List ℕ → List ℕ → Result Told Cause → Type 0
 TapeAfter input before now (Ok told) = now ≡ before ++ said_of input told
 TapeAfter input before now (Err cause) = (part : List ℕ) × (now ≡ before ++ part) × IsSaidFront input part
+
+-- no file changes, at any moment
+abbrev pub LeavesFiles : List Step → List Step → Type 0
+LeavesFiles old new = Always (λ steps. (file : ℕ) → changes_of file steps ≡ changes_of file old) old new
 
 -- a fault of the tape, or want of memory
 abbrev pub IsSaying : Cause → Type 0
