@@ -1,5 +1,6 @@
 pub mod Behind
 pub mod Commits
+pub mod Labels
 pub mod Lines
 pub mod Members
 pub mod Progress

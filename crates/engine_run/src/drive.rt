@@ -1,10 +1,13 @@
 //! Label by label, until nothing is left.
 
-ghost use Rattle.std.specs.Prelude.{◌≡◌, ◌≤◌, Err, IfErr};
+ghost use Rattle.std.specs.Prelude.{◌≡◌, ◌≤◌, ℕ, List, Err, IfErr, OnOk};
 ghost use Rattle.site_model.specs.History.{changes_of, tape};
 ghost use Rattle.site_model.specs.Calls.{HasRisen};
-ghost use Rattle.commit_log.specs.States.{Rests};
+ghost use Rattle.site_model.specs.Moments.{Always};
+ghost use Rattle.commit_log.specs.declared.header.Header.{Header};
+ghost use Rattle.commit_log.specs.States.{Rests, IsResting};
 ghost use Rattle.engine_run.specs.Driving.{IsDriving, DrivesTape};
+ghost use Rattle.engine_run.specs.Labels.{LeavesLabels, LeavesAll};
 
 use crate::activities::Activities;
 use crate::ended::Cause;
@@ -30,6 +33,10 @@ pub(crate) fn drive<V: Site, A: Activities>(
     entries: &mut Vec<Entry>,
 ) -> Result<(), Cause>
     requires { V.tells → Rests (changes_of recovered.log.file (V.history site.old)) recovered.log.gate }
+    ensures during { V.tells → (h : Header) (payloads : List (List ℕ)) → IsResting (changes_of recovered.log.file (V.history site.old)) h payloads recovered.log.gate
+        → Always (LeavesLabels input.now recovered h payloads) (V.history site.old) (V.history site.new) }
+    ensures all { V.tells → (h : Header) (payloads : List (List ℕ)) → IsResting (changes_of recovered.log.file (V.history site.old)) h payloads recovered.log.gate
+        → OnOk result (LeavesAll input.now recovered h payloads (V.history site.new)) }
     ensures tape { V.tells → DrivesTape recovered.state input.now (tape (V.history site.old)) (tape (V.history site.new)) result }
     ensures driving { IfErr result IsDriving }
     ensures fault { result ≡ Err Cause.SiteFault → HasRisen (V.disk_faults site.old) (V.disk_faults site.new) }

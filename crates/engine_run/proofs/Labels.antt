@@ -1,0 +1,76 @@
+-- From label to label.
+use Rattle.std.proofs.Common.{◌≡◌, ◌⊎◌, inl, inr, ℕ, ◌+◌, List, [], ◌∷◌, ◌++◌, length, Some, refl, sym, ap, subst, arith, ◌∙◌}
+use Rattle.std.proofs.lemmas.List.{append-nil, append_assoc, length-append}
+use Rattle.site_model.specs.History.{Step, Change, changes_of, Leaves}
+use Rattle.site_model.specs.Moments.{Always, LeavesOnly, Keeps}
+use Rattle.site_model.specs.Moments.Always.{begins, goes_on}
+use Rattle.site_model.proofs.Paths.{together, weaker, last}
+use Rattle.commit_log.specs.declared.header.Header.{Header}
+use Rattle.commit_log.specs.States.{IsResting}
+use Rattle.commit_log.proofs.Steps.{resting_images}
+use Rattle.engine_run.specs.declared.input.Input.{Input}
+use Rattle.engine_run.specs.declared.recovered.Recovered.{Recovered}
+use Rattle.engine_run.specs.declared.state.State.{State}
+use Rattle.engine_run.specs.declared.state.Label.{Label}
+use Rattle.engine_run.specs.State.{applied}
+use Rattle.engine_run.specs.Items.{payload_bytes}
+use Rattle.engine_run.specs.Commit.{Holds, HoldsOneMore}
+use Rattle.engine_run.specs.Told.{LeavesFiles}
+use Rattle.engine_run.specs.Labels.{Appends, LeavesLabels, Kept}
+use Rattle.engine_run.specs.Labels.Appends.{none, one_more}
+
+module _ (input : Input) (r : Recovered) (h : Header) (payloads : List (List ℕ)) where
+  -- nothing is settled yet
+  pub kept_first : (steps : List Step) → IsResting (changes_of r.log.file steps) h payloads r.log.gate → Kept input r h payloads steps steps r.state r.position r.log.gate
+  kept_first steps rests =
+      let here = subst (λ (p : List (List ℕ)). IsResting (changes_of r.log.file steps) h p r.log.gate) (sym (append-nil payloads)) rests in record {
+        frames = [];
+        path = none;
+        place = omega arith;
+        rests = here;
+        always = begins (λ image left. ([], r.state, none, (r.log.gate, resting_images h (payloads ++ []) r.log.gate (changes_of r.log.file steps) here image left)));
+      }
+
+  -- saying leaves the files as they are
+  pub kept_said : (old mid new : List Step) (s : State) (position gate : ℕ) → Kept input r h payloads old mid s position gate → LeavesFiles mid new → Kept input r h payloads old new s position gate
+  kept_said old mid new s position gate kept said = record {
+    frames = kept.frames;
+    path = kept.path;
+    place = kept.place;
+    rests = subst (λ (changes : List Change). IsResting changes h (payloads ++ kept.frames) gate) (sym (last said r.log.file)) kept.rests;
+    always = together kept.always (weaker (λ steps same image left. last kept.always image (subst (λ (changes : List Change). Leaves changes image) (same r.log.file) left)) said);
+  }
+
+  -- while a label is settled
+  pub while_settling : (old mid new : List Step) (s next : State) (position gate : ℕ) (label : Label) (kept : Kept input r h payloads old mid s position gate) → applied s label ≡ Some next
+      → LeavesOnly r.log.file mid new (HoldsOneMore h (payloads ++ kept.frames) (payload_bytes input position r.incarnation label))
+      → Always (LeavesLabels input r h payloads) old new
+  while_settling old mid new s next position gate label kept goes during = together kept.always (weaker now during)
+    where
+      there : (image : List ℕ) → HoldsOneMore h (payloads ++ kept.frames) (payload_bytes input position r.incarnation label) image
+          → (frames : List (List ℕ)) × (end : State) × Appends input r.incarnation r.position r.state frames end × Holds h (payloads ++ frames) image
+      there image (inl holds) = (kept.frames, s, kept.path, holds)
+      there image (inr holds) =
+          let frame = payload_bytes input (r.position + length kept.frames) r.incarnation label in
+          let whole : (payloads ++ kept.frames) ++ payload_bytes input position r.incarnation label ∷ [] ≡ payloads ++ (kept.frames ++ frame ∷ []) =
+              ap (λ (n : ℕ). (payloads ++ kept.frames) ++ payload_bytes input n r.incarnation label ∷ []) kept.place ∙ append_assoc payloads kept.frames (frame ∷ []) in
+          (kept.frames ++ frame ∷ [], next, one_more label next kept.path goes, subst (λ (p : List (List ℕ)). Holds h p image) whole holds)
+
+      now : (steps : List Step) → Keeps r.log.file mid (HoldsOneMore h (payloads ++ kept.frames) (payload_bytes input position r.incarnation label)) steps → LeavesLabels input r h payloads steps
+      now steps keeps image left = there image (keeps.images image left)
+
+  -- and then
+  pub kept_settled : (old mid new : List Step) (s next : State) (position gate later : ℕ) (label : Label) (kept : Kept input r h payloads old mid s position gate) → applied s label ≡ Some next
+      → LeavesOnly r.log.file mid new (HoldsOneMore h (payloads ++ kept.frames) (payload_bytes input position r.incarnation label))
+      → IsResting (changes_of r.log.file new) h ((payloads ++ kept.frames) ++ payload_bytes input position r.incarnation label ∷ []) later
+      → Kept input r h payloads old new next (position + 1) later
+  kept_settled old mid new s next position gate later label kept goes during after =
+      let frame = payload_bytes input (r.position + length kept.frames) r.incarnation label in
+      let whole : (payloads ++ kept.frames) ++ payload_bytes input position r.incarnation label ∷ [] ≡ payloads ++ (kept.frames ++ frame ∷ []) =
+          ap (λ (n : ℕ). (payloads ++ kept.frames) ++ payload_bytes input n r.incarnation label ∷ []) kept.place ∙ append_assoc payloads kept.frames (frame ∷ []) in record {
+        frames = kept.frames ++ frame ∷ [];
+        path = one_more label next kept.path goes;
+        place = omega (arith, kept.place, length-append kept.frames (frame ∷ []));
+        rests = subst (λ (p : List (List ℕ)). IsResting (changes_of r.log.file new) h p later) whole after;
+        always = while_settling old mid new s next position gate label kept goes during;
+      }
