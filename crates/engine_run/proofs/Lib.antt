@@ -3,6 +3,8 @@ pub mod Commits
 pub mod Labels
 pub mod Lines
 pub mod Members
+pub mod Opening
 pub mod Progress
+pub mod Running
 pub mod Says
 pub mod Texts

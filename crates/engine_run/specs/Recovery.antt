@@ -1,10 +1,15 @@
 -- What recovery answers.
-use Rattle.std.specs.Prelude.{◌≡◌, ◌≢◌, ℕ, List, Result, Ok, Err}
-use Rattle.commit_log.specs.Segment.{fresh, reading_of}
+use Rattle.std.specs.Prelude.{◌≡◌, ◌≢◌, ◌⊎◌, ℕ, List, [], Result, Ok, Err}
+use Rattle.site_model.specs.History.{Step, changes_of, content_of, Leaves}
+use Rattle.commit_log.specs.declared.header.Header.{Header}
+use Rattle.commit_log.specs.Segment.{fresh, segment, reading_of}
 use Rattle.engine_run.specs.declared.ended.Cause.{Cause}
 use Rattle.engine_run.specs.declared.ended.Cause.TheVariants.{SiteFault, Damaged, Memory}
 use Rattle.engine_run.specs.declared.recovered.Recovered.{Recovered}
+use Rattle.engine_run.specs.declared.input.Input.{Input}
+use Rattle.engine_run.specs.declared.state.State.{State}
 use Rattle.engine_run.specs.State.{fresh_state}
+use Rattle.engine_run.specs.Commit.{Holds}
 
 -- a log that holds something is read, or refused as a whole
 abbrev pub IsRefused : Cause → Type 0
@@ -22,3 +27,20 @@ abbrev pub Recovers : List ℕ → Result Recovered Cause → Type 0
 Recovers content (Ok found) = reading_of content ≡ fresh → found.state ≡ fresh_state
 Recovers content (Err (Damaged file offset)) = reading_of content ≢ fresh
 Recovers content (Err other) = Unit {0}
+
+-- the header of the one partition's log
+abbrev pub header_of : Input → Header
+header_of input = record { partition = 0; partitions = 1; digest = input.digest; base = 0 }
+
+-- While the log is opened, a crash leaves what it could have left before. Where the log is fresh, it may also leave it
+-- fresh or without a frame.
+abbrev pub LeavesOpening : Input → List Step → List Step → Type 0
+LeavesOpening input old steps =
+    (image : List ℕ) → Leaves (changes_of 16 steps) image
+    → Leaves (changes_of 16 old) image ⊎ ((reading_of (content_of 16 old) ≡ fresh) × ((reading_of image ≡ fresh) ⊎ Holds (header_of input) [] image))
+
+-- A run goes on from these frames, with this state, position and incarnation. From a fresh log it begins.
+abbrev pub StartsFrom : Input → List ℕ → List (List ℕ) → State → ℕ → ℕ → Type 0
+StartsFrom input content payloads s position incarnation =
+    ((reading_of content ≡ fresh) × (payloads ≡ []) × (s ≡ fresh_state) × (position ≡ 0) × (incarnation ≡ 0))
+    ⊎ ((gate : ℕ) × (reading_of content ≡ segment (header_of input) payloads gate))

@@ -1,9 +1,14 @@
 -- What a run promises.
-use Rattle.std.specs.Prelude.{◌≡◌, ◌⊎◌, ℕ, List, ◌∷◌, ◌++◌}
-use Rattle.site_model.specs.History.{Step, on, synced}
+use Rattle.std.specs.Prelude.{◌≡◌, ◌⊎◌, ℕ, true, List, ◌∷◌, ◌++◌}
+use Rattle.site_model.specs.History.{Step, on, synced, changes_of, content_of, Leaves}
 use Rattle.engine_run.specs.declared.ended.Cause.{Cause}
 use Rattle.engine_run.specs.declared.ended.Cause.TheVariants.{Done, SiteFault, SayFault, Damaged, Memory}
 use Rattle.engine_run.specs.declared.input.Input.{Input}
+use Rattle.engine_run.specs.declared.state.State.{State}
+use Rattle.engine_run.specs.State.{IsQuiet}
+use Rattle.engine_run.specs.Commit.{Holds}
+use Rattle.engine_run.specs.Labels.{Appends}
+use Rattle.engine_run.specs.Recovery.{header_of, StartsFrom}
 use Rattle.engine_run.specs.declared.state.Found.{Found}
 use Rattle.engine_run.specs.declared.state.Found.TheVariants.{Ended}
 use Rattle.commit_log.specs.Segment.{fresh, reading_of}
@@ -35,3 +40,29 @@ Untouched old new SayFault = Unit {0}
 Untouched old new Memory = Unit {0}
 Untouched old new (Damaged file offset) = new ≡ on 16 synced ∷ old
 Untouched old new other = new ≡ old
+
+-- The log holds the frames that it held at the start, and behind them frames of labels of this run, each of which the
+-- machine has. The last state is what all of them make.
+pub record GoesOn (files : ℕ → List ℕ) (image : List ℕ) : Type 0 where
+  pub input : Input
+  pub form : HasForm files input
+  pub payloads : List (List ℕ)
+  pub first : State
+  pub position : ℕ
+  pub incarnation : ℕ
+  pub starts : StartsFrom input (files 16) payloads first position incarnation
+  pub frames : List (List ℕ)
+  pub last : State
+  pub path : Appends input incarnation position first frames last
+  pub holds : Holds (header_of input) (payloads ++ frames) image
+
+-- What a crash leaves of the log at a moment of a run: what it could have left at the start; or a fresh log where it was
+-- fresh; or a log that goes on from what it held.
+abbrev pub LeavesRun : (ℕ → List ℕ) → List Step → List Step → Type 0
+LeavesRun files old steps =
+    (image : List ℕ) → Leaves (changes_of 16 steps) image
+    → Leaves (changes_of 16 old) image ⊎ (((reading_of (files 16) ≡ fresh) × (reading_of image ≡ fresh)) ⊎ GoesOn files image)
+
+-- after the last label
+abbrev pub LeavesQuiet : (ℕ → List ℕ) → List Step → Type 0
+LeavesQuiet files steps = (image : List ℕ) → Leaves (changes_of 16 steps) image → (log : GoesOn files image) × IsQuiet log.last true

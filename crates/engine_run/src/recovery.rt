@@ -1,11 +1,12 @@
 //! Opening the log of the partition, and what its labels made.
 
-ghost use Rattle.std.specs.Prelude.{◌≡◌, ◌≤◌, ◌∷◌, ℕ, Err, IfOk, IfErr, OnErr};
+ghost use Rattle.std.specs.Prelude.{◌≡◌, ◌≤◌, [], ◌∷◌, ℕ, List, Err, IsTrue, IfOk, IfErr, OnErr};
 ghost use Rattle.site_model.specs.History.{on, synced, changes_of, content_of, tape, IsKept};
 ghost use Rattle.site_model.specs.Calls.{HasRisen};
-ghost use Rattle.commit_log.specs.States.{Rests};
+ghost use Rattle.site_model.specs.Moments.{Always, LeavesOnly};
+ghost use Rattle.commit_log.specs.States.{Rests, IsResting, IsFormatting};
 ghost use Rattle.engine_run.specs.State.{fresh_state};
-ghost use Rattle.engine_run.specs.Recovery.{IsRefused, IsOpening, Recovers};
+ghost use Rattle.engine_run.specs.Recovery.{IsRefused, IsOpening, Recovers, header_of, LeavesOpening, StartsFrom};
 
 use crate::ended::Cause;
 use crate::error::ReadError;
@@ -33,7 +34,9 @@ fn damaged() -> Cause
 }
 
 /// Whether a log is this partition's, and of this flow file.
-fn is_ours(header: &Header, input: &Input) -> bool {
+fn is_ours(header: &Header, input: &Input) -> bool
+    ensures { IsTrue result → header.now ≡ header_of input.now }
+{
     header.partition == 0
         && header.partitions == 1
         && header.digest == input.digest
@@ -43,6 +46,7 @@ fn is_ours(header: &Header, input: &Input) -> bool {
 /// What an open log holds.
 fn recover_opened(alloc: Global, input: &Input, opened: Opened) -> Result<Recovered, Cause>
     ensures log { IfOk result (λ r. r.log ≡ opened.log) }
+    ensures header { IfOk result (λ r. opened.header ≡ header_of input.now) }
     ensures refused { IfErr result IsRefused }
 {
     let Opened {
@@ -74,6 +78,9 @@ fn recover_opened(alloc: Global, input: &Input, opened: Opened) -> Result<Recove
 fn make_log<V: Site>(site: &mut V, input: &Input) -> Result<Recovered, Cause>
     requires { V.tells → IsKept (changes_of LOG (V.history site.old)) }
     ensures rests { V.tells → IfOk result (λ r. Rests (changes_of r.log.file (V.history site.new)) r.log.gate) }
+    ensures during { V.tells → LeavesOnly LOG (V.history site.old) (V.history site.new) (IsFormatting (content_of LOG (V.history site.old)) (header_of input.now)) }
+    ensures stands { V.tells → IfOk result (λ r. IsResting (changes_of r.log.file (V.history site.new)) (header_of input.now) [] r.log.gate) }
+    ensures first { IfOk result (λ r. (r.position ≡ 0) × (r.incarnation ≡ 0)) }
     ensures place { IfOk result (λ r. r.log.file ≡ LOG) }
     ensures fresh { IfOk result (λ r. r.state ≡ fresh_state) }
     ensures fault { OnErr result ((result ≡ Err Cause.SiteFault) × HasRisen (V.disk_faults site.old) (V.disk_faults site.new)) }
@@ -99,12 +106,16 @@ fn make_log<V: Site>(site: &mut V, input: &Input) -> Result<Recovered, Cause>
 }
 
 /// Opens the log, or makes it where there is none.
+#[tactic(auto, using(crate::proofs::Opening::opening_reads, crate::proofs::Opening::opening_formats))]
 pub(crate) fn recover<V: Site>(
     alloc: Global,
     site: &mut V,
     input: &Input,
 ) -> Result<Recovered, Cause>
     ensures recovers { V.tells → Recovers (content_of LOG (V.history site.old)) result }
+    ensures during { V.tells → Always (LeavesOpening input.now (V.history site.old)) (V.history site.old) (V.history site.new) }
+    ensures stands { V.tells → IfOk result (λ r. (payloads : List (List ℕ)) × IsResting (changes_of r.log.file (V.history site.new)) (header_of input.now) payloads r.log.gate
+        × StartsFrom input.now (content_of LOG (V.history site.old)) payloads r.state r.position r.incarnation) }
     ensures rests { V.tells → IfOk result (λ r. Rests (changes_of r.log.file (V.history site.new)) r.log.gate) }
     ensures place { IfOk result (λ r. r.log.file ≡ LOG) }
     ensures untouched { V.tells → (other offset : ℕ) → result ≡ Err (Cause.Damaged other offset) → V.history site.new ≡ on LOG synced ∷ V.history site.old }
