@@ -30,8 +30,7 @@ pub start_part : (input : Input) (told : Told) (before old now part line : List 
     → (said : List ℕ) × (now ≡ before ++ said) × IsSaidFront input said
 start_part input told before old now part line nothing stood goes front whole =
     let empty : old ≡ before = stood ∙ ap (λ t. before ++ said_of input t) nothing ∙ append-nil before in
-    let rest = front.0 ++ wait_line input Ended in
-    (
+    let rest = front.0 ++ wait_line input Ended in (
       part,
       goes ∙ ap (λ (l : List ℕ). l ++ part) empty,
       (Ended, (rest, ap (λ (l : List ℕ). l ++ wait_line input Ended) (sym whole ∙ front.1) ∙ append_assoc part front.0 (wait_line input Ended))),
@@ -41,8 +40,7 @@ start_part input told before old now part line nothing stood goes front whole =
 pub wait_part : (input : Input) (told : Told) (found : Found) (before old now part line : List ℕ) → told ≡ Start → old ≡ before ++ said_of input told → now ≡ old ++ part → IsFront part line → line ≡ wait_line input found
     → (said : List ℕ) × (now ≡ before ++ said) × IsSaidFront input said
 wait_part input told found before old now part line start stood goes front whole =
-    let one : old ≡ before ++ start_line input = stood ∙ ap (λ t. before ++ said_of input t) start in
-    (
+    let one : old ≡ before ++ start_line input = stood ∙ ap (λ t. before ++ said_of input t) start in (
       start_line input ++ part,
       goes ∙ ap (λ (l : List ℕ). l ++ part) one ∙ append_assoc before (start_line input) part,
       (found, (front.0, ap (λ (l : List ℕ). start_line input ++ l) (sym whole ∙ front.1) ∙ sym (append_assoc (start_line input) part front.0))),

@@ -77,7 +77,7 @@ asked s waits.Sent stamp =
     if not (is_there s.start)
     then Some (record s { wait = waits.Replied Missing; wait_replied_first = false; stamp = max s.stamp stamp })
     else (if nat_lt stamp s.last then None
-          else Some (record s { wait = asked_at s.finished; wait_replied_first = false; last = stamp; stamp = max s.stamp stamp }))
+    else Some (record s { wait = asked_at s.finished; wait_replied_first = false; last = stamp; stamp = max s.stamp stamp }))
 asked s other stamp = None
 
 -- the instance is delivered the first message on its way

@@ -3,7 +3,6 @@
 ghost use Rattle.std.specs.Prelude.{◌≡◌, ◌≤◌, length, IfOk};
 ghost use Rattle.engine_run.specs.Activities.{May, sum_of, added};
 
-
 use crate::data::{Scalar, Value};
 use crate::text::Text;
 use std::alloc::{AllocError, Global};
@@ -21,7 +20,13 @@ pub enum Outcome {
 pub trait Activities {
     /// Runs an activity. `word` is different for each run, for those that want chance. An activity may be run more
     /// than once; its completion is recorded once. Err is want of memory, and then nothing is recorded.
-    fn run(&self, alloc: Global, name: &str, argument: &Value, word: u64) -> Result<Outcome, AllocError>
+    fn run(
+        &self,
+        alloc: Global,
+        name: &str,
+        argument: &Value,
+        word: u64,
+    ) -> Result<Outcome, AllocError>
         ensures { IfOk result (May name.now argument.now) };
 }
 
@@ -31,7 +36,13 @@ pub trait Activities {
 pub struct Table;
 
 impl Activities for Table {
-    fn run(&self, alloc: Global, name: &str, argument: &Value, _word: u64) -> Result<Outcome, AllocError> {
+    fn run(
+        &self,
+        alloc: Global,
+        name: &str,
+        argument: &Value,
+        _word: u64,
+    ) -> Result<Outcome, AllocError> {
         if name != "add" {
             return failed(alloc, "unknown");
         }

@@ -1,10 +1,10 @@
 //! Values: what flows compute with.
 
+ghost use Rattle.std.specs.Prelude.{◌≡◌, [], ◌∷◌, IfOk};
+
 use crate::text::Text;
 use std::alloc::{AllocError, Global};
 use std::marker::Model;
-
-ghost use Rattle.std.specs.Prelude.{◌≡◌, [], ◌∷◌, IfOk};
 
 /// A value that is no list.
 #[derive(Debug, Drop)]

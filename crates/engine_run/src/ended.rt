@@ -1,6 +1,5 @@
 //! How a run ends.
 
-
 use crate::trail::Trail;
 use thiserror::Error;
 

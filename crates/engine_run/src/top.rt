@@ -92,12 +92,7 @@ pub fn run_alone<V: Site, C: Clock, A: Activities>(
 ///
 /// A refusal is the first of these: the words, then files 0, 1 and 2 in this order, each one's length before its bytes,
 /// then file 16.
-pub fn run<
-    R: Threads + Wait + Sync,
-    V: Site + Send,
-    C: Clock + Send,
-    A: Activities + Sync,
->(
+pub fn run<R: Threads + Wait + Sync, V: Site + Send, C: Clock + Send, A: Activities + Sync>(
     rt: &R,
     alloc: Global,
     words: &[Text],
