@@ -19,7 +19,6 @@ mod recovered;
 mod recovery;
 mod replay;
 mod request_file;
-
 mod settle;
 mod state;
 mod text;
@@ -35,10 +34,14 @@ pub use ended::{Cause, Ended, FlowFault, FlowPath, PlanPlace};
 pub use flow_file::Flow;
 pub use names::{Key, Name};
 pub use request_file::{Kind, Requests};
-pub use top::{run, run_alone};
 pub use state::{Found, Label, StartStage, State, WaitStage};
 pub use text::{Text, TextError};
+pub use top::{run, run_alone};
 pub use trail::{Entry, Trail};
 
+#[cfg(test)]
+mod log_tests;
+#[cfg(test)]
+mod run_tests;
 #[cfg(test)]
 mod tests;
