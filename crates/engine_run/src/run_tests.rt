@@ -246,17 +246,19 @@ fn a_crash_at_each_moment(rt: HostRuntime) -> Result<(), Fail> {
     Ok(())
 }
 
+const NO_COMMANDS: [&[&str]; 6] = [
+    &[],
+    &["run"],
+    &["run", "--partitions"],
+    &["run", "--partitions", "33"],
+    &["run", "--partitions", "1", "1"],
+    &["walk", "--partitions", "1"],
+];
+
 #[test]
 fn refused_words(rt: HostRuntime) -> Result<(), Fail> {
     let alloc = rt.alloc();
-    for words in [
-        [].as_slice(),
-        ["run"].as_slice(),
-        ["run", "--partitions"].as_slice(),
-        ["run", "--partitions", "33"].as_slice(),
-        ["run", "--partitions", "1", "1"].as_slice(),
-        ["walk", "--partitions", "1"].as_slice(),
-    ] {
+    for words in NO_COMMANDS {
         let ended = run_words(alloc, words, sum_site(alloc, Vec::new(alloc))?)?;
         assert_eq!(rt; (ended.status, ended.cause), (1, Cause::Usage));
         assert!(rt; says(alloc, &ended.site, "")?);
