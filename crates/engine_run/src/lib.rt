@@ -49,4 +49,8 @@ pub use top::{run, run_alone};
 pub use trail::{Entry, Trail};
 
 #[cfg(test)]
+mod log_tests;
+#[cfg(test)]
+mod run_tests;
+#[cfg(test)]
 mod tests;
