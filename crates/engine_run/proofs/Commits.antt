@@ -1,12 +1,12 @@
 -- The calls of an append, one after another.
-use Rattle.std.proofs.Common.{◌≡◌, ◌⊎◌, inl, inr, ℕ, List, [], ◌∷◌, ◌++◌, subst, sym}
+use Rattle.std.proofs.Common.{◌≡◌, inl, inr, ℕ, List, subst}
 use Rattle.site_model.specs.History.{Step, changes_of}
 use Rattle.site_model.specs.Moments.{LeavesOnly}
 use Rattle.site_model.proofs.Paths.{leaves_weaker, leaves_then, stays}
 use Rattle.commit_log.specs.declared.header.Header.{Header}
 use Rattle.commit_log.specs.States.{IsResting, HasFrames, HasFramesOrOneMore}
 use Rattle.commit_log.proofs.Steps.{resting_images}
-use Rattle.engine_run.specs.Commit.{Holds, HoldsOneMore}
+use Rattle.engine_run.specs.Commit.{HoldsOneMore}
 
 one_of : (h : Header) (payloads : List (List ℕ)) (payload : List ℕ) (gate next : ℕ) (image : List ℕ) → HasFramesOrOneMore h payloads payload gate next image → HoldsOneMore h payloads payload image
 one_of h payloads payload gate next image (inl has) = inl (gate, has)

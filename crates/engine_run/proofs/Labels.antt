@@ -1,9 +1,9 @@
 -- From label to label.
-use Rattle.std.proofs.Common.{◌≡◌, ◌⊎◌, inl, inr, ℕ, ◌+◌, List, [], ◌∷◌, ◌++◌, length, Some, refl, sym, ap, subst, arith, ◌∙◌}
+use Rattle.std.proofs.Common.{◌≡◌, inl, inr, ℕ, ◌+◌, List, [], ◌∷◌, ◌++◌, length, Some, sym, ap, subst, arith, ◌∙◌}
 use Rattle.std.proofs.lemmas.List.{append-nil, append_assoc, length-append}
 use Rattle.site_model.specs.History.{Step, Change, changes_of, Leaves}
 use Rattle.site_model.specs.Moments.{Always, LeavesOnly, Keeps}
-use Rattle.site_model.specs.Moments.Always.{begins, goes_on}
+use Rattle.site_model.specs.Moments.Always.{begins}
 use Rattle.site_model.proofs.Paths.{together, weaker, last}
 use Rattle.commit_log.specs.declared.header.Header.{Header}
 use Rattle.commit_log.specs.States.{IsResting}
@@ -53,7 +53,7 @@ module _ (input : Input) (r : Recovered) (h : Header) (payloads : List (List ℕ
       there image (inr holds) =
           let frame = payload_bytes input (r.position + length kept.frames) r.incarnation label in
           let whole : (payloads ++ kept.frames) ++ payload_bytes input position r.incarnation label ∷ [] ≡ payloads ++ (kept.frames ++ frame ∷ []) =
-              ap (λ (n : ℕ). (payloads ++ kept.frames) ++ payload_bytes input n r.incarnation label ∷ []) kept.place ∙ append_assoc payloads kept.frames (frame ∷ []) in
+          ap (λ (n : ℕ). (payloads ++ kept.frames) ++ payload_bytes input n r.incarnation label ∷ []) kept.place ∙ append_assoc payloads kept.frames (frame ∷ []) in
           (kept.frames ++ frame ∷ [], next, one_more label next kept.path goes, subst (λ (p : List (List ℕ)). Holds h p image) whole holds)
 
       now : (steps : List Step) → Keeps r.log.file mid (HoldsOneMore h (payloads ++ kept.frames) (payload_bytes input position r.incarnation label)) steps → LeavesLabels input r h payloads steps
@@ -67,7 +67,7 @@ module _ (input : Input) (r : Recovered) (h : Header) (payloads : List (List ℕ
   kept_settled old mid new s next position gate later label kept goes during after =
       let frame = payload_bytes input (r.position + length kept.frames) r.incarnation label in
       let whole : (payloads ++ kept.frames) ++ payload_bytes input position r.incarnation label ∷ [] ≡ payloads ++ (kept.frames ++ frame ∷ []) =
-          ap (λ (n : ℕ). (payloads ++ kept.frames) ++ payload_bytes input n r.incarnation label ∷ []) kept.place ∙ append_assoc payloads kept.frames (frame ∷ []) in record {
+      ap (λ (n : ℕ). (payloads ++ kept.frames) ++ payload_bytes input n r.incarnation label ∷ []) kept.place ∙ append_assoc payloads kept.frames (frame ∷ []) in record {
         frames = kept.frames ++ frame ∷ [];
         path = one_more label next kept.path goes;
         place = omega (arith, kept.place, length-append kept.frames (frame ∷ []));

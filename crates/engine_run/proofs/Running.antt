@@ -1,5 +1,5 @@
 -- A run's moments, one part after another.
-use Rattle.std.proofs.Common.{◌≡◌, ◌⊎◌, inl, inr, ℕ, List, [], ◌++◌, true, refl, subst, sym}
+use Rattle.std.proofs.Common.{◌≡◌, ◌⊎◌, inl, inr, ℕ, List, [], refl, subst, sym}
 use Rattle.site_model.specs.History.{Step, changes_of, content_of, Leaves}
 use Rattle.site_model.specs.Moments.{Always}
 use Rattle.site_model.specs.Moments.Always.{begins}
@@ -8,9 +8,9 @@ use Rattle.commit_log.specs.Segment.{fresh, reading_of}
 use Rattle.engine_run.specs.declared.input.Input.{Input}
 use Rattle.engine_run.specs.declared.recovered.Recovered.{Recovered}
 use Rattle.engine_run.specs.Input.{HasForm}
-use Rattle.engine_run.specs.State.{fresh_state, IsQuiet}
+use Rattle.engine_run.specs.State.{fresh_state}
 use Rattle.engine_run.specs.Commit.{Holds}
-use Rattle.engine_run.specs.Labels.{Appends, LeavesLabels, LeavesAll}
+use Rattle.engine_run.specs.Labels.{LeavesLabels, LeavesAll}
 use Rattle.engine_run.specs.Labels.Appends.{none}
 use Rattle.engine_run.specs.Recovery.{header_of, LeavesOpening, StartsFrom}
 use Rattle.engine_run.specs.Run.{GoesOn, LeavesRun, LeavesQuiet}
@@ -71,16 +71,19 @@ module _ (old : List Step) (input : Input) (form : HasForm (files_of old) input)
         }))) driven)
 
     pub run_quiet : (new : List Step) → LeavesAll input r (header_of input) payloads new → LeavesQuiet (files_of old) new
-    run_quiet new all image left = (record {
-      input = input;
-      form = form;
-      payloads = payloads;
-      first = r.state;
-      position = r.position;
-      incarnation = r.incarnation;
-      starts = starts;
-      frames = all.0;
-      last = all.1;
-      path = all.2;
-      holds = all.4 image (there new image left);
-    }, all.3)
+    run_quiet new all image left = (
+      record {
+        input = input;
+        form = form;
+        payloads = payloads;
+        first = r.state;
+        position = r.position;
+        incarnation = r.incarnation;
+        starts = starts;
+        frames = all.0;
+        last = all.1;
+        path = all.2;
+        holds = all.4 image (there new image left);
+      },
+      all.3,
+    )

@@ -1,6 +1,6 @@
 -- What a run promises.
 use Rattle.std.specs.Prelude.{◌≡◌, ◌⊎◌, ℕ, true, List, ◌∷◌, ◌++◌}
-use Rattle.site_model.specs.History.{Step, on, synced, changes_of, content_of, Leaves}
+use Rattle.site_model.specs.History.{Step, on, synced, changes_of, Leaves}
 use Rattle.engine_run.specs.declared.ended.Cause.{Cause}
 use Rattle.engine_run.specs.declared.ended.Cause.TheVariants.{Done, SiteFault, SayFault, Damaged, Memory}
 use Rattle.engine_run.specs.declared.input.Input.{Input}

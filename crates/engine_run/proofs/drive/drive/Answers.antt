@@ -1,4 +1,4 @@
-use Rattle.std.proofs.Common.{◌≡◌, ◌∙◌, ℕ, List, [], ◌∷◌, ◌++◌, subst, sym, refl, rules}
+use Rattle.std.proofs.Common.{◌∙◌, ℕ, [], ◌∷◌, ◌++◌, subst, sym, refl, rules}
 use Rattle.site_model.specs.History.{tape, changes_of}
 use Rattle.site_model.specs.Moments.{LeavesOnly}
 use Rattle.commit_log.specs.States.{IsResting}
@@ -51,8 +51,7 @@ returns-in-Err-settle_label-clause-during g c tells h payloads rests =
 
 pub returns-in-None-clause-all : goal.returns-in-None-clause-all
 returns-in-None-clause-all g c tells h payloads rests =
-    let kept = kept_said c.args.input.now c.args.recovered h payloads (g.V.Site.history c.args.site.now) (g.V.Site.history c.labels.site) (g.V.Site.history c.say_due.new.site) c.labels.state c.labels.position c.labels.log.gate (c.labels.invariant.kept tells h payloads rests) (c.say_due.ensures.during tells) in
-    (
+    let kept = kept_said c.args.input.now c.args.recovered h payloads (g.V.Site.history c.args.site.now) (g.V.Site.history c.labels.site) (g.V.Site.history c.say_due.new.site) c.labels.state c.labels.position c.labels.log.gate (c.labels.invariant.kept tells h payloads rests) (c.say_due.ensures.during tells) in (
       kept.frames,
       c.labels.state,
       kept.path,

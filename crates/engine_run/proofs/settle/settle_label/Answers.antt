@@ -16,14 +16,14 @@ returns-in-Err-payload-clause-during g c tells h payloads rests = not_yet h payl
 pub returns-in-Ok-commit-clause-during : goal.returns-in-Ok-commit-clause-during
 returns-in-Ok-commit-clause-during g c tells h payloads rests =
     same_payload h payloads c.deref.result.now (payload_bytes c.args.input.now c.args.entry.position c.args.entry.incarnation c.args.entry.label) c.args.log.file (g.V.Site.history c.args.site.now) (g.V.Site.history c.commit.new.site)
-        (c.deref.ensures.value ∙ c.in-Ok-payload.ensures.payload) (c.commit.ensures.during tells h payloads rests)
+    (c.deref.ensures.value ∙ c.in-Ok-payload.ensures.payload) (c.commit.ensures.during tells h payloads rests)
 
 pub returns-clause-during : goal.returns-clause-during
 returns-clause-during g c tells h payloads rests =
     same_payload h payloads c.deref.result.now (payload_bytes c.args.input.now c.args.entry.position c.args.entry.incarnation c.args.entry.label) c.args.log.file (g.V.Site.history c.args.site.now) (g.V.Site.history c.commit.new.site)
-        (c.deref.ensures.value ∙ c.in-Ok-payload.ensures.payload) (c.commit.ensures.during tells h payloads rests)
+    (c.deref.ensures.value ∙ c.in-Ok-payload.ensures.payload) (c.commit.ensures.during tells h payloads rests)
 
 pub returns-in-Ok-commit-clause-after : goal.returns-in-Ok-commit-clause-after
 returns-in-Ok-commit-clause-after g c tells h payloads rests =
     subst (λ (payload : List ℕ). RestsAs (g.V.Site.history c.commit.new.site) h (payloads ++ payload ∷ []) c.in-Ok-commit.log)
-        (c.deref.ensures.value ∙ c.in-Ok-payload.ensures.payload) (c.in-Ok-commit.ensures.after tells h payloads rests)
+    (c.deref.ensures.value ∙ c.in-Ok-payload.ensures.payload) (c.in-Ok-commit.ensures.after tells h payloads rests)

@@ -1,4 +1,4 @@
-use Rattle.std.proofs.Common.{ℕ, List, subst, ap, sym}
+use Rattle.std.proofs.Common.{List, subst}
 use Rattle.site_model.specs.History.{Step, content_of}
 use Rattle.site_model.specs.Moments.{Always}
 use Rattle.engine_run.specs.Recovery.{header_of, LeavesOpening, StartsFrom}
