@@ -113,7 +113,7 @@ fn stamp_of(label: Label) -> Option<u64> {
 
 /// Logs in other orders than a run writes, each with the lines that the next run says, the incarnation, first position
 /// and number of its entries, and the least stamp of their deliveries.
-const LEGAL: [(&str, &str, u64, u64, usize, u64); 8] = [
+const LEGAL: [(&str, &str, u64, u64, usize, u64); 9] = [
     ("", SUM, 0, 0, 7, 0),
     // The wait finds no instance.
     ("h1 q0 q0 h1 wait / h1 q1 q0 h1 arrive q0", NONE, 1, 2, 5, 0),
@@ -155,6 +155,15 @@ const LEGAL: [(&str, &str, u64, u64, usize, u64); 8] = [
         1,
         5,
         9223372036854775807,
+    ),
+    // The last incarnation comes again.
+    (
+        "h1 q0 q2305843009213693951 h1 start",
+        SUM,
+        2305843009213693951,
+        1,
+        6,
+        0,
     ),
 ];
 

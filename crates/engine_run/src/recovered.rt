@@ -1,6 +1,6 @@
 //! What recovery gives.
 
-ghost use Rattle.std.specs.Prelude.{◌+◌, ◌≤◌, ◌^◌};
+ghost use Rattle.std.specs.Prelude.{◌+◌, ◌≤◌, ◌<◌, ◌^◌};
 ghost use Rattle.engine_run.specs.State.{work, IsSound};
 
 use crate::state::State;
@@ -20,5 +20,5 @@ pub(crate) struct Recovered {
     ghost sound: { IsSound state },
     ghost short: { position + work state ≤ 8 },
     ghost short_log: { log.gate ≤ 2 ^ 20 },
-    ghost low: { incarnation ≤ 2 ^ 61 },
+    ghost low: { incarnation < 2 ^ 61 },
 }

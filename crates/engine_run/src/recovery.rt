@@ -21,6 +21,9 @@ use std::alloc::Global;
 /// The file of the partition's log.
 const LOG: u32 = 16;
 
+/// The last incarnation that a log may have.
+const LAST_INCARNATION: u64 = (1 << 61) - 1;
+
 /// No log of this form of input comes to this length: it has seven frames at the most.
 const LONG: u64 = 1 << 20;
 
@@ -63,7 +66,8 @@ fn recover_opened(alloc: Global, input: &Input, opened: Opened) -> Result<Recove
         Err(ReadError::Memory) => return Err(Cause::Memory),
     };
     let incarnation = match replay.incarnation {
-        Some(last) => last + 1,
+        // Behind the last one there is none, and it may come again.
+        Some(last) => LAST_INCARNATION.min(last + 1),
         None => 0,
     };
     Ok(Recovered {

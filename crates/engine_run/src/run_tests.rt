@@ -167,6 +167,29 @@ fn check_images(
     Ok(())
 }
 
+/// The next run after a crash at this moment, and another in the run behind it, does.
+fn check_second_crash(
+    rt: &impl Abort,
+    alloc: Global,
+    site: &MemorySite,
+    moment: u64,
+) -> Result<(), Fail> {
+    for pick in [Pick::Stable, Pick::Torn(0xC3)] {
+        let image = site.image(alloc, moment, pick)?;
+        let crashed = image.moment();
+        let second = run_on(alloc, image)?.site;
+        for later in (crashed..=second.moment()).step_by(7) {
+            check_next(
+                rt,
+                alloc,
+                second.image(alloc, later, Pick::Torn(0xC3))?,
+                later,
+            )?;
+        }
+    }
+    Ok(())
+}
+
 /// Whether the call with this number failed, with the next runs after it checked.
 fn fails_at(rt: &impl Abort, alloc: Global, kind: Call, number: u64) -> Result<bool, Fail> {
     let fails = vec![in alloc; (kind, number)]?;
@@ -220,6 +243,39 @@ fn each_fault_in_turn(rt: HostRuntime) -> Result<(), Fail> {
     Ok(())
 }
 
+/// Whether the device's call with this number after one that failed before it fails too, with the next runs checked.
+fn fails_again_at(rt: &impl Abort, alloc: Global, first: u64, second: u64) -> Result<bool, Fail> {
+    let fails = vec![in alloc; (Call::Device, first), (Call::Device, second)]?;
+    let before = run_on(alloc, sum_site(alloc, fails)?)?;
+    assert_eq!(rt; before.cause, Cause::SiteFault, "at {first}");
+    let after = run_on(alloc, before.site)?;
+    if after.cause == Cause::Done {
+        return Ok(false);
+    }
+    assert_eq!(rt;
+        (after.status, after.cause),
+        (5, Cause::SiteFault),
+        "at {first} and {second}"
+    );
+    assert_eq!(rt; (after.site.disk_faults(), after.site.say_faults()), (2, 0));
+    check_next(rt, alloc, after.site, second)?;
+    Ok(true)
+}
+
+#[test]
+fn two_faults_in_turn(rt: HostRuntime) -> Result<(), Fail> {
+    let alloc = rt.alloc();
+    // A few of the calls of the device that the labels take at the least.
+    for first in (0..28).step_by(3) {
+        for second in (first + 1..1000).step_by(4) {
+            if !fails_again_at(&rt, alloc, first, second)? {
+                break;
+            }
+        }
+    }
+    Ok(())
+}
+
 #[test]
 fn a_sync_fails(rt: HostRuntime) -> Result<(), Fail> {
     let alloc = rt.alloc();
@@ -235,13 +291,17 @@ fn a_sync_fails(rt: HostRuntime) -> Result<(), Fail> {
 }
 
 #[test]
-fn a_crash_at_each_moment(rt: HostRuntime) -> Result<(), Fail> {
+fn two_crashes_at_each_moment(rt: HostRuntime) -> Result<(), Fail> {
     let alloc = rt.alloc();
     let site = sum_site(alloc, Vec::new(alloc))?;
     let prepared = site.moment();
-    let ended = run_on(alloc, site)?;
-    for moment in prepared..=ended.site.moment() {
-        check_images(&rt, alloc, &ended.site, moment)?;
+    let first = run_on(alloc, site)?.site;
+    for moment in prepared..=first.moment() {
+        check_images(&rt, alloc, &first, moment)?;
+    }
+    // And again in the next run, at a few of the moments.
+    for moment in (prepared..=first.moment()).step_by(6) {
+        check_second_crash(&rt, alloc, &first, moment)?;
     }
     Ok(())
 }

@@ -1,3 +1,5 @@
+use crate::activities::{Activities, Outcome, Table};
+use crate::data::{Scalar, Scalars, Value};
 use crate::error::ReadError;
 use crate::flow_file::read_flow;
 use crate::names::{Key, Name};
@@ -42,6 +44,28 @@ fn copies(rt: HostRuntime) -> Result<(), Fail> {
     let key = Key::of(alloc, b"1.x-y_z")?;
     assert!(rt; name.clone(alloc)?.as_bytes() == name.as_bytes());
     assert!(rt; key.clone(alloc)?.as_bytes() == key.as_bytes());
+    Ok(())
+}
+
+fn is_failure(outcome: &Outcome, fault: &str) -> bool {
+    match outcome {
+        Outcome::Failed(text) => text.as_str() == fault,
+        Outcome::Done(_) => false,
+    }
+}
+
+#[test]
+fn shipped_activities(rt: HostRuntime) -> Result<(), Fail> {
+    let alloc = rt.alloc();
+    let five = Value::List(Scalars::pair(alloc, Scalar::Int(7), Scalar::Int(-2))?);
+    let high = Value::List(Scalars::pair(alloc, Scalar::Int(i64::MAX), Scalar::Int(1))?);
+    let mixed = Value::List(Scalars::pair(alloc, Scalar::Int(1), Scalar::True)?);
+    let sum = Table.run(alloc, "add", &five, 0)?;
+    assert!(rt; matches!(sum, Outcome::Done(Value::Int(5))));
+    assert!(rt; is_failure(&Table.run(alloc, "add", &high, 0)?, "overflow"));
+    assert!(rt; is_failure(&Table.run(alloc, "add", &mixed, 0)?, "type"));
+    assert!(rt; is_failure(&Table.run(alloc, "add", &Value::Null, 0)?, "type"));
+    assert!(rt; is_failure(&Table.run(alloc, "less", &five, 0)?, "unknown"));
     Ok(())
 }
 
