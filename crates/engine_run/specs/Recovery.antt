@@ -1,5 +1,5 @@
 -- What recovery answers.
-use Rattle.std.specs.Prelude.{◌≡◌, ◌≢◌, ◌⊎◌, ℕ, List, [], Result, Ok, Err}
+use Rattle.std.specs.Prelude.{◌≡◌, ◌≢◌, ◌⊎◌, ℕ, ◌+◌, ◌-◌, ◌^◌, min, List, [], Option, Some, None, Result, Ok, Err}
 use Rattle.site_model.specs.History.{Step, changes_of, content_of, Leaves}
 use Rattle.commit_log.specs.declared.header.Header.{Header}
 use Rattle.commit_log.specs.Segment.{fresh, segment, reading_of}
@@ -10,6 +10,7 @@ use Rattle.engine_run.specs.declared.input.Input.{Input}
 use Rattle.engine_run.specs.declared.state.State.{State}
 use Rattle.engine_run.specs.State.{fresh_state}
 use Rattle.engine_run.specs.Commit.{Holds}
+use Rattle.engine_run.specs.Replay.{Point, Replays}
 
 -- a log that holds something is read, or refused as a whole
 abbrev pub IsRefused : Cause → Type 0
@@ -39,8 +40,18 @@ LeavesOpening input old steps =
     (image : List ℕ) → Leaves (changes_of 16 steps) image
     → Leaves (changes_of 16 old) image ⊎ ((reading_of (content_of 16 old) ≡ fresh) × ((reading_of image ≡ fresh) ⊎ Holds (header_of input) [] image))
 
--- A run goes on from these frames, with this state, position and incarnation. From a fresh log it begins.
+-- an incarnation behind the last one, as far as there is one
+abbrev pub next_incarnation : Option ℕ → ℕ
+next_incarnation None = 0
+next_incarnation (Some last) = min (2 ^ 61 - 1) (last + 1)
+
+-- the state, position and incarnation behind what these frames make
+abbrev pub Follows : Input → List (List ℕ) → State → ℕ → ℕ → Type 0
+Follows input payloads s position incarnation = (p : Point) × Replays input payloads p × (s ≡ p.state) × (position ≡ p.position) × (incarnation ≡ next_incarnation p.incarnation)
+
+-- A run goes on from these frames, with the state that they make, and the next position and incarnation. From a fresh
+-- log it begins.
 abbrev pub StartsFrom : Input → List ℕ → List (List ℕ) → State → ℕ → ℕ → Type 0
 StartsFrom input content payloads s position incarnation =
     ((reading_of content ≡ fresh) × (payloads ≡ []) × (s ≡ fresh_state) × (position ≡ 0) × (incarnation ≡ 0))
-    ⊎ ((gate : ℕ) × (reading_of content ≡ segment (header_of input) payloads gate))
+    ⊎ ((gate : ℕ) × (reading_of content ≡ segment (header_of input) payloads gate) × Follows input payloads s position incarnation)

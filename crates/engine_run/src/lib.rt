@@ -27,6 +27,7 @@ mod names;
 mod recovered;
 mod recovery;
 mod replay;
+mod replayed;
 mod request_file;
 mod settle;
 mod state;

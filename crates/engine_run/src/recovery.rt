@@ -6,7 +6,7 @@ ghost use Rattle.site_model.specs.Calls.{HasRisen};
 ghost use Rattle.site_model.specs.Moments.{Always, LeavesOnly};
 ghost use Rattle.commit_log.specs.States.{Rests, IsResting, IsFormatting};
 ghost use Rattle.engine_run.specs.State.{fresh_state};
-ghost use Rattle.engine_run.specs.Recovery.{IsRefused, IsOpening, Recovers, header_of, LeavesOpening, StartsFrom};
+ghost use Rattle.engine_run.specs.Recovery.{IsRefused, IsOpening, Recovers, header_of, LeavesOpening, Follows, StartsFrom};
 
 use crate::ended::Cause;
 use crate::error::ReadError;
@@ -50,6 +50,7 @@ fn is_ours(header: &Header, input: &Input) -> bool
 fn recover_opened(alloc: Global, input: &Input, opened: Opened) -> Result<Recovered, Cause>
     ensures log { IfOk result (λ r. r.log ≡ opened.log) }
     ensures header { IfOk result (λ r. opened.header ≡ header_of input.now) }
+    ensures follows { IfOk result (λ r. Follows input.now opened.payloads.items r.state r.position r.incarnation) }
     ensures refused { IfErr result IsRefused }
 {
     let Opened {

@@ -2,11 +2,15 @@
 
 ghost use Rattle.std.specs.Prelude.{◌≡◌, ◌+◌, ◌≤◌, ◌<◌, ◌^◌, ◌++◌, length, None, IsTrue, IfOk, IfSome};
 ghost use Rattle.engine_run.specs.Items.{item_bytes};
+ghost use Rattle.std.specs.Int.{w16, w64};
 ghost use Rattle.engine_run.specs.State.{stamp_of, work, IsSound, fresh_state};
+ghost use Rattle.engine_run.specs.Replay.{Number, Items, MayFollow, Entry, Frame, Replays};
+ghost use Rattle.engine_run.specs.Replayed.{point_of};
 
 use crate::error::ReadError;
 use crate::input::Input;
 use crate::items::put_item;
+use crate::replayed::Replay;
 use crate::request_file::{Kind, behind};
 use crate::state::{Label, State};
 use commit_log::Payload;
@@ -21,21 +25,9 @@ const INCARNATIONS: u64 = 1 << 61;
 /// The most entries of a frame, and items of an entry.
 const MOST: u16 = 64;
 
-/// How far a log was read.
-#[derive(Clone, Copy, Debug)]
-pub(crate) struct Replay {
-    /// What its labels made.
-    pub(crate) state: State,
-    /// The position of the next entry.
-    pub(crate) position: u64,
-    /// The incarnation of the entry before, where there is one.
-    pub(crate) incarnation: Option<u64>,
-    ghost sound: { IsSound state },
-    ghost short: { position + work state ≤ 8 },
-}
-
 fn u16_at(bytes: &[u8]) -> Result<(u16, &[u8]), ReadError>
-    ensures { IfOk result (λ found. length found.1.now + 2 ≡ length bytes.now) }
+    ensures size { IfOk result (λ found. length found.1.now + 2 ≡ length bytes.now) }
+    ensures number { IfOk result (λ found. Number w16 bytes.now found.0 found.1.now) }
 {
     if bytes.len() < 2 {
         return Err(ReadError::Refused);
@@ -45,7 +37,8 @@ fn u16_at(bytes: &[u8]) -> Result<(u16, &[u8]), ReadError>
 }
 
 fn u64_at(bytes: &[u8]) -> Result<(u64, &[u8]), ReadError>
-    ensures { IfOk result (λ found. length found.1.now + 8 ≡ length bytes.now) }
+    ensures size { IfOk result (λ found. length found.1.now + 8 ≡ length bytes.now) }
+    ensures number { IfOk result (λ found. Number w64 bytes.now found.0 found.1.now) }
 {
     if bytes.len() < 8 {
         return Err(ReadError::Refused);
@@ -59,7 +52,8 @@ fn u64_at(bytes: &[u8]) -> Result<(u64, &[u8]), ReadError>
 
 /// A count from 1 to 64.
 fn count_at(bytes: &[u8]) -> Result<(u16, &[u8]), ReadError>
-    ensures { IfOk result (λ found. (1 ≤ found.0) × (found.0 ≤ 64)) }
+    ensures range { IfOk result (λ found. (1 ≤ found.0) × (found.0 ≤ 64)) }
+    ensures number { IfOk result (λ found. Number w16 bytes.now found.0 found.1.now) }
 {
     let (count, rest) = match u16_at(bytes) {
         Ok(found) => found,
@@ -157,6 +151,7 @@ fn read_items<'b>(
     requires { IsSound first }
     ensures sound { IfOk result (λ found. IsSound found.0) }
     ensures work { IfOk result (λ found. work found.0 + count ≤ work first) }
+    ensures items { IfOk result (λ found. Items input.now first bytes.now count found.0 found.1.now) }
 {
     let mut state = first;
     let mut rest = bytes;
@@ -176,7 +171,7 @@ fn read_items<'b>(
 
 /// Whether an entry of this incarnation may follow.
 fn may_follow(before: Option<u64>, incarnation: u64) -> bool
-    ensures { IsTrue result → incarnation < 2 ^ 61 }
+    ensures { IsTrue result → MayFollow before incarnation }
 {
     if incarnation >= INCARNATIONS {
         return false;
@@ -194,7 +189,8 @@ fn read_entry<'b>(
     replay: Replay,
     bytes: &'b [u8],
 ) -> Result<(Replay, &'b [u8]), ReadError>
-    ensures { IfOk result (λ found. IfSome found.0.incarnation (λ i. i < 2 ^ 61)) }
+    ensures low { IfOk result (λ found. IfSome found.0.incarnation (λ i. i < 2 ^ 61)) }
+    ensures entry { IfOk result (λ found. Entry input.now (point_of replay) bytes.now (point_of found.0) found.1.now) }
 {
     let (position, rest) = match u64_at(bytes) {
         Ok(found) => found,
@@ -231,7 +227,8 @@ fn read_payload(
     bytes: &[u8],
 ) -> Result<Replay, ReadError>
     requires { IfSome first.incarnation (λ i. i < 2 ^ 61) }
-    ensures { IfOk result (λ found. IfSome found.incarnation (λ i. i < 2 ^ 61)) }
+    ensures low { IfOk result (λ found. IfSome found.incarnation (λ i. i < 2 ^ 61)) }
+    ensures frame { IfOk result (λ found. Frame input.now (point_of first) bytes.now (point_of found)) }
 {
     let (count, rest) = match count_at(bytes) {
         Ok(found) => found,
@@ -255,7 +252,8 @@ fn read_payload(
 }
 
 fn nothing_read() -> Replay
-    ensures { result.incarnation ≡ None }
+    ensures incarnation { result.incarnation ≡ None }
+    ensures state { (result.state ≡ fresh_state) × (result.position ≡ 0) }
 {
     Replay {
         state: State::fresh(),
@@ -270,7 +268,8 @@ pub(crate) fn replay_all(
     input: &Input,
     payloads: &[Payload],
 ) -> Result<Replay, ReadError>
-    ensures { IfOk result (λ found. IfSome found.incarnation (λ i. i < 2 ^ 61)) }
+    ensures low { IfOk result (λ found. IfSome found.incarnation (λ i. i < 2 ^ 61)) }
+    ensures replays { IfOk result (λ found. Replays input.now payloads.now (point_of found)) }
 {
     let mut replay = nothing_read();
     for payload in payloads {
