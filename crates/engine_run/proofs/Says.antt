@@ -3,6 +3,7 @@ use Rattle.std.proofs.Common.{◌≡◌, ◌++◌, ℕ, List, [], take, drop, Re
 use Rattle.std.specs.Prelude.{OnOk}
 use Rattle.std.proofs.lemmas.List.{take-append-drop, append-nil, append_assoc}
 use Rattle.site_model.specs.History.{Step, tape, changes_of, saying, said}
+use Rattle.site_model.specs.Moments.{Always}
 use Rattle.site_model.specs.Moments.Always.{begins, goes_on}
 use Rattle.site_model.proofs.Paths.{last, together, weaker}
 use Rattle.site_model.specs.Calls.{Says}
@@ -10,10 +11,15 @@ use Rattle.site_model.proofs.Tape.{tape-saying, changes_of-saying}
 use Rattle.engine_run.specs.declared.input.Input.{Input}
 use Rattle.engine_run.specs.declared.state.Found.{Found}
 use Rattle.engine_run.specs.declared.state.Found.TheVariants.{Ended}
+use Rattle.engine_run.specs.declared.state.StartStage.{StartStage}
+use Rattle.engine_run.specs.declared.state.StartStage.TheVariants as starts
+use Rattle.engine_run.specs.declared.state.WaitStage.{WaitStage}
+use Rattle.engine_run.specs.declared.state.WaitStage.TheVariants as waits
+use Rattle.engine_run.specs.declared.state.State.{State}
 use Rattle.engine_run.specs.declared.told.Told.{Told}
 use Rattle.engine_run.specs.declared.told.Told.TheVariants.{Nothing, Start, Both}
 use Rattle.engine_run.specs.Lines.{start_line, wait_line}
-use Rattle.engine_run.specs.Told.{said_of, IsFront, IsSaidFront, LeavesFiles}
+use Rattle.engine_run.specs.Told.{said_of, IsFront, IsSaidFront, TellsRightly, told_wait, told_start, told_of, SaysPart, LeavesFiles}
 
 pub said_part : {T E : Type 0} (line : List ℕ) (old new : List Step) (result : Result T E) → Says line old new result
     → (part : List ℕ) × (tape new ≡ tape old ++ part) × IsFront part line
@@ -27,21 +33,86 @@ said_whole line old new (Err e) says = tt
 pub says_no_file : {T E : Type 0} (line : List ℕ) (old new : List Step) (result : Result T E) → Says line old new result → (file : ℕ) → changes_of file new ≡ changes_of file old
 says_no_file line old new result says file = ap (changes_of file) says.steps ∙ changes_of-saying file (take says.count line) old
 
-always_saying : (line : List ℕ) (old mid : List Step) → LeavesFiles old mid → LeavesFiles old (saying line mid)
-always_saying [] old mid before = before
-always_saying (byte ∷ line) old mid before = always_saying line old (said byte ∷ mid) (goes_on before (λ file. last before file))
+pub front_then : (a b c : List ℕ) → IsFront a b → IsFront b c → IsFront a c
+front_then a b c one two = (one.0 ++ two.0, two.1 ∙ ap (λ (l : List ℕ). l ++ two.0) one.1 ∙ append_assoc a one.0 two.0)
 
-pub says_during : {T E : Type 0} (line : List ℕ) (old new : List Step) (result : Result T E) → Says line old new result → LeavesFiles old new
+always_saying : (bytes rest done line : List ℕ) (old mid : List Step) → line ≡ done ++ (bytes ++ rest) → ((file : ℕ) → changes_of file mid ≡ changes_of file old) → tape mid ≡ tape old ++ done
+    → Always (SaysPart line old) old mid → Always (SaysPart line old) old (saying bytes mid)
+always_saying [] rest done line old mid goes files stood before = before
+always_saying (byte ∷ bytes) rest done line old mid goes files stood before =
+    let next = done ++ byte ∷ [] in
+    let split : line ≡ next ++ (bytes ++ rest) = goes ∙ sym (append_assoc done (byte ∷ []) (bytes ++ rest)) in
+    let said_now : tape (said byte ∷ mid) ≡ tape old ++ next = ap (λ (l : List ℕ). l ++ byte ∷ []) stood ∙ append_assoc (tape old) done (byte ∷ []) in
+    always_saying bytes rest next line old (said byte ∷ mid) split files said_now
+    (goes_on before (record { files = files; part = next; said = said_now; front = (bytes ++ rest, split) }))
+
+pub says_during : {T E : Type 0} (line : List ℕ) (old new : List Step) (result : Result T E) → Says line old new result → Always (SaysPart line old) old new
 says_during line old new result says =
-    subst (λ (steps : List Step). LeavesFiles old steps) (sym says.steps) (always_saying (take says.count line) old old (begins (λ file. refl)))
+    let nothing : tape old ≡ tape old ++ [] = sym (append-nil (tape old)) in
+    subst (λ (steps : List Step). Always (SaysPart line old) old steps) (sym says.steps)
+    (always_saying (take says.count line) (drop says.count line) [] line old old (sym (take-append-drop says.count line)) (λ file. refl) nothing
+        (begins (record { files = λ file. refl; part = []; said = nothing; front = (line, refl) })))
 
--- nothing was said
-pub silence : (old : List Step) → LeavesFiles old old
-silence old = begins (λ file. refl)
+start_front : (input : Input) (wait : WaitStage) → IsFront (start_line input) (said_of input (told_wait wait))
+start_front input waits.Untaken = ([], sym (append-nil (start_line input)))
+start_front input waits.Sent = ([], sym (append-nil (start_line input)))
+start_front input waits.Kept = ([], sym (append-nil (start_line input)))
+start_front input (waits.Replied found) = ([], sym (append-nil (start_line input)))
+start_front input (waits.Answered found) = (wait_line input found, refl)
 
--- and more
-pub more_said : {old mid new : List Step} → LeavesFiles old mid → LeavesFiles mid new → LeavesFiles old new
-more_said before after = together before (weaker (λ steps same file. same file ∙ last before file) after)
+answered_front : (input : Input) (s : State) → s.start ≡ starts.Answered → IsFront (start_line input) (said_of input (told_of s))
+answered_front input s is = subst (λ (start : StartStage). IsFront (start_line input) (said_of input (told_start start s.wait))) (sym is) (start_front input s.wait)
+
+both_told : (input : Input) (s : State) (found : Found) → s.start ≡ starts.Answered → s.wait ≡ waits.Answered found → said_of input (told_of s) ≡ said_of input (Both found)
+both_told input s found start wait = ap (λ (stage : StartStage). said_of input (told_start stage s.wait)) start ∙ ap (λ (stage : WaitStage). said_of input (told_wait stage)) wait
+
+-- what was said rightly is a front of the answers
+pub right_front : (input : Input) (s : State) (told : Told) → TellsRightly s told → IsFront (said_of input told) (said_of input (told_of s))
+right_front input s Nothing right = (said_of input (told_of s), refl)
+right_front input s Start right = answered_front input s right
+right_front input s (Both found) right = ([], both_told input s found right.0 right.1 ∙ sym (append-nil (said_of input (Both found))))
+
+-- nothing is said
+pub silence : (input : Input) (s : State) (told : Told) (old : List Step) → TellsRightly s told → Always (LeavesFiles input s told old) old old
+silence input s told old right = begins (record { files = λ file. refl; tells = λ before stood. (said_of input told, stood, right_front input s told right) })
+
+-- the start's answer
+pub start_said : (input : Input) (s : State) (told : Told) (line : List ℕ) (old new : List Step) → told ≡ Nothing → s.start ≡ starts.Answered → line ≡ start_line input
+    → Always (SaysPart line old) old new → Always (LeavesFiles input s told old) old new
+start_said input s told line old new nothing start whole = weaker (λ steps says. record {
+  files = says.files;
+  tells = λ before stood.
+      let empty : tape old ≡ before = stood ∙ ap (λ t. before ++ said_of input t) nothing ∙ append-nil before in (
+        says.part,
+        says.said ∙ ap (λ (l : List ℕ). l ++ says.part) empty,
+        front_then says.part line (said_of input (told_of s)) says.front (subst (λ (l : List ℕ). IsFront l (said_of input (told_of s))) (sym whole) (answered_front input s start)),
+      );
+})
+
+-- the wait's answer
+pub wait_said : (input : Input) (s : State) (told : Told) (found : Found) (line : List ℕ) (old new : List Step) → told ≡ Start → TellsRightly s told → s.wait ≡ waits.Answered found → line ≡ wait_line input found
+    → Always (SaysPart line old) old new → Always (LeavesFiles input s told old) old new
+wait_said input s told found line old new is right wait whole =
+    let start : s.start ≡ starts.Answered = subst (TellsRightly s) is right in
+    weaker (λ steps says. record {
+      files = says.files;
+      tells = λ before stood.
+          let one : tape old ≡ before ++ start_line input = stood ∙ ap (λ t. before ++ said_of input t) is in
+          let split : said_of input (Both found) ≡ (start_line input ++ says.part) ++ says.front.0 =
+              ap (λ (l : List ℕ). start_line input ++ l) (sym whole ∙ says.front.1) ∙ sym (append_assoc (start_line input) says.part says.front.0) in (
+            start_line input ++ says.part,
+            says.said ∙ ap (λ (l : List ℕ). l ++ says.part) one ∙ append_assoc before (start_line input) says.part,
+            (says.front.0, both_told input s found start wait ∙ split),
+          );
+    })
+
+-- one after the other
+pub more_said : (input : Input) (s : State) (told next : Told) (old mid new : List Step) → ((before : List ℕ) → tape old ≡ before ++ said_of input told → tape mid ≡ before ++ said_of input next)
+    → Always (LeavesFiles input s told old) old mid → Always (LeavesFiles input s next mid) mid new → Always (LeavesFiles input s told old) old new
+more_said input s told next old mid new stands first second = together first (weaker (λ steps leaves. record {
+  files = λ file. leaves.files file ∙ (last first).files file;
+  tells = λ before stood. leaves.tells before (stands before stood);
+}) second)
 
 -- a part of the start's line
 pub start_part : (input : Input) (told : Told) (before old now part line : List ℕ) → told ≡ Nothing → old ≡ before ++ said_of input told → now ≡ old ++ part → IsFront part line → line ≡ start_line input

@@ -1,9 +1,10 @@
 -- What a run says.
 use Rattle.std.specs.Prelude.{◌≡◌, ℕ, List, [], ◌++◌, true, Result, Ok, Err, Bool, false}
-use Rattle.site_model.specs.History.{Step, changes_of}
-use Rattle.site_model.specs.Moments.{Always}
+use Rattle.site_model.specs.History.{Step, changes_of, tape}
 use Rattle.engine_run.specs.declared.input.Input.{Input}
+use Rattle.engine_run.specs.declared.state.StartStage.{StartStage}
 use Rattle.engine_run.specs.declared.state.StartStage.TheVariants as starts
+use Rattle.engine_run.specs.declared.state.WaitStage.{WaitStage}
 use Rattle.engine_run.specs.declared.state.WaitStage.TheVariants as waits
 use Rattle.engine_run.specs.declared.state.Found.{Found}
 use Rattle.engine_run.specs.declared.state.State.{State}
@@ -48,9 +49,33 @@ abbrev pub TapeAfter : Input → List ℕ → List ℕ → Result Told Cause →
 TapeAfter input before now (Ok told) = now ≡ before ++ said_of input told
 TapeAfter input before now (Err cause) = (part : List ℕ) × (now ≡ before ++ part) × IsSaidFront input part
 
--- no file changes, at any moment
-abbrev pub LeavesFiles : List Step → List Step → Type 0
-LeavesFiles old new = Always (λ steps. (file : ℕ) → changes_of file steps ≡ changes_of file old) old new
+-- what the client was answered in a state
+abbrev pub told_wait : WaitStage → Told
+told_wait (waits.Answered found) = Both found
+told_wait other = Start
+
+abbrev pub told_start : StartStage → WaitStage → Told
+told_start starts.Answered wait = told_wait wait
+told_start other wait = Nothing
+
+abbrev pub told_of : State → Told
+told_of s = told_start s.start s.wait
+
+-- what was said behind this is a front of the answers in a state
+abbrev pub Tells : Input → State → List ℕ → List ℕ → Type 0
+Tells input s before now = (part : List ℕ) × (now ≡ before ++ part) × IsFront part (said_of input (told_of s))
+
+-- a front of these bytes was said, and no file changed
+pub record SaysPart (line : List ℕ) (old steps : List Step) : Type 0 where
+  pub files : (file : ℕ) → changes_of file steps ≡ changes_of file old
+  pub part : List ℕ
+  pub said : tape steps ≡ tape old ++ part
+  pub front : IsFront part line
+
+-- At each moment no file changes, and what was said is a front of the state's answers, if it was one before.
+pub record LeavesFiles (input : Input) (s : State) (told : Told) (old steps : List Step) : Type 0 where
+  pub files : (file : ℕ) → changes_of file steps ≡ changes_of file old
+  pub tells : (before : List ℕ) → tape old ≡ before ++ said_of input told → Tells input s before (tape steps)
 
 -- a fault of the tape, or want of memory
 abbrev pub IsSaying : Cause → Type 0

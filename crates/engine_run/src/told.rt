@@ -3,7 +3,8 @@
 ghost use Rattle.std.specs.Prelude.{◌≡◌, ◌≤◌, ◌<◌, ◌++◌, List, ℕ, length, Err, IfOk, IfErr, OnOk, OnErr};
 ghost use Rattle.site_model.specs.History.{changes_of, tape};
 ghost use Rattle.site_model.specs.Calls.{HasRisen};
-ghost use Rattle.engine_run.specs.Told.{said_of, is_start_told, TellsRightly, TellsAll, TapeAfter, IsFront, IsSaying, LeavesFiles};
+ghost use Rattle.site_model.specs.Moments.{Always};
+ghost use Rattle.engine_run.specs.Told.{said_of, is_start_told, TellsRightly, TellsAll, TapeAfter, IsFront, IsSaying, SaysPart, LeavesFiles};
 
 use crate::answers::{start_line, wait_line};
 use crate::ended::Cause;
@@ -39,7 +40,7 @@ fn say<V: Site>(site: &mut V, line: &[u8]) -> Result<(), Cause>
     ensures said { V.tells → OnOk result (tape (V.history site.new) ≡ tape (V.history site.old) ++ line.now) }
     ensures part { V.tells → (part : List ℕ) × (tape (V.history site.new) ≡ tape (V.history site.old) ++ part) × IsFront part line.now }
     ensures files { V.tells → (file : ℕ) → changes_of file (V.history site.new) ≡ changes_of file (V.history site.old) }
-    ensures during { V.tells → LeavesFiles (V.history site.old) (V.history site.new) }
+    ensures during { V.tells → Always (SaysPart line.now (V.history site.old)) (V.history site.old) (V.history site.new) }
     ensures fault { OnErr result ((result ≡ Err Cause.SayFault) × HasRisen (V.say_faults site.old) (V.say_faults site.new)) }
     ensures later { V.say_faults site.old ≤ V.say_faults site.new }
     ensures disk_faults { V.disk_faults site.new ≡ V.disk_faults site.old }
@@ -51,7 +52,7 @@ fn say<V: Site>(site: &mut V, line: &[u8]) -> Result<(), Cause>
 }
 
 /// Says the start's answer, where it is there and wasn't said.
-#[tactic(auto, using(crate::proofs::Says::silence))]
+#[tactic(auto, using(crate::proofs::Says::silence, crate::proofs::Says::start_said))]
 fn say_start<V: Site>(
     alloc: Global,
     site: &mut V,
@@ -64,7 +65,7 @@ fn say_start<V: Site>(
     ensures right { IfOk result (TellsRightly state) }
     ensures all { IfOk result (λ next. next ≡ Told.Nothing → state.start ≡ StartStage.Answered → ⊥) }
     ensures files { V.tells → (file : ℕ) → changes_of file (V.history site.new) ≡ changes_of file (V.history site.old) }
-    ensures during { V.tells → LeavesFiles (V.history site.old) (V.history site.new) }
+    ensures during { V.tells → Always (LeavesFiles input.now state told (V.history site.old)) (V.history site.old) (V.history site.new) }
     ensures saying { IfErr result IsSaying }
     ensures fault { result ≡ Err Cause.SayFault → HasRisen (V.say_faults site.old) (V.say_faults site.new) }
     ensures later { V.say_faults site.old ≤ V.say_faults site.new }
@@ -84,7 +85,7 @@ fn say_start<V: Site>(
 }
 
 /// Says the wait's answer, where it is there and wasn't said, and the start's was.
-#[tactic(auto, using(crate::proofs::Says::silence))]
+#[tactic(auto, using(crate::proofs::Says::silence, crate::proofs::Says::wait_said))]
 fn say_wait<V: Site>(
     alloc: Global,
     site: &mut V,
@@ -98,7 +99,7 @@ fn say_wait<V: Site>(
     ensures all { IfOk result (λ next. next ≡ Told.Start → (found : Found) → state.wait ≡ WaitStage.Answered found → ⊥) }
     ensures still { IfOk result (λ next. next ≡ Told.Nothing → told ≡ Told.Nothing) }
     ensures files { V.tells → (file : ℕ) → changes_of file (V.history site.new) ≡ changes_of file (V.history site.old) }
-    ensures during { V.tells → LeavesFiles (V.history site.old) (V.history site.new) }
+    ensures during { V.tells → Always (LeavesFiles input.now state told (V.history site.old)) (V.history site.old) (V.history site.new) }
     ensures saying { IfErr result IsSaying }
     ensures fault { result ≡ Err Cause.SayFault → HasRisen (V.say_faults site.old) (V.say_faults site.new) }
     ensures later { V.say_faults site.old ≤ V.say_faults site.new }
@@ -135,7 +136,7 @@ pub(crate) fn say_due<V: Site>(
     ensures right { IfOk result (TellsRightly state) }
     ensures all { IfOk result (TellsAll state) }
     ensures files { V.tells → (file : ℕ) → changes_of file (V.history site.new) ≡ changes_of file (V.history site.old) }
-    ensures during { V.tells → LeavesFiles (V.history site.old) (V.history site.new) }
+    ensures during { V.tells → Always (LeavesFiles input.now state told (V.history site.old)) (V.history site.old) (V.history site.new) }
     ensures saying { IfErr result IsSaying }
     ensures fault { result ≡ Err Cause.SayFault → HasRisen (V.say_faults site.old) (V.say_faults site.new) }
     ensures later { V.say_faults site.old ≤ V.say_faults site.new }
