@@ -1,7 +1,7 @@
 -- From label to label.
-use Rattle.std.proofs.Common.{◌≡◌, inl, inr, ℕ, ◌+◌, List, [], ◌∷◌, ◌++◌, length, Some, sym, ap, subst, arith, ◌∙◌}
+use Rattle.std.proofs.Common.{◌≡◌, inl, inr, ℕ, ◌+◌, List, [], ◌∷◌, ◌++◌, length, Some, refl, sym, ap, subst, arith, ◌∙◌}
 use Rattle.std.proofs.lemmas.List.{append-nil, append_assoc, length-append}
-use Rattle.site_model.specs.History.{Step, Change, changes_of, Leaves}
+use Rattle.site_model.specs.History.{Step, Change, changes_of, tape, Leaves}
 use Rattle.site_model.specs.Moments.{Always, LeavesOnly, Keeps}
 use Rattle.site_model.specs.Moments.Always.{begins}
 use Rattle.site_model.proofs.Paths.{together, weaker, last}
@@ -15,56 +15,75 @@ use Rattle.engine_run.specs.declared.state.Label.{Label}
 use Rattle.engine_run.specs.State.{applied}
 use Rattle.engine_run.specs.Items.{payload_bytes}
 use Rattle.engine_run.specs.Commit.{Holds, HoldsOneMore}
-use Rattle.engine_run.specs.Told.{LeavesFiles}
+use Rattle.engine_run.specs.declared.told.Told.{Told}
+use Rattle.engine_run.specs.Told.{said_of, told_of, TellsRightly, Tells, LeavesFiles}
+use Rattle.engine_run.proofs.Says.{right_front}
 use Rattle.engine_run.specs.Labels.{Appends, LeavesLabels, Kept}
 use Rattle.engine_run.specs.Labels.Appends.{none, one_more}
 
 module _ (input : Input) (r : Recovered) (h : Header) (payloads : List (List ℕ)) where
+  -- a log at rest, and what was said
+  resting : (steps : List Step) (s : State) (gate : ℕ) (frames : List (List ℕ)) (before : List ℕ) → Appends input r.incarnation r.position r.state frames s
+      → IsResting (changes_of r.log.file steps) h (payloads ++ frames) gate → (now : List Step) → changes_of r.log.file now ≡ changes_of r.log.file steps → Tells input s before (tape now)
+      → LeavesLabels input r h payloads before now
+  resting steps s gate frames before path rests now same tells image left =
+      let holds = resting_images h (payloads ++ frames) gate (changes_of r.log.file steps) rests image (subst (λ (changes : List Change). Leaves changes image) same left) in
+      (frames, s, path, (gate, holds), tells)
+
   -- nothing is settled yet
   pub kept_first : (steps : List Step) → IsResting (changes_of r.log.file steps) h payloads r.log.gate → Kept input r h payloads steps steps r.state r.position r.log.gate
   kept_first steps rests =
-      let here = subst (λ (p : List (List ℕ)). IsResting (changes_of r.log.file steps) h p r.log.gate) (sym (append-nil payloads)) rests in record {
+      let here = subst (λ (p : List (List ℕ)). IsResting (changes_of r.log.file steps) h p r.log.gate) (sym (append-nil payloads)) rests in
+      let silent : Tells input r.state (tape steps) (tape steps) = ([], sym (append-nil (tape steps)), (said_of input (told_of r.state), refl)) in record {
         frames = [];
         path = none;
         place = omega arith;
         rests = here;
-        always = begins (λ image left. ([], r.state, none, (r.log.gate, resting_images h (payloads ++ []) r.log.gate (changes_of r.log.file steps) here image left)));
+        always = begins (resting steps r.state r.log.gate [] (tape steps) none here steps refl silent);
       }
 
   -- saying leaves the files as they are
-  pub kept_said : (old mid new : List Step) (s : State) (position gate : ℕ) → Kept input r h payloads old mid s position gate → LeavesFiles mid new → Kept input r h payloads old new s position gate
-  kept_said old mid new s position gate kept said = record {
+  pub kept_said : (old mid new : List Step) (s : State) (position gate : ℕ) (told : Told) → Kept input r h payloads old mid s position gate → tape mid ≡ tape old ++ said_of input told
+      → Always (LeavesFiles input s told mid) mid new → Kept input r h payloads old new s position gate
+  kept_said old mid new s position gate told kept stood said = record {
     frames = kept.frames;
     path = kept.path;
     place = kept.place;
-    rests = subst (λ (changes : List Change). IsResting changes h (payloads ++ kept.frames) gate) (sym (last said r.log.file)) kept.rests;
-    always = together kept.always (weaker (λ steps same image left. last kept.always image (subst (λ (changes : List Change). Leaves changes image) (same r.log.file) left)) said);
+    rests = subst (λ (changes : List Change). IsResting changes h (payloads ++ kept.frames) gate) (sym ((last said).files r.log.file)) kept.rests;
+    always = together kept.always (weaker (λ steps leaves. resting mid s gate kept.frames (tape old) kept.path kept.rests steps (leaves.files r.log.file) (leaves.tells (tape old) stood)) said);
   }
 
   -- while a label is settled
-  pub while_settling : (old mid new : List Step) (s next : State) (position gate : ℕ) (label : Label) (kept : Kept input r h payloads old mid s position gate) → applied s label ≡ Some next
+  pub while_settling : (old mid new : List Step) (s next : State) (position gate : ℕ) (label : Label) (told : Told) (kept : Kept input r h payloads old mid s position gate) → applied s label ≡ Some next
+      → tape mid ≡ tape old ++ said_of input told → TellsRightly s told → TellsRightly next told
       → LeavesOnly r.log.file mid new (HoldsOneMore h (payloads ++ kept.frames) (payload_bytes input position r.incarnation label))
-      → Always (LeavesLabels input r h payloads) old new
-  while_settling old mid new s next position gate label kept goes during = together kept.always (weaker now during)
+      → Always (LeavesLabels input r h payloads (tape old)) old new
+  while_settling old mid new s next position gate label told kept goes stood right still during = together kept.always (weaker now during)
     where
-      there : (image : List ℕ) → HoldsOneMore h (payloads ++ kept.frames) (payload_bytes input position r.incarnation label) image
-          → (frames : List (List ℕ)) × (end : State) × Appends input r.incarnation r.position r.state frames end × Holds h (payloads ++ frames) image
-      there image (inl holds) = (kept.frames, s, kept.path, holds)
-      there image (inr holds) =
+      there : (image : List ℕ) (steps : List Step) → tape steps ≡ tape mid → HoldsOneMore h (payloads ++ kept.frames) (payload_bytes input position r.incarnation label) image
+          → (frames : List (List ℕ)) × (end : State) × Appends input r.incarnation r.position r.state frames end × Holds h (payloads ++ frames) image × Tells input end (tape old) (tape steps)
+      there image steps same (inl holds) = (kept.frames, s, kept.path, holds, (said_of input told, same ∙ stood, right_front input s told right))
+      there image steps same (inr holds) =
           let frame = payload_bytes input (r.position + length kept.frames) r.incarnation label in
           let whole : (payloads ++ kept.frames) ++ payload_bytes input position r.incarnation label ∷ [] ≡ payloads ++ (kept.frames ++ frame ∷ []) =
-          ap (λ (n : ℕ). (payloads ++ kept.frames) ++ payload_bytes input n r.incarnation label ∷ []) kept.place ∙ append_assoc payloads kept.frames (frame ∷ []) in
-          (kept.frames ++ frame ∷ [], next, one_more label next kept.path goes, subst (λ (p : List (List ℕ)). Holds h p image) whole holds)
+          ap (λ (n : ℕ). (payloads ++ kept.frames) ++ payload_bytes input n r.incarnation label ∷ []) kept.place ∙ append_assoc payloads kept.frames (frame ∷ []) in (
+            kept.frames ++ frame ∷ [],
+            next,
+            one_more label next kept.path goes,
+            subst (λ (p : List (List ℕ)). Holds h p image) whole holds,
+            (said_of input told, same ∙ stood, right_front input next told still),
+          )
 
-      now : (steps : List Step) → Keeps r.log.file mid (HoldsOneMore h (payloads ++ kept.frames) (payload_bytes input position r.incarnation label)) steps → LeavesLabels input r h payloads steps
-      now steps keeps image left = there image (keeps.images image left)
+      now : (steps : List Step) → Keeps r.log.file mid (HoldsOneMore h (payloads ++ kept.frames) (payload_bytes input position r.incarnation label)) steps → LeavesLabels input r h payloads (tape old) steps
+      now steps keeps image left = there image steps keeps.only.same_tape (keeps.images image left)
 
   -- and then
-  pub kept_settled : (old mid new : List Step) (s next : State) (position gate later : ℕ) (label : Label) (kept : Kept input r h payloads old mid s position gate) → applied s label ≡ Some next
+  pub kept_settled : (old mid new : List Step) (s next : State) (position gate later : ℕ) (label : Label) (told : Told) (kept : Kept input r h payloads old mid s position gate) → applied s label ≡ Some next
+      → tape mid ≡ tape old ++ said_of input told → TellsRightly s told → TellsRightly next told
       → LeavesOnly r.log.file mid new (HoldsOneMore h (payloads ++ kept.frames) (payload_bytes input position r.incarnation label))
       → IsResting (changes_of r.log.file new) h ((payloads ++ kept.frames) ++ payload_bytes input position r.incarnation label ∷ []) later
       → Kept input r h payloads old new next (position + 1) later
-  kept_settled old mid new s next position gate later label kept goes during after =
+  kept_settled old mid new s next position gate later label told kept goes stood right still during after =
       let frame = payload_bytes input (r.position + length kept.frames) r.incarnation label in
       let whole : (payloads ++ kept.frames) ++ payload_bytes input position r.incarnation label ∷ [] ≡ payloads ++ (kept.frames ++ frame ∷ []) =
       ap (λ (n : ℕ). (payloads ++ kept.frames) ++ payload_bytes input n r.incarnation label ∷ []) kept.place ∙ append_assoc payloads kept.frames (frame ∷ []) in record {
@@ -72,5 +91,5 @@ module _ (input : Input) (r : Recovered) (h : Header) (payloads : List (List ℕ
         path = one_more label next kept.path goes;
         place = omega (arith, kept.place, length-append kept.frames (frame ∷ []));
         rests = subst (λ (p : List (List ℕ)). IsResting (changes_of r.log.file new) h p later) whole after;
-        always = while_settling old mid new s next position gate label kept goes during;
+        always = while_settling old mid new s next position gate label told kept goes stood right still during;
       }

@@ -1,6 +1,8 @@
 -- A run's moments, one part after another.
-use Rattle.std.proofs.Common.{◌≡◌, ◌⊎◌, inl, inr, ℕ, List, [], refl, subst, sym}
-use Rattle.site_model.specs.History.{Step, changes_of, content_of, Leaves}
+use Rattle.std.proofs.Common.{◌≡◌, ◌⊎◌, inl, inr, ℕ, List, [], refl, subst, sym, ◌∙◌}
+use Rattle.site_model.specs.History.{Step, changes_of, content_of, tape, Leaves}
+use Rattle.std.proofs.lemmas.List.{append-nil}
+use Rattle.engine_run.specs.Told.{said_of, told_of, Tells}
 use Rattle.site_model.specs.Moments.{Always}
 use Rattle.site_model.specs.Moments.Always.{begins}
 use Rattle.site_model.proofs.Paths.{together, weaker}
@@ -20,55 +22,64 @@ files_of steps file = content_of file steps
 
 -- the input alone was read
 pub nothing_done : (old : List Step) → Always (LeavesRun (files_of old) old) old old
-nothing_done old = begins (λ image left. inl left)
+nothing_done old = begins (λ image left. inl (refl, inl left))
 
 pub only_read : (old new : List Step) → new ≡ old → Always (LeavesRun (files_of old) old) old new
 only_read old new same = subst (λ (steps : List Step). Always (LeavesRun (files_of old) old) old steps) (sym same) (nothing_done old)
 
 module _ (old : List Step) (input : Input) (form : HasForm (files_of old) input) where
-  begun : (image : List ℕ) → Leaves (changes_of 16 old) image ⊎ ((reading_of (content_of 16 old) ≡ fresh) × ((reading_of image ≡ fresh) ⊎ Holds (header_of input) [] image))
-      → Leaves (changes_of 16 old) image ⊎ (((reading_of (content_of 16 old) ≡ fresh) × (reading_of image ≡ fresh)) ⊎ GoesOn (files_of old) image)
-  begun image (inl before) = inl before
-  begun image (inr (is, inl reads)) = inr (inl (is, reads))
-  begun image (inr (is, inr holds)) = inr (inr (record {
-    input = input;
-    form = form;
-    payloads = [];
-    first = fresh_state;
-    position = 0;
-    incarnation = 0;
-    starts = inl (is, refl, refl, refl, refl);
-    frames = [];
-    last = fresh_state;
-    path = none;
-    holds = holds;
-  }))
+  begun : (steps : List Step) (image : List ℕ) → tape steps ≡ tape old
+      → Leaves (changes_of 16 old) image ⊎ ((reading_of (content_of 16 old) ≡ fresh) × ((reading_of image ≡ fresh) ⊎ Holds (header_of input) [] image))
+      → ((tape steps ≡ tape old) × (Leaves (changes_of 16 old) image ⊎ ((reading_of (content_of 16 old) ≡ fresh) × (reading_of image ≡ fresh))))
+      ⊎ ((log : GoesOn (files_of old) image) × Tells log.input log.last (tape old) (tape steps))
+  begun steps image same (inl before) = inl (same, inl before)
+  begun steps image same (inr (is, inl reads)) = inl (same, inr (is, reads))
+  begun steps image same (inr (is, inr holds)) = inr (
+    record {
+      input = input;
+      form = form;
+      payloads = [];
+      first = fresh_state;
+      position = 0;
+      incarnation = 0;
+      starts = inl (is, refl, refl, refl, refl);
+      frames = [];
+      last = fresh_state;
+      path = none;
+      holds = holds;
+    },
+    ([], same ∙ sym (append-nil (tape old)), (said_of input (told_of fresh_state), refl)),
+  )
 
   -- the log was opened
   pub run_opened : (new : List Step) → Always (LeavesOpening input old) old new → Always (LeavesRun (files_of old) old) old new
-  run_opened new = weaker (λ steps leaves image left. begun image (leaves image left))
+  run_opened new = weaker (λ steps leaves image left. begun steps image leaves.same_tape (leaves.images image left))
 
   module _ (r : Recovered) (payloads : List (List ℕ)) (place : r.log.file ≡ 16) (starts : StartsFrom input (content_of 16 old) payloads r.state r.position r.incarnation) where
     there : (steps : List Step) (image : List ℕ) → Leaves (changes_of 16 steps) image → Leaves (changes_of r.log.file steps) image
     there steps image = subst (λ (file : ℕ). Leaves (changes_of file steps) image) (sym place)
 
     -- and labels were driven
-    pub run_driven : (mid new : List Step) → Always (LeavesRun (files_of old) old) old mid → Always (LeavesLabels input r (header_of input) payloads) mid new → Always (LeavesRun (files_of old) old) old new
-    run_driven mid new before driven = together before (weaker (λ steps leaves image left.
+    pub run_driven : (mid new : List Step) → tape mid ≡ tape old → Always (LeavesRun (files_of old) old) old mid → Always (LeavesLabels input r (header_of input) payloads (tape mid)) mid new
+        → Always (LeavesRun (files_of old) old) old new
+    run_driven mid new same before driven = together before (weaker (λ steps leaves image left.
         let found = leaves image (there steps image left) in
-        inr (inr (record {
-          input = input;
-          form = form;
-          payloads = payloads;
-          first = r.state;
-          position = r.position;
-          incarnation = r.incarnation;
-          starts = starts;
-          frames = found.0;
-          last = found.1;
-          path = found.2;
-          holds = found.3;
-        }))) driven)
+        inr (
+          record {
+            input = input;
+            form = form;
+            payloads = payloads;
+            first = r.state;
+            position = r.position;
+            incarnation = r.incarnation;
+            starts = starts;
+            frames = found.0;
+            last = found.1;
+            path = found.2;
+            holds = found.3;
+          },
+          subst (λ (before : List ℕ). Tells input found.1 before (tape steps)) same found.4,
+        )) driven)
 
     pub run_quiet : (new : List Step) → LeavesAll input r (header_of input) payloads new → LeavesQuiet (files_of old) new
     run_quiet new all image left = (

@@ -51,7 +51,7 @@ says_during line old new result says =
     let nothing : tape old ≡ tape old ++ [] = sym (append-nil (tape old)) in
     subst (λ (steps : List Step). Always (SaysPart line old) old steps) (sym says.steps)
     (always_saying (take says.count line) (drop says.count line) [] line old old (sym (take-append-drop says.count line)) (λ file. refl) nothing
-        (begins (record { files = λ file. refl; part = []; said = nothing; front = (line, refl) })))
+    (begins (record { files = λ file. refl; part = []; said = nothing; front = (line, refl) })))
 
 start_front : (input : Input) (wait : WaitStage) → IsFront (start_line input) (said_of input (told_wait wait))
 start_front input waits.Untaken = ([], sym (append-nil (start_line input)))
@@ -99,7 +99,7 @@ wait_said input s told found line old new is right wait whole =
       tells = λ before stood.
           let one : tape old ≡ before ++ start_line input = stood ∙ ap (λ t. before ++ said_of input t) is in
           let split : said_of input (Both found) ≡ (start_line input ++ says.part) ++ says.front.0 =
-              ap (λ (l : List ℕ). start_line input ++ l) (sym whole ∙ says.front.1) ∙ sym (append_assoc (start_line input) says.part says.front.0) in (
+          ap (λ (l : List ℕ). start_line input ++ l) (sym whole ∙ says.front.1) ∙ sym (append_assoc (start_line input) says.part says.front.0) in (
             start_line input ++ says.part,
             says.said ∙ ap (λ (l : List ℕ). l ++ says.part) one ∙ append_assoc before (start_line input) says.part,
             (says.front.0, both_told input s found start wait ∙ split),

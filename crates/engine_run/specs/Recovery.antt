@@ -1,6 +1,6 @@
 -- What recovery answers.
 use Rattle.std.specs.Prelude.{◌≡◌, ◌≢◌, ◌⊎◌, ℕ, ◌+◌, ◌-◌, ◌^◌, min, List, [], Option, Some, None, Result, Ok, Err}
-use Rattle.site_model.specs.History.{Step, changes_of, content_of, Leaves}
+use Rattle.site_model.specs.History.{Step, changes_of, content_of, tape, Leaves}
 use Rattle.commit_log.specs.declared.header.Header.{Header}
 use Rattle.commit_log.specs.Segment.{fresh, segment, reading_of}
 use Rattle.engine_run.specs.declared.ended.Cause.{Cause}
@@ -33,12 +33,12 @@ Recovers content (Err other) = Unit {0}
 abbrev pub header_of : Input → Header
 header_of input = record { partition = 0; partitions = 1; digest = input.digest; base = 0 }
 
--- While the log is opened, a crash leaves what it could have left before. Where the log is fresh, it may also leave it
--- fresh or without a frame.
-abbrev pub LeavesOpening : Input → List Step → List Step → Type 0
-LeavesOpening input old steps =
-    (image : List ℕ) → Leaves (changes_of 16 steps) image
-    → Leaves (changes_of 16 old) image ⊎ ((reading_of (content_of 16 old) ≡ fresh) × ((reading_of image ≡ fresh) ⊎ Holds (header_of input) [] image))
+-- While the log is opened, nothing is said, and a crash leaves what it could have left before. Where the log is fresh, it
+-- may also leave it fresh or without a frame.
+pub record LeavesOpening (input : Input) (old steps : List Step) : Type 0 where
+  pub same_tape : tape steps ≡ tape old
+  pub images : (image : List ℕ) → Leaves (changes_of 16 steps) image
+      → Leaves (changes_of 16 old) image ⊎ ((reading_of (content_of 16 old) ≡ fresh) × ((reading_of image ≡ fresh) ⊎ Holds (header_of input) [] image))
 
 -- an incarnation behind the last one, as far as there is one
 abbrev pub next_incarnation : Option ℕ → ℕ

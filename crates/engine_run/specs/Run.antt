@@ -1,6 +1,6 @@
 -- What a run promises.
 use Rattle.std.specs.Prelude.{◌≡◌, ◌⊎◌, ℕ, true, List, ◌∷◌, ◌++◌}
-use Rattle.site_model.specs.History.{Step, on, synced, changes_of, Leaves}
+use Rattle.site_model.specs.History.{Step, on, synced, changes_of, Leaves, tape}
 use Rattle.engine_run.specs.declared.ended.Cause.{Cause}
 use Rattle.engine_run.specs.declared.ended.Cause.TheVariants.{Done, SiteFault, SayFault, Damaged, Memory}
 use Rattle.engine_run.specs.declared.input.Input.{Input}
@@ -14,7 +14,7 @@ use Rattle.engine_run.specs.declared.state.Found.TheVariants.{Ended}
 use Rattle.commit_log.specs.Segment.{fresh, reading_of}
 use Rattle.engine_run.specs.declared.told.Told.TheVariants.{Both}
 use Rattle.engine_run.specs.Input.{HasForm}
-use Rattle.engine_run.specs.Told.{said_of, IsSaidFront}
+use Rattle.engine_run.specs.Told.{said_of, IsSaidFront, Tells}
 
 -- Both answers stand behind what stood on the tape. Where the log was fresh, the wait's is the result.
 abbrev pub SaysAll : (ℕ → List ℕ) → List ℕ → List ℕ → Type 0
@@ -56,12 +56,14 @@ pub record GoesOn (files : ℕ → List ℕ) (image : List ℕ) : Type 0 where
   pub path : Appends input incarnation position first frames last
   pub holds : Holds (header_of input) (payloads ++ frames) image
 
--- What a crash leaves of the log at a moment of a run: what it could have left at the start; or a fresh log where it was
--- fresh; or a log that goes on from what it held.
+-- What a crash leaves of the log at a moment of a run, and what was said by then. Either a log as it could have been left
+-- at the start, or a fresh one where it was fresh, and nothing was said; or a log that goes on from the one at the start,
+-- and what was said is a front of the answers that the client has in it.
 abbrev pub LeavesRun : (ℕ → List ℕ) → List Step → List Step → Type 0
 LeavesRun files old steps =
     (image : List ℕ) → Leaves (changes_of 16 steps) image
-    → Leaves (changes_of 16 old) image ⊎ (((reading_of (files 16) ≡ fresh) × (reading_of image ≡ fresh)) ⊎ GoesOn files image)
+    → ((tape steps ≡ tape old) × (Leaves (changes_of 16 old) image ⊎ ((reading_of (files 16) ≡ fresh) × (reading_of image ≡ fresh))))
+    ⊎ ((log : GoesOn files image) × Tells log.input log.last (tape old) (tape steps))
 
 -- after the last label
 abbrev pub LeavesQuiet : (ℕ → List ℕ) → List Step → Type 0

@@ -34,7 +34,7 @@ pub(crate) fn drive<V: Site, A: Activities>(
 ) -> Result<(), Cause>
     requires { V.tells → Rests (changes_of recovered.log.file (V.history site.old)) recovered.log.gate }
     ensures during { V.tells → (h : Header) (payloads : List (List ℕ)) → IsResting (changes_of recovered.log.file (V.history site.old)) h payloads recovered.log.gate
-        → Always (LeavesLabels input.now recovered h payloads) (V.history site.old) (V.history site.new) }
+        → Always (LeavesLabels input.now recovered h payloads (tape (V.history site.old))) (V.history site.old) (V.history site.new) }
     ensures all { V.tells → (h : Header) (payloads : List (List ℕ)) → IsResting (changes_of recovered.log.file (V.history site.old)) h payloads recovered.log.gate
         → OnOk result (LeavesAll input.now recovered h payloads (V.history site.new)) }
     ensures tape { V.tells → DrivesTape recovered.state input.now (tape (V.history site.old)) (tape (V.history site.new)) result }

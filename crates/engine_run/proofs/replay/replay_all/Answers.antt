@@ -17,7 +17,7 @@ loop-payload-preserved c =
     let front = take c.loop-payload.payload-index c.args.payloads.now in
     let inside : c.loop-payload.payload-index < length c.args.payloads.now = search rules in
     let more : take (c.loop-payload.payload-index + 1) c.args.payloads.now ≡ front ++ c.as_bytes.result.now ∷ [] =
-        take_more c.args.payloads.now c.loop-payload.payload-index c.payload-item.result inside ∙ ap (λ (p : List ℕ). front ++ p ∷ []) (sym c.payload-item.is ∙ sym c.as_bytes.ensures) in record {
+    take_more c.args.payloads.now c.loop-payload.payload-index c.payload-item.result inside ∙ ap (λ (p : List ℕ). front ++ p ∷ []) (sym c.payload-item.is ∙ sym c.as_bytes.ensures) in record {
       low = search rules;
       replays = subst (λ (payloads : List (List ℕ)). Replays c.args.input.now payloads (point_of c.in-Ok.next)) (sym more)
           (one_more c.as_bytes.result.now (point_of c.in-Ok.next) c.loop-payload.invariant.replays c.in-Ok.ensures.frame);
