@@ -9,6 +9,7 @@ use Rattle.site_model.proofs.Paths.{together, weaker}
 use Rattle.commit_log.specs.Segment.{fresh, reading_of}
 use Rattle.engine_run.specs.declared.input.Input.{Input}
 use Rattle.engine_run.specs.declared.recovered.Recovered.{Recovered}
+use Rattle.engine_run.specs.declared.trail.Entry.{Entry}
 use Rattle.engine_run.specs.Input.{HasForm}
 use Rattle.engine_run.specs.State.{fresh_state}
 use Rattle.engine_run.specs.Commit.{Holds}
@@ -81,8 +82,8 @@ module _ (old : List Step) (input : Input) (form : HasForm (files_of old) input)
           subst (λ (before : List ℕ). Tells input found.1 before (tape steps)) same found.4,
         )) driven)
 
-    pub run_quiet : (new : List Step) → LeavesAll input r (header_of input) payloads new → LeavesQuiet (files_of old) new
-    run_quiet new all image left = (
+    pub run_quiet : (new : List Step) (trail : List Entry) → LeavesAll input r (header_of input) payloads new trail → LeavesQuiet (files_of old) new trail
+    run_quiet new trail all image left = (
       record {
         input = input;
         form = form;
@@ -97,4 +98,5 @@ module _ (old : List Step) (input : Input) (form : HasForm (files_of old) input)
         holds = all.4 image (there new image left);
       },
       all.3,
+      all.5,
     )

@@ -7,7 +7,8 @@ use Rattle.engine_run.specs.declared.input.Input.{Input}
 use Rattle.engine_run.specs.declared.state.State.{State}
 use Rattle.engine_run.specs.State.{IsQuiet}
 use Rattle.engine_run.specs.Commit.{Holds}
-use Rattle.engine_run.specs.Labels.{Appends}
+use Rattle.engine_run.specs.declared.trail.Entry.{Entry}
+use Rattle.engine_run.specs.Labels.{Appends, frames_of}
 use Rattle.engine_run.specs.Recovery.{header_of, StartsFrom}
 use Rattle.engine_run.specs.declared.state.Found.{Found}
 use Rattle.engine_run.specs.declared.state.Found.TheVariants.{Ended}
@@ -65,6 +66,7 @@ LeavesRun files old steps =
     → ((tape steps ≡ tape old) × (Leaves (changes_of 16 old) image ⊎ ((reading_of (files 16) ≡ fresh) × (reading_of image ≡ fresh))))
     ⊎ ((log : GoesOn files image) × Tells log.input log.last (tape old) (tape steps))
 
--- after the last label
-abbrev pub LeavesQuiet : (ℕ → List ℕ) → List Step → Type 0
-LeavesQuiet files steps = (image : List ℕ) → Leaves (changes_of 16 steps) image → (log : GoesOn files image) × IsQuiet log.last true
+-- After the last label: nothing is left to do in the log, and the frames of this run are those of its trail.
+abbrev pub LeavesQuiet : (ℕ → List ℕ) → List Step → List Entry → Type 0
+LeavesQuiet files steps trail =
+    (image : List ℕ) → Leaves (changes_of 16 steps) image → (log : GoesOn files image) × IsQuiet log.last true × (log.frames ≡ frames_of log.input trail)

@@ -1,6 +1,6 @@
 //! Label by label, until nothing is left.
 
-ghost use Rattle.std.specs.Prelude.{◌≡◌, ◌≤◌, ℕ, List, Err, IfErr, OnOk};
+ghost use Rattle.std.specs.Prelude.{◌≡◌, ◌≤◌, [], ℕ, List, Err, IfErr, OnOk};
 ghost use Rattle.site_model.specs.History.{changes_of, tape};
 ghost use Rattle.site_model.specs.Calls.{HasRisen};
 ghost use Rattle.site_model.specs.Moments.{Always};
@@ -32,11 +32,12 @@ pub(crate) fn drive<V: Site, A: Activities>(
     recovered: Recovered,
     entries: &mut Vec<Entry>,
 ) -> Result<(), Cause>
-    requires { V.tells → Rests (changes_of recovered.log.file (V.history site.old)) recovered.log.gate }
+    requires empty { entries.old.items ≡ [] }
+    requires rests { V.tells → Rests (changes_of recovered.log.file (V.history site.old)) recovered.log.gate }
     ensures during { V.tells → (h : Header) (payloads : List (List ℕ)) → IsResting (changes_of recovered.log.file (V.history site.old)) h payloads recovered.log.gate
         → Always (LeavesLabels input.now recovered h payloads (tape (V.history site.old))) (V.history site.old) (V.history site.new) }
     ensures all { V.tells → (h : Header) (payloads : List (List ℕ)) → IsResting (changes_of recovered.log.file (V.history site.old)) h payloads recovered.log.gate
-        → OnOk result (LeavesAll input.now recovered h payloads (V.history site.new)) }
+        → OnOk result (LeavesAll input.now recovered h payloads (V.history site.new) entries.new.items) }
     ensures tape { V.tells → DrivesTape recovered.state input.now (tape (V.history site.old)) (tape (V.history site.new)) result }
     ensures driving { IfErr result IsDriving }
     ensures fault { result ≡ Err Cause.SiteFault → HasRisen (V.disk_faults site.old) (V.disk_faults site.new) }

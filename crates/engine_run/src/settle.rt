@@ -1,6 +1,6 @@
 //! One label, one frame.
 
-ghost use Rattle.std.specs.Prelude.{◌≡◌, ◌+◌, ◌≤◌, ◌<◌, ◌^◌, ◌++◌, [], ◌∷◌, ℕ, List, Err, IfOk, IfErr};
+ghost use Rattle.std.specs.Prelude.{◌≡◌, ◌+◌, ◌≤◌, ◌<◌, ◌^◌, ◌++◌, [], ◌∷◌, ℕ, List, Err, IfOk, IfErr, OnOk, OnErr};
 ghost use Rattle.site_model.specs.History.{changes_of, tape};
 ghost use Rattle.site_model.specs.Calls.{HasRisen};
 ghost use Rattle.site_model.specs.Moments.{LeavesOnly};
@@ -55,6 +55,8 @@ pub(crate) fn settle_label<V: Site, A: Activities>(
         → LeavesOnly log.file (V.history site.old) (V.history site.new) (HoldsOneMore h payloads (payload_bytes input.now entry.position entry.incarnation entry.label)) }
     ensures after { V.tells → (h : Header) (payloads : List (List ℕ)) → IsResting (changes_of log.file (V.history site.old)) h payloads log.gate
         → IfOk result (λ next. RestsAs (V.history site.new) h (payloads ++ payload_bytes input.now entry.position entry.incarnation entry.label ∷ []) next) }
+    ensures trail { OnOk result ((at : ℕ) × (entries.new.items ≡ entries.old.items ++ record entry { at = at } ∷ [])) }
+    ensures no_trail { OnErr result (entries.new.items ≡ entries.old.items) }
     ensures rests { V.tells → IfOk result (λ next. Rests (changes_of next.file (V.history site.new)) next.gate) }
     ensures place { IfOk result (λ next. (next.file ≡ log.file) × (next.gate ≤ log.gate + 231)) }
     ensures tape { V.tells → tape (V.history site.new) ≡ tape (V.history site.old) }

@@ -1,6 +1,6 @@
 //! The top call.
 
-ghost use Rattle.std.specs.Prelude.{◌≡◌, ◌≢◌, ◌≤◌};
+ghost use Rattle.std.specs.Prelude.{◌≡◌, ◌≢◌, ◌≤◌, []};
 ghost use Rattle.site_model.specs.History.{content_of, tape};
 ghost use Rattle.site_model.specs.Calls.{HasRisen};
 ghost use Rattle.site_model.specs.Moments.{Always};
@@ -28,11 +28,12 @@ fn perform<V: Site, A: Activities>(
     acts: &A,
     entries: &mut Vec<Entry>,
 ) -> Cause
+    requires { entries.old.items ≡ [] }
     ensures answers { V.tells → Answers (λ file. content_of file (V.history site.old)) result }
     ensures says { V.tells → Says (λ file. content_of file (V.history site.old)) (tape (V.history site.old)) (tape (V.history site.new)) result }
     ensures untouched { V.tells → Untouched (V.history site.old) (V.history site.new) result }
     ensures during { V.tells → Always (LeavesRun (λ file. content_of file (V.history site.old)) (V.history site.old)) (V.history site.old) (V.history site.new) }
-    ensures quiet { V.tells → result ≡ Cause.Done → LeavesQuiet (λ file. content_of file (V.history site.old)) (V.history site.new) }
+    ensures quiet { V.tells → result ≡ Cause.Done → LeavesQuiet (λ file. content_of file (V.history site.old)) (V.history site.new) entries.new.items }
     ensures no_usage { result ≢ Cause.Usage }
     ensures site_fault { result ≡ Cause.SiteFault → HasRisen (V.disk_faults site.old) (V.disk_faults site.new) }
     ensures say_fault { result ≡ Cause.SayFault → HasRisen (V.say_faults site.old) (V.say_faults site.new) }
@@ -68,7 +69,7 @@ pub fn run_alone<V: Site, C: Clock, A: Activities>(
     ensures says { V.tells → Says (λ file. content_of file (V.history site)) (tape (V.history site)) (tape (V.history result.site)) result.cause }
     ensures untouched { V.tells → Untouched (V.history site) (V.history result.site) result.cause }
     ensures during { V.tells → Always (LeavesRun (λ file. content_of file (V.history site)) (V.history site)) (V.history site) (V.history result.site) }
-    ensures quiet { V.tells → result.cause ≡ Cause.Done → LeavesQuiet (λ file. content_of file (V.history site)) (V.history result.site) }
+    ensures quiet { V.tells → result.cause ≡ Cause.Done → LeavesQuiet (λ file. content_of file (V.history site)) (V.history result.site) result.trail }
     ensures site_fault { result.cause ≡ Cause.SiteFault → HasRisen (V.disk_faults site) (V.disk_faults result.site) }
     ensures say_fault { result.cause ≡ Cause.SayFault → HasRisen (V.say_faults site) (V.say_faults result.site) }
     ensures disk_later { V.disk_faults site ≤ V.disk_faults result.site }
@@ -125,9 +126,10 @@ pub fn run<R: Threads + Wait + Sync, V: Site + Send, C: Clock + Send, A: Activit
     ensures untouched { V.tells → Untouched (V.history site) (V.history result.site) result.cause }
 
     // At every moment, inside each call of the site too, a crash leaves a log that goes on from the one at the start by
-    // whole labels that the machine has. At the end of a run that is done, nothing is left to do in it.
+    // whole labels that the machine has, and what was said by then is answered in it. At the end of a run that is done,
+    // nothing is left to do in it, and the trail has the labels of this run.
     ensures during { V.tells → Always (LeavesRun (λ file. content_of file (V.history site)) (V.history site)) (V.history site) (V.history result.site) }
-    ensures quiet { V.tells → result.cause ≡ Cause.Done → LeavesQuiet (λ file. content_of file (V.history site)) (V.history result.site) }
+    ensures quiet { V.tells → result.cause ≡ Cause.Done → LeavesQuiet (λ file. content_of file (V.history site)) (V.history result.site) result.trail }
     ensures clock { result.clock ≡ clock }
 {
     let _ = rt;

@@ -43,4 +43,4 @@ returns-in-Ok-drive-clause-quiet g c tells done =
     let stands = c.in-Ok-recover.ensures.stands tells in
     let r = c.in-Ok-recover.recovered in
     let starts = subst (λ (steps : List Step). StartsFrom c.in-Ok.input (content_of 16 steps) stands.0 r.state r.position r.incarnation) c.read_input.ensures.unchanged stands.2 in
-    run_quiet (g.V.Site.history c.args.site.now) c.in-Ok.input form r stands.0 c.in-Ok-recover.ensures.place starts (g.V.Site.history c.drive.new.site) (c.in-Ok-drive.ensures.all tells (header_of c.in-Ok.input) stands.0 stands.1)
+    run_quiet (g.V.Site.history c.args.site.now) c.in-Ok.input form r stands.0 c.in-Ok-recover.ensures.place starts (g.V.Site.history c.drive.new.site) c.drive.new.entries.items (c.in-Ok-drive.ensures.all tells (header_of c.in-Ok.input) stands.0 stands.1)
