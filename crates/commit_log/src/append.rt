@@ -1,7 +1,7 @@
 // Appending a payload, call by call.
 ghost use Rattle.std.specs.Prelude.{◌≡◌, ◌+◌, ◌≤◌, ◌<◌, ◌^◌, ◌++◌, [], ◌∷◌, ℕ, List, length, OnOk, IfOk, IfErr, Err};
 ghost use Rattle.site_model.specs.History.{Step, on, wrote, synced, changes_of, content_of};
-ghost use Rattle.site_model.specs.Calls.{HasRisen, HasCause};
+ghost use Rattle.site_model.specs.Calls.{HasRisen, HasCause, Writes, Syncs};
 ghost use Rattle.site_model.specs.Moments.{LeavesOnly};
 ghost use Rattle.commit_log.specs.declared.header.Header.{Header};
 ghost use Rattle.commit_log.specs.Segment.{framed, open_gate};
@@ -88,6 +88,7 @@ impl Synced {
             → LeavesOnly self.file (V.history site.old) (V.history site.new) (HasFramesOrOneMore h payloads payload self.gate self.next) }
         ensures after { V.tells → (h : Header) (payloads : List (List ℕ)) (payload : List ℕ) → IsSynced (changes_of self.file (V.history site.old)) h payloads payload self.gate self.next
             → AfterGate (V.history site.new) h payloads payload result }
+        ensures writes { V.tells → Writes self.file self.gate (open_gate ∷ []) (V.history site.old) (V.history site.new) result }
         ensures opened { V.tells → OnOk result (V.history site.new ≡ on self.file (wrote self.gate 1 (open_gate ∷ [])) ∷ V.history site.old) }
         ensures place { IfOk result (λ log. (log.file ≡ self.file) × (log.gate ≡ self.gate) × (log.next ≡ self.next)) }
         ensures broken { IfErr result (λ log. (log.file ≡ self.file) × (log.gate ≡ self.gate) × (log.next ≡ self.next)) }
@@ -109,6 +110,7 @@ impl Gated {
             → LeavesOnly self.file (V.history site.old) (V.history site.new) (HasFramesOrOneMore h payloads payload self.gate self.next) }
         ensures after { V.tells → (h : Header) (payloads : List (List ℕ)) (payload : List ℕ) → IsGated (changes_of self.file (V.history site.old)) h payloads payload self.gate self.next
             → AfterSettle (V.history site.new) h payloads payload result }
+        ensures syncs { V.tells → Syncs self.file (V.history site.old) (V.history site.new) result }
         ensures synced { V.tells → OnOk result (V.history site.new ≡ on self.file synced ∷ V.history site.old) }
         ensures place { IfOk result (λ log. (log.file ≡ self.file) × (log.gate ≡ self.next)) }
         ensures broken { IfErr result (λ log. (log.file ≡ self.file) × (log.gate ≡ self.gate) × (log.next ≡ self.next)) }

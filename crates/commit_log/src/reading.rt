@@ -1,10 +1,10 @@
 // Reading a log from its file.
-ghost use Rattle.std.specs.Prelude.{◌≡◌, ◌≤◌, ◌<◌, ◌+◌, ◌^◌, ◌∷◌, List, ℕ, length, Result, Ok, Err, OnOk, IfOk};
+ghost use Rattle.std.specs.Prelude.{◌≡◌, ◌≤◌, ◌<◌, ◌+◌, ◌^◌, ◌∷◌, List, ℕ, length, Result, Ok, Err, OnOk, IfOk, ◌⊎◌};
 ghost use Rattle.site_model.specs.History.{Step, on, synced, changes_of, content_of, Leaves};
 ghost use Rattle.site_model.specs.Calls.{HasRisen, HasCause, Syncs};
 ghost use Rattle.site_model.specs.Moments.{LeavesOnly};
 ghost use Rattle.commit_log.specs.Segment.{reading_of, segment_at};
-ghost use Rattle.commit_log.specs.States.{IsSegment};
+ghost use Rattle.commit_log.specs.States.{IsSegment, EndsAt};
 ghost use Rattle.commit_log.specs.Reading.{Gives, OpensAs, ReadsAs};
 
 use crate::frame::OPEN_GATE;
@@ -54,10 +54,12 @@ pub fn read_log<V: Site>(alloc: Global, site: &mut V, file: u32) -> Result<Opene
     // A crash leaves what it could have left before.
     ensures during { V.tells → LeavesOnly file (V.history site.old) (V.history site.new) (Leaves (changes_of file (V.history site.old))) }
     ensures opens { V.tells → OpensAs (content_of file (V.history site.old)) file (V.history site.new) result }
+    ensures syncs { V.tells → (V.history site.new ≡ on file synced ∷ V.history site.old) ⊎ (V.history site.new ≡ V.history site.old) }
     ensures synced { V.tells → OnOk result (V.history site.new ≡ on file synced ∷ V.history site.old) }
     ensures synced_fresh { V.tells → result ≡ Err OpenError.Fresh → V.history site.new ≡ on file synced ∷ V.history site.old }
     ensures synced_damaged { V.tells → (other offset : ℕ) → result ≡ Err (OpenError.Damaged other offset) → V.history site.new ≡ on file synced ∷ V.history site.old }
     ensures place { IfOk result (λ found. found.log.file ≡ file) }
+    ensures ends { IfOk result (λ found. EndsAt found.header found.payloads.items found.log.gate) }
     ensures fault { result ≡ Err OpenError.SiteFault → HasRisen (V.disk_faults site.old) (V.disk_faults site.new) }
     ensures later { V.disk_faults site.old ≤ V.disk_faults site.new }
     ensures say_faults { V.say_faults site.new ≡ V.say_faults site.old }
