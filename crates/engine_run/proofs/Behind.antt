@@ -1,9 +1,9 @@
 -- What stands behind a front.
-use Rattle.std.proofs.Common.{◌≡◌, ◌++◌, ℕ, Bool, true, false, List, length, take, drop, Option, Some, None, sym, ap, ◌∙◌}
-use Rattle.std.specs.Prelude.{IfSome, option_map}
+use Rattle.std.proofs.Common.{◌≡◌, ◌++◌, ℕ, Bool, true, false, List, length, take, drop, Option, Some, None, refl, sym, ap, ◌∙◌}
+use Rattle.std.specs.Prelude.{IfSome, IfNone, option_map}
 use Rattle.std.specs.Borrow.{Bor}
 use Rattle.std.specs.Str.{bytes_eq}
-use Rattle.std.proofs.lemmas.List.{take-append-drop}
+use Rattle.std.proofs.lemmas.List.{take-append-drop, take_at, drop_at}
 use Rattle.std.proofs.lemmas.Slice.Eq.{bytes_eq-Decides}
 use Rattle.engine_run.specs.Reading.{guard}
 use Rattle.engine_run.specs.RequestFile.{behind}
@@ -21,3 +21,15 @@ behind_splits front bytes rest is =
 pub behind_found : (found : Option (Bor (List ℕ))) (front bytes : List ℕ) → option_map (λ rest. rest.now) found ≡ behind front bytes → IfSome found (λ rest. bytes ≡ front ++ rest.now)
 behind_found None front bytes is = tt
 behind_found (Some rest) front bytes is = behind_splits front bytes rest.now (sym is)
+
+-- bytes that begin with a front have something behind it
+pub behind_stands : (front bytes rest : List ℕ) → bytes ≡ front ++ rest → behind front bytes ≡ Some rest
+behind_stands front bytes rest is =
+    let begins : take (length front) bytes ≡ front = ap (take (length front)) is ∙ take_at front rest (length front) refl in
+    let ends : drop (length front) bytes ≡ rest = ap (drop (length front)) is ∙ drop_at front rest (length front) refl in
+    let passes_it : bytes_eq (take (length front) bytes) front ≡ true = (bytes_eq-Decides (take (length front) bytes) front).1 begins in
+    ap (λ (test : Bool). guard test (Some (drop (length front) bytes))) passes_it ∙ ap Some ends
+
+pub behind_none : (found : Option (Bor (List ℕ))) (front bytes : List ℕ) → option_map (λ rest. rest.now) found ≡ behind front bytes → IfNone found ((rest : List ℕ) → bytes ≡ front ++ rest → ⊥)
+behind_none None front bytes is = λ rest begins. let nothing : None ≡ Some rest = is ∙ behind_stands front bytes rest begins in absurd cc
+behind_none (Some found) front bytes is = tt

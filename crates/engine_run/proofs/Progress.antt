@@ -35,7 +35,8 @@ quiet starts.Replied waits.Sent done sent_first replied_first last stamp told so
 quiet starts.Replied waits.Kept done sent_first replied_first last stamp told sound stuck = absurd (cc (stuck.1))
 quiet starts.Replied (waits.Answered found) done sent_first replied_first last stamp told sound stuck = absurd (cc (stuck.1))
 quiet starts.Answered waits.Untaken done sent_first replied_first last stamp true sound stuck = absurd (cc (stuck.4 refl))
-quiet starts.Answered waits.Untaken done sent_first replied_first last stamp false sound stuck = (refl, λ is. absurd (cc is))
+quiet starts.Answered waits.Untaken true sent_first replied_first last stamp false sound stuck = (refl, λ is. absurd (cc is), refl)
+quiet starts.Answered waits.Untaken false sent_first replied_first last stamp false sound stuck = absurd (cc (stuck.2))
 quiet starts.Answered waits.Sent done sent_first replied_first last stamp told sound stuck =
     let on_time : ltb stamp last ≡ false = le-ltb stamp last sound.order in
     let none = rw on_time at (stuck.0) in
@@ -43,7 +44,8 @@ quiet starts.Answered waits.Sent done sent_first replied_first last stamp told s
 quiet starts.Answered waits.Kept true sent_first replied_first last stamp told sound stuck = absurd (cc (sound.kept))
 quiet starts.Answered waits.Kept false sent_first replied_first last stamp told sound stuck = absurd (cc (stuck.2))
 quiet starts.Answered (waits.Replied found) done sent_first replied_first last stamp told sound stuck = absurd (cc (stuck.1))
-quiet starts.Answered (waits.Answered found) done sent_first replied_first last stamp told sound stuck = (refl, λ is. tt)
+quiet starts.Answered (waits.Answered found) true sent_first replied_first last stamp told sound stuck = (refl, λ is. tt, refl)
+quiet starts.Answered (waits.Answered found) false sent_first replied_first last stamp told sound stuck = absurd (cc (stuck.2))
 
 pub quiet_state : (s : State) (told : Bool) → IsSound s → IsStuck s told → IsQuiet s told
 quiet_state s told = quiet s.start s.wait s.finished s.wait_sent_first s.wait_replied_first s.last s.stamp told

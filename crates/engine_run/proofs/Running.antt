@@ -1,102 +1,132 @@
 -- A run's moments, one part after another.
-use Rattle.std.proofs.Common.{◌≡◌, ◌⊎◌, inl, inr, ℕ, List, [], refl, subst, sym, ◌∙◌}
-use Rattle.site_model.specs.History.{Step, changes_of, content_of, tape, Leaves}
+use Rattle.std.proofs.Common.{◌≡◌, ◌⊎◌, inl, inr, ℕ, ◌<◌, ◌^◌, List, [], ◌++◌, length, map, refl, sym, ap, subst, ◌∙◌, arith}
 use Rattle.std.proofs.lemmas.List.{append-nil}
-use Rattle.engine_run.specs.Told.{said_of, told_of, Tells}
-use Rattle.site_model.specs.Moments.{Always}
+use Rattle.std.proofs.lemmas.List.Elements.{All-nil}
+use Rattle.std.proofs.lemmas.Bool.{cases_eq}
+use Rattle.site_model.specs.History.{Step, changes_of, content_of, tape, IsImage, Leaves, Change}
+use Rattle.site_model.specs.Moments.{Always, OnlyFile}
 use Rattle.site_model.specs.Moments.Always.{begins}
 use Rattle.site_model.proofs.Paths.{together, weaker}
 use Rattle.commit_log.specs.Segment.{fresh, reading_of}
 use Rattle.engine_run.specs.declared.input.Input.{Input}
-use Rattle.engine_run.specs.declared.recovered.Recovered.{Recovered}
 use Rattle.engine_run.specs.declared.trail.Entry.{Entry}
+use Rattle.engine_run.specs.declared.told.Told.TheVariants.{Nothing}
+use Rattle.engine_run.specs.declared.state.State.{State}
+use Rattle.engine_run.specs.Commit.{Holds as HasFrames}
+use Rattle.engine_run.specs.Headline.{job_of, kept_by, Holds, Opened, Headline}
 use Rattle.engine_run.specs.Input.{HasForm}
-use Rattle.engine_run.specs.State.{fresh_state}
-use Rattle.engine_run.specs.Commit.{Holds}
-use Rattle.engine_run.specs.Labels.{LeavesLabels, LeavesAll}
+use Rattle.engine_run.specs.Labels.{AsksRightly, AtMoment, StandsAt}
 use Rattle.engine_run.specs.Labels.Appends.{none}
-use Rattle.engine_run.specs.Recovery.{header_of, LeavesOpening, StartsFrom}
-use Rattle.engine_run.specs.Run.{GoesOn, LeavesRun, LeavesQuiet}
+use Rattle.engine_run.specs.Log.{Kept, labels_in}
+use Rattle.engine_run.specs.Meaning.{flows_of, world_of}
+use Rattle.engine_run.specs.Recovery.{header_of, LeavesRead, LeavesMade, LeavesOpening, StartsFrom}
+use Rattle.engine_run.specs.Stands.{Stands}
+use Rattle.engine_run.specs.State.{fresh_state}
+use Rattle.engine_run.specs.Steps.{Label}
+use Rattle.engine_run.specs.Trail.{settled_at, Rises}
+use Rattle.engine_run.proofs.Headlines.{given_of, own_log, some_run, legal_on, settled_image, image_on, holds_on, origin_at, first_legal}
+use Rattle.engine_run.proofs.Heard.{heard_all}
+use Rattle.engine_run.proofs.Held.{Start, start_of, log_stands, no_frames, no_point}
+use Rattle.engine_run.proofs.Moments.{weaker_between, settled_none}
+use Rattle.engine_run.proofs.Single.{entries_once}
 
 abbrev pub files_of : List Step → ℕ → List ℕ
 files_of steps file = content_of file steps
 
 -- the input alone was read
-pub nothing_done : (old : List Step) → Always (LeavesRun (files_of old) old) old old
-nothing_done old = begins (λ image left. inl (refl, inl left))
+pub only_read : (old new : List Step) (trail : List Entry) → trail ≡ [] → new ≡ old → Always (Headline (files_of old) old trail) old new
+only_read old new trail empty same =
+    subst (λ (steps : List Step). Always (Headline (files_of old) old trail) old steps) (sym same)
+    (begins (inl (record { nothing = ap (settled_at (length old)) empty; silent = refl; images = λ image is. is; synced = inl refl })))
 
-pub only_read : (old new : List Step) → new ≡ old → Always (LeavesRun (files_of old) old) old new
-only_read old new same = subst (λ (steps : List Step). Always (LeavesRun (files_of old) old) old steps) (sym same) (nothing_done old)
+-- no other file changed
+other_images : (old steps : List Step) (image : ℕ → List ℕ) → OnlyFile 16 old steps → ((one : List ℕ) → Leaves (changes_of 16 steps) one → Leaves (changes_of 16 old) one) → IsImage steps image → IsImage old image
+other_images old steps image only images is = record { each = λ file. each file (cases_eq file 16) }
+  where
+    each : (file : ℕ) → (file ≡ 16) ⊎ (file ≡ 16 → ⊥) → Leaves (changes_of file old) (image file)
+    each file (inl same) = subst (λ (f : ℕ). Leaves (changes_of f old) (image f)) (sym same) (images (image 16) (is.each 16))
+    each file (inr apart) = subst (λ (changes : List Change). Leaves changes (image file)) (only.others file apart) (is.each file)
 
 module _ (old : List Step) (input : Input) (form : HasForm (files_of old) input) where
-  begun : (steps : List Step) (image : List ℕ) → tape steps ≡ tape old
-      → Leaves (changes_of 16 old) image ⊎ ((reading_of (content_of 16 old) ≡ fresh) × ((reading_of image ≡ fresh) ⊎ Holds (header_of input) [] image))
-      → ((tape steps ≡ tape old) × (Leaves (changes_of 16 old) image ⊎ ((reading_of (content_of 16 old) ≡ fresh) × (reading_of image ≡ fresh))))
-      ⊎ ((log : GoesOn (files_of old) image) × Tells log.input log.last (tape old) (tape steps))
-  begun steps image same (inl before) = inl (same, inl before)
-  begun steps image same (inr (is, inl reads)) = inl (same, inr (is, reads))
-  begun steps image same (inr (is, inr holds)) = inr (
-    record {
+  -- while the log is formatted
+  module _ (is : reading_of (content_of 16 old) ≡ fresh) where
+    fresh_start : Start input (files_of old 16) [] fresh_state 0 0
+    fresh_start = start_of input (given_of (files_of old) input form) (files_of old 16) [] fresh_state 0 0 (inl (is, refl, refl, refl, refl))
+
+    zero_low : 0 < 2 ^ 61
+    zero_low = omega arith
+
+    zero_early : 0 < 2 ^ 63
+    zero_early = omega arith
+
+    module _ (run : List Label) (stands : Stands (flows_of input) input.digest (files_of old) run) where
+      fresh_image : (image : ℕ → List ℕ) → (reading_of (image 16) ≡ fresh) ⊎ HasFrames (header_of input) [] (image 16) → Stands (flows_of input) input.digest image (run ++ labels_in [])
+      fresh_image image (inl reads) =
+          subst (Stands (flows_of input) input.digest image) (sym (append-nil run))
+          (log_stands input (given_of (files_of old) input form) image run [] no_point (no_frames input) (inl (reads, refl)) (first_legal input (given_of (files_of old) input form) (files_of old) [] fresh_state 0 0 fresh_start zero_low zero_early run stands))
+      fresh_image image (inr holds) = image_on input (given_of (files_of old) input form) (files_of old) [] fresh_state 0 0 fresh_start zero_low zero_early run stands image [] fresh_state none holds
+
+      formatting_holds : (steps : List Step) → tape steps ≡ tape old → ((image : List ℕ) → Leaves (changes_of 16 steps) image → (reading_of image ≡ fresh) ⊎ HasFrames (header_of input) [] image)
+          → Holds (job_of input) run (own_log input (given_of (files_of old) input form) (files_of old) [] fresh_state 0 0 fresh_start zero_low zero_early) old [] steps
+      formatting_holds steps silent images = record {
+        world = world_of input fresh_state;
+        legal = legal_on input (given_of (files_of old) input form) (files_of old) [] fresh_state 0 0 fresh_start zero_low zero_early run stands [] fresh_state none;
+        bytes = [];
+        spoken = silent ∙ sym (append-nil (tape old));
+        told = heard_all input fresh_state [] steps (Nothing, tt, [], refl, inl refl);
+        images = λ image leaves. settled_image input (given_of (files_of old) input form) (files_of old) [] fresh_state 0 0 fresh_start zero_low zero_early run stands fresh_state [] steps image [] none (All-nil (AsksRightly input [])) ([], refl)
+            (fresh_image image (images (image 16) (leaves.each 16)));
+      }
+
+    pub formatting : (steps : List Step) (trail : List Entry) → settled_at (length steps) trail ≡ [] → tape steps ≡ tape old → ((image : List ℕ) → Leaves (changes_of 16 steps) image → (reading_of image ≡ fresh) ⊎ HasFrames (header_of input) [] image) → Opened (files_of old) old trail steps
+    formatting steps trail nothing silent images = record {
       input = input;
       form = form;
-      payloads = [];
-      first = fresh_state;
-      position = 0;
-      incarnation = 0;
-      starts = inl (is, refl, refl, refl, refl);
-      frames = [];
-      last = fresh_state;
-      path = none;
-      holds = holds;
-    },
-    ([], same ∙ sym (append-nil (tape old)), (said_of input (told_of fresh_state), refl)),
-  )
+      some = some_run input (given_of (files_of old) input form) (files_of old) [] fresh_state 0 0 fresh_start zero_low zero_early;
+      every = λ run recovered stands has.
+          let log = own_log input (given_of (files_of old) input form) (files_of old) [] fresh_state 0 0 fresh_start zero_low zero_early in
+          let one : log ≡ recovered = entries_once input.digest (files_of old 16) log recovered fresh_start.kept has in
+          subst (λ (l : List Entry). Holds (job_of input) run recovered old (map (kept_by input) l) steps) (sym nothing)
+          (subst (λ (r : List Kept). Holds (job_of input) run r old [] steps) one (formatting_holds run stands steps silent images));
+    }
 
-  -- the log was opened
-  pub run_opened : (new : List Step) → Always (LeavesOpening input old) old new → Always (LeavesRun (files_of old) old) old new
-  run_opened new = weaker (λ steps leaves image left. begun steps image leaves.same_tape (leaves.images image left))
+  opening_moment : (trail : List Entry) (steps : List Step) → settled_at (length steps) trail ≡ [] → LeavesOpening input old steps → Headline (files_of old) old trail steps
+  opening_moment trail steps nothing leaves = either leaves.log
+    where
+      either : LeavesRead old steps ⊎ LeavesMade input old steps → Headline (files_of old) old trail steps
+      either (inl read) = inl (record {
+        nothing = nothing;
+        silent = leaves.only.same_tape;
+        images = λ image is. other_images old steps image leaves.only read.images is;
+        synced = elim read.synced [
+          | inl same ↦ inl same
+          | inr kept ↦ inr (λ image is. kept (image 16) (is.each 16))
+        ];
+      })
+      either (inr made) = inr (formatting made.was_fresh steps trail nothing leaves.only.same_tape made.images)
 
-  module _ (r : Recovered) (payloads : List (List ℕ)) (place : r.log.file ≡ 16) (starts : StartsFrom input (content_of 16 old) payloads r.state r.position r.incarnation) where
-    there : (steps : List Step) (image : List ℕ) → Leaves (changes_of 16 steps) image → Leaves (changes_of r.log.file steps) image
-    there steps image = subst (λ (file : ℕ). Leaves (changes_of file steps) image) (sym place)
+  -- the log was opened, and what was settled came later
+  pub run_opened : (mid : List Step) (trail : List Entry) (high : ℕ) → Rises (length mid) trail high → Always (LeavesOpening input old) old mid → Always (Headline (files_of old) old trail) old mid
+  run_opened mid trail high rises = weaker_between (length mid) (omega arith) (λ steps low below leaves. opening_moment trail steps (settled_none (length steps) (length mid) high trail rises below) leaves)
 
-    -- and labels were driven
-    pub run_driven : (mid new : List Step) → tape mid ≡ tape old → Always (LeavesRun (files_of old) old) old mid → Always (LeavesLabels input r (header_of input) payloads (tape mid)) mid new
-        → Always (LeavesRun (files_of old) old) old new
-    run_driven mid new same before driven = together before (weaker (λ steps leaves image left.
-        let found = leaves image (there steps image left) in
-        inr (
-          record {
-            input = input;
-            form = form;
-            payloads = payloads;
-            first = r.state;
-            position = r.position;
-            incarnation = r.incarnation;
-            starts = starts;
-            frames = found.0;
-            last = found.1;
-            path = found.2;
-            holds = found.3;
-          },
-          subst (λ (before : List ℕ). Tells input found.1 before (tape steps)) same found.4,
-        )) driven)
+  -- and labels were driven
+  module _ (payloads : List (List ℕ)) (first : State) (position incarnation file : ℕ) (place : file ≡ 16) (starts : StartsFrom input (content_of 16 old) payloads first position incarnation) (young : incarnation < 2 ^ 61) (early : first.stamp < 2 ^ 63) where
+    pub begun : Start input (files_of old 16) payloads first position incarnation
+    begun = start_of input (given_of (files_of old) input form) (files_of old 16) payloads first position incarnation starts
 
-    pub run_quiet : (new : List Step) (trail : List Entry) → LeavesAll input r (header_of input) payloads new trail → LeavesQuiet (files_of old) new trail
-    run_quiet new trail all image left = (
-      record {
-        input = input;
-        form = form;
-        payloads = payloads;
-        first = r.state;
-        position = r.position;
-        incarnation = r.incarnation;
-        starts = starts;
-        frames = all.0;
-        last = all.1;
-        path = all.2;
-        holds = all.4 image (there new image left);
-      },
-      all.3,
-      all.5,
-    )
+    driven_moment : (trail : List Entry) (steps : List Step) → StandsAt input (origin_at input payloads first position incarnation file) (tape old) (settled_at (length steps) trail) steps → Opened (files_of old) old trail steps
+    driven_moment trail steps at = record {
+      input = input;
+      form = form;
+      some = some_run input (given_of (files_of old) input form) (files_of old) payloads first position incarnation begun young early;
+      every = λ run recovered stands has.
+          let log = own_log input (given_of (files_of old) input form) (files_of old) payloads first position incarnation begun young early in
+          let one : log ≡ recovered = entries_once input.digest (files_of old 16) log recovered begun.kept has in
+          subst (λ (r : List Kept). Holds (job_of input) run r old (map (kept_by input) (settled_at (length steps) trail)) steps) one
+          (holds_on input (given_of (files_of old) input form) (files_of old) payloads first position incarnation begun young early run stands file place old steps (settled_at (length steps) trail) at);
+    }
+
+    pub run_driven : (mid new : List Step) (trail : List Entry) → tape mid ≡ tape old → Always (Headline (files_of old) old trail) old mid → Always (AtMoment input (origin_at input payloads first position incarnation file) (tape mid) trail) mid new
+        → Always (Headline (files_of old) old trail) old new
+    run_driven mid new trail same before driven = together before (weaker (λ steps at.
+        inr (driven_moment trail steps (subst (λ (said : List ℕ). StandsAt input (origin_at input payloads first position incarnation file) said (settled_at (length steps) trail) steps) same at))) driven)

@@ -1,5 +1,5 @@
--- How a run ends.
-use Rattle.std.specs.Prelude.{◌≡◌, ◌≢◌, ◌==◌, ℕ, List, nat_lt, length, if◌then◌else◌, Option, Some, None}
+-- How a run ends, and what its input files are refused for.
+use Rattle.std.specs.Prelude.{◌==◌, ℕ, List, nat_lt, length, if◌then◌else◌, Option, Some, None}
 use Rattle.engine_run.specs.declared.flow_file.Flow.{Flow}
 use Rattle.engine_run.specs.declared.request_file.Requests.{Requests}
 use Rattle.engine_run.specs.declared.ended.Cause.{Cause}
@@ -9,7 +9,6 @@ use Rattle.engine_run.specs.declared.ended.FlowPath.TheVariants as paths
 use Rattle.engine_run.specs.declared.ended.PlanPlace.TheVariants as places
 use Rattle.engine_run.specs.FlowFile.{flow_in}
 use Rattle.engine_run.specs.RequestFile.{requests_in}
-use Rattle.commit_log.specs.Segment.{fresh, reading_of}
 
 -- the status of each cause
 abbrev pub status_of : Cause → ℕ
@@ -49,17 +48,3 @@ refusal_of files = too_long_or 0 (files 0) (after (flow_in (files 0)))
     after : Option Flow → Option Cause
     after None = Some (BadFlows (BadShape paths.Whole))
     after (Some flow) = requests_refusal flow.name (files 1) (files 2)
-
--- The causes that a run of the command may end with, by what its files read. A fault of the outside and want of
--- memory may come at any time; the faults have a clause of their own.
-abbrev pub Answers : (ℕ → List ℕ) → Cause → Type 0
-Answers files Done = refusal_of files ≡ None
-Answers files Usage = ⊥
-Answers files (BadFlows fault) = refusal_of files ≡ Some (BadFlows fault)
-Answers files (BadRequests line) = refusal_of files ≡ Some (BadRequests line)
-Answers files (BadPlan place) = refusal_of files ≡ Some (BadPlan place)
-Answers files (TooLong file) = refusal_of files ≡ Some (TooLong file)
-Answers files SiteFault = Unit {0}
-Answers files SayFault = refusal_of files ≡ None
-Answers files (Damaged file offset) = (refusal_of files ≡ None) × (reading_of (files 16) ≢ fresh) × (file ≡ 16) × (offset ≡ 0)
-Answers files Memory = Unit {0}

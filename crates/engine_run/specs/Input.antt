@@ -1,5 +1,5 @@
 -- What reading the input files answers.
-use Rattle.std.specs.Prelude.{◌≡◌, ℕ, List, nat_lt, length, true, false, Option, Some, None, Result, Ok, Err, Vec}
+use Rattle.std.specs.Prelude.{◌≡◌, ◌≤◌, ℕ, List, nat_lt, length, true, false, Option, Some, None, Result, Ok, Err, Vec}
 use Rattle.std.specs.declared.alloc.Global.{Global}
 use Rattle.engine_run.specs.declared.flow_file.Flow.{Flow}
 use Rattle.engine_run.specs.declared.request_file.Requests.{Requests}
@@ -73,6 +73,12 @@ RequestsRead flow requests (Err other) = ⊥
 abbrev pub PlanRead : List ℕ → Result (Unit {0}) Cause → Type 0
 PlanRead plan (Ok done) = plan_refusal plan ≡ None
 PlanRead plan (Err cause) = Refuses (plan_refusal plan) cause
+
+-- its names and its key are short
+pub record IsSmall (input : Input) : Type 0 where
+  pub client : length input.requests.client ≤ 64
+  pub name : length input.flow.name ≤ 64
+  pub key : length input.requests.key ≤ 64
 
 -- the form of the input
 pub record HasForm (files : ℕ → List ℕ) (input : Input) : Type 0 where

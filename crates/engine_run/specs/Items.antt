@@ -1,5 +1,6 @@
 -- How labels are spelled in a log. Numbers are big-endian.
-use Rattle.std.specs.Prelude.{ℕ, ◌+◌, List, ◌∷◌, ◌++◌, length}
+use Rattle.std.specs.Prelude.{ℕ, ◌+◌, List, [], ◌∷◌, ◌++◌, length}
+use Rattle.std.specs.List.{flat_map}
 use Rattle.std.specs.Int.{w16, w32, w64, to_be_bytes}
 use Rattle.engine_run.specs.declared.request_file.Kind.TheVariants as kinds
 use Rattle.engine_run.specs.declared.state.Label.{Label}
@@ -36,9 +37,24 @@ item_bytes input (ToInstance stamp) = 34 ∷ client_id input ++ instance_id inpu
 item_bytes input (ToClient stamp) = 34 ∷ instance_id input ++ client_id input ++ to_be_bytes w64 stamp
 item_bytes input Finish = 35 ∷ instance_id input ++ to_be_bytes w32 0 ++ sum_answer input
 
--- an entry of one item, and a frame of one entry
-abbrev pub entry_bytes : Input → ℕ → ℕ → Label → List ℕ
-entry_bytes input position incarnation label = to_be_bytes w64 position ++ to_be_bytes w64 incarnation ++ to_be_bytes w16 1 ++ item_bytes input label
+-- An entry of a log: its place there, the life of the partition that made it, and its labels.
+pub record LogEntry : Type 0 where
+  pub position : ℕ
+  pub incarnation : ℕ
+  pub labels : List Label
 
+-- an entry as it is kept: its labels stand behind their number
+abbrev pub entry_bytes : Input → LogEntry → List ℕ
+entry_bytes input e = to_be_bytes w64 e.position ++ to_be_bytes w64 e.incarnation ++ to_be_bytes w16 (length e.labels) ++ flat_map (item_bytes input) e.labels
+
+-- and a frame: its entries stand behind their number
+abbrev pub frame_bytes : Input → List LogEntry → List ℕ
+frame_bytes input entries = to_be_bytes w16 (length entries) ++ flat_map (entry_bytes input) entries
+
+-- an entry of one label
+abbrev pub one_label : ℕ → ℕ → Label → LogEntry
+one_label position incarnation label = record { position = position; incarnation = incarnation; labels = label ∷ [] }
+
+-- a frame of one such entry
 abbrev pub payload_bytes : Input → ℕ → ℕ → Label → List ℕ
-payload_bytes input position incarnation label = to_be_bytes w16 1 ++ entry_bytes input position incarnation label
+payload_bytes input position incarnation label = frame_bytes input (one_label position incarnation label ∷ [])

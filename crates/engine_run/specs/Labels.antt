@@ -1,49 +1,85 @@
--- The frames of a run's labels, and what a crash leaves of them.
-use Rattle.std.specs.Prelude.{◌≡◌, ℕ, ◌+◌, true, List, [], ◌∷◌, ◌++◌, length, map, Some}
-use Rattle.site_model.specs.History.{Step, changes_of, tape, Leaves}
-use Rattle.site_model.specs.Moments.{Always}
+-- The entries of a run, their frames, and what a crash leaves of them at each moment.
+use Rattle.std.specs.Prelude.{◌≡◌, ◌⊎◌, ℕ, ◌+◌, ◌≤◌, List, [], ◌∷◌, ◌++◌, length, map, Some}
+use Rattle.std.specs.List.{All}
+use Rattle.site_model.specs.History.{Change, Step, changes_of, Leaves}
 use Rattle.commit_log.specs.declared.header.Header.{Header}
-use Rattle.commit_log.specs.States.{IsResting}
+use Rattle.commit_log.specs.Segment.{segment_bytes}
 use Rattle.engine_run.specs.declared.input.Input.{Input}
 use Rattle.engine_run.specs.declared.recovered.Recovered.{Recovered}
+use Rattle.engine_run.specs.declared.request_file.Kind.TheVariants as kinds
 use Rattle.engine_run.specs.declared.state.State.{State}
+use Rattle.engine_run.specs.declared.state.Label.TheVariants.{Take}
 use Rattle.engine_run.specs.declared.trail.Entry.{Entry}
-use Rattle.engine_run.specs.declared.state.Label.{Label}
-use Rattle.engine_run.specs.State.{applied, IsQuiet}
+use Rattle.engine_run.specs.State.{applied, stamp_of}
 use Rattle.engine_run.specs.Items.{payload_bytes}
-use Rattle.engine_run.specs.Commit.{Holds}
-use Rattle.engine_run.specs.Told.{Tells}
+use Rattle.engine_run.specs.Lines.{start_line}
+use Rattle.engine_run.specs.Commit.{Holds, WroteGate}
+use Rattle.engine_run.specs.Told.{IsFront, TellsAt}
+use Rattle.engine_run.specs.Trail.{settled_at}
 
--- The frames that an incarnation appends from this position and this state on, one label each, which the machine has
+-- an entry of the one partition, of this incarnation, at this position, with a moment that isn't behind this stamp
+pub record IsNext (incarnation position stamp : ℕ) (entry : Entry) : Type 0 where
+  pub home : entry.partition ≡ 0
+  pub life : entry.incarnation ≡ incarnation
+  pub place : entry.position ≡ position
+  pub time : stamp_of entry.label ≤ stamp
+
+-- The entries that an incarnation appends from this position and this state on, each with a label that the machine has
 -- there, and the state behind them.
-pub data Appends (input : Input) (incarnation position : ℕ) (first : State) : List (List ℕ) → State → Type 0 where
-  none : Appends input incarnation position first [] first
-  one_more : {frames : List (List ℕ)} {s : State} (label : Label) (next : State) → Appends input incarnation position first frames s → applied s label ≡ Some next
-      → Appends input incarnation position first (frames ++ payload_bytes input (position + length frames) incarnation label ∷ []) next
+pub data Appends (incarnation position : ℕ) (first : State) : List Entry → State → Type 0 where
+  none : Appends incarnation position first [] first
+  one_more : {entries : List Entry} {s : State} (entry : Entry) (next : State) → Appends incarnation position first entries s → IsNext incarnation (position + length entries) first.stamp entry
+      → applied s entry.label ≡ Some next → Appends incarnation position first (entries ++ entry ∷ []) next
 
--- the frames of a trail's entries
+-- the frames of entries
 abbrev pub frames_of : Input → List Entry → List (List ℕ)
 frames_of input = map (λ e. payload_bytes input e.position e.incarnation e.label)
 
--- A crash leaves the frames that were recovered, and then some of such labels. What was said behind the tape at the
--- start is a front of the answers that the client has in the state behind them.
-abbrev pub LeavesLabels : Input → Recovered → Header → List (List ℕ) → List ℕ → List Step → Type 0
-LeavesLabels input r h payloads before steps =
-    (image : List ℕ) → Leaves (changes_of r.log.file steps) image
-    → (frames : List (List ℕ)) × (end : State) × Appends input r.incarnation r.position r.state frames end × Holds h (payloads ++ frames) image × Tells input end before (tape steps)
+-- the wait is taken only where the start's answer was said
+abbrev pub AsksRightly : Input → List ℕ → Entry → Type 0
+AsksRightly input lines entry = entry.label ≡ Take kinds.Wait → IsFront (start_line input) lines
 
--- How far a run has come: these labels are settled, and at no moment a crash left anything else than some of them and
--- perhaps the one under way.
-pub record Kept (input : Input) (r : Recovered) (h : Header) (payloads : List (List ℕ)) (old now : List Step) (s : State) (position gate : ℕ) (entries : List Entry) : Type 0 where
-  pub frames : List (List ℕ)
-  pub path : Appends input r.incarnation r.position r.state frames s
-  pub place : position ≡ r.position + length frames
-  pub trail : frames ≡ frames_of input entries
-  pub rests : IsResting (changes_of r.log.file now) h (payloads ++ frames) gate
-  pub always : Always (LeavesLabels input r h payloads (tape old)) old now
+-- Where a run goes on from: its log's file, the header and frames that are in it, and the state behind them with the next
+-- position and the incarnation.
+pub record Origin : Type 0 where
+  pub file : ℕ
+  pub header : Header
+  pub payloads : List (List ℕ)
+  pub first : State
+  pub position : ℕ
+  pub incarnation : ℕ
 
--- In the end the labels in the log are all that there are, and those of this run are on its trail.
-abbrev pub LeavesAll : Input → Recovered → Header → List (List ℕ) → List Step → List Entry → Type 0
-LeavesAll input r h payloads now entries =
-    (frames : List (List ℕ)) × (end : State) × Appends input r.incarnation r.position r.state frames end × IsQuiet end true
-    × ((image : List ℕ) → Leaves (changes_of r.log.file now) image → Holds h (payloads ++ frames) image) × (frames ≡ frames_of input entries)
+-- a recovered log with this header and these frames
+abbrev pub origin_of : Recovered → Header → List (List ℕ) → Origin
+origin_of r h payloads = record { file = r.log.file; header = h; payloads = payloads; first = r.state; position = r.position; incarnation = r.incarnation }
+
+-- a log file has the frames that were there, and those of these entries
+abbrev pub HoldsEntries : Input → Origin → List Entry → List ℕ → Type 0
+HoldsEntries input o entries = Holds o.header (o.payloads ++ frames_of input entries)
+
+-- One frame more than those of the settled entries, of an entry that the machine has there, and whose gate was just written.
+pub record HoldsNext (input : Input) (o : Origin) (settled : List Entry) (s : State) (lines : List ℕ) (changes : List Change) (image : List ℕ) : Type 0 where
+  pub entry : Entry
+  pub next : State
+  pub comes : IsNext o.incarnation (o.position + length settled) o.first.stamp entry
+  pub goes : applied s entry.label ≡ Some next
+  pub asks : AsksRightly input lines entry
+  pub gate : WroteGate (length (segment_bytes o.header (o.payloads ++ frames_of input settled))) changes
+  pub holds : HoldsEntries input o (settled ++ entry ∷ []) image
+
+-- How a run stands where these entries are settled: they are the machine's, what was said is a front of the answers in the
+-- state behind them, and a crash leaves their frames, or one more.
+pub record StandsAt (input : Input) (o : Origin) (before : List ℕ) (settled : List Entry) (steps : List Step) : Type 0 where
+  pub state : State
+  pub path : Appends o.incarnation o.position o.first settled state
+  pub tells : TellsAt input state before steps
+  pub asks : All (AsksRightly input tells.part) settled
+  pub images : (image : List ℕ) → Leaves (changes_of o.file steps) image → HoldsEntries input o settled image ⊎ HoldsNext input o settled state tells.part (changes_of o.file steps) image
+
+-- at a moment the entries that the trail has by then are settled
+abbrev pub AtMoment : Input → Origin → List ℕ → List Entry → List Step → Type 0
+AtMoment input o before trail steps = StandsAt input o before (settled_at (length steps) trail) steps
+
+-- a crash leaves the frames of the whole trail
+abbrev pub LeavesAll : Input → Origin → List Entry → List Step → Type 0
+LeavesAll input o trail steps = (image : List ℕ) → Leaves (changes_of o.file steps) image → HoldsEntries input o trail image

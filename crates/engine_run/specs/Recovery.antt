@@ -1,6 +1,7 @@
 -- What recovery answers.
-use Rattle.std.specs.Prelude.{◌≡◌, ◌≢◌, ◌⊎◌, ℕ, ◌+◌, ◌-◌, ◌^◌, min, List, [], Option, Some, None, Result, Ok, Err}
-use Rattle.site_model.specs.History.{Step, changes_of, content_of, tape, Leaves}
+use Rattle.std.specs.Prelude.{◌≡◌, ◌⊎◌, ℕ, ◌+◌, ◌-◌, ◌^◌, min, List, [], Option, Some, None, Result, Ok, Err}
+use Rattle.site_model.specs.History.{Step, changes_of, content_of, Leaves}
+use Rattle.site_model.specs.Moments.{OnlyFile}
 use Rattle.commit_log.specs.declared.header.Header.{Header}
 use Rattle.commit_log.specs.Segment.{fresh, segment, reading_of}
 use Rattle.engine_run.specs.declared.ended.Cause.{Cause}
@@ -23,22 +24,36 @@ abbrev pub IsOpening : Cause → Type 0
 IsOpening SiteFault = Unit {0}
 IsOpening cause = IsRefused cause
 
--- nothing is recovered from a fresh log, and only one that isn't fresh is refused
-abbrev pub Recovers : List ℕ → Result Recovered Cause → Type 0
-Recovers content (Ok found) = reading_of content ≡ fresh → found.state ≡ fresh_state
-Recovers content (Err (Damaged file offset)) = reading_of content ≢ fresh
-Recovers content (Err other) = Unit {0}
-
 -- the header of the one partition's log
 abbrev pub header_of : Input → Header
 header_of input = record { partition = 0; partitions = 1; digest = input.digest; base = 0 }
 
--- While the log is opened, nothing is said, and a crash leaves what it could have left before. Where the log is fresh, it
--- may also leave it fresh or without a frame.
+-- A log can be read where it is fresh, or where it is this partition's and its frames say labels that the machine has.
+abbrev pub Readable : Input → List ℕ → Type 0
+Readable input content =
+    (reading_of content ≡ fresh)
+    ⊎ ((payloads : List (List ℕ)) × (gate : ℕ) × (p : Point) × (reading_of content ≡ segment (header_of input) payloads gate) × Replays input payloads p)
+
+-- nothing is recovered from a fresh log, and only one that can't be read is refused
+abbrev pub Recovers : Input → List ℕ → Result Recovered Cause → Type 0
+Recovers input content (Ok found) = reading_of content ≡ fresh → found.state ≡ fresh_state
+Recovers input content (Err (Damaged file offset)) = Readable input content → ⊥
+Recovers input content (Err other) = Unit {0}
+
+-- The log wasn't touched, or it was synced: then a crash leaves it as it was read, which it could have left before.
+pub record LeavesRead (old steps : List Step) : Type 0 where
+  pub images : (image : List ℕ) → Leaves (changes_of 16 steps) image → Leaves (changes_of 16 old) image
+  pub synced : (steps ≡ old) ⊎ ((image : List ℕ) → Leaves (changes_of 16 steps) image → image ≡ content_of 16 old)
+
+-- A log that was fresh is made: a crash leaves it fresh, or without a frame.
+pub record LeavesMade (input : Input) (old steps : List Step) : Type 0 where
+  pub was_fresh : reading_of (content_of 16 old) ≡ fresh
+  pub images : (image : List ℕ) → Leaves (changes_of 16 steps) image → (reading_of image ≡ fresh) ⊎ Holds (header_of input) [] image
+
+-- While the log is opened nothing is said, and no other file changes.
 pub record LeavesOpening (input : Input) (old steps : List Step) : Type 0 where
-  pub same_tape : tape steps ≡ tape old
-  pub images : (image : List ℕ) → Leaves (changes_of 16 steps) image
-      → Leaves (changes_of 16 old) image ⊎ ((reading_of (content_of 16 old) ≡ fresh) × ((reading_of image ≡ fresh) ⊎ Holds (header_of input) [] image))
+  pub only : OnlyFile 16 old steps
+  pub log : LeavesRead old steps ⊎ LeavesMade input old steps
 
 -- an incarnation behind the last one, as far as there is one
 abbrev pub next_incarnation : Option ℕ → ℕ

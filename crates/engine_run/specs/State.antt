@@ -134,6 +134,11 @@ abbrev pub is_kept_rightly : WaitStage → Bool → Bool
 is_kept_rightly waits.Kept pending = pending
 is_kept_rightly other pending = true
 
+-- only an instance that is there has finished
+abbrev pub is_finished_rightly : Bool → Bool → Bool
+is_finished_rightly there true = there
+is_finished_rightly there false = true
+
 -- what each state keeps true
 pub record IsSound (s : State) : Type 0 where
   pub order : s.last ≤ s.stamp
@@ -165,9 +170,9 @@ abbrev pub HasAnswer : WaitStage → Type 0
 HasAnswer (waits.Answered found) = Unit {0}
 HasAnswer other = ⊥
 
--- nothing is left to do: the start has its answer, and once it was said the wait has too
+-- nothing is left to do: no activity is pending, the start has its answer, and once it was said the wait has too
 abbrev pub IsQuiet : State → Bool → Type 0
-IsQuiet s told = (s.start ≡ starts.Answered) × (told ≡ true → HasAnswer s.wait)
+IsQuiet s told = (s.start ≡ starts.Answered) × (told ≡ true → HasAnswer s.wait) × (is_pending s.start s.finished ≡ false)
 
 -- what the client was answered stays so
 abbrev pub KeepsAnswers : State → State → Type 0

@@ -1,6 +1,6 @@
 -- What a run says.
-use Rattle.std.specs.Prelude.{◌≡◌, ℕ, List, [], ◌++◌, true, Result, Ok, Err, Bool, false}
-use Rattle.site_model.specs.History.{Step, changes_of, tape}
+use Rattle.std.specs.Prelude.{◌≡◌, ◌⊎◌, ℕ, List, [], ◌∷◌, ◌++◌, true, Result, Ok, Err, Bool, false}
+use Rattle.site_model.specs.History.{Step, said, changes_of, tape}
 use Rattle.engine_run.specs.declared.input.Input.{Input}
 use Rattle.engine_run.specs.declared.state.StartStage.{StartStage}
 use Rattle.engine_run.specs.declared.state.StartStage.TheVariants as starts
@@ -42,7 +42,7 @@ IsFront front whole = (rest : List ℕ) × (whole ≡ front ++ rest)
 
 -- what was said is a front of the two lines, with one of the answers that the wait may have
 abbrev pub IsSaidFront : Input → List ℕ → Type 0
-IsSaidFront input said = (found : Found) × IsFront said (said_of input (Both found))
+IsSaidFront input lines = (found : Found) × IsFront lines (said_of input (Both found))
 
 -- what stands on the tape behind what stood there before this run
 abbrev pub TapeAfter : Input → List ℕ → List ℕ → Result Told Cause → Type 0
@@ -65,17 +65,40 @@ told_of s = told_start s.start s.wait
 abbrev pub Tells : Input → State → List ℕ → List ℕ → Type 0
 Tells input s before now = (part : List ℕ) × (now ≡ before ++ part) × IsFront part (said_of input (told_of s))
 
--- a front of these bytes was said, and no file changed
+-- the last thing that happened is that a byte was said
+abbrev pub IsSpeaking : List Step → Type 0
+IsSpeaking steps = (byte : ℕ) × (before : List Step) × (steps ≡ said byte ∷ before)
+
+-- a front of the line that follows those that were said, where its answer is there
+abbrev pub IsNextFront : Input → State → Told → List ℕ → Type 0
+IsNextFront input s Nothing rest = (s.start ≡ starts.Answered) × IsFront rest (start_line input)
+IsNextFront input s Start rest = (found : Found) × (s.wait ≡ waits.Answered found) × IsFront rest (wait_line input found)
+IsNextFront input s (Both found) rest = ⊥
+
+-- the lines said so far, and then a front of the next one while it is being said
+abbrev pub IsSaidSoFar : Input → State → List ℕ → List Step → Type 0
+IsSaidSoFar input s part steps =
+    (told : Told) × TellsRightly s told × (rest : List ℕ) × (part ≡ said_of input told ++ rest) × ((rest ≡ []) ⊎ (IsSpeaking steps × IsNextFront input s told rest))
+
+-- What was said behind this by a moment: a front of the answers in a state, and whole lines unless one is just being said.
+pub record TellsAt (input : Input) (s : State) (before : List ℕ) (steps : List Step) : Type 0 where
+  pub part : List ℕ
+  pub spoken : tape steps ≡ before ++ part
+  pub front : IsFront part (said_of input (told_of s))
+  pub lines : IsSaidSoFar input s part steps
+
+-- A front of these bytes was said, where any was the last one just now, and no file changed.
 pub record SaysPart (line : List ℕ) (old steps : List Step) : Type 0 where
   pub files : (file : ℕ) → changes_of file steps ≡ changes_of file old
   pub part : List ℕ
-  pub said : tape steps ≡ tape old ++ part
+  pub spoken : tape steps ≡ tape old ++ part
   pub front : IsFront part line
+  pub whole : (part ≡ []) ⊎ IsSpeaking steps
 
--- At each moment no file changes, and what was said is a front of the state's answers, if it was one before.
+-- At each moment no file changes, and more of the state's answers was said, if it was some of them before.
 pub record LeavesFiles (input : Input) (s : State) (told : Told) (old steps : List Step) : Type 0 where
   pub files : (file : ℕ) → changes_of file steps ≡ changes_of file old
-  pub tells : (before : List ℕ) → tape old ≡ before ++ said_of input told → Tells input s before (tape steps)
+  pub tells : (before : List ℕ) → tape old ≡ before ++ said_of input told → (now : TellsAt input s before steps) × IsFront (said_of input told) now.part
 
 -- a fault of the tape, or want of memory
 abbrev pub IsSaying : Cause → Type 0

@@ -1,13 +1,13 @@
 //! Committing a frame.
 
-ghost use Rattle.std.specs.Prelude.{◌≡◌, ◌+◌, ◌≤◌, ◌<◌, ◌^◌, ◌++◌, [], ◌∷◌, ℕ, List, length, Err, IfOk, IfErr};
+ghost use Rattle.std.specs.Prelude.{◌≡◌, ◌+◌, ◌≤◌, ◌<◌, ◌^◌, ◌++◌, [], ◌∷◌, ℕ, List, length, Err, IfOk, IfErr, OnOk};
 ghost use Rattle.site_model.specs.History.{changes_of, tape};
 ghost use Rattle.site_model.specs.Calls.{HasRisen};
-ghost use Rattle.site_model.specs.Moments.{LeavesOnly};
+ghost use Rattle.site_model.specs.Moments.{Always};
 ghost use Rattle.commit_log.specs.declared.header.Header.{Header};
 ghost use Rattle.commit_log.specs.States.{Rests, IsResting};
 ghost use Rattle.commit_log.specs.Outcomes.{RestsAs};
-ghost use Rattle.engine_run.specs.Commit.{IsOutside, HoldsOneMore};
+ghost use Rattle.engine_run.specs.Commit.{IsOutside, LeavesCommit};
 
 use crate::ended::Cause;
 use commit_log::{BodyError, Resting};
@@ -27,11 +27,12 @@ pub(crate) fn commit<V: Site>(
     requires room { log.gate + 6 + length payload.now < 2 ^ 31 }
     requires rests { V.tells → Rests (changes_of log.file (V.history site.old)) log.gate }
     ensures during { V.tells → (h : Header) (payloads : List (List ℕ)) → IsResting (changes_of log.file (V.history site.old)) h payloads log.gate
-        → LeavesOnly log.file (V.history site.old) (V.history site.new) (HoldsOneMore h payloads payload.now) }
+        → Always (LeavesCommit log.file h payloads payload.now log.gate (V.history site.old)) (V.history site.old) (V.history site.new) }
     ensures after { V.tells → (h : Header) (payloads : List (List ℕ)) → IsResting (changes_of log.file (V.history site.old)) h payloads log.gate
         → IfOk result (λ next. RestsAs (V.history site.new) h (payloads ++ payload.now ∷ []) next) }
     ensures rests { V.tells → IfOk result (λ next. Rests (changes_of next.file (V.history site.new)) next.gate) }
     ensures place { IfOk result (λ next. (next.file ≡ log.file) × (next.gate ≡ log.gate + 5 + length payload.now)) }
+    ensures moves { V.tells → OnOk result (length (V.history site.old) < length (V.history site.new)) }
     ensures tape { V.tells → tape (V.history site.new) ≡ tape (V.history site.old) }
     ensures outside { IfErr result IsOutside }
     ensures fault { result ≡ Err Cause.SiteFault → HasRisen (V.disk_faults site.old) (V.disk_faults site.new) }

@@ -54,6 +54,13 @@ pub enum Value {
 }
 
 impl Scalars {
+    /// A list of these.
+    pub fn of(items: Vec<Scalar>) -> Scalars
+        ensures { result ≡ items.items }
+    {
+        Scalars { items }
+    }
+
     /// A list of two.
     pub fn pair(alloc: Global, first: Scalar, second: Scalar) -> Result<Scalars, AllocError>
         ensures { IfOk result (λ s. s ≡ first ∷ second ∷ []) }

@@ -1,13 +1,16 @@
 //! Label by label, until nothing is left.
 
-ghost use Rattle.std.specs.Prelude.{◌≡◌, ◌≤◌, [], ℕ, List, Err, IfErr, OnOk};
+ghost use Rattle.std.specs.Prelude.{◌≡◌, ◌≤◌, [], ℕ, List, length, true, Err, IfErr, OnOk};
 ghost use Rattle.site_model.specs.History.{changes_of, tape};
 ghost use Rattle.site_model.specs.Calls.{HasRisen};
 ghost use Rattle.site_model.specs.Moments.{Always};
 ghost use Rattle.commit_log.specs.declared.header.Header.{Header};
 ghost use Rattle.commit_log.specs.States.{Rests, IsResting};
 ghost use Rattle.engine_run.specs.Driving.{IsDriving, DrivesTape};
-ghost use Rattle.engine_run.specs.Labels.{LeavesLabels, LeavesAll};
+ghost use Rattle.engine_run.specs.Labels.{Appends, origin_of, AtMoment, LeavesAll};
+ghost use Rattle.engine_run.specs.declared.state.State.{State};
+ghost use Rattle.engine_run.specs.State.{IsQuiet};
+ghost use Rattle.engine_run.specs.Trail.{Rises};
 
 use crate::activities::Activities;
 use crate::ended::Cause;
@@ -35,9 +38,11 @@ pub(crate) fn drive<V: Site, A: Activities>(
     requires empty { entries.old.items ≡ [] }
     requires rests { V.tells → Rests (changes_of recovered.log.file (V.history site.old)) recovered.log.gate }
     ensures during { V.tells → (h : Header) (payloads : List (List ℕ)) → IsResting (changes_of recovered.log.file (V.history site.old)) h payloads recovered.log.gate
-        → Always (LeavesLabels input.now recovered h payloads (tape (V.history site.old))) (V.history site.old) (V.history site.new) }
-    ensures all { V.tells → (h : Header) (payloads : List (List ℕ)) → IsResting (changes_of recovered.log.file (V.history site.old)) h payloads recovered.log.gate
-        → OnOk result (LeavesAll input.now recovered h payloads (V.history site.new) entries.new.items) }
+        → Always (AtMoment input.now (origin_of recovered h payloads) (tape (V.history site.old)) entries.new.items) (V.history site.old) (V.history site.new) }
+    ensures rises { V.tells → Rises (length (V.history site.old)) entries.new.items (length (V.history site.new)) }
+    ensures all { (end : State) × Appends recovered.incarnation recovered.position recovered.state entries.new.items end × OnOk result (IsQuiet end true) }
+    ensures settled { V.tells → (h : Header) (payloads : List (List ℕ)) → IsResting (changes_of recovered.log.file (V.history site.old)) h payloads recovered.log.gate
+        → OnOk result (LeavesAll input.now (origin_of recovered h payloads) entries.new.items (V.history site.new)) }
     ensures tape { V.tells → DrivesTape recovered.state input.now (tape (V.history site.old)) (tape (V.history site.new)) result }
     ensures driving { IfErr result IsDriving }
     ensures fault { result ≡ Err Cause.SiteFault → HasRisen (V.disk_faults site.old) (V.disk_faults site.new) }

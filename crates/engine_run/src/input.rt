@@ -1,9 +1,9 @@
 //! The three input files.
 
-ghost use Rattle.std.specs.Prelude.{◌≡◌, ◌≤◌, Err, IfErr};
+ghost use Rattle.std.specs.Prelude.{◌≡◌, ◌≤◌, ◌+◌, length, Err, IfErr};
 ghost use Rattle.site_model.specs.History.{content_of};
 ghost use Rattle.site_model.specs.Calls.{HasRisen};
-ghost use Rattle.engine_run.specs.Input.{ReadsFile, LengthRead, IsInputCause, ReadsInput, FlowsRead, RequestsRead, PlanRead};
+ghost use Rattle.engine_run.specs.Input.{IsSmall, ReadsFile, LengthRead, IsInputCause, ReadsInput, FlowsRead, RequestsRead, PlanRead};
 
 use crate::digest::fnv;
 use crate::ended::{Cause, FlowFault, FlowPath, PlanPlace};
@@ -32,6 +32,18 @@ pub(crate) struct Input {
     pub(crate) requests: Requests,
     /// The digest of the flows file.
     pub(crate) digest: u64,
+}
+
+impl Input {
+    /// How many bytes its names and its key have.
+    pub(crate) fn words(&self) -> usize
+        ensures sum { result ≡ length self.now.requests.client + length self.now.flow.name + length self.now.requests.key }
+        ensures small { IsSmall self.now }
+    {
+        self.requests.client.as_bytes().len()
+            + self.flow.name.as_bytes().len()
+            + self.requests.key.as_bytes().len()
+    }
 }
 
 /// The length of an input file, unless it is too long.

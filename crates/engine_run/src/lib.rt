@@ -23,6 +23,7 @@ mod error;
 mod flow_file;
 mod input;
 mod items;
+mod laws;
 mod names;
 mod recovered;
 mod recovery;

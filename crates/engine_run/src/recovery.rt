@@ -1,11 +1,12 @@
 //! Opening the log of the partition, and what its labels made.
 
-ghost use Rattle.std.specs.Prelude.{◌≡◌, ◌≤◌, [], ◌∷◌, ℕ, List, Err, IsTrue, IfOk, IfErr, OnErr};
+ghost use Rattle.std.specs.Prelude.{◌≡◌, ◌≤◌, [], ◌∷◌, ℕ, List, true, false, Err, IfOk, IfErr, OnErr};
 ghost use Rattle.site_model.specs.History.{on, synced, changes_of, content_of, tape, IsKept};
 ghost use Rattle.site_model.specs.Calls.{HasRisen};
 ghost use Rattle.site_model.specs.Moments.{Always, LeavesOnly};
-ghost use Rattle.commit_log.specs.States.{Rests, IsResting, IsFormatting};
+ghost use Rattle.commit_log.specs.States.{Rests, EndsAt, IsResting, IsFormatting};
 ghost use Rattle.engine_run.specs.State.{fresh_state};
+ghost use Rattle.engine_run.specs.Replay.{Point, Replays};
 ghost use Rattle.engine_run.specs.Recovery.{IsRefused, IsOpening, Recovers, header_of, LeavesOpening, Follows, StartsFrom};
 
 use crate::ended::Cause;
@@ -24,9 +25,6 @@ const LOG: u32 = 16;
 /// The last incarnation that a log may have.
 const LAST_INCARNATION: u64 = (1 << 61) - 1;
 
-/// No log of this form of input comes to this length: it has seven frames at the most.
-const LONG: u64 = 1 << 20;
-
 fn damaged() -> Cause
     ensures { result ≡ Cause.Damaged LOG 0 }
 {
@@ -38,7 +36,8 @@ fn damaged() -> Cause
 
 /// Whether a log is this partition's, and of this flow file.
 fn is_ours(header: &Header, input: &Input) -> bool
-    ensures { IsTrue result → header.now ≡ header_of input.now }
+    ensures ours { result ≡ true → header.now ≡ header_of input.now }
+    ensures other { result ≡ false → header.now ≡ header_of input.now → ⊥ }
 {
     header.partition == 0
         && header.partitions == 1
@@ -48,17 +47,21 @@ fn is_ours(header: &Header, input: &Input) -> bool
 
 /// What an open log holds.
 fn recover_opened(alloc: Global, input: &Input, opened: Opened) -> Result<Recovered, Cause>
+    requires { EndsAt opened.header opened.payloads.items opened.log.gate }
     ensures log { IfOk result (λ r. r.log ≡ opened.log) }
     ensures header { IfOk result (λ r. opened.header ≡ header_of input.now) }
     ensures follows { IfOk result (λ r. Follows input.now opened.payloads.items r.state r.position r.incarnation) }
     ensures refused { IfErr result IsRefused }
+    ensures damaged { (file offset : ℕ) → result ≡ Err (Cause.Damaged file offset) → opened.header ≡ header_of input.now → (p : Point) → Replays input.now opened.payloads.items p → ⊥ }
 {
+    // Its words are short, and so is every log that can be read.
+    let _ = input.words();
     let Opened {
         header,
         payloads,
         log,
     } = opened;
-    if !is_ours(&header, input) || log.gate > LONG {
+    if !is_ours(&header, input) {
         return Err(damaged());
     }
     let replay = match replay_all(alloc, input, &payloads) {
@@ -111,13 +114,13 @@ fn make_log<V: Site>(site: &mut V, input: &Input) -> Result<Recovered, Cause>
 }
 
 /// Opens the log, or makes it where there is none.
-#[tactic(auto, using(crate::proofs::Opening::opening_reads, crate::proofs::Opening::opening_formats))]
+#[tactic(auto, using(crate::proofs::Opening::opening_reads, crate::proofs::Opening::opening_formats, crate::proofs::Opening::not_damaged, crate::proofs::Opening::recovers_opened))]
 pub(crate) fn recover<V: Site>(
     alloc: Global,
     site: &mut V,
     input: &Input,
 ) -> Result<Recovered, Cause>
-    ensures recovers { V.tells → Recovers (content_of LOG (V.history site.old)) result }
+    ensures recovers { V.tells → Recovers input.now (content_of LOG (V.history site.old)) result }
     ensures during { V.tells → Always (LeavesOpening input.now (V.history site.old)) (V.history site.old) (V.history site.new) }
     ensures stands { V.tells → IfOk result (λ r. (payloads : List (List ℕ)) × IsResting (changes_of r.log.file (V.history site.new)) (header_of input.now) payloads r.log.gate
         × StartsFrom input.now (content_of LOG (V.history site.old)) payloads r.state r.position r.incarnation) }

@@ -1,11 +1,11 @@
 //! Reading the labels of a log, and applying them.
 
-ghost use Rattle.std.specs.Prelude.{◌≡◌, ◌+◌, ◌≤◌, ◌<◌, ◌^◌, ◌++◌, length, None, IsTrue, IfOk, IfSome};
+ghost use Rattle.std.specs.Prelude.{◌≡◌, ◌+◌, ◌≤◌, ◌<◌, ◌^◌, ◌++◌, ℕ, List, length, true, false, Some, None, Err, IfOk, IfSome, IfNone, OnErr};
+ghost use Rattle.std.specs.Int.{w16, w64, to_be_bytes};
 ghost use Rattle.engine_run.specs.Items.{item_bytes};
-ghost use Rattle.std.specs.Int.{w16, w64};
-ghost use Rattle.engine_run.specs.State.{stamp_of, work, IsSound, fresh_state};
-ghost use Rattle.engine_run.specs.Replay.{Number, Items, MayFollow, Entry, Frame, Replays};
-ghost use Rattle.engine_run.specs.Replayed.{point_of};
+ghost use Rattle.engine_run.specs.State.{work, IsSound, fresh_state};
+ghost use Rattle.engine_run.specs.Replay.{Point, IsFew, IsTimely, MayFollow, Replays};
+ghost use Rattle.engine_run.specs.Replayed.{point_of, tagged, ReadsItems, ReadsEntry, ReadsFrame};
 
 use crate::error::ReadError;
 use crate::input::Input;
@@ -26,8 +26,8 @@ const INCARNATIONS: u64 = 1 << 61;
 const MOST: u16 = 64;
 
 fn u16_at(bytes: &[u8]) -> Result<(u16, &[u8]), ReadError>
-    ensures size { IfOk result (λ found. length found.1.now + 2 ≡ length bytes.now) }
-    ensures number { IfOk result (λ found. Number w16 bytes.now found.0 found.1.now) }
+    ensures number { IfOk result (λ found. bytes.now ≡ to_be_bytes w16 found.0 ++ found.1.now) }
+    ensures refused { OnErr result (length bytes.now < 2) }
 {
     if bytes.len() < 2 {
         return Err(ReadError::Refused);
@@ -37,8 +37,8 @@ fn u16_at(bytes: &[u8]) -> Result<(u16, &[u8]), ReadError>
 }
 
 fn u64_at(bytes: &[u8]) -> Result<(u64, &[u8]), ReadError>
-    ensures size { IfOk result (λ found. length found.1.now + 8 ≡ length bytes.now) }
-    ensures number { IfOk result (λ found. Number w64 bytes.now found.0 found.1.now) }
+    ensures number { IfOk result (λ found. bytes.now ≡ to_be_bytes w64 found.0 ++ found.1.now) }
+    ensures refused { OnErr result (length bytes.now < 8) }
 {
     if bytes.len() < 8 {
         return Err(ReadError::Refused);
@@ -52,8 +52,9 @@ fn u64_at(bytes: &[u8]) -> Result<(u64, &[u8]), ReadError>
 
 /// A count from 1 to 64.
 fn count_at(bytes: &[u8]) -> Result<(u16, &[u8]), ReadError>
-    ensures range { IfOk result (λ found. (1 ≤ found.0) × (found.0 ≤ 64)) }
-    ensures number { IfOk result (λ found. Number w16 bytes.now found.0 found.1.now) }
+    ensures few { IfOk result (λ found. IsFew found.0) }
+    ensures number { IfOk result (λ found. bytes.now ≡ to_be_bytes w16 found.0 ++ found.1.now) }
+    ensures refused { OnErr result ((n : ℕ) (rest : List ℕ) → IsFew n → bytes.now ≡ to_be_bytes w16 n ++ rest → ⊥) }
 {
     let (count, rest) = match u16_at(bytes) {
         Ok(found) => found,
@@ -72,7 +73,8 @@ fn behind_item<'b>(
     label: Label,
     bytes: &'b [u8],
 ) -> Result<Option<&'b [u8]>, AllocError>
-    ensures { IfOk result (λ found. IfSome found (λ rest. bytes.now ≡ item_bytes input.now label ++ rest.now)) }
+    ensures found { IfOk result (λ found. IfSome found (λ rest. bytes.now ≡ item_bytes input.now label ++ rest.now)) }
+    ensures other { IfOk result (λ found. IfNone found ((rest : List ℕ) → bytes.now ≡ item_bytes input.now label ++ rest → ⊥)) }
 {
     let mut item = Vec::with_capacity(alloc, 206)?;
     put_item(&mut item, input, label)?;
@@ -82,12 +84,11 @@ fn behind_item<'b>(
 
 /// The moment that the item of a delivery ends with, where the bytes are long enough.
 fn stamp_in(input: &Input, bytes: &[u8]) -> Option<u64>
-    ensures { IfSome result (λ stamp. stamp < 2 ^ 63) }
+    ensures timely { IfSome result (λ stamp. stamp < 2 ^ 63) }
+    ensures stands { (front : List ℕ) (stamp : ℕ) (rest : List ℕ) → length front ≡ length input.now.requests.client + length input.now.flow.name + length input.now.requests.key + 6
+        → bytes.now ≡ front ++ to_be_bytes w64 stamp ++ rest → stamp < 2 ^ 63 → result ≡ Some stamp }
 {
-    let words = input.requests.client.as_bytes().len()
-        + input.flow.name.as_bytes().len()
-        + input.requests.key.as_bytes().len();
-    let at = words + 6;
+    let at = input.words() + 6;
     if bytes.len() < at + 8 {
         return None;
     }
@@ -100,7 +101,8 @@ fn stamp_in(input: &Input, bytes: &[u8]) -> Option<u64>
 
 /// The label whose item the bytes may begin with, by the item's tags.
 fn label_of(input: &Input, bytes: &[u8]) -> Option<Label>
-    ensures { IfSome result (λ label. stamp_of label < 2 ^ 63) }
+    ensures timely { IfSome result IsTimely }
+    ensures tagged { (label : Label) (rest : List ℕ) → IsTimely label → bytes.now ≡ item_bytes input.now label ++ rest → result ≡ Some (tagged label) }
 {
     match bytes {
         [0x20, .., _] => Some(Label::Take(Kind::Start)),
@@ -124,7 +126,8 @@ fn read_item<'b>(
     bytes: &'b [u8],
 ) -> Result<(Label, &'b [u8]), ReadError>
     ensures item { IfOk result (λ found. bytes.now ≡ item_bytes input.now found.0 ++ found.1.now) }
-    ensures stamp { IfOk result (λ found. stamp_of found.0 < 2 ^ 63) }
+    ensures timely { IfOk result (λ found. IsTimely found.0) }
+    ensures refused { result ≡ Err ReadError.Refused → (label : Label) (rest : List ℕ) → IsTimely label → bytes.now ≡ item_bytes input.now label ++ rest → ⊥ }
 {
     let label = match label_of(input, bytes) {
         Some(label) => label,
@@ -151,7 +154,8 @@ fn read_items<'b>(
     requires { IsSound first }
     ensures sound { IfOk result (λ found. IsSound found.0) }
     ensures work { IfOk result (λ found. work found.0 + count ≤ work first) }
-    ensures items { IfOk result (λ found. Items input.now first bytes.now count found.0 found.1.now) }
+    ensures items { IfOk result (λ found. ReadsItems input.now first bytes.now count found.0 found.1.now) }
+    ensures refused { result ≡ Err ReadError.Refused → (end : State) (behind : List ℕ) → ReadsItems input.now first bytes.now count end behind → ⊥ }
 {
     let mut state = first;
     let mut rest = bytes;
@@ -171,7 +175,8 @@ fn read_items<'b>(
 
 /// Whether an entry of this incarnation may follow.
 fn may_follow(before: Option<u64>, incarnation: u64) -> bool
-    ensures { IsTrue result → MayFollow before incarnation }
+    ensures follows { result ≡ true → MayFollow before incarnation }
+    ensures falls { result ≡ false → MayFollow before incarnation → ⊥ }
 {
     if incarnation >= INCARNATIONS {
         return false;
@@ -190,7 +195,8 @@ fn read_entry<'b>(
     bytes: &'b [u8],
 ) -> Result<(Replay, &'b [u8]), ReadError>
     ensures low { IfOk result (λ found. IfSome found.0.incarnation (λ i. i < 2 ^ 61)) }
-    ensures entry { IfOk result (λ found. Entry input.now (point_of replay) bytes.now (point_of found.0) found.1.now) }
+    ensures entry { IfOk result (λ found. ReadsEntry input.now (point_of replay) bytes.now (point_of found.0) found.1.now) }
+    ensures refused { result ≡ Err ReadError.Refused → (after : Point) (behind : List ℕ) → ReadsEntry input.now (point_of replay) bytes.now after behind → ⊥ }
 {
     let (position, rest) = match u64_at(bytes) {
         Ok(found) => found,
@@ -228,7 +234,8 @@ fn read_payload(
 ) -> Result<Replay, ReadError>
     requires { IfSome first.incarnation (λ i. i < 2 ^ 61) }
     ensures low { IfOk result (λ found. IfSome found.incarnation (λ i. i < 2 ^ 61)) }
-    ensures frame { IfOk result (λ found. Frame input.now (point_of first) bytes.now (point_of found)) }
+    ensures frame { IfOk result (λ found. ReadsFrame input.now (point_of first) bytes.now (point_of found)) }
+    ensures refused { result ≡ Err ReadError.Refused → (after : Point) → ReadsFrame input.now (point_of first) bytes.now after → ⊥ }
 {
     let (count, rest) = match count_at(bytes) {
         Ok(found) => found,
@@ -270,6 +277,7 @@ pub(crate) fn replay_all(
 ) -> Result<Replay, ReadError>
     ensures low { IfOk result (λ found. IfSome found.incarnation (λ i. i < 2 ^ 61)) }
     ensures replays { IfOk result (λ found. Replays input.now payloads.now (point_of found)) }
+    ensures refused { result ≡ Err ReadError.Refused → (p : Point) → Replays input.now payloads.now p → ⊥ }
 {
     let mut replay = nothing_read();
     for payload in payloads {

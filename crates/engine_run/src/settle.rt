@@ -1,13 +1,13 @@
 //! One label, one frame.
 
-ghost use Rattle.std.specs.Prelude.{◌≡◌, ◌+◌, ◌≤◌, ◌<◌, ◌^◌, ◌++◌, [], ◌∷◌, ℕ, List, Err, IfOk, IfErr, OnOk, OnErr};
+ghost use Rattle.std.specs.Prelude.{◌≡◌, ◌+◌, ◌≤◌, ◌<◌, ◌^◌, ◌++◌, [], ◌∷◌, ℕ, List, length, Err, IfOk, IfErr, OnOk, OnErr};
 ghost use Rattle.site_model.specs.History.{changes_of, tape};
 ghost use Rattle.site_model.specs.Calls.{HasRisen};
-ghost use Rattle.site_model.specs.Moments.{LeavesOnly};
+ghost use Rattle.site_model.specs.Moments.{Always};
 ghost use Rattle.commit_log.specs.declared.header.Header.{Header};
 ghost use Rattle.commit_log.specs.States.{Rests, IsResting};
 ghost use Rattle.commit_log.specs.Outcomes.{RestsAs};
-ghost use Rattle.engine_run.specs.Commit.{IsOutside, HoldsOneMore};
+ghost use Rattle.engine_run.specs.Commit.{IsOutside, LeavesCommit};
 ghost use Rattle.engine_run.specs.Items.{payload_bytes};
 
 use crate::activities::Activities;
@@ -52,11 +52,12 @@ pub(crate) fn settle_label<V: Site, A: Activities>(
     requires room { log.gate + 232 < 2 ^ 31 }
     requires rests { V.tells → Rests (changes_of log.file (V.history site.old)) log.gate }
     ensures during { V.tells → (h : Header) (payloads : List (List ℕ)) → IsResting (changes_of log.file (V.history site.old)) h payloads log.gate
-        → LeavesOnly log.file (V.history site.old) (V.history site.new) (HoldsOneMore h payloads (payload_bytes input.now entry.position entry.incarnation entry.label)) }
+        → Always (LeavesCommit log.file h payloads (payload_bytes input.now entry.position entry.incarnation entry.label) log.gate (V.history site.old)) (V.history site.old) (V.history site.new) }
     ensures after { V.tells → (h : Header) (payloads : List (List ℕ)) → IsResting (changes_of log.file (V.history site.old)) h payloads log.gate
         → IfOk result (λ next. RestsAs (V.history site.new) h (payloads ++ payload_bytes input.now entry.position entry.incarnation entry.label ∷ []) next) }
-    ensures trail { OnOk result ((at : ℕ) × (entries.new.items ≡ entries.old.items ++ record entry { at = at } ∷ [])) }
+    ensures trail { OnOk result ((at : ℕ) × (V.tells → at ≡ length (V.history site.new)) × (entries.new.items ≡ entries.old.items ++ record entry { at = at } ∷ [])) }
     ensures no_trail { OnErr result (entries.new.items ≡ entries.old.items) }
+    ensures moves { V.tells → OnOk result (length (V.history site.old) < length (V.history site.new)) }
     ensures rests { V.tells → IfOk result (λ next. Rests (changes_of next.file (V.history site.new)) next.gate) }
     ensures place { IfOk result (λ next. (next.file ≡ log.file) × (next.gate ≤ log.gate + 231)) }
     ensures tape { V.tells → tape (V.history site.new) ≡ tape (V.history site.old) }

@@ -1,6 +1,6 @@
 //! How far the two requests have come.
 
-ghost use Rattle.std.specs.Prelude.{◌≡◌, ◌≤◌, ◌<◌, ◌^◌, true, Some, IfSome, IfNone};
+ghost use Rattle.std.specs.Prelude.{◌≡◌, ◌≤◌, ◌<◌, ◌^◌, max, true, Some, IfSome, IfNone};
 ghost use Rattle.engine_run.specs.State.{inbox, outbox, is_there, is_pending, took, began, asked, arrived, answered, finished, applied, stamp_of, work, IsSound, IsQuiet, KeepsAnswers, FindsInstance, fresh_state};
 
 use crate::request_file::Kind;
@@ -143,6 +143,7 @@ impl State {
     /// Takes a request, once.
     fn take(self, kind: Kind) -> Option<State>
         ensures took { result ≡ took self kind }
+        ensures stamp { IfSome result (λ next. next.stamp ≡ self.stamp) }
         ensures work { IfSome result (λ next. work next < work self) }
         ensures sound { IsSound self → IfSome result IsSound }
         ensures keeps { IfSome result (KeepsAnswers self) }
@@ -167,6 +168,7 @@ impl State {
     fn begin(self, stamp: u64) -> Option<State>
         requires { stamp < 2 ^ 63 }
         ensures began { result ≡ began self self.start stamp }
+        ensures stamp { IfSome result (λ next. next.stamp ≡ max self.stamp stamp) }
         ensures work { IfSome result (λ next. work next < work self) }
         ensures sound { IsSound self → IfSome result IsSound }
         ensures keeps { IfSome result (KeepsAnswers self) }
@@ -188,6 +190,7 @@ impl State {
     fn ask(self, stamp: u64) -> Option<State>
         requires { stamp < 2 ^ 63 }
         ensures asked { result ≡ asked self self.wait stamp }
+        ensures stamp { IfSome result (λ next. next.stamp ≡ max self.stamp stamp) }
         ensures work { IfSome result (λ next. work next < work self) }
         ensures sound { IsSound self → IfSome result IsSound }
         ensures keeps { IfSome result (KeepsAnswers self) }
@@ -224,6 +227,7 @@ impl State {
     fn to_instance(self, stamp: u64) -> Option<State>
         requires { stamp < 2 ^ 63 }
         ensures arrived { result ≡ arrived self (inbox self.start self.wait self.wait_sent_first) stamp }
+        ensures stamp { IfSome result (λ next. next.stamp ≡ max self.stamp stamp) }
         ensures work { IfSome result (λ next. work next < work self) }
         ensures sound { IsSound self → IfSome result IsSound }
         ensures keeps { IfSome result (KeepsAnswers self) }
@@ -240,6 +244,7 @@ impl State {
     fn to_client(self, stamp: u64) -> Option<State>
         requires { stamp < 2 ^ 63 }
         ensures answered { result ≡ answered self (outbox self.start self.wait self.wait_replied_first) stamp }
+        ensures stamp { IfSome result (λ next. next.stamp ≡ max self.stamp stamp) }
         ensures work { IfSome result (λ next. work next < work self) }
         ensures sound { IsSound self → IfSome result IsSound }
         ensures keeps { IfSome result (KeepsAnswers self) }
@@ -263,6 +268,7 @@ impl State {
     /// The activity finishes, and so does the instance. A wait that it kept is answered.
     fn finish(self) -> Option<State>
         ensures finished { result ≡ finished self }
+        ensures stamp { IfSome result (λ next. next.stamp ≡ self.stamp) }
         ensures work { IfSome result (λ next. work next < work self) }
         ensures sound { IsSound self → IfSome result IsSound }
         ensures keeps { IfSome result (KeepsAnswers self) }
@@ -309,6 +315,8 @@ impl State {
         requires told { told ≡ true → self.start ≡ StartStage.Answered }
         ensures step { IfSome result (λ found. applied self found.0 ≡ Some found.1) }
         ensures stamp { IfSome result (λ found. stamp_of found.0 ≤ self.stamp) }
+        ensures same_stamp { IfSome result (λ found. found.1.stamp ≡ self.stamp) }
+        ensures asks { IfSome result (λ found. found.0 ≡ Label.Take Kind.Wait → told ≡ true) }
         ensures work { IfSome result (λ found. work found.1 < work self) }
         ensures sound { IfSome result (λ found. IsSound found.1) }
         ensures keeps { IfSome result (λ found. KeepsAnswers self found.1) }

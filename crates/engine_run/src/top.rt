@@ -1,11 +1,14 @@
 //! The top call.
 
-ghost use Rattle.std.specs.Prelude.{◌≡◌, ◌≢◌, ◌≤◌, []};
+ghost use Rattle.std.specs.Prelude.{◌≡◌, ◌≢◌, ◌≤◌, [], length};
 ghost use Rattle.site_model.specs.History.{content_of, tape};
 ghost use Rattle.site_model.specs.Calls.{HasRisen};
 ghost use Rattle.site_model.specs.Moments.{Always};
-ghost use Rattle.engine_run.specs.Ended.{Answers, status_of};
-ghost use Rattle.engine_run.specs.Run.{Says, Untouched, LeavesRun, LeavesQuiet};
+ghost use Rattle.engine_run.specs.Causes.{Answers};
+ghost use Rattle.engine_run.specs.Ended.{status_of};
+ghost use Rattle.engine_run.specs.Headline.{Headline, IsDone};
+ghost use Rattle.engine_run.specs.Run.{Says, Untouched};
+ghost use Rattle.engine_run.specs.Trail.{Rises};
 ghost use Rattle.engine_run.specs.Words.{run_words};
 
 use crate::activities::Activities;
@@ -32,8 +35,9 @@ fn perform<V: Site, A: Activities>(
     ensures answers { V.tells → Answers (λ file. content_of file (V.history site.old)) result }
     ensures says { V.tells → Says (λ file. content_of file (V.history site.old)) (tape (V.history site.old)) (tape (V.history site.new)) result }
     ensures untouched { V.tells → Untouched (V.history site.old) (V.history site.new) result }
-    ensures during { V.tells → Always (LeavesRun (λ file. content_of file (V.history site.old)) (V.history site.old)) (V.history site.old) (V.history site.new) }
-    ensures quiet { V.tells → result ≡ Cause.Done → LeavesQuiet (λ file. content_of file (V.history site.old)) (V.history site.new) entries.new.items }
+    ensures headline { V.tells → Always (Headline (λ file. content_of file (V.history site.old)) (V.history site.old) entries.new.items) (V.history site.old) (V.history site.new) }
+    ensures rises { V.tells → Rises (length (V.history site.old)) entries.new.items (length (V.history site.new)) }
+    ensures done { V.tells → result ≡ Cause.Done → IsDone (λ file. content_of file (V.history site.old)) (V.history site.old) entries.new.items (V.history site.new) }
     ensures no_usage { result ≢ Cause.Usage }
     ensures site_fault { result ≡ Cause.SiteFault → HasRisen (V.disk_faults site.old) (V.disk_faults site.new) }
     ensures say_fault { result ≡ Cause.SayFault → HasRisen (V.say_faults site.old) (V.say_faults site.new) }
@@ -68,8 +72,9 @@ pub fn run_alone<V: Site, C: Clock, A: Activities>(
     ensures answers { V.tells → words.now ≡ run_words → Answers (λ file. content_of file (V.history site)) result.cause }
     ensures says { V.tells → Says (λ file. content_of file (V.history site)) (tape (V.history site)) (tape (V.history result.site)) result.cause }
     ensures untouched { V.tells → Untouched (V.history site) (V.history result.site) result.cause }
-    ensures during { V.tells → Always (LeavesRun (λ file. content_of file (V.history site)) (V.history site)) (V.history site) (V.history result.site) }
-    ensures quiet { V.tells → result.cause ≡ Cause.Done → LeavesQuiet (λ file. content_of file (V.history site)) (V.history result.site) result.trail }
+    ensures headline { V.tells → Always (Headline (λ file. content_of file (V.history site)) (V.history site) result.trail) (V.history site) (V.history result.site) }
+    ensures rises { V.tells → Rises (length (V.history site)) result.trail (length (V.history result.site)) }
+    ensures done { V.tells → result.cause ≡ Cause.Done → IsDone (λ file. content_of file (V.history site)) (V.history site) result.trail (V.history result.site) }
     ensures site_fault { result.cause ≡ Cause.SiteFault → HasRisen (V.disk_faults site) (V.disk_faults result.site) }
     ensures say_fault { result.cause ≡ Cause.SayFault → HasRisen (V.say_faults site) (V.say_faults result.site) }
     ensures disk_later { V.disk_faults site ≤ V.disk_faults result.site }
@@ -125,11 +130,13 @@ pub fn run<R: Threads + Wait + Sync, V: Site + Send, C: Clock + Send, A: Activit
     ensures says { V.tells → Says (λ file. content_of file (V.history site)) (tape (V.history site)) (tape (V.history result.site)) result.cause }
     ensures untouched { V.tells → Untouched (V.history site) (V.history result.site) result.cause }
 
-    // At every moment, inside each call of the site too, a crash leaves a log that goes on from the one at the start by
-    // whole labels that the machine has, and what was said by then is answered in it. At the end of a run that is done,
-    // nothing is left to do in it, and the trail has the labels of this run.
-    ensures during { V.tells → Always (LeavesRun (λ file. content_of file (V.history site)) (V.history site)) (V.history site) (V.history result.site) }
-    ensures quiet { V.tells → result.cause ≡ Cause.Done → LeavesQuiet (λ file. content_of file (V.history site)) (V.history result.site) result.trail }
+    // At every moment, inside each call of the site too, a crash leaves files that stand for a legal run of the
+    // failure-free machine: the one at the start, then what is settled by then, then at most the one entry whose gate is
+    // being written. What was said by then is that run's, and nothing else that a run must never do is in it. The moments on
+    // the trail rise. At the end of a run that is done nothing is left to do, and every request is answered and said.
+    ensures headline { V.tells → Always (Headline (λ file. content_of file (V.history site)) (V.history site) result.trail) (V.history site) (V.history result.site) }
+    ensures rises { V.tells → Rises (length (V.history site)) result.trail (length (V.history result.site)) }
+    ensures done { V.tells → result.cause ≡ Cause.Done → IsDone (λ file. content_of file (V.history site)) (V.history site) result.trail (V.history result.site) }
     ensures clock { result.clock ≡ clock }
 {
     let _ = rt;

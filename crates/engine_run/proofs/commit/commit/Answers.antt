@@ -1,6 +1,6 @@
 use Rattle.std.proofs.Common.{◌∷◌, [], ◌++◌, ◌∙◌}
 use Rattle.site_model.proofs.Paths.{leaves_only}
-use Rattle.engine_run.proofs.Commits.{without, with_either, and_then}
+use Rattle.engine_run.proofs.Commits.{without, moved, opening, settling, and_then}
 use Rattle.engine_run.proofs.commit.commit.Goals as goal
 
 pub returns-in-Err-SiteFault-clause-tape : goal.returns-in-Err-SiteFault-clause-tape
@@ -63,50 +63,63 @@ pub returns-in-Err-clause-during : goal.returns-in-Err-clause-during
 returns-in-Err-clause-during g c tells h payloads rests =
     let one = without h payloads c.args.payload.now c.args.log.gate c.args.log.file (g.V.Site.history c.args.site.now) (g.V.Site.history c.body.new.site) (c.body.ensures.during tells h payloads rests) in
     let bodied = c.in-Ok.ensures.after tells h payloads rests in
-    let file1 = c.in-Ok.ensures.place.0 in
-    let two = and_then c.args.log.file c.in-Ok.bodied.file (g.V.Site.history c.args.site.now) (g.V.Site.history c.body.new.site) (g.V.Site.history c.sync_body.new.site) file1 one (without h payloads c.args.payload.now c.in-Ok.bodied.gate c.in-Ok.bodied.file (g.V.Site.history c.body.new.site) (g.V.Site.history c.sync_body.new.site) (c.sync_body.ensures.during tells h payloads c.args.payload.now bodied)) in
+    let body = c.in-Ok.bodied in
+    let body_place = c.in-Ok.ensures.place in
+    let syncing = without h payloads c.args.payload.now body.gate body.file (g.V.Site.history c.body.new.site) (g.V.Site.history c.sync_body.new.site) (c.sync_body.ensures.during tells h payloads c.args.payload.now bodied) in
+    let two = and_then h payloads c.args.payload.now c.args.log.gate c.args.log.file (g.V.Site.history c.args.site.now) (g.V.Site.history c.body.new.site) (g.V.Site.history c.sync_body.new.site) one (moved h payloads c.args.payload.now c.args.log.gate c.args.log.file body.file body.gate (g.V.Site.history c.body.new.site) (g.V.Site.history c.sync_body.new.site) body_place.0 body_place.1 syncing) in
     two
 
 pub returns-in-Err-gate-clause-during : goal.returns-in-Err-gate-clause-during
 returns-in-Err-gate-clause-during g c tells h payloads rests =
     let one = without h payloads c.args.payload.now c.args.log.gate c.args.log.file (g.V.Site.history c.args.site.now) (g.V.Site.history c.body.new.site) (c.body.ensures.during tells h payloads rests) in
     let bodied = c.in-Ok.ensures.after tells h payloads rests in
-    let file1 = c.in-Ok.ensures.place.0 in
-    let two = and_then c.args.log.file c.in-Ok.bodied.file (g.V.Site.history c.args.site.now) (g.V.Site.history c.body.new.site) (g.V.Site.history c.sync_body.new.site) file1 one (without h payloads c.args.payload.now c.in-Ok.bodied.gate c.in-Ok.bodied.file (g.V.Site.history c.body.new.site) (g.V.Site.history c.sync_body.new.site) (c.sync_body.ensures.during tells h payloads c.args.payload.now bodied)) in
+    let body = c.in-Ok.bodied in
+    let body_place = c.in-Ok.ensures.place in
+    let syncing = without h payloads c.args.payload.now body.gate body.file (g.V.Site.history c.body.new.site) (g.V.Site.history c.sync_body.new.site) (c.sync_body.ensures.during tells h payloads c.args.payload.now bodied) in
+    let two = and_then h payloads c.args.payload.now c.args.log.gate c.args.log.file (g.V.Site.history c.args.site.now) (g.V.Site.history c.body.new.site) (g.V.Site.history c.sync_body.new.site) one (moved h payloads c.args.payload.now c.args.log.gate c.args.log.file body.file body.gate (g.V.Site.history c.body.new.site) (g.V.Site.history c.sync_body.new.site) body_place.0 body_place.1 syncing) in
     let synced = c.in-Ok-sync_body.ensures.after tells h payloads c.args.payload.now bodied in
-    let file2 = c.in-Ok-sync_body.ensures.place.0 ∙ file1 in
-    let kept = c.in-Ok-sync_body.synced in
-    let three = and_then c.args.log.file kept.file (g.V.Site.history c.args.site.now) (g.V.Site.history c.sync_body.new.site) (g.V.Site.history c.gate.new.site) file2 two (with_either h payloads c.args.payload.now kept.gate kept.next kept.file (g.V.Site.history c.sync_body.new.site) (g.V.Site.history c.gate.new.site) (c.gate.ensures.during tells h payloads c.args.payload.now synced)) in
+    let safe = c.in-Ok-sync_body.synced in
+    let safe_place = c.in-Ok-sync_body.ensures.place in
+    let opened = opening h payloads c.args.payload.now safe.gate safe.file (g.V.Site.history c.sync_body.new.site) (g.V.Site.history c.gate.new.site) safe.next c.gate.result synced (c.gate.ensures.writes tells) (c.gate.ensures.during tells h payloads c.args.payload.now synced) in
+    let three = and_then h payloads c.args.payload.now c.args.log.gate c.args.log.file (g.V.Site.history c.args.site.now) (g.V.Site.history c.sync_body.new.site) (g.V.Site.history c.gate.new.site) two (moved h payloads c.args.payload.now c.args.log.gate c.args.log.file safe.file safe.gate (g.V.Site.history c.sync_body.new.site) (g.V.Site.history c.gate.new.site) (safe_place.0 ∙ body_place.0) (safe_place.1 ∙ body_place.1) opened) in
     three
 
 pub returns-in-Ok-settle-clause-during : goal.returns-in-Ok-settle-clause-during
 returns-in-Ok-settle-clause-during g c tells h payloads rests =
     let one = without h payloads c.args.payload.now c.args.log.gate c.args.log.file (g.V.Site.history c.args.site.now) (g.V.Site.history c.body.new.site) (c.body.ensures.during tells h payloads rests) in
     let bodied = c.in-Ok.ensures.after tells h payloads rests in
-    let file1 = c.in-Ok.ensures.place.0 in
-    let two = and_then c.args.log.file c.in-Ok.bodied.file (g.V.Site.history c.args.site.now) (g.V.Site.history c.body.new.site) (g.V.Site.history c.sync_body.new.site) file1 one (without h payloads c.args.payload.now c.in-Ok.bodied.gate c.in-Ok.bodied.file (g.V.Site.history c.body.new.site) (g.V.Site.history c.sync_body.new.site) (c.sync_body.ensures.during tells h payloads c.args.payload.now bodied)) in
+    let body = c.in-Ok.bodied in
+    let body_place = c.in-Ok.ensures.place in
+    let syncing = without h payloads c.args.payload.now body.gate body.file (g.V.Site.history c.body.new.site) (g.V.Site.history c.sync_body.new.site) (c.sync_body.ensures.during tells h payloads c.args.payload.now bodied) in
+    let two = and_then h payloads c.args.payload.now c.args.log.gate c.args.log.file (g.V.Site.history c.args.site.now) (g.V.Site.history c.body.new.site) (g.V.Site.history c.sync_body.new.site) one (moved h payloads c.args.payload.now c.args.log.gate c.args.log.file body.file body.gate (g.V.Site.history c.body.new.site) (g.V.Site.history c.sync_body.new.site) body_place.0 body_place.1 syncing) in
     let synced = c.in-Ok-sync_body.ensures.after tells h payloads c.args.payload.now bodied in
-    let file2 = c.in-Ok-sync_body.ensures.place.0 ∙ file1 in
-    let kept = c.in-Ok-sync_body.synced in
-    let three = and_then c.args.log.file kept.file (g.V.Site.history c.args.site.now) (g.V.Site.history c.sync_body.new.site) (g.V.Site.history c.gate.new.site) file2 two (with_either h payloads c.args.payload.now kept.gate kept.next kept.file (g.V.Site.history c.sync_body.new.site) (g.V.Site.history c.gate.new.site) (c.gate.ensures.during tells h payloads c.args.payload.now synced)) in
-    let gated = c.in-Ok-gate.ensures.after tells h payloads c.args.payload.now synced in
-    let file3 = c.in-Ok-gate.ensures.place.0 ∙ file2 in
-    let opened = c.in-Ok-gate.gated in
-    let four = and_then c.args.log.file opened.file (g.V.Site.history c.args.site.now) (g.V.Site.history c.gate.new.site) (g.V.Site.history c.settle.new.site) file3 three (with_either h payloads c.args.payload.now opened.gate opened.next opened.file (g.V.Site.history c.gate.new.site) (g.V.Site.history c.settle.new.site) (c.settle.ensures.during tells h payloads c.args.payload.now gated)) in
+    let safe = c.in-Ok-sync_body.synced in
+    let safe_place = c.in-Ok-sync_body.ensures.place in
+    let opened = opening h payloads c.args.payload.now safe.gate safe.file (g.V.Site.history c.sync_body.new.site) (g.V.Site.history c.gate.new.site) safe.next c.gate.result synced (c.gate.ensures.writes tells) (c.gate.ensures.during tells h payloads c.args.payload.now synced) in
+    let three = and_then h payloads c.args.payload.now c.args.log.gate c.args.log.file (g.V.Site.history c.args.site.now) (g.V.Site.history c.sync_body.new.site) (g.V.Site.history c.gate.new.site) two (moved h payloads c.args.payload.now c.args.log.gate c.args.log.file safe.file safe.gate (g.V.Site.history c.sync_body.new.site) (g.V.Site.history c.gate.new.site) (safe_place.0 ∙ body_place.0) (safe_place.1 ∙ body_place.1) opened) in
+    let gated = c.in-Ok-gate.gated in
+    let gated_place = c.in-Ok-gate.ensures.place in
+    let is_gated = c.in-Ok-gate.ensures.after tells h payloads c.args.payload.now synced in
+    let settled = settling h payloads c.args.payload.now gated.gate gated.file (g.V.Site.history c.sync_body.new.site) (g.V.Site.history c.gate.new.site) (g.V.Site.history c.settle.new.site) gated.next c.settle.result (cc (c.in-Ok-gate.ensures.opened tells, gated_place.0)) (c.settle.ensures.syncs tells) (c.settle.ensures.during tells h payloads c.args.payload.now is_gated) in
+    let four = and_then h payloads c.args.payload.now c.args.log.gate c.args.log.file (g.V.Site.history c.args.site.now) (g.V.Site.history c.gate.new.site) (g.V.Site.history c.settle.new.site) three (moved h payloads c.args.payload.now c.args.log.gate c.args.log.file gated.file gated.gate (g.V.Site.history c.gate.new.site) (g.V.Site.history c.settle.new.site) (gated_place.0 ∙ safe_place.0 ∙ body_place.0) (gated_place.1 ∙ safe_place.1 ∙ body_place.1) settled) in
     four
 
 pub returns-in-Err-settle-clause-during : goal.returns-in-Err-settle-clause-during
 returns-in-Err-settle-clause-during g c tells h payloads rests =
     let one = without h payloads c.args.payload.now c.args.log.gate c.args.log.file (g.V.Site.history c.args.site.now) (g.V.Site.history c.body.new.site) (c.body.ensures.during tells h payloads rests) in
     let bodied = c.in-Ok.ensures.after tells h payloads rests in
-    let file1 = c.in-Ok.ensures.place.0 in
-    let two = and_then c.args.log.file c.in-Ok.bodied.file (g.V.Site.history c.args.site.now) (g.V.Site.history c.body.new.site) (g.V.Site.history c.sync_body.new.site) file1 one (without h payloads c.args.payload.now c.in-Ok.bodied.gate c.in-Ok.bodied.file (g.V.Site.history c.body.new.site) (g.V.Site.history c.sync_body.new.site) (c.sync_body.ensures.during tells h payloads c.args.payload.now bodied)) in
+    let body = c.in-Ok.bodied in
+    let body_place = c.in-Ok.ensures.place in
+    let syncing = without h payloads c.args.payload.now body.gate body.file (g.V.Site.history c.body.new.site) (g.V.Site.history c.sync_body.new.site) (c.sync_body.ensures.during tells h payloads c.args.payload.now bodied) in
+    let two = and_then h payloads c.args.payload.now c.args.log.gate c.args.log.file (g.V.Site.history c.args.site.now) (g.V.Site.history c.body.new.site) (g.V.Site.history c.sync_body.new.site) one (moved h payloads c.args.payload.now c.args.log.gate c.args.log.file body.file body.gate (g.V.Site.history c.body.new.site) (g.V.Site.history c.sync_body.new.site) body_place.0 body_place.1 syncing) in
     let synced = c.in-Ok-sync_body.ensures.after tells h payloads c.args.payload.now bodied in
-    let file2 = c.in-Ok-sync_body.ensures.place.0 ∙ file1 in
-    let kept = c.in-Ok-sync_body.synced in
-    let three = and_then c.args.log.file kept.file (g.V.Site.history c.args.site.now) (g.V.Site.history c.sync_body.new.site) (g.V.Site.history c.gate.new.site) file2 two (with_either h payloads c.args.payload.now kept.gate kept.next kept.file (g.V.Site.history c.sync_body.new.site) (g.V.Site.history c.gate.new.site) (c.gate.ensures.during tells h payloads c.args.payload.now synced)) in
-    let gated = c.in-Ok-gate.ensures.after tells h payloads c.args.payload.now synced in
-    let file3 = c.in-Ok-gate.ensures.place.0 ∙ file2 in
-    let opened = c.in-Ok-gate.gated in
-    let four = and_then c.args.log.file opened.file (g.V.Site.history c.args.site.now) (g.V.Site.history c.gate.new.site) (g.V.Site.history c.settle.new.site) file3 three (with_either h payloads c.args.payload.now opened.gate opened.next opened.file (g.V.Site.history c.gate.new.site) (g.V.Site.history c.settle.new.site) (c.settle.ensures.during tells h payloads c.args.payload.now gated)) in
+    let safe = c.in-Ok-sync_body.synced in
+    let safe_place = c.in-Ok-sync_body.ensures.place in
+    let opened = opening h payloads c.args.payload.now safe.gate safe.file (g.V.Site.history c.sync_body.new.site) (g.V.Site.history c.gate.new.site) safe.next c.gate.result synced (c.gate.ensures.writes tells) (c.gate.ensures.during tells h payloads c.args.payload.now synced) in
+    let three = and_then h payloads c.args.payload.now c.args.log.gate c.args.log.file (g.V.Site.history c.args.site.now) (g.V.Site.history c.sync_body.new.site) (g.V.Site.history c.gate.new.site) two (moved h payloads c.args.payload.now c.args.log.gate c.args.log.file safe.file safe.gate (g.V.Site.history c.sync_body.new.site) (g.V.Site.history c.gate.new.site) (safe_place.0 ∙ body_place.0) (safe_place.1 ∙ body_place.1) opened) in
+    let gated = c.in-Ok-gate.gated in
+    let gated_place = c.in-Ok-gate.ensures.place in
+    let is_gated = c.in-Ok-gate.ensures.after tells h payloads c.args.payload.now synced in
+    let settled = settling h payloads c.args.payload.now gated.gate gated.file (g.V.Site.history c.sync_body.new.site) (g.V.Site.history c.gate.new.site) (g.V.Site.history c.settle.new.site) gated.next c.settle.result (cc (c.in-Ok-gate.ensures.opened tells, gated_place.0)) (c.settle.ensures.syncs tells) (c.settle.ensures.during tells h payloads c.args.payload.now is_gated) in
+    let four = and_then h payloads c.args.payload.now c.args.log.gate c.args.log.file (g.V.Site.history c.args.site.now) (g.V.Site.history c.gate.new.site) (g.V.Site.history c.settle.new.site) three (moved h payloads c.args.payload.now c.args.log.gate c.args.log.file gated.file gated.gate (g.V.Site.history c.gate.new.site) (g.V.Site.history c.settle.new.site) (gated_place.0 ∙ safe_place.0 ∙ body_place.0) (gated_place.1 ∙ safe_place.1 ∙ body_place.1) settled) in
     four

@@ -1,6 +1,6 @@
 use Rattle.commit_log.specs.declared.header.Header.{Header}
 use Rattle.commit_log.specs.States.{IsResting}
-use Rattle.engine_run.specs.Labels.{Kept}
+use Rattle.engine_run.proofs.Labels.{Came, Kept}
 use Rattle.std.proofs.Common.{ℕ, List, ◌≡◌, ◌≤◌, ◌+◌, ◌*◌, ◌^◌, ◌++◌}
 use Rattle.site_model.specs.History.{changes_of, tape}
 use Rattle.commit_log.specs.States.{Rests}
@@ -17,8 +17,9 @@ invariant-labels g l = record {
   short : l.position + work l.state ≤ 8;
   room : l.log.gate + 231 * work l.state ≤ 2 ^ 20 + 1848;
   place : l.log.file ≡ l.fn.recovered.log.file;
+  came : Came l.fn.recovered l.state l.position l.entries.items;
   kept : g.V.Site.tells → (h : Header) (payloads : List (List ℕ)) → IsResting (changes_of l.fn.recovered.log.file (g.V.Site.history l.fn.site)) h payloads l.fn.recovered.log.gate
-      → Kept l.input l.fn.recovered h payloads (g.V.Site.history l.fn.site) (g.V.Site.history l.site) l.state l.position l.log.gate l.entries.items;
+      → Kept l.input l.fn.recovered h payloads (g.V.Site.history l.fn.site) (g.V.Site.history l.site) l.state l.told l.position l.log.gate l.entries.items;
   rests : g.V.Site.tells → Rests (changes_of l.log.file (g.V.Site.history l.site)) l.log.gate;
   said : g.V.Site.tells → tape (g.V.Site.history l.site) ≡ tape (g.V.Site.history l.fn.site) ++ said_of l.input l.told;
   later : g.V.Site.disk_faults l.fn.site ≤ g.V.Site.disk_faults l.site;

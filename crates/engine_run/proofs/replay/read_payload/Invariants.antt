@@ -1,11 +1,13 @@
-use Rattle.std.proofs.Common.{◌<◌, ◌^◌}
+use Rattle.std.proofs.Common.{◌≡◌, ℕ, ◌+◌, ◌<◌, ◌^◌, List}
 use Rattle.std.specs.Prelude.{IfSome}
-use Rattle.engine_run.specs.Replay.{Entries}
-use Rattle.engine_run.specs.Replayed.{point_of}
+use Rattle.engine_run.specs.Replay.{Point}
+use Rattle.engine_run.specs.Replayed.{point_of, ReadsEntries}
 use Rattle.engine_run.proofs.replay.read_payload.Given as goal
 
+-- What is read of the rest, with so many entries less, is just what is read of the whole.
 abbrev pub invariant-loop-done : goal.invariant-loop-done
 invariant-loop-done l = record {
   low : IfSome l.replay.incarnation (λ i. i < 2 ^ 61);
-  entries : Entries l.input (point_of l.fn.first) l.initial.rest l.done (point_of l.replay) l.rest;
+  reads : (n : ℕ) (end : Point) (behind : List ℕ) → ReadsEntries l.input (point_of l.replay) l.rest n end behind → ReadsEntries l.input (point_of l.fn.first) l.initial.rest (n + l.done) end behind;
+  only : (n all : ℕ) (end : Point) (behind : List ℕ) → n + l.done ≡ all → ReadsEntries l.input (point_of l.fn.first) l.initial.rest all end behind → ReadsEntries l.input (point_of l.replay) l.rest n end behind;
 }

@@ -15,12 +15,12 @@ returns-in-Err-payload-clause-during g c tells h payloads rests = not_yet h payl
 
 pub returns-in-Ok-commit-clause-during : goal.returns-in-Ok-commit-clause-during
 returns-in-Ok-commit-clause-during g c tells h payloads rests =
-    same_payload h payloads c.deref.result.now (payload_bytes c.args.input.now c.args.entry.position c.args.entry.incarnation c.args.entry.label) c.args.log.file (g.V.Site.history c.args.site.now) (g.V.Site.history c.commit.new.site)
+    same_payload h payloads c.deref.result.now (payload_bytes c.args.input.now c.args.entry.position c.args.entry.incarnation c.args.entry.label) c.args.log.gate c.args.log.file (g.V.Site.history c.args.site.now) (g.V.Site.history c.commit.new.site)
     (c.deref.ensures.value ∙ c.in-Ok-payload.ensures.payload) (c.commit.ensures.during tells h payloads rests)
 
 pub returns-clause-during : goal.returns-clause-during
 returns-clause-during g c tells h payloads rests =
-    same_payload h payloads c.deref.result.now (payload_bytes c.args.input.now c.args.entry.position c.args.entry.incarnation c.args.entry.label) c.args.log.file (g.V.Site.history c.args.site.now) (g.V.Site.history c.commit.new.site)
+    same_payload h payloads c.deref.result.now (payload_bytes c.args.input.now c.args.entry.position c.args.entry.incarnation c.args.entry.label) c.args.log.gate c.args.log.file (g.V.Site.history c.args.site.now) (g.V.Site.history c.commit.new.site)
     (c.deref.ensures.value ∙ c.in-Ok-payload.ensures.payload) (c.commit.ensures.during tells h payloads rests)
 
 pub returns-in-Ok-commit-clause-after : goal.returns-in-Ok-commit-clause-after

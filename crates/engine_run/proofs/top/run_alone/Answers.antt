@@ -1,28 +1,44 @@
-use Rattle.std.proofs.Common.{◌≡◌, ◌∙◌, List, ap, sym, subst, rules}
+use Rattle.std.proofs.Common.{◌≡◌, ◌∙◌, List, ap, sym, subst, length, arith, rules}
 use Rattle.engine_run.specs.declared.trail.Entry.{Entry}
 use Rattle.site_model.specs.History.{content_of}
 use Rattle.site_model.specs.Moments.{Always}
 use Rattle.engine_run.specs.declared.ended.Cause.TheVariants.{Done}
-use Rattle.engine_run.specs.Run.{LeavesRun, LeavesQuiet}
+use Rattle.engine_run.specs.Headline.{Headline, IsDone}
+use Rattle.engine_run.specs.Trail.{Rises}
+use Rattle.engine_run.proofs.Moments.{rises_empty}
 use Rattle.engine_run.proofs.Running.{only_read}
 use Rattle.engine_run.proofs.top.run_alone.Goals as goal
 use Rattle.engine_run.proofs.top.run_alone.Goals.{then-is_run_command, else-is_run_command}
 
-pub returns-clause-during : goal.returns-clause-during
-returns-clause-during g c tells = elim c.if-is_run_command.branch [
+pub returns-clause-headline : goal.returns-clause-headline
+returns-clause-headline g c tells = elim c.if-is_run_command.branch [
   | then-is_run_command w ↦
       let old = g.V.Site.history c.args.site in
-      subst (λ site. Always (LeavesRun (λ file. content_of file old) old) old (g.V.Site.history site)) (sym w.site-is) (w.perform-cause.ensures.during tells)
-  | else-is_run_command w ↦ only_read (g.V.Site.history c.args.site) (g.V.Site.history c.if-is_run_command.site) (ap g.V.Site.history w.site-is)
+      let trail : w.perform-cause.new.entries.items ≡ c.of.result = ap (λ entries. entries.items) (sym w.entries-is) ∙ sym c.of.ensures in
+      let here = subst (λ (entries : List Entry). Always (Headline (λ file. content_of file old) old entries) old (g.V.Site.history w.perform-cause.new.site)) trail (w.perform-cause.ensures.headline tells) in
+      subst (λ site. Always (Headline (λ file. content_of file old) old c.of.result) old (g.V.Site.history site)) (sym w.site-is) here
+  | else-is_run_command w ↦ only_read (g.V.Site.history c.args.site) (g.V.Site.history c.if-is_run_command.site) c.of.result (search rules) (ap g.V.Site.history w.site-is)
 ]
 
-pub returns-clause-quiet : goal.returns-clause-quiet
-returns-clause-quiet g c tells done = elim c.if-is_run_command.branch [
+pub returns-clause-rises : goal.returns-clause-rises
+returns-clause-rises g c tells = elim c.if-is_run_command.branch [
+  | then-is_run_command w ↦
+      let old = g.V.Site.history c.args.site in
+      let trail : w.perform-cause.new.entries.items ≡ c.of.result = ap (λ entries. entries.items) (sym w.entries-is) ∙ sym c.of.ensures in
+      let here = subst (λ (entries : List Entry). Rises (length old) entries (length (g.V.Site.history w.perform-cause.new.site))) trail (w.perform-cause.ensures.rises tells) in
+      subst (λ site. Rises (length old) c.of.result (length (g.V.Site.history site))) (sym w.site-is) here
+  | else-is_run_command w ↦
+      let old = g.V.Site.history c.args.site in
+      subst (λ site. Rises (length old) c.of.result (length (g.V.Site.history site))) (sym w.site-is) (rises_empty (length old) (length old) c.of.result (search rules) (omega arith))
+]
+
+pub returns-clause-done : goal.returns-clause-done
+returns-clause-done g c tells done = elim c.if-is_run_command.branch [
   | then-is_run_command w ↦
       let old = g.V.Site.history c.args.site in
       let ended : w.perform-cause.result ≡ Done = search rules in
       let trail : w.perform-cause.new.entries.items ≡ c.of.result = ap (λ entries. entries.items) (sym w.entries-is) ∙ sym c.of.ensures in
-      let here = subst (λ (entries : List Entry). LeavesQuiet (λ file. content_of file old) (g.V.Site.history w.perform-cause.new.site) entries) trail (w.perform-cause.ensures.quiet tells ended) in
-      subst (λ site. LeavesQuiet (λ file. content_of file old) (g.V.Site.history site) c.of.result) (sym w.site-is) here
+      let here = subst (λ (entries : List Entry). IsDone (λ file. content_of file old) old entries (g.V.Site.history w.perform-cause.new.site)) trail (w.perform-cause.ensures.done tells ended) in
+      subst (λ site. IsDone (λ file. content_of file old) old c.of.result (g.V.Site.history site)) (sym w.site-is) here
   | else-is_run_command w ↦ search rules
 ]

@@ -1,0 +1,5 @@
+pub mod Plain
+pub mod PlainMachine
+pub mod PlainQuiet
+pub mod PlainStands
+pub mod PlainWorld

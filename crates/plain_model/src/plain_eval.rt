@@ -1,0 +1,135 @@
+//! What expressions give, and what an event changes in a machine's lists.
+
+ghost use Rattle.std.specs.Prelude.{◌≡◌, ℕ, List, ◌∷◌, map, codes, Some, IfOk};
+ghost use Rattle.engine_run.specs.Language.{eval, value_in, set_in};
+ghost use Rattle.engine_run.specs.Machine.{with_outcome, first_of};
+ghost use Rattle.plain_model.specs.PlainMachine.{expression_of, variables_of, task_of, tasks_of};
+
+use crate::plain_copies::{copy_task, copy_tasks, copy_variable, copy_variables};
+use crate::plain_machine::{PlainExpression, PlainTask, PlainVariable};
+use crate::plain_messages::same_text;
+use crate::plain_values::{copy_outcome, copy_scalars, copy_value, text_of, value_of};
+use engine_run::{Outcome, Text, Value};
+use std::alloc::{AllocError, Global};
+
+/// A variable's value, or the text of the fault.
+fn value_in(
+    alloc: Global,
+    variables: &[PlainVariable],
+    name: &Text,
+) -> Result<Result<Value, Text>, AllocError>
+    ensures { IfOk result (λ given. given ≡ value_in (variables_of variables.now) name.now) }
+{
+    match variables {
+        [] => {
+            let fault = text_of(alloc, "unset")?;
+            Ok(Err(fault))
+        }
+        [set, rest @ ..] => {
+            if same_text(&set.name, name) {
+                let value = copy_value(alloc, &set.value)?;
+                Ok(Ok(value))
+            } else {
+                value_in(alloc, rest, name)
+            }
+        }
+    }
+}
+
+/// The variables once this one is set.
+pub(crate) fn set_in(
+    alloc: Global,
+    variables: &[PlainVariable],
+    name: &Text,
+    value: Value,
+) -> Result<Vec<PlainVariable>, AllocError>
+    ensures { IfOk result (λ v. variables_of v.items ≡ set_in (variables_of variables.now) name.now value) }
+{
+    match variables {
+        [] => {
+            let name = name.clone(alloc)?;
+            let mut changed = Vec::new(alloc);
+            changed.push(PlainVariable { name, value })?;
+            Ok(changed)
+        }
+        [set, rest @ ..] => {
+            if same_text(&set.name, name) {
+                let name = name.clone(alloc)?;
+                let mut changed = copy_variables(alloc, rest)?;
+                changed.insert(0, PlainVariable { name, value })?;
+                Ok(changed)
+            } else {
+                let set = copy_variable(alloc, set)?;
+                let mut changed = set_in(alloc, rest, name, value)?;
+                changed.insert(0, set)?;
+                Ok(changed)
+            }
+        }
+    }
+}
+
+/// What an expression gives, or the text of its fault.
+#[tactic(auto, using(crate::proofs::Plain::list_given))]
+pub(crate) fn eval(
+    alloc: Global,
+    variables: &[PlainVariable],
+    expression: &PlainExpression,
+) -> Result<Result<Value, Text>, AllocError>
+    ensures { IfOk result (λ given. given ≡ eval (variables_of variables.now) (expression_of expression.now)) }
+{
+    match expression {
+        PlainExpression::Scalar(scalar) => {
+            let value = value_of(alloc, scalar)?;
+            Ok(Ok(value))
+        }
+        PlainExpression::Variable(name) => value_in(alloc, variables, name),
+        PlainExpression::List(scalars) => {
+            let scalars = copy_scalars(alloc, scalars)?;
+            Ok(Ok(Value::List(scalars)))
+        }
+    }
+}
+
+/// A task with an outcome, of which its first one counts.
+fn with_first(alloc: Global, task: &PlainTask, outcome: &Outcome) -> Result<PlainTask, AllocError>
+    ensures { IfOk result (λ t. task_of t ≡ record (task_of task.now) { outcome = Some (first_of task.now.outcome outcome.now) }) }
+{
+    if task.outcome.is_some() {
+        return copy_task(alloc, task);
+    }
+    let activity = task.activity.clone(alloc)?;
+    let argument = copy_value(alloc, &task.argument)?;
+    let outcome = copy_outcome(alloc, outcome)?;
+    Ok(PlainTask {
+        activity,
+        argument,
+        outcome: Some(outcome),
+    })
+}
+
+/// The tasks once this one has an outcome.
+pub(crate) fn with_outcome(
+    alloc: Global,
+    tasks: &[PlainTask],
+    number: usize,
+    outcome: &Outcome,
+) -> Result<Vec<PlainTask>, AllocError>
+    ensures { IfOk result (λ t. tasks_of t.items ≡ with_outcome (tasks_of tasks.now) number outcome.now) }
+{
+    match tasks {
+        [] => Ok(Vec::new(alloc)),
+        [task, rest @ ..] => {
+            if number == 0 {
+                let task = with_first(alloc, task, outcome)?;
+                let mut changed = copy_tasks(alloc, rest)?;
+                changed.insert(0, task)?;
+                Ok(changed)
+            } else {
+                let task = copy_task(alloc, task)?;
+                let mut changed = with_outcome(alloc, rest, number - 1, outcome)?;
+                changed.insert(0, task)?;
+                Ok(changed)
+            }
+        }
+    }
+}

@@ -1,0 +1,104 @@
+//! Copies of values, and texts of few bytes.
+
+ghost use Rattle.std.specs.Prelude.{◌≡◌, ◌≤◌, length, IfOk};
+ghost use Rattle.engine_run.specs.Language.{value_of};
+
+use engine_run::{Outcome, Scalar, Scalars, Text, Value};
+use std::alloc::{AllocError, Global};
+
+/// A text of these few bytes.
+pub(crate) fn text_of(alloc: Global, text: &str) -> Result<Text, AllocError>
+    requires { length text.now ≤ 4096 }
+    ensures { IfOk result (λ t. t ≡ text.now) }
+{
+    match Text::read(alloc, text.as_bytes()) {
+        Ok(text) => Ok(text),
+        Err(_) => Err(AllocError),
+    }
+}
+
+pub(crate) fn copy_scalar(alloc: Global, scalar: &Scalar) -> Result<Scalar, AllocError>
+    ensures { IfOk result (λ s. s ≡ scalar.now) }
+{
+    match scalar {
+        Scalar::Null => Ok(Scalar::Null),
+        Scalar::False => Ok(Scalar::False),
+        Scalar::True => Ok(Scalar::True),
+        Scalar::Int(n) => Ok(Scalar::Int(*n)),
+        Scalar::Text(text) => {
+            let text = text.clone(alloc)?;
+            Ok(Scalar::Text(text))
+        }
+    }
+}
+
+fn copy_items(alloc: Global, scalars: &[Scalar]) -> Result<Vec<Scalar>, AllocError>
+    ensures { IfOk result (λ s. s.items ≡ scalars.now) }
+{
+    match scalars {
+        [] => Ok(Vec::new(alloc)),
+        [first, rest @ ..] => {
+            let first = copy_scalar(alloc, first)?;
+            let mut items = copy_items(alloc, rest)?;
+            items.insert(0, first)?;
+            Ok(items)
+        }
+    }
+}
+
+pub(crate) fn copy_scalars(alloc: Global, scalars: &Scalars) -> Result<Scalars, AllocError>
+    ensures { IfOk result (λ s. s ≡ scalars.now) }
+{
+    let items = copy_items(alloc, scalars.as_slice())?;
+    Ok(Scalars::of(items))
+}
+
+pub(crate) fn copy_value(alloc: Global, value: &Value) -> Result<Value, AllocError>
+    ensures { IfOk result (λ v. v ≡ value.now) }
+{
+    match value {
+        Value::Null => Ok(Value::Null),
+        Value::False => Ok(Value::False),
+        Value::True => Ok(Value::True),
+        Value::Int(n) => Ok(Value::Int(*n)),
+        Value::Text(text) => {
+            let text = text.clone(alloc)?;
+            Ok(Value::Text(text))
+        }
+        Value::List(parts) => {
+            let parts = copy_scalars(alloc, parts)?;
+            Ok(Value::List(parts))
+        }
+    }
+}
+
+/// What a scalar stands for.
+pub(crate) fn value_of(alloc: Global, scalar: &Scalar) -> Result<Value, AllocError>
+    ensures { IfOk result (λ v. v ≡ value_of scalar.now) }
+{
+    match scalar {
+        Scalar::Null => Ok(Value::Null),
+        Scalar::False => Ok(Value::False),
+        Scalar::True => Ok(Value::True),
+        Scalar::Int(n) => Ok(Value::Int(*n)),
+        Scalar::Text(text) => {
+            let text = text.clone(alloc)?;
+            Ok(Value::Text(text))
+        }
+    }
+}
+
+pub(crate) fn copy_outcome(alloc: Global, outcome: &Outcome) -> Result<Outcome, AllocError>
+    ensures { IfOk result (λ o. o ≡ outcome.now) }
+{
+    match outcome {
+        Outcome::Done(value) => {
+            let value = copy_value(alloc, value)?;
+            Ok(Outcome::Done(value))
+        }
+        Outcome::Failed(text) => {
+            let text = text.clone(alloc)?;
+            Ok(Outcome::Failed(text))
+        }
+    }
+}
