@@ -18,7 +18,7 @@ use Rattle.engine_run.specs.Items.{LogEntry}
 use Rattle.engine_run.specs.Labels.{Appends, AsksRightly, Origin, HoldsEntries, HoldsNext, StandsAt, frames_of}
 use Rattle.engine_run.specs.Labels.Appends.{one_more}
 use Rattle.engine_run.specs.Legal.{Legal}
-use Rattle.engine_run.specs.Log.{Kept, labels_in}
+use Rattle.engine_run.specs.Log.{Kept, labels_in, HasEntries}
 use Rattle.engine_run.specs.Meaning.{flows_of, label_of, item_of, requests_of, world_of}
 use Rattle.engine_run.specs.Recovery.{header_of}
 use Rattle.engine_run.specs.Replay.{labels_of, entries_of}
@@ -28,8 +28,9 @@ use Rattle.engine_run.specs.State.{stamp_of, fresh_state}
 use Rattle.engine_run.specs.Steps.{Label as Step}
 use Rattle.engine_run.specs.Told.{IsFront, said_of, told_of}
 use Rattle.engine_run.proofs.Asking.{LastOf, ids_kept, last_of_log, founded_path, timely_path, of_labels}
+use Rattle.engine_run.proofs.Appended.{GoesTo}
 use Rattle.engine_run.proofs.Heard.{heard_all, asks}
-use Rattle.engine_run.proofs.Held.{Start, log_stands, stands_legal, own_run, labels_kept, image_stands}
+use Rattle.engine_run.proofs.Held.{Start, log_stands, stands_legal, own_run, labels_kept, image_stands, image_entries}
 use Rattle.engine_run.proofs.Inverse.{IsGiven}
 use Rattle.engine_run.proofs.Legally.{path_legal, item_label}
 use Rattle.engine_run.proofs.Meant.{IsRight, right_fresh}
@@ -113,18 +114,27 @@ module _ (input : Input) (given : IsGiven input) where
         apart = λ front rest v is legal overlap. never_overlaps (flows_of input) front v legal overlap;
       }
 
+      goes_on : GoesTo input payloads first position incarnation (entries_of st.replays.log)
+      goes_on = (st.point, st.replays, st.state, st.place, st.follows, refl)
+
       pub image_on : (image : ℕ → List ℕ) (entries : List Entry) (end : State) → Appends incarnation position first entries end → HasFrames (header_of input) (payloads ++ frames_of input entries) (image 16)
           → Stands (flows_of input) input.digest image (run ++ labels_in (map (kept_by input) entries))
-      image_on image entries end path holds = image_stands input given image run payloads first end position incarnation entries (st.point, st.replays, st.state, st.place, st.follows) young early first_right (first_legal run stands) path holds
+      image_on image entries end path holds = image_stands input given image run payloads first end position incarnation (entries_of st.replays.log) entries goes_on young early first_right (first_legal run stands) path holds
+
+      pub kept_on : (image : ℕ → List ℕ) (entries : List Entry) (end : State) → Appends incarnation position first entries end → HasFrames (header_of input) (payloads ++ frames_of input entries) (image 16)
+          → HasEntries input.digest (image 16) (own_log ++ map (kept_by input) entries)
+      kept_on image entries end path holds = image_entries input given (image 16) payloads first end position incarnation (entries_of st.replays.log) entries goes_on young early path holds
 
       -- an image with these entries, and none under way
       pub settled_image : (s : State) (part : List ℕ) (steps : List Moment) (image : ℕ → List ℕ) (settled : List Entry) → Appends incarnation position first settled s → All (AsksRightly input part) settled → IsFront part (said_of input (told_of s))
-          → Stands (flows_of input) input.digest image (run ++ labels_in (map (kept_by input) settled)) → Extends (job_of input) run own_log (world_of input s) part (map (kept_by input) settled) steps image
-      settled_image s part steps image settled path asking front holds =
+          → Stands (flows_of input) input.digest image (run ++ labels_in (map (kept_by input) settled)) → HasEntries input.digest (image 16) (own_log ++ map (kept_by input) settled)
+          → Extends (job_of input) run own_log (world_of input s) part (map (kept_by input) settled) steps image
+      settled_image s part steps image settled path asking front holds has =
           let all = append-nil (map (kept_by input) settled) in record {
             going = [];
             under_way = record { one = omega arith; gated = inl refl };
             stands = subst (λ (l : List Kept). Stands (flows_of input) input.digest image (run ++ labels_in l)) (sym all) holds;
+            kept = subst (λ (l : List Kept). HasEntries input.digest (image 16) (own_log ++ l)) (sym all) has;
             sound = subst (AreSound (job_of input) run own_log (world_of input s) part) (sym all) (sound_on s s part settled path asking front);
           }
 
@@ -140,6 +150,7 @@ module _ (input : Input) (given : IsGiven input) where
               going = kept_by input next.entry ∷ [];
               under_way = record { one = omega arith; gated = inr (length (segment_bytes (header_of input) (payloads ++ frames_of input settled)), subst (λ (f : ℕ). WroteGate (length (segment_bytes (header_of input) (payloads ++ frames_of input settled))) (changes_of f steps)) place next.gate) };
               stands = subst (λ (l : List Kept). Stands (flows_of input) input.digest image (run ++ labels_in l)) all (image_on image entries next.next longer next.holds);
+              kept = subst (λ (l : List Kept). HasEntries input.digest (image 16) (own_log ++ l)) all (kept_on image entries next.next longer next.holds);
               sound = subst (AreSound (job_of input) run own_log (world_of input s) part) all (sound_on s next.next part entries longer asking_too front);
             }
 
@@ -155,5 +166,5 @@ module _ (input : Input) (given : IsGiven input) where
           where
             either : (image : ℕ → List ℕ) → HoldsEntries input (origin_at input payloads first position incarnation file) settled (image 16) ⊎ HoldsNext input (origin_at input payloads first position incarnation file) settled at.state at.tells.part (changes_of file steps) (image 16)
                 → Extends (job_of input) run own_log (world_of input at.state) at.tells.part (map (kept_by input) settled) steps image
-            either image (inl holds) = settled_image at.state at.tells.part steps image settled at.path at.asks at.tells.front (image_on image settled at.state at.path holds)
+            either image (inl holds) = settled_image at.state at.tells.part steps image settled at.path at.asks at.tells.front (image_on image settled at.state at.path holds) (kept_on image settled at.state at.path holds)
             either image (inr next) = going_image at.state at.tells.part steps image settled at.path at.asks at.tells.front next

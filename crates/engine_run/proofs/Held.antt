@@ -1,4 +1,5 @@
 -- From the engine's state to the run that the files stand for.
+use Rattle.std.proofs.lemmas.List.{map-append}
 use Rattle.std.proofs.Common.{◌≡◌, inl, inr, ℕ, ◌+◌, ◌<◌, ◌^◌, Bool, true, false, cond, List, [], ◌∷◌, ◌++◌, length, map, Option, Some, None, refl, sym, ap, subst, ◌∙◌, arith}
 use Rattle.std.proofs.lemmas.List.Elements.{All-nil}
 use Rattle.commit_log.specs.Segment.{fresh, segment, reading_of}
@@ -21,7 +22,7 @@ use Rattle.engine_run.specs.Partition.{Partition, nothing, placed, shown}
 use Rattle.engine_run.specs.Stands.{Stands}
 use Rattle.engine_run.specs.Meaning.{flows_of, label_of, world_of}
 use Rattle.engine_run.specs.Headline.{kept_by}
-use Rattle.engine_run.proofs.Appended.{GoesTo, log_more}
+use Rattle.engine_run.proofs.Appended.{GoesTo, logged, log_more}
 use Rattle.engine_run.proofs.Inverse.{IsGiven}
 use Rattle.engine_run.proofs.Legally.{all_legal, path_legal, run_of, item_label, items_placed, nothing_shown}
 use Rattle.engine_run.proofs.Meant.{IsRight, right_fresh}
@@ -163,11 +164,24 @@ module _ (input : Input) (given : IsGiven input) where
   labels_kept [] = refl
   labels_kept (e ∷ entries) = ap (λ (l : Step). l ∷ labels_in (map (kept_by input) entries)) (item_label input given e.label) ∙ ap (λ (l : List Step). label_of input e.label ∷ l) (labels_kept entries)
 
-  pub image_stands : (files : ℕ → List ℕ) (start : List Step) (payloads : List (List ℕ)) (first end : State) (position incarnation : ℕ) (entries : List Entry) → GoesTo input payloads first position incarnation → incarnation < 2 ^ 61 → first.stamp < 2 ^ 63
+  logged_kept : (entries : List Entry) → map (kept_of input) (map (logged input) entries) ≡ map (kept_by input) entries
+  logged_kept [] = refl
+  logged_kept (e ∷ entries) = ap (λ (l : List Kept). kept_by input e ∷ l) (logged_kept entries)
+
+  -- its entries are in the image, and nothing else
+  pub image_entries : (bytes : List ℕ) (payloads : List (List ℕ)) (first end : State) (position incarnation : ℕ) (es : List LogEntry) (entries : List Entry) → GoesTo input payloads first position incarnation es → incarnation < 2 ^ 61 → first.stamp < 2 ^ 63
+      → Appends incarnation position first entries end → Holds (header_of input) (payloads ++ frames_of input entries) bytes → HasEntries input.digest bytes (map (kept_of input) es ++ map (kept_by input) entries)
+  image_entries bytes payloads first end position incarnation es entries goes young early path holds =
+      let far = log_more input payloads position incarnation es first end entries goes young early path in
+      let all : map (kept_of input) (entries_of far.1.log) ≡ map (kept_of input) es ++ map (kept_by input) entries =
+      ap (map (kept_of input)) far.5 ∙ map-append (kept_of input) es (map (logged input) entries) ∙ ap (λ (l : List Kept). map (kept_of input) es ++ l) (logged_kept entries) in
+      subst (HasEntries input.digest bytes) all (has_entries input given bytes (payloads ++ frames_of input entries) holds.0 far.0 holds.1 far.1)
+
+  pub image_stands : (files : ℕ → List ℕ) (start : List Step) (payloads : List (List ℕ)) (first end : State) (position incarnation : ℕ) (es : List LogEntry) (entries : List Entry) → GoesTo input payloads first position incarnation es → incarnation < 2 ^ 61 → first.stamp < 2 ^ 63
       → IsRight first → Legal (flows_of input) start (world_of input first) → Appends incarnation position first entries end → Holds (header_of input) (payloads ++ frames_of input entries) (files 16)
       → Stands (flows_of input) input.digest files (start ++ labels_in (map (kept_by input) entries))
-  image_stands files start payloads first end position incarnation entries goes young early right legal path holds =
-      let far = log_more input payloads position incarnation first end entries goes young early path in
+  image_stands files start payloads first end position incarnation es entries goes young early right legal path holds =
+      let far = log_more input payloads position incarnation es first end entries goes young early path in
       let replays = far.1 in
       let all = path_legal input given start incarnation position first end entries legal right path in
       let run = subst (λ (l : List Step). Legal (flows_of input) (start ++ l) (world_of input end)) (sym (labels_kept entries)) all.0 in

@@ -17,14 +17,14 @@ use Rattle.engine_run.specs.Headline.{job_of, kept_by, Holds, Opened, Headline}
 use Rattle.engine_run.specs.Input.{HasForm}
 use Rattle.engine_run.specs.Labels.{AsksRightly, AtMoment, StandsAt}
 use Rattle.engine_run.specs.Labels.Appends.{none}
-use Rattle.engine_run.specs.Log.{Kept, labels_in}
+use Rattle.engine_run.specs.Log.{Kept, labels_in, HasEntries}
 use Rattle.engine_run.specs.Meaning.{flows_of, world_of}
 use Rattle.engine_run.specs.Recovery.{header_of, LeavesRead, LeavesMade, LeavesOpening, StartsFrom}
 use Rattle.engine_run.specs.Stands.{Stands}
 use Rattle.engine_run.specs.State.{fresh_state}
 use Rattle.engine_run.specs.Steps.{Label}
 use Rattle.engine_run.specs.Trail.{settled_at, Rises}
-use Rattle.engine_run.proofs.Headlines.{given_of, own_log, some_run, legal_on, settled_image, image_on, holds_on, origin_at, first_legal}
+use Rattle.engine_run.proofs.Headlines.{given_of, own_log, some_run, legal_on, settled_image, image_on, kept_on, holds_on, origin_at, first_legal}
 use Rattle.engine_run.proofs.Heard.{heard_all}
 use Rattle.engine_run.proofs.Held.{Start, start_of, log_stands, no_frames, no_point}
 use Rattle.engine_run.proofs.Moments.{weaker_between, settled_none}
@@ -66,6 +66,14 @@ module _ (old : List Step) (input : Input) (form : HasForm (files_of old) input)
           (log_stands input (given_of (files_of old) input form) image run [] no_point (no_frames input) (inl (reads, refl)) (first_legal input (given_of (files_of old) input form) (files_of old) [] fresh_state 0 0 fresh_start zero_low zero_early run stands))
       fresh_image image (inr holds) = image_on input (given_of (files_of old) input form) (files_of old) [] fresh_state 0 0 fresh_start zero_low zero_early run stands image [] fresh_state none holds
 
+      nothing_kept : [] ≡ own_log input (given_of (files_of old) input form) (files_of old) [] fresh_state 0 0 fresh_start zero_low zero_early
+      nothing_kept = entries_once input.digest (files_of old 16) [] (own_log input (given_of (files_of old) input form) (files_of old) [] fresh_state 0 0 fresh_start zero_low zero_early) (inl (is, refl)) fresh_start.kept
+
+      fresh_kept : (image : ℕ → List ℕ) → (reading_of (image 16) ≡ fresh) ⊎ HasFrames (header_of input) [] (image 16)
+          → HasEntries input.digest (image 16) (own_log input (given_of (files_of old) input form) (files_of old) [] fresh_state 0 0 fresh_start zero_low zero_early ++ [])
+      fresh_kept image (inl reads) = subst (λ (l : List Kept). HasEntries input.digest (image 16) (l ++ [])) nothing_kept (inl (reads, refl))
+      fresh_kept image (inr holds) = kept_on input (given_of (files_of old) input form) (files_of old) [] fresh_state 0 0 fresh_start zero_low zero_early run stands image [] fresh_state none holds
+
       formatting_holds : (steps : List Step) → tape steps ≡ tape old → ((image : List ℕ) → Leaves (changes_of 16 steps) image → (reading_of image ≡ fresh) ⊎ HasFrames (header_of input) [] image)
           → Holds (job_of input) run (own_log input (given_of (files_of old) input form) (files_of old) [] fresh_state 0 0 fresh_start zero_low zero_early) old [] steps
       formatting_holds steps silent images = record {
@@ -75,7 +83,8 @@ module _ (old : List Step) (input : Input) (form : HasForm (files_of old) input)
         spoken = silent ∙ sym (append-nil (tape old));
         told = heard_all input fresh_state [] steps (Nothing, tt, [], refl, inl refl);
         images = λ image leaves. settled_image input (given_of (files_of old) input form) (files_of old) [] fresh_state 0 0 fresh_start zero_low zero_early run stands fresh_state [] steps image [] none (All-nil (AsksRightly input [])) ([], refl)
-            (fresh_image image (images (image 16) (leaves.each 16)));
+            (fresh_image image (images (image 16) (leaves.each 16)))
+            (fresh_kept image (images (image 16) (leaves.each 16)));
       }
 
     pub formatting : (steps : List Step) (trail : List Entry) → settled_at (length steps) trail ≡ [] → tape steps ≡ tape old → ((image : List ℕ) → Leaves (changes_of 16 steps) image → (reading_of image ≡ fresh) ⊎ HasFrames (header_of input) [] image) → Opened (files_of old) old trail steps

@@ -77,11 +77,13 @@ pub record IsUnderWay (steps : List Step) (going : List Kept) : Type 0 where
   pub one : length going ≤ 1
   pub gated : (going ≡ []) ⊎ ((gate : ℕ) × WroteGate gate (changes_of 16 steps))
 
--- An image stands for the run at the start, then the settled entries, then those under way.
+-- An image stands for the run at the start, then the settled entries, then those under way; and its log has the entries that
+-- were recovered and just these.
 pub record Extends (job : Job) (start : List Label) (recovered : List Kept) (w : World) (bytes : List ℕ) (settled : List Kept) (steps : List Step) (image : ℕ → List ℕ) : Type 0 where
   pub going : List Kept
   pub under_way : IsUnderWay steps going
   pub stands : Stands job.flows job.digest image (start ++ labels_in (settled ++ going))
+  pub kept : HasEntries job.digest (image 16) (recovered ++ (settled ++ going))
   pub sound : AreSound job start recovered w bytes (settled ++ going)
 
 -- How things stand at a moment: the run so far is legal, what this call said is told by it, and each image stands for it.
