@@ -1,27 +1,30 @@
 -- What holds of each entry of a run.
-use Rattle.std.proofs.Common.{◌≡◌, ◌⊎◌, inl, inr, ℕ, ◌+◌, ◌≤◌, List, [], ◌∷◌, ◌++◌, length, map, refl, sym, ap, subst, ◌∙◌, arith}
+use Rattle.std.proofs.Common.{◌≡◌, ◌⊎◌, inl, inr, ℕ, ◌+◌, ◌≤◌, List, [], ◌∷◌, ◌++◌, length, map, refl, sym, ap, subst, ◌∙◌, arith, ◌^◌, ◌-◌, ◌<◌}
 use Rattle.std.specs.List.{All, Contains}
 use Rattle.std.proofs.lemmas.List.{length-append, map-append}
-use Rattle.std.proofs.lemmas.List.Elements.{All-nil, All-cons, All-append}
+use Rattle.std.proofs.lemmas.List.Elements.{All-nil, All-cons, All-append, All-head, All-tail}
 use Rattle.engine_run.specs.declared.input.Input.{Input}
 use Rattle.engine_run.specs.declared.state.State.{State}
 use Rattle.engine_run.specs.declared.trail.Entry.{Entry}
 use Rattle.engine_run.specs.Dependencies.{Identity, identity_of, DependsOn, Founded}
 use Rattle.engine_run.specs.Dependencies.Founded.{none, one_more}
-use Rattle.engine_run.specs.Headline.{kept_by}
+use Rattle.engine_run.specs.Headline.{kept_by, IsLater}
 use Rattle.engine_run.specs.Labels.{Appends}
 use Rattle.engine_run.specs.Labels.Appends.{none as no_entry, one_more as one_entry}
-use Rattle.engine_run.specs.Log.{labels_in}
+use Rattle.engine_run.specs.Log.{labels_in, Kept}
 use Rattle.std.proofs.Common.{Option, Some, None}
 use Rattle.std.proofs.lemmas.List.Elements.{Contains-append_right, All-map}
 use Rattle.engine_run.specs.Items.{LogEntry}
-use Rattle.engine_run.specs.Replay.{IsNumbered}
+use Rattle.engine_run.specs.Replay.{IsNumbered, last_incarnation}
 use Rattle.engine_run.specs.State.{stamp_of}
 use Rattle.engine_run.specs.Steps.{Label as Step}
 use Rattle.engine_run.specs.Meaning.{label_of}
 use Rattle.engine_run.proofs.Held.{labels_kept}
 use Rattle.engine_run.proofs.Inverse.{IsGiven}
 use Rattle.engine_run.proofs.Standing.{kept_of}
+
+some_one : {X : Type 0} {x y : X} → Some x ≡ Some y → x ≡ y
+some_one is = cc
 
 contains_last : {X : Type 0} (xs : List X) (x : X) → Contains (xs ++ x ∷ []) x
 contains_last xs x = Contains-append_right xs (x ∷ []) x (0, omega arith, refl)
@@ -96,3 +99,53 @@ module _ (input : Input) where
   -- what holds of each entry's label holds of the labels of all
   pub of_labels : (P : Step → Type 0) (given : IsGiven input) (entries : List Entry) → All (λ e. P (label_of input e.label)) entries → All P (labels_in (map (kept_by input) entries))
   of_labels P given entries all = subst (All P) (sym (labels_kept input given entries)) (All-map P (λ e. label_of input e.label) entries all)
+
+-- ---- the partition
+
+pub homes_path : (incarnation position : ℕ) (first end : State) (entries : List Entry) → Appends incarnation position first entries end → All (λ e. e.partition ≡ 0) entries
+homes_path incarnation position first _ _ no_entry = All-nil (λ (e : Entry). e.partition ≡ 0)
+homes_path incarnation position first _ _ (one_entry {entries} {s} entry next path comes applies) =
+    All-append (λ (e : Entry). e.partition ≡ 0) entries (entry ∷ []) (homes_path incarnation position first s entries path) (All-cons (λ (e : Entry). e.partition ≡ 0) entry [] comes.home (All-nil (λ (e : Entry). e.partition ≡ 0)))
+
+pub no_homes : (entries : List Entry) → entries ≡ [] → All (λ e. e.partition ≡ 0) entries
+no_homes entries empty = subst (All (λ (e : Entry). e.partition ≡ 0)) (sym empty) (All-nil (λ (e : Entry). e.partition ≡ 0))
+
+-- ---- the lives
+
+grows : (position least last : ℕ) (es : List LogEntry) → IsNumbered position (Some least) es → last_incarnation (Some least) es ≡ Some last → least ≤ last
+grows position least last [] numbered is = omega (arith, some_one is)
+grows position least last (e ∷ es) numbered is = omega (arith, numbered.1.0, grows (position + 1) e.incarnation last es numbered.2 is)
+
+below_last : (position : ℕ) (before : Option ℕ) (es : List LogEntry) (last : ℕ) → IsNumbered position before es → last_incarnation before es ≡ Some last → All (λ e. e.incarnation ≤ last) es
+below_last position before [] last numbered is = All-nil (λ (e : LogEntry). e.incarnation ≤ last)
+below_last position before (e ∷ es) last numbered is =
+    All-cons (λ (e : LogEntry). e.incarnation ≤ last) e es (grows (position + 1) e.incarnation last es numbered.2 is) (below_last (position + 1) (Some e.incarnation) es last numbered.2 is)
+
+last_there : (n : ℕ) (es : List LogEntry) → (last : ℕ) × (last_incarnation (Some n) es ≡ Some last)
+last_there n [] = (n, refl)
+last_there n (e ∷ es) = last_there e.incarnation es
+
+later_all : (input : Input) (incarnation last : ℕ) (es : List LogEntry) (e : Kept) → e.incarnation ≡ incarnation → (last < incarnation) ⊎ (incarnation ≡ 2 ^ 61 - 1) → All (λ one. one.incarnation ≤ last) es → All (λ r. IsLater r e) (map (kept_of input) es)
+later_all input incarnation last [] e is life all = All-nil (λ (r : Kept). IsLater r e)
+later_all input incarnation last (one ∷ es) e is life all =
+    All-cons (λ (r : Kept). IsLater r e) (kept_of input one) (map (kept_of input) es) (either life) (later_all input incarnation last es e is life (All-tail (λ (o : LogEntry). o.incarnation ≤ last) one es all))
+  where
+    either : (last < incarnation) ⊎ (incarnation ≡ 2 ^ 61 - 1) → IsLater (kept_of input one) e
+    either (inl less) = inl (omega (arith, less, is, All-head (λ (o : LogEntry). o.incarnation ≤ last) one es all))
+    either (inr top) = inr (is ∙ top)
+
+later_than : (input : Input) (incarnation : ℕ) (es : List LogEntry) (e : Kept) → IsNumbered 0 None es → ((last : ℕ) → last_incarnation None es ≡ Some last → (last < incarnation) ⊎ (incarnation ≡ 2 ^ 61 - 1)) → e.incarnation ≡ incarnation
+    → All (λ r. IsLater r e) (map (kept_of input) es)
+later_than input incarnation [] e numbered life is = All-nil (λ (r : Kept). IsLater r e)
+later_than input incarnation (one ∷ es) e numbered life is =
+    let last = last_there one.incarnation es in
+    later_all input incarnation last.0 (one ∷ es) e is (life last.0 last.1) (below_last 0 None (one ∷ es) last.0 numbered last.1)
+
+pub lives_path : (input : Input) (es : List LogEntry) (incarnation position : ℕ) (first end : State) (entries : List Entry) → IsNumbered 0 None es → ((last : ℕ) → last_incarnation None es ≡ Some last → (last < incarnation) ⊎ (incarnation ≡ 2 ^ 61 - 1))
+    → Appends incarnation position first entries end → All (λ e. All (λ r. IsLater r e) (map (kept_of input) es)) (map (kept_by input) entries)
+lives_path input es incarnation position first _ _ numbered life no_entry = All-nil (λ (e : Kept). All (λ r. IsLater r e) (map (kept_of input) es))
+lives_path input es incarnation position first _ _ numbered life (one_entry {entries} {s} entry next path comes applies) =
+    let P = λ (e : Kept). All (λ (r : Kept). IsLater r e) (map (kept_of input) es) in
+    subst (All P) (sym (map-append (kept_by input) entries (entry ∷ [])))
+    (All-append P (map (kept_by input) entries) (kept_by input entry ∷ []) (lives_path input es incarnation position first s entries numbered life path)
+    (All-cons P (kept_by input entry) [] (later_than input incarnation es (kept_by input entry) numbered life comes.life) (All-nil P)))

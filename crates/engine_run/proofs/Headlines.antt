@@ -27,7 +27,7 @@ use Rattle.engine_run.specs.Stands.{Stands}
 use Rattle.engine_run.specs.State.{stamp_of, fresh_state}
 use Rattle.engine_run.specs.Steps.{Label as Step}
 use Rattle.engine_run.specs.Told.{IsFront, said_of, told_of}
-use Rattle.engine_run.proofs.Asking.{LastOf, ids_kept, last_of_log, founded_path, timely_path, of_labels}
+use Rattle.engine_run.proofs.Asking.{LastOf, ids_kept, last_of_log, founded_path, timely_path, of_labels, lives_path}
 use Rattle.engine_run.proofs.Appended.{GoesTo}
 use Rattle.engine_run.proofs.Heard.{heard_all, asks}
 use Rattle.engine_run.proofs.Held.{Start, log_stands, stands_legal, own_run, labels_kept, image_stands, image_entries}
@@ -110,6 +110,7 @@ module _ (input : Input) (given : IsGiven input) where
             (λ e low_enough. subst (λ (n : ℕ). n ≤ greatest (labels_in own_log)) (sym (moment_same input e.label)) low_enough)
             (timely_path input incarnation position (greatest (labels_in own_log)) first end entries first_low path));
         founded = (founded_path input (ids_kept input (entries_of st.replays.log)) incarnation position first end entries first_last path).0;
+        lives = lives_path input (entries_of st.replays.log) incarnation position first end entries st.replays.numbered (λ last is. st.life last (st.replays.incarnation ∙ is)) path;
         once = λ id task. never_twice (flows_of input) (run ++ labels_in (map (kept_by input) entries)) (world_of input end) id task (legal_on entries end path);
         apart = λ front rest v is legal overlap. never_overlaps (flows_of input) front v legal overlap;
       }

@@ -1,7 +1,8 @@
 -- From the engine's state to the run that the files stand for.
 use Rattle.std.proofs.lemmas.List.{map-append}
-use Rattle.std.proofs.Common.{◌≡◌, inl, inr, ℕ, ◌+◌, ◌<◌, ◌^◌, Bool, true, false, cond, List, [], ◌∷◌, ◌++◌, length, map, Option, Some, None, refl, sym, ap, subst, ◌∙◌, arith}
+use Rattle.std.proofs.Common.{◌≡◌, inl, inr, ℕ, ◌+◌, ◌<◌, ◌^◌, Bool, true, false, cond, List, [], ◌∷◌, ◌++◌, length, map, Option, Some, None, refl, sym, ap, subst, ◌∙◌, arith, ◌⊎◌, ◌-◌}
 use Rattle.std.proofs.lemmas.List.Elements.{All-nil}
+use Rattle.std.proofs.lemmas.Bool.{cases_eq}
 use Rattle.commit_log.specs.Segment.{fresh, segment, reading_of}
 use Rattle.engine_run.specs.declared.input.Input.{Input}
 use Rattle.engine_run.specs.declared.state.State.{State}
@@ -83,6 +84,12 @@ next_follows : (before : Option ℕ) → ((last : ℕ) → before ≡ Some last 
 next_follows None given = omega arith
 next_follows (Some last) given = (omega (arith, given last refl), omega (arith, given last refl))
 
+next_later : (last : ℕ) → last < 2 ^ 61 → (last < next_incarnation (Some last)) ⊎ (next_incarnation (Some last) ≡ 2 ^ 61 - 1)
+next_later last low = elim (cases_eq last (2 ^ 61 - 1)) [
+  | inl is ↦ inr (omega (arith, is))
+  | inr apart ↦ inl (omega (arith, apart, low))
+]
+
 -- the log that a run starts from
 pub record Start (input : Input) (bytes : List ℕ) (payloads : List (List ℕ)) (first : State) (position incarnation : ℕ) : Type 0 where
   pub point : Point
@@ -90,6 +97,7 @@ pub record Start (input : Input) (bytes : List ℕ) (payloads : List (List ℕ))
   pub state : point.state ≡ first
   pub place : point.position ≡ position
   pub follows : MayFollow point.incarnation incarnation
+  pub life : (last : ℕ) → point.incarnation ≡ Some last → (last < incarnation) ⊎ (incarnation ≡ 2 ^ 61 - 1)
   pub kept : HasEntries input.digest bytes (map (kept_of input) (entries_of replays.log))
 
 fresh_start : (input : Input) (bytes : List ℕ) (payloads : List (List ℕ)) (first : State) (position incarnation : ℕ) → reading_of bytes ≡ fresh → payloads ≡ [] → first ≡ fresh_state → position ≡ 0 → incarnation ≡ 0
@@ -101,6 +109,7 @@ fresh_start input bytes payloads first position incarnation is none first_is zer
       state = sym first_is;
       place = sym zero_is;
       follows = omega (arith, zero_too);
+      life = λ last none. absurd (cc none);
       kept = inl (is, refl);
     })
 
@@ -115,6 +124,7 @@ segment_start input given bytes payloads first position incarnation gate is foll
       state = sym follows.2;
       place = sym follows.3;
       follows = subst (MayFollow p.incarnation) (sym follows.4) (next_follows p.incarnation lasts);
+      life = λ last same. subst (λ (n : ℕ). (last < n) ⊎ (n ≡ 2 ^ 61 - 1)) (sym (follows.4 ∙ ap next_incarnation same)) (next_later last (lasts last same));
       kept = has_entries input given bytes payloads gate p is replays;
     }
 

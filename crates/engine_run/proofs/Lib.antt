@@ -20,6 +20,7 @@ pub mod Moments
 pub mod Named
 pub mod Numbers
 pub mod Opening
+pub mod Others
 pub mod Outcomes
 pub mod Owned
 pub mod Progress

@@ -35,6 +35,17 @@ pub rises_higher : (low high more : ℕ) (entries : List Entry) → Rises low en
 rises_higher low high more [] rises above = omega (arith, rises, above)
 rises_higher low high more (entry ∷ entries) rises above = (rises.0, rises_higher entry.at high more entries rises.1 above)
 
+-- two claims on the same moments
+pairs : {P Q : List Step → Type 0} {old one other : List Step} → Always P old one → Always Q old other → one ≡ other → Always (λ steps. P steps × Q steps) old one
+pairs (begins here) (begins there) is = begins (here, there)
+pairs {Q = Q} (goes_on {new = a} {step = step} path here) (goes_on {new = b} {step = last} rest there) is =
+    let same : a ≡ b = cc is in goes_on (pairs path rest same) (here, subst Q (sym is) there)
+pairs (begins here) (goes_on {new = b} {step = last} rest there) is = let counts = ap length is in absurd (omega (arith, counts, no_shorter rest))
+pairs (goes_on {new = a} {step = step} path here) (begins there) is = let counts = ap length is in absurd (omega (arith, counts, no_shorter path))
+
+pub both_claims : {P Q : List Step → Type 0} {old new : List Step} → Always P old new → Always Q old new → Always (λ steps. P steps × Q steps) old new
+both_claims one other = pairs one other refl
+
 pub rises_empty : (low high : ℕ) (entries : List Entry) → entries ≡ [] → low ≤ high → Rises low entries high
 rises_empty low high entries empty below = subst (λ (l : List Entry). Rises low l high) (sym empty) below
 

@@ -6,16 +6,16 @@ use Rattle.std.proofs.lemmas.Bool.{cases_eq}
 use Rattle.site_model.specs.History.{Step, changes_of, content_of, tape, IsImage, Leaves, Change}
 use Rattle.site_model.specs.Moments.{Always, OnlyFile}
 use Rattle.site_model.specs.Moments.Always.{begins}
-use Rattle.site_model.proofs.Paths.{together, weaker}
+use Rattle.site_model.proofs.Paths.{together, weaker, last}
 use Rattle.commit_log.specs.Segment.{fresh, reading_of}
 use Rattle.engine_run.specs.declared.input.Input.{Input}
 use Rattle.engine_run.specs.declared.trail.Entry.{Entry}
 use Rattle.engine_run.specs.declared.told.Told.TheVariants.{Nothing}
 use Rattle.engine_run.specs.declared.state.State.{State}
 use Rattle.engine_run.specs.Commit.{Holds as HasFrames}
-use Rattle.engine_run.specs.Headline.{job_of, kept_by, Holds, Opened, Headline}
+use Rattle.engine_run.specs.Headline.{job_of, kept_by, Holds, Opened, Headline, Unopened}
 use Rattle.engine_run.specs.Input.{HasForm}
-use Rattle.engine_run.specs.Labels.{AsksRightly, AtMoment, StandsAt}
+use Rattle.engine_run.specs.Labels.{AsksRightly, AtMoment, StandsAt, OthersSame}
 use Rattle.engine_run.specs.Labels.Appends.{none}
 use Rattle.engine_run.specs.Log.{Kept, labels_in, HasEntries}
 use Rattle.engine_run.specs.Meaning.{flows_of, world_of}
@@ -27,7 +27,7 @@ use Rattle.engine_run.specs.Trail.{settled_at, Rises}
 use Rattle.engine_run.proofs.Headlines.{given_of, own_log, some_run, legal_on, settled_image, image_on, kept_on, holds_on, origin_at, first_legal}
 use Rattle.engine_run.proofs.Heard.{heard_all}
 use Rattle.engine_run.proofs.Held.{Start, start_of, log_stands, no_frames, no_point}
-use Rattle.engine_run.proofs.Moments.{weaker_between, settled_none}
+use Rattle.engine_run.proofs.Moments.{weaker_between, settled_none, both_claims}
 use Rattle.engine_run.proofs.Single.{entries_once}
 
 abbrev pub files_of : List Step → ℕ → List ℕ
@@ -37,7 +37,7 @@ files_of steps file = content_of file steps
 pub only_read : (old new : List Step) (trail : List Entry) → trail ≡ [] → new ≡ old → Always (Headline (files_of old) old trail) old new
 only_read old new trail empty same =
     subst (λ (steps : List Step). Always (Headline (files_of old) old trail) old steps) (sym same)
-    (begins (inl (record { nothing = ap (settled_at (length old)) empty; silent = refl; images = λ image is. is; synced = inl refl })))
+    (begins (λ other apart. refl, inl (record { nothing = ap (settled_at (length old)) empty; silent = refl; images = λ image is. is; synced = inl refl })))
 
 -- no other file changed
 other_images : (old steps : List Step) (image : ℕ → List ℕ) → OnlyFile 16 old steps → ((one : List ℕ) → Leaves (changes_of 16 steps) one → Leaves (changes_of 16 old) one) → IsImage steps image → IsImage old image
@@ -100,9 +100,9 @@ module _ (old : List Step) (input : Input) (form : HasForm (files_of old) input)
     }
 
   opening_moment : (trail : List Entry) (steps : List Step) → settled_at (length steps) trail ≡ [] → LeavesOpening input old steps → Headline (files_of old) old trail steps
-  opening_moment trail steps nothing leaves = either leaves.log
+  opening_moment trail steps nothing leaves = (leaves.only.others, either leaves.log)
     where
-      either : LeavesRead old steps ⊎ LeavesMade input old steps → Headline (files_of old) old trail steps
+      either : LeavesRead old steps ⊎ LeavesMade input old steps → Unopened (files_of old) old trail steps ⊎ Opened (files_of old) old trail steps
       either (inl read) = inl (record {
         nothing = nothing;
         silent = leaves.only.same_tape;
@@ -136,6 +136,8 @@ module _ (old : List Step) (input : Input) (form : HasForm (files_of old) input)
     }
 
     pub run_driven : (mid new : List Step) (trail : List Entry) → tape mid ≡ tape old → Always (Headline (files_of old) old trail) old mid → Always (AtMoment input (origin_at input payloads first position incarnation file) (tape mid) trail) mid new
-        → Always (Headline (files_of old) old trail) old new
-    run_driven mid new trail same before driven = together before (weaker (λ steps at.
-        inr (driven_moment trail steps (subst (λ (said : List ℕ). StandsAt input (origin_at input payloads first position incarnation file) said (settled_at (length steps) trail) steps) same at))) driven)
+        → Always (OthersSame file mid) mid new → Always (Headline (files_of old) old trail) old new
+    run_driven mid new trail same before driven others = together before (weaker (λ steps both. (
+      λ other apart. subst (λ (f : ℕ). OthersSame f mid steps) place both.1 other apart ∙ (last before).0 other apart,
+      inr (driven_moment trail steps (subst (λ (said : List ℕ). StandsAt input (origin_at input payloads first position incarnation file) said (settled_at (length steps) trail) steps) same both.0)),
+    )) (both_claims driven others))

@@ -1,5 +1,5 @@
 -- What a run promises of every moment.
-use Rattle.std.specs.Prelude.{◌≡◌, ◌⊎◌, ℕ, ◌≤◌, max, List, [], ◌∷◌, ◌++◌, length, map, Some}
+use Rattle.std.specs.Prelude.{◌≡◌, ◌⊎◌, ℕ, ◌≤◌, max, List, [], ◌∷◌, ◌++◌, length, map, Some, ◌<◌, ◌^◌, ◌-◌}
 use Rattle.std.specs.List.{All}
 use Rattle.site_model.specs.History.{Step, changes_of, tape, IsImage}
 use Rattle.engine_run.specs.declared.input.Input.{Input}
@@ -8,6 +8,7 @@ use Rattle.engine_run.specs.Commit.{WroteGate}
 use Rattle.engine_run.specs.Dependencies.{identity_of, Founded}
 use Rattle.engine_run.specs.Ids.{Id, client}
 use Rattle.engine_run.specs.Input.{HasForm}
+use Rattle.engine_run.specs.Labels.{OthersSame}
 use Rattle.engine_run.specs.Language.{Flows}
 use Rattle.engine_run.specs.Legal.{Legal, Quiet, finishes, Overlap}
 use Rattle.engine_run.specs.Log.{Kept, HasEntries, labels_in}
@@ -64,11 +65,16 @@ IsAsked requests w bytes other = Unit {0}
 
 -- ---- at a moment
 
+-- An entry is of a later life than this one. Behind the last incarnation there is none, and it may come again.
+abbrev pub IsLater : Kept → Kept → Type 0
+IsLater before e = (before.incarnation < e.incarnation) ⊎ (e.incarnation ≡ 2 ^ 61 - 1)
+
 -- What holds of the entries that this call made durable: where each comes from, and what the run with them never does.
 pub record AreSound (job : Job) (start : List Label) (recovered : List Kept) (w : World) (bytes : List ℕ) (entries : List Kept) : Type 0 where
   pub asked : All (IsAsked job.requests w bytes) (labels_in entries)
   pub timely : All (λ label. moment_of label ≤ greatest (labels_in recovered)) (labels_in entries)
   pub founded : Founded (map identity_of recovered) (map identity_of entries)
+  pub lives : All (λ e. All (λ r. IsLater r e) recovered) entries
   pub once : (id : Id) (task : ℕ) → finishes id task (start ++ labels_in entries) ≤ 1
   pub apart : (front rest : List Label) (v : World) → start ++ labels_in entries ≡ front ++ rest → Legal job.flows front v → Overlap v → ⊥
 
@@ -111,9 +117,9 @@ pub record Opened (files : ℕ → List ℕ) (old : List Step) (trail : List Ent
   pub every : (start : List Label) (recovered : List Kept) → Stands (flows_of input) input.digest files start → HasEntries input.digest (files 16) recovered
       → Holds (job_of input) start recovered old (map (kept_by input) (settled_at (length steps) trail)) steps
 
--- At a moment of a run that gives back this trail.
+-- At a moment of a run that gives back this trail: no file but the log has changed, and it is unopened or opened.
 abbrev pub Headline : (ℕ → List ℕ) → List Step → List Entry → List Step → Type 0
-Headline files old trail steps = Unopened files old trail steps ⊎ Opened files old trail steps
+Headline files old trail steps = OthersSame 16 old steps × (Unopened files old trail steps ⊎ Opened files old trail steps)
 
 -- At the end of a run that is done: the world is quiet, and every request is answered and said.
 pub record IsDone (files : ℕ → List ℕ) (old : List Step) (trail : List Entry) (new : List Step) : Type 0 where

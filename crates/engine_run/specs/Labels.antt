@@ -1,5 +1,5 @@
 -- The entries of a run, their frames, and what a crash leaves of them at each moment.
-use Rattle.std.specs.Prelude.{◌≡◌, ◌⊎◌, ℕ, ◌+◌, ◌≤◌, List, [], ◌∷◌, ◌++◌, length, map, Some}
+use Rattle.std.specs.Prelude.{◌≡◌, ◌≢◌, ◌⊎◌, ℕ, ◌+◌, ◌≤◌, List, [], ◌∷◌, ◌++◌, length, map, Some}
 use Rattle.std.specs.List.{All}
 use Rattle.site_model.specs.History.{Change, Step, changes_of, Leaves}
 use Rattle.commit_log.specs.declared.header.Header.{Header}
@@ -83,3 +83,7 @@ AtMoment input o before trail steps = StandsAt input o before (settled_at (lengt
 -- a crash leaves the frames of the whole trail
 abbrev pub LeavesAll : Input → Origin → List Entry → List Step → Type 0
 LeavesAll input o trail steps = (image : List ℕ) → Leaves (changes_of o.file steps) image → HoldsEntries input o trail image
+
+-- no other file changed
+abbrev pub OthersSame : ℕ → List Step → List Step → Type 0
+OthersSame file old steps = (other : ℕ) → other ≢ file → changes_of other steps ≡ changes_of other old

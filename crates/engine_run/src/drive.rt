@@ -7,7 +7,7 @@ ghost use Rattle.site_model.specs.Moments.{Always};
 ghost use Rattle.commit_log.specs.declared.header.Header.{Header};
 ghost use Rattle.commit_log.specs.States.{Rests, IsResting};
 ghost use Rattle.engine_run.specs.Driving.{IsDriving, DrivesTape};
-ghost use Rattle.engine_run.specs.Labels.{Appends, origin_of, AtMoment, LeavesAll};
+ghost use Rattle.engine_run.specs.Labels.{Appends, origin_of, AtMoment, LeavesAll, OthersSame};
 ghost use Rattle.engine_run.specs.declared.state.State.{State};
 ghost use Rattle.engine_run.specs.State.{IsQuiet};
 ghost use Rattle.engine_run.specs.Trail.{Rises};
@@ -39,6 +39,7 @@ pub(crate) fn drive<V: Site, A: Activities>(
     requires rests { V.tells → Rests (changes_of recovered.log.file (V.history site.old)) recovered.log.gate }
     ensures during { V.tells → (h : Header) (payloads : List (List ℕ)) → IsResting (changes_of recovered.log.file (V.history site.old)) h payloads recovered.log.gate
         → Always (AtMoment input.now (origin_of recovered h payloads) (tape (V.history site.old)) entries.new.items) (V.history site.old) (V.history site.new) }
+    ensures others { V.tells → Always (OthersSame recovered.log.file (V.history site.old)) (V.history site.old) (V.history site.new) }
     ensures rises { V.tells → Rises (length (V.history site.old)) entries.new.items (length (V.history site.new)) }
     ensures all { (end : State) × Appends recovered.incarnation recovered.position recovered.state entries.new.items end × OnOk result (IsQuiet end true) }
     ensures settled { V.tells → (h : Header) (payloads : List (List ℕ)) → IsResting (changes_of recovered.log.file (V.history site.old)) h payloads recovered.log.gate

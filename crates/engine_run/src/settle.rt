@@ -8,6 +8,7 @@ ghost use Rattle.commit_log.specs.declared.header.Header.{Header};
 ghost use Rattle.commit_log.specs.States.{Rests, IsResting};
 ghost use Rattle.commit_log.specs.Outcomes.{RestsAs};
 ghost use Rattle.engine_run.specs.Commit.{IsOutside, LeavesCommit};
+ghost use Rattle.engine_run.specs.Labels.{OthersSame};
 ghost use Rattle.engine_run.specs.Items.{payload_bytes};
 
 use crate::activities::Activities;
@@ -55,6 +56,7 @@ pub(crate) fn settle_label<V: Site, A: Activities>(
         → Always (LeavesCommit log.file h payloads (payload_bytes input.now entry.position entry.incarnation entry.label) log.gate (V.history site.old)) (V.history site.old) (V.history site.new) }
     ensures after { V.tells → (h : Header) (payloads : List (List ℕ)) → IsResting (changes_of log.file (V.history site.old)) h payloads log.gate
         → IfOk result (λ next. RestsAs (V.history site.new) h (payloads ++ payload_bytes input.now entry.position entry.incarnation entry.label ∷ []) next) }
+    ensures others { V.tells → Always (OthersSame log.file (V.history site.old)) (V.history site.old) (V.history site.new) }
     ensures trail { OnOk result ((at : ℕ) × (V.tells → at ≡ length (V.history site.new)) × (entries.new.items ≡ entries.old.items ++ record entry { at = at } ∷ [])) }
     ensures no_trail { OnErr result (entries.new.items ≡ entries.old.items) }
     ensures moves { V.tells → OnOk result (length (V.history site.old) < length (V.history site.new)) }

@@ -1,6 +1,7 @@
 //! The top call.
 
 ghost use Rattle.std.specs.Prelude.{◌≡◌, ◌≢◌, ◌≤◌, [], length};
+ghost use Rattle.std.specs.List.{All};
 ghost use Rattle.site_model.specs.History.{content_of, tape};
 ghost use Rattle.site_model.specs.Calls.{HasRisen};
 ghost use Rattle.site_model.specs.Moments.{Always};
@@ -37,6 +38,7 @@ fn perform<V: Site, A: Activities>(
     ensures untouched { V.tells → Untouched (V.history site.old) (V.history site.new) result }
     ensures headline { V.tells → Always (Headline (λ file. content_of file (V.history site.old)) (V.history site.old) entries.new.items) (V.history site.old) (V.history site.new) }
     ensures rises { V.tells → Rises (length (V.history site.old)) entries.new.items (length (V.history site.new)) }
+    ensures homes { All (λ e. e.partition ≡ 0) entries.new.items }
     ensures done { V.tells → result ≡ Cause.Done → IsDone (λ file. content_of file (V.history site.old)) (V.history site.old) entries.new.items (V.history site.new) }
     ensures no_usage { result ≢ Cause.Usage }
     ensures site_fault { result ≡ Cause.SiteFault → HasRisen (V.disk_faults site.old) (V.disk_faults site.new) }
@@ -74,6 +76,7 @@ pub fn run_alone<V: Site, C: Clock, A: Activities>(
     ensures untouched { V.tells → Untouched (V.history site) (V.history result.site) result.cause }
     ensures headline { V.tells → Always (Headline (λ file. content_of file (V.history site)) (V.history site) result.trail) (V.history site) (V.history result.site) }
     ensures rises { V.tells → Rises (length (V.history site)) result.trail (length (V.history result.site)) }
+    ensures homes { All (λ e. e.partition ≡ 0) result.trail }
     ensures done { V.tells → result.cause ≡ Cause.Done → IsDone (λ file. content_of file (V.history site)) (V.history site) result.trail (V.history result.site) }
     ensures site_fault { result.cause ≡ Cause.SiteFault → HasRisen (V.disk_faults site) (V.disk_faults result.site) }
     ensures say_fault { result.cause ≡ Cause.SayFault → HasRisen (V.say_faults site) (V.say_faults result.site) }
@@ -136,6 +139,7 @@ pub fn run<R: Threads + Wait + Sync, V: Site + Send, C: Clock + Send, A: Activit
     // the trail rise. At the end of a run that is done nothing is left to do, and every request is answered and said.
     ensures headline { V.tells → Always (Headline (λ file. content_of file (V.history site)) (V.history site) result.trail) (V.history site) (V.history result.site) }
     ensures rises { V.tells → Rises (length (V.history site)) result.trail (length (V.history result.site)) }
+    ensures homes { All (λ e. e.partition ≡ 0) result.trail }
     ensures done { V.tells → result.cause ≡ Cause.Done → IsDone (λ file. content_of file (V.history site)) (V.history site) result.trail (V.history result.site) }
     ensures clock { result.clock ≡ clock }
 {

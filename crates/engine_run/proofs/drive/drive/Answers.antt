@@ -13,6 +13,8 @@ use Rattle.engine_run.specs.Items.{payload_bytes}
 use Rattle.engine_run.specs.Labels.{Appends, AtMoment, frames_of, origin_of}
 use Rattle.engine_run.proofs.Labels.{came_first, came_next, entry_of, settles_next, resting, kept_first, while_saying, kept_said, while_settling, kept_settled}
 use Rattle.engine_run.proofs.Moments.{rises_higher}
+use Rattle.engine_run.specs.Labels.{OthersSame}
+use Rattle.engine_run.proofs.Others.{none_yet, says_none, and_then_same}
 use Rattle.engine_run.proofs.Says.{told_front}
 use Rattle.engine_run.proofs.drive.drive.Goals as goal
 
@@ -32,6 +34,7 @@ labels-init g c = record {
   place = refl;
   came = came_first c.args.recovered c.args.entries.now.items c.requires.empty;
   kept = λ tells h payloads rests. kept_first c.args.input.now c.args.recovered h payloads (g.V.Site.history c.args.site.now) c.args.entries.now.items c.requires.empty rests;
+  others = λ tells. none_yet c.args.recovered.log.file (g.V.Site.history c.args.site.now);
   rests = c.requires.rests;
   said = λ tells. search rules;
   later = search rules;
@@ -139,8 +142,24 @@ labels-preserved g c =
           let file = c.in-Ok-settle_label.ensures.place.0 ∙ c.labels.invariant.place in
           let after = subst (λ (other : ℕ). IsResting (changes_of other (g.V.Site.history c.settle_label.new.site)) h (all ++ frame ∷ []) c.in-Ok-settle_label.settled.gate) file (c.in-Ok-settle_label.ensures.after tells h all here) in
           kept_settled c.args.input.now c.args.recovered h payloads (g.V.Site.history c.args.site.now) (g.V.Site.history c.say_due.new.site) (g.V.Site.history c.settle_label.new.site) c.labels.state c.in-Ok.said c.labels.position c.labels.log.gate c.labels.entries.items spoken stood c.in-Some.found.1 entry settles c.in-Ok-settle_label.settled.gate (c.in-Ok-settle_label.ensures.moves tells) trail.0 c.settle_label.new.entries.items (trail.1 tells) trail.2 came after during;
+      others = λ tells.
+          let said = says_none c.args.recovered.log.file c.args.input.now c.labels.state c.labels.told (g.V.Site.history c.args.site.now) (g.V.Site.history c.labels.site) (g.V.Site.history c.say_due.new.site) (c.labels.invariant.others tells) (c.say_due.ensures.during tells) in
+          let settled = subst (λ (file : ℕ). Always (OthersSame file (g.V.Site.history c.say_due.new.site)) (g.V.Site.history c.say_due.new.site) (g.V.Site.history c.settle_label.new.site)) c.labels.invariant.place (c.settle_label.ensures.others tells) in
+          and_then_same c.args.recovered.log.file (g.V.Site.history c.args.site.now) (g.V.Site.history c.say_due.new.site) (g.V.Site.history c.settle_label.new.site) said settled;
       rests = search rules;
       said = search rules;
       later = search rules;
       later_say = search rules;
     }
+
+pub returns-in-Err-clause-others : goal.returns-in-Err-clause-others
+returns-in-Err-clause-others g c tells = says_none c.args.recovered.log.file c.args.input.now c.labels.state c.labels.told (g.V.Site.history c.args.site.now) (g.V.Site.history c.labels.site) (g.V.Site.history c.say_due.new.site) (c.labels.invariant.others tells) (c.say_due.ensures.during tells)
+
+pub returns-in-None-clause-others : goal.returns-in-None-clause-others
+returns-in-None-clause-others g c tells = says_none c.args.recovered.log.file c.args.input.now c.labels.state c.labels.told (g.V.Site.history c.args.site.now) (g.V.Site.history c.labels.site) (g.V.Site.history c.say_due.new.site) (c.labels.invariant.others tells) (c.say_due.ensures.during tells)
+
+pub returns-in-Err-settle_label-clause-others : goal.returns-in-Err-settle_label-clause-others
+returns-in-Err-settle_label-clause-others g c tells =
+    let said = says_none c.args.recovered.log.file c.args.input.now c.labels.state c.labels.told (g.V.Site.history c.args.site.now) (g.V.Site.history c.labels.site) (g.V.Site.history c.say_due.new.site) (c.labels.invariant.others tells) (c.say_due.ensures.during tells) in
+    let settled = subst (λ (file : ℕ). Always (OthersSame file (g.V.Site.history c.say_due.new.site)) (g.V.Site.history c.say_due.new.site) (g.V.Site.history c.settle_label.new.site)) c.labels.invariant.place (c.settle_label.ensures.others tells) in
+    and_then_same c.args.recovered.log.file (g.V.Site.history c.args.site.now) (g.V.Site.history c.say_due.new.site) (g.V.Site.history c.settle_label.new.site) said settled

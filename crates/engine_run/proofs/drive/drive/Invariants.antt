@@ -1,6 +1,8 @@
 use Rattle.commit_log.specs.declared.header.Header.{Header}
 use Rattle.commit_log.specs.States.{IsResting}
 use Rattle.engine_run.proofs.Labels.{Came, Kept}
+use Rattle.engine_run.specs.Labels.{OthersSame}
+use Rattle.site_model.specs.Moments.{Always}
 use Rattle.std.proofs.Common.{ℕ, List, ◌≡◌, ◌≤◌, ◌+◌, ◌*◌, ◌^◌, ◌++◌}
 use Rattle.site_model.specs.History.{changes_of, tape}
 use Rattle.commit_log.specs.States.{Rests}
@@ -20,6 +22,7 @@ invariant-labels g l = record {
   came : Came l.fn.recovered l.state l.position l.entries.items;
   kept : g.V.Site.tells → (h : Header) (payloads : List (List ℕ)) → IsResting (changes_of l.fn.recovered.log.file (g.V.Site.history l.fn.site)) h payloads l.fn.recovered.log.gate
       → Kept l.input l.fn.recovered h payloads (g.V.Site.history l.fn.site) (g.V.Site.history l.site) l.state l.told l.position l.log.gate l.entries.items;
+  others : g.V.Site.tells → Always (OthersSame l.fn.recovered.log.file (g.V.Site.history l.fn.site)) (g.V.Site.history l.fn.site) (g.V.Site.history l.site);
   rests : g.V.Site.tells → Rests (changes_of l.log.file (g.V.Site.history l.site)) l.log.gate;
   said : g.V.Site.tells → tape (g.V.Site.history l.site) ≡ tape (g.V.Site.history l.fn.site) ++ said_of l.input l.told;
   later : g.V.Site.disk_faults l.fn.site ≤ g.V.Site.disk_faults l.site;

@@ -3,6 +3,7 @@ use Rattle.site_model.specs.History.{Step, content_of, tape}
 use Rattle.site_model.specs.Moments.{Always}
 use Rattle.site_model.proofs.Paths.{no_shorter, last}
 use Rattle.engine_run.specs.Recovery.{header_of, LeavesOpening, StartsFrom, Recovers}
+use Rattle.engine_run.proofs.Asking.{homes_path, no_homes}
 use Rattle.engine_run.proofs.Finishing.{run_done}
 use Rattle.engine_run.proofs.Moments.{rises_empty, rises_lower}
 use Rattle.engine_run.proofs.Refused.{answers_refused, answers_done, answers_driven}
@@ -52,7 +53,7 @@ returns-in-Ok-drive-clause-headline g c tells =
     let same = c.recover.ensures.tape tells ∙ ap tape c.read_input.ensures.unchanged in
     let during = c.drive.ensures.during tells (header_of c.in-Ok.input) stands.0 stands.1 in
     let before = run_opened old c.in-Ok.input form mid trail (length new) rises opening in
-    run_driven old c.in-Ok.input form stands.0 r.state r.position r.incarnation r.log.file c.in-Ok-recover.ensures.place starts r.low r.sound.low mid new trail same before during
+    run_driven old c.in-Ok.input form stands.0 r.state r.position r.incarnation r.log.file c.in-Ok-recover.ensures.place starts r.low r.sound.low mid new trail same before during (c.drive.ensures.others tells)
 
 pub returns-in-Ok-drive-clause-rises : goal.returns-in-Ok-drive-clause-rises
 returns-in-Ok-drive-clause-rises g c tells =
@@ -80,7 +81,7 @@ returns-clause-headline g c tells =
     let same = c.recover.ensures.tape tells ∙ ap tape c.read_input.ensures.unchanged in
     let during = c.drive.ensures.during tells (header_of c.in-Ok.input) stands.0 stands.1 in
     let before = run_opened old c.in-Ok.input form mid trail (length new) rises opening in
-    run_driven old c.in-Ok.input form stands.0 r.state r.position r.incarnation r.log.file c.in-Ok-recover.ensures.place starts r.low r.sound.low mid new trail same before during
+    run_driven old c.in-Ok.input form stands.0 r.state r.position r.incarnation r.log.file c.in-Ok-recover.ensures.place starts r.low r.sound.low mid new trail same before during (c.drive.ensures.others tells)
 
 pub returns-clause-rises : goal.returns-clause-rises
 returns-clause-rises g c tells =
@@ -132,3 +133,21 @@ returns-clause-answers g c tells =
     let starts = subst (λ (steps : List Step). StartsFrom c.in-Ok.input (content_of 16 steps) stands.0 r.state r.position r.incarnation) c.read_input.ensures.unchanged stands.2 in
     let done = answers_done (λ file. content_of file (g.V.Site.history c.args.site.now)) c.in-Ok.input stands.0 r.state r.position r.incarnation (c.in-Ok.ensures.reads tells) starts in
     answers_driven (λ file. content_of file (g.V.Site.history c.args.site.now)) c.in-Err-drive.cause c.in-Err-drive.ensures.driving done
+
+pub returns-in-Err-clause-homes : goal.returns-in-Err-clause-homes
+returns-in-Err-clause-homes g c = no_homes c.args.entries.now.items c.requires
+
+pub returns-in-Err-recover-clause-homes : goal.returns-in-Err-recover-clause-homes
+returns-in-Err-recover-clause-homes g c = no_homes c.args.entries.now.items c.requires
+
+pub returns-in-Ok-drive-clause-homes : goal.returns-in-Ok-drive-clause-homes
+returns-in-Ok-drive-clause-homes g c =
+    let all = c.drive.ensures.all in
+    let r = c.in-Ok-recover.recovered in
+    homes_path r.incarnation r.position r.state all.0 c.drive.new.entries.items all.1
+
+pub returns-clause-homes : goal.returns-clause-homes
+returns-clause-homes g c =
+    let all = c.drive.ensures.all in
+    let r = c.in-Ok-recover.recovered in
+    homes_path r.incarnation r.position r.state all.0 c.drive.new.entries.items all.1

@@ -5,6 +5,8 @@ use Rattle.site_model.specs.Moments.{Always}
 use Rattle.engine_run.specs.declared.ended.Cause.TheVariants.{Done}
 use Rattle.engine_run.specs.Headline.{Headline, IsDone}
 use Rattle.engine_run.specs.Trail.{Rises}
+use Rattle.std.specs.List.{All}
+use Rattle.engine_run.proofs.Asking.{no_homes}
 use Rattle.engine_run.proofs.Moments.{rises_empty}
 use Rattle.engine_run.proofs.Running.{only_read}
 use Rattle.engine_run.proofs.top.run_alone.Goals as goal
@@ -41,4 +43,12 @@ returns-clause-done g c tells done = elim c.if-is_run_command.branch [
       let here = subst (λ (entries : List Entry). IsDone (λ file. content_of file old) old entries (g.V.Site.history w.perform-cause.new.site)) trail (w.perform-cause.ensures.done tells ended) in
       subst (λ site. IsDone (λ file. content_of file old) old c.of.result (g.V.Site.history site)) (sym w.site-is) here
   | else-is_run_command w ↦ search rules
+]
+
+pub returns-clause-homes : goal.returns-clause-homes
+returns-clause-homes g c = elim c.if-is_run_command.branch [
+  | then-is_run_command w ↦
+      let trail : w.perform-cause.new.entries.items ≡ c.of.result = ap (λ entries. entries.items) (sym w.entries-is) ∙ sym c.of.ensures in
+      subst (All (λ (e : Entry). e.partition ≡ 0)) trail w.perform-cause.ensures.homes
+  | else-is_run_command w ↦ no_homes c.of.result (search rules)
 ]
