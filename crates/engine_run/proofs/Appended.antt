@@ -5,15 +5,15 @@ use Rattle.std.specs.Option.{option_and_then}
 use Rattle.std.proofs.lemmas.List.{append-nil, append_assoc, length-append, map-append}
 use Rattle.std.proofs.lemmas.Grind.{flat_map-append}
 use Rattle.std.proofs.lemmas.List.Elements.{All-nil, All-cons, All-append}
-use Rattle.engine_run.specs.declared.input.Input.{Input}
-use Rattle.engine_run.specs.declared.state.State.{State}
-use Rattle.engine_run.specs.declared.state.Label.{Label}
-use Rattle.engine_run.specs.declared.trail.Entry.{Entry}
-use Rattle.engine_run.specs.State.{applied, stamp_of, fresh_state}
-use Rattle.engine_run.specs.Items.{LogEntry, one_label, frame_bytes, payload_bytes}
-use Rattle.engine_run.specs.Replay.{IsFew, IsTimely, IsEntry, MayFollow, IsNumbered, last_incarnation, applied_all, labels_of, entries_of, Point, Replays}
-use Rattle.engine_run.specs.Labels.{Appends, frames_of}
-use Rattle.engine_run.specs.Labels.Appends.{none, one_more}
+use Rattle.input_reader.specs.declared.input.Input.{Input}
+use Rattle.part_state.specs.declared.state.State.{State}
+use Rattle.part_state.specs.declared.state.Label.{Label}
+use Rattle.part_driver.specs.declared.trail.Entry.{Entry}
+use Rattle.part_state.specs.State.{applied, stamp_of, fresh_state}
+use Rattle.part_items.specs.Items.{LogEntry, one_label, frame_bytes, payload_bytes}
+use Rattle.part_items.specs.Replay.{IsFew, IsTimely, IsEntry, MayFollow, IsNumbered, last_incarnation, applied_all, labels_of, entries_of, Point, Replays}
+use Rattle.part_driver.specs.Labels.{Appends, frames_of}
+use Rattle.part_driver.specs.Labels.Appends.{none, one_more}
 
 numbered_more : (position : ℕ) (before : Option ℕ) (entries : List LogEntry) (e : LogEntry) → IsNumbered position before entries → e.position ≡ position + length entries → MayFollow (last_incarnation before entries) e.incarnation → IsNumbered position before (entries ++ e ∷ [])
 numbered_more position before [] e numbered at follows = (omega (arith, at), follows, tt)

@@ -3,25 +3,25 @@ use Rattle.std.proofs.Common.{◌≡◌, ◌⊎◌, inl, inr, ℕ, ◌+◌, ◌�
 use Rattle.std.specs.List.{All, Contains}
 use Rattle.std.proofs.lemmas.List.{length-append, map-append}
 use Rattle.std.proofs.lemmas.List.Elements.{All-nil, All-cons, All-append, All-head, All-tail}
-use Rattle.engine_run.specs.declared.input.Input.{Input}
-use Rattle.engine_run.specs.declared.state.State.{State}
-use Rattle.engine_run.specs.declared.trail.Entry.{Entry}
-use Rattle.engine_run.specs.Dependencies.{Identity, identity_of, DependsOn, Founded}
-use Rattle.engine_run.specs.Dependencies.Founded.{none, one_more}
+use Rattle.input_reader.specs.declared.input.Input.{Input}
+use Rattle.part_state.specs.declared.state.State.{State}
+use Rattle.part_driver.specs.declared.trail.Entry.{Entry}
+use Rattle.dura_model.specs.Dependencies.{Identity, identity_of, DependsOn, Founded}
+use Rattle.dura_model.specs.Dependencies.Founded.{none, one_more}
 use Rattle.engine_run.specs.Headline.{kept_by, IsLater}
-use Rattle.engine_run.specs.Labels.{Appends}
-use Rattle.engine_run.specs.Labels.Appends.{none as no_entry, one_more as one_entry}
-use Rattle.engine_run.specs.Log.{labels_in, Kept}
+use Rattle.part_driver.specs.Labels.{Appends}
+use Rattle.part_driver.specs.Labels.Appends.{none as no_entry, one_more as one_entry}
+use Rattle.dura_model.specs.Entries.{labels_in, Kept}
 use Rattle.std.proofs.Common.{Option, Some, None}
 use Rattle.std.proofs.lemmas.List.Elements.{Contains-append_right, All-map}
-use Rattle.engine_run.specs.Items.{LogEntry}
-use Rattle.engine_run.specs.Replay.{IsNumbered, last_incarnation}
-use Rattle.engine_run.specs.State.{stamp_of}
-use Rattle.engine_run.specs.Steps.{Label as Step}
-use Rattle.engine_run.specs.Meaning.{label_of}
+use Rattle.part_items.specs.Items.{LogEntry}
+use Rattle.part_items.specs.Replay.{IsNumbered, last_incarnation}
+use Rattle.part_state.specs.State.{stamp_of}
+use Rattle.dura_model.specs.Steps.{Label as Step}
+use Rattle.part_state.specs.Meaning.{label_of}
 use Rattle.engine_run.proofs.Held.{labels_kept}
-use Rattle.engine_run.proofs.Inverse.{IsGiven}
-use Rattle.engine_run.proofs.Standing.{kept_of}
+use Rattle.part_state.specs.Given.{IsGiven}
+use Rattle.part_items.specs.Keeping.{kept_of}
 
 some_one : {X : Type 0} {x y : X} → Some x ≡ Some y → x ≡ y
 some_one is = cc

@@ -3,32 +3,32 @@ use Rattle.std.proofs.Common.{◌≡◌, ℕ, ◌<◌, ◌^◌, List, [], ◌∷
 use Rattle.std.specs.Prelude.{codes, true}
 use Rattle.std.proofs.lemmas.List.{append-nil, append_assoc, append_cancel_left, map-append}
 use Rattle.site_model.specs.History.{Step, tape, content_of}
-use Rattle.engine_run.specs.declared.input.Input.{Input}
-use Rattle.engine_run.specs.declared.state.State.{State}
-use Rattle.engine_run.specs.declared.state.WaitStage.{WaitStage}
-use Rattle.engine_run.specs.declared.state.WaitStage.TheVariants as waits
-use Rattle.engine_run.specs.declared.state.Found.{Found}
-use Rattle.engine_run.specs.declared.state.Found.TheVariants.{Missing, Ended}
-use Rattle.engine_run.specs.declared.trail.Entry.{Entry}
-use Rattle.engine_run.specs.declared.told.Told.TheVariants.{Both}
+use Rattle.input_reader.specs.declared.input.Input.{Input}
+use Rattle.part_state.specs.declared.state.State.{State}
+use Rattle.part_state.specs.declared.state.WaitStage.{WaitStage}
+use Rattle.part_state.specs.declared.state.WaitStage.TheVariants as waits
+use Rattle.part_state.specs.declared.state.Found.{Found}
+use Rattle.part_state.specs.declared.state.Found.TheVariants.{Missing, Ended}
+use Rattle.part_driver.specs.declared.trail.Entry.{Entry}
+use Rattle.part_driver.specs.declared.told.Told.TheVariants.{Both}
 use Rattle.engine_run.specs.Headline.{IsDone}
-use Rattle.engine_run.specs.Input.{HasForm}
-use Rattle.engine_run.specs.Labels.{Appends, AtMoment, StandsAt}
-use Rattle.engine_run.specs.Labels.Appends.{none, one_more}
-use Rattle.engine_run.specs.Lines.{start_line, wait_line, sum_text}
-use Rattle.engine_run.specs.Recovery.{StartsFrom}
-use Rattle.engine_run.specs.Replay.{applied_all}
-use Rattle.engine_run.specs.State.{IsQuiet, HasAnswer}
-use Rattle.engine_run.specs.Told.{IsFront, said_of, told_of}
-use Rattle.engine_run.specs.Trail.{settled_at, Rises}
-use Rattle.engine_run.specs.Meaning.{world_of}
+use Rattle.input_reader.specs.Input.{HasForm}
+use Rattle.part_driver.specs.Labels.{Appends, AtMoment, StandsAt}
+use Rattle.part_driver.specs.Labels.Appends.{none, one_more}
+use Rattle.part_driver.specs.Lines.{start_line, wait_line, sum_text}
+use Rattle.part_driver.specs.Recovery.{StartsFrom}
+use Rattle.part_items.specs.Replay.{applied_all}
+use Rattle.part_state.specs.State.{IsQuiet, HasAnswer}
+use Rattle.part_driver.specs.Told.{IsFront, said_of, told_of}
+use Rattle.part_driver.specs.Trail.{settled_at, Rises}
+use Rattle.part_state.specs.Meaning.{world_of}
 use Rattle.engine_run.proofs.Appended.{applied_more}
 use Rattle.engine_run.proofs.Headlines.{given_of, legal_on, origin_at}
 use Rattle.engine_run.proofs.Heard.{both_lines}
-use Rattle.engine_run.proofs.Moments.{settled_all}
+use Rattle.part_driver.proofs.Moments.{settled_all}
 use Rattle.engine_run.proofs.Restful.{quiet_world}
 use Rattle.engine_run.proofs.Running.{files_of, begun}
-use Rattle.engine_run.proofs.Says.{both_told}
+use Rattle.part_driver.proofs.Says.{both_told}
 
 -- a path comes to one state
 path_applied : (incarnation position : ℕ) (first end : State) (entries : List Entry) → Appends incarnation position first entries end → applied_all first (map (λ e. e.label) entries) ≡ Some end

@@ -6,39 +6,42 @@ use Rattle.std.proofs.lemmas.List.Elements.{All-nil, All-cons, All-append, All-h
 use Rattle.site_model.specs.History.{changes_of, tape, Leaves}
 use Rattle.site_model.specs.History.{Step as Moment}
 use Rattle.commit_log.specs.Segment.{segment_bytes}
-use Rattle.engine_run.specs.declared.input.Input.{Input}
-use Rattle.engine_run.specs.declared.state.State.{State}
-use Rattle.engine_run.specs.declared.trail.Entry.{Entry}
-use Rattle.engine_run.specs.Commit.{WroteGate}
-use Rattle.engine_run.specs.Commit.{Holds as HasFrames}
-use Rattle.engine_run.specs.declared.state.Label.{Label}
+use Rattle.input_reader.specs.declared.input.Input.{Input}
+use Rattle.part_state.specs.declared.state.State.{State}
+use Rattle.part_driver.specs.declared.trail.Entry.{Entry}
+use Rattle.part_driver.specs.Commit.{WroteGate}
+use Rattle.part_driver.specs.Commit.{Holds as HasFrames}
+use Rattle.part_state.specs.declared.state.Label.{Label}
 use Rattle.engine_run.specs.Headline.{job_of, kept_by, moment_of, greatest, IsAsked, AreSound, Extends, Holds}
-use Rattle.engine_run.specs.Input.{HasForm}
-use Rattle.engine_run.specs.Items.{LogEntry}
-use Rattle.engine_run.specs.Labels.{Appends, AsksRightly, Origin, HoldsEntries, HoldsNext, StandsAt, frames_of}
-use Rattle.engine_run.specs.Labels.Appends.{one_more}
-use Rattle.engine_run.specs.Legal.{Legal}
-use Rattle.engine_run.specs.Log.{Kept, labels_in, HasEntries}
-use Rattle.engine_run.specs.Meaning.{flows_of, label_of, item_of, requests_of, world_of}
-use Rattle.engine_run.specs.Recovery.{header_of}
-use Rattle.engine_run.specs.Replay.{labels_of, entries_of}
-use Rattle.engine_run.specs.Spelling.{label_in}
-use Rattle.engine_run.specs.Stands.{Stands}
-use Rattle.engine_run.specs.State.{stamp_of, fresh_state}
-use Rattle.engine_run.specs.Steps.{Label as Step}
-use Rattle.engine_run.specs.Told.{IsFront, said_of, told_of}
+use Rattle.input_reader.specs.Input.{HasForm}
+use Rattle.part_items.specs.Items.{LogEntry}
+use Rattle.part_driver.specs.Labels.{Appends, AsksRightly, Origin, HoldsEntries, HoldsNext, StandsAt, frames_of}
+use Rattle.part_driver.specs.Labels.Appends.{one_more}
+use Rattle.dura_model.specs.Legal.{Legal}
+use Rattle.dura_model.specs.Entries.{Kept, labels_in}
+use Rattle.part_log.specs.Log.{HasEntries}
+use Rattle.part_state.specs.Meaning.{flows_of, label_of, item_of, requests_of, world_of}
+use Rattle.part_log.specs.Log.{header_with}
+use Rattle.part_items.specs.Replay.{labels_of, entries_of}
+use Rattle.dura_model.specs.Entries.{label_in}
+use Rattle.part_log.specs.Stands.{Stands}
+use Rattle.part_state.specs.State.{stamp_of, fresh_state}
+use Rattle.dura_model.specs.Steps.{Label as Step}
+use Rattle.part_driver.specs.Told.{IsFront, said_of, told_of}
 use Rattle.engine_run.proofs.Asking.{LastOf, ids_kept, last_of_log, founded_path, timely_path, of_labels, lives_path}
 use Rattle.engine_run.proofs.Appended.{GoesTo}
 use Rattle.engine_run.proofs.Heard.{heard_all, asks}
 use Rattle.engine_run.proofs.Held.{Start, log_stands, stands_legal, own_run, labels_kept, image_stands, image_entries}
-use Rattle.engine_run.proofs.Inverse.{IsGiven}
+use Rattle.part_state.specs.Given.{IsGiven}
 use Rattle.engine_run.proofs.Legally.{path_legal, item_label}
-use Rattle.engine_run.proofs.Meant.{IsRight, right_fresh}
-use Rattle.engine_run.proofs.Named.{flow_named, requests_named}
-use Rattle.engine_run.proofs.Numbers.{flow_low}
-use Rattle.engine_run.proofs.Outcomes.{never_twice, never_overlaps}
-use Rattle.engine_run.proofs.Single.{entries_once}
-use Rattle.engine_run.proofs.Standing.{kept_of, items_kept}
+use Rattle.part_state.specs.Given.{IsRight}
+use Rattle.part_state.proofs.Meant.{right_fresh}
+use Rattle.input_reader.proofs.Named.{flow_named, requests_named}
+use Rattle.input_reader.proofs.Numbers.{flow_low}
+use Rattle.dura_model.proofs.Outcomes.{never_twice, never_overlaps}
+use Rattle.part_log.proofs.Single.{entries_once}
+use Rattle.part_items.specs.Keeping.{kept_of}
+use Rattle.part_items.proofs.Standing.{items_kept}
 use Rattle.engine_run.proofs.Started.{right_labels, greatest_all, moment_same}
 
 -- what holds of each holds of all, by another name
@@ -59,7 +62,7 @@ given_of files input form =
 
 -- the log of the one partition, from where a run goes on
 abbrev pub origin_at : Input → List (List ℕ) → State → ℕ → ℕ → ℕ → Origin
-origin_at input payloads first position incarnation file = record { file = file; header = header_of input; payloads = payloads; first = first; position = position; incarnation = incarnation }
+origin_at input payloads first position incarnation file = record { file = file; header = header_with input.digest; payloads = payloads; first = first; position = position; incarnation = incarnation }
 
 module _ (input : Input) (given : IsGiven input) where
   labels_each : (labels : List Label) → map label_in (map (item_of input) labels) ≡ map (label_of input) labels
@@ -118,11 +121,11 @@ module _ (input : Input) (given : IsGiven input) where
       goes_on : GoesTo input payloads first position incarnation (entries_of st.replays.log)
       goes_on = (st.point, st.replays, st.state, st.place, st.follows, refl)
 
-      pub image_on : (image : ℕ → List ℕ) (entries : List Entry) (end : State) → Appends incarnation position first entries end → HasFrames (header_of input) (payloads ++ frames_of input entries) (image 16)
+      pub image_on : (image : ℕ → List ℕ) (entries : List Entry) (end : State) → Appends incarnation position first entries end → HasFrames (header_with input.digest) (payloads ++ frames_of input entries) (image 16)
           → Stands (flows_of input) input.digest image (run ++ labels_in (map (kept_by input) entries))
       image_on image entries end path holds = image_stands input given image run payloads first end position incarnation (entries_of st.replays.log) entries goes_on young early first_right (first_legal run stands) path holds
 
-      pub kept_on : (image : ℕ → List ℕ) (entries : List Entry) (end : State) → Appends incarnation position first entries end → HasFrames (header_of input) (payloads ++ frames_of input entries) (image 16)
+      pub kept_on : (image : ℕ → List ℕ) (entries : List Entry) (end : State) → Appends incarnation position first entries end → HasFrames (header_with input.digest) (payloads ++ frames_of input entries) (image 16)
           → HasEntries input.digest (image 16) (own_log ++ map (kept_by input) entries)
       kept_on image entries end path holds = image_entries input given (image 16) payloads first end position incarnation (entries_of st.replays.log) entries goes_on young early path holds
 
@@ -149,7 +152,7 @@ module _ (input : Input) (given : IsGiven input) where
             let all : map (kept_by input) entries ≡ map (kept_by input) settled ++ kept_by input next.entry ∷ [] = map-append (kept_by input) settled (next.entry ∷ []) in
             let asking_too = All-append (AsksRightly input part) settled (next.entry ∷ []) asking (All-cons (AsksRightly input part) next.entry [] next.asks (All-nil (AsksRightly input part))) in record {
               going = kept_by input next.entry ∷ [];
-              under_way = record { one = omega arith; gated = inr (length (segment_bytes (header_of input) (payloads ++ frames_of input settled)), subst (λ (f : ℕ). WroteGate (length (segment_bytes (header_of input) (payloads ++ frames_of input settled))) (changes_of f steps)) place next.gate) };
+              under_way = record { one = omega arith; gated = inr (length (segment_bytes (header_with input.digest) (payloads ++ frames_of input settled)), subst (λ (f : ℕ). WroteGate (length (segment_bytes (header_with input.digest) (payloads ++ frames_of input settled))) (changes_of f steps)) place next.gate) };
               stands = subst (λ (l : List Kept). Stands (flows_of input) input.digest image (run ++ labels_in l)) all (image_on image entries next.next longer next.holds);
               kept = subst (λ (l : List Kept). HasEntries input.digest (image 16) (own_log ++ l)) all (kept_on image entries next.next longer next.holds);
               sound = subst (AreSound (job_of input) run own_log (world_of input s) part) all (sound_on s next.next part entries longer asking_too front);

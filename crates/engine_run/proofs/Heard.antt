@@ -3,29 +3,29 @@ use Rattle.std.proofs.Common.{◌≡◌, ◌⊎◌, inl, inr, ℕ, List, [], ◌
 use Rattle.std.specs.Prelude.{codes}
 use Rattle.std.proofs.lemmas.List.{append_assoc, length-append}
 use Rattle.site_model.specs.History.{Step as Moment}
-use Rattle.engine_run.specs.declared.input.Input.{Input}
-use Rattle.engine_run.specs.declared.request_file.Kind.TheVariants as kinds
-use Rattle.engine_run.specs.declared.state.StartStage.{StartStage}
-use Rattle.engine_run.specs.declared.state.StartStage.TheVariants as starts
-use Rattle.engine_run.specs.declared.state.WaitStage.{WaitStage}
-use Rattle.engine_run.specs.declared.state.WaitStage.TheVariants as waits
-use Rattle.engine_run.specs.declared.state.Found.{Found}
-use Rattle.engine_run.specs.declared.state.Found.TheVariants.{Missing, Ended}
-use Rattle.engine_run.specs.declared.state.State.{State}
-use Rattle.engine_run.specs.declared.state.Label.{Label}
-use Rattle.engine_run.specs.declared.state.Label.TheVariants.{Take, ToInstance, ToClient, Finish}
-use Rattle.engine_run.specs.declared.told.Told.{Told as Spoken}
-use Rattle.engine_run.specs.declared.told.Told.TheVariants.{Nothing, Start, Both}
-use Rattle.engine_run.specs.Lines.{start_line, wait_line, sum_text}
-use Rattle.engine_run.specs.Told.{said_of, told_of, told_start, TellsRightly, IsFront, IsSpeaking, IsNextFront, IsSaidSoFar}
-use Rattle.engine_run.specs.World.{was_started}
-use Rattle.engine_run.specs.Requests.{Request, answer_to, line_of, Lines}
+use Rattle.input_reader.specs.declared.input.Input.{Input}
+use Rattle.input_reader.specs.declared.request_file.Kind.TheVariants as kinds
+use Rattle.part_state.specs.declared.state.StartStage.{StartStage}
+use Rattle.part_state.specs.declared.state.StartStage.TheVariants as starts
+use Rattle.part_state.specs.declared.state.WaitStage.{WaitStage}
+use Rattle.part_state.specs.declared.state.WaitStage.TheVariants as waits
+use Rattle.part_state.specs.declared.state.Found.{Found}
+use Rattle.part_state.specs.declared.state.Found.TheVariants.{Missing, Ended}
+use Rattle.part_state.specs.declared.state.State.{State}
+use Rattle.part_state.specs.declared.state.Label.{Label}
+use Rattle.part_state.specs.declared.state.Label.TheVariants.{Take, ToInstance, ToClient, Finish}
+use Rattle.part_driver.specs.declared.told.Told.{Told as Spoken}
+use Rattle.part_driver.specs.declared.told.Told.TheVariants.{Nothing, Start, Both}
+use Rattle.part_driver.specs.Lines.{start_line, wait_line, sum_text}
+use Rattle.part_driver.specs.Told.{said_of, told_of, told_start, TellsRightly, IsFront, IsSpeaking, IsNextFront, IsSaidSoFar}
+use Rattle.dura_model.specs.World.{was_started}
+use Rattle.dura_model.specs.Requests.{Request, answer_to, line_of, Lines}
 use Rattle.std.specs.Fmt.{digits}
-use Rattle.engine_run.specs.Requests.Lines.{none, one_more}
-use Rattle.engine_run.specs.Meaning.{request_of, requests_of, world_of, answer_of, start_answer, wait_answer, label_of}
+use Rattle.dura_model.specs.Requests.Lines.{none, one_more}
+use Rattle.part_state.specs.Meaning.{request_of, requests_of, world_of, answer_of, start_answer, wait_answer, label_of}
 use Rattle.engine_run.specs.Headline.{Told, IsAsked}
-use Rattle.engine_run.proofs.Meant.{o, i, u, t1, t2, a1, a2}
-use Rattle.engine_run.proofs.Worlds.{reads_first_answer, reads_second_answer}
+use Rattle.part_state.proofs.Meant.{o, i, u, t1, t2, a1, a2}
+use Rattle.part_state.proofs.Worlds.{reads_first_answer, reads_second_answer}
 
 module _ (input : Input) where
   abbrev pub first : Request

@@ -4,34 +4,38 @@ use Rattle.std.proofs.Common.{◌≡◌, inl, inr, ℕ, ◌+◌, ◌<◌, ◌^�
 use Rattle.std.proofs.lemmas.List.Elements.{All-nil}
 use Rattle.std.proofs.lemmas.Bool.{cases_eq}
 use Rattle.commit_log.specs.Segment.{fresh, segment, reading_of}
-use Rattle.engine_run.specs.declared.input.Input.{Input}
-use Rattle.engine_run.specs.declared.state.State.{State}
-use Rattle.engine_run.specs.declared.trail.Entry.{Entry}
-use Rattle.engine_run.specs.State.{fresh_state}
-use Rattle.engine_run.specs.Items.{LogEntry}
-use Rattle.engine_run.specs.Replay.{labels_of, entries_of, Point, Replays, IsNumbered, MayFollow, last_incarnation}
-use Rattle.engine_run.specs.Replay.{IsEntry as IsWhole, IsFew as IsShort}
-use Rattle.engine_run.specs.Commit.{Holds}
-use Rattle.engine_run.specs.Labels.{Appends, frames_of}
-use Rattle.engine_run.specs.Recovery.{header_of, StartsFrom, Follows, next_incarnation}
-use Rattle.engine_run.specs.World.{empty}
-use Rattle.engine_run.specs.Steps.{Label as Step}
-use Rattle.engine_run.specs.Legal.{Legal}
-use Rattle.engine_run.specs.Legal.Legal.{begins}
-use Rattle.engine_run.specs.Log.{Kept, HasEntries, items_of, labels_in}
-use Rattle.engine_run.specs.Partition.{Partition, nothing, placed, shown}
-use Rattle.engine_run.specs.Stands.{Stands}
-use Rattle.engine_run.specs.Meaning.{flows_of, label_of, world_of}
+use Rattle.input_reader.specs.declared.input.Input.{Input}
+use Rattle.part_state.specs.declared.state.State.{State}
+use Rattle.part_driver.specs.declared.trail.Entry.{Entry}
+use Rattle.part_state.specs.State.{fresh_state}
+use Rattle.part_items.specs.Items.{LogEntry}
+use Rattle.part_items.specs.Replay.{labels_of, entries_of, Point, Replays, IsNumbered, MayFollow, last_incarnation}
+use Rattle.part_items.specs.Replay.{IsEntry as IsWhole, IsFew as IsShort}
+use Rattle.part_driver.specs.Commit.{Holds}
+use Rattle.part_driver.specs.Labels.{Appends, frames_of}
+use Rattle.part_log.specs.Log.{header_with}
+use Rattle.part_driver.specs.Recovery.{StartsFrom, Follows, next_incarnation}
+use Rattle.dura_model.specs.World.{empty}
+use Rattle.dura_model.specs.Steps.{Label as Step}
+use Rattle.dura_model.specs.Legal.{Legal}
+use Rattle.dura_model.specs.Legal.Legal.{begins}
+use Rattle.dura_model.specs.Entries.{Kept, items_of, labels_in}
+use Rattle.part_log.specs.Log.{HasEntries}
+use Rattle.dura_model.specs.Partition.{Partition, nothing, placed, shown}
+use Rattle.part_log.specs.Stands.{Stands}
+use Rattle.part_state.specs.Meaning.{flows_of, label_of, world_of}
 use Rattle.engine_run.specs.Headline.{kept_by}
 use Rattle.engine_run.proofs.Appended.{GoesTo, logged, log_more}
-use Rattle.engine_run.proofs.Inverse.{IsGiven}
+use Rattle.part_state.specs.Given.{IsGiven}
 use Rattle.engine_run.proofs.Legally.{all_legal, path_legal, run_of, item_label, items_placed, nothing_shown}
-use Rattle.engine_run.proofs.Meant.{IsRight, right_fresh}
-use Rattle.engine_run.specs.Ids.{id_eq}
-use Rattle.engine_run.specs.Meaning.{the_client, the_instance}
+use Rattle.part_state.specs.Given.{IsRight}
+use Rattle.part_state.proofs.Meant.{right_fresh}
+use Rattle.dura_value.specs.Ids.{id_eq}
+use Rattle.part_state.specs.Meaning.{the_client, the_instance}
 use Rattle.std.proofs.Common.{◌&&◌, ◌==◌}
-use Rattle.engine_run.proofs.Standing.{kept_of, has_entries, items_kept}
-use Rattle.engine_run.proofs.Worlds.{worlds_same}
+use Rattle.part_items.specs.Keeping.{kept_of}
+use Rattle.part_items.proofs.Standing.{has_entries, items_kept}
+use Rattle.dura_model.proofs.Same.{worlds_same}
 
 some_same : {X : Type 0} {x y : X} → Some x ≡ Some y → x ≡ y
 some_same is = cc
@@ -113,7 +117,7 @@ fresh_start input bytes payloads first position incarnation is none first_is zer
       kept = inl (is, refl);
     })
 
-segment_start : (input : Input) → IsGiven input → (bytes : List ℕ) (payloads : List (List ℕ)) (first : State) (position incarnation gate : ℕ) → reading_of bytes ≡ segment (header_of input) payloads gate → Follows input payloads first position incarnation
+segment_start : (input : Input) → IsGiven input → (bytes : List ℕ) (payloads : List (List ℕ)) (first : State) (position incarnation gate : ℕ) → reading_of bytes ≡ segment (header_with input.digest) payloads gate → Follows input payloads first position incarnation
     → Start input bytes payloads first position incarnation
 segment_start input given bytes payloads first position incarnation gate is follows =
     let p = follows.0 in
@@ -180,7 +184,7 @@ module _ (input : Input) (given : IsGiven input) where
 
   -- its entries are in the image, and nothing else
   pub image_entries : (bytes : List ℕ) (payloads : List (List ℕ)) (first end : State) (position incarnation : ℕ) (es : List LogEntry) (entries : List Entry) → GoesTo input payloads first position incarnation es → incarnation < 2 ^ 61 → first.stamp < 2 ^ 63
-      → Appends incarnation position first entries end → Holds (header_of input) (payloads ++ frames_of input entries) bytes → HasEntries input.digest bytes (map (kept_of input) es ++ map (kept_by input) entries)
+      → Appends incarnation position first entries end → Holds (header_with input.digest) (payloads ++ frames_of input entries) bytes → HasEntries input.digest bytes (map (kept_of input) es ++ map (kept_by input) entries)
   image_entries bytes payloads first end position incarnation es entries goes young early path holds =
       let far = log_more input payloads position incarnation es first end entries goes young early path in
       let all : map (kept_of input) (entries_of far.1.log) ≡ map (kept_of input) es ++ map (kept_by input) entries =
@@ -188,7 +192,7 @@ module _ (input : Input) (given : IsGiven input) where
       subst (HasEntries input.digest bytes) all (has_entries input given bytes (payloads ++ frames_of input entries) holds.0 far.0 holds.1 far.1)
 
   pub image_stands : (files : ℕ → List ℕ) (start : List Step) (payloads : List (List ℕ)) (first end : State) (position incarnation : ℕ) (es : List LogEntry) (entries : List Entry) → GoesTo input payloads first position incarnation es → incarnation < 2 ^ 61 → first.stamp < 2 ^ 63
-      → IsRight first → Legal (flows_of input) start (world_of input first) → Appends incarnation position first entries end → Holds (header_of input) (payloads ++ frames_of input entries) (files 16)
+      → IsRight first → Legal (flows_of input) start (world_of input first) → Appends incarnation position first entries end → Holds (header_with input.digest) (payloads ++ frames_of input entries) (files 16)
       → Stands (flows_of input) input.digest files (start ++ labels_in (map (kept_by input) entries))
   image_stands files start payloads first end position incarnation es entries goes young early right legal path holds =
       let far = log_more input payloads position incarnation es first end entries goes young early path in

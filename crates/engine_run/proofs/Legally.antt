@@ -3,28 +3,30 @@ use Rattle.std.proofs.Common.{◌≡◌, ℕ, List, [], ◌∷◌, ◌++◌, map
 use Rattle.std.specs.Prelude.{option_map}
 use Rattle.std.specs.Option.{option_and_then}
 use Rattle.std.proofs.lemmas.List.{append-nil, append_assoc, map-append}
-use Rattle.engine_run.specs.declared.input.Input.{Input}
-use Rattle.engine_run.specs.declared.request_file.Kind.TheVariants as kinds
-use Rattle.engine_run.specs.declared.state.State.{State}
-use Rattle.engine_run.specs.declared.state.Label.{Label}
-use Rattle.engine_run.specs.declared.state.Label.TheVariants.{Take, ToInstance, ToClient, Finish}
-use Rattle.engine_run.specs.declared.trail.Entry.{Entry}
-use Rattle.engine_run.specs.State.{applied}
-use Rattle.engine_run.specs.Replay.{applied_all}
-use Rattle.engine_run.specs.Labels.{Appends}
-use Rattle.engine_run.specs.Labels.Appends.{none, one_more}
-use Rattle.engine_run.specs.World.{World, empty}
-use Rattle.engine_run.specs.Steps.{step}
-use Rattle.engine_run.specs.Steps.{Label as Step}
-use Rattle.engine_run.specs.Legal.{Legal}
-use Rattle.engine_run.specs.Legal.Legal.{goes_on}
-use Rattle.engine_run.specs.Spelling.{label_in}
-use Rattle.engine_run.specs.Partition.{Partition, nothing, accepted, placed, shown}
-use Rattle.engine_run.specs.Meaning.{flows_of, label_of, item_of, world_of}
-use Rattle.engine_run.proofs.Inverse.{IsGiven, within}
-use Rattle.engine_run.proofs.Meant.{IsRight, does, right_after}
-use Rattle.engine_run.proofs.Shows.{item_shown}
-use Rattle.engine_run.proofs.Worlds.{worlds_same}
+use Rattle.input_reader.specs.declared.input.Input.{Input}
+use Rattle.input_reader.specs.declared.request_file.Kind.TheVariants as kinds
+use Rattle.part_state.specs.declared.state.State.{State}
+use Rattle.part_state.specs.declared.state.Label.{Label}
+use Rattle.part_state.specs.declared.state.Label.TheVariants.{Take, ToInstance, ToClient, Finish}
+use Rattle.part_driver.specs.declared.trail.Entry.{Entry}
+use Rattle.part_state.specs.State.{applied}
+use Rattle.part_items.specs.Replay.{applied_all}
+use Rattle.part_driver.specs.Labels.{Appends}
+use Rattle.part_driver.specs.Labels.Appends.{none, one_more}
+use Rattle.dura_model.specs.World.{World, empty}
+use Rattle.dura_model.specs.Steps.{step}
+use Rattle.dura_model.specs.Steps.{Label as Step}
+use Rattle.dura_model.specs.Legal.{Legal}
+use Rattle.dura_model.specs.Legal.Legal.{goes_on}
+use Rattle.dura_model.specs.Entries.{label_in}
+use Rattle.dura_model.specs.Partition.{Partition, nothing, accepted, placed, shown}
+use Rattle.part_state.specs.Meaning.{flows_of, label_of, item_of, world_of}
+use Rattle.part_state.specs.Given.{IsGiven}
+use Rattle.part_state.proofs.Inverse.{within}
+use Rattle.part_state.specs.Given.{IsRight}
+use Rattle.part_state.proofs.Meant.{does, right_after}
+use Rattle.dura_model.proofs.Shows.{item_shown}
+use Rattle.dura_model.proofs.Same.{worlds_same}
 
 same : {X : Type 0} {x y : X} → Some x ≡ Some y → x ≡ y
 same is = cc

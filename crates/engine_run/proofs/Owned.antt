@@ -6,36 +6,42 @@ use Rattle.std.proofs.lemmas.List.{append_assoc, length-map, map-append}
 use Rattle.std.proofs.lemmas.Grind.{flat_map-append}
 use Rattle.std.proofs.lemmas.List.Elements.{All-nil, All-cons, All-head, All-tail}
 use Rattle.commit_log.specs.Segment.{segment, reading_of}
-use Rattle.engine_run.specs.declared.input.Input.{Input}
-use Rattle.engine_run.specs.declared.request_file.Kind.TheVariants as kinds
-use Rattle.engine_run.specs.declared.state.State.{State}
-use Rattle.engine_run.specs.declared.state.Label.{Label}
-use Rattle.engine_run.specs.declared.state.Label.TheVariants.{Take, ToInstance, ToClient, Finish}
-use Rattle.engine_run.specs.State.{applied, fresh_state}
+use Rattle.input_reader.specs.declared.input.Input.{Input}
+use Rattle.input_reader.specs.declared.request_file.Kind.TheVariants as kinds
+use Rattle.part_state.specs.declared.state.State.{State}
+use Rattle.part_state.specs.declared.state.Label.{Label}
+use Rattle.part_state.specs.declared.state.Label.TheVariants.{Take, ToInstance, ToClient, Finish}
+use Rattle.part_state.specs.State.{applied, fresh_state}
 use Rattle.engine_run.specs.Headline.{IsOfFile, IsOwnLog, job_of}
-use Rattle.engine_run.specs.Items.{LogEntry, frame_bytes}
-use Rattle.engine_run.specs.Legal.{Legal}
-use Rattle.engine_run.specs.Legal.Legal.{begins, goes_on}
-use Rattle.engine_run.specs.Log.{Kept, IsFew, IsEntry, IsNumbered, IsLog, HasEntries, frame_spelled, items_of, labels_in}
-use Rattle.engine_run.specs.Meaning.{flows_of, label_of, item_of, requests_of, world_of, IsOwn}
-use Rattle.engine_run.specs.Recovery.{header_of, Readable}
-use Rattle.engine_run.specs.Replay.{applied_all, labels_of, entries_of, Point, Replays, IsTimely, MayFollow, last_incarnation}
-use Rattle.engine_run.specs.Replay.{IsFew as IsShort, IsEntry as IsWhole, IsNumbered as IsPlaced}
-use Rattle.engine_run.specs.Requests.{Request}
-use Rattle.engine_run.specs.Spelling.{Item, took, ran, ended, label_in, Fits}
-use Rattle.engine_run.specs.Steps.{take, deliver, finish, step, IsWithin}
-use Rattle.engine_run.specs.Steps.{Label as Step}
-use Rattle.engine_run.specs.World.{World, empty}
-use Rattle.engine_run.specs.Ids.{client}
+use Rattle.part_items.specs.Items.{LogEntry, frame_bytes}
+use Rattle.dura_model.specs.Legal.{Legal}
+use Rattle.dura_model.specs.Legal.Legal.{begins, goes_on}
+use Rattle.dura_model.specs.Entries.{Kept, items_of, labels_in}
+use Rattle.part_log.specs.Log.{IsFew, IsEntry, IsNumbered, IsLog, HasEntries, frame_spelled}
+use Rattle.part_state.specs.Meaning.{flows_of, label_of, item_of, requests_of, world_of, IsOwn}
+use Rattle.part_log.specs.Log.{header_with}
+use Rattle.part_driver.specs.Recovery.{Readable}
+use Rattle.part_items.specs.Replay.{applied_all, labels_of, entries_of, Point, Replays, IsTimely, MayFollow, last_incarnation}
+use Rattle.part_items.specs.Replay.{IsFew as IsShort, IsEntry as IsWhole, IsNumbered as IsPlaced}
+use Rattle.dura_model.specs.Requests.{Request}
+use Rattle.dura_model.specs.Entries.{Item, took, ran, ended, label_in}
+use Rattle.part_log.specs.Spelling.{Fits}
+use Rattle.dura_model.specs.Steps.{take, deliver, finish, step, IsWithin}
+use Rattle.dura_model.specs.Steps.{Label as Step}
+use Rattle.dura_model.specs.World.{World, empty}
+use Rattle.dura_value.specs.Ids.{client}
 use Rattle.engine_run.proofs.Appended.{applied_more}
 use Rattle.engine_run.proofs.Heard.{first, second}
 use Rattle.engine_run.proofs.Headlines.{labels_of_log}
 use Rattle.engine_run.proofs.Held.{fresh_world, own_run}
-use Rattle.engine_run.proofs.Inverse.{IsGiven, ours}
+use Rattle.part_state.specs.Given.{IsGiven}
+use Rattle.part_state.proofs.Inverse.{ours}
 use Rattle.engine_run.proofs.Legally.{mapped}
-use Rattle.engine_run.proofs.Meant.{IsRight, does, right_after, right_fresh}
+use Rattle.part_state.specs.Given.{IsRight}
+use Rattle.part_state.proofs.Meant.{does, right_after, right_fresh}
 use Rattle.engine_run.proofs.Restful.{one_of_two}
-use Rattle.engine_run.proofs.Standing.{kept_of, frames_kept, all_kept, has_entries}
+use Rattle.part_items.specs.Keeping.{kept_of}
+use Rattle.part_items.proofs.Standing.{frames_kept, all_kept, has_entries}
 
 all_left : {X : Type 0} (P : X → Type 0) (xs ys : List X) → All P (xs ++ ys) → All P xs
 all_left P [] ys all = All-nil P
@@ -231,7 +237,7 @@ module _ (input : Input) (given : IsGiven input) where
         position = refl;
         incarnation = refl;
       } in
-      inr (payloads, log.gate, point, log.reads ∙ ap (λ (l : List (List ℕ)). segment (header_of input) l log.gate) spelled, replays)
+      inr (payloads, log.gate, point, log.reads ∙ ap (λ (l : List (List ℕ)). segment (header_with input.digest) l log.gate) spelled, replays)
 
   pub own_readable : (bytes : List ℕ) → IsOwnLog (job_of input) bytes → Readable input bytes
   own_readable bytes own = either own.kept
@@ -253,7 +259,7 @@ module _ (input : Input) (given : IsGiven input) where
   labels_of_file [] = All-nil (IsOfFile (requests_of input))
   labels_of_file (label ∷ labels) = All-cons (IsOfFile (requests_of input)) (label_of input label) (map (label_of input) labels) (label_of_file label) (labels_of_file labels)
 
-  replayed_own : (bytes : List ℕ) (payloads : List (List ℕ)) (gate : ℕ) (p : Point) → reading_of bytes ≡ segment (header_of input) payloads gate → Replays input payloads p → IsOwnLog (job_of input) bytes
+  replayed_own : (bytes : List ℕ) (payloads : List (List ℕ)) (gate : ℕ) (p : Point) → reading_of bytes ≡ segment (header_with input.digest) payloads gate → Replays input payloads p → IsOwnLog (job_of input) bytes
   replayed_own bytes payloads gate p reads replays =
       let labels = labels_of_log input given (entries_of replays.log) in record {
         entries = map (kept_of input) (entries_of replays.log);

@@ -1,15 +1,15 @@
 -- A run's input is the only one that its files have, and what it refuses.
 use Rattle.std.proofs.Common.{◌≡◌, ℕ, List, Some, Err, inl, inr, sym, ap, ◌∙◌, subst}
-use Rattle.engine_run.specs.declared.flow_file.Flow.{Flow}
-use Rattle.engine_run.specs.declared.request_file.Requests.{Requests}
-use Rattle.engine_run.specs.declared.input.Input.{Input}
-use Rattle.engine_run.specs.RequestFile.{requests_in}
-use Rattle.engine_run.specs.Input.{HasForm}
-use Rattle.engine_run.specs.declared.ended.Cause.{Cause}
-use Rattle.engine_run.specs.declared.ended.Cause.TheVariants.{Done, SayFault, Damaged, SiteFault, Memory}
-use Rattle.engine_run.specs.Recovery.{Readable, IsOpening, Recovers, StartsFrom}
-use Rattle.engine_run.specs.declared.state.State.{State}
-use Rattle.engine_run.specs.Driving.{IsDriving}
+use Rattle.input_reader.specs.declared.flow_file.Flow.{Flow}
+use Rattle.input_reader.specs.declared.request_file.Requests.{Requests}
+use Rattle.input_reader.specs.declared.input.Input.{Input}
+use Rattle.input_reader.specs.RequestFile.{requests_in}
+use Rattle.input_reader.specs.Input.{HasForm}
+use Rattle.input_reader.specs.declared.cause.Cause.{Cause}
+use Rattle.input_reader.specs.declared.cause.Cause.TheVariants.{Done, SayFault, Damaged, SiteFault, Memory}
+use Rattle.part_driver.specs.Recovery.{Readable, IsOpening, Recovers, StartsFrom}
+use Rattle.part_state.specs.declared.state.State.{State}
+use Rattle.part_driver.specs.Driving.{IsDriving}
 use Rattle.engine_run.specs.Causes.{IsForeign, Answers}
 use Rattle.engine_run.proofs.Headlines.{given_of}
 use Rattle.engine_run.proofs.Owned.{own_readable, readable_own}

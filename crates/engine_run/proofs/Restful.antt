@@ -1,23 +1,23 @@
 -- Where the state is quiet, the world is.
 use Rattle.std.proofs.Common.{◌≡◌, ◌⊎◌, ◌&&◌, inl, inr, ℕ, Bool, true, false, cond, List, [], ◌∷◌, ◌++◌, Option, None, refl, ap, ◌∙◌}
-use Rattle.engine_run.specs.declared.input.Input.{Input}
-use Rattle.engine_run.specs.declared.request_file.Kind.TheVariants as kinds
-use Rattle.engine_run.specs.declared.state.StartStage.{StartStage}
-use Rattle.engine_run.specs.declared.state.StartStage.TheVariants as starts
-use Rattle.engine_run.specs.declared.state.WaitStage.{WaitStage}
-use Rattle.engine_run.specs.declared.state.WaitStage.TheVariants as waits
-use Rattle.engine_run.specs.declared.state.State.{State}
-use Rattle.engine_run.specs.State.{IsQuiet, HasAnswer, is_there, is_pending}
-use Rattle.engine_run.specs.Ids.{id_eq}
-use Rattle.engine_run.specs.World.{Orchestration, Message, pending_in}
-use Rattle.engine_run.specs.Steps.{delivered}
-use Rattle.engine_run.specs.Requests.{Request, messages_of}
-use Rattle.engine_run.specs.Legal.{Quiet, is_taken, may_ask, is_due}
+use Rattle.input_reader.specs.declared.input.Input.{Input}
+use Rattle.input_reader.specs.declared.request_file.Kind.TheVariants as kinds
+use Rattle.part_state.specs.declared.state.StartStage.{StartStage}
+use Rattle.part_state.specs.declared.state.StartStage.TheVariants as starts
+use Rattle.part_state.specs.declared.state.WaitStage.{WaitStage}
+use Rattle.part_state.specs.declared.state.WaitStage.TheVariants as waits
+use Rattle.part_state.specs.declared.state.State.{State}
+use Rattle.part_state.specs.State.{IsQuiet, HasAnswer, is_there, is_pending}
+use Rattle.dura_value.specs.Ids.{id_eq}
+use Rattle.dura_model.specs.World.{Orchestration, Message, pending_in}
+use Rattle.dura_model.specs.Steps.{delivered}
+use Rattle.dura_model.specs.Requests.{Request, messages_of}
+use Rattle.dura_model.specs.Legal.{Quiet, is_taken, may_ask, is_due}
 use Rattle.std.proofs.Common.{not, is_some}
-use Rattle.engine_run.specs.Meaning.{request_of, flows_of, the_client, the_instance, requests_of, world_of, instance_of, inbox_of, outbox_of, start_taken, wait_taken}
+use Rattle.part_state.specs.Meaning.{request_of, flows_of, the_client, the_instance, requests_of, world_of, instance_of, inbox_of, outbox_of, start_taken, wait_taken}
 use Rattle.engine_run.proofs.Heard.{first, second}
-use Rattle.engine_run.proofs.Meant.{o, i, u, t1, t2, a1, a2, made}
-use Rattle.engine_run.proofs.Worlds.{reads_first, reads_second}
+use Rattle.part_state.proofs.Meant.{o, i, u, t1, t2, a1, a2, made}
+use Rattle.part_state.proofs.Worlds.{reads_first, reads_second}
 
 module _ (input : Input) where
   -- where a wait is answered, no message is under way

@@ -8,27 +8,29 @@ use Rattle.site_model.specs.Moments.{Always, OnlyFile}
 use Rattle.site_model.specs.Moments.Always.{begins}
 use Rattle.site_model.proofs.Paths.{together, weaker, last}
 use Rattle.commit_log.specs.Segment.{fresh, reading_of}
-use Rattle.engine_run.specs.declared.input.Input.{Input}
-use Rattle.engine_run.specs.declared.trail.Entry.{Entry}
-use Rattle.engine_run.specs.declared.told.Told.TheVariants.{Nothing}
-use Rattle.engine_run.specs.declared.state.State.{State}
-use Rattle.engine_run.specs.Commit.{Holds as HasFrames}
+use Rattle.input_reader.specs.declared.input.Input.{Input}
+use Rattle.part_driver.specs.declared.trail.Entry.{Entry}
+use Rattle.part_driver.specs.declared.told.Told.TheVariants.{Nothing}
+use Rattle.part_state.specs.declared.state.State.{State}
+use Rattle.part_driver.specs.Commit.{Holds as HasFrames}
 use Rattle.engine_run.specs.Headline.{job_of, kept_by, Holds, Opened, Headline, Unopened}
-use Rattle.engine_run.specs.Input.{HasForm}
-use Rattle.engine_run.specs.Labels.{AsksRightly, AtMoment, StandsAt, OthersSame}
-use Rattle.engine_run.specs.Labels.Appends.{none}
-use Rattle.engine_run.specs.Log.{Kept, labels_in, HasEntries}
-use Rattle.engine_run.specs.Meaning.{flows_of, world_of}
-use Rattle.engine_run.specs.Recovery.{header_of, LeavesRead, LeavesMade, LeavesOpening, StartsFrom}
-use Rattle.engine_run.specs.Stands.{Stands}
-use Rattle.engine_run.specs.State.{fresh_state}
-use Rattle.engine_run.specs.Steps.{Label}
-use Rattle.engine_run.specs.Trail.{settled_at, Rises}
+use Rattle.input_reader.specs.Input.{HasForm}
+use Rattle.part_driver.specs.Labels.{AsksRightly, AtMoment, StandsAt, OthersSame}
+use Rattle.part_driver.specs.Labels.Appends.{none}
+use Rattle.dura_model.specs.Entries.{Kept, labels_in}
+use Rattle.part_log.specs.Log.{HasEntries}
+use Rattle.part_state.specs.Meaning.{flows_of, world_of}
+use Rattle.part_log.specs.Log.{header_with}
+use Rattle.part_driver.specs.Recovery.{LeavesRead, LeavesMade, LeavesOpening, StartsFrom}
+use Rattle.part_log.specs.Stands.{Stands}
+use Rattle.part_state.specs.State.{fresh_state}
+use Rattle.dura_model.specs.Steps.{Label}
+use Rattle.part_driver.specs.Trail.{settled_at, Rises}
 use Rattle.engine_run.proofs.Headlines.{given_of, own_log, some_run, legal_on, settled_image, image_on, kept_on, holds_on, origin_at, first_legal}
 use Rattle.engine_run.proofs.Heard.{heard_all}
 use Rattle.engine_run.proofs.Held.{Start, start_of, log_stands, no_frames, no_point}
-use Rattle.engine_run.proofs.Moments.{weaker_between, settled_none, both_claims}
-use Rattle.engine_run.proofs.Single.{entries_once}
+use Rattle.part_driver.proofs.Moments.{weaker_between, settled_none, both_claims}
+use Rattle.part_log.proofs.Single.{entries_once}
 
 abbrev pub files_of : List Step → ℕ → List ℕ
 files_of steps file = content_of file steps
@@ -60,7 +62,7 @@ module _ (old : List Step) (input : Input) (form : HasForm (files_of old) input)
     zero_early = omega arith
 
     module _ (run : List Label) (stands : Stands (flows_of input) input.digest (files_of old) run) where
-      fresh_image : (image : ℕ → List ℕ) → (reading_of (image 16) ≡ fresh) ⊎ HasFrames (header_of input) [] (image 16) → Stands (flows_of input) input.digest image (run ++ labels_in [])
+      fresh_image : (image : ℕ → List ℕ) → (reading_of (image 16) ≡ fresh) ⊎ HasFrames (header_with input.digest) [] (image 16) → Stands (flows_of input) input.digest image (run ++ labels_in [])
       fresh_image image (inl reads) =
           subst (Stands (flows_of input) input.digest image) (sym (append-nil run))
           (log_stands input (given_of (files_of old) input form) image run [] no_point (no_frames input) (inl (reads, refl)) (first_legal input (given_of (files_of old) input form) (files_of old) [] fresh_state 0 0 fresh_start zero_low zero_early run stands))
@@ -69,12 +71,12 @@ module _ (old : List Step) (input : Input) (form : HasForm (files_of old) input)
       nothing_kept : [] ≡ own_log input (given_of (files_of old) input form) (files_of old) [] fresh_state 0 0 fresh_start zero_low zero_early
       nothing_kept = entries_once input.digest (files_of old 16) [] (own_log input (given_of (files_of old) input form) (files_of old) [] fresh_state 0 0 fresh_start zero_low zero_early) (inl (is, refl)) fresh_start.kept
 
-      fresh_kept : (image : ℕ → List ℕ) → (reading_of (image 16) ≡ fresh) ⊎ HasFrames (header_of input) [] (image 16)
+      fresh_kept : (image : ℕ → List ℕ) → (reading_of (image 16) ≡ fresh) ⊎ HasFrames (header_with input.digest) [] (image 16)
           → HasEntries input.digest (image 16) (own_log input (given_of (files_of old) input form) (files_of old) [] fresh_state 0 0 fresh_start zero_low zero_early ++ [])
       fresh_kept image (inl reads) = subst (λ (l : List Kept). HasEntries input.digest (image 16) (l ++ [])) nothing_kept (inl (reads, refl))
       fresh_kept image (inr holds) = kept_on input (given_of (files_of old) input form) (files_of old) [] fresh_state 0 0 fresh_start zero_low zero_early run stands image [] fresh_state none holds
 
-      formatting_holds : (steps : List Step) → tape steps ≡ tape old → ((image : List ℕ) → Leaves (changes_of 16 steps) image → (reading_of image ≡ fresh) ⊎ HasFrames (header_of input) [] image)
+      formatting_holds : (steps : List Step) → tape steps ≡ tape old → ((image : List ℕ) → Leaves (changes_of 16 steps) image → (reading_of image ≡ fresh) ⊎ HasFrames (header_with input.digest) [] image)
           → Holds (job_of input) run (own_log input (given_of (files_of old) input form) (files_of old) [] fresh_state 0 0 fresh_start zero_low zero_early) old [] steps
       formatting_holds steps silent images = record {
         world = world_of input fresh_state;
@@ -87,7 +89,7 @@ module _ (old : List Step) (input : Input) (form : HasForm (files_of old) input)
             (fresh_kept image (images (image 16) (leaves.each 16)));
       }
 
-    pub formatting : (steps : List Step) (trail : List Entry) → settled_at (length steps) trail ≡ [] → tape steps ≡ tape old → ((image : List ℕ) → Leaves (changes_of 16 steps) image → (reading_of image ≡ fresh) ⊎ HasFrames (header_of input) [] image) → Opened (files_of old) old trail steps
+    pub formatting : (steps : List Step) (trail : List Entry) → settled_at (length steps) trail ≡ [] → tape steps ≡ tape old → ((image : List ℕ) → Leaves (changes_of 16 steps) image → (reading_of image ≡ fresh) ⊎ HasFrames (header_with input.digest) [] image) → Opened (files_of old) old trail steps
     formatting steps trail nothing silent images = record {
       input = input;
       form = form;

@@ -1,22 +1,23 @@
 -- What is known of the state that a run starts from.
 use Rattle.std.proofs.Common.{◌≡◌, ℕ, ◌≤◌, Bool, true, false, cond, not, List, [], ◌∷◌, map, Option, Some, None, refl, sym, ap, subst, ◌∙◌, arith}
 use Rattle.std.specs.Prelude.{max, nat_lt}
-use Rattle.engine_run.specs.declared.input.Input.{Input}
-use Rattle.engine_run.specs.declared.request_file.Kind.{Kind}
-use Rattle.engine_run.specs.declared.request_file.Kind.TheVariants as kinds
-use Rattle.engine_run.specs.declared.state.StartStage.{StartStage}
-use Rattle.engine_run.specs.declared.state.StartStage.TheVariants as starts
-use Rattle.engine_run.specs.declared.state.WaitStage.{WaitStage}
-use Rattle.engine_run.specs.declared.state.WaitStage.TheVariants as waits
-use Rattle.engine_run.specs.declared.state.State.{State}
-use Rattle.engine_run.specs.declared.state.Label.{Label}
-use Rattle.engine_run.specs.declared.state.Label.TheVariants.{Take, ToInstance, ToClient, Finish}
-use Rattle.engine_run.specs.State.{applied, stamp_of, fresh_state, took_start, took_wait, began, asked, arrived, answered, told_wait, ended, is_there, is_pending, inbox, outbox}
-use Rattle.engine_run.specs.Replay.{applied_all}
-use Rattle.engine_run.specs.Meaning.{label_of}
+use Rattle.input_reader.specs.declared.input.Input.{Input}
+use Rattle.input_reader.specs.declared.request_file.Kind.{Kind}
+use Rattle.input_reader.specs.declared.request_file.Kind.TheVariants as kinds
+use Rattle.part_state.specs.declared.state.StartStage.{StartStage}
+use Rattle.part_state.specs.declared.state.StartStage.TheVariants as starts
+use Rattle.part_state.specs.declared.state.WaitStage.{WaitStage}
+use Rattle.part_state.specs.declared.state.WaitStage.TheVariants as waits
+use Rattle.part_state.specs.declared.state.State.{State}
+use Rattle.part_state.specs.declared.state.Label.{Label}
+use Rattle.part_state.specs.declared.state.Label.TheVariants.{Take, ToInstance, ToClient, Finish}
+use Rattle.part_state.specs.State.{applied, stamp_of, fresh_state, took_start, took_wait, began, asked, arrived, answered, told_wait, ended, is_there, is_pending, inbox, outbox}
+use Rattle.part_items.specs.Replay.{applied_all}
+use Rattle.part_state.specs.Meaning.{label_of}
 use Rattle.engine_run.specs.Headline.{moment_of, greatest}
 use Rattle.engine_run.proofs.Legally.{first_one}
-use Rattle.engine_run.proofs.Meant.{IsRight, right_after}
+use Rattle.part_state.specs.Given.{IsRight}
+use Rattle.part_state.proofs.Meant.{right_after}
 
 some_same : {X : Type 0} {x y : X} → Some x ≡ Some y → x ≡ y
 some_same is = cc

@@ -1,11 +1,11 @@
 -- Why a run ends, by what its files read.
 use Rattle.std.specs.Prelude.{◌≡◌, ℕ, List, Some, None}
-use Rattle.engine_run.specs.declared.ended.Cause.{Cause}
-use Rattle.engine_run.specs.declared.ended.Cause.TheVariants.{Done, Usage, BadFlows, BadRequests, BadPlan, TooLong, SiteFault, SayFault, Damaged, Memory}
-use Rattle.engine_run.specs.declared.input.Input.{Input}
-use Rattle.engine_run.specs.Ended.{refusal_of}
+use Rattle.input_reader.specs.declared.cause.Cause.{Cause}
+use Rattle.input_reader.specs.declared.cause.Cause.TheVariants.{Done, Usage, BadFlows, BadRequests, BadPlan, TooLong, SiteFault, SayFault, Damaged, Memory}
+use Rattle.input_reader.specs.declared.input.Input.{Input}
+use Rattle.input_reader.specs.Refusal.{refusal_of}
 use Rattle.engine_run.specs.Headline.{IsOwnLog, job_of}
-use Rattle.engine_run.specs.Input.{HasForm}
+use Rattle.input_reader.specs.Input.{HasForm}
 
 -- the log is one that a run of this input could have left
 abbrev pub IsOwn : (ℕ → List ℕ) → Type 0

@@ -2,23 +2,24 @@
 use Rattle.std.specs.Prelude.{◌≡◌, ◌⊎◌, ℕ, ◌≤◌, max, List, [], ◌∷◌, ◌++◌, length, map, Some, ◌<◌, ◌^◌, ◌-◌}
 use Rattle.std.specs.List.{All}
 use Rattle.site_model.specs.History.{Step, changes_of, tape, IsImage}
-use Rattle.engine_run.specs.declared.input.Input.{Input}
-use Rattle.engine_run.specs.declared.trail.Entry.{Entry}
-use Rattle.engine_run.specs.Commit.{WroteGate}
-use Rattle.engine_run.specs.Dependencies.{identity_of, Founded}
-use Rattle.engine_run.specs.Ids.{Id, client}
-use Rattle.engine_run.specs.Input.{HasForm}
-use Rattle.engine_run.specs.Labels.{OthersSame}
-use Rattle.engine_run.specs.Language.{Flows}
-use Rattle.engine_run.specs.Legal.{Legal, Quiet, finishes, Overlap}
-use Rattle.engine_run.specs.Log.{Kept, HasEntries, labels_in}
-use Rattle.engine_run.specs.Meaning.{flows_of, item_of, requests_of}
-use Rattle.engine_run.specs.Requests.{Request, Lines, answer_to, line_of, messages_of}
-use Rattle.engine_run.specs.Stands.{Stands}
-use Rattle.engine_run.specs.Steps.{Label, take, deliver}
-use Rattle.engine_run.specs.Told.{IsFront, IsSpeaking}
-use Rattle.engine_run.specs.Trail.{settled_at}
-use Rattle.engine_run.specs.World.{World, Answer}
+use Rattle.input_reader.specs.declared.input.Input.{Input}
+use Rattle.part_driver.specs.declared.trail.Entry.{Entry}
+use Rattle.part_driver.specs.Commit.{WroteGate}
+use Rattle.dura_model.specs.Dependencies.{identity_of, Founded}
+use Rattle.dura_value.specs.Ids.{Id, client}
+use Rattle.input_reader.specs.Input.{HasForm}
+use Rattle.part_driver.specs.Labels.{OthersSame}
+use Rattle.dura_model.specs.Language.{Flows}
+use Rattle.dura_model.specs.Legal.{Legal, Quiet, finishes, Overlap}
+use Rattle.dura_model.specs.Entries.{Kept, labels_in}
+use Rattle.part_log.specs.Log.{HasEntries}
+use Rattle.part_state.specs.Meaning.{flows_of, item_of, requests_of}
+use Rattle.dura_model.specs.Requests.{Request, Lines, answer_to, line_of, messages_of}
+use Rattle.part_log.specs.Stands.{Stands}
+use Rattle.dura_model.specs.Steps.{Label, take, deliver}
+use Rattle.part_driver.specs.Told.{IsFront, IsSpeaking}
+use Rattle.part_driver.specs.Trail.{settled_at}
+use Rattle.dura_model.specs.World.{World, Answer}
 
 -- what the input files ask for: flows, the digest of their file, and requests in their order
 pub record Job : Type 0 where

@@ -1,15 +1,15 @@
 -- What a run promises.
 use Rattle.std.specs.Prelude.{◌≡◌, ◌⊎◌, ℕ, List, ◌∷◌, ◌++◌}
 use Rattle.site_model.specs.History.{Step, on, synced}
-use Rattle.engine_run.specs.declared.ended.Cause.{Cause}
-use Rattle.engine_run.specs.declared.ended.Cause.TheVariants.{Done, SiteFault, SayFault, Damaged, Memory}
-use Rattle.engine_run.specs.declared.input.Input.{Input}
-use Rattle.engine_run.specs.declared.state.Found.{Found}
-use Rattle.engine_run.specs.declared.state.Found.TheVariants.{Ended}
+use Rattle.input_reader.specs.declared.cause.Cause.{Cause}
+use Rattle.input_reader.specs.declared.cause.Cause.TheVariants.{Done, SiteFault, SayFault, Damaged, Memory}
+use Rattle.input_reader.specs.declared.input.Input.{Input}
+use Rattle.part_state.specs.declared.state.Found.{Found}
+use Rattle.part_state.specs.declared.state.Found.TheVariants.{Ended}
 use Rattle.commit_log.specs.Segment.{fresh, reading_of}
-use Rattle.engine_run.specs.declared.told.Told.TheVariants.{Both}
-use Rattle.engine_run.specs.Input.{HasForm}
-use Rattle.engine_run.specs.Told.{said_of, IsSaidFront}
+use Rattle.part_driver.specs.declared.told.Told.TheVariants.{Both}
+use Rattle.input_reader.specs.Input.{HasForm}
+use Rattle.part_driver.specs.Told.{said_of, IsSaidFront}
 
 -- Both answers stand behind what stood on the tape. Where the log was fresh, the wait's is the result.
 abbrev pub SaysAll : (ℕ → List ℕ) → List ℕ → List ℕ → Type 0

@@ -3,7 +3,7 @@
 ghost use Rattle.std.specs.Prelude.{◌≡◌, ◌↔◌, IsTrue};
 ghost use Rattle.engine_run.specs.Words.{run_words};
 
-use crate::text::Text;
+use dura_value::Text;
 
 fn is_word(text: &Text, word: &str) -> bool
     ensures { IsTrue result ↔ (text.now ≡ word.now) }

@@ -1,5 +1,5 @@
 // The words that the program was called with.
-use engine_run::{Text, TextError};
+use dura_value::{Text, TextError};
 use std::alloc::Global;
 use std::env;
 use std::rt::Env;

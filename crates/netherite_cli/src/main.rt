@@ -13,7 +13,9 @@ mod file_site;
 mod wall_clock;
 
 use call::{Call, CallError};
-use engine_run::{Cause, Table, run};
+use activity_table::Table;
+use engine_run::run;
+use input_reader::Cause;
 use file_site::FileSite;
 use std::process::ExitCode;
 use wall_clock::WallClock;

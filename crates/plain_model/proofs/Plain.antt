@@ -1,17 +1,17 @@
 -- What the plain program's machine does.
 use Rattle.std.proofs.Common.{◌≡◌, ℕ, suc, List, [], ◌∷◌, ◌++◌, refl, sym, ap, ◌∙◌}
 use Rattle.std.specs.Prelude.{Result, Ok, Err, IfOk, map, Option, Some, None, is_some, true, false, codes, drop}
-use Rattle.engine_run.specs.declared.data.Scalar.{Scalar}
-use Rattle.engine_run.specs.declared.data.Scalar.TheVariants as scalars
-use Rattle.engine_run.specs.declared.data.Value.{Value}
-use Rattle.engine_run.specs.declared.data.Value.TheVariants as values
+use Rattle.dura_value.specs.declared.data.Scalar.{Scalar}
+use Rattle.dura_value.specs.declared.data.Scalar.TheVariants as scalars
+use Rattle.dura_value.specs.declared.data.Value.{Value}
+use Rattle.dura_value.specs.declared.data.Value.TheVariants as values
 use Rattle.plain_model.specs.declared.plain_machine.PlainStatement.{PlainStatement}
 use Rattle.plain_model.specs.declared.plain_machine.PlainTask.{PlainTask}
-use Rattle.engine_run.specs.Language.{Variables, value_of, scalar_of, scalars_of, eval, eval_parts, list, ◌>>=◌}
-use Rattle.engine_run.specs.declared.activities.Outcome.{Outcome}
-use Rattle.engine_run.specs.declared.activities.Outcome.TheVariants as outcomes
-use Rattle.engine_run.specs.Language.{Statement, call, await, return}
-use Rattle.engine_run.specs.Machine.{Machine, Next, stays, goes, go, go_on, Task, next_of, awaited, called, thrown, running, done, failed, outcome_of, task_at}
+use Rattle.dura_model.specs.Language.{Variables, value_of, scalar_of, scalars_of, eval, eval_parts, list, ◌>>=◌}
+use Rattle.activity_table.specs.declared.activities.Outcome.{Outcome}
+use Rattle.activity_table.specs.declared.activities.Outcome.TheVariants as outcomes
+use Rattle.dura_model.specs.Language.{Statement, call, await, return}
+use Rattle.dura_model.specs.Machine.{Machine, Next, stays, goes, go, go_on, Task, next_of, awaited, called, thrown, running, done, failed, outcome_of, task_at}
 use Rattle.plain_model.specs.PlainMachine.{parts_of, is_going, can_go_on, statements_of, task_of, tasks_of}
 
 parts_given : (variables : Variables) (parts : List Scalar) → eval_parts variables (parts_of parts) ≡ Ok (map value_of parts)

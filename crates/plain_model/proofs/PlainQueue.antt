@@ -2,14 +2,14 @@
 use Rattle.std.proofs.Common.{◌≡◌, ℕ, List, [], ◌∷◌, ◌++◌, Some, None, refl, sym, ap, subst, ◌∙◌}
 use Rattle.plain_model.specs.declared.plain_messages.PlainMessage.{PlainMessage}
 use Rattle.plain_model.specs.declared.plain_world.PlainWaiting.{PlainWaiting}
-use Rattle.engine_run.specs.Ids.{Id}
-use Rattle.engine_run.specs.World.{World, Message, at_link}
-use Rattle.engine_run.specs.Partition.{nothing, first_in, link_in}
-use Rattle.engine_run.specs.Language.{Flows}
-use Rattle.engine_run.specs.Steps.{delivered, received}
+use Rattle.dura_value.specs.Ids.{Id}
+use Rattle.dura_model.specs.World.{World, Message, at_link}
+use Rattle.dura_model.specs.Partition.{nothing, first_in, link_in}
+use Rattle.dura_model.specs.Language.{Flows}
+use Rattle.dura_model.specs.Steps.{delivered, received}
 use Rattle.plain_model.specs.Plain.{message_of, messages_of}
 use Rattle.plain_model.specs.PlainWorld.{waiting_of, waiting_in}
-use Rattle.engine_run.proofs.Shows.{Finds, finds, link_shorter, queued_shown}
+use Rattle.dura_model.proofs.Shows.{Finds, finds, link_shorter, queued_shown}
 
 -- ---- a message joins
 

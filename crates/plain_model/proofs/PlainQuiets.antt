@@ -3,20 +3,20 @@ use Rattle.std.proofs.Common.{arith, ◌≤◌, ◌<◌, ◌≡◌, ◌&&◌, �
 use Rattle.std.specs.Prelude.{nat_le, is_some, not}
 use Rattle.std.proofs.lemmas.Bool.Decides.{leb_tells}
 use Rattle.std.proofs.lemmas.List.{append-nil, append_assoc}
-use Rattle.engine_run.specs.declared.activities.Outcome.{Outcome}
+use Rattle.activity_table.specs.declared.activities.Outcome.{Outcome}
 use Rattle.plain_model.specs.declared.plain_world.PlainInstance.{PlainInstance}
 use Rattle.plain_model.specs.declared.plain_world.PlainWorld.{PlainWorld}
-use Rattle.engine_run.specs.Ids.{Id, orchestration, entity, client, id_eq}
-use Rattle.engine_run.specs.Language.{Flows}
-use Rattle.engine_run.specs.Legal.{Quiet, is_due}
-use Rattle.engine_run.specs.Machine.{Task, Progress, running, done, failed, task_at}
-use Rattle.engine_run.specs.Partition.{link_in}
+use Rattle.dura_value.specs.Ids.{Id, orchestration, entity, client, id_eq}
+use Rattle.dura_model.specs.Language.{Flows}
+use Rattle.dura_model.specs.Legal.{Quiet, is_due}
+use Rattle.dura_model.specs.Machine.{Task, Progress, running, done, failed, task_at}
+use Rattle.dura_model.specs.Partition.{link_in}
 use Rattle.plain_model.specs.Plain.{id_of, messages_of}
 use Rattle.plain_model.specs.PlainQuiet.{is_entity, all_to_entities, none_open, resting_at, rests, all_resting, none_due, nothing_left}
 use Rattle.plain_model.specs.PlainWorld.{orchestration_of, instances_in, world_in}
-use Rattle.engine_run.specs.Steps.{delivered, to_instance}
-use Rattle.engine_run.specs.World.{World, Message, Orchestration, at_link, unfinished, open_task, pending_in}
-use Rattle.engine_run.proofs.Ids.{id_same, id_self, and_true, both_true}
+use Rattle.dura_model.specs.Steps.{delivered, to_instance}
+use Rattle.dura_model.specs.World.{World, Message, Orchestration, at_link, unfinished, open_task, pending_in}
+use Rattle.dura_value.proofs.Ids.{id_same, id_self, and_true, both_true}
 
 true_false : {X : Type 0} → true ≡ false → X
 true_false is = absurd (cc is)

@@ -1,7 +1,7 @@
 -- What the plain program's machines stand for.
 use Rattle.std.specs.Prelude.{ℕ, List, [], ◌∷◌, Bool, true, false, map, is_some}
-use Rattle.engine_run.specs.declared.data.Scalar.{Scalar}
-use Rattle.engine_run.specs.declared.data.Value.{Value}
+use Rattle.dura_value.specs.declared.data.Scalar.{Scalar}
+use Rattle.dura_value.specs.declared.data.Value.{Value}
 use Rattle.plain_model.specs.declared.plain_machine.PlainExpression.{PlainExpression}
 use Rattle.plain_model.specs.declared.plain_machine.PlainExpression.TheVariants as expressions
 use Rattle.plain_model.specs.declared.plain_machine.PlainStatement.{PlainStatement}
@@ -15,8 +15,8 @@ use Rattle.plain_model.specs.declared.plain_machine.PlainNext.{PlainNext}
 use Rattle.plain_model.specs.declared.plain_machine.PlainNext.TheVariants as nexts
 use Rattle.plain_model.specs.declared.plain_machine.PlainEvent.{PlainEvent}
 use Rattle.plain_model.specs.declared.plain_machine.PlainEvent.TheVariants as events
-use Rattle.engine_run.specs.Language.{Expression, scalar, variable, list, Expressions, no_parts, part, Statement, call, await, return, Variables}
-use Rattle.engine_run.specs.Machine.{Task, Progress, running, done, failed, Machine, Event, started, finished, Next, stays, goes, outcome_of, task_at}
+use Rattle.dura_model.specs.Language.{Expression, scalar, variable, list, Expressions, no_parts, part, Statement, call, await, return, Variables}
+use Rattle.dura_model.specs.Machine.{Task, Progress, running, done, failed, Machine, Event, started, finished, Next, stays, goes, outcome_of, task_at}
 use Rattle.plain_model.specs.Plain.{id_of}
 
 -- a list of scalars, each of which stands for itself

@@ -2,11 +2,11 @@
 use Rattle.std.specs.Prelude.{List, [], ◌∷◌, Bool, true, false, ◌&&◌, not, ◌++◌, is_some, Option, Some, None}
 use Rattle.plain_model.specs.declared.plain_world.PlainInstance.{PlainInstance}
 use Rattle.plain_model.specs.declared.plain_world.PlainWorld.{PlainWorld}
-use Rattle.engine_run.specs.Ids.{Id, entity}
-use Rattle.engine_run.specs.Machine.{Task, Progress, running}
-use Rattle.engine_run.specs.World.{World, Message, Orchestration}
+use Rattle.dura_value.specs.Ids.{Id, entity}
+use Rattle.dura_model.specs.Machine.{Task, Progress, running}
+use Rattle.dura_model.specs.World.{World, Message, Orchestration}
 use Rattle.plain_model.specs.Plain.{id_of, messages_of}
-use Rattle.engine_run.specs.Legal.{is_due}
+use Rattle.dura_model.specs.Legal.{is_due}
 use Rattle.plain_model.specs.PlainWorld.{instances_in, world_in}
 
 abbrev pub is_entity : Id → Bool

@@ -7,10 +7,10 @@ use Rattle.plain_model.specs.declared.plain_world.PlainInstance.{PlainInstance}
 use Rattle.plain_model.specs.declared.plain_world.PlainTaken.{PlainTaken}
 use Rattle.plain_model.specs.declared.plain_world.PlainGiven.{PlainGiven}
 use Rattle.plain_model.specs.declared.plain_world.PlainWorld.{PlainWorld}
-use Rattle.engine_run.specs.Ids.{Id}
-use Rattle.engine_run.specs.Language.{Flows}
-use Rattle.engine_run.specs.World.{World, Orchestration, Message, Answer, at_id, at_number}
-use Rattle.engine_run.specs.Partition.{link_in}
+use Rattle.dura_value.specs.Ids.{Id}
+use Rattle.dura_model.specs.Language.{Flows}
+use Rattle.dura_model.specs.World.{World, Orchestration, Message, Answer, at_id, at_number}
+use Rattle.dura_model.specs.Partition.{link_in}
 use Rattle.plain_model.specs.Plain.{id_of, message_of, messages_of, answer_of}
 use Rattle.plain_model.specs.PlainMachine.{machine_of, statements_of}
 

@@ -1,8 +1,8 @@
 //! Deliveries, as plain data.
 
 ghost use Rattle.std.specs.Prelude.{◌≡◌, List, [], ◌∷◌, map, option_map, IfOk, Option, Some, None};
-ghost use Rattle.engine_run.specs.Machine.{at_moment};
-ghost use Rattle.engine_run.specs.Steps.{ending, begun, flow_of, arrived, waited, reached, to_instance, answered, to_client, received, delivered};
+ghost use Rattle.dura_model.specs.Machine.{at_moment};
+ghost use Rattle.dura_model.specs.Steps.{ending, begun, flow_of, arrived, waited, reached, to_instance, answered, to_client, received, delivered};
 ghost use Rattle.plain_model.specs.Plain.{id_of, reply_of, body_of, answer_of};
 ghost use Rattle.plain_model.specs.PlainMachine.{statements_of, machine_of};
 ghost use Rattle.plain_model.specs.PlainWorld.{waiting_in, flows_in, world_in, if_moved};
@@ -13,7 +13,7 @@ use crate::plain_machine::{PlainEvent, PlainMachine};
 use crate::plain_messages::{PlainAnswer, PlainBody, PlainId, PlainReply, copy_id};
 use crate::plain_resume::resume;
 use crate::plain_world::{PlainFlow, PlainGiven, PlainInstance, PlainWaiting, PlainWorld, ending};
-use engine_run::Value;
+use dura_value::Value;
 use std::alloc::{AllocError, Global};
 
 fn flow_of<'f>(flows: &'f [PlainFlow], id: &PlainId) -> Option<&'f PlainFlow>

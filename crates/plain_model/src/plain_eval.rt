@@ -1,15 +1,16 @@
 //! What expressions give, and what an event changes in a machine's lists.
 
 ghost use Rattle.std.specs.Prelude.{◌≡◌, ℕ, List, ◌∷◌, map, codes, Some, IfOk};
-ghost use Rattle.engine_run.specs.Language.{eval, value_in, set_in};
-ghost use Rattle.engine_run.specs.Machine.{with_outcome, first_of};
+ghost use Rattle.dura_model.specs.Language.{eval, value_in, set_in};
+ghost use Rattle.dura_model.specs.Machine.{with_outcome, first_of};
 ghost use Rattle.plain_model.specs.PlainMachine.{expression_of, variables_of, task_of, tasks_of};
 
 use crate::plain_copies::{copy_task, copy_tasks, copy_variable, copy_variables};
 use crate::plain_machine::{PlainExpression, PlainTask, PlainVariable};
 use crate::plain_messages::same_text;
 use crate::plain_values::{copy_outcome, copy_scalars, copy_value, text_of, value_of};
-use engine_run::{Outcome, Text, Value};
+use activity_table::Outcome;
+use dura_value::{Text, Value};
 use std::alloc::{AllocError, Global};
 
 /// A variable's value, or the text of the fault.

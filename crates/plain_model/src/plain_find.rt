@@ -1,14 +1,14 @@
 //! What stands in the lists of a world, searched from the front.
 
 ghost use Rattle.std.specs.Prelude.{◌≡◌, List, [], ◌∷◌, map, option_map, IfOk};
-ghost use Rattle.engine_run.specs.Partition.{first_in};
+ghost use Rattle.dura_model.specs.Partition.{first_in};
 ghost use Rattle.plain_model.specs.Plain.{id_of, message_of, messages_of};
 ghost use Rattle.plain_model.specs.PlainMachine.{statements_of};
 ghost use Rattle.plain_model.specs.PlainWorld.{orchestration_of, instances_in, taken_in, flows_in};
 
 use crate::plain_messages::{PlainId, PlainMessage, copy_id, copy_message, same_id, same_text};
 use crate::plain_world::{PlainFlow, PlainInstance, PlainTaken, PlainWaiting};
-use engine_run::Text;
+use dura_value::Text;
 use std::alloc::{AllocError, Global};
 
 /// The instance with this id.

@@ -1,12 +1,13 @@
 //! The machine that runs one instance, as plain data.
 
 ghost use Rattle.std.specs.Prelude.{◌≡◌, true, false, ℕ, List, map, option_map, length, is_some};
-ghost use Rattle.engine_run.specs.Machine.{task_at, outcome_of, next_of, new_machine};
+ghost use Rattle.dura_model.specs.Machine.{task_at, outcome_of, next_of, new_machine};
 ghost use Rattle.plain_model.specs.PlainMachine.{task_of, tasks_of, machine_of, is_going, can_go, can_go_on, statement_of, statements_of};
 ghost use Rattle.plain_model.specs.Plain.{id_of};
 
 use crate::plain_messages::PlainId;
-use engine_run::{Outcome, Scalar, Scalars, Text, Value};
+use activity_table::Outcome;
+use dura_value::{Scalar, Scalars, Text, Value};
 use std::alloc::{AllocError, Global};
 
 /// An expression.

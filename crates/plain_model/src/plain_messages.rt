@@ -2,12 +2,13 @@
 
 ghost use Rattle.std.specs.Prelude.{◌≡◌, ◌&&◌, ◌==◌, ℕ, List, map, IfOk};
 ghost use Rattle.std.specs.Str.{bytes_eq};
-ghost use Rattle.engine_run.specs.Ids.{id_eq};
+ghost use Rattle.dura_value.specs.Ids.{id_eq};
 ghost use Rattle.plain_model.specs.Plain.{id_of, body_of, message_of};
-ghost use Rattle.engine_run.specs.Steps.{has_number, is_instance, is_number, is_request};
+ghost use Rattle.dura_model.specs.Steps.{has_number, is_instance, is_number, is_request};
 
 use crate::plain_values::copy_value;
-use engine_run::{Outcome, Text, Value};
+use activity_table::Outcome;
+use dura_value::{Text, Value};
 use std::alloc::{AllocError, Global};
 
 /// Who sends and receives messages.

@@ -1,10 +1,10 @@
 //! What the entries of a log stand for, as plain data.
 
 ghost use Rattle.std.specs.Prelude.{◌≡◌, List, ◌++◌, map, option_map, IfOk};
-ghost use Rattle.engine_run.specs.Legal.{after};
-ghost use Rattle.engine_run.specs.Log.{items_of, labels_in};
-ghost use Rattle.engine_run.specs.Partition.{nothing, placed, shown};
-ghost use Rattle.engine_run.specs.Spelling.{asked_number, label_in};
+ghost use Rattle.dura_model.specs.Legal.{after};
+ghost use Rattle.dura_model.specs.Entries.{items_of, labels_in};
+ghost use Rattle.dura_model.specs.Partition.{nothing, placed, shown};
+ghost use Rattle.dura_model.specs.Entries.{asked_number, label_in};
 ghost use Rattle.plain_model.specs.Plain.{body_of, label_of, labels_of};
 ghost use Rattle.plain_model.specs.PlainStands.{item_of, plain_items, entries_of};
 ghost use Rattle.plain_model.specs.PlainWorld.{flows_in, world_in};
@@ -15,7 +15,7 @@ use crate::plain_messages::{
 use crate::plain_step::after;
 use crate::plain_values::copy_outcome;
 use crate::plain_world::{PlainFlow, PlainWorld};
-use engine_run::Outcome;
+use activity_table::Outcome;
 use std::alloc::{AllocError, Global};
 
 /// A step of a partition as its log keeps it.

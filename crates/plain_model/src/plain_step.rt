@@ -1,10 +1,10 @@
 //! What a label makes of a world, and where a run comes to.
 
 ghost use Rattle.std.specs.Prelude.{◌≡◌, List, map, option_map, is_some, IfOk, Option, Some, None};
-ghost use Rattle.engine_run.specs.Language.{Flows};
-ghost use Rattle.engine_run.specs.Legal.{Legal, after, after_from};
-ghost use Rattle.engine_run.specs.World.{World, pending, pending_in};
-ghost use Rattle.engine_run.specs.Steps.{Label, taken, ran, step};
+ghost use Rattle.dura_model.specs.Language.{Flows};
+ghost use Rattle.dura_model.specs.Legal.{Legal, after, after_from};
+ghost use Rattle.dura_model.specs.World.{World, pending, pending_in};
+ghost use Rattle.dura_model.specs.Steps.{Label, taken, ran, step};
 ghost use Rattle.plain_model.specs.Plain.{id_of, message_of, label_of, labels_of};
 ghost use Rattle.plain_model.specs.PlainWorld.{orchestration_of, flows_in, world_in, if_moved};
 
@@ -15,7 +15,7 @@ use crate::plain_messages::{PlainId, PlainLabel, PlainMessage, copy_id, copy_mes
 use crate::plain_resume::resume;
 use crate::plain_values::copy_outcome;
 use crate::plain_world::{PlainFlow, PlainInstance, PlainTaken, PlainWorld};
-use engine_run::Outcome;
+use activity_table::Outcome;
 use std::alloc::{AllocError, Global};
 
 /// A request is taken once.

@@ -1,9 +1,10 @@
 //! Copies of values, and texts of few bytes.
 
 ghost use Rattle.std.specs.Prelude.{◌≡◌, ◌≤◌, length, IfOk};
-ghost use Rattle.engine_run.specs.Language.{value_of};
+ghost use Rattle.dura_model.specs.Language.{value_of};
 
-use engine_run::{Outcome, Scalar, Scalars, Text, Value};
+use activity_table::Outcome;
+use dura_value::{Scalar, Scalars, Text, Value};
 use std::alloc::{AllocError, Global};
 
 /// A text of these few bytes.

@@ -1,8 +1,8 @@
 //! The world of the failure-free machine, as plain data.
 
 ghost use Rattle.std.specs.Prelude.{◌≡◌, List, [], ◌∷◌, map, option_map, IfOk, None};
-ghost use Rattle.engine_run.specs.World.{empty};
-ghost use Rattle.engine_run.specs.Steps.{sent, kept, answering, answering_all, ending};
+ghost use Rattle.dura_model.specs.World.{empty};
+ghost use Rattle.dura_model.specs.Steps.{sent, kept, answering, answering_all, ending};
 ghost use Rattle.plain_model.specs.Plain.{id_of, message_of, reply_of, answer_of};
 ghost use Rattle.plain_model.specs.PlainMachine.{machine_of, progress_of};
 ghost use Rattle.plain_model.specs.PlainWorld.{waiting_in, world_in};
@@ -12,7 +12,7 @@ use crate::plain_messages::{
     PlainAnswer, PlainBody, PlainId, PlainMessage, PlainReply, copy_answer, copy_id,
 };
 use crate::plain_values::copy_value;
-use engine_run::Text;
+use dura_value::Text;
 use std::alloc::{AllocError, Global};
 
 /// A flow: its name and its body.

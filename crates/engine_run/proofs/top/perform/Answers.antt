@@ -2,10 +2,11 @@ use Rattle.std.proofs.Common.{◌≡◌, List, Err, length, ◌≤◌, subst, sy
 use Rattle.site_model.specs.History.{Step, content_of, tape}
 use Rattle.site_model.specs.Moments.{Always}
 use Rattle.site_model.proofs.Paths.{no_shorter, last}
-use Rattle.engine_run.specs.Recovery.{header_of, LeavesOpening, StartsFrom, Recovers}
+use Rattle.part_log.specs.Log.{header_with}
+use Rattle.part_driver.specs.Recovery.{LeavesOpening, StartsFrom, Recovers}
 use Rattle.engine_run.proofs.Asking.{homes_path, no_homes}
 use Rattle.engine_run.proofs.Finishing.{run_done}
-use Rattle.engine_run.proofs.Moments.{rises_empty, rises_lower}
+use Rattle.part_driver.proofs.Moments.{rises_empty, rises_lower}
 use Rattle.engine_run.proofs.Refused.{answers_refused, answers_done, answers_driven}
 use Rattle.engine_run.proofs.Running.{only_read, run_opened, run_driven}
 use Rattle.engine_run.proofs.top.perform.Goals as goal
@@ -51,7 +52,7 @@ returns-in-Ok-drive-clause-headline g c tells =
     let r = c.in-Ok-recover.recovered in
     let starts = subst (λ (steps : List Step). StartsFrom c.in-Ok.input (content_of 16 steps) stands.0 r.state r.position r.incarnation) c.read_input.ensures.unchanged stands.2 in
     let same = c.recover.ensures.tape tells ∙ ap tape c.read_input.ensures.unchanged in
-    let during = c.drive.ensures.during tells (header_of c.in-Ok.input) stands.0 stands.1 in
+    let during = c.drive.ensures.during tells (header_with c.in-Ok.input.digest) stands.0 stands.1 in
     let before = run_opened old c.in-Ok.input form mid trail (length new) rises opening in
     run_driven old c.in-Ok.input form stands.0 r.state r.position r.incarnation r.log.file c.in-Ok-recover.ensures.place starts r.low r.sound.low mid new trail same before during (c.drive.ensures.others tells)
 
@@ -79,7 +80,7 @@ returns-clause-headline g c tells =
     let r = c.in-Ok-recover.recovered in
     let starts = subst (λ (steps : List Step). StartsFrom c.in-Ok.input (content_of 16 steps) stands.0 r.state r.position r.incarnation) c.read_input.ensures.unchanged stands.2 in
     let same = c.recover.ensures.tape tells ∙ ap tape c.read_input.ensures.unchanged in
-    let during = c.drive.ensures.during tells (header_of c.in-Ok.input) stands.0 stands.1 in
+    let during = c.drive.ensures.during tells (header_with c.in-Ok.input.digest) stands.0 stands.1 in
     let before = run_opened old c.in-Ok.input form mid trail (length new) rises opening in
     run_driven old c.in-Ok.input form stands.0 r.state r.position r.incarnation r.log.file c.in-Ok-recover.ensures.place starts r.low r.sound.low mid new trail same before during (c.drive.ensures.others tells)
 
@@ -107,7 +108,7 @@ returns-in-Ok-drive-clause-done g c tells done =
     let r = c.in-Ok-recover.recovered in
     let starts = subst (λ (steps : List Step). StartsFrom c.in-Ok.input (content_of 16 steps) stands.0 r.state r.position r.incarnation) c.read_input.ensures.unchanged stands.2 in
     let same = c.recover.ensures.tape tells ∙ ap tape c.read_input.ensures.unchanged in
-    let during = c.drive.ensures.during tells (header_of c.in-Ok.input) stands.0 stands.1 in
+    let during = c.drive.ensures.during tells (header_with c.in-Ok.input.digest) stands.0 stands.1 in
     let all = c.in-Ok-drive.ensures.all in
     let said = c.in-Ok-drive.ensures.tape tells in
     run_done old c.in-Ok.input form stands.0 r.state r.position r.incarnation r.log.file c.in-Ok-recover.ensures.place starts r.low r.sound.low mid new trail all.0 said.0 same rises all.1 all.2 (last during) said.1

@@ -1,13 +1,13 @@
 use Rattle.std.proofs.Common.{◌≡◌, ◌∙◌, List, ap, sym, subst, length, arith, rules}
-use Rattle.engine_run.specs.declared.trail.Entry.{Entry}
+use Rattle.part_driver.specs.declared.trail.Entry.{Entry}
 use Rattle.site_model.specs.History.{content_of}
 use Rattle.site_model.specs.Moments.{Always}
-use Rattle.engine_run.specs.declared.ended.Cause.TheVariants.{Done}
+use Rattle.input_reader.specs.declared.cause.Cause.TheVariants.{Done}
 use Rattle.engine_run.specs.Headline.{Headline, IsDone}
-use Rattle.engine_run.specs.Trail.{Rises}
+use Rattle.part_driver.specs.Trail.{Rises}
 use Rattle.std.specs.List.{All}
 use Rattle.engine_run.proofs.Asking.{no_homes}
-use Rattle.engine_run.proofs.Moments.{rises_empty}
+use Rattle.part_driver.proofs.Moments.{rises_empty}
 use Rattle.engine_run.proofs.Running.{only_read}
 use Rattle.engine_run.proofs.top.run_alone.Goals as goal
 use Rattle.engine_run.proofs.top.run_alone.Goals.{then-is_run_command, else-is_run_command}

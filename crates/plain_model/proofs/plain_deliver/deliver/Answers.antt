@@ -1,7 +1,7 @@
 use Rattle.std.proofs.Common.{List, ◌∙◌, ap, sym}
 use Rattle.std.specs.Prelude.{option_map}
 use Rattle.plain_model.specs.declared.plain_messages.PlainMessage.{PlainMessage}
-use Rattle.engine_run.specs.Partition.{first_in}
+use Rattle.dura_model.specs.Partition.{first_in}
 use Rattle.plain_model.specs.Plain.{id_of, message_of, messages_of}
 use Rattle.plain_model.specs.PlainWorld.{flows_in, world_in}
 use Rattle.plain_model.proofs.Plain.{if_ok}

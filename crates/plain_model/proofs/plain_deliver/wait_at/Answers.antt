@@ -1,7 +1,7 @@
 use Rattle.std.proofs.Common.{Option, ◌∙◌, ap, sym}
 use Rattle.std.specs.Prelude.{option_map}
-use Rattle.engine_run.specs.World.{World, Answer, to_request}
-use Rattle.engine_run.specs.Steps.{sent, answering, waited}
+use Rattle.dura_model.specs.World.{World, Answer, to_request}
+use Rattle.dura_model.specs.Steps.{sent, answering, waited}
 use Rattle.plain_model.specs.Plain.{id_of, answer_of}
 use Rattle.plain_model.specs.PlainMachine.{machine_of}
 use Rattle.plain_model.specs.PlainWorld.{waiting_in, world_in}

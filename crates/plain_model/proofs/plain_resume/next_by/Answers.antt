@@ -1,7 +1,7 @@
 use Rattle.std.proofs.Common.{◌∷◌, ◌∙◌, ap, sym, drop}
 use Rattle.plain_model.specs.declared.plain_machine.PlainStatement.{PlainStatement}
-use Rattle.engine_run.specs.Language.{eval}
-use Rattle.engine_run.specs.Machine.{Machine, goes, next_of, running, called}
+use Rattle.dura_model.specs.Language.{eval}
+use Rattle.dura_model.specs.Machine.{Machine, goes, next_of, running, called}
 use Rattle.plain_model.specs.PlainMachine.{expression_of, statement_of, machine_of}
 use Rattle.plain_model.proofs.Plain.{called_later}
 use Rattle.plain_model.proofs.plain_resume.next_by.Goals as goal

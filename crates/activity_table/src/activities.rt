@@ -1,0 +1,81 @@
+//! Activities: plain steps with outside effects.
+
+ghost use Rattle.std.specs.Prelude.{◌≡◌, ◌≤◌, length, IfOk};
+ghost use Rattle.activity_table.specs.Activities.{May, sum_of, added};
+
+use dura_value::{Scalar, Text, Value};
+use std::alloc::{AllocError, Global};
+
+/// What an activity gave.
+#[derive(Debug, Drop)]
+pub enum Outcome {
+    /// It ended with a value.
+    Done(Value),
+    /// It failed with a text.
+    Failed(Text),
+}
+
+/// The activities that an engine can run.
+pub trait Activities {
+    /// Runs an activity. `word` is different for each run, for those that want chance. An activity may be run more
+    /// than once; its completion is recorded once. Err is want of memory, and then nothing is recorded.
+    fn run(
+        &self,
+        alloc: Global,
+        name: &str,
+        argument: &Value,
+        word: u64,
+    ) -> Result<Outcome, AllocError>
+        ensures { IfOk result (May name.now argument.now) };
+}
+
+/// The activities that are shipped: `add` gives the sum of a list of two integers, or fails with `overflow`; with
+/// another argument it fails with `type`. Another name fails with `unknown`.
+#[derive(Clone, Copy, Debug)]
+pub struct Table;
+
+impl Activities for Table {
+    fn run(
+        &self,
+        alloc: Global,
+        name: &str,
+        argument: &Value,
+        _word: u64,
+    ) -> Result<Outcome, AllocError> {
+        if name != "add" {
+            return failed(alloc, "unknown");
+        }
+        added(alloc, argument)
+    }
+}
+
+fn failed(alloc: Global, fault: &str) -> Result<Outcome, AllocError>
+    requires { length fault.now ≤ 4096 }
+    ensures { IfOk result (λ outcome. outcome ≡ Outcome.Failed fault.now) }
+{
+    match Text::read(alloc, fault.as_bytes()) {
+        Ok(text) => Ok(Outcome::Failed(text)),
+        Err(_) => Err(AllocError),
+    }
+}
+
+fn added(alloc: Global, argument: &Value) -> Result<Outcome, AllocError>
+    ensures { IfOk result (λ outcome. outcome ≡ added argument.now) }
+{
+    match argument {
+        Value::List(parts) => sum_of(alloc, parts.as_slice()),
+        _ => failed(alloc, "type"),
+    }
+}
+
+fn sum_of(alloc: Global, parts: &[Scalar]) -> Result<Outcome, AllocError>
+    ensures { IfOk result (λ outcome. outcome ≡ sum_of parts.now) }
+{
+    let [Scalar::Int(a), Scalar::Int(b)] = parts else {
+        return failed(alloc, "type");
+    };
+    match a.checked_add(*b) {
+        Some(sum) => Ok(Outcome::Done(Value::Int(sum))),
+        None => failed(alloc, "overflow"),
+    }
+}

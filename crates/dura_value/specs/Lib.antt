@@ -1,0 +1,4 @@
+pub mod Digest
+pub mod Ids
+pub mod Names
+pub mod Text

@@ -1,0 +1,18 @@
+//! Values, the words that name things, and the digest of bytes. `specs/Ids` says who sends and receives messages, and which
+//! partition each of them lives in.
+//!
+//! - `text` is a bounded text, `data` the values that flows compute with, and `names` short words.
+//! - `digest` is a digest of 64 bits.
+//! - `laws` has a law of ids.
+#![tactic(auto)]
+
+mod data;
+mod digest;
+mod laws;
+mod names;
+mod text;
+
+pub use data::{Scalar, Scalars, Value};
+pub use digest::{fnv, word};
+pub use names::{Key, Name, is_key, is_name};
+pub use text::{Text, TextError};

@@ -1,0 +1,121 @@
+//! The flow file: one flow, which adds two numbers and returns their sum.
+
+ghost use Rattle.std.specs.Prelude.{◌≡◌, true, IfSome, option_map};
+ghost use Rattle.serde_json.specs.View.{view};
+ghost use Rattle.input_reader.specs.FlowFile.{number_in, numbers_in, call_in, returned_in, body_in, flow_of, flow_in};
+ghost use Rattle.dura_value.specs.Names.{is_name};
+ghost use Rattle.input_reader.specs.Reading.{Gives};
+
+use crate::error::ReadError;
+use dura_value::{Name, is_name};
+use crate::values;
+use serde_json::Value;
+use std::alloc::Global;
+
+/// The largest number that is added.
+const MOST_ADDED: u64 = 1_000_000;
+
+/// A flow that puts the sum of two numbers into a variable and returns it.
+#[derive(Debug, Drop)]
+pub struct Flow {
+    pub name: Name,
+    pub variable: Name,
+    pub left: u32,
+    pub right: u32,
+}
+
+fn number_in(value: &Value) -> Option<u32>
+    ensures { result ≡ number_in (view value.now) }
+{
+    let number = value.as_u64()?;
+    if number <= MOST_ADDED {
+        Some(number as u32)
+    } else {
+        None
+    }
+}
+
+fn numbers_in(value: &Value) -> Option<(u32, u32)>
+    ensures { result ≡ numbers_in (view value.now) }
+{
+    let list = values::only_at(value, "list")?;
+    let (left, right) = values::two_items(list)?;
+    let left = number_in(left)?;
+    let right = number_in(right)?;
+    Some((left, right))
+}
+
+fn call_in(value: &Value) -> Option<(&str, u32, u32)>
+    ensures same { option_map (λ c. (c.0.now, c.1, c.2)) result ≡ call_in (view value.now) }
+    ensures name { IfSome result (λ c. is_name c.0.now ≡ true) }
+{
+    let (word, variable, operation, arguments) = values::four_items(value)?;
+    if !values::is_word(word, "call") || !values::is_word(operation, "add") {
+        return None;
+    }
+    let variable = values::name_in(variable)?;
+    let (left, right) = numbers_in(arguments)?;
+    Some((variable, left, right))
+}
+
+fn returned_in(value: &Value) -> Option<&str>
+    ensures { option_map (λ name. name.now) result ≡ returned_in (view value.now) }
+{
+    let (word, result) = values::two_items(value)?;
+    if !values::is_word(word, "return") {
+        return None;
+    }
+    let variable = values::only_at(result, "v")?;
+    values::name_in(variable)
+}
+
+fn body_in(value: &Value) -> Option<(&str, u32, u32)>
+    ensures same { option_map (λ c. (c.0.now, c.1, c.2)) result ≡ body_in (view value.now) }
+    ensures name { IfSome result (λ c. is_name c.0.now ≡ true) }
+{
+    let (call, end) = values::two_items(value)?;
+    let (variable, left, right) = call_in(call)?;
+    let returned = returned_in(end)?;
+    if returned == variable {
+        Some((variable, left, right))
+    } else {
+        None
+    }
+}
+
+fn flow_of(value: &Value) -> Option<(&str, &str, u32, u32)>
+    ensures same { option_map (λ f. record { name = f.0.now; variable = f.1.now; left = f.2; right = f.3 }) result
+        ≡ flow_of (view value.now) }
+    ensures names { IfSome result (λ f. (is_name f.0.now ≡ true) × (is_name f.1.now ≡ true)) }
+{
+    let flows = values::only_at(value, "flows")?;
+    let (name, body) = values::only_member(flows)?;
+    if !is_name(name.as_bytes()) {
+        return None;
+    }
+    let (variable, left, right) = body_in(body)?;
+    Some((name, variable, left, right))
+}
+
+/// Reads the one flow of a file.
+pub fn read_flow(alloc: Global, bytes: &[u8]) -> Result<Flow, ReadError>
+    ensures { Gives (λ flow. flow) result (flow_in bytes.now) }
+{
+    let value = match values::value_of(alloc, bytes) {
+        Ok(value) => value,
+        Err(error) => return Err(error),
+    };
+    match flow_of(&value) {
+        Some((name, variable, left, right)) => {
+            let name = Name::of(alloc, name.as_bytes())?;
+            let variable = Name::of(alloc, variable.as_bytes())?;
+            Ok(Flow {
+                name,
+                variable,
+                left,
+                right,
+            })
+        }
+        None => Err(ReadError::Refused),
+    }
+}

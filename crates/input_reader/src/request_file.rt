@@ -1,0 +1,243 @@
+//! The request file: one client starts the flow, then waits for it.
+
+ghost use Rattle.std.specs.Prelude.{◌≡◌, ◌<◌, [], ◌∷◌, length, true, IfSome, MatchOption, option_map};
+ghost use Rattle.std.specs.List.{list_all, position};
+ghost use Rattle.serde_json.specs.View.{view};
+ghost use Rattle.dura_value.specs.Names.{is_name, is_key};
+ghost use Rattle.input_reader.specs.Reading.{Gives};
+ghost use Rattle.input_reader.specs.RequestFile.{is_line_feed, lines, is_blank, behind, key_under, kind_of, word, asked_of, asked_in, are_same, first_asked, next_asked, after_asked, after_line, after_lines, both, requests_in};
+
+use crate::error::ReadError;
+use dura_value::{Key, Name, is_key};
+use crate::values;
+use serde_json::Value;
+use std::alloc::Global;
+
+/// The client and the key of the two requests.
+#[derive(Debug, Drop)]
+pub struct Requests {
+    pub client: Name,
+    pub key: Key,
+}
+
+/// Which of the two requests it is.
+#[derive(Clone, Copy, Debug, PartialEq, Eq)]
+pub enum Kind {
+    /// Request 1 starts the flow.
+    Start,
+    /// Request 2 waits for its end.
+    Wait,
+}
+
+/// What one line asks.
+#[derive(Debug, Drop)]
+struct Asked {
+    kind: Kind,
+    requests: Requests,
+}
+
+/// How far the lines have come.
+#[derive(Debug, Drop)]
+enum Progress {
+    Nothing,
+    Started(Requests),
+    Waited(Requests),
+}
+
+impl Kind {
+    fn word(self) -> &'static str
+        ensures { result.now ≡ word self }
+    {
+        match self {
+            Kind::Start => "start",
+            Kind::Wait => "wait",
+        }
+    }
+}
+
+fn is_blank(line: &[u8]) -> bool
+    ensures { result ≡ is_blank line.now }
+{
+    line.iter()
+        .all(|byte| *byte == b' ' || *byte == b'\t' || *byte == b'\r')
+}
+
+/// What stands behind a front that the bytes begin with.
+pub fn behind<'t>(bytes: &'t [u8], front: &[u8]) -> Option<&'t [u8]>
+    ensures { option_map (λ rest. rest.now) result ≡ behind front.now bytes.now }
+{
+    bytes.strip_prefix(front)
+}
+
+fn key_under<'t>(flow: &[u8], text: &'t [u8]) -> Option<&'t [u8]>
+    ensures same { option_map (λ key. key.now) result ≡ key_under flow.now text.now }
+    ensures key { IfSome result (λ key. is_key key.now ≡ true) }
+{
+    let path = behind(text, flow)?;
+    let key = behind(path, "/".as_bytes())?;
+    if is_key(key) { Some(key) } else { None }
+}
+
+fn kind_of(number: u64) -> Option<Kind>
+    ensures { result ≡ kind_of number }
+{
+    match number {
+        1 => Some(Kind::Start),
+        2 => Some(Kind::Wait),
+        _ => None,
+    }
+}
+
+fn asked_of<'v>(flow: &[u8], value: &'v Value) -> Option<(Kind, &'v str, &'v [u8])>
+    ensures same { option_map (λ a. record { kind = a.0; requests = record { client = a.1.now; key = a.2.now } }) result
+        ≡ asked_of flow.now (view value.now) }
+    ensures client { IfSome result (λ a. is_name a.1.now ≡ true) }
+    ensures key { IfSome result (λ a. is_key a.2.now ≡ true) }
+{
+    if !values::has_members(value, 3) {
+        return None;
+    }
+    let client = values::name_in(value.get("client")?)?;
+    let kind = kind_of(value.get("n")?.as_u64()?)?;
+    let path = value.get(kind.word())?.as_str()?;
+    let key = key_under(flow, path.as_bytes())?;
+    Some((kind, client, key))
+}
+
+fn asked_in(alloc: Global, flow: &Name, line: &[u8]) -> Result<Asked, ReadError>
+    ensures { Gives (λ asked. asked) result (asked_in flow.now line.now) }
+{
+    let value = match values::value_of(alloc, line) {
+        Ok(value) => value,
+        Err(error) => return Err(error),
+    };
+    match asked_of(flow.as_bytes(), &value) {
+        Some((kind, client, key)) => {
+            let client = Name::of(alloc, client.as_bytes())?;
+            let key = Key::of(alloc, key)?;
+            Ok(Asked {
+                kind,
+                requests: Requests { client, key },
+            })
+        }
+        None => Err(ReadError::Refused),
+    }
+}
+
+fn are_same(a: &Requests, b: &Requests) -> bool
+    ensures { result ≡ are_same a.now b.now }
+{
+    if a.client.as_bytes() == b.client.as_bytes() {
+        a.key.as_bytes() == b.key.as_bytes()
+    } else {
+        false
+    }
+}
+
+fn first_asked(asked: Asked) -> Option<Progress>
+    ensures { result ≡ first_asked asked.kind asked.requests }
+{
+    match asked.kind {
+        Kind::Start => Some(Progress::Started(asked.requests)),
+        Kind::Wait => None,
+    }
+}
+
+fn next_asked(kind: Kind, requests: Requests) -> Progress
+    ensures { result ≡ next_asked kind requests }
+{
+    match kind {
+        Kind::Start => Progress::Started(requests),
+        Kind::Wait => Progress::Waited(requests),
+    }
+}
+
+fn after_asked(progress: Progress, asked: Asked) -> Option<Progress>
+    ensures { result ≡ after_asked progress asked }
+{
+    match progress {
+        Progress::Nothing => first_asked(asked),
+        Progress::Started(requests) => {
+            if are_same(&requests, &asked.requests) {
+                Some(next_asked(asked.kind, requests))
+            } else {
+                None
+            }
+        }
+        Progress::Waited(requests) => {
+            if are_same(&requests, &asked.requests) {
+                Some(Progress::Waited(requests))
+            } else {
+                None
+            }
+        }
+    }
+}
+
+fn after_line(
+    alloc: Global,
+    flow: &Name,
+    progress: Progress,
+    line: &[u8],
+) -> Result<Progress, ReadError>
+    ensures { Gives (λ progress. progress) result (after_line flow.now progress line.now) }
+{
+    if is_blank(line) {
+        return Ok(progress);
+    }
+    let asked = match asked_in(alloc, flow, line) {
+        Ok(asked) => asked,
+        Err(error) => return Err(error),
+    };
+    match after_asked(progress, asked) {
+        Some(progress) => Ok(progress),
+        None => Err(ReadError::Refused),
+    }
+}
+
+fn line_end(bytes: &[u8]) -> Option<usize>
+    ensures { result ≡ position is_line_feed bytes.now }
+{
+    bytes.iter().position(|byte| *byte == b'\n')
+}
+
+/// The first line, and what stands behind its line feed.
+#[tactic(auto, using(crate::proofs::Lines::lines_none, crate::proofs::Lines::position_below))]
+fn first_line(bytes: &[u8]) -> (&[u8], Option<&[u8]>)
+    ensures { MatchOption result.1 (lines bytes.now ≡ result.0.now ∷ [])
+        (λ rest. (lines bytes.now ≡ result.0.now ∷ lines rest.now) × (length rest.now < length bytes.now)) }
+{
+    match line_end(bytes) {
+        Some(at) => (&bytes[..at], Some(&bytes[at + 1..])),
+        None => (bytes, None),
+    }
+}
+
+fn after_lines(alloc: Global, flow: &Name, bytes: &[u8]) -> Result<Progress, ReadError>
+    ensures { Gives (λ progress. progress) result (after_lines flow.now Progress.Nothing (lines bytes.now)) }
+{
+    let mut progress = Progress::Nothing;
+    let mut rest = bytes;
+    loop {
+        let (line, more) = first_line(rest);
+        progress = match after_line(alloc, flow, progress, line) {
+            Ok(progress) => progress,
+            Err(error) => return Err(error),
+        };
+        match more {
+            Some(more) => rest = more,
+            None => return Ok(progress),
+        }
+    }
+}
+
+/// Reads the two requests of a file for this flow, a line at a time.
+pub fn read_requests(alloc: Global, flow: &Name, bytes: &[u8]) -> Result<Requests, ReadError>
+    ensures { Gives (λ requests. requests) result (requests_in flow.now bytes.now) }
+{
+    match after_lines(alloc, flow, bytes) {
+        Ok(Progress::Waited(requests)) => Ok(requests),
+        Ok(_) => Err(ReadError::Refused),
+        Err(error) => Err(error),
+    }
+}

@@ -1,0 +1,60 @@
+//! Committing a frame.
+
+ghost use Rattle.std.specs.Prelude.{◌≡◌, ◌+◌, ◌≤◌, ◌<◌, ◌^◌, ◌++◌, [], ◌∷◌, ℕ, List, length, Err, IfOk, IfErr, OnOk};
+ghost use Rattle.site_model.specs.History.{changes_of, tape};
+ghost use Rattle.site_model.specs.Calls.{HasRisen};
+ghost use Rattle.site_model.specs.Moments.{Always};
+ghost use Rattle.commit_log.specs.declared.header.Header.{Header};
+ghost use Rattle.commit_log.specs.States.{Rests, IsResting};
+ghost use Rattle.commit_log.specs.Outcomes.{RestsAs};
+ghost use Rattle.part_driver.specs.Commit.{IsOutside, LeavesCommit};
+
+use input_reader::Cause;
+use commit_log::{BodyError, Resting};
+use site_model::Site;
+use std::alloc::Global;
+
+/// The length that no segment reaches.
+const LIMIT: u64 = 1 << 31;
+
+/// Commits a frame with this payload: from Ok on each crash leaves it. A segment with this little in it isn't full.
+pub(crate) fn commit<V: Site>(
+    alloc: Global,
+    site: &mut V,
+    log: Resting,
+    payload: &[u8],
+) -> Result<Resting, Cause>
+    requires room { log.gate + 6 + length payload.now < 2 ^ 31 }
+    requires rests { V.tells → Rests (changes_of log.file (V.history site.old)) log.gate }
+    ensures during { V.tells → (h : Header) (payloads : List (List ℕ)) → IsResting (changes_of log.file (V.history site.old)) h payloads log.gate
+        → Always (LeavesCommit log.file h payloads payload.now log.gate (V.history site.old)) (V.history site.old) (V.history site.new) }
+    ensures after { V.tells → (h : Header) (payloads : List (List ℕ)) → IsResting (changes_of log.file (V.history site.old)) h payloads log.gate
+        → IfOk result (λ next. RestsAs (V.history site.new) h (payloads ++ payload.now ∷ []) next) }
+    ensures rests { V.tells → IfOk result (λ next. Rests (changes_of next.file (V.history site.new)) next.gate) }
+    ensures place { IfOk result (λ next. (next.file ≡ log.file) × (next.gate ≡ log.gate + 5 + length payload.now)) }
+    ensures moves { V.tells → OnOk result (length (V.history site.old) < length (V.history site.new)) }
+    ensures tape { V.tells → tape (V.history site.new) ≡ tape (V.history site.old) }
+    ensures outside { IfErr result IsOutside }
+    ensures fault { result ≡ Err Cause.SiteFault → HasRisen (V.disk_faults site.old) (V.disk_faults site.new) }
+    ensures later { V.disk_faults site.old ≤ V.disk_faults site.new }
+    ensures say_faults { V.say_faults site.new ≡ V.say_faults site.old }
+{
+    let bodied = match log.body(alloc, site, payload, LIMIT) {
+        Ok(bodied) => bodied,
+        Err(BodyError::SiteFault(_)) => return Err(Cause::SiteFault),
+        Err(BodyError::Memory(_)) => return Err(Cause::Memory),
+        Err(BodyError::Full { .. }) => unreachable!(),
+    };
+    let synced = match bodied.sync_body(site) {
+        Ok(synced) => synced,
+        Err(_) => return Err(Cause::SiteFault),
+    };
+    let gated = match synced.gate(site) {
+        Ok(gated) => gated,
+        Err(_) => return Err(Cause::SiteFault),
+    };
+    match gated.settle(site) {
+        Ok(log) => Ok(log),
+        Err(_) => Err(Cause::SiteFault),
+    }
+}
