@@ -25,6 +25,3 @@ pub use opening::{OpenError, Opened};
 pub use payload::Payload;
 pub use reading::read_log;
 pub use states::{Bodied, BodyError, Broken, Gated, Reopened, Resting, Synced};
-
-#[cfg(test)]
-mod tests;

@@ -1,8 +1,8 @@
 //! Runs on logs that were made by hand.
 
-use crate::ended::Cause;
 use crate::run_tests::{SUM, run_on, says, sum_site};
-use crate::state::Label;
+use input_reader::Cause;
+use part_state::Label;
 use site_memory::MemorySite;
 use std::alloc::Global;
 use std::test::Fail;

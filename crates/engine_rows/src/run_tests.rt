@@ -1,12 +1,11 @@
 //! Whole runs, on sites in memory.
 
-use crate::activities::Table;
-use crate::ended::{Cause, Ended, FlowFault, FlowPath, PlanPlace};
-use crate::request_file::Kind;
-use crate::state::Label;
-use crate::text::Text;
-use crate::top::{run, run_alone};
-use crate::trail::Entry;
+use activity_table::Table;
+use dura_value::Text;
+use engine_run::{Ended, run, run_alone};
+use input_reader::{Cause, FlowFault, FlowPath, Kind, PlanPlace};
+use part_driver::Entry;
+use part_state::Label;
 use site_memory::{Kept, Kind as Call, MemorySite, Pick, TickClock};
 use site_model::Site;
 use std::alloc::Global;

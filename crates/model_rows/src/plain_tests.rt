@@ -15,18 +15,14 @@
 //!   start's arrival is last: then `started` and the finish follow in either order, 6. In 2 of them `none` is last: then
 //!   `started` follows it, and the finish has 3 places behind the start's arrival, 6. Together 12.
 
-use crate::plain_machine::{PlainExpression, PlainStatement};
-use crate::plain_messages::{
-    PlainAnswer, PlainBody, PlainId, PlainLabel, PlainMessage, PlainReply, same_id,
-};
-use crate::plain_quiet::is_quiet;
-use crate::plain_stands::{PlainEntry, PlainItem, stands};
-use crate::plain_step::after;
-use crate::plain_world::{PlainFlow, PlainWorld};
 use activity_table::Outcome;
 use dura_value::{Scalar, Scalars, Text, Value};
 use input_reader::Kind;
 use part_state::{Found, Label, StartStage, State, WaitStage};
+use plain_model::{
+    PlainAnswer, PlainBody, PlainEntry, PlainExpression, PlainFlow, PlainId, PlainItem, PlainLabel,
+    PlainMessage, PlainReply, PlainStatement, PlainWorld, after, is_quiet, same_id, stands,
+};
 use std::alloc::Global;
 use std::process::Abort;
 use std::test::Fail;

@@ -25,7 +25,9 @@ mod plain_world;
 pub use plain_machine::{
     PlainExpression, PlainMachine, PlainProgress, PlainStatement, PlainTask, PlainVariable,
 };
-pub use plain_messages::{PlainAnswer, PlainBody, PlainId, PlainLabel, PlainMessage, PlainReply};
+pub use plain_messages::{
+    PlainAnswer, PlainBody, PlainId, PlainLabel, PlainMessage, PlainReply, same_id,
+};
 pub use plain_quiet::is_quiet;
 pub use plain_stands::{PlainEntry, PlainItem, stands};
 pub use plain_step::{after, step};

@@ -1,11 +1,8 @@
-use crate::activities::{Activities, Outcome, Table};
-use crate::data::{Scalar, Scalars, Value};
-use crate::error::ReadError;
-use crate::flow_file::read_flow;
-use crate::names::{Key, Name};
-use crate::request_file::read_requests;
-use crate::text::{Text, TextError};
-use crate::words::is_run_command;
+//! What is read, and what is refused.
+
+use activity_table::{Activities, Outcome, Table};
+use dura_value::{Key, Name, Scalar, Scalars, Text, TextError, Value};
+use input_reader::{ReadError, read_flow, read_requests};
 use std::alloc::Global;
 use std::test::Fail;
 
@@ -66,18 +63,6 @@ fn shipped_activities(rt: HostRuntime) -> Result<(), Fail> {
     assert!(rt; is_failure(&Table.run(alloc, "add", &mixed, 0)?, "type"));
     assert!(rt; is_failure(&Table.run(alloc, "add", &Value::Null, 0)?, "type"));
     assert!(rt; is_failure(&Table.run(alloc, "less", &five, 0)?, "unknown"));
-    Ok(())
-}
-
-#[test]
-fn one_command(rt: HostRuntime) -> Result<(), Fail> {
-    let alloc = rt.alloc();
-    let mut words = Vec::new(alloc);
-    words.push(Text::read(alloc, b"run")?)?;
-    words.push(Text::read(alloc, b"--partitions")?)?;
-    assert!(rt; !is_run_command(&words));
-    words.push(Text::read(alloc, b"1")?)?;
-    assert!(rt; is_run_command(&words));
     Ok(())
 }
 

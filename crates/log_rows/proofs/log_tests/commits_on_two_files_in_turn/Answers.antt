@@ -1,4 +1,4 @@
-use Rattle.commit_log.proofs.tests.commits_on_two_files_in_turn.Goals as goal
+use Rattle.log_rows.proofs.log_tests.commits_on_two_files_in_turn.Goals as goal
 
 pub commit_on_both-requires-clause-second_rests : goal.commit_on_both-requires-clause-second_rests
 commit_on_both-requires-clause-second_rests g c told =

@@ -1,4 +1,4 @@
-use Rattle.commit_log.proofs.tests.synced.Goals as goal
+use Rattle.log_rows.proofs.log_tests.synced.Goals as goal
 
 pub returns-in-Ok-clause-there : goal.returns-in-Ok-clause-there
 returns-in-Ok-clause-there g c tells =

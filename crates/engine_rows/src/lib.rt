@@ -1,0 +1,7 @@
+//! Whole runs, on sites in memory, and runs on logs that were made by hand.
+#![tactic(auto)]
+
+#[cfg(test)]
+mod log_tests;
+#[cfg(test)]
+mod run_tests;
