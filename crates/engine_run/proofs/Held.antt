@@ -10,10 +10,10 @@ use Rattle.part_driver.specs.declared.trail.Entry.{Entry}
 use Rattle.part_state.specs.State.{fresh_state}
 use Rattle.part_items.specs.Items.{LogEntry}
 use Rattle.part_items.specs.Replay.{labels_of, entries_of, Point, Replays, IsNumbered, MayFollow, last_incarnation}
-use Rattle.part_items.specs.Replay.{IsEntry as IsWhole, IsFew as IsShort}
+use Rattle.part_items.specs.Replay.{IsEntry as IsWhole}
 use Rattle.part_driver.specs.Commit.{Holds}
 use Rattle.part_driver.specs.Labels.{Appends, frames_of}
-use Rattle.part_log.specs.Log.{header_with}
+use Rattle.part_log.specs.Log.{IsFew, header_with}
 use Rattle.part_driver.specs.Recovery.{StartsFrom, Follows, next_incarnation}
 use Rattle.dura_model.specs.World.{empty}
 use Rattle.dura_model.specs.Steps.{Label as Step}
@@ -68,7 +68,7 @@ abbrev pub no_frames : (input : Input) → Replays input [] no_point
 no_frames input = record {
   log = [];
   spelled = refl;
-  few = All-nil (λ entries. IsShort (length entries));
+  few = All-nil (λ entries. IsFew (length entries));
   whole = All-nil IsWhole;
   numbered = tt;
   state = refl;

@@ -22,7 +22,7 @@ use Rattle.part_state.specs.Meaning.{flows_of, label_of, item_of, requests_of, w
 use Rattle.part_log.specs.Log.{header_with}
 use Rattle.part_driver.specs.Recovery.{Readable}
 use Rattle.part_items.specs.Replay.{applied_all, labels_of, entries_of, Point, Replays, IsTimely, MayFollow, last_incarnation}
-use Rattle.part_items.specs.Replay.{IsFew as IsShort, IsEntry as IsWhole, IsNumbered as IsPlaced}
+use Rattle.part_items.specs.Replay.{IsEntry as IsWhole, IsNumbered as IsPlaced}
 use Rattle.dura_model.specs.Requests.{Request}
 use Rattle.dura_model.specs.Entries.{Item, took, ran, ended, label_in}
 use Rattle.part_log.specs.Spelling.{Fits}
@@ -183,10 +183,10 @@ module _ (input : Input) (given : IsGiven input) where
 
   -- ---- its sizes and numbers
 
-  few_read : (log : List (List LogEntry)) → All (λ entries. IsFew (length entries)) (map (map (kept_of input)) log) → All (λ entries. IsShort (length entries)) log
-  few_read [] few = All-nil (λ entries. IsShort (length entries))
+  few_read : (log : List (List LogEntry)) → All (λ entries. IsFew (length entries)) (map (map (kept_of input)) log) → All (λ entries. IsFew (length entries)) log
+  few_read [] few = All-nil (λ entries. IsFew (length entries))
   few_read (entries ∷ log) few =
-      All-cons (λ one. IsShort (length one)) entries log (subst IsFew (length-map entries (kept_of input)) (All-head (λ one. IsFew (length one)) (map (kept_of input) entries) (map (map (kept_of input)) log) few))
+      All-cons (λ one. IsFew (length one)) entries log (subst IsFew (length-map entries (kept_of input)) (All-head (λ one. IsFew (length one)) (map (kept_of input) entries) (map (map (kept_of input)) log) few))
       (few_read log (All-tail (λ one. IsFew (length one)) (map (kept_of input) entries) (map (map (kept_of input)) log) few))
 
   timely_fits : (label : Label) → Fits (item_of input label) → IsTimely label

@@ -10,7 +10,7 @@ use Rattle.input_reader.specs.declared.cause.Cause.TheVariants.{Done, SayFault, 
 use Rattle.part_driver.specs.Recovery.{Readable, IsOpening, Recovers, StartsFrom}
 use Rattle.part_state.specs.declared.state.State.{State}
 use Rattle.part_driver.specs.Driving.{IsDriving}
-use Rattle.engine_run.specs.Causes.{IsForeign, Answers}
+use Rattle.engine_run.specs.Causes.{HasForeignLog, Answers}
 use Rattle.engine_run.proofs.Headlines.{given_of}
 use Rattle.engine_run.proofs.Owned.{own_readable, readable_own}
 
@@ -26,7 +26,7 @@ same_form files a b one two =
     ap (λ (f : Flow). input_at f a.requests a.digest) flow ∙ ap (λ (r : Requests). input_at b.flow r a.digest) requests ∙ ap (λ (n : ℕ). input_at b.flow b.requests n) (one.digest ∙ sym two.digest)
 
 -- what the run's input can't read is no log of any input of its files
-foreign : (files : ℕ → List ℕ) (input : Input) → HasForm files input → (Readable input (files 16) → ⊥) → IsForeign files
+foreign : (files : ℕ → List ℕ) (input : Input) → HasForm files input → (Readable input (files 16) → ⊥) → HasForeignLog files
 foreign files input form refused other others own = refused (subst (λ (i : Input). Readable i (files 16)) (same_form files other input others form) (own_readable other (given_of files other others) (files 16) own))
 
 -- the log's refusal is an answer of the run

@@ -8,23 +8,23 @@ use Rattle.engine_run.specs.Headline.{IsOwnLog, job_of}
 use Rattle.input_reader.specs.Input.{HasForm}
 
 -- the log is one that a run of this input could have left
-abbrev pub IsOwn : (ℕ → List ℕ) → Type 0
-IsOwn files = (input : Input) × HasForm files input × IsOwnLog (job_of input) (files 16)
+abbrev pub HasOwnLog : (ℕ → List ℕ) → Type 0
+HasOwnLog files = (input : Input) × HasForm files input × IsOwnLog (job_of input) (files 16)
 
 -- it is one that no run of this input could have left
-abbrev pub IsForeign : (ℕ → List ℕ) → Type 0
-IsForeign files = (input : Input) → HasForm files input → IsOwnLog (job_of input) (files 16) → ⊥
+abbrev pub HasForeignLog : (ℕ → List ℕ) → Type 0
+HasForeignLog files = (input : Input) → HasForm files input → IsOwnLog (job_of input) (files 16) → ⊥
 
 -- The causes that a run of the command may end with, by what its files read. A fault of the outside and want of
 -- memory may come at any time; the faults have a clause of their own.
 abbrev pub Answers : (ℕ → List ℕ) → Cause → Type 0
-Answers files Done = (refusal_of files ≡ None) × IsOwn files
+Answers files Done = (refusal_of files ≡ None) × HasOwnLog files
 Answers files Usage = ⊥
 Answers files (BadFlows fault) = refusal_of files ≡ Some (BadFlows fault)
 Answers files (BadRequests line) = refusal_of files ≡ Some (BadRequests line)
 Answers files (BadPlan place) = refusal_of files ≡ Some (BadPlan place)
 Answers files (TooLong file) = refusal_of files ≡ Some (TooLong file)
 Answers files SiteFault = Unit {0}
-Answers files SayFault = (refusal_of files ≡ None) × IsOwn files
-Answers files (Damaged file offset) = (refusal_of files ≡ None) × IsForeign files × (file ≡ 16) × (offset ≡ 0)
+Answers files SayFault = (refusal_of files ≡ None) × HasOwnLog files
+Answers files (Damaged file offset) = (refusal_of files ≡ None) × HasForeignLog files × (file ≡ 16) × (offset ≡ 0)
 Answers files Memory = Unit {0}

@@ -12,7 +12,8 @@ use Rattle.part_state.specs.declared.state.State.{State}
 use Rattle.part_state.specs.declared.state.Label.{Label}
 use Rattle.part_state.specs.State.{applied}
 use Rattle.part_items.specs.Items.{item_bytes, LogEntry, entry_bytes, frame_bytes}
-use Rattle.part_items.specs.Replay.{IsFew, IsTimely, IsEntry, MayFollow, IsNumbered, last_incarnation, applied_all, labels_of, entries_of, Point, Replays}
+use Rattle.part_items.specs.Replay.{IsTimely, IsEntry, MayFollow, IsNumbered, last_incarnation, applied_all, labels_of, entries_of, Point, Replays}
+use Rattle.part_log.specs.Log.{IsFew}
 use Rattle.part_items.specs.Replayed.{Walks, Applies, ReadsItems, Enters, ReadsEntry, ReadsEntries, Frames, ReadsFrame, ReadsFrames, start}
 use Rattle.part_items.proofs.Walked.{reads_same, many_same, walks_append, walks_halves}
 use Rattle.part_items.proofs.Unique.{number16_same, number64_same, applies_same}

@@ -13,7 +13,7 @@ use Rattle.part_state.specs.declared.state.Label.{Label}
 use Rattle.part_state.specs.declared.state.Label.TheVariants.{Take, ToInstance, ToClient, Finish}
 use Rattle.part_items.specs.Items.{item_bytes, LogEntry, entry_bytes, frame_bytes}
 use Rattle.part_items.specs.Replay.{labels_of, entries_of, Point, Replays, IsTimely, MayFollow}
-use Rattle.part_items.specs.Replay.{IsFew as IsShort, IsEntry as IsWhole, IsNumbered as IsPlaced}
+use Rattle.part_items.specs.Replay.{IsEntry as IsWhole, IsNumbered as IsPlaced}
 use Rattle.part_log.specs.Log.{header_with}
 use Rattle.dura_model.specs.Entries.{Item}
 use Rattle.part_log.specs.Spelling.{spelled, Fits}
@@ -57,11 +57,11 @@ module _ (input : Input) where
   all_kept [] = refl
   all_kept (entries ∷ log) = map-append (kept_of input) entries (entries_of log) ∙ ap (λ (l : List Kept). map (kept_of input) entries ++ l) (all_kept log)
 
-  few_kept : (log : List (List LogEntry)) → All (λ entries. IsShort (length entries)) log → All (λ entries. IsFew (length entries)) (map (map (kept_of input)) log)
+  few_kept : (log : List (List LogEntry)) → All (λ entries. IsFew (length entries)) log → All (λ entries. IsFew (length entries)) (map (map (kept_of input)) log)
   few_kept [] few = All-nil (λ entries. IsFew (length entries))
   few_kept (entries ∷ log) few =
-      let first = All-head (λ one. IsShort (length one)) entries log few in
-      All-cons (λ one. IsFew (length one)) (map (kept_of input) entries) (map (map (kept_of input)) log) (subst IsFew (sym (length-map entries (kept_of input))) first) (few_kept log (All-tail (λ one. IsShort (length one)) entries log few))
+      let first = All-head (λ one. IsFew (length one)) entries log few in
+      All-cons (λ one. IsFew (length one)) (map (kept_of input) entries) (map (map (kept_of input)) log) (subst IsFew (sym (length-map entries (kept_of input))) first) (few_kept log (All-tail (λ one. IsFew (length one)) entries log few))
 
   module _ (given : IsGiven input) where
     pub item_fits : (label : Label) → IsTimely label → Fits (item_of input label)

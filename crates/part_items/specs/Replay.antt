@@ -7,10 +7,7 @@ use Rattle.part_state.specs.declared.state.State.{State}
 use Rattle.part_state.specs.declared.state.Label.{Label}
 use Rattle.part_state.specs.State.{applied, stamp_of, fresh_state}
 use Rattle.part_items.specs.Items.{LogEntry, frame_bytes}
-
--- how many entries a frame may have, and labels an entry
-abbrev pub IsFew : ℕ → Type 0
-IsFew n = (1 ≤ n) × (n ≤ 64)
+use Rattle.part_log.specs.Log.{IsFew}
 
 -- the moment of a label is one that a clock may give
 abbrev pub IsTimely : Label → Type 0

@@ -9,7 +9,8 @@ use Rattle.part_state.specs.declared.state.Label.TheVariants.{Take, ToInstance, 
 use Rattle.part_items.specs.declared.replayed.Replay.{Replay}
 use Rattle.part_state.specs.State.{applied, fresh_state}
 use Rattle.part_items.specs.Items.{LogEntry, item_bytes, entry_bytes, frame_bytes}
-use Rattle.part_items.specs.Replay.{Point, IsFew, IsTimely, IsEntry, MayFollow, applied_all}
+use Rattle.part_items.specs.Replay.{Point, IsTimely, IsEntry, MayFollow, applied_all}
+use Rattle.part_log.specs.Log.{IsFew}
 
 abbrev pub point_of : Replay → Point
 point_of r = record { state = r.state; position = r.position; incarnation = r.incarnation }

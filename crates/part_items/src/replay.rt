@@ -4,7 +4,8 @@ ghost use Rattle.std.specs.Prelude.{◌≡◌, ◌+◌, ◌≤◌, ◌<◌, ◌^
 ghost use Rattle.std.specs.Int.{w16, w64, to_be_bytes};
 ghost use Rattle.part_items.specs.Items.{item_bytes};
 ghost use Rattle.part_state.specs.State.{work, IsSound, fresh_state};
-ghost use Rattle.part_items.specs.Replay.{Point, IsFew, IsTimely, MayFollow, Replays};
+ghost use Rattle.part_items.specs.Replay.{Point, IsTimely, MayFollow, Replays};
+ghost use Rattle.part_log.specs.Log.{IsFew};
 ghost use Rattle.part_items.specs.Replayed.{point_of, tagged, ReadsItems, ReadsEntry, ReadsFrame};
 
 use input_reader::{Input, Kind, ReadError, behind};
