@@ -72,21 +72,42 @@ fn request(alloc: Global, body: PlainBody) -> Result<PlainMessage, Fail> {
     })
 }
 
+/// The client's request of this kind.
+fn asked(alloc: Global, kind: Kind) -> Result<PlainMessage, Fail> {
+    match kind {
+        Kind::Start => {
+            let body = PlainBody::Start(Value::Null, PlainReply::Request(1));
+            request(alloc, body)
+        }
+        Kind::Wait => request(alloc, PlainBody::Wait(2)),
+    }
+}
+
+fn taken_label(alloc: Global, kind: Kind) -> Result<PlainLabel, Fail> {
+    let number = match kind {
+        Kind::Start => 1,
+        Kind::Wait => 2,
+    };
+    let message = asked(alloc, kind)?;
+    Ok(PlainLabel::Take(client(alloc)?, number, message))
+}
+
 /// The machine's label for an engine's one.
 fn plain_label(alloc: Global, label: Label) -> Result<PlainLabel, Fail> {
-    let a = client(alloc)?;
-    let x = instance(alloc)?;
     match label {
-        Label::Take(Kind::Start) => {
-            let body = PlainBody::Start(Value::Null, PlainReply::Request(1));
-            Ok(PlainLabel::Take(a, 1, request(alloc, body)?))
+        Label::Take(kind) => taken_label(alloc, kind),
+        Label::ToInstance(stamp) => {
+            let from = client(alloc)?;
+            Ok(PlainLabel::Deliver(from, instance(alloc)?, stamp))
         }
-        Label::Take(Kind::Wait) => {
-            Ok(PlainLabel::Take(a, 2, request(alloc, PlainBody::Wait(2))?))
+        Label::ToClient(stamp) => {
+            let to = client(alloc)?;
+            Ok(PlainLabel::Deliver(instance(alloc)?, to, stamp))
         }
-        Label::ToInstance(stamp) => Ok(PlainLabel::Deliver(a, x, stamp)),
-        Label::ToClient(stamp) => Ok(PlainLabel::Deliver(x, a, stamp)),
-        Label::Finish => Ok(PlainLabel::Finish(x, 0, Outcome::Done(Value::Int(5)))),
+        Label::Finish => {
+            let outcome = Outcome::Done(Value::Int(5));
+            Ok(PlainLabel::Finish(instance(alloc)?, 0, outcome))
+        }
     }
 }
 
@@ -107,17 +128,23 @@ fn plain_item(alloc: Global, label: Label) -> Result<PlainItem, Fail> {
     }
 }
 
+/// The entry that keeps a label alone.
+fn plain_entry(alloc: Global, position: usize, label: Label) -> Result<PlainEntry, Fail> {
+    let mut items = Vec::new(alloc);
+    items.push(plain_item(alloc, label)?)?;
+    Ok(PlainEntry {
+        position: position as u64,
+        incarnation: 0,
+        items,
+    })
+}
+
 /// A log of these labels, one in each entry.
 fn plain_log(alloc: Global, run: &[Label]) -> Result<Vec<PlainEntry>, Fail> {
     let mut entries = Vec::new(alloc);
-    for (position, label) in (0..100).zip(run) {
-        let mut items = Vec::new(alloc);
-        items.push(plain_item(alloc, *label)?)?;
-        entries.push(PlainEntry {
-            position,
-            incarnation: 0,
-            items,
-        })?;
+    for label in run {
+        let entry = plain_entry(alloc, entries.len(), *label)?;
+        entries.push(entry)?;
     }
     Ok(entries)
 }
@@ -125,9 +152,8 @@ fn plain_log(alloc: Global, run: &[Label]) -> Result<Vec<PlainEntry>, Fail> {
 /// The two requests, in the order of their file.
 fn requests(alloc: Global) -> Result<Vec<PlainMessage>, Fail> {
     let mut requests = Vec::new(alloc);
-    let start = PlainBody::Start(Value::Null, PlainReply::Request(1));
-    requests.push(request(alloc, start)?)?;
-    requests.push(request(alloc, PlainBody::Wait(2))?)?;
+    requests.push(asked(alloc, Kind::Start)?)?;
+    requests.push(asked(alloc, Kind::Wait)?)?;
     Ok(requests)
 }
 
@@ -149,20 +175,30 @@ fn state_after(run: &[Label]) -> Option<State> {
     Some(state)
 }
 
-/// What the client's request with this number was answered, as the client is told.
-fn told(alloc: Global, world: &PlainWorld, number: u64) -> Result<&'static str, Fail> {
-    let a = client(alloc)?;
+/// An answer as the client is told it.
+fn said(answer: &PlainAnswer) -> &'static str {
+    match answer {
+        PlainAnswer::Started => "started",
+        PlainAnswer::Missing => "none",
+        PlainAnswer::Done(Value::Int(5)) => "done 5",
+        _ => "another",
+    }
+}
+
+/// What this client's request with this number was answered.
+fn told(world: &PlainWorld, who: &PlainId, number: u64) -> &'static str {
     for given in &world.answers {
-        if given.number == number && same_id(&given.client, &a) {
-            return Ok(match &given.answer {
-                PlainAnswer::Started => "started",
-                PlainAnswer::Missing => "none",
-                PlainAnswer::Done(Value::Int(5)) => "done 5",
-                _ => "another",
-            });
+        if given.number == number && same_id(&given.client, who) {
+            return said(&given.answer);
         }
     }
-    Ok("")
+    ""
+}
+
+/// What the client was told by now: of its start, and of its wait.
+fn told_both(alloc: Global, world: &PlainWorld) -> Result<(&'static str, &'static str), Fail> {
+    let who = client(alloc)?;
+    Ok((told(world, &who, 1), told(world, &who, 2)))
 }
 
 /// The same by the engine's state.
@@ -181,6 +217,73 @@ fn told_wait(state: State) -> &'static str {
     }
 }
 
+/// Where the plain program comes to by a run.
+fn world_after(
+    alloc: Global,
+    flows: &[PlainFlow],
+    run: &[Label],
+) -> Result<Option<PlainWorld>, Fail> {
+    let labels = plain_run(alloc, run)?;
+    let world = after(alloc, flows, &labels)?;
+    Ok(world)
+}
+
+/// Where a log of a run stands.
+fn world_kept(
+    alloc: Global,
+    flows: &[PlainFlow],
+    run: &[Label],
+) -> Result<Option<PlainWorld>, Fail> {
+    let entries = plain_log(alloc, run)?;
+    let world = stands(alloc, flows, &entries)?;
+    Ok(world)
+}
+
+/// A log of a run stands for the same answers.
+fn same_kept(
+    alloc: Global,
+    rt: &impl Abort,
+    flows: &[PlainFlow],
+    run: &[Label],
+    answers: (&'static str, &'static str),
+) -> Result<(), Fail> {
+    match world_kept(alloc, flows, run)? {
+        None => assert!(rt; false, "the log of a legal run stands for no world"),
+        Some(kept) => {
+            let told = told_both(alloc, &kept)?;
+            assert!(rt; told.0 == answers.0);
+            assert!(rt; told.1 == answers.1);
+        }
+    }
+    Ok(())
+}
+
+/// Only a run of all seven labels leaves nothing to do.
+fn same_quiet(
+    alloc: Global,
+    rt: &impl Abort,
+    run: &[Label],
+    world: &PlainWorld,
+) -> Result<(), Fail> {
+    let requests = requests(alloc)?;
+    let quiet = is_quiet(alloc, &requests, world)?;
+    assert!(rt; quiet == (run.len() == 7));
+    Ok(())
+}
+
+/// The engine's answers are those of the plain program's world.
+fn same_told(
+    alloc: Global,
+    rt: &impl Abort,
+    world: &PlainWorld,
+    state: State,
+) -> Result<(&'static str, &'static str), Fail> {
+    let answers = told_both(alloc, world)?;
+    assert!(rt; answers.0 == told_start(state));
+    assert!(rt; answers.1 == told_wait(state));
+    Ok(answers)
+}
+
 /// What a run's requests were answered, once the plain program and the engine agree on whether it is legal and on that.
 /// Only a run of all seven labels leaves nothing to do, and a log of the run stands for the same answers.
 fn both_after(
@@ -189,65 +292,113 @@ fn both_after(
     flows: &[PlainFlow],
     run: &[Label],
 ) -> Result<Option<(&'static str, &'static str)>, Fail> {
-    let labels = plain_run(alloc, run)?;
-    let world = after(alloc, flows, &labels)?;
     let state = state_after(run);
-    match (world, state) {
-        (Some(world), Some(state)) => {
-            let answers = (told(alloc, &world, 1)?, told(alloc, &world, 2)?);
-            let quiet = is_quiet(alloc, &requests(alloc)?, &world)?;
-            assert_eq!(rt; quiet, run.len() == 7);
-            assert!(rt; answers.0 == told_start(state));
-            assert!(rt; answers.1 == told_wait(state));
-            let entries = plain_log(alloc, run)?;
-            let kept = stands(alloc, flows, &entries)?;
-            assert!(rt; kept.is_some());
-            if let Some(kept) = kept {
-                assert!(rt; told(alloc, &kept, 1)? == answers.0);
-                assert!(rt; told(alloc, &kept, 2)? == answers.1);
-            }
-            Ok(Some(answers))
-        }
-        (None, None) => Ok(None),
-        _ => {
-            assert!(rt; false, "the engine and the plain program differ");
-            Ok(None)
+    let Some(world) = world_after(alloc, flows, run)? else {
+        assert!(rt; state.is_none(), "the engine and the plain program differ");
+        return Ok(None);
+    };
+    let Some(state) = state else {
+        assert!(rt; false, "the engine and the plain program differ");
+        return Ok(None);
+    };
+    let answers = same_told(alloc, rt, &world, state)?;
+    same_quiet(alloc, rt, run, &world)?;
+    same_kept(alloc, rt, flows, run, answers)?;
+    Ok(Some(answers))
+}
+
+/// Whether this label is legal behind a run, which joins the longer ones then.
+fn is_longer(
+    alloc: Global,
+    rt: &impl Abort,
+    flows: &[PlainFlow],
+    run: &[Label],
+    label: Label,
+    longer: &mut Vec<Vec<Label>>,
+) -> Result<bool, Fail> {
+    let mut next = Vec::from_slice(alloc, run)?;
+    next.push(label)?;
+    if both_after(alloc, rt, flows, &next)?.is_none() {
+        return Ok(false);
+    }
+    longer.push(next)?;
+    Ok(true)
+}
+
+/// Whether no label is legal behind a run. What is joins the longer ones.
+fn has_ended(
+    alloc: Global,
+    rt: &impl Abort,
+    flows: &[PlainFlow],
+    run: &[Label],
+    longer: &mut Vec<Vec<Label>>,
+) -> Result<bool, Fail> {
+    let mut ends = true;
+    for label in &KINDS {
+        if is_longer(alloc, rt, flows, run, *label, longer)? {
+            ends = false;
         }
     }
+    Ok(ends)
+}
+
+/// How many runs ended with `done 5`, and how many with `none`.
+#[derive(Clone, Copy)]
+struct Ends {
+    done: u64,
+    missing: u64,
+}
+
+/// A run that has ended is counted by its answers.
+fn count(
+    alloc: Global,
+    rt: &impl Abort,
+    flows: &[PlainFlow],
+    run: &[Label],
+    ends: &mut Ends,
+) -> Result<(), Fail> {
+    match both_after(alloc, rt, flows, run)? {
+        Some(("started", "done 5")) => ends.done = ends.done.saturating_add(1),
+        Some(("started", "none")) => ends.missing = ends.missing.saturating_add(1),
+        _ => assert!(rt; false, "another answer"),
+    }
+    Ok(())
+}
+
+/// The legal runs of one label more than these, which have so many. Those that ended are counted.
+fn longer_runs(
+    alloc: Global,
+    rt: &impl Abort,
+    flows: &[PlainFlow],
+    runs: &[Vec<Label>],
+    length: u64,
+    ends: &mut Ends,
+) -> Result<Vec<Vec<Label>>, Fail> {
+    let mut longer = Vec::new(alloc);
+    for run in runs {
+        let ended = has_ended(alloc, rt, flows, run, &mut longer)?;
+        assert!(rt; ended == (length == 7));
+        if ended {
+            count(alloc, rt, flows, run, ends)?;
+        }
+    }
+    Ok(longer)
 }
 
 #[test]
 fn every_legal_order(rt: HostRuntime) -> Result<(), Fail> {
     let alloc = rt.alloc();
     let flows = vec![in alloc; sum_flow(alloc)?]?;
-    let mut done = Vec::new(alloc);
-    let mut missing = Vec::new(alloc);
+    let mut ends = Ends {
+        done: 0,
+        missing: 0,
+    };
     let mut runs: Vec<Vec<Label>> = Vec::new(alloc);
     runs.push(Vec::new(alloc))?;
     // No run is longer than seven labels.
     for length in 0..8 {
-        let mut longer = Vec::new(alloc);
-        for run in &runs {
-            let mut ends = true;
-            for label in KINDS {
-                let mut next = Vec::from_slice(alloc, run)?;
-                next.push(label)?;
-                if both_after(alloc, &rt, &flows, &next)?.is_some() {
-                    ends = false;
-                    longer.push(next)?;
-                }
-            }
-            assert_eq!(rt; ends, length == 7);
-            if ends {
-                match both_after(alloc, &rt, &flows, run)? {
-                    Some(("started", "done 5")) => done.push(length)?,
-                    Some(("started", "none")) => missing.push(length)?,
-                    _ => assert!(rt; false, "another answer"),
-                }
-            }
-        }
-        runs = longer;
+        runs = longer_runs(alloc, &rt, &flows, &runs, length, &mut ends)?;
     }
-    assert_eq!(rt; (done.len(), missing.len()), (18, 12));
+    assert_eq!(rt; (ends.done, ends.missing), (18, 12));
     Ok(())
 }

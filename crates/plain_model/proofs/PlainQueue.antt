@@ -1,5 +1,5 @@
 -- The one queue of all links.
-use Rattle.std.proofs.Common.{◌≡◌, ℕ, List, [], ◌∷◌, ◌++◌, Some, None, refl, sym, ap, subst, ◌∙◌}
+use Rattle.std.proofs.Common.{◌≡◌, ℕ, zero, suc, ◌<◌, length, get_or, List, [], ◌∷◌, ◌++◌, Some, None, arith, refl, sym, ap, subst, ◌∙◌}
 use Rattle.plain_model.specs.declared.plain_messages.PlainMessage.{PlainMessage}
 use Rattle.plain_model.specs.declared.plain_world.PlainWaiting.{PlainWaiting}
 use Rattle.dura_value.specs.Ids.{Id}
@@ -8,7 +8,9 @@ use Rattle.dura_model.specs.Partition.{nothing, first_in, link_in}
 use Rattle.dura_model.specs.Language.{Flows}
 use Rattle.dura_model.specs.Steps.{delivered, received}
 use Rattle.plain_model.specs.Plain.{message_of, messages_of}
-use Rattle.plain_model.specs.PlainWorld.{waiting_of, waiting_in}
+use Rattle.std.specs.List.{remove}
+use Rattle.std.specs.Prelude.{option_map}
+use Rattle.plain_model.specs.PlainWorld.{waiting_of, waiting_in, at_place}
 use Rattle.dura_model.proofs.Shows.{Finds, finds, link_shorter, queued_shown}
 
 -- ---- a message joins
@@ -43,3 +45,12 @@ module _ (flows : Flows) (w : World) (queue : List Message) (from to : Id) (stam
       let found : Finds queue from to (Some (message, others)) = subst (Finds queue from to) is (finds queue from to) in
       ap (delivered flows before from to stamp) found.0
       ∙ ap (λ (links : Id → Id → List Message). received flows (record w { links = links }) from to stamp message.body) (sym (link_shorter queue others from to found.1))
+
+-- ---- a message leaves
+
+pub place_removed : (queue : List PlainMessage) (place : ℕ) (message : PlainMessage) → place < length queue → message ≡ get_or queue place message
+    → at_place (messages_of queue) place ≡ Some (message_of message, messages_of (remove queue place))
+place_removed [] place message within is = absurd (omega arith)
+place_removed (first ∷ queue) zero message within is = ap (λ (m : PlainMessage). Some (message_of m, messages_of queue)) (sym is)
+place_removed (first ∷ queue) (suc place) message within is =
+    ap (option_map (λ (found : Message × List Message). (found.0, message_of first ∷ found.1))) (place_removed queue place message (omega arith) is)

@@ -71,6 +71,11 @@ abbrev pub next_in : PlainNext → Next
 next_in (nexts.Stays m) = stays (machine_of m)
 next_in (nexts.Goes m) = goes (machine_of m)
 
+-- where a step was taken, the machine after it
+abbrev pub next_at : Bool → Machine → Next
+next_at true m = goes m
+next_at false m = stays m
+
 abbrev pub event_of : PlainEvent → Event
 event_of (events.Started argument) = started argument
 event_of (events.Finished task outcome) = finished task outcome

@@ -1,5 +1,5 @@
 -- The world that the plain program's lists stand for.
-use Rattle.std.specs.Prelude.{ℕ, List, [], ◌∷◌, map, Option, Some, None, Bool, true, false, if◌then◌else◌}
+use Rattle.std.specs.Prelude.{ℕ, zero, suc, List, [], ◌∷◌, map, option_map, Option, Some, None, Bool, true, false, if◌then◌else◌}
 use Rattle.std.specs.Str.{bytes_eq}
 use Rattle.plain_model.specs.declared.plain_world.PlainFlow.{PlainFlow}
 use Rattle.plain_model.specs.declared.plain_world.PlainWaiting.{PlainWaiting}
@@ -44,6 +44,12 @@ world_in w = record {
   taken = taken_in w.taken.items;
   answers = answers_in w.answers.items;
 }
+
+-- the message at a place of a queue, and the others
+abbrev pub at_place : List Message → ℕ → Option (Message × List Message)
+at_place [] place = None
+at_place (message ∷ queue) zero = Some (message, queue)
+at_place (message ∷ queue) (suc place) = option_map (λ found. (found.0, message ∷ found.1)) (at_place queue place)
 
 abbrev pub flows_in : List PlainFlow → Flows
 flows_in [] name = None

@@ -1,20 +1,20 @@
 //! Copies of machines.
 
-ghost use Rattle.std.specs.Prelude.{◌≡◌, ℕ, List, map, length, IfOk};
-ghost use Rattle.plain_model.specs.PlainMachine.{expression_of, statement_of, statements_of, variable_of, variables_of, task_of, tasks_of, machine_of};
+ghost use Rattle.std.specs.Prelude.{◌≡◌, ◌++◌, List, map, IfOk};
+ghost use Rattle.plain_model.specs.PlainMachine.{statements_of, variables_of, tasks_of, machine_of};
 
 use crate::plain_machine::{
     PlainExpression, PlainMachine, PlainProgress, PlainStatement, PlainTask, PlainVariable,
 };
 use crate::plain_messages::copy_id;
-use crate::plain_values::{copy_outcome, copy_scalar, copy_scalars, copy_value};
+use crate::plain_values::{copy_outcome, copy_scalar, copy_scalars, copy_value, in_front};
 use std::alloc::{AllocError, Global};
 
 fn copy_expression(
     alloc: Global,
     expression: &PlainExpression,
 ) -> Result<PlainExpression, AllocError>
-    ensures { IfOk result (λ e. expression_of e ≡ expression_of expression.now) }
+    ensures { IfOk result (λ e. e ≡ expression.now) }
 {
     match expression {
         PlainExpression::Scalar(scalar) => {
@@ -36,7 +36,7 @@ pub(crate) fn copy_statement(
     alloc: Global,
     statement: &PlainStatement,
 ) -> Result<PlainStatement, AllocError>
-    ensures { IfOk result (λ s. statement_of s ≡ statement_of statement.now) }
+    ensures { IfOk result (λ s. s ≡ statement.now) }
 {
     match statement {
         PlainStatement::Call(variable, activity, argument) => {
@@ -56,19 +56,20 @@ pub(crate) fn copy_statement(
     }
 }
 
+/// Copies of these in front of what is there.
 pub(crate) fn copy_statements(
     alloc: Global,
     statements: &[PlainStatement],
-) -> Result<Vec<PlainStatement>, AllocError>
-    ensures { IfOk result (λ s. statements_of s.items ≡ statements_of statements.now) }
+    copies: &mut Vec<PlainStatement>,
+) -> Result<(), AllocError>
+    ensures { IfOk result (λ _. statements_of copies.new.items ≡ statements_of statements.now ++ statements_of copies.old.items) }
 {
     match statements {
-        [] => Ok(Vec::new(alloc)),
+        [] => Ok(()),
         [first, rest @ ..] => {
+            copy_statements(alloc, rest, copies)?;
             let first = copy_statement(alloc, first)?;
-            let mut body = copy_statements(alloc, rest)?;
-            body.insert(0, first)?;
-            Ok(body)
+            in_front(copies, first)
         }
     }
 }
@@ -77,32 +78,33 @@ pub(crate) fn copy_variable(
     alloc: Global,
     variable: &PlainVariable,
 ) -> Result<PlainVariable, AllocError>
-    ensures { IfOk result (λ v. variable_of v ≡ variable_of variable.now) }
+    ensures { IfOk result (λ v. v ≡ variable.now) }
 {
     let name = variable.name.clone(alloc)?;
     let value = copy_value(alloc, &variable.value)?;
     Ok(PlainVariable { name, value })
 }
 
+/// Copies of these in front of what is there.
 pub(crate) fn copy_variables(
     alloc: Global,
     variables: &[PlainVariable],
-) -> Result<Vec<PlainVariable>, AllocError>
-    ensures { IfOk result (λ v. variables_of v.items ≡ variables_of variables.now) }
+    copies: &mut Vec<PlainVariable>,
+) -> Result<(), AllocError>
+    ensures { IfOk result (λ _. variables_of copies.new.items ≡ variables_of variables.now ++ variables_of copies.old.items) }
 {
     match variables {
-        [] => Ok(Vec::new(alloc)),
+        [] => Ok(()),
         [first, rest @ ..] => {
+            copy_variables(alloc, rest, copies)?;
             let first = copy_variable(alloc, first)?;
-            let mut copies = copy_variables(alloc, rest)?;
-            copies.insert(0, first)?;
-            Ok(copies)
+            in_front(copies, first)
         }
     }
 }
 
 pub(crate) fn copy_task(alloc: Global, task: &PlainTask) -> Result<PlainTask, AllocError>
-    ensures { IfOk result (λ t. task_of t ≡ task_of task.now) }
+    ensures { IfOk result (λ t. t ≡ task.now) }
 {
     let activity = task.activity.clone(alloc)?;
     let argument = copy_value(alloc, &task.argument)?;
@@ -123,16 +125,20 @@ pub(crate) fn copy_task(alloc: Global, task: &PlainTask) -> Result<PlainTask, Al
     }
 }
 
-pub(crate) fn copy_tasks(alloc: Global, tasks: &[PlainTask]) -> Result<Vec<PlainTask>, AllocError>
-    ensures { IfOk result (λ t. tasks_of t.items ≡ tasks_of tasks.now) }
+/// Copies of these in front of what is there.
+pub(crate) fn copy_tasks(
+    alloc: Global,
+    tasks: &[PlainTask],
+    copies: &mut Vec<PlainTask>,
+) -> Result<(), AllocError>
+    ensures { IfOk result (λ _. tasks_of copies.new.items ≡ tasks_of tasks.now ++ tasks_of copies.old.items) }
 {
     match tasks {
-        [] => Ok(Vec::new(alloc)),
+        [] => Ok(()),
         [first, rest @ ..] => {
+            copy_tasks(alloc, rest, copies)?;
             let first = copy_task(alloc, first)?;
-            let mut copies = copy_tasks(alloc, rest)?;
-            copies.insert(0, first)?;
-            Ok(copies)
+            in_front(copies, first)
         }
     }
 }
@@ -153,6 +159,28 @@ fn copy_progress(alloc: Global, progress: &PlainProgress) -> Result<PlainProgres
     }
 }
 
+/// What a machine has but its id, in front of what is there.
+fn copy_into(
+    alloc: Global,
+    machine: &PlainMachine,
+    copy: &mut PlainMachine,
+) -> Result<(), AllocError>
+    ensures { IfOk result (λ _. machine_of copy.new ≡ record (machine_of machine.now) {
+      id = (machine_of copy.old).id;
+      variables = (machine_of machine.now).variables ++ (machine_of copy.old).variables;
+      rest = (machine_of machine.now).rest ++ (machine_of copy.old).rest;
+      tasks = (machine_of machine.now).tasks ++ (machine_of copy.old).tasks;
+    }) }
+{
+    copy_variables(alloc, &machine.variables, &mut copy.variables)?;
+    copy_statements(alloc, &machine.rest, &mut copy.rest)?;
+    copy_tasks(alloc, &machine.tasks, &mut copy.tasks)?;
+    copy.progress = copy_progress(alloc, &machine.progress)?;
+    copy.last = machine.last;
+    copy.events = machine.events;
+    Ok(())
+}
+
 pub(crate) fn copy_machine(
     alloc: Global,
     machine: &PlainMachine,
@@ -160,17 +188,7 @@ pub(crate) fn copy_machine(
     ensures { IfOk result (λ m. machine_of m ≡ machine_of machine.now) }
 {
     let id = copy_id(alloc, &machine.id)?;
-    let variables = copy_variables(alloc, &machine.variables)?;
-    let rest = copy_statements(alloc, &machine.rest)?;
-    let tasks = copy_tasks(alloc, &machine.tasks)?;
-    let progress = copy_progress(alloc, &machine.progress)?;
-    Ok(PlainMachine {
-        id,
-        variables,
-        rest,
-        tasks,
-        last: machine.last,
-        events: machine.events,
-        progress,
-    })
+    let mut copy = PlainMachine::new(alloc, id, Vec::new(alloc));
+    copy_into(alloc, machine, &mut copy)?;
+    Ok(copy)
 }

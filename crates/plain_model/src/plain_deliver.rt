@@ -1,17 +1,19 @@
 //! Deliveries, as plain data.
 
-ghost use Rattle.std.specs.Prelude.{◌≡◌, List, [], ◌∷◌, map, option_map, IfOk, Option, Some, None};
-ghost use Rattle.dura_model.specs.Machine.{at_moment};
-ghost use Rattle.dura_model.specs.Steps.{ending, begun, flow_of, arrived, waited, reached, to_instance, answered, to_client, received, delivered};
+ghost use Rattle.std.specs.Prelude.{◌≡◌, List, [], ◌∷◌, ◌++◌, map, option_map, IfOk, Option, Some, None};
+ghost use Rattle.dura_model.specs.Machine.{at_moment, new_machine, resume, started};
+ghost use Rattle.dura_model.specs.World.{at_number};
+ghost use Rattle.dura_model.specs.Steps.{sent, kept, answering, ending, begun, flow_of, arrived, waited, reached, to_instance, answered, to_client, received, delivered};
 ghost use Rattle.plain_model.specs.Plain.{id_of, reply_of, body_of, answer_of};
 ghost use Rattle.plain_model.specs.PlainMachine.{statements_of, machine_of};
 ghost use Rattle.plain_model.specs.PlainWorld.{waiting_in, flows_in, world_in, if_moved};
 
 use crate::plain_copies::{copy_machine, copy_statements};
-use crate::plain_find::{copy_waiting, find_flow, find_instance, find_taken, first_in};
+use crate::plain_find::{copy_waiting, find_flow, find_instance, find_taken, take_first};
 use crate::plain_machine::{PlainEvent, PlainMachine};
-use crate::plain_messages::{PlainAnswer, PlainBody, PlainId, PlainReply, copy_id};
+use crate::plain_messages::{PlainAnswer, PlainBody, PlainId, PlainReply, copy_answer, copy_id};
 use crate::plain_resume::resume;
+use crate::plain_values::{copy_value, in_front};
 use crate::plain_world::{PlainFlow, PlainGiven, PlainInstance, PlainWaiting, PlainWorld, ending};
 use dura_value::Value;
 use std::alloc::{AllocError, Global};
@@ -25,6 +27,32 @@ fn flow_of<'f>(flows: &'f [PlainFlow], id: &PlainId) -> Option<&'f PlainFlow>
     }
 }
 
+/// An instance's machine that was started with an argument.
+fn started(
+    alloc: Global,
+    flow: &PlainFlow,
+    id: &PlainId,
+    argument: &Value,
+    stamp: u64,
+) -> Result<PlainMachine, AllocError>
+    ensures { IfOk result (λ m. machine_of m ≡ resume (new_machine (id_of id.now) (statements_of flow.now.body.items)) (started argument.now) stamp) }
+{
+    let argument = copy_value(alloc, argument)?;
+    let event = PlainEvent::Started(argument);
+    let machine = unstarted(alloc, flow, id)?;
+    resume(alloc, machine, &event, stamp)
+}
+
+/// An instance's machine before it was started.
+fn unstarted(alloc: Global, flow: &PlainFlow, id: &PlainId) -> Result<PlainMachine, AllocError>
+    ensures { IfOk result (λ m. machine_of m ≡ new_machine (id_of id.now) (statements_of flow.now.body.items)) }
+{
+    let id = copy_id(alloc, id)?;
+    let mut machine = PlainMachine::new(alloc, id, Vec::new(alloc));
+    copy_statements(alloc, &flow.body, &mut machine.rest)?;
+    Ok(machine)
+}
+
 /// An instance begins with an argument, where its flow is there, and the sender is answered.
 fn begin(
     world: &mut PlainWorld,
@@ -32,20 +60,17 @@ fn begin(
     flows: &[PlainFlow],
     from: &PlainId,
     to: &PlainId,
-    argument: Value,
+    argument: &Value,
     reply: PlainReply,
     stamp: u64,
 ) -> Result<(), AllocError>
-    ensures { IfOk result (λ _. world_in world.new ≡ begun (world_in world.old) (id_of from.now) (id_of to.now) argument (reply_of reply) stamp (flow_of (flows_in flows.now) (id_of to.now))) }
+    ensures { IfOk result (λ _. world_in world.new ≡ begun (world_in world.old) (id_of from.now) (id_of to.now) argument.now (reply_of reply) stamp (flow_of (flows_in flows.now) (id_of to.now))) }
 {
     match flow_of(flows, to) {
         None => world.answer(alloc, to, from, reply, PlainAnswer::Unknown),
         Some(flow) => {
-            let body = copy_statements(alloc, &flow.body)?;
-            let id = copy_id(alloc, to)?;
-            let machine = PlainMachine::new(alloc, id, body);
-            let machine = resume(alloc, machine, PlainEvent::Started(argument), stamp)?;
             world.answer(alloc, to, from, reply, PlainAnswer::Started)?;
+            let machine = started(alloc, flow, to, argument, stamp)?;
             world.keep(alloc, to, machine, Vec::new(alloc))
         }
     }
@@ -59,28 +84,42 @@ fn arrive(
     from: &PlainId,
     to: &PlainId,
     stamp: u64,
-    body: PlainBody,
+    body: &PlainBody,
 ) -> Result<(), AllocError>
-    ensures { IfOk result (λ _. world_in world.new ≡ arrived (flows_in flows.now) (world_in world.old) (id_of from.now) (id_of to.now) stamp (body_of body)) }
+    ensures { IfOk result (λ _. world_in world.new ≡ arrived (flows_in flows.now) (world_in world.old) (id_of from.now) (id_of to.now) stamp (body_of body.now)) }
 {
     match body {
         PlainBody::Start(argument, reply) => {
-            begin(world, alloc, flows, from, to, argument, reply, stamp)
+            begin(world, alloc, flows, from, to, argument, *reply, stamp)
         }
         PlainBody::Wait(number) => world.answer(
             alloc,
             to,
             from,
-            PlainReply::Request(number),
+            PlainReply::Request(*number),
             PlainAnswer::Missing,
         ),
         PlainBody::Result(_, _) => Ok(()),
     }
 }
 
-/// A wait is answered where the instance has ended, and kept else.
+/// One more client waits, behind the others.
 #[tactic(auto, using(crate::proofs::PlainQueue::waiting_more))]
-fn wait_at(
+fn wait_on(
+    waiting: &mut Vec<PlainWaiting>,
+    alloc: Global,
+    client: &PlainId,
+    number: u64,
+) -> Result<(), AllocError>
+    ensures { IfOk result (λ _. waiting_in waiting.new.items ≡ waiting_in waiting.old.items ++ (id_of client.now, number) ∷ []) }
+{
+    let client = copy_id(alloc, client)?;
+    waiting.push(PlainWaiting { client, number })?;
+    Ok(())
+}
+
+/// An instance is kept with one more that waits.
+fn put_waiting(
     world: &mut PlainWorld,
     alloc: Global,
     from: &PlainId,
@@ -89,17 +128,46 @@ fn wait_at(
     machine: PlainMachine,
     mut waiting: Vec<PlainWaiting>,
 ) -> Result<(), AllocError>
+    ensures { IfOk result (λ _. world_in world.new ≡ kept (world_in world.old) (id_of to.now) (machine_of machine) (waiting_in waiting.items ++ (id_of from.now, number) ∷ []) None) }
+{
+    wait_on(&mut waiting, alloc, from, number)?;
+    world.put(alloc, to, machine, waiting)
+}
+
+/// An instance is kept, and a message to it is answered.
+fn put_answered(
+    world: &mut PlainWorld,
+    alloc: Global,
+    from: &PlainId,
+    to: &PlainId,
+    machine: PlainMachine,
+    waiting: Vec<PlainWaiting>,
+    reply: PlainReply,
+    answer: PlainAnswer,
+) -> Result<(), AllocError>
+    ensures { IfOk result (λ _. world_in world.new ≡ sent (kept (world_in world.old) (id_of to.now) (machine_of machine) (waiting_in waiting.items) None) (answering (id_of to.now) (id_of from.now) (reply_of reply) (answer_of answer))) }
+{
+    world.put(alloc, to, machine, waiting)?;
+    world.answer(alloc, to, from, reply, answer)
+}
+
+/// A wait is answered where the instance has ended, and kept else.
+fn wait_at(
+    world: &mut PlainWorld,
+    alloc: Global,
+    from: &PlainId,
+    to: &PlainId,
+    number: u64,
+    machine: PlainMachine,
+    waiting: Vec<PlainWaiting>,
+) -> Result<(), AllocError>
     ensures { IfOk result (λ _. world_in world.new ≡ waited (world_in world.old) (id_of from.now) (id_of to.now) number (machine_of machine) (waiting_in waiting.items) (ending (machine_of machine).progress)) }
 {
     match ending(alloc, &machine.progress)? {
-        None => {
-            let client = copy_id(alloc, from)?;
-            waiting.push(PlainWaiting { client, number })?;
-            world.put(alloc, to, machine, waiting)
-        }
+        None => put_waiting(world, alloc, from, to, number, machine, waiting),
         Some(answer) => {
-            world.put(alloc, to, machine, waiting)?;
-            world.answer(alloc, to, from, PlainReply::Request(number), answer)
+            let reply = PlainReply::Request(number);
+            put_answered(world, alloc, from, to, machine, waiting, reply, answer)
         }
     }
 }
@@ -112,22 +180,34 @@ fn reach(
     to: &PlainId,
     machine: PlainMachine,
     waiting: Vec<PlainWaiting>,
-    body: PlainBody,
+    body: &PlainBody,
 ) -> Result<(), AllocError>
-    ensures { IfOk result (λ _. world_in world.new ≡ reached (world_in world.old) (id_of from.now) (id_of to.now) (machine_of machine) (waiting_in waiting.items) (body_of body)) }
+    ensures { IfOk result (λ _. world_in world.new ≡ reached (world_in world.old) (id_of from.now) (id_of to.now) (machine_of machine) (waiting_in waiting.items) (body_of body.now)) }
 {
     match body {
         PlainBody::Start(_, reply) => {
-            world.put(alloc, to, machine, waiting)?;
-            world.answer(alloc, to, from, reply, PlainAnswer::There)
+            let answer = PlainAnswer::There;
+            put_answered(world, alloc, from, to, machine, waiting, *reply, answer)
         }
-        PlainBody::Wait(number) => wait_at(world, alloc, from, to, number, machine, waiting),
+        PlainBody::Wait(number) => wait_at(world, alloc, from, to, *number, machine, waiting),
         PlainBody::Result(_, _) => world.put(alloc, to, machine, waiting),
     }
 }
 
+/// Who waits for an instance.
+pub(crate) fn waiting_for(
+    alloc: Global,
+    instance: &PlainInstance,
+) -> Result<Vec<PlainWaiting>, AllocError>
+    ensures { IfOk result (λ w. waiting_in w.items ≡ waiting_in instance.now.waiting.items) }
+{
+    let mut waiting = Vec::new(alloc);
+    copy_waiting(alloc, &instance.waiting, &mut waiting)?;
+    Ok(waiting)
+}
+
 /// An instance's machine at this moment, and who waits for it.
-pub(crate) fn copy_at(
+fn copy_at(
     alloc: Global,
     instance: &PlainInstance,
     stamp: u64,
@@ -137,7 +217,7 @@ pub(crate) fn copy_at(
 {
     let mut machine = copy_machine(alloc, &instance.machine)?;
     machine.last = stamp;
-    let waiting = copy_waiting(alloc, &instance.waiting)?;
+    let waiting = waiting_for(alloc, instance)?;
     Ok((machine, waiting))
 }
 
@@ -149,9 +229,9 @@ fn to_instance(
     from: &PlainId,
     to: &PlainId,
     stamp: u64,
-    body: PlainBody,
+    body: &PlainBody,
 ) -> Result<bool, AllocError>
-    ensures { IfOk result (λ moved. if_moved moved (world_in world.new) ≡ to_instance (flows_in flows.now) (world_in world.old) (id_of from.now) (id_of to.now) stamp (body_of body) ((world_in world.old).orchestrations (id_of to.now))) }
+    ensures { IfOk result (λ moved. if_moved moved (world_in world.new) ≡ to_instance (flows_in flows.now) (world_in world.old) (id_of from.now) (id_of to.now) stamp (body_of body.now) ((world_in world.old).orchestrations (id_of to.now))) }
 {
     match find_instance(&world.instances, to) {
         None => {
@@ -169,42 +249,55 @@ fn to_instance(
     }
 }
 
+/// An answer is recorded.
+fn give(
+    world: &mut PlainWorld,
+    alloc: Global,
+    to: &PlainId,
+    number: u64,
+    answer: &PlainAnswer,
+) -> Result<(), AllocError>
+    ensures { IfOk result (λ _. world_in world.new ≡ record (world_in world.old) { answers = at_number (world_in world.old).answers (id_of to.now) number (Some (answer_of answer.now)) }) }
+{
+    let client = copy_id(alloc, to)?;
+    let answer = copy_answer(alloc, answer)?;
+    in_front(
+        &mut world.answers,
+        PlainGiven {
+            client,
+            number,
+            answer,
+        },
+    )
+}
+
 /// An answer to a request that was taken is recorded.
 fn answered(
     world: &mut PlainWorld,
     alloc: Global,
     to: &PlainId,
     number: u64,
-    answer: PlainAnswer,
+    answer: &PlainAnswer,
 ) -> Result<(), AllocError>
-    ensures { IfOk result (λ _. world_in world.new ≡ answered (world_in world.old) (id_of to.now) number (answer_of answer) ((world_in world.old).taken (id_of to.now) number)) }
+    ensures { IfOk result (λ _. world_in world.new ≡ answered (world_in world.old) (id_of to.now) number (answer_of answer.now) ((world_in world.old).taken (id_of to.now) number)) }
 {
     if find_taken(&world.taken, to, number).is_none() {
         return Ok(());
     }
-    let client = copy_id(alloc, to)?;
-    world.answers.insert(
-        0,
-        PlainGiven {
-            client,
-            number,
-            answer,
-        },
-    )?;
-    Ok(())
+    give(world, alloc, to, number, answer)
 }
 
 fn to_client(
     world: &mut PlainWorld,
     alloc: Global,
     to: &PlainId,
-    body: PlainBody,
+    body: &PlainBody,
 ) -> Result<(), AllocError>
-    ensures { IfOk result (λ _. world_in world.new ≡ to_client (world_in world.old) (id_of to.now) (body_of body)) }
+    ensures { IfOk result (λ _. world_in world.new ≡ to_client (world_in world.old) (id_of to.now) (body_of body.now)) }
 {
     match body {
         PlainBody::Result(PlainReply::Request(number), answer) => {
-            answered(world, alloc, to, number, answer)
+            answered(world, alloc, to, *number, answer)
         }
         _ => Ok(()),
     }
@@ -218,9 +311,9 @@ fn receive(
     from: &PlainId,
     to: &PlainId,
     stamp: u64,
-    body: PlainBody,
+    body: &PlainBody,
 ) -> Result<bool, AllocError>
-    ensures { IfOk result (λ moved. if_moved moved (world_in world.new) ≡ received (flows_in flows.now) (world_in world.old) (id_of from.now) (id_of to.now) stamp (body_of body)) }
+    ensures { IfOk result (λ moved. if_moved moved (world_in world.new) ≡ received (flows_in flows.now) (world_in world.old) (id_of from.now) (id_of to.now) stamp (body_of body.now)) }
 {
     match to {
         PlainId::Orchestration(_, _) => { to_instance(world, alloc, flows, from, to, stamp, body) }
@@ -243,11 +336,8 @@ pub(crate) fn deliver(
 ) -> Result<bool, AllocError>
     ensures { IfOk result (λ moved. if_moved moved (world_in world.new) ≡ delivered (flows_in flows.now) (world_in world.old) (id_of from.now) (id_of to.now) stamp ((world_in world.old).links (id_of from.now) (id_of to.now))) }
 {
-    match first_in(alloc, &world.queue, from, to)? {
+    match take_first(&mut world.queue, from, to) {
         None => Ok(false),
-        Some((message, rest)) => {
-            world.queue = rest;
-            receive(world, alloc, flows, from, to, stamp, message.body)
-        }
+        Some(message) => receive(world, alloc, flows, from, to, stamp, &message.body),
     }
 }

@@ -1,14 +1,14 @@
 //! What expressions give, and what an event changes in a machine's lists.
 
-ghost use Rattle.std.specs.Prelude.{◌≡◌, ℕ, List, ◌∷◌, map, codes, Some, IfOk};
+ghost use Rattle.std.specs.Prelude.{◌≡◌, ℕ, List, ◌∷◌, ◌++◌, map, codes, Some, IfOk};
 ghost use Rattle.dura_model.specs.Language.{eval, value_in, set_in};
 ghost use Rattle.dura_model.specs.Machine.{with_outcome, first_of};
 ghost use Rattle.plain_model.specs.PlainMachine.{expression_of, variables_of, task_of, tasks_of};
 
-use crate::plain_copies::{copy_task, copy_tasks, copy_variable, copy_variables};
+use crate::plain_copies::{copy_task, copy_tasks, copy_variables};
 use crate::plain_machine::{PlainExpression, PlainTask, PlainVariable};
 use crate::plain_messages::same_text;
-use crate::plain_values::{copy_outcome, copy_scalars, copy_value, text_of, value_of};
+use crate::plain_values::{copy_outcome, copy_scalars, copy_value, in_front, text_of, value_of};
 use activity_table::Outcome;
 use dura_value::{Text, Value};
 use std::alloc::{AllocError, Global};
@@ -37,33 +37,39 @@ fn value_in(
     }
 }
 
-/// The variables once this one is set.
+/// A variable with this value, in front of these.
+fn set_first(
+    alloc: Global,
+    name: &Text,
+    value: &Value,
+    changed: &mut Vec<PlainVariable>,
+) -> Result<(), AllocError>
+    ensures { IfOk result (λ _. variables_of changed.new.items ≡ (name.now, value.now) ∷ variables_of changed.old.items) }
+{
+    let name = name.clone(alloc)?;
+    let value = copy_value(alloc, value)?;
+    in_front(changed, PlainVariable { name, value })
+}
+
+/// The variables once this one is set, in front of what is there.
 pub(crate) fn set_in(
     alloc: Global,
     variables: &[PlainVariable],
     name: &Text,
-    value: Value,
-) -> Result<Vec<PlainVariable>, AllocError>
-    ensures { IfOk result (λ v. variables_of v.items ≡ set_in (variables_of variables.now) name.now value) }
+    value: &Value,
+    changed: &mut Vec<PlainVariable>,
+) -> Result<(), AllocError>
+    ensures { IfOk result (λ _. variables_of changed.new.items ≡ set_in (variables_of variables.now) name.now value.now ++ variables_of changed.old.items) }
 {
     match variables {
-        [] => {
-            let name = name.clone(alloc)?;
-            let mut changed = Vec::new(alloc);
-            changed.push(PlainVariable { name, value })?;
-            Ok(changed)
-        }
+        [] => set_first(alloc, name, value, changed),
         [set, rest @ ..] => {
             if same_text(&set.name, name) {
-                let name = name.clone(alloc)?;
-                let mut changed = copy_variables(alloc, rest)?;
-                changed.insert(0, PlainVariable { name, value })?;
-                Ok(changed)
+                copy_variables(alloc, rest, changed)?;
+                set_first(alloc, name, value, changed)
             } else {
-                let set = copy_variable(alloc, set)?;
-                let mut changed = set_in(alloc, rest, name, value)?;
-                changed.insert(0, set)?;
-                Ok(changed)
+                set_in(alloc, rest, name, value, changed)?;
+                set_first(alloc, &set.name, &set.value, changed)
             }
         }
     }
@@ -108,28 +114,27 @@ fn with_first(alloc: Global, task: &PlainTask, outcome: &Outcome) -> Result<Plai
     })
 }
 
-/// The tasks once this one has an outcome.
+/// The tasks once this one has an outcome, in front of what is there.
 pub(crate) fn with_outcome(
     alloc: Global,
     tasks: &[PlainTask],
     number: usize,
     outcome: &Outcome,
-) -> Result<Vec<PlainTask>, AllocError>
-    ensures { IfOk result (λ t. tasks_of t.items ≡ with_outcome (tasks_of tasks.now) number outcome.now) }
+    changed: &mut Vec<PlainTask>,
+) -> Result<(), AllocError>
+    ensures { IfOk result (λ _. tasks_of changed.new.items ≡ with_outcome (tasks_of tasks.now) number outcome.now ++ tasks_of changed.old.items) }
 {
     match tasks {
-        [] => Ok(Vec::new(alloc)),
+        [] => Ok(()),
         [task, rest @ ..] => {
             if number == 0 {
+                copy_tasks(alloc, rest, changed)?;
                 let task = with_first(alloc, task, outcome)?;
-                let mut changed = copy_tasks(alloc, rest)?;
-                changed.insert(0, task)?;
-                Ok(changed)
+                in_front(changed, task)
             } else {
+                with_outcome(alloc, rest, number - 1, outcome, changed)?;
                 let task = copy_task(alloc, task)?;
-                let mut changed = with_outcome(alloc, rest, number - 1, outcome)?;
-                changed.insert(0, task)?;
-                Ok(changed)
+                in_front(changed, task)
             }
         }
     }

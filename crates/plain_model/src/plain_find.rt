@@ -1,12 +1,14 @@
 //! What stands in the lists of a world, searched from the front.
 
-ghost use Rattle.std.specs.Prelude.{◌≡◌, List, [], ◌∷◌, map, option_map, IfOk};
+ghost use Rattle.std.specs.Prelude.{◌≡◌, ◌<◌, List, [], ◌∷◌, ◌++◌, length, map, option_map, IfOk, IfSome};
+ghost use Rattle.std.specs.Option.{option_and_then};
 ghost use Rattle.dura_model.specs.Partition.{first_in};
 ghost use Rattle.plain_model.specs.Plain.{id_of, message_of, messages_of};
 ghost use Rattle.plain_model.specs.PlainMachine.{statements_of};
-ghost use Rattle.plain_model.specs.PlainWorld.{orchestration_of, instances_in, taken_in, flows_in};
+ghost use Rattle.plain_model.specs.PlainWorld.{orchestration_of, instances_in, taken_in, flows_in, waiting_in, at_place};
 
-use crate::plain_messages::{PlainId, PlainMessage, copy_id, copy_message, same_id, same_text};
+use crate::plain_messages::{PlainId, PlainMessage, copy_id, same_id, same_text};
+use crate::plain_values::in_front;
 use crate::plain_world::{PlainFlow, PlainInstance, PlainTaken, PlainWaiting};
 use dura_value::Text;
 use std::alloc::{AllocError, Global};
@@ -63,67 +65,59 @@ pub fn find_flow<'f>(flows: &'f [PlainFlow], name: &Text) -> Option<&'f PlainFlo
     }
 }
 
-fn copy_messages(alloc: Global, messages: &[PlainMessage]) -> Result<Vec<PlainMessage>, AllocError>
-    ensures { IfOk result (λ m. m.items ≡ messages.now) }
-{
-    match messages {
-        [] => Ok(Vec::new(alloc)),
-        [first, rest @ ..] => {
-            let first = copy_message(alloc, first)?;
-            let mut copies = copy_messages(alloc, rest)?;
-            copies.insert(0, first)?;
-            Ok(copies)
-        }
-    }
-}
-
-/// The first message from one to another, and the others.
-pub(crate) fn first_in(
-    alloc: Global,
-    queue: &[PlainMessage],
-    from: &PlainId,
-    to: &PlainId,
-) -> Result<Option<(PlainMessage, Vec<PlainMessage>)>, AllocError>
-    ensures { IfOk result (λ found. option_map (λ f. (message_of f.0, messages_of f.1.items)) found ≡ first_in (messages_of queue.now) (id_of from.now) (id_of to.now)) }
+/// The place of the first message from one to another.
+fn place_of(queue: &[PlainMessage], from: &PlainId, to: &PlainId) -> Option<usize>
+    ensures there { IfSome result (λ place. place < length queue.now) }
+    ensures first { option_and_then (at_place (messages_of queue.now)) result ≡ first_in (messages_of queue.now) (id_of from.now) (id_of to.now) }
 {
     match queue {
-        [] => Ok(None),
+        [] => None,
         [first, rest @ ..] => {
-            let first_copy = copy_message(alloc, first)?;
             if same_id(&first.from, from) && same_id(&first.to, to) {
-                let others = copy_messages(alloc, rest)?;
-                return Ok(Some((first_copy, others)));
+                return Some(0);
             }
-            match first_in(alloc, rest, from, to)? {
-                None => Ok(None),
-                Some((found, mut others)) => {
-                    others.insert(0, first_copy)?;
-                    Ok(Some((found, others)))
-                }
+            match place_of(rest, from, to) {
+                None => None,
+                Some(place) => Some(place + 1),
             }
         }
     }
 }
 
+/// The first message from one to another leaves its queue.
+pub(crate) fn take_first(
+    queue: &mut Vec<PlainMessage>,
+    from: &PlainId,
+    to: &PlainId,
+) -> Option<PlainMessage>
+    ensures { option_map (λ m. (message_of m, messages_of queue.new.items)) result ≡ first_in (messages_of queue.old.items) (id_of from.now) (id_of to.now) }
+{
+    match place_of(queue, from, to) {
+        None => None,
+        Some(place) => Some(queue.remove(place)),
+    }
+}
+
+/// Copies of these in front of what is there.
 pub(crate) fn copy_waiting(
     alloc: Global,
     waiting: &[PlainWaiting],
-) -> Result<Vec<PlainWaiting>, AllocError>
-    ensures { IfOk result (λ w. w.items ≡ waiting.now) }
+    copies: &mut Vec<PlainWaiting>,
+) -> Result<(), AllocError>
+    ensures { IfOk result (λ _. waiting_in copies.new.items ≡ waiting_in waiting.now ++ waiting_in copies.old.items) }
 {
     match waiting {
-        [] => Ok(Vec::new(alloc)),
+        [] => Ok(()),
         [first, rest @ ..] => {
+            copy_waiting(alloc, rest, copies)?;
             let client = copy_id(alloc, &first.client)?;
-            let mut copies = copy_waiting(alloc, rest)?;
-            copies.insert(
-                0,
+            in_front(
+                copies,
                 PlainWaiting {
                     client,
                     number: first.number,
                 },
-            )?;
-            Ok(copies)
+            )
         }
     }
 }

@@ -11,7 +11,7 @@ use dura_value::{Scalar, Scalars, Text, Value};
 use std::alloc::{AllocError, Global};
 
 /// An expression.
-#[derive(Debug, Drop)]
+#[derive(Drop)]
 pub enum PlainExpression {
     /// It stands for itself.
     Scalar(Scalar),
@@ -22,7 +22,7 @@ pub enum PlainExpression {
 }
 
 /// A statement.
-#[derive(Debug, Drop)]
+#[derive(Drop)]
 pub enum PlainStatement {
     /// Sets a variable to what an activity gives, called on an argument.
     Call(Text, Text, PlainExpression),
@@ -33,7 +33,7 @@ pub enum PlainStatement {
 }
 
 /// A variable that was set.
-#[derive(Debug, Drop)]
+#[derive(Drop)]
 pub struct PlainVariable {
     /// Its name.
     pub name: Text,
@@ -42,7 +42,7 @@ pub struct PlainVariable {
 }
 
 /// An activity that was asked for.
-#[derive(Debug, Drop)]
+#[derive(Drop)]
 pub struct PlainTask {
     /// Its name.
     pub activity: Text,
@@ -53,7 +53,7 @@ pub struct PlainTask {
 }
 
 /// How far a machine is.
-#[derive(Debug, Drop)]
+#[derive(Drop)]
 pub enum PlainProgress {
     /// It runs.
     Running,
@@ -64,7 +64,7 @@ pub enum PlainProgress {
 }
 
 /// A machine.
-#[derive(Debug, Drop)]
+#[derive(Drop)]
 pub struct PlainMachine {
     /// Whose it is.
     pub id: PlainId,
@@ -83,7 +83,7 @@ pub struct PlainMachine {
 }
 
 /// A machine that stays as it is, or has taken a step.
-#[derive(Debug, Drop)]
+#[derive(Drop)]
 pub enum PlainNext {
     /// It stays.
     Stays(PlainMachine),
@@ -92,7 +92,7 @@ pub enum PlainNext {
 }
 
 /// What reaches a machine.
-#[derive(Debug, Drop)]
+#[derive(Drop)]
 pub enum PlainEvent {
     /// It was started with an argument.
     Started(Value),

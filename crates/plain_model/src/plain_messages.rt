@@ -12,7 +12,7 @@ use dura_value::{Text, Value};
 use std::alloc::{AllocError, Global};
 
 /// Who sends and receives messages.
-#[derive(Debug, Drop)]
+#[derive(Drop)]
 pub enum PlainId {
     /// An instance of a flow, by its key.
     Orchestration(Text, Text),
@@ -23,7 +23,7 @@ pub enum PlainId {
 }
 
 /// Who waits for an answer.
-#[derive(Clone, Copy, Debug, PartialEq, Eq)]
+#[derive(Clone, Copy, PartialEq, Eq)]
 pub enum PlainReply {
     /// Nobody.
     Nobody,
@@ -34,7 +34,7 @@ pub enum PlainReply {
 }
 
 /// What a request or a task is answered.
-#[derive(Debug, Drop)]
+#[derive(Drop)]
 pub enum PlainAnswer {
     /// It ended with a value.
     Done(Value),
@@ -51,7 +51,7 @@ pub enum PlainAnswer {
 }
 
 /// What a message says.
-#[derive(Debug, Drop)]
+#[derive(Drop)]
 pub enum PlainBody {
     /// Start an instance with an argument.
     Start(Value, PlainReply),
@@ -62,7 +62,7 @@ pub enum PlainBody {
 }
 
 /// A message.
-#[derive(Debug, Drop)]
+#[derive(Drop)]
 pub struct PlainMessage {
     /// Its sender.
     pub from: PlainId,
@@ -73,7 +73,7 @@ pub struct PlainMessage {
 }
 
 /// A step of the failure-free machine.
-#[derive(Debug, Drop)]
+#[derive(Drop)]
 pub enum PlainLabel {
     /// A request of a client is taken, under this number.
     Take(PlainId, u64, PlainMessage),

@@ -1,6 +1,6 @@
 //! Whether nothing is left to do in a world, as plain data.
 
-ghost use Rattle.std.specs.Prelude.{◌≡◌, ◌&&◌, Bool, true, false, List, map, is_some, not, IfOk};
+ghost use Rattle.std.specs.Prelude.{◌≡◌, ◌&&◌, Bool, true, false, List, [], ◌∷◌, ◌++◌, map, is_some, not, IfOk};
 ghost use Rattle.dura_model.specs.Language.{Flows};
 ghost use Rattle.dura_model.specs.Entries.{asked_number};
 ghost use Rattle.dura_model.specs.Legal.{Quiet, is_taken, is_answered, may_ask, is_due};
@@ -128,26 +128,37 @@ fn is_due(world: &PlainWorld, before: &[PlainMessage], request: &PlainMessage) -
     !is_taken(world, request) && may_ask(world, &request.from, true, true, before)
 }
 
-/// Whether none of these requests is due, which stand behind others.
+/// One more request behind these.
 #[tactic(auto, using(crate::proofs::PlainQueue::messages_more))]
+fn add_request(
+    alloc: Global,
+    requests: &mut Vec<PlainMessage>,
+    request: &PlainMessage,
+) -> Result<(), AllocError>
+    ensures { IfOk result (λ _. messages_of requests.new.items ≡ messages_of requests.old.items ++ message_of request.now ∷ []) }
+{
+    let copy = copy_message(alloc, request)?;
+    requests.push(copy)?;
+    Ok(())
+}
+
+/// Whether none of these requests is due, which stand behind others.
 fn none_due(
     alloc: Global,
     world: &PlainWorld,
-    before: Vec<PlainMessage>,
+    before: &mut Vec<PlainMessage>,
     requests: &[PlainMessage],
 ) -> Result<bool, AllocError>
-    ensures { IfOk result (λ none. none ≡ none_due (world_in world.now) (messages_of before.items) (messages_of requests.now)) }
+    ensures { IfOk result (λ none. none ≡ none_due (world_in world.now) (messages_of before.old.items) (messages_of requests.now)) }
 {
     match requests {
         [] => Ok(true),
         [first, rest @ ..] => {
-            if is_due(world, &before, first) {
+            if is_due(world, before, first) {
                 return Ok(false);
             }
-            let copy = copy_message(alloc, first)?;
-            let mut more = before;
-            more.push(copy)?;
-            none_due(alloc, world, more, rest)
+            add_request(alloc, before, first)?;
+            none_due(alloc, world, before, rest)
         }
     }
 }
@@ -160,7 +171,8 @@ fn nothing_left(
 ) -> Result<bool, AllocError>
     ensures { IfOk result (λ quiet. quiet ≡ nothing_left (messages_of requests.now) world.now) }
 {
-    let none = none_due(alloc, world, Vec::new(alloc), requests)?;
+    let mut before = Vec::new(alloc);
+    let none = none_due(alloc, world, &mut before, requests)?;
     let resting = all_resting(&world.instances, &world.instances);
     let still = all_to_entities(&world.queue);
     Ok(still && resting && none)

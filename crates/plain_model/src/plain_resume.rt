@@ -1,9 +1,9 @@
 //! How an event resumes a machine.
 
-ghost use Rattle.std.specs.Prelude.{◌≡◌, ℕ, List, ◌∷◌, ◌++◌, ◌+◌, ◌≤◌, ◌<◌, drop, map, length, option_map, codes, Some, Ok, IfOk, vec_len};
+ghost use Rattle.std.specs.Prelude.{◌≡◌, ℕ, List, [], ◌∷◌, ◌++◌, ◌+◌, ◌≤◌, ◌<◌, drop, map, length, option_map, codes, None, Some, Ok, IfOk, vec_len};
 ghost use Rattle.dura_model.specs.Language.{eval, value_in, set_in};
 ghost use Rattle.dura_model.specs.Machine.{with_outcome, first_of, next_of, running, thrown, called, awaited, returned, recorded, go, most_steps, resume, task_at, outcome_of};
-ghost use Rattle.plain_model.specs.PlainMachine.{expression_of, statement_of, statements_of, variables_of, task_of, tasks_of, machine_of, event_of, next_in};
+ghost use Rattle.plain_model.specs.PlainMachine.{expression_of, statement_of, statements_of, variables_of, task_of, tasks_of, machine_of, event_of, next_in, next_at};
 
 use crate::plain_copies::copy_statement;
 use crate::plain_eval::{eval, set_in, with_outcome};
@@ -11,7 +11,7 @@ use crate::plain_machine::{
     PlainEvent, PlainExpression, PlainMachine, PlainNext, PlainProgress, PlainStatement, PlainTask,
     task_at,
 };
-use crate::plain_values::{copy_outcome, text_of};
+use crate::plain_values::{copy_outcome, in_front, text_of};
 use activity_table::Outcome;
 use dura_value::{Text, Value};
 use std::alloc::{AllocError, Global};
@@ -23,60 +23,103 @@ const MOST_STEPS: u32 = 10_000;
 const MOST_EVENTS: u64 = 10_000;
 
 /// A fault ends it as failed.
-fn thrown(mut machine: PlainMachine, fault: Text) -> PlainMachine
-    ensures { machine_of result ≡ thrown (machine_of machine) fault }
+fn thrown(machine: &mut PlainMachine, fault: Text)
+    ensures { machine_of machine.new ≡ thrown (machine_of machine.old) fault }
 {
     machine.rest.clear();
     machine.progress = PlainProgress::Failed(fault);
-    machine
+}
+
+/// A fault of this name ends it.
+fn faulted(
+    alloc: Global,
+    mut machine: PlainMachine,
+    fault: &str,
+) -> Result<PlainMachine, AllocError>
+    requires { length fault.now ≤ 4096 }
+    ensures { IfOk result (λ m. machine_of m ≡ thrown (machine_of machine) fault.now) }
+{
+    let fault = text_of(alloc, fault)?;
+    thrown(&mut machine, fault);
+    Ok(machine)
 }
 
 /// The first of its statements is gone.
 #[tactic(auto, using(crate::proofs::Plain::later_statements))]
-fn without_first(mut machine: PlainMachine) -> PlainMachine
-    requires { 0 < vec_len machine.rest }
-    ensures { machine_of result ≡ record (machine_of machine) { rest = drop 1 (machine_of machine).rest } }
+fn without_first(machine: &mut PlainMachine)
+    requires { 0 < vec_len machine.old.rest }
+    ensures { machine_of machine.new ≡ record (machine_of machine.old) { rest = drop 1 (machine_of machine.old).rest } }
 {
     machine.rest.remove(0);
-    machine
 }
 
-/// A machine asks for an activity, and awaits it.
+/// One more task.
 #[tactic(auto, using(crate::proofs::Plain::one_more_task))]
-fn scheduled(
-    mut machine: PlainMachine,
-    variable: Text,
-    activity: Text,
+fn add_task(
+    alloc: Global,
+    tasks: &mut Vec<PlainTask>,
+    activity: &Text,
     argument: Value,
-) -> Result<PlainMachine, AllocError>
-    ensures { IfOk result (λ m. machine_of m ≡ called (machine_of machine) variable activity (machine_of machine).rest (Ok argument)) }
+) -> Result<(), AllocError>
+    ensures { IfOk result (λ _. tasks_of tasks.new.items ≡ tasks_of tasks.old.items ++ record { activity = activity.now; argument = argument; outcome = None } ∷ []) }
 {
-    let number = machine.tasks.len();
-    machine
-        .rest
-        .insert(0, PlainStatement::Await(variable, number))?;
-    machine.tasks.push(PlainTask {
+    let activity = activity.clone(alloc)?;
+    tasks.push(PlainTask {
         activity,
         argument,
         outcome: None,
     })?;
-    Ok(machine)
+    Ok(())
+}
+
+/// A machine asks for an activity, and awaits it.
+fn scheduled(
+    alloc: Global,
+    machine: &mut PlainMachine,
+    variable: &Text,
+    activity: &Text,
+    argument: Value,
+) -> Result<(), AllocError>
+    ensures { IfOk result (λ _. machine_of machine.new ≡ called (machine_of machine.old) variable.now activity.now (machine_of machine.old).rest (Ok argument)) }
+{
+    let number = machine.tasks.len();
+    add_task(alloc, &mut machine.tasks, activity, argument)?;
+    let variable = variable.clone(alloc)?;
+    in_front(&mut machine.rest, PlainStatement::Await(variable, number))
 }
 
 /// A call schedules its activity, and leaves an await of it.
 fn called(
     alloc: Global,
-    machine: PlainMachine,
-    variable: Text,
-    activity: Text,
+    machine: &mut PlainMachine,
+    variable: &Text,
+    activity: &Text,
     argument: &PlainExpression,
-) -> Result<PlainMachine, AllocError>
-    ensures { IfOk result (λ m. machine_of m ≡ called (machine_of machine) variable activity (machine_of machine).rest (eval (machine_of machine).variables (expression_of argument.now))) }
+) -> Result<(), AllocError>
+    ensures { IfOk result (λ _. machine_of machine.new ≡ called (machine_of machine.old) variable.now activity.now (machine_of machine.old).rest (eval (machine_of machine.old).variables (expression_of argument.now))) }
 {
     match eval(alloc, &machine.variables, argument)? {
-        Ok(argument) => scheduled(machine, variable, activity, argument),
-        Err(fault) => Ok(thrown(machine, fault)),
+        Ok(argument) => scheduled(alloc, machine, variable, activity, argument),
+        Err(fault) => {
+            thrown(machine, fault);
+            Ok(())
+        }
     }
+}
+
+/// A variable is set.
+fn set(
+    alloc: Global,
+    machine: &mut PlainMachine,
+    name: &Text,
+    value: &Value,
+) -> Result<(), AllocError>
+    ensures { IfOk result (λ _. machine_of machine.new ≡ record (machine_of machine.old) { variables = set_in (machine_of machine.old).variables name.now value.now }) }
+{
+    let mut changed = Vec::new(alloc);
+    set_in(alloc, &machine.variables, name, value, &mut changed)?;
+    machine.variables = changed;
+    Ok(())
 }
 
 /// What the task with this number gave.
@@ -102,61 +145,90 @@ fn outcome_at(
 /// An await blocks until its task has an outcome.
 fn awaited(
     alloc: Global,
-    machine: PlainMachine,
+    machine: &mut PlainMachine,
     variable: &Text,
     task: usize,
-) -> Result<PlainNext, AllocError>
-    requires { 0 < vec_len machine.rest }
-    ensures { IfOk result (λ n. next_in n ≡ awaited (machine_of machine) variable.now (drop 1 (machine_of machine).rest) (outcome_of (task_at (machine_of machine).tasks task))) }
+) -> Result<bool, AllocError>
+    requires { 0 < vec_len machine.old.rest }
+    ensures { IfOk result (λ moved. next_at moved (machine_of machine.new) ≡ awaited (machine_of machine.old) variable.now (drop 1 (machine_of machine.old).rest) (outcome_of (task_at (machine_of machine.old).tasks task))) }
 {
     match outcome_at(alloc, &machine.tasks, task)? {
-        None => Ok(PlainNext::Stays(machine)),
+        None => Ok(false),
         Some(Outcome::Done(value)) => {
-            let mut machine = without_first(machine);
-            machine.variables = set_in(alloc, &machine.variables, variable, value)?;
-            Ok(PlainNext::Goes(machine))
+            without_first(machine);
+            set(alloc, machine, variable, &value)?;
+            Ok(true)
         }
-        Some(Outcome::Failed(text)) => Ok(PlainNext::Goes(thrown(machine, text))),
+        Some(Outcome::Failed(text)) => {
+            thrown(machine, text);
+            Ok(true)
+        }
     }
 }
 
 fn returned(
     alloc: Global,
-    mut machine: PlainMachine,
+    machine: &mut PlainMachine,
     value: &PlainExpression,
-) -> Result<PlainMachine, AllocError>
-    ensures { IfOk result (λ m. machine_of m ≡ returned (machine_of machine) (eval (machine_of machine).variables (expression_of value.now))) }
+) -> Result<(), AllocError>
+    ensures { IfOk result (λ _. machine_of machine.new ≡ returned (machine_of machine.old) (eval (machine_of machine.old).variables (expression_of value.now))) }
 {
     match eval(alloc, &machine.variables, value)? {
         Ok(value) => {
             machine.rest.clear();
             machine.progress = PlainProgress::Done(value);
-            Ok(machine)
+            Ok(())
         }
-        Err(fault) => Ok(thrown(machine, fault)),
+        Err(fault) => {
+            thrown(machine, fault);
+            Ok(())
+        }
     }
 }
 
 /// The step of a running machine that begins with this statement.
 fn next_by(
     alloc: Global,
-    machine: PlainMachine,
-    first: PlainStatement,
-) -> Result<PlainNext, AllocError>
-    requires { 0 < vec_len machine.rest }
-    ensures { IfOk result (λ n. next_in n ≡ next_of (machine_of machine) running (statement_of first ∷ drop 1 (machine_of machine).rest)) }
+    machine: &mut PlainMachine,
+    first: &PlainStatement,
+) -> Result<bool, AllocError>
+    requires { 0 < vec_len machine.old.rest }
+    ensures { IfOk result (λ moved. next_at moved (machine_of machine.new) ≡ next_of (machine_of machine.old) running (statement_of first.now ∷ drop 1 (machine_of machine.old).rest)) }
 {
     match first {
         PlainStatement::Call(variable, activity, argument) => {
-            let machine = without_first(machine);
-            let next = called(alloc, machine, variable, activity, &argument)?;
-            Ok(PlainNext::Goes(next))
+            without_first(machine);
+            called(alloc, machine, variable, activity, argument)?;
+            Ok(true)
         }
-        PlainStatement::Await(variable, task) => awaited(alloc, machine, &variable, task),
+        PlainStatement::Await(variable, task) => awaited(alloc, machine, variable, *task),
         PlainStatement::Return(value) => {
-            let next = returned(alloc, machine, &value)?;
-            Ok(PlainNext::Goes(next))
+            returned(alloc, machine, value)?;
+            Ok(true)
         }
+    }
+}
+
+/// The step of a running machine, if it has one.
+fn run_next(alloc: Global, machine: &mut PlainMachine) -> Result<bool, AllocError>
+    ensures { IfOk result (λ moved. next_at moved (machine_of machine.new) ≡ next_of (machine_of machine.old) running (machine_of machine.old).rest) }
+{
+    if machine.rest.is_empty() {
+        machine.progress = PlainProgress::Done(Value::Null);
+        return Ok(false);
+    }
+    let first = copy_statement(alloc, &machine.rest[0])?;
+    next_by(alloc, machine, &first)
+}
+
+/// A machine that has taken a step, or stays.
+fn next_at(moved: bool, machine: PlainMachine) -> PlainNext
+    ensures { next_in result ≡ next_at moved (machine_of machine) }
+{
+    if moved {
+        PlainNext::Goes(machine)
+    } else {
+        PlainNext::Stays(machine)
     }
 }
 
@@ -167,12 +239,8 @@ fn next_of(alloc: Global, mut machine: PlainMachine) -> Result<PlainNext, AllocE
     if !matches!(machine.progress, PlainProgress::Running) {
         return Ok(PlainNext::Stays(machine));
     }
-    if machine.rest.is_empty() {
-        machine.progress = PlainProgress::Done(Value::Null);
-        return Ok(PlainNext::Stays(machine));
-    }
-    let first = copy_statement(alloc, &machine.rest[0])?;
-    next_by(alloc, machine, first)
+    let moved = run_next(alloc, &mut machine)?;
+    Ok(next_at(moved, machine))
 }
 
 /// Where no step is left it stays, and a further one is a fault.
@@ -180,8 +248,7 @@ fn last_of(alloc: Global, machine: PlainMachine) -> Result<PlainMachine, AllocEr
     ensures { IfOk result (λ m. machine_of m ≡ go 0 (machine_of machine)) }
 {
     if machine.goes() {
-        let fault = text_of(alloc, "budget")?;
-        return Ok(thrown(machine, fault));
+        return faulted(alloc, machine, "budget");
     }
     match next_of(alloc, machine)? {
         PlainNext::Stays(machine) => Ok(machine),
@@ -203,44 +270,58 @@ fn go(alloc: Global, machine: PlainMachine) -> Result<PlainMachine, AllocError>
     last_of(alloc, machine)
 }
 
-fn recorded(
+/// A task has an outcome.
+fn ended(
     alloc: Global,
-    mut machine: PlainMachine,
-    event: PlainEvent,
-) -> Result<PlainMachine, AllocError>
-    ensures { IfOk result (λ m. machine_of m ≡ recorded (machine_of machine) (event_of event)) }
+    machine: &mut PlainMachine,
+    task: usize,
+    outcome: &Outcome,
+) -> Result<(), AllocError>
+    ensures { IfOk result (λ _. machine_of machine.new ≡ record (machine_of machine.old) { tasks = with_outcome (machine_of machine.old).tasks task outcome.now }) }
+{
+    let mut changed = Vec::new(alloc);
+    with_outcome(alloc, &machine.tasks, task, outcome, &mut changed)?;
+    machine.tasks = changed;
+    Ok(())
+}
+
+/// An event is recorded.
+fn recorded(alloc: Global, machine: &mut PlainMachine, event: &PlainEvent) -> Result<(), AllocError>
+    ensures { IfOk result (λ _. machine_of machine.new ≡ recorded (machine_of machine.old) (event_of event.now)) }
 {
     match event {
         PlainEvent::Started(argument) => {
             let name = text_of(alloc, "arg")?;
-            machine.variables = set_in(alloc, &machine.variables, &name, argument)?;
-            Ok(machine)
+            set(alloc, machine, &name, argument)
         }
-        PlainEvent::Finished(task, outcome) => {
-            machine.tasks = with_outcome(alloc, &machine.tasks, task, &outcome)?;
-            Ok(machine)
-        }
+        PlainEvent::Finished(task, outcome) => ended(alloc, machine, *task, outcome),
     }
 }
 
-/// A running machine records the event and goes on. A count of events that no number holds is want of room.
+/// An event is counted and recorded. A count that no number holds is want of room.
+fn counted(alloc: Global, machine: &mut PlainMachine, event: &PlainEvent) -> Result<(), AllocError>
+    ensures { IfOk result (λ _. machine_of machine.new ≡ recorded (record (machine_of machine.old) { events = (machine_of machine.old).events + 1 }) (event_of event.now)) }
+{
+    let Some(events) = machine.events.checked_add(1) else {
+        return Err(AllocError);
+    };
+    machine.events = events;
+    recorded(alloc, machine, event)
+}
+
+/// A running machine records the event and goes on.
 pub fn resume(
     alloc: Global,
     mut machine: PlainMachine,
-    event: PlainEvent,
+    event: &PlainEvent,
     stamp: u64,
 ) -> Result<PlainMachine, AllocError>
-    ensures { IfOk result (λ m. machine_of m ≡ resume (machine_of machine) (event_of event) stamp) }
+    ensures { IfOk result (λ m. machine_of m ≡ resume (machine_of machine) (event_of event.now) stamp) }
 {
     machine.last = stamp;
     if machine.events == MOST_EVENTS {
-        let fault = text_of(alloc, "history")?;
-        return Ok(thrown(machine, fault));
+        return faulted(alloc, machine, "history");
     }
-    machine.events = match machine.events.checked_add(1) {
-        Some(events) => events,
-        None => return Err(AllocError),
-    };
-    let machine = recorded(alloc, machine, event)?;
+    counted(alloc, &mut machine, event)?;
     go(alloc, machine)
 }

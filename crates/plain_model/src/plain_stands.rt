@@ -4,8 +4,8 @@ ghost use Rattle.std.specs.Prelude.{◌≡◌, List, ◌++◌, map, option_map, 
 ghost use Rattle.dura_model.specs.Legal.{after};
 ghost use Rattle.dura_model.specs.Entries.{items_of, labels_in};
 ghost use Rattle.dura_model.specs.Partition.{nothing, placed, shown};
-ghost use Rattle.dura_model.specs.Entries.{asked_number, label_in};
-ghost use Rattle.plain_model.specs.Plain.{body_of, label_of, labels_of};
+ghost use Rattle.dura_model.specs.Entries.{asked_number, label_in, took, ran};
+ghost use Rattle.plain_model.specs.Plain.{id_of, body_of, message_of, label_of, labels_of};
 ghost use Rattle.plain_model.specs.PlainStands.{item_of, plain_items, entries_of};
 ghost use Rattle.plain_model.specs.PlainWorld.{flows_in, world_in};
 
@@ -13,13 +13,13 @@ use crate::plain_messages::{
     PlainBody, PlainId, PlainLabel, PlainMessage, PlainReply, copy_id, copy_message,
 };
 use crate::plain_step::after;
-use crate::plain_values::copy_outcome;
+use crate::plain_values::{copy_outcome, in_front};
 use crate::plain_world::{PlainFlow, PlainWorld};
 use activity_table::Outcome;
 use std::alloc::{AllocError, Global};
 
 /// A step of a partition as its log keeps it.
-#[derive(Debug, Drop)]
+#[derive(Drop)]
 pub enum PlainItem {
     /// A request was taken.
     Took(PlainMessage),
@@ -30,7 +30,7 @@ pub enum PlainItem {
 }
 
 /// An entry of a log.
-#[derive(Debug, Drop)]
+#[derive(Drop)]
 pub struct PlainEntry {
     /// Its place in the log.
     pub position: u64,
@@ -51,22 +51,37 @@ pub(crate) fn asked_number(body: &PlainBody) -> u64
     }
 }
 
+/// The label of a request that was taken.
+fn taken_label(alloc: Global, message: &PlainMessage) -> Result<PlainLabel, AllocError>
+    ensures { IfOk result (λ label. label_of label ≡ label_in (took (message_of message.now))) }
+{
+    let number = asked_number(&message.body);
+    let who = copy_id(alloc, &message.from)?;
+    let message = copy_message(alloc, message)?;
+    Ok(PlainLabel::Take(who, number, message))
+}
+
+/// The label of a delivery.
+fn ran_label(
+    alloc: Global,
+    from: &PlainId,
+    to: &PlainId,
+    stamp: u64,
+) -> Result<PlainLabel, AllocError>
+    ensures { IfOk result (λ label. label_of label ≡ label_in (ran (id_of from.now) (id_of to.now) stamp)) }
+{
+    let from = copy_id(alloc, from)?;
+    let to = copy_id(alloc, to)?;
+    Ok(PlainLabel::Deliver(from, to, stamp))
+}
+
 /// The label of an item.
 fn label_in(alloc: Global, item: &PlainItem) -> Result<PlainLabel, AllocError>
     ensures { IfOk result (λ label. label_of label ≡ label_in (item_of item.now)) }
 {
     match item {
-        PlainItem::Took(message) => {
-            let number = asked_number(&message.body);
-            let who = copy_id(alloc, &message.from)?;
-            let message = copy_message(alloc, message)?;
-            Ok(PlainLabel::Take(who, number, message))
-        }
-        PlainItem::Ran(from, to, stamp) => {
-            let from = copy_id(alloc, from)?;
-            let to = copy_id(alloc, to)?;
-            Ok(PlainLabel::Deliver(from, to, *stamp))
-        }
+        PlainItem::Took(message) => taken_label(alloc, message),
+        PlainItem::Ran(from, to, stamp) => ran_label(alloc, from, to, *stamp),
         PlainItem::Ended(id, task, outcome) => {
             let id = copy_id(alloc, id)?;
             let outcome = copy_outcome(alloc, outcome)?;
@@ -79,17 +94,16 @@ fn label_in(alloc: Global, item: &PlainItem) -> Result<PlainLabel, AllocError>
 fn with_items(
     alloc: Global,
     items: &[PlainItem],
-    behind: Vec<PlainLabel>,
-) -> Result<Vec<PlainLabel>, AllocError>
-    ensures { IfOk result (λ labels. labels_of labels.items ≡ map label_in (plain_items items.now) ++ labels_of behind.items) }
+    labels: &mut Vec<PlainLabel>,
+) -> Result<(), AllocError>
+    ensures { IfOk result (λ _. labels_of labels.new.items ≡ map label_in (plain_items items.now) ++ labels_of labels.old.items) }
 {
     match items {
-        [] => Ok(behind),
+        [] => Ok(()),
         [item, rest @ ..] => {
+            with_items(alloc, rest, labels)?;
             let label = label_in(alloc, item)?;
-            let mut labels = with_items(alloc, rest, behind)?;
-            labels.insert(0, label)?;
-            Ok(labels)
+            in_front(labels, label)
         }
     }
 }
@@ -102,8 +116,8 @@ fn labels_in(alloc: Global, entries: &[PlainEntry]) -> Result<Vec<PlainLabel>, A
     match entries {
         [] => Ok(Vec::new(alloc)),
         [entry, rest @ ..] => {
-            let behind = labels_in(alloc, rest)?;
-            let labels = with_items(alloc, &entry.items, behind)?;
+            let mut labels = labels_in(alloc, rest)?;
+            with_items(alloc, &entry.items, &mut labels)?;
             Ok(labels)
         }
     }

@@ -1,22 +1,62 @@
 //! What a label makes of a world, and where a run comes to.
 
-ghost use Rattle.std.specs.Prelude.{◌≡◌, List, map, option_map, is_some, IfOk, Option, Some, None};
+ghost use Rattle.std.specs.Prelude.{◌≡◌, List, [], ◌∷◌, map, option_map, is_some, IfOk, Option, Some, None};
 ghost use Rattle.dura_model.specs.Language.{Flows};
 ghost use Rattle.dura_model.specs.Legal.{Legal, after, after_from};
-ghost use Rattle.dura_model.specs.World.{World, pending, pending_in};
-ghost use Rattle.dura_model.specs.Steps.{Label, taken, ran, step};
+ghost use Rattle.dura_model.specs.Machine.{resume, finished};
+ghost use Rattle.dura_model.specs.World.{World, at_number, pending, pending_in};
+ghost use Rattle.dura_model.specs.Steps.{Label, sent, taken, ran, step};
 ghost use Rattle.plain_model.specs.Plain.{id_of, message_of, label_of, labels_of};
-ghost use Rattle.plain_model.specs.PlainWorld.{orchestration_of, flows_in, world_in, if_moved};
+ghost use Rattle.plain_model.specs.PlainMachine.{machine_of};
+ghost use Rattle.plain_model.specs.PlainWorld.{orchestration_of, taken_in, flows_in, world_in, if_moved};
 
-use crate::plain_deliver::{copy_at, deliver};
+use crate::plain_copies::copy_machine;
+use crate::plain_deliver::{deliver, waiting_for};
 use crate::plain_find::{find_instance, find_taken};
-use crate::plain_machine::{PlainEvent, PlainProgress, task_at};
+use crate::plain_machine::{PlainEvent, PlainMachine, PlainProgress, task_at};
 use crate::plain_messages::{PlainId, PlainLabel, PlainMessage, copy_id, copy_message, is_request};
 use crate::plain_resume::resume;
-use crate::plain_values::copy_outcome;
+use crate::plain_values::{copy_outcome, in_front};
 use crate::plain_world::{PlainFlow, PlainInstance, PlainTaken, PlainWorld};
 use activity_table::Outcome;
 use std::alloc::{AllocError, Global};
+
+/// A request is recorded as taken.
+fn record_taken(
+    taken: &mut Vec<PlainTaken>,
+    alloc: Global,
+    who: &PlainId,
+    number: u64,
+    message: &PlainMessage,
+) -> Result<(), AllocError>
+    ensures { IfOk result (λ _. taken_in taken.new.items ≡ at_number (taken_in taken.old.items) (id_of who.now) number (Some (message_of message.now))) }
+{
+    let client = copy_id(alloc, who)?;
+    let message = copy_message(alloc, message)?;
+    in_front(
+        taken,
+        PlainTaken {
+            client,
+            number,
+            message,
+        },
+    )
+}
+
+/// A request is recorded as taken, and is on its way.
+fn accept(
+    world: &mut PlainWorld,
+    alloc: Global,
+    who: &PlainId,
+    number: u64,
+    message: &PlainMessage,
+) -> Result<(), AllocError>
+    ensures { IfOk result (λ _. world_in world.new ≡ sent (record (world_in world.old) { taken = at_number (world_in world.old).taken (id_of who.now) number (Some (message_of message.now)) }) (message_of message.now ∷ [])) }
+{
+    record_taken(&mut world.taken, alloc, who, number, message)?;
+    let copy = copy_message(alloc, message)?;
+    world.send(copy)
+}
 
 /// A request is taken once.
 fn take(
@@ -31,18 +71,7 @@ fn take(
     if find_taken(&world.taken, who, number).is_some() {
         return Ok(false);
     }
-    let client = copy_id(alloc, who)?;
-    let kept = copy_message(alloc, message)?;
-    let sent = copy_message(alloc, message)?;
-    world.taken.insert(
-        0,
-        PlainTaken {
-            client,
-            number,
-            message: kept,
-        },
-    )?;
-    world.send(sent)?;
+    accept(world, alloc, who, number, message)?;
     Ok(true)
 }
 
@@ -57,6 +86,21 @@ pub fn is_pending(instance: &PlainInstance, task: usize) -> bool
         None => false,
         Some(task) => task.outcome.is_none(),
     }
+}
+
+/// An instance's machine once a task has an outcome, at its last moment.
+fn finished(
+    alloc: Global,
+    machine: &PlainMachine,
+    task: usize,
+    outcome: &Outcome,
+) -> Result<PlainMachine, AllocError>
+    ensures { IfOk result (λ m. machine_of m ≡ resume (machine_of machine.now) (finished task outcome.now) machine.now.last) }
+{
+    let outcome = copy_outcome(alloc, outcome)?;
+    let event = PlainEvent::Finished(task, outcome);
+    let copy = copy_machine(alloc, machine)?;
+    resume(alloc, copy, &event, machine.last)
 }
 
 /// A pending activity's outcome reaches its instance, at the instance's last moment.
@@ -75,10 +119,8 @@ fn finish(
     if !is_pending(instance, task) {
         return Ok(false);
     }
-    let stamp = instance.machine.last;
-    let (machine, waiting) = copy_at(alloc, instance, stamp)?;
-    let outcome = copy_outcome(alloc, outcome)?;
-    let machine = resume(alloc, machine, PlainEvent::Finished(task, outcome), stamp)?;
+    let machine = finished(alloc, &instance.machine, task, outcome)?;
+    let waiting = waiting_for(alloc, instance)?;
     world.keep(alloc, id, machine, waiting)?;
     Ok(true)
 }

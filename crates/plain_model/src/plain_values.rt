@@ -1,6 +1,6 @@
 //! Copies of values, and texts of few bytes.
 
-ghost use Rattle.std.specs.Prelude.{◌≡◌, ◌≤◌, length, IfOk};
+ghost use Rattle.std.specs.Prelude.{◌≡◌, ◌≤◌, ◌∷◌, ◌++◌, length, IfOk};
 ghost use Rattle.dura_model.specs.Language.{value_of};
 
 use activity_table::Outcome;
@@ -33,16 +33,24 @@ pub(crate) fn copy_scalar(alloc: Global, scalar: &Scalar) -> Result<Scalar, Allo
     }
 }
 
-fn copy_items(alloc: Global, scalars: &[Scalar]) -> Result<Vec<Scalar>, AllocError>
-    ensures { IfOk result (λ s. s.items ≡ scalars.now) }
+/// One more item in front of these.
+pub(crate) fn in_front<T: Drop>(items: &mut Vec<T>, first: T) -> Result<(), AllocError>
+    ensures { IfOk result (λ _. items.new.items ≡ first ∷ items.old.items) }
+{
+    items.insert(0, first)?;
+    Ok(())
+}
+
+/// Copies of these in front of what is there.
+fn copy_items(alloc: Global, scalars: &[Scalar], copies: &mut Vec<Scalar>) -> Result<(), AllocError>
+    ensures { IfOk result (λ _. copies.new.items ≡ scalars.now ++ copies.old.items) }
 {
     match scalars {
-        [] => Ok(Vec::new(alloc)),
+        [] => Ok(()),
         [first, rest @ ..] => {
+            copy_items(alloc, rest, copies)?;
             let first = copy_scalar(alloc, first)?;
-            let mut items = copy_items(alloc, rest)?;
-            items.insert(0, first)?;
-            Ok(items)
+            in_front(copies, first)
         }
     }
 }
@@ -50,7 +58,8 @@ fn copy_items(alloc: Global, scalars: &[Scalar]) -> Result<Vec<Scalar>, AllocErr
 pub(crate) fn copy_scalars(alloc: Global, scalars: &Scalars) -> Result<Scalars, AllocError>
     ensures { IfOk result (λ s. s ≡ scalars.now) }
 {
-    let items = copy_items(alloc, scalars.as_slice())?;
+    let mut items = Vec::new(alloc);
+    copy_items(alloc, scalars.as_slice(), &mut items)?;
     Ok(Scalars::of(items))
 }
 

@@ -1,9 +1,9 @@
 //! The world of the failure-free machine, as plain data.
 
-ghost use Rattle.std.specs.Prelude.{◌≡◌, List, [], ◌∷◌, map, option_map, IfOk, None};
+ghost use Rattle.std.specs.Prelude.{◌≡◌, List, [], ◌∷◌, map, option_map, IfOk, Some, None};
 ghost use Rattle.dura_model.specs.World.{empty};
 ghost use Rattle.dura_model.specs.Steps.{sent, kept, answering, answering_all, ending};
-ghost use Rattle.plain_model.specs.Plain.{id_of, message_of, reply_of, answer_of};
+ghost use Rattle.plain_model.specs.Plain.{id_of, message_of, body_of, reply_of, answer_of};
 ghost use Rattle.plain_model.specs.PlainMachine.{machine_of, progress_of};
 ghost use Rattle.plain_model.specs.PlainWorld.{waiting_in, world_in};
 
@@ -11,12 +11,12 @@ use crate::plain_machine::{PlainMachine, PlainProgress, PlainStatement};
 use crate::plain_messages::{
     PlainAnswer, PlainBody, PlainId, PlainMessage, PlainReply, copy_answer, copy_id,
 };
-use crate::plain_values::copy_value;
+use crate::plain_values::{copy_value, in_front};
 use dura_value::Text;
 use std::alloc::{AllocError, Global};
 
 /// A flow: its name and its body.
-#[derive(Debug, Drop)]
+#[derive(Drop)]
 pub struct PlainFlow {
     /// Its name.
     pub name: Text,
@@ -25,7 +25,7 @@ pub struct PlainFlow {
 }
 
 /// A client that waits for an instance's end, and the number of its request.
-#[derive(Debug, Drop)]
+#[derive(Drop)]
 pub struct PlainWaiting {
     /// Who waits.
     pub client: PlainId,
@@ -34,7 +34,7 @@ pub struct PlainWaiting {
 }
 
 /// An instance.
-#[derive(Debug, Drop)]
+#[derive(Drop)]
 pub struct PlainInstance {
     /// Its id.
     pub id: PlainId,
@@ -45,7 +45,7 @@ pub struct PlainInstance {
 }
 
 /// A request that was taken.
-#[derive(Debug, Drop)]
+#[derive(Drop)]
 pub struct PlainTaken {
     /// Whose it is.
     pub client: PlainId,
@@ -56,7 +56,7 @@ pub struct PlainTaken {
 }
 
 /// An answer that came.
-#[derive(Debug, Drop)]
+#[derive(Drop)]
 pub struct PlainGiven {
     /// To whom it came.
     pub client: PlainId,
@@ -67,7 +67,7 @@ pub struct PlainGiven {
 }
 
 /// A world. Of each list the first that fits counts, so what is new stands in front of what it replaces.
-#[derive(Debug, Drop)]
+#[derive(Drop)]
 pub struct PlainWorld {
     /// The instances.
     pub instances: Vec<PlainInstance>,
@@ -121,6 +121,21 @@ impl PlainWorld {
         Ok(())
     }
 
+    /// A message of this body joins the end of its link.
+    fn send_from(
+        &mut self,
+        alloc: Global,
+        from: &PlainId,
+        to: &PlainId,
+        body: PlainBody,
+    ) -> Result<(), AllocError>
+        ensures { IfOk result (λ _. world_in self.new ≡ sent (world_in self.old) (record { from = id_of from.now; to = id_of to.now; body = body_of body } ∷ [])) }
+    {
+        let from = copy_id(alloc, from)?;
+        let to = copy_id(alloc, to)?;
+        self.send(PlainMessage { from, to, body })
+    }
+
     /// The sender of a message is answered.
     pub(crate) fn answer(
         &mut self,
@@ -135,10 +150,7 @@ impl PlainWorld {
         if reply == PlainReply::Nobody {
             return Ok(());
         }
-        let from = copy_id(alloc, from)?;
-        let to = copy_id(alloc, to)?;
-        let body = PlainBody::Result(reply, answer);
-        self.send(PlainMessage { from, to, body })
+        self.send_from(alloc, from, to, PlainBody::Result(reply, answer))
     }
 
     /// All that wait are answered.
@@ -155,10 +167,8 @@ impl PlainWorld {
             [] => Ok(()),
             [one, rest @ ..] => {
                 let given = copy_answer(alloc, answer)?;
-                let from = copy_id(alloc, id)?;
-                let to = copy_id(alloc, &one.client)?;
                 let body = PlainBody::Result(PlainReply::Request(one.number), given);
-                self.send(PlainMessage { from, to, body })?;
+                self.send_from(alloc, id, &one.client, body)?;
                 self.answer_all(alloc, id, rest, answer)
             }
         }
@@ -175,15 +185,29 @@ impl PlainWorld {
         ensures { IfOk result (λ _. world_in self.new ≡ kept (world_in self.old) (id_of id.now) (machine_of machine) (waiting_in waiting.items) None) }
     {
         let id = copy_id(alloc, id)?;
-        self.instances.insert(
-            0,
+        in_front(
+            &mut self.instances,
             PlainInstance {
                 id,
                 machine,
                 waiting,
             },
-        )?;
-        Ok(())
+        )
+    }
+
+    /// An instance that has ended is kept, and all that wait are answered.
+    fn end(
+        &mut self,
+        alloc: Global,
+        id: &PlainId,
+        machine: PlainMachine,
+        waiting: &[PlainWaiting],
+        answer: &PlainAnswer,
+    ) -> Result<(), AllocError>
+        ensures { IfOk result (λ _. world_in self.new ≡ kept (world_in self.old) (id_of id.now) (machine_of machine) (waiting_in waiting.now) (Some (answer_of answer.now))) }
+    {
+        self.put(alloc, id, machine, Vec::new(alloc))?;
+        self.answer_all(alloc, id, waiting, answer)
     }
 
     /// An instance is kept as it now is. Where it has ended, all that wait are answered.
@@ -198,10 +222,7 @@ impl PlainWorld {
     {
         match ending(alloc, &machine.progress)? {
             None => self.put(alloc, id, machine, waiting),
-            Some(answer) => {
-                self.put(alloc, id, machine, Vec::new(alloc))?;
-                self.answer_all(alloc, id, &waiting, &answer)
-            }
+            Some(answer) => self.end(alloc, id, machine, &waiting, &answer),
         }
     }
 }
