@@ -1,106 +1,124 @@
 //! Runs on logs that were made by hand.
 
-use crate::run_tests::{SUM, run_on, says, sum_site};
+use crate::run_tests::{SUM, check_content, check_end, check_tape, run_on, sum_site};
 use input_reader::Cause;
+use part_driver::Entry;
 use part_state::Label;
 use site_memory::MemorySite;
 use std::alloc::Global;
-use std::test::Fail;
+use std::process::Abort;
 
 /// The header of the log of `Sum`: the FNV-1a of the flow file is efbe0ece594d7629.
-const HEADER: &str = "C3 4E4554484C4F47 01 w0 w1 EFBE0ECE594D7629 q0";
+const HEADER: &str = "C3 4E4554484C4F47 01 00000000 00000001 EFBE0ECE594D7629 q0";
 
 const NONE: &str = "a 1 started\na 2 none\n";
 
-fn put_hex(bytes: &mut Vec<u8>, text: &str) -> Result<(), Fail> {
+fn put(rt: &impl Abort, bytes: &mut Vec<u8>, more: &[u8]) {
+    bytes.extend_from_slice(more).expect(rt, "memory");
+}
+
+fn digit_of(byte: u8) -> Option<u8> {
+    match byte {
+        b'0'..=b'9' => Some(byte - b'0'),
+        b'A'..=b'F' => Some(byte - b'A' + 10),
+        _ => None,
+    }
+}
+
+fn put_hex(rt: &impl Abort, bytes: &mut Vec<u8>, text: &str) {
     let mut upper = None;
     for byte in text.as_bytes() {
-        let digit = match *byte {
-            b'0'..=b'9' => *byte - b'0',
-            b'A'..=b'F' => *byte - b'A' + 10,
-            _ => continue,
+        let Some(digit) = digit_of(*byte) else {
+            continue;
         };
         upper = match upper {
             None => Some(digit),
             Some(upper) => {
-                bytes.push(upper << 4 | digit)?;
+                put(rt, bytes, &[upper << 4 | digit]);
                 None
             }
         };
     }
-    Ok(())
 }
 
-/// A word is an item by its name, without the stamp that ends a delivery; or `h`, `w` or `q` and a number in 2, 4 or 8
-/// bytes; or hex digits.
-fn put_word(bytes: &mut Vec<u8>, word: &str) -> Result<(), Fail> {
+/// The item with this name, without the stamp that ends a delivery, as hex digits; and any other word as it is.
+fn item_of(word: &str) -> &str {
     match word {
-        "start" => return put_hex(bytes, "20 030161 010353756D0178 10 00 02 00000001"),
-        "wait" => return put_hex(bytes, "20 030161 010353756D0178 13 00000002"),
-        "arrive" => return put_hex(bytes, "22 030161 010353756D0178"),
-        "answer" => return put_hex(bytes, "22 010353756D0178 030161"),
-        "finish" => return put_hex(bytes, "23 010353756D0178 00000000 00 03"),
-        _ => {}
+        "start" => "20 030161 010353756D0178 10 00 02 00000001",
+        "wait" => "20 030161 010353756D0178 13 00000002",
+        "arrive" => "22 030161 010353756D0178",
+        "answer" => "22 010353756D0178 030161",
+        "finish" => "23 010353756D0178 00000000 00 03",
+        _ => word,
     }
-    if let Some(digits) = word.strip_prefix("h") {
-        bytes.extend_from_slice(&digits.parse::<u16>()?.to_be_bytes())?;
-        return Ok(());
-    }
-    if let Some(digits) = word.strip_prefix("w") {
-        bytes.extend_from_slice(&digits.parse::<u32>()?.to_be_bytes())?;
-        return Ok(());
-    }
-    if let Some(digits) = word.strip_prefix("q") {
-        bytes.extend_from_slice(&digits.parse::<u64>()?.to_be_bytes())?;
-        return Ok(());
-    }
-    put_hex(bytes, word)
 }
 
-fn put_words(bytes: &mut Vec<u8>, words: &str) -> Result<(), Fail> {
-    for word in words.split_whitespace() {
-        put_word(bytes, word)?;
+fn number_in(rt: &impl Abort, word: &str) -> u64 {
+    let digits = word.get(1..).expect(rt, "a digit");
+    digits.parse::<u64>().expect(rt, "a number")
+}
+
+/// A word is `h` or `q` and a number in 2 or 8 bytes, or an item, or hex digits.
+fn put_word(rt: &impl Abort, bytes: &mut Vec<u8>, word: &str) {
+    match word.as_bytes().first() {
+        Some(b'h') => {
+            let number = u16::try_from(number_in(rt, word)).expect(rt, "a short number");
+            put(rt, bytes, &number.to_be_bytes())
+        }
+        Some(b'q') => put(rt, bytes, &number_in(rt, word).to_be_bytes()),
+        _ => put_hex(rt, bytes, item_of(word)),
     }
-    Ok(())
+}
+
+fn put_words(rt: &impl Abort, bytes: &mut Vec<u8>, words: &str) {
+    for word in words.split_whitespace() {
+        put_word(rt, bytes, word);
+    }
+}
+
+/// A frame around the payload of these words, if there are any.
+fn put_frame(rt: &impl Abort, alloc: Global, log: &mut Vec<u8>, words: &str) {
+    let mut payload = Vec::new(alloc);
+    put_words(rt, &mut payload, words);
+    if payload.is_empty() {
+        return;
+    }
+    put(rt, log, &[0xC3]);
+    let length = u32::try_from(payload.len()).expect(rt, "a length");
+    put(rt, log, &length.to_be_bytes());
+    put(rt, log, &payload);
 }
 
 /// A log with this header and these payloads, with a `/` between two of them.
-fn log_of(alloc: Global, header: &str, payloads: &str) -> Result<Vec<u8>, Fail> {
+fn log_of(rt: &impl Abort, alloc: Global, header: &str, payloads: &str) -> Vec<u8> {
     let mut log = Vec::new(alloc);
-    put_words(&mut log, header)?;
+    put_words(rt, &mut log, header);
     for words in payloads.split('/') {
-        let mut payload = Vec::new(alloc);
-        put_words(&mut payload, words)?;
-        if payload.is_empty() {
-            continue;
-        }
-        log.push(0xC3)?;
-        log.extend_from_slice(&u32::try_from(payload.len())?.to_be_bytes())?;
-        log.extend_from_slice(&payload)?;
+        put_frame(rt, alloc, &mut log, words);
     }
-    log.push(0)?;
-    Ok(log)
+    put(rt, &mut log, &[0]);
+    log
 }
 
-fn site_of(alloc: Global, header: &str, payloads: &str) -> Result<MemorySite, Fail> {
-    let mut site = sum_site(alloc, Vec::new(alloc))?;
-    let log = log_of(alloc, header, payloads)?;
-    site.prepare(16, 0, &log)?;
-    Ok(site)
+fn site_of(rt: &impl Abort, alloc: Global, header: &str, payloads: &str) -> MemorySite {
+    let mut site = sum_site(rt, alloc, &[]);
+    let log = log_of(rt, alloc, header, payloads);
+    site.prepare(16, 0, &log).expect(rt, "room");
+    site
 }
 
 #[test]
-fn the_log_that_a_run_writes(rt: HostRuntime) -> Result<(), Fail> {
+fn the_log_that_a_run_writes(rt: HostRuntime) {
     let alloc = rt.alloc();
-    let ended = run_on(alloc, sum_site(alloc, Vec::new(alloc))?)?;
+    let ended = run_on(&rt, alloc, sum_site(&rt, alloc, &[]));
     let wanted = log_of(
+        &rt,
         alloc,
         HEADER,
         "h1 q0 q0 h1 start / h1 q1 q0 h1 arrive q0 / h1 q2 q0 h1 answer q0 / h1 q3 q0 h1 finish q5 / \
          h1 q4 q0 h1 wait / h1 q5 q0 h1 arrive q0 / h1 q6 q0 h1 answer q0",
-    )?;
-    assert!(rt; ended.site.content(alloc, 16)?.as_slice() == wanted.as_slice());
-    Ok(())
+    );
+    check_content(&rt, alloc, &ended.site, &wanted);
 }
 
 /// The moment of a delivery.
@@ -167,40 +185,43 @@ const LEGAL: [(&str, &str, u64, u64, usize, u64); 9] = [
     ),
 ];
 
+/// The trail is such a one, and the stamps of its deliveries are at least this one.
+fn check_entries(
+    rt: &impl Abort,
+    entries: &[Entry],
+    incarnation: u64,
+    first: u64,
+    count: usize,
+    least: u64,
+) {
+    assert!(rt; entries.len() == count);
+    for (position, entry) in (first..100).zip(entries) {
+        assert!(rt; entry.position == position);
+        assert!(rt; entry.incarnation == incarnation);
+        let stamp = stamp_of(entry.label).unwrap_or(least);
+        assert!(rt; stamp >= least);
+    }
+}
+
+/// The next run finds nothing left to do.
+fn check_done(rt: &impl Abort, alloc: Global, site: MemorySite, lines: &str) {
+    let again = run_on(rt, alloc, site);
+    check_end(rt, &again, 0, Cause::Done);
+    assert!(rt; again.trail.entries().is_empty());
+    let twice = [lines, lines].concat(alloc).expect(rt, "memory");
+    check_tape(rt, alloc, &again.site, twice.as_bytes());
+}
+
 #[test]
-fn legal_logs(rt: HostRuntime) -> Result<(), Fail> {
+fn legal_logs(rt: HostRuntime) {
     let alloc = rt.alloc();
     for (payloads, lines, incarnation, first, count, stamp) in LEGAL {
-        let ended = run_on(alloc, site_of(alloc, HEADER, payloads)?)?;
-        assert_eq!(rt;
-            (ended.status, ended.cause),
-            (0, Cause::Done),
-            "at {payloads}"
-        );
-        assert!(rt; says(alloc, &ended.site, lines)?, "at {payloads}");
-        let entries = ended.trail.entries();
-        assert_eq!(rt; entries.len(), count, "at {payloads}");
-        for (position, entry) in (first..100).zip(entries) {
-            assert_eq!(rt;
-                (entry.position, entry.incarnation),
-                (position, incarnation)
-            );
-            if let Some(found) = stamp_of(entry.label) {
-                assert!(rt; found >= stamp, "at {payloads}");
-            }
-        }
-        // The next run finds nothing left to do.
-        let again = run_on(alloc, ended.site)?;
-        assert_eq!(rt;
-            (again.status, again.cause),
-            (0, Cause::Done),
-            "at {payloads}"
-        );
-        assert!(rt; again.trail.entries().is_empty(), "at {payloads}");
-        let twice = [lines, lines].concat(alloc)?;
-        assert!(rt; says(alloc, &again.site, twice.as_str())?, "at {payloads}");
+        let ended = run_on(&rt, alloc, site_of(&rt, alloc, HEADER, payloads));
+        check_end(&rt, &ended, 0, Cause::Done);
+        check_tape(&rt, alloc, &ended.site, lines.as_bytes());
+        check_entries(&rt, ended.trail.entries(), incarnation, first, count, stamp);
+        check_done(&rt, alloc, ended.site, lines);
     }
-    Ok(())
 }
 
 const REFUSED: [&str; 24] = [
@@ -239,35 +260,31 @@ const REFUSED: [&str; 24] = [
 ];
 
 const OTHER_HEADERS: [&str; 5] = [
-    "C3 4E4554484C4F47 01 w0 w1 EFBE0ECE594D7628 q0",
-    "C3 4E4554484C4F47 01 w0 w2 EFBE0ECE594D7629 q0",
-    "C3 4E4554484C4F47 01 w1 w1 EFBE0ECE594D7629 q0",
-    "C3 4E4554484C4F47 01 w0 w1 EFBE0ECE594D7629 q1",
-    "C3 4E4554484C4F47 02 w0 w1 EFBE0ECE594D7629 q0",
+    "C3 4E4554484C4F47 01 00000000 00000001 EFBE0ECE594D7628 q0",
+    "C3 4E4554484C4F47 01 00000000 00000002 EFBE0ECE594D7629 q0",
+    "C3 4E4554484C4F47 01 00000001 00000001 EFBE0ECE594D7629 q0",
+    "C3 4E4554484C4F47 01 00000000 00000001 EFBE0ECE594D7629 q1",
+    "C3 4E4554484C4F47 02 00000000 00000001 EFBE0ECE594D7629 q0",
 ];
 
-/// Whether a run refuses this log, and says nothing.
-fn is_refused(alloc: Global, header: &str, payloads: &str) -> Result<bool, Fail> {
-    let ended = run_on(alloc, site_of(alloc, header, payloads)?)?;
+/// A run refuses this log, and says nothing.
+fn check_refused(rt: &impl Abort, alloc: Global, header: &str, payloads: &str) {
+    let ended = run_on(rt, alloc, site_of(rt, alloc, header, payloads));
     let damaged = Cause::Damaged {
         file: 16,
         offset: 0,
     };
-    let silent = says(alloc, &ended.site, "")?;
-    Ok(ended.status == 8 && ended.cause == damaged && silent)
+    check_end(rt, &ended, 8, damaged);
+    check_tape(rt, alloc, &ended.site, b"");
 }
 
 #[test]
-fn refused_logs(rt: HostRuntime) -> Result<(), Fail> {
+fn refused_logs(rt: HostRuntime) {
     let alloc = rt.alloc();
     for payloads in REFUSED {
-        assert!(rt; is_refused(alloc, HEADER, payloads)?, "at {payloads}");
+        check_refused(&rt, alloc, HEADER, payloads);
     }
     for header in OTHER_HEADERS {
-        assert!(rt;
-            is_refused(alloc, header, "h1 q0 q0 h1 start")?,
-            "at {header}"
-        );
+        check_refused(&rt, alloc, header, "h1 q0 q0 h1 start");
     }
-    Ok(())
 }

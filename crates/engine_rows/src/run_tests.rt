@@ -10,7 +10,6 @@ use site_memory::{Kept, Kind as Call, MemorySite, Pick, TickClock};
 use site_model::Site;
 use std::alloc::Global;
 use std::process::Abort;
-use std::test::Fail;
 
 const FLOW: &str = r#"{"flows":{"Sum":[["call","s","add",{"list":[2,3]}],["return",{"v":"s"}]]}}"#;
 
@@ -22,43 +21,58 @@ pub(crate) const SUM: &str = "a 1 started\na 2 done 5\n";
 
 const COMMAND: [&str; 3] = ["run", "--partitions", "1"];
 
-/// The files of `Sum` and no more, on a site where these calls fail.
-pub(crate) fn sum_site(alloc: Global, fails: Vec<(Call, u64)>) -> Result<MemorySite, Fail> {
-    let mut site = MemorySite::new(alloc, 4096, 400, fails)?;
-    site.prepare(0, 0, FLOW.as_bytes())?;
-    site.prepare(1, 0, REQUESTS.as_bytes())?;
-    Ok(site)
+/// A run on a site in memory.
+pub(crate) type Run = Ended<MemorySite, TickClock>;
+
+fn site_with(
+    rt: &impl Abort,
+    alloc: Global,
+    flows: &str,
+    requests: &str,
+    fails: Vec<(Call, u64)>,
+) -> MemorySite {
+    let mut site = MemorySite::new(alloc, 4096, 400, fails).expect(rt, "memory");
+    site.prepare(0, 0, flows.as_bytes()).expect(rt, "room");
+    site.prepare(1, 0, requests.as_bytes()).expect(rt, "room");
+    site
 }
 
-fn texts(alloc: Global, words: &[&str]) -> Result<Vec<Text>, Fail> {
+/// The files of `Sum` and no more, on a site where these calls fail.
+pub(crate) fn sum_site(rt: &impl Abort, alloc: Global, fails: &[(Call, u64)]) -> MemorySite {
+    let fails = fails.to_vec(alloc).expect(rt, "memory");
+    site_with(rt, alloc, FLOW, REQUESTS, fails)
+}
+
+fn texts(rt: &impl Abort, alloc: Global, words: &[&str]) -> Vec<Text> {
     let mut texts = Vec::new(alloc);
     for word in words {
-        texts.push(Text::read(alloc, word.as_bytes())?)?;
+        let text = Text::read(alloc, word.as_bytes()).expect(rt, "a text");
+        texts.push(text).expect(rt, "memory");
     }
-    Ok(texts)
+    texts
 }
 
-fn run_words(
-    alloc: Global,
-    words: &[&str],
-    site: MemorySite,
-) -> Result<Ended<MemorySite, TickClock>, Fail> {
-    let words = texts(alloc, words)?;
+fn run_words(rt: &impl Abort, alloc: Global, words: &[&str], site: MemorySite) -> Run {
+    let words = texts(rt, alloc, words);
     let clock = TickClock::new(0, Vec::new(alloc));
-    Ok(run_alone(alloc, &words, site, clock, &Table))
+    run_alone(alloc, &words, site, clock, &Table)
 }
 
-pub(crate) fn run_on(
-    alloc: Global,
-    site: MemorySite,
-) -> Result<Ended<MemorySite, TickClock>, Fail> {
-    run_words(alloc, &COMMAND, site)
+/// A run of the command.
+pub(crate) fn run_on(rt: &impl Abort, alloc: Global, site: MemorySite) -> Run {
+    run_words(rt, alloc, &COMMAND, site)
 }
 
-/// Whether nothing but these lines stands on the tape.
-pub(crate) fn says(alloc: Global, site: &MemorySite, lines: &str) -> Result<bool, Fail> {
-    let tape = site.tape(alloc)?;
-    Ok(tape.as_slice() == lines.as_bytes())
+/// Nothing but these lines stands on the tape.
+pub(crate) fn check_tape(rt: &impl Abort, alloc: Global, site: &MemorySite, lines: &[u8]) {
+    let tape = site.tape(alloc).expect(rt, "memory");
+    assert!(rt; tape.as_slice() == lines);
+}
+
+/// It ended so.
+pub(crate) fn check_end(rt: &impl Abort, ended: &Run, status: u8, cause: Cause) {
+    assert!(rt; ended.status == status);
+    assert!(rt; ended.cause == cause);
 }
 
 fn count_writes(record: &[Kept], file: u32) -> usize {
@@ -79,230 +93,231 @@ const LABELS: [Label; 7] = [
     Label::ToClient(0),
 ];
 
+/// The entry is the one at this position, and settled after this moment.
+fn check_entry(rt: &impl Abort, entry: &Entry, position: u64, label: Label, before: u64) {
+    let wanted = Entry {
+        partition: 0,
+        incarnation: 0,
+        position,
+        label,
+        at: entry.at,
+    };
+    assert!(rt; *entry == wanted);
+    assert!(rt; entry.at > before);
+}
+
 fn check_trail(rt: &impl Abort, entries: &[Entry]) {
-    assert_eq!(rt; entries.len(), LABELS.len());
+    assert!(rt; entries.len() == 7);
     let mut before = 0;
-    for (position, (entry, label)) in entries.iter().zip(LABELS).enumerate() {
-        assert_eq!(rt; entry.label, label, "at {position}");
-        assert_eq!(rt; (entry.partition, entry.incarnation), (0, 0));
-        assert_eq!(rt; entry.position, position as u64);
-        assert!(rt; entry.at > before);
-        before = entry.at;
+    for position in 0..7usize {
+        check_entry(
+            rt,
+            &entries[position],
+            position as u64,
+            LABELS[position],
+            before,
+        );
+        before = entries[position].at;
     }
 }
 
-#[test]
-fn sum_and_again(rt: HostRuntime) -> Result<(), Fail> {
-    let alloc = rt.alloc();
-    let first = run_on(alloc, sum_site(alloc, Vec::new(alloc))?)?;
-    assert_eq!(rt; (first.status, first.cause), (0, Cause::Done));
-    assert!(rt; says(alloc, &first.site, SUM)?);
-    check_trail(&rt, first.trail.entries());
-    let log = first.site.content(alloc, 16)?;
-    let writes = count_writes(first.site.record(), 16);
-    let second = run_on(alloc, first.site)?;
-    assert_eq!(rt; (second.status, second.cause), (0, Cause::Done));
-    assert!(rt;
-        says(
-            alloc,
-            &second.site,
-            "a 1 started\na 2 done 5\na 1 started\na 2 done 5\n"
-        )?
+/// A run of `Sum` without faults.
+fn check_sum(rt: &impl Abort, alloc: Global, ended: &Run) {
+    check_end(rt, ended, 0, Cause::Done);
+    check_tape(rt, alloc, &ended.site, SUM.as_bytes());
+    check_trail(rt, ended.trail.entries());
+}
+
+/// The next run says both lines again, and changes nothing.
+fn check_again(rt: &impl Abort, alloc: Global, site: MemorySite) {
+    let log = site.content(alloc, 16).expect(rt, "memory");
+    let writes = count_writes(site.record(), 16);
+    let again = run_on(rt, alloc, site);
+    check_end(rt, &again, 0, Cause::Done);
+    check_tape(
+        rt,
+        alloc,
+        &again.site,
+        b"a 1 started\na 2 done 5\na 1 started\na 2 done 5\n",
     );
-    assert!(rt; second.trail.entries().is_empty());
-    assert!(rt; second.site.content(alloc, 16)?.as_slice() == log.as_slice());
-    assert_eq!(rt; count_writes(second.site.record(), 16), writes);
-    Ok(())
+    assert!(rt; again.trail.entries().is_empty());
+    check_content(rt, alloc, &again.site, &log);
+    assert!(rt; count_writes(again.site.record(), 16) == writes);
+}
+
+/// The log is these bytes.
+pub(crate) fn check_content(rt: &impl Abort, alloc: Global, site: &MemorySite, wanted: &[u8]) {
+    let log = site.content(alloc, 16).expect(rt, "memory");
+    assert!(rt; log.as_slice() == wanted);
 }
 
 #[test]
-fn the_top_call(rt: HostRuntime) -> Result<(), Fail> {
+fn sum_and_again(rt: HostRuntime) {
     let alloc = rt.alloc();
-    let words = texts(alloc, &COMMAND)?;
-    let site = sum_site(alloc, Vec::new(alloc))?;
-    let ended = run(
-        &rt,
-        alloc,
-        &words,
-        site,
-        TickClock::new(0, Vec::new(alloc)),
-        &Table,
-    );
-    assert_eq!(rt; (ended.status, ended.cause), (0, Cause::Done));
-    assert!(rt; says(alloc, &ended.site, SUM)?);
-    check_trail(&rt, ended.trail.entries());
-    Ok(())
+    let first = run_on(&rt, alloc, sum_site(&rt, alloc, &[]));
+    check_sum(&rt, alloc, &first);
+    check_again(&rt, alloc, first.site);
+}
+
+#[test]
+fn the_top_call(rt: HostRuntime) {
+    let alloc = rt.alloc();
+    let words = texts(&rt, alloc, &COMMAND);
+    let site = sum_site(&rt, alloc, &[]);
+    let clock = TickClock::new(0, Vec::new(alloc));
+    let ended = run(&rt, alloc, &words, site, clock, &Table);
+    check_sum(&rt, alloc, &ended);
 }
 
 /// The next run on what a run left says both lines behind what stood there.
-fn check_next(rt: &impl Abort, alloc: Global, site: MemorySite, after: u64) -> Result<(), Fail> {
-    let mut wanted = site.tape(alloc)?;
-    wanted.extend_from_slice(SUM.as_bytes())?;
-    let next = run_on(alloc, site)?;
-    assert_eq!(rt;
-        (next.status, next.cause),
-        (0, Cause::Done),
-        "after {after}"
-    );
-    assert!(rt;
-        next.site.tape(alloc)?.as_slice() == wanted.as_slice(),
-        "after {after}"
-    );
-    Ok(())
+fn check_next(rt: &impl Abort, alloc: Global, site: MemorySite) {
+    let mut wanted = site.tape(alloc).expect(rt, "memory");
+    wanted
+        .extend_from_slice(SUM.as_bytes())
+        .expect(rt, "memory");
+    let next = run_on(rt, alloc, site);
+    check_end(rt, &next, 0, Cause::Done);
+    check_tape(rt, alloc, &next.site, &wanted);
+}
+
+fn image(rt: &impl Abort, alloc: Global, site: &MemorySite, moment: u64, pick: Pick) -> MemorySite {
+    site.image(alloc, moment, pick).expect(rt, "memory")
 }
 
 const PICKS: [Pick; 4] = [Pick::Stable, Pick::All, Pick::Torn(0x17), Pick::Torn(0xC3)];
 
 /// The next run after a crash at this moment does.
-fn check_images(
-    rt: &impl Abort,
-    alloc: Global,
-    site: &MemorySite,
-    moment: u64,
-) -> Result<(), Fail> {
+fn check_images(rt: &impl Abort, alloc: Global, site: &MemorySite, moment: u64) {
     for pick in PICKS {
-        check_next(rt, alloc, site.image(alloc, moment, pick)?, moment)?;
+        check_next(rt, alloc, image(rt, alloc, site, moment, pick));
     }
-    Ok(())
 }
 
 /// The next run after a crash at this moment, and another in the run behind it, does.
-fn check_second_crash(
-    rt: &impl Abort,
-    alloc: Global,
-    site: &MemorySite,
-    moment: u64,
-) -> Result<(), Fail> {
-    for pick in [Pick::Stable, Pick::Torn(0xC3)] {
-        let image = site.image(alloc, moment, pick)?;
-        let crashed = image.moment();
-        let second = run_on(alloc, image)?.site;
-        for later in (crashed..=second.moment()).step_by(7) {
-            check_next(
-                rt,
-                alloc,
-                second.image(alloc, later, Pick::Torn(0xC3))?,
-                later,
-            )?;
-        }
+fn check_second_crash(rt: &impl Abort, alloc: Global, site: &MemorySite, moment: u64, pick: Pick) {
+    let crashed = image(rt, alloc, site, moment, pick);
+    let start = crashed.moment();
+    let second = run_on(rt, alloc, crashed).site;
+    for later in (start..=second.moment()).step_by(7) {
+        check_next(
+            rt,
+            alloc,
+            image(rt, alloc, &second, later, Pick::Torn(0xC3)),
+        );
     }
-    Ok(())
+}
+
+/// What stands on the tape of a run in which a call failed is a front of both lines, and whole lines where it was no
+/// line that failed.
+fn check_front(rt: &impl Abort, tape: &[u8], is_say: bool) {
+    assert!(rt; tape.len() < SUM.len() && SUM.as_bytes().starts_with(tape));
+    assert!(rt; is_say || tape.is_empty() || tape == b"a 1 started\n".as_slice());
+}
+
+/// The run ended by the fault of one call.
+fn check_fault(rt: &impl Abort, alloc: Global, ended: &Run, kind: Call) {
+    let faults = (ended.site.disk_faults(), ended.site.say_faults());
+    if kind == Call::Say {
+        check_end(rt, ended, 6, Cause::SayFault);
+        assert!(rt; faults == (0, 1));
+    } else {
+        check_end(rt, ended, 5, Cause::SiteFault);
+        assert!(rt; faults == (1, 0));
+    }
+    let tape = ended.site.tape(alloc).expect(rt, "memory");
+    check_front(rt, &tape, kind == Call::Say);
 }
 
 /// Whether the call with this number failed, with the next runs after it checked.
-fn fails_at(rt: &impl Abort, alloc: Global, kind: Call, number: u64) -> Result<bool, Fail> {
-    let fails = vec![in alloc; (kind, number)]?;
-    let first = run_on(alloc, sum_site(alloc, fails)?)?;
+fn fails_at(rt: &impl Abort, alloc: Global, kind: Call, number: u64) -> bool {
+    let first = run_on(rt, alloc, sum_site(rt, alloc, &[(kind, number)]));
     if first.cause == Cause::Done {
-        assert_eq!(rt; number, first.site.calls(kind));
-        return Ok(false);
+        assert!(rt; number == first.site.calls(kind));
+        return false;
     }
-    let faults = (first.site.disk_faults(), first.site.say_faults());
-    let tape = first.site.tape(alloc)?;
-    if kind == Call::Say {
-        assert_eq!(rt;
-            (first.status, first.cause),
-            (6, Cause::SayFault),
-            "at {number}"
-        );
-        assert_eq!(rt; faults, (0, 1), "at {number}");
-        assert!(rt;
-            tape.len() < SUM.len() && SUM.as_bytes().starts_with(&tape),
-            "at {number}"
-        );
-    } else {
-        assert_eq!(rt;
-            (first.status, first.cause),
-            (5, Cause::SiteFault),
-            "at {number}"
-        );
-        assert_eq!(rt; faults, (1, 0), "at {number}");
-        let whole = tape.is_empty() || tape.as_slice() == "a 1 started\n".as_bytes();
-        assert!(rt; whole, "at {number}");
+    check_fault(rt, alloc, &first, kind);
+    check_images(rt, alloc, &first.site, first.site.moment());
+    check_next(rt, alloc, first.site);
+    true
+}
+
+/// Each of these calls in turn fails, and there are at least so many.
+fn check_kind(rt: &impl Abort, alloc: Global, kind: Call, least: u64) {
+    let mut faults = 0;
+    for number in 0..100 {
+        if !fails_at(rt, alloc, kind, number) {
+            break;
+        }
+        faults = number + 1;
     }
-    check_images(rt, alloc, &first.site, first.site.moment())?;
-    check_next(rt, alloc, first.site, number)?;
-    Ok(true)
+    assert!(rt; faults >= least && faults < 100);
 }
 
 #[test]
-fn each_fault_in_turn(rt: HostRuntime) -> Result<(), Fail> {
-    let alloc = rt.alloc();
+fn each_fault_in_turn(rt: HostRuntime) {
     // Each label takes four calls of the device, and each of the two answers is said once.
-    for (kind, least) in [(Call::Device, 28), (Call::Say, 2)] {
-        let mut faults = 0;
-        for number in 0..1000 {
-            if !fails_at(&rt, alloc, kind, number)? {
-                break;
-            }
-            faults = number + 1;
-        }
-        assert!(rt; faults >= least && faults < 100, "{faults} faults");
-    }
-    Ok(())
+    check_kind(&rt, rt.alloc(), Call::Device, 28);
+    check_kind(&rt, rt.alloc(), Call::Say, 2);
+}
+
+/// The run on what a first fault left ended by a second one.
+fn check_second_fault(rt: &impl Abort, ended: &Run) {
+    check_end(rt, ended, 5, Cause::SiteFault);
+    assert!(rt; ended.site.disk_faults() == 2);
+    assert!(rt; ended.site.say_faults() == 0);
 }
 
 /// Whether the device's call with this number after one that failed before it fails too, with the next runs checked.
-fn fails_again_at(rt: &impl Abort, alloc: Global, first: u64, second: u64) -> Result<bool, Fail> {
-    let fails = vec![in alloc; (Call::Device, first), (Call::Device, second)]?;
-    let before = run_on(alloc, sum_site(alloc, fails)?)?;
-    assert_eq!(rt; before.cause, Cause::SiteFault, "at {first}");
-    let after = run_on(alloc, before.site)?;
+fn fails_again_at(rt: &impl Abort, alloc: Global, first: u64, second: u64) -> bool {
+    let fails = [(Call::Device, first), (Call::Device, second)];
+    let before = run_on(rt, alloc, sum_site(rt, alloc, &fails));
+    assert!(rt; before.cause == Cause::SiteFault);
+    let after = run_on(rt, alloc, before.site);
     if after.cause == Cause::Done {
-        return Ok(false);
+        return false;
     }
-    assert_eq!(rt;
-        (after.status, after.cause),
-        (5, Cause::SiteFault),
-        "at {first} and {second}"
-    );
-    assert_eq!(rt; (after.site.disk_faults(), after.site.say_faults()), (2, 0));
-    check_next(rt, alloc, after.site, second)?;
-    Ok(true)
+    check_second_fault(rt, &after);
+    check_next(rt, alloc, after.site);
+    true
 }
 
 #[test]
-fn two_faults_in_turn(rt: HostRuntime) -> Result<(), Fail> {
+fn two_faults_in_turn(rt: HostRuntime) {
     let alloc = rt.alloc();
     // A few of the calls of the device that the labels take at the least.
     for first in (0..28).step_by(3) {
         for second in (first + 1..1000).step_by(4) {
-            if !fails_again_at(&rt, alloc, first, second)? {
+            if !fails_again_at(&rt, alloc, first, second) {
                 break;
             }
         }
     }
-    Ok(())
 }
 
 #[test]
-fn a_sync_fails(rt: HostRuntime) -> Result<(), Fail> {
+fn a_sync_fails(rt: HostRuntime) {
     let alloc = rt.alloc();
-    let fails = vec![in alloc; (Call::Sync, 1)]?;
-    let first = run_on(alloc, sum_site(alloc, fails)?)?;
-    assert_eq!(rt; (first.status, first.cause), (5, Cause::SiteFault));
-    assert_eq!(rt; first.site.disk_faults(), 1);
-    assert!(rt; says(alloc, &first.site, "")?);
-    let second = run_on(alloc, first.site)?;
-    assert_eq!(rt; (second.status, second.cause), (0, Cause::Done));
-    assert!(rt; says(alloc, &second.site, SUM)?);
-    Ok(())
+    let first = run_on(&rt, alloc, sum_site(&rt, alloc, &[(Call::Sync, 1)]));
+    check_end(&rt, &first, 5, Cause::SiteFault);
+    assert!(rt; first.site.disk_faults() == 1);
+    check_tape(&rt, alloc, &first.site, b"");
+    check_next(&rt, alloc, first.site);
 }
 
 #[test]
-fn two_crashes_at_each_moment(rt: HostRuntime) -> Result<(), Fail> {
+fn two_crashes_at_each_moment(rt: HostRuntime) {
     let alloc = rt.alloc();
-    let site = sum_site(alloc, Vec::new(alloc))?;
+    let site = sum_site(&rt, alloc, &[]);
     let prepared = site.moment();
-    let first = run_on(alloc, site)?.site;
+    let first = run_on(&rt, alloc, site).site;
     for moment in prepared..=first.moment() {
-        check_images(&rt, alloc, &first, moment)?;
+        check_images(&rt, alloc, &first, moment);
     }
     // And again in the next run, at a few of the moments.
     for moment in (prepared..=first.moment()).step_by(6) {
-        check_second_crash(&rt, alloc, &first, moment)?;
+        check_second_crash(&rt, alloc, &first, moment, Pick::Stable);
+        check_second_crash(&rt, alloc, &first, moment, Pick::Torn(0xC3));
     }
-    Ok(())
 }
 
 const NO_COMMANDS: [&[&str]; 6] = [
@@ -315,105 +330,92 @@ const NO_COMMANDS: [&[&str]; 6] = [
 ];
 
 #[test]
-fn refused_words(rt: HostRuntime) -> Result<(), Fail> {
+fn refused_words(rt: HostRuntime) {
     let alloc = rt.alloc();
     for words in NO_COMMANDS {
-        let ended = run_words(alloc, words, sum_site(alloc, Vec::new(alloc))?)?;
-        assert_eq!(rt; (ended.status, ended.cause), (1, Cause::Usage));
-        assert!(rt; says(alloc, &ended.site, "")?);
+        let ended = run_words(&rt, alloc, words, sum_site(&rt, alloc, &[]));
+        check_end(&rt, &ended, 1, Cause::Usage);
+        check_tape(&rt, alloc, &ended.site, b"");
     }
-    Ok(())
+}
+
+const BAD_FLOWS: Cause = Cause::BadFlows {
+    fault: FlowFault::BadShape {
+        path: FlowPath::Whole,
+    },
+};
+
+const BAD_PLAN: Cause = Cause::BadPlan {
+    place: PlanPlace::Whole,
+};
+
+const DAMAGED: Cause = Cause::Damaged {
+    file: 16,
+    offset: 0,
+};
+
+fn check_refused(
+    rt: &impl Abort,
+    alloc: Global,
+    flows: &str,
+    requests: &str,
+    plan: &str,
+    cause: Cause,
+) {
+    let mut site = site_with(rt, alloc, flows, requests, Vec::new(alloc));
+    site.prepare(2, 0, plan.as_bytes()).expect(rt, "room");
+    let kept = site.record().len();
+    let ended = run_on(rt, alloc, site);
+    check_end(rt, &ended, 2, cause);
+    assert!(rt; ended.site.record().len() == kept);
+    assert!(rt; ended.trail.entries().is_empty());
 }
 
 #[test]
-fn refused_files(rt: HostRuntime) -> Result<(), Fail> {
+fn refused_files(rt: HostRuntime) {
     let alloc = rt.alloc();
-    let bad_flows = Cause::BadFlows {
-        fault: FlowFault::BadShape {
-            path: FlowPath::Whole,
-        },
-    };
-    let bad_plan = Cause::BadPlan {
-        place: PlanPlace::Whole,
-    };
-    for (flows, requests, plan, cause) in [
-        ("", REQUESTS, "", bad_flows),
-        (FLOW, "", "", Cause::BadRequests { line: 1 }),
-        (FLOW, REQUESTS, "{}", bad_plan),
-    ] {
-        let mut site = MemorySite::new(alloc, 4096, 400, Vec::new(alloc))?;
-        site.prepare(0, 0, flows.as_bytes())?;
-        site.prepare(1, 0, requests.as_bytes())?;
-        site.prepare(2, 0, plan.as_bytes())?;
-        let kept = site.record().len();
-        let ended = run_on(alloc, site)?;
-        assert_eq!(rt; (ended.status, ended.cause), (2, cause));
-        assert_eq!(rt; ended.site.record().len(), kept);
-        assert!(rt; ended.trail.entries().is_empty());
-    }
-    Ok(())
+    check_refused(&rt, alloc, "", REQUESTS, "", BAD_FLOWS);
+    check_refused(&rt, alloc, FLOW, "", "", Cause::BadRequests { line: 1 });
+    check_refused(&rt, alloc, FLOW, REQUESTS, "{}", BAD_PLAN);
 }
 
 #[test]
-fn a_byte_of_the_log_changed(rt: HostRuntime) -> Result<(), Fail> {
+fn a_byte_of_the_log_changed(rt: HostRuntime) {
     let alloc = rt.alloc();
-    let mut site = run_on(alloc, sum_site(alloc, Vec::new(alloc))?)?.site;
-    let log = site.content(alloc, 16)?;
-    assert!(rt; log.len() > 3);
-    site.prepare(16, 3, &[0])?;
-    let ended = run_on(alloc, site)?;
-    let damaged = Cause::Damaged {
-        file: 16,
-        offset: 0,
-    };
-    assert_eq!(rt; (ended.status, ended.cause), (8, damaged));
-    assert!(rt; says(alloc, &ended.site, SUM)?);
-    Ok(())
+    let mut site = run_on(&rt, alloc, sum_site(&rt, alloc, &[])).site;
+    assert!(rt; site.content(alloc, 16).expect(&rt, "memory").len() > 3);
+    site.prepare(16, 3, &[0]).expect(&rt, "room");
+    let ended = run_on(&rt, alloc, site);
+    check_end(&rt, &ended, 8, DAMAGED);
+    check_tape(&rt, alloc, &ended.site, SUM.as_bytes());
 }
 
 #[test]
-fn a_flow_file_too_long(rt: HostRuntime) -> Result<(), Fail> {
+fn a_flow_file_too_long(rt: HostRuntime) {
     let alloc = rt.alloc();
-    let bytes = vec![in alloc; b' '; 16_777_217]?;
-    let mut site = MemorySite::new(alloc, 16_777_217, 2, Vec::new(alloc))?;
-    site.prepare(0, 0, &bytes)?;
-    let ended = run_on(alloc, site)?;
-    assert_eq!(rt;
-        (ended.status, ended.cause),
-        (2, Cause::TooLong { file: 0 })
-    );
-    Ok(())
+    let bytes = vec![in alloc; b' '; 16_777_217].expect(&rt, "memory");
+    let mut site = MemorySite::new(alloc, 16_777_217, 2, Vec::new(alloc)).expect(&rt, "memory");
+    site.prepare(0, 0, &bytes).expect(&rt, "room");
+    let ended = run_on(&rt, alloc, site);
+    check_end(&rt, &ended, 2, Cause::TooLong { file: 0 });
 }
 
 #[test]
-fn text_of_causes(rt: HostRuntime) -> Result<(), Fail> {
+fn text_of_causes(rt: HostRuntime) {
     let alloc = rt.alloc();
-    let bad_flows = Cause::BadFlows {
-        fault: FlowFault::BadShape {
-            path: FlowPath::Whole,
-        },
-    };
-    let bad_plan = Cause::BadPlan {
-        place: PlanPlace::Whole,
-    };
-    let damaged = Cause::Damaged {
-        file: 16,
-        offset: 0,
-    };
     for (cause, text) in [
         (Cause::Done, "done"),
         (Cause::Usage, "usage"),
-        (bad_flows, "flows shape #"),
+        (BAD_FLOWS, "flows shape #"),
         (Cause::BadRequests { line: 1 }, "requests line 1"),
-        (bad_plan, "plan whole"),
+        (BAD_PLAN, "plan whole"),
         (Cause::TooLong { file: 0 }, "too long 0"),
         (Cause::SiteFault, "site fault"),
         (Cause::SayFault, "say fault"),
-        (damaged, "damaged 16 0"),
+        (DAMAGED, "damaged 16 0"),
         (Cause::Memory, "memory"),
     ] {
-        let shown = format!(in alloc; "{cause}")?;
-        assert_eq!(rt; shown.as_str(), text);
+        let shown = format!(in alloc; "{cause}").expect(&rt, "memory");
+        assert!(rt; shown.as_str() == text);
     }
-    Ok(())
 }

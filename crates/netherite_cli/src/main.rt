@@ -1,24 +1,16 @@
-//! The command `netherite`: its words, its directory, its clock and its standard output.
+//! The command `netherite`: its words, and the real outside that it hands to the engine.
 //!
-//! All that reaches the outside stands in this crate. [`FileSite`](file_site::FileSite) is the directory and standard
-//! output, and [`WallClock`](wall_clock::WallClock) the machine's clock: the layers below see them as a `Site` and a
-//! `Clock` alone.
+//! - `call`: the words that the program was called with.
 #![tactic(auto)]
 
 mod call;
-mod directory;
-mod fault;
-mod file_name;
-mod file_site;
-mod wall_clock;
 
-use call::{Call, CallError};
 use activity_table::Table;
+use call::{Call, CallError};
 use engine_run::run;
 use input_reader::Cause;
-use file_site::FileSite;
+use site_files::{FileSite, WallClock};
 use std::process::ExitCode;
-use wall_clock::WallClock;
 
 fn main(rt: HostRuntime) -> ExitCode {
     let alloc = rt.alloc();

@@ -18,6 +18,3 @@ pub use memory::MemorySite;
 pub use pick::Pick;
 pub use plan::Kind;
 pub use tick::TickClock;
-
-#[cfg(test)]
-mod tests;

@@ -1,4 +1,4 @@
-use crate::{Kept, Kind, MemorySite, Pick, TickClock};
+use site_memory::{Kept, Kind, MemorySite, Pick, TickClock};
 use site_model::{Clock, Failed, LAST_MOMENT, Site};
 use std::alloc::Global;
 use std::process::Abort;

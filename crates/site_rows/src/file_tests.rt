@@ -1,5 +1,5 @@
 // What no clause says: which bytes the disk gives, which names the files have, and when a fault is counted.
-use super::{FileSite, print_at_once};
+use site_files::{FileSite, print_at_once};
 use site_model::{Failed, Site};
 use std::alloc::AllocError;
 use std::cell::Cell;
@@ -39,7 +39,7 @@ fn keeps_what_was_written(rt: HostRuntime) -> Result<(), Fail> {
     assert_eq!(rt; site.sync(17), Ok(()));
     assert_eq!(rt; site.sync(17), Ok(()));
     assert_eq!(rt; site.say(b"kept\n"), Ok(()));
-    assert_eq!(rt; site.disk_faults, 0);
+    assert_eq!(rt; site.disk_faults(), 0);
     drop(site);
 
     let mut site = open(&rt, path.as_str())?;
@@ -48,7 +48,7 @@ fn keeps_what_was_written(rt: HostRuntime) -> Result<(), Fail> {
     assert_eq!(rt; site.read(17, 9, &mut out), Ok(0));
     assert_eq!(rt; site.read(17, 100, &mut out), Ok(0));
     assert_eq!(rt; site.length(16), Ok(0));
-    assert_eq!(rt; site.disk_faults, 0);
+    assert_eq!(rt; site.disk_faults(), 0);
     fs::remove_dir_all(&rt, path)?;
     Ok(())
 }
@@ -70,7 +70,7 @@ fn names_its_files(rt: HostRuntime) -> Result<(), Fail> {
         let text = fs::read_to_string(&rt, format!(in rt.alloc(); "{path}/{name}")?)?;
         assert_eq!(rt; text.as_str(), name);
     }
-    assert_eq!(rt; site.disk_faults, 0);
+    assert_eq!(rt; site.disk_faults(), 0);
     fs::remove_dir_all(&rt, path)?;
     Ok(())
 }
@@ -86,8 +86,8 @@ fn counts_each_fault(rt: HostRuntime) -> Result<(), Fail> {
         assert_eq!(rt; site.write(number, 0, b"x"), Err(Failed));
         assert_eq!(rt; site.sync(number), Err(Failed));
     }
-    assert_eq!(rt; site.disk_faults, 16);
-    assert_eq!(rt; site.say_faults, 0);
+    assert_eq!(rt; site.disk_faults(), 16);
+    assert_eq!(rt; site.say_faults(), 0);
 
     // a directory stands where the file should, and then the directory itself is gone
     fs::create_dir(&rt, format!(in rt.alloc(); "{path}/plan.json")?)?;
@@ -95,7 +95,7 @@ fn counts_each_fault(rt: HostRuntime) -> Result<(), Fail> {
     fs::remove_dir_all(&rt, path)?;
     assert_eq!(rt; site.length(2), Ok(0));
     assert_eq!(rt; site.write(2, 0, b"x"), Err(Failed));
-    assert_eq!(rt; site.disk_faults, 18);
+    assert_eq!(rt; site.disk_faults(), 18);
     Ok(())
 }
 

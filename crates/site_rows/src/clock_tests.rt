@@ -1,5 +1,5 @@
 // What no clause says: that the clock gives moments at all, in milliseconds, and that a wait gives up.
-use super::WallClock;
+use site_files::WallClock;
 use site_model::{Clock, Failed, LAST_MOMENT};
 use std::test::Fail;
 use std::time::Duration;

@@ -1,8 +1,5 @@
 // The real site: the files of a directory, and standard output.
-ghost use Rattle.std.specs.Prelude.{[]};
-
-#[cfg(test)]
-mod tests;
+ghost use Rattle.std.specs.Prelude.{◌≡◌, []};
 
 use crate::directory::Directory;
 use crate::fault::counted;
@@ -34,6 +31,20 @@ impl<R> FileSite<R> {
             disk_faults: 0,
             say_faults: 0,
         })
+    }
+
+    /// How often a length, a read, a write or a sync has failed.
+    pub fn disk_faults(&self) -> u64
+        ensures { result ≡ self.now.disk_faults }
+    {
+        self.disk_faults
+    }
+
+    /// How often saying a line has failed.
+    pub fn say_faults(&self) -> u64
+        ensures { result ≡ self.now.say_faults }
+    {
+        self.say_faults
     }
 }
 
@@ -78,8 +89,8 @@ impl<R: Files<File = File> + Print> Site for FileSite<R> {
     }
 }
 
-// Prints on after a short write and after one that a signal cut off. Nothing is kept in a buffer.
-fn print_at_once(rt: &impl Print, line: &[u8]) -> io::Result<()> {
+/// Prints all of the line, on after a short write and after one that a signal cut off. Nothing is kept in a buffer.
+pub fn print_at_once(rt: &impl Print, line: &[u8]) -> io::Result<()> {
     let mut done = 0;
     for _ in 0..u64::MAX {
         if done >= line.len() {

@@ -2,9 +2,6 @@
 ghost use Rattle.std.specs.Prelude.{◌≡◌, ◌≤◌, max, IfOk, OnErr};
 ghost use Rattle.site_model.specs.Calls.{HasCause};
 
-#[cfg(test)]
-mod tests;
-
 use crate::fault::counted;
 use site_model::{Clock, Failed, LAST_MOMENT};
 use std::io::ErrorKind;

@@ -1,5 +1,5 @@
 // The numbered files of a directory, each opened once and kept open.
-ghost use Rattle.netherite_cli.specs.FileNumbers.{IsFileNumber};
+ghost use Rattle.site_files.specs.FileNumbers.{IsFileNumber};
 ghost use Rattle.std.specs.Prelude.{◌≡◌, ◌≤◌, ◌<◌, true, false, length, IfOk, IfSome, IsOk, IsErr, OnOk, OnErr};
 
 use crate::file_name::FileName;

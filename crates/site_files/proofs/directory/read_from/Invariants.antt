@@ -1,5 +1,5 @@
 use Rattle.std.proofs.Common.{◌≤◌, length}
-use Rattle.netherite_cli.proofs.directory.read_from.Given as goal
+use Rattle.site_files.proofs.directory.read_from.Given as goal
 
 -- what was read so far lies inside the buffer
 abbrev pub invariant-loop : goal.invariant-loop
