@@ -1,22 +1,23 @@
 //! The flow file: one flow, which adds two numbers and returns their sum.
 
-ghost use Rattle.std.specs.Prelude.{◌≡◌, true, IfSome, option_map};
+ghost use Rattle.std.specs.Prelude.{◌≡◌, ◌&&◌, codes, true, IfSome, option_map, IfOk};
 ghost use Rattle.serde_json.specs.View.{view};
 ghost use Rattle.input_reader.specs.FlowFile.{number_in, numbers_in, call_in, returned_in, body_in, flow_of, flow_in};
 ghost use Rattle.dura_value.specs.Names.{is_name};
-ghost use Rattle.input_reader.specs.Reading.{Gives};
+ghost use Rattle.input_reader.specs.Reading.{Gives, guard};
+ghost use Rattle.input_reader.specs.Values.{is_word};
 
 use crate::error::ReadError;
 use dura_value::{Name, is_name};
 use crate::values;
 use serde_json::Value;
-use std::alloc::Global;
+use std::alloc::{AllocError, Global};
 
 /// The largest number that is added.
 const MOST_ADDED: u64 = 1_000_000;
 
 /// A flow that puts the sum of two numbers into a variable and returns it.
-#[derive(Debug, Drop)]
+#[derive(Drop)]
 pub struct Flow {
     pub name: Name,
     pub variable: Name,
@@ -45,12 +46,19 @@ fn numbers_in(value: &Value) -> Option<(u32, u32)>
     Some((left, right))
 }
 
+/// Whether the words are those of a call of `add`.
+fn are_call_words(word: &Value, operation: &Value) -> bool
+    ensures { result ≡ (is_word (codes "call") (view word.now) && is_word (codes "add") (view operation.now)) }
+{
+    values::is_word(word, "call") && values::is_word(operation, "add")
+}
+
 fn call_in(value: &Value) -> Option<(&str, u32, u32)>
     ensures same { option_map (λ c. (c.0.now, c.1, c.2)) result ≡ call_in (view value.now) }
     ensures name { IfSome result (λ c. is_name c.0.now ≡ true) }
 {
     let (word, variable, operation, arguments) = values::four_items(value)?;
-    if !values::is_word(word, "call") || !values::is_word(operation, "add") {
+    if !are_call_words(word, operation) {
         return None;
     }
     let variable = values::name_in(variable)?;
@@ -97,25 +105,41 @@ fn flow_of(value: &Value) -> Option<(&str, &str, u32, u32)>
     Some((name, variable, left, right))
 }
 
-/// Reads the one flow of a file.
-pub fn read_flow(alloc: Global, bytes: &[u8]) -> Result<Flow, ReadError>
-    ensures { Gives (λ flow. flow) result (flow_in bytes.now) }
+/// The two names with memory of their own.
+fn own_names(alloc: Global, name: &str, variable: &str) -> Result<(Name, Name), AllocError>
+    requires name { is_name name.now ≡ true }
+    requires variable { is_name variable.now ≡ true }
+    ensures { IfOk result (λ names. (names.0 ≡ name.now) × (names.1 ≡ variable.now)) }
 {
-    let value = match values::value_of(alloc, bytes) {
-        Ok(value) => value,
-        Err(error) => return Err(error),
-    };
-    match flow_of(&value) {
-        Some((name, variable, left, right)) => {
-            let name = Name::of(alloc, name.as_bytes())?;
-            let variable = Name::of(alloc, variable.as_bytes())?;
-            Ok(Flow {
+    let name = Name::of(alloc, name.as_bytes())?;
+    let variable = Name::of(alloc, variable.as_bytes())?;
+    Ok((name, variable))
+}
+
+/// The flow that the value is, with memory of its own.
+fn own_flow(alloc: Global, value: &Value) -> Result<Flow, ReadError>
+    ensures { Gives (λ flow. flow) result (flow_of (view value.now)) }
+{
+    match flow_of(value) {
+        Some((name, variable, left, right)) => match own_names(alloc, name, variable) {
+            Ok((name, variable)) => Ok(Flow {
                 name,
                 variable,
                 left,
                 right,
-            })
-        }
+            }),
+            Err(_) => Err(ReadError::Memory),
+        },
         None => Err(ReadError::Refused),
+    }
+}
+
+/// Reads the one flow of a file.
+pub fn read_flow(alloc: Global, bytes: &[u8]) -> Result<Flow, ReadError>
+    ensures { Gives (λ flow. flow) result (flow_in bytes.now) }
+{
+    match values::value_of(alloc, bytes) {
+        Ok(value) => own_flow(alloc, &value),
+        Err(error) => Err(error),
     }
 }

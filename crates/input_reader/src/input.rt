@@ -23,7 +23,7 @@ const REQUESTS: u32 = 1;
 const PLAN: u32 = 2;
 
 /// What the input files ask for.
-#[derive(Debug, Drop)]
+#[derive(Drop)]
 pub struct Input {
     /// The one flow.
     pub flow: Flow,
