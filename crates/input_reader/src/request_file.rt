@@ -10,8 +10,8 @@ ghost use Rattle.input_reader.specs.Values.{name_in};
 ghost use Rattle.input_reader.specs.RequestFile.{is_line_feed, lines, is_blank, behind, key_under, kind_of, word, asked_of, asked_in, are_same, first_asked, next_asked, after_asked, after_line, after_lines, both, requests_in};
 
 use crate::error::ReadError;
-use dura_value::{Key, Name, is_key};
 use crate::values;
+use dura_value::{Key, Name, is_key};
 use serde_json::Value;
 use std::alloc::{AllocError, Global};
 
@@ -75,9 +75,13 @@ fn key_under<'t>(flow: &[u8], text: &'t [u8]) -> Option<&'t [u8]>
     ensures same { option_map (λ key. key.now) result ≡ key_under flow.now text.now }
     ensures key { IfSome result (λ key. is_key key.now ≡ true) }
 {
-    let path = behind(text, flow)?;
-    let key = behind(path, "/".as_bytes())?;
-    if is_key(key) { Some(key) } else { None }
+    match behind(text, flow) {
+        Some(path) => match behind(path, "/".as_bytes()) {
+            Some(key) if is_key(key) => Some(key),
+            _ => None,
+        },
+        None => None,
+    }
 }
 
 fn kind_of(number: u64) -> Option<Kind>
@@ -95,14 +99,23 @@ fn client_in(value: &Value) -> Option<&str>
     ensures same { option_map (λ client. client.now) result ≡ bind (get (codes "client") (view value.now)) name_in }
     ensures name { IfSome result (λ client. is_name client.now ≡ true) }
 {
-    values::name_in(value.get("client")?)
+    match value.get("client") {
+        Some(client) => values::name_in(client),
+        None => None,
+    }
 }
 
 /// The kind that the value's member `n` tells.
 fn kind_in(value: &Value) -> Option<Kind>
     ensures { result ≡ bind (bind (bind (get (codes "n") (view value.now)) as_number) as_u64) kind_of }
 {
-    kind_of(value.get("n")?.as_u64()?)
+    match value.get("n") {
+        Some(number) => match number.as_u64() {
+            Some(number) => kind_of(number),
+            None => None,
+        },
+        None => None,
+    }
 }
 
 /// The key under the flow that the value's member of this kind names.
@@ -110,7 +123,13 @@ fn key_in<'v>(flow: &[u8], kind: Kind, value: &'v Value) -> Option<&'v [u8]>
     ensures same { option_map (λ key. key.now) result ≡ bind (bind (get (word kind) (view value.now)) as_str) (key_under flow.now) }
     ensures key { IfSome result (λ key. is_key key.now ≡ true) }
 {
-    key_under(flow, value.get(kind.word())?.as_str()?.as_bytes())
+    match value.get(kind.word()) {
+        Some(path) => match path.as_str() {
+            Some(path) => key_under(flow, path.as_bytes()),
+            None => None,
+        },
+        None => None,
+    }
 }
 
 fn asked_of<'v>(flow: &[u8], value: &'v Value) -> Option<(Kind, &'v str, &'v [u8])>
@@ -122,10 +141,13 @@ fn asked_of<'v>(flow: &[u8], value: &'v Value) -> Option<(Kind, &'v str, &'v [u8
     if !values::has_members(value, 3) {
         return None;
     }
-    let client = client_in(value)?;
-    let kind = kind_in(value)?;
-    let key = key_in(flow, kind, value)?;
-    Some((kind, client, key))
+    match (client_in(value), kind_in(value)) {
+        (Some(client), Some(kind)) => match key_in(flow, kind, value) {
+            Some(key) => Some((kind, client, key)),
+            None => None,
+        },
+        _ => None,
+    }
 }
 
 /// The two requests with memory of their own.
@@ -134,9 +156,13 @@ fn own_requests(alloc: Global, client: &str, key: &[u8]) -> Result<Requests, All
     requires key { is_key key.now ≡ true }
     ensures { IfOk result (λ requests. requests ≡ record { client = client.now; key = key.now }) }
 {
-    let client = Name::of(alloc, client.as_bytes())?;
-    let key = Key::of(alloc, key)?;
-    Ok(Requests { client, key })
+    match Name::of(alloc, client.as_bytes()) {
+        Ok(client) => match Key::of(alloc, key) {
+            Ok(key) => Ok(Requests { client, key }),
+            Err(error) => Err(error),
+        },
+        Err(error) => Err(error),
+    }
 }
 
 /// The request that the value is, with memory of its own.
