@@ -190,11 +190,7 @@ fn asked_in(alloc: Global, flow: &Name, line: &[u8]) -> Result<Asked, ReadError>
 fn are_same(a: &Requests, b: &Requests) -> bool
     ensures { result ≡ are_same a.now b.now }
 {
-    if a.client.as_bytes() == b.client.as_bytes() {
-        a.key.as_bytes() == b.key.as_bytes()
-    } else {
-        false
-    }
+    a.client.as_bytes() == b.client.as_bytes() && a.key.as_bytes() == b.key.as_bytes()
 }
 
 fn first_asked(asked: Asked) -> Option<Progress>
