@@ -50,8 +50,8 @@ call_low d call is =
     let numbers = bound (numbers_in parts.0.3) (λ numbers. Some (name.0, numbers.0, numbers.1)) call name.2 in
     let low = numbers_low parts.0.3 numbers.0 numbers.1 in
     let all = same {x = (name.0, numbers.0.0, numbers.0.1)} numbers.2 in (
-      subst (λ (c : List ℕ × ℕ × ℕ). c.1 ≤ most_added) all low.0,
-      subst (λ (c : List ℕ × ℕ × ℕ). c.2 ≤ most_added) all low.1,
+      subst (λ (c : List ℕ × ℕ × ℕ). c.1 ≤ most_added) {x = (name.0, numbers.0.0, numbers.0.1)} all low.0,
+      subst (λ (c : List ℕ × ℕ × ℕ). c.2 ≤ most_added) {x = (name.0, numbers.0.0, numbers.0.1)} all low.1,
     )
 
 body_low : (d : Data) (body : List ℕ × ℕ × ℕ) → body_in d ≡ Some body → (body.1 ≤ most_added) × (body.2 ≤ most_added)
@@ -77,8 +77,8 @@ flow_low bytes flow is =
     let body = bound (body_in member.0.1) (λ body. Some (flow_made member.0.0 body)) flow test.1 in
     let low = body_low member.0.1 body.0 body.1 in
     let all = same {x = flow_made member.0.0 body.0} body.2 in (
-      subst (λ (f : Flow). f.left ≤ most_added) all low.0,
-      subst (λ (f : Flow). f.right ≤ most_added) all low.1,
+      subst (λ (f : Flow). f.left ≤ most_added) {x = flow_made member.0.0 body.0} all low.0,
+      subst (λ (f : Flow). f.right ≤ most_added) {x = flow_made member.0.0 body.0} all low.1,
     )
 
 -- so their sum is an integer of 64 bits
