@@ -23,7 +23,7 @@ flow_named bytes flow is =
     let member = bound (only_at (codes "flows") d.0 >>= only_member) (λ f. guard (is_name f.0) (body_in f.1 >>= λ body. Some (flow_made f.0 body))) flow d.2 in
     let test = passed (is_name member.0.0) (body_in member.0.1 >>= λ body. Some (flow_made member.0.0 body)) flow member.2 in
     let body = bound (body_in member.0.1) (λ body. Some (flow_made member.0.0 body)) flow test.1 in
-    subst (λ (f : Flow). is_name f.name ≡ true) (same body.2) test.0
+    subst (λ (f : Flow). is_name f.name ≡ true) {x = flow_made member.0.0 body.0} (same {x = flow_made member.0.0 body.0} body.2) test.0
 
 -- the client and the key of requests
 abbrev AreNamed : Requests → Type 0
@@ -58,7 +58,7 @@ asked_named flow d asked is =
     let kind = bound (get (codes "n") d >>= as_number >>= as_u64 >>= kind_of) (with_key flow d client.0) asked client.2 in
     let key = bound (get (word kind.0) d >>= as_str >>= key_under flow) (λ key. Some (asked_made kind.0 client.0 key)) asked kind.2 in
     let text = bound (get (word kind.0) d >>= as_str) (key_under flow) key.0 key.1 in
-    subst (λ (a : Asked). AreNamed a.requests) (same key.2) (name_named at.0 client.0 at.2, key_named flow text.0 key.0 text.2)
+    subst (λ (a : Asked). AreNamed a.requests) {x = asked_made kind.0 client.0 key.0} (same {x = asked_made kind.0 client.0 key.0} key.2) (name_named at.0 client.0 at.2, key_named flow text.0 key.0 text.2)
 
 abbrev IsNamed : Progress → Type 0
 IsNamed Nothing = Unit {0}

@@ -37,7 +37,7 @@ numbers_low d numbers is =
     let parts = bound (only_at (codes "list") d >>= two_items) (λ parts. number_in parts.0 >>= λ left. number_in parts.1 >>= λ right. Some (left, right)) numbers is in
     let left = bound (number_in parts.0.0) (λ left. number_in parts.0.1 >>= λ right. Some (left, right)) numbers parts.2 in
     let right = bound (number_in parts.0.1) (λ right. Some (left.0, right)) numbers left.2 in
-    let both = same right.2 in (
+    let both = same {x = (left.0, right.0)} right.2 in (
       subst (λ (pair : ℕ × ℕ). pair.0 ≤ most_added) both (number_low parts.0.0 left.0 left.1),
       subst (λ (pair : ℕ × ℕ). pair.1 ≤ most_added) both (number_low parts.0.1 right.0 right.1),
     )
@@ -49,9 +49,9 @@ call_low d call is =
     let name = bound (name_in parts.0.1) (λ variable. numbers_in parts.0.3 >>= λ numbers. Some (variable, numbers.0, numbers.1)) call test.1 in
     let numbers = bound (numbers_in parts.0.3) (λ numbers. Some (name.0, numbers.0, numbers.1)) call name.2 in
     let low = numbers_low parts.0.3 numbers.0 numbers.1 in
-    let all = same numbers.2 in (
-      subst (λ (c : List ℕ × ℕ × ℕ). c.1 ≤ most_added) all low.0,
-      subst (λ (c : List ℕ × ℕ × ℕ). c.2 ≤ most_added) all low.1,
+    let all = same {x = (name.0, numbers.0.0, numbers.0.1)} numbers.2 in (
+      subst (λ (c : List ℕ × ℕ × ℕ). c.1 ≤ most_added) {x = (name.0, numbers.0.0, numbers.0.1)} all low.0,
+      subst (λ (c : List ℕ × ℕ × ℕ). c.2 ≤ most_added) {x = (name.0, numbers.0.0, numbers.0.1)} all low.1,
     )
 
 body_low : (d : Data) (body : List ℕ × ℕ × ℕ) → body_in d ≡ Some body → (body.1 ≤ most_added) × (body.2 ≤ most_added)
@@ -61,8 +61,8 @@ body_low d body is =
     let returned = bound (returned_in parts.0.1) (λ returned. guard (bytes_eq returned call.0.0) (Some call.0)) body call.2 in
     let test = passed (bytes_eq returned.0 call.0.0) (Some call.0) body returned.2 in
     let low = call_low parts.0.0 call.0 call.1 in (
-      subst (λ (c : List ℕ × ℕ × ℕ). c.1 ≤ most_added) (same test.1) low.0,
-      subst (λ (c : List ℕ × ℕ × ℕ). c.2 ≤ most_added) (same test.1) low.1,
+      subst (λ (c : List ℕ × ℕ × ℕ). c.1 ≤ most_added) (same {x = call.0} test.1) low.0,
+      subst (λ (c : List ℕ × ℕ × ℕ). c.2 ≤ most_added) (same {x = call.0} test.1) low.1,
     )
 
 abbrev pub flow_made : List ℕ → List ℕ × ℕ × ℕ → Flow
@@ -76,9 +76,9 @@ flow_low bytes flow is =
     let test = passed (is_name member.0.0) (body_in member.0.1 >>= λ body. Some (flow_made member.0.0 body)) flow member.2 in
     let body = bound (body_in member.0.1) (λ body. Some (flow_made member.0.0 body)) flow test.1 in
     let low = body_low member.0.1 body.0 body.1 in
-    let all = same body.2 in (
-      subst (λ (f : Flow). f.left ≤ most_added) all low.0,
-      subst (λ (f : Flow). f.right ≤ most_added) all low.1,
+    let all = same {x = flow_made member.0.0 body.0} body.2 in (
+      subst (λ (f : Flow). f.left ≤ most_added) {x = flow_made member.0.0 body.0} all low.0,
+      subst (λ (f : Flow). f.right ≤ most_added) {x = flow_made member.0.0 body.0} all low.1,
     )
 
 -- so their sum is an integer of 64 bits

@@ -1,15 +1,17 @@
 //! The three input files.
 
-ghost use Rattle.std.specs.Prelude.{◌≡◌, ◌≤◌, ◌+◌, length, Err, IfErr};
+ghost use Rattle.std.specs.Prelude.{◌≡◌, ◌≤◌, ◌+◌, length, Some, None, Err, IfErr, MatchResult};
 ghost use Rattle.site_model.specs.History.{content_of};
 ghost use Rattle.site_model.specs.Calls.{HasRisen};
-ghost use Rattle.input_reader.specs.Input.{IsSmall, ReadsFile, LengthRead, IsInputCause, ReadsInput, FlowsRead, RequestsRead, PlanRead};
+ghost use Rattle.input_reader.specs.Input.{IsSmall, ReadsFile, LengthRead, IsInputCause, Refuses, ReadsInput, FlowsRead, RequestsRead, PlanRead};
+ghost use Rattle.input_reader.specs.Refusal.{requests_refusal};
+ghost use Rattle.input_reader.specs.RequestFile.{requests_in};
 
-use dura_value::{Name, fnv};
 use crate::cause::{Cause, FlowFault, FlowPath, PlanPlace};
 use crate::error::ReadError;
 use crate::flow_file::{Flow, read_flow};
 use crate::request_file::{Requests, read_requests};
+use dura_value::{Name, fnv};
 use site_model::{FrontError, Site, read_front};
 use std::alloc::Global;
 
@@ -23,7 +25,7 @@ const REQUESTS: u32 = 1;
 const PLAN: u32 = 2;
 
 /// What the input files ask for.
-#[derive(Debug, Drop)]
+#[derive(Drop)]
 pub struct Input {
     /// The one flow.
     pub flow: Flow,
@@ -75,14 +77,13 @@ fn read_file<V: Site>(alloc: Global, site: &mut V, file: u32) -> Result<Vec<u8>,
     ensures fault { result ≡ Err Cause.SiteFault → HasRisen (V.disk_faults site.old) (V.disk_faults site.new) }
     ensures say_faults { V.say_faults site.new ≡ V.say_faults site.old }
 {
-    let length = match input_length(site, file) {
-        Ok(length) => length,
-        Err(cause) => return Err(cause),
-    };
-    match read_front(alloc, site, file, length) {
-        Ok(bytes) => Ok(bytes),
-        Err(FrontError::Failed) => Err(Cause::SiteFault),
-        Err(FrontError::Memory) => Err(Cause::Memory),
+    match input_length(site, file) {
+        Ok(length) => match read_front(alloc, site, file, length) {
+            Ok(bytes) => Ok(bytes),
+            Err(FrontError::Failed) => Err(Cause::SiteFault),
+            Err(FrontError::Memory) => Err(Cause::Memory),
+        },
+        Err(cause) => Err(cause),
     }
 }
 
@@ -95,18 +96,17 @@ fn read_flow_file<V: Site>(alloc: Global, site: &mut V) -> Result<(Flow, u64), C
     ensures fault { result ≡ Err Cause.SiteFault → HasRisen (V.disk_faults site.old) (V.disk_faults site.new) }
     ensures say_faults { V.say_faults site.new ≡ V.say_faults site.old }
 {
-    let bytes = match read_file(alloc, site, FLOWS) {
-        Ok(bytes) => bytes,
-        Err(cause) => return Err(cause),
-    };
-    match read_flow(alloc, &bytes) {
-        Ok(flow) => Ok((flow, fnv(&bytes))),
-        Err(ReadError::Refused) => Err(Cause::BadFlows {
-            fault: FlowFault::BadShape {
-                path: FlowPath::Whole,
-            },
-        }),
-        Err(ReadError::Memory) => Err(Cause::Memory),
+    match read_file(alloc, site, FLOWS) {
+        Ok(bytes) => match read_flow(alloc, &bytes) {
+            Ok(flow) => Ok((flow, fnv(&bytes))),
+            Err(ReadError::Refused) => Err(Cause::BadFlows {
+                fault: FlowFault::BadShape {
+                    path: FlowPath::Whole,
+                },
+            }),
+            Err(ReadError::Memory) => Err(Cause::Memory),
+        },
+        Err(cause) => Err(cause),
     }
 }
 
@@ -119,14 +119,13 @@ fn read_request_file<V: Site>(alloc: Global, site: &mut V, flow: &Name) -> Resul
     ensures fault { result ≡ Err Cause.SiteFault → HasRisen (V.disk_faults site.old) (V.disk_faults site.new) }
     ensures say_faults { V.say_faults site.new ≡ V.say_faults site.old }
 {
-    let bytes = match read_file(alloc, site, REQUESTS) {
-        Ok(bytes) => bytes,
-        Err(cause) => return Err(cause),
-    };
-    match read_requests(alloc, flow, &bytes) {
-        Ok(requests) => Ok(requests),
-        Err(ReadError::Refused) => Err(Cause::BadRequests { line: 1 }),
-        Err(ReadError::Memory) => Err(Cause::Memory),
+    match read_file(alloc, site, REQUESTS) {
+        Ok(bytes) => match read_requests(alloc, flow, &bytes) {
+            Ok(requests) => Ok(requests),
+            Err(ReadError::Refused) => Err(Cause::BadRequests { line: 1 }),
+            Err(ReadError::Memory) => Err(Cause::Memory),
+        },
+        Err(cause) => Err(cause),
     }
 }
 
@@ -148,6 +147,27 @@ fn check_plan<V: Site>(site: &mut V) -> Result<(), Cause>
     }
 }
 
+/// The requests of file 1, if file 2 is empty.
+fn read_rest<V: Site>(alloc: Global, site: &mut V, flow: &Name) -> Result<Requests, Cause>
+    ensures reads { V.tells → MatchResult result
+        (λ requests. (requests_refusal flow.now (content_of REQUESTS (V.history site.old)) (content_of PLAN (V.history site.old)) ≡ None)
+        × (requests_in flow.now (content_of REQUESTS (V.history site.old)) ≡ Some requests))
+        (λ cause. Refuses (requests_refusal flow.now (content_of REQUESTS (V.history site.old)) (content_of PLAN (V.history site.old))) cause) }
+    ensures input_cause { IfErr result IsInputCause }
+    ensures unchanged { V.history site.new ≡ V.history site.old }
+    ensures later { V.disk_faults site.old ≤ V.disk_faults site.new }
+    ensures fault { result ≡ Err Cause.SiteFault → HasRisen (V.disk_faults site.old) (V.disk_faults site.new) }
+    ensures say_faults { V.say_faults site.new ≡ V.say_faults site.old }
+{
+    match read_request_file(alloc, site, flow) {
+        Ok(requests) => match check_plan(site) {
+            Ok(()) => Ok(requests),
+            Err(cause) => Err(cause),
+        },
+        Err(cause) => Err(cause),
+    }
+}
+
 /// Reads files 0, 1 and 2 in this order, each one's length first.
 pub fn read_input<V: Site>(alloc: Global, site: &mut V) -> Result<Input, Cause>
     ensures reads { V.tells → ReadsInput (λ file. content_of file (V.history site.old)) result }
@@ -157,20 +177,15 @@ pub fn read_input<V: Site>(alloc: Global, site: &mut V) -> Result<Input, Cause>
     ensures fault { result ≡ Err Cause.SiteFault → HasRisen (V.disk_faults site.old) (V.disk_faults site.new) }
     ensures say_faults { V.say_faults site.new ≡ V.say_faults site.old }
 {
-    let (flow, digest) = match read_flow_file(alloc, site) {
-        Ok(found) => found,
-        Err(cause) => return Err(cause),
-    };
-    let requests = match read_request_file(alloc, site, &flow.name) {
-        Ok(requests) => requests,
-        Err(cause) => return Err(cause),
-    };
-    match check_plan(site) {
-        Ok(()) => Ok(Input {
-            flow,
-            requests,
-            digest,
-        }),
+    match read_flow_file(alloc, site) {
+        Ok((flow, digest)) => match read_rest(alloc, site, &flow.name) {
+            Ok(requests) => Ok(Input {
+                flow,
+                requests,
+                digest,
+            }),
+            Err(cause) => Err(cause),
+        },
         Err(cause) => Err(cause),
     }
 }

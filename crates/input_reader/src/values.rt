@@ -67,30 +67,32 @@ pub(crate) fn has_members(value: &Value, count: usize) -> bool
 pub(crate) fn only_member(value: &Value) -> Option<(&str, &Value)>
     ensures { option_map (λ m. (m.0.now, view m.1.now)) result ≡ only_member (view value.now) }
 {
-    let members = value.as_object()?;
-    if members.len() != 1 {
-        return None;
+    match value.as_object() {
+        Some(members) if members.len() == 1 => match members.first_key_value() {
+            Some((key, inside)) => Some((key.as_str(), inside)),
+            None => None,
+        },
+        _ => None,
     }
-    let (key, inside) = members.first_key_value()?;
-    Some((key.as_str(), inside))
 }
 
 pub(crate) fn only_at<'v>(value: &'v Value, key: &str) -> Option<&'v Value>
     ensures { option_map (λ v. view v.now) result ≡ only_at key.now (view value.now) }
 {
-    let (found, inside) = only_member(value)?;
-    if found == key { Some(inside) } else { None }
+    match only_member(value) {
+        Some((found, inside)) if found == key => Some(inside),
+        _ => None,
+    }
 }
 
 #[tactic(auto, using(crate::proofs::Members::no_two))]
 pub(crate) fn two_items(value: &Value) -> Option<(&Value, &Value)>
     ensures { option_map (λ p. (view p.0.now, view p.1.now)) result ≡ two_items (view value.now) }
 {
-    let items = value.as_array()?;
-    if items.len() != 2 {
-        return None;
+    match value.as_array() {
+        Some(items) if items.len() == 2 => Some((&items[0], &items[1])),
+        _ => None,
     }
-    Some((&items[0], &items[1]))
 }
 
 #[tactic(auto, using(crate::proofs::Members::no_four))]
@@ -98,9 +100,8 @@ pub(crate) fn four_items(value: &Value) -> Option<(&Value, &Value, &Value, &Valu
     ensures { option_map (λ p. (view p.0.now, view p.1.now, view p.2.now, view p.3.now)) result
         ≡ four_items (view value.now) }
 {
-    let items = value.as_array()?;
-    if items.len() != 4 {
-        return None;
+    match value.as_array() {
+        Some(items) if items.len() == 4 => Some((&items[0], &items[1], &items[2], &items[3])),
+        _ => None,
     }
-    Some((&items[0], &items[1], &items[2], &items[3]))
 }

@@ -2,8 +2,8 @@
 
 use activity_table::{Activities, Outcome, Table};
 use dura_value::{Key, Name, Scalar, Scalars, Text, TextError, Value};
-use input_reader::{ReadError, read_flow, read_requests};
-use std::alloc::Global;
+use input_reader::{Flow, ReadError, Requests, read_flow, read_requests};
+use std::alloc::{AllocError, Global};
 use std::test::Fail;
 
 const FLOW: &str = r#"{"flows":{"Sum":[["call","s","add",{"list":[2,3]}],["return",{"v":"s"}]]}}"#;
@@ -12,68 +12,109 @@ const START: &str = r#"{"client":"a","n":1,"start":"Sum/x"}"#;
 
 const WAIT: &str = r#"{"client":"a","n":2,"wait":"Sum/x"}"#;
 
-#[test]
-fn text_limits(rt: HostRuntime) -> Result<(), Fail> {
-    let alloc = rt.alloc();
-    let many = vec![in alloc; b'a'; 4097]?;
-    let text = Text::read(alloc, &many[..4096])?;
-    assert_eq!(rt; text.clone(alloc)?.as_bytes().len(), 4096);
-    assert_eq!(rt; text.as_str().len(), 4096);
-    assert!(rt;
-        matches!(
-            Text::read(alloc, &many),
-            Err(TextError::TooLong { length: 4097 })
-        )
-    );
-    assert!(rt;
-        matches!(
-            Text::read(alloc, b"a\xC3"),
-            Err(TextError::NotUtf8 { offset: 1 })
-        )
-    );
-    Ok(())
-}
-
-#[test]
-fn copies(rt: HostRuntime) -> Result<(), Fail> {
-    let alloc = rt.alloc();
-    let name = Name::of(alloc, b"Sum_1")?;
-    let key = Key::of(alloc, b"1.x-y_z")?;
-    assert!(rt; name.clone(alloc)?.as_bytes() == name.as_bytes());
-    assert!(rt; key.clone(alloc)?.as_bytes() == key.as_bytes());
-    Ok(())
-}
-
-fn is_failure(outcome: &Outcome, fault: &str) -> bool {
-    match outcome {
-        Outcome::Failed(text) => text.as_str() == fault,
-        Outcome::Done(_) => false,
+/// Whether a text of these bytes and its copy have so many.
+fn text_has(alloc: Global, bytes: &[u8], length: usize) -> Result<bool, AllocError> {
+    match Text::read(alloc, bytes) {
+        Ok(text) => {
+            let copy = text.clone(alloc)?;
+            Ok(text.as_str().len() == length && copy.as_bytes().len() == length)
+        }
+        Err(_) => Ok(false),
     }
 }
 
 #[test]
-fn shipped_activities(rt: HostRuntime) -> Result<(), Fail> {
+fn text_limits(rt: HostRuntime) -> Result<(), Fail> {
     let alloc = rt.alloc();
-    let five = Value::List(Scalars::pair(alloc, Scalar::Int(7), Scalar::Int(-2))?);
-    let high = Value::List(Scalars::pair(alloc, Scalar::Int(i64::MAX), Scalar::Int(1))?);
-    let mixed = Value::List(Scalars::pair(alloc, Scalar::Int(1), Scalar::True)?);
-    let sum = Table.run(alloc, "add", &five, 0)?;
-    assert!(rt; matches!(sum, Outcome::Done(Value::Int(5))));
-    assert!(rt; is_failure(&Table.run(alloc, "add", &high, 0)?, "overflow"));
-    assert!(rt; is_failure(&Table.run(alloc, "add", &mixed, 0)?, "type"));
-    assert!(rt; is_failure(&Table.run(alloc, "add", &Value::Null, 0)?, "type"));
-    assert!(rt; is_failure(&Table.run(alloc, "less", &five, 0)?, "unknown"));
+    let many = vec![in alloc; b'a'; 4097]?;
+    assert!(rt; text_has(alloc, &many[..4096], 4096)?);
+    let fault = Text::read(alloc, &many);
+    assert!(rt; matches!(fault, Err(TextError::TooLong { length: 4097 })));
     Ok(())
 }
 
 #[test]
+fn text_form(rt: HostRuntime) {
+    let fault = Text::read(rt.alloc(), b"a\xC3");
+    assert!(rt; matches!(fault, Err(TextError::NotUtf8 { offset: 1 })));
+}
+
+fn copies_name(alloc: Global) -> Result<bool, AllocError> {
+    let name = Name::of(alloc, b"Sum_1")?;
+    let copy = name.clone(alloc)?;
+    Ok(copy.as_bytes() == name.as_bytes())
+}
+
+fn copies_key(alloc: Global) -> Result<bool, AllocError> {
+    let key = Key::of(alloc, b"1.x-y_z")?;
+    let copy = key.clone(alloc)?;
+    Ok(copy.as_bytes() == key.as_bytes())
+}
+
+#[test]
+fn copies(rt: HostRuntime) -> Result<(), Fail> {
+    assert!(rt; copies_name(rt.alloc())?);
+    assert!(rt; copies_key(rt.alloc())?);
+    Ok(())
+}
+
+/// Whether a run of the activity fails with this fault.
+fn fails(alloc: Global, word: &str, argument: &Value, fault: &str) -> bool {
+    match Table.run(alloc, word, argument, 0) {
+        Ok(Outcome::Failed(text)) => text.as_str() == fault,
+        _ => false,
+    }
+}
+
+/// Whether it does so on a list of an integer and another scalar.
+fn pair_fails(
+    alloc: Global,
+    word: &str,
+    left: i64,
+    right: Scalar,
+    fault: &str,
+) -> Result<bool, AllocError> {
+    let pair = Scalars::pair(alloc, Scalar::Int(left), right)?;
+    Ok(fails(alloc, word, &Value::List(pair), fault))
+}
+
+#[test]
+fn sum_activity(rt: HostRuntime) -> Result<(), Fail> {
+    let pair = Scalars::pair(rt.alloc(), Scalar::Int(7), Scalar::Int(-2))?;
+    let sum = Table.run(rt.alloc(), "add", &Value::List(pair), 0);
+    assert!(rt; matches!(sum, Ok(Outcome::Done(Value::Int(5)))));
+    Ok(())
+}
+
+#[test]
+fn failing_activities(rt: HostRuntime) -> Result<(), Fail> {
+    let alloc = rt.alloc();
+    assert!(rt; pair_fails(alloc, "add", i64::MAX, Scalar::Int(1), "overflow")?);
+    assert!(rt; pair_fails(alloc, "add", 1, Scalar::True, "type")?);
+    assert!(rt; fails(alloc, "add", &Value::Null, "type"));
+    assert!(rt; pair_fails(alloc, "less", 7, Scalar::Int(-2), "unknown")?);
+    Ok(())
+}
+
+/// Whether the flow is that of `FLOW`.
+fn is_sum(flow: &Flow) -> bool {
+    flow.name.as_bytes() == "Sum".as_bytes()
+        && flow.variable.as_bytes() == "s".as_bytes()
+        && (flow.left, flow.right) == (2, 3)
+}
+
+fn gives_sum(alloc: Global, file: &str) -> bool {
+    match read_flow(alloc, file.as_bytes()) {
+        Ok(flow) => is_sum(&flow),
+        Err(_) => false,
+    }
+}
+
+#[test]
 fn sum_flow(rt: HostRuntime) -> Result<(), Fail> {
-    let flow = read_flow(rt.alloc(), FLOW.as_bytes())?;
-    assert!(rt; flow.name.as_bytes() == "Sum".as_bytes());
-    assert!(rt; flow.variable.as_bytes() == "s".as_bytes());
-    assert_eq!(rt; (flow.left, flow.right), (2, 3));
+    assert!(rt; gives_sum(rt.alloc(), FLOW));
     let doubled = FLOW.replace(rt.alloc(), "{\"flows\"", "{\"flows\":{},\"flows\"")?;
-    assert!(rt; read_flow(rt.alloc(), doubled.as_bytes()).is_ok());
+    assert!(rt; gives_sum(rt.alloc(), doubled.as_str()));
     Ok(())
 }
 
@@ -98,18 +139,24 @@ fn refused_flows(rt: HostRuntime) {
     }
 }
 
-/// Whether these lines, each with an end, ask for key `x` of client `a`.
-fn asks(alloc: Global, lines: &[&str], end: &str) -> Result<bool, Fail> {
+/// Whether these are for key `x` of client `a`.
+fn are_ours(requests: &Requests) -> bool {
+    requests.client.as_bytes() == "a".as_bytes() && requests.key.as_bytes() == "x".as_bytes()
+}
+
+fn gives_ours(alloc: Global, file: &[u8]) -> Result<bool, ReadError> {
     let flow = Name::of(alloc, b"Sum")?;
-    let file = lines.join(alloc, end)?;
-    match read_requests(alloc, &flow, file.as_bytes()) {
-        Ok(requests) => Ok(
-            requests.client.as_bytes() == "a".as_bytes()
-                && requests.key.as_bytes() == "x".as_bytes(),
-        ),
+    match read_requests(alloc, &flow, file) {
+        Ok(requests) => Ok(are_ours(&requests)),
         Err(ReadError::Refused) => Ok(false),
-        Err(ReadError::Memory) => Err(Fail::from(ReadError::Memory)),
+        Err(error) => Err(error),
     }
+}
+
+/// Whether these lines, each with an end, ask for key `x` of client `a`.
+fn asks(alloc: Global, lines: &[&str], end: &str) -> Result<bool, ReadError> {
+    let file = lines.join(alloc, end)?;
+    gives_ours(alloc, file.as_bytes())
 }
 
 #[test]
