@@ -1,18 +1,20 @@
 //! Why a run ends.
 
-use std::{error, fmt};
+use thiserror::Error;
 
 /// Where a flow file is out of shape.
-#[derive(Clone, Copy, PartialEq, Eq)]
+#[derive(Clone, Copy, Debug, PartialEq, Eq, Error)]
 pub enum FlowPath {
     /// The whole file.
+    #[error("#")]
     Whole,
 }
 
 /// What is wrong with a flow file.
-#[derive(Clone, Copy, PartialEq, Eq)]
+#[derive(Clone, Copy, Debug, PartialEq, Eq, Error)]
 pub enum FlowFault {
     /// Not of the shape that is read.
+    #[error("shape {path}")]
     BadShape {
         /// Where.
         path: FlowPath,
@@ -20,44 +22,54 @@ pub enum FlowFault {
 }
 
 /// Where a plan is wrong.
-#[derive(Clone, Copy, PartialEq, Eq)]
+#[derive(Clone, Copy, Debug, PartialEq, Eq, Error)]
 pub enum PlanPlace {
     /// The whole file.
+    #[error("whole")]
     Whole,
 }
 
 /// Why a run ended. Its text is the line for standard error, behind the program's name.
-#[derive(Clone, Copy, PartialEq, Eq)]
+#[derive(Clone, Copy, Debug, PartialEq, Eq, Error)]
 pub enum Cause {
     /// Every request is answered, and each answer said.
+    #[error("done")]
     Done,
     /// The words are no command.
+    #[error("usage")]
     Usage,
     /// File 0, the flows.
+    #[error("flows {fault}")]
     BadFlows {
         /// What is wrong.
         fault: FlowFault,
     },
     /// File 1, the requests.
+    #[error("requests line {line}")]
     BadRequests {
         /// The first line that is wrong, from 1.
         line: u64,
     },
     /// File 2, the plan.
+    #[error("plan {place}")]
     BadPlan {
         /// Where.
         place: PlanPlace,
     },
     /// An input file of more than 16,777,216 bytes.
+    #[error("too long {file}")]
     TooLong {
         /// The file's number.
         file: u32,
     },
     /// A length, a read, a write or a sync failed.
+    #[error("site fault")]
     SiteFault,
     /// Saying an answer failed.
+    #[error("say fault")]
     SayFault,
     /// A log breaks its grammar.
+    #[error("damaged {file} {offset}")]
     Damaged {
         /// The file's number.
         file: u32,
@@ -65,40 +77,8 @@ pub enum Cause {
         offset: u64,
     },
     /// Memory ran out.
+    #[error("memory")]
     Memory,
-}
-
-impl error::Error for Cause {}
-
-/// Shows its text.
-impl fmt::Debug for Cause {
-    fn fmt<W: fmt::Write>(&self, f: &mut fmt::Formatter<W>) -> fmt::Result {
-        fmt::Display::fmt(self, f)
-    }
-}
-
-impl fmt::Display for Cause {
-    fn fmt<W: fmt::Write>(&self, f: &mut fmt::Formatter<W>) -> fmt::Result {
-        let text = match self {
-            Cause::Done => "done",
-            Cause::Usage => "usage",
-            Cause::BadFlows {
-                fault: FlowFault::BadShape {
-                    path: FlowPath::Whole,
-                },
-            } => "flows shape #",
-            Cause::BadRequests { line } => return write!(f, "requests line {line}"),
-            Cause::BadPlan {
-                place: PlanPlace::Whole,
-            } => "plan whole",
-            Cause::TooLong { file } => return write!(f, "too long {file}"),
-            Cause::SiteFault => "site fault",
-            Cause::SayFault => "say fault",
-            Cause::Damaged { file, offset } => return write!(f, "damaged {file} {offset}"),
-            Cause::Memory => "memory",
-        };
-        f.write_str(text)
-    }
 }
 
 impl Cause {
