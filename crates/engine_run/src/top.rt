@@ -12,12 +12,12 @@ ghost use Rattle.engine_run.specs.Run.{Says, Untouched};
 ghost use Rattle.part_driver.specs.Trail.{Rises};
 ghost use Rattle.engine_run.specs.Words.{run_words};
 
-use activity_table::Activities;
-use part_driver::{Entry, Trail, drive, recover};
-use input_reader::{Cause, read_input};
 use crate::ended::Ended;
-use dura_value::Text;
 use crate::words::is_run_command;
+use activity_table::Activities;
+use dura_value::Text;
+use input_reader::{Cause, read_input};
+use part_driver::{Entry, Trail, drive, recover};
 use site_model::{Clock, Site};
 use std::alloc::Global;
 use std::sync::Wait;

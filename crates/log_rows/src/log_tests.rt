@@ -5,7 +5,9 @@ ghost use Rattle.commit_log.specs.declared.header.Header.{Header};
 ghost use Rattle.commit_log.specs.States.{IsResting, IsSynced, IsSyncedThere, Rests};
 ghost use Rattle.commit_log.specs.Outcomes.{RestsAs};
 
-use commit_log::{BodyError, Broken, Header, OpenError, Opened, Reopened, Resting, Synced, read_log};
+use commit_log::{
+    BodyError, Broken, Header, OpenError, Opened, Reopened, Resting, Synced, read_log,
+};
 use site_memory::{Kept, Kind, MemorySite, Pick};
 use site_model::Site;
 use std::alloc::Global;

@@ -9,8 +9,8 @@ ghost use Rattle.commit_log.specs.States.{Rests, IsResting};
 ghost use Rattle.commit_log.specs.Outcomes.{RestsAs};
 ghost use Rattle.part_driver.specs.Commit.{IsOutside, LeavesCommit};
 
-use input_reader::Cause;
 use commit_log::{BodyError, Resting};
+use input_reader::Cause;
 use site_model::Site;
 use std::alloc::Global;
 

@@ -12,12 +12,12 @@ ghost use Rattle.part_state.specs.declared.state.State.{State};
 ghost use Rattle.part_state.specs.State.{IsQuiet};
 ghost use Rattle.part_driver.specs.Trail.{Rises};
 
-use activity_table::Activities;
-use input_reader::{Cause, Input};
 use crate::recovered::Recovered;
 use crate::settle::settle_label;
 use crate::told::{Told, say_due};
 use crate::trail::Entry;
+use activity_table::Activities;
+use input_reader::{Cause, Input};
 use site_model::Site;
 use std::alloc::Global;
 

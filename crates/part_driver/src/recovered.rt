@@ -3,8 +3,8 @@
 ghost use Rattle.std.specs.Prelude.{◌+◌, ◌≤◌, ◌<◌, ◌^◌};
 ghost use Rattle.part_state.specs.State.{work, IsSound};
 
-use part_state::State;
 use commit_log::Resting;
+use part_state::State;
 
 /// What was recovered.
 #[derive(Drop)]

@@ -10,11 +10,11 @@ ghost use Rattle.part_items.specs.Replay.{Point, Replays};
 ghost use Rattle.part_driver.specs.Recovery.{IsRefused, IsOpening, Recovers, LeavesOpening, Follows, StartsFrom};
 ghost use Rattle.part_log.specs.Log.{header_with};
 
-use input_reader::{Cause, Input, ReadError};
 use crate::recovered::Recovered;
+use commit_log::{Header, OpenError, Opened, Resting, read_log};
+use input_reader::{Cause, Input, ReadError};
 use part_items::replay_all;
 use part_state::State;
-use commit_log::{Header, OpenError, Opened, Resting, read_log};
 use site_model::Site;
 use std::alloc::Global;
 
@@ -114,11 +114,7 @@ fn make_log<V: Site>(site: &mut V, input: &Input) -> Result<Recovered, Cause>
 
 /// Opens the log, or makes it where there is none.
 #[tactic(auto, using(crate::proofs::Opening::opening_reads, crate::proofs::Opening::opening_formats, crate::proofs::Opening::not_damaged, crate::proofs::Opening::recovers_opened))]
-pub fn recover<V: Site>(
-    alloc: Global,
-    site: &mut V,
-    input: &Input,
-) -> Result<Recovered, Cause>
+pub fn recover<V: Site>(alloc: Global, site: &mut V, input: &Input) -> Result<Recovered, Cause>
     ensures recovers { V.tells → Recovers input.now (content_of LOG (V.history site.old)) result }
     ensures during { V.tells → Always (LeavesOpening input.now (V.history site.old)) (V.history site.old) (V.history site.new) }
     ensures stands { V.tells → IfOk result (λ r. (payloads : List (List ℕ)) × IsResting (changes_of r.log.file (V.history site.new)) (header_with input.now.digest) payloads r.log.gate

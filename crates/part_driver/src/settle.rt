@@ -11,14 +11,14 @@ ghost use Rattle.part_driver.specs.Commit.{IsOutside, LeavesCommit};
 ghost use Rattle.part_driver.specs.Labels.{OthersSame};
 ghost use Rattle.part_items.specs.Items.{payload_bytes};
 
-use activity_table::Activities;
 use crate::commit::commit;
+use crate::trail::Entry;
+use activity_table::Activities;
+use commit_log::Resting;
 use dura_value::{Scalar, Scalars, Value, word};
 use input_reader::{Cause, Input};
 use part_items::payload;
 use part_state::Label;
-use crate::trail::Entry;
-use commit_log::Resting;
 use site_model::Site;
 use std::alloc::Global;
 

@@ -8,11 +8,11 @@ ghost use Rattle.part_items.specs.Replay.{Point, IsTimely, MayFollow, Replays};
 ghost use Rattle.part_log.specs.Log.{IsFew};
 ghost use Rattle.part_items.specs.Replayed.{point_of, tagged, ReadsItems, ReadsEntry, ReadsFrame};
 
-use input_reader::{Input, Kind, ReadError, behind};
 use crate::items::put_item;
 use crate::replayed::Replay;
-use part_state::{Label, State};
 use commit_log::Payload;
+use input_reader::{Input, Kind, ReadError, behind};
+use part_state::{Label, State};
 use std::alloc::{AllocError, Global};
 
 /// The moments that no clock gives.
@@ -269,11 +269,7 @@ fn nothing_read() -> Replay
 }
 
 /// The labels of a log's payloads, applied from the fresh state on.
-pub fn replay_all(
-    alloc: Global,
-    input: &Input,
-    payloads: &[Payload],
-) -> Result<Replay, ReadError>
+pub fn replay_all(alloc: Global, input: &Input, payloads: &[Payload]) -> Result<Replay, ReadError>
     ensures low { IfOk result (λ found. IfSome found.incarnation (λ i. i < 2 ^ 61)) }
     ensures replays { IfOk result (λ found. Replays input.now payloads.now (point_of found)) }
     ensures refused { result ≡ Err ReadError.Refused → (p : Point) → Replays input.now payloads.now p → ⊥ }
