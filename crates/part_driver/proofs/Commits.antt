@@ -1,5 +1,5 @@
 -- The calls of an append, one after another.
-use Rattle.std.proofs.Common.{◌≡◌, ◌≤◌, ◌<◌, inl, inr, ℕ, List, [], ◌∷◌, Result, Ok, Err, IfOk, OnOk, arith, subst, ap, ◌∙◌}
+use Rattle.std.proofs.Common.{◌≡◌, ◌≤◌, ◌<◌, inl, inr, ℕ, List, [], ◌∷◌, Result, Ok, Err, IfOk, OnOk, arith, length, subst, ap, ◌∙◌}
 use Rattle.site_model.specs.History.{Change, Step, on, wrote, synced, changes_of}
 use Rattle.site_model.specs.Calls.{Writes, Syncs}
 use Rattle.site_model.specs.Moments.{Always, Keeps, LeavesOnly}
@@ -74,6 +74,10 @@ same_log h payloads file gate there at old new same even during =
 pub rests_some : {E : Type 0} (steps : List Step) (h : Header) (payloads : List (List ℕ)) (result : Result Resting E) → IfOk result (RestsAs steps h payloads) → IfOk result (λ next. Rests (changes_of next.file steps) next.gate)
 rests_some steps h payloads (Ok next) rests = (h, payloads, rests)
 rests_some steps h payloads (Err cause) rests = tt
+
+-- two steps moved on
+pub two_steps : {old mid new : List Step} (one other : Step) → mid ≡ one ∷ old → new ≡ other ∷ mid → length old < length new
+two_steps one other first second = omega (arith, ap length first, ap length second)
 
 -- the second of two calls moved on
 pub moves_more : {T E : Type 0} (old mid new : ℕ) (result : Result T E) → old ≤ mid → OnOk result (mid < new) → OnOk result (old < new)
