@@ -1,5 +1,5 @@
 -- The calls of an append, one after another.
-use Rattle.std.proofs.Common.{◌≡◌, inl, inr, ℕ, List, [], ◌∷◌, Result, subst, ap, ◌∙◌}
+use Rattle.std.proofs.Common.{◌≡◌, ◌≤◌, ◌<◌, inl, inr, ℕ, List, [], ◌∷◌, Result, Ok, Err, IfOk, OnOk, arith, length, subst, ap, ◌∙◌}
 use Rattle.site_model.specs.History.{Change, Step, on, wrote, synced, changes_of}
 use Rattle.site_model.specs.Calls.{Writes, Syncs}
 use Rattle.site_model.specs.Moments.{Always, Keeps, LeavesOnly}
@@ -7,7 +7,9 @@ use Rattle.site_model.specs.Moments.Always.{begins}
 use Rattle.site_model.proofs.Paths.{first, last, together, weaker, own_change, only_here, only_then}
 use Rattle.commit_log.specs.declared.header.Header.{Header}
 use Rattle.commit_log.specs.Segment.{open_gate}
-use Rattle.commit_log.specs.States.{IsResting, IsSynced, HasFrames, HasFramesOrOneMore}
+use Rattle.commit_log.specs.States.{Rests, IsResting, IsSynced, HasFrames, HasFramesOrOneMore}
+use Rattle.commit_log.specs.declared.states.Resting.{Resting}
+use Rattle.commit_log.specs.Outcomes.{RestsAs}
 use Rattle.commit_log.proofs.Steps.{resting_images, synced_images}
 use Rattle.part_driver.specs.Commit.{LeavesCommit, WroteGate}
 use Rattle.part_driver.proofs.Moments.{one_step}
@@ -62,6 +64,25 @@ module _ (h : Header) (payloads : List (List ℕ)) (payload : List ℕ) (gate fi
       one_step mid new (on file synced) syncs.either
       (either_frames mid mid next (open_gate ∷ [], changes_of file old, inl changed) (first leaves))
       (λ is. either_frames mid new next (open_gate ∷ [], changes_of file old, inr (ap (changes_of file) is ∙ own_change file synced mid ∙ ap (λ (changes : List Change). synced ∷ changes) changed)) (last leaves))
+
+-- nothing changes on the same log
+pub same_log : (h : Header) (payloads : List (List ℕ)) (file gate there at : ℕ) (old new : List Step) → there ≡ file → at ≡ gate → LeavesOnly there old new (HasFrames h payloads at) → LeavesOnly file old new (HasFrames h payloads gate)
+same_log h payloads file gate there at old new same even during =
+    subst (λ (g : ℕ). LeavesOnly file old new (HasFrames h payloads g)) even (subst (λ (f : ℕ). LeavesOnly f old new (HasFrames h payloads at)) same during)
+
+-- some log rests there
+pub rests_some : {E : Type 0} (steps : List Step) (h : Header) (payloads : List (List ℕ)) (result : Result Resting E) → IfOk result (RestsAs steps h payloads) → IfOk result (λ next. Rests (changes_of next.file steps) next.gate)
+rests_some steps h payloads (Ok next) rests = (h, payloads, rests)
+rests_some steps h payloads (Err cause) rests = tt
+
+-- two steps moved on
+pub two_steps : {old mid new : List Step} (one other : Step) → mid ≡ one ∷ old → new ≡ other ∷ mid → length old < length new
+two_steps one other first second = omega (arith, ap length first, ap length second)
+
+-- the second of two calls moved on
+pub moves_more : {T E : Type 0} (old mid new : ℕ) (result : Result T E) → old ≤ mid → OnOk result (mid < new) → OnOk result (old < new)
+moves_more old mid new (Ok value) low moves = omega arith
+moves_more old mid new (Err cause) low moves = tt
 
 -- the same of equal payloads
 pub same_payload : (h : Header) (payloads : List (List ℕ)) (one other : List ℕ) (gate file : ℕ) (old new : List Step) → one ≡ other → Always (LeavesCommit file h payloads one gate old) old new

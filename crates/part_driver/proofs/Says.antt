@@ -1,6 +1,5 @@
 -- What saying a line leaves.
-use Rattle.std.proofs.Common.{◌≡◌, ◌++◌, inl, inr, ℕ, List, [], take, drop, Result, Ok, Err, ◌∷◌, refl, sym, ◌∙◌, ap, subst}
-use Rattle.std.specs.Prelude.{OnOk}
+use Rattle.std.proofs.Common.{◌≡◌, ◌++◌, inl, inr, ℕ, List, [], take, drop, Result, ◌∷◌, refl, sym, ◌∙◌, ap, subst}
 use Rattle.std.proofs.lemmas.List.{take-append-drop, append-nil, append_assoc, append_cancel_left}
 use Rattle.site_model.specs.History.{Step, tape, changes_of, saying, said}
 use Rattle.site_model.specs.Moments.{Always}
@@ -25,10 +24,6 @@ pub said_part : {T E : Type 0} (line : List ℕ) (old new : List Step) (result :
     → (part : List ℕ) × (tape new ≡ tape old ++ part) × IsFront part line
 said_part line old new result says =
     (take says.count line, ap tape says.steps ∙ tape-saying (take says.count line) old, (drop says.count line, sym (take-append-drop says.count line)))
-
-pub said_whole : {T E : Type 0} (line : List ℕ) (old new : List Step) (result : Result T E) → Says line old new result → OnOk result (tape new ≡ tape old ++ line)
-said_whole line old new (Ok x) says = ap tape says.ok ∙ tape-saying line old
-said_whole line old new (Err e) says = tt
 
 pub says_no_file : {T E : Type 0} (line : List ℕ) (old new : List Step) (result : Result T E) → Says line old new result → (file : ℕ) → changes_of file new ≡ changes_of file old
 says_no_file line old new result says file = ap (changes_of file) says.steps ∙ changes_of-saying file (take says.count line) old

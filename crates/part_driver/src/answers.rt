@@ -1,6 +1,6 @@
 //! The lines that are said.
 
-ghost use Rattle.std.specs.Prelude.{◌≡◌, ◌<◌, length, IfOk, string_bytes};
+ghost use Rattle.std.specs.Prelude.{◌≡◌, ◌+◌, ◌<◌, length, IfOk, string_bytes};
 ghost use Rattle.part_driver.specs.Lines.{start_line, wait_line, sum_text};
 
 use input_reader::Input;
@@ -19,12 +19,18 @@ pub(crate) fn start_line(alloc: Global, input: &Input) -> Result<Vec<u8>, AllocE
     Ok(line)
 }
 
+/// The flow's result.
+fn sum(input: &Input) -> u64
+    ensures { result ≡ input.now.flow.left + input.now.flow.right }
+{
+    input.flow.left as u64 + input.flow.right as u64
+}
+
 /// The sum as JSON.
 fn sum_text(alloc: Global, input: &Input) -> Result<String, AllocError>
     ensures { IfOk result (λ text. string_bytes text ≡ sum_text input.now) }
 {
-    let sum = input.flow.left as u64 + input.flow.right as u64;
-    Value::from(sum).to_string(alloc)
+    Value::from(sum(input)).to_string(alloc)
 }
 
 fn none_line(alloc: Global, input: &Input) -> Result<Vec<u8>, AllocError>

@@ -1,13 +1,13 @@
 //! Opening the log of the partition, and what its labels made.
 
-ghost use Rattle.std.specs.Prelude.{◌≡◌, ◌≤◌, [], ◌∷◌, ℕ, List, true, false, Err, IfOk, IfErr, OnErr};
+ghost use Rattle.std.specs.Prelude.{◌≡◌, ◌≤◌, ◌<◌, ◌^◌, [], ◌∷◌, ℕ, List, true, false, Err, IfSome, IfOk, IfErr, OnErr};
 ghost use Rattle.site_model.specs.History.{on, synced, changes_of, content_of, tape, IsKept};
 ghost use Rattle.site_model.specs.Calls.{HasRisen};
 ghost use Rattle.site_model.specs.Moments.{Always, LeavesOnly};
 ghost use Rattle.commit_log.specs.States.{Rests, EndsAt, IsResting, IsFormatting};
 ghost use Rattle.part_state.specs.State.{fresh_state};
 ghost use Rattle.part_items.specs.Replay.{Point, Replays};
-ghost use Rattle.part_driver.specs.Recovery.{IsRefused, IsOpening, Recovers, LeavesOpening, Follows, StartsFrom};
+ghost use Rattle.part_driver.specs.Recovery.{IsRefused, IsOpening, Recovers, LeavesOpening, Follows, StartsFrom, next_incarnation};
 ghost use Rattle.part_log.specs.Log.{header_with};
 
 use crate::recovered::Recovered;
@@ -44,6 +44,18 @@ fn is_ours(header: &Header, input: &Input) -> bool
         && header.base == 0
 }
 
+/// The incarnation behind the last one. Behind the greatest there is none, and it may come again.
+fn next_incarnation(last: Option<u64>) -> u64
+    requires { IfSome last (λ i. i < 2 ^ 61) }
+    ensures next { result ≡ next_incarnation last }
+    ensures low { result < 2 ^ 61 }
+{
+    match last {
+        Some(last) => LAST_INCARNATION.min(last + 1),
+        None => 0,
+    }
+}
+
 /// What an open log holds.
 fn recover_opened(alloc: Global, input: &Input, opened: Opened) -> Result<Recovered, Cause>
     requires { EndsAt opened.header opened.payloads.items opened.log.gate }
@@ -68,11 +80,7 @@ fn recover_opened(alloc: Global, input: &Input, opened: Opened) -> Result<Recove
         Err(ReadError::Refused) => return Err(damaged()),
         Err(ReadError::Memory) => return Err(Cause::Memory),
     };
-    let incarnation = match replay.incarnation {
-        // Behind the last one there is none, and it may come again.
-        Some(last) => LAST_INCARNATION.min(last + 1),
-        None => 0,
-    };
+    let incarnation = next_incarnation(replay.incarnation);
     Ok(Recovered {
         state: replay.state,
         log,

@@ -38,6 +38,18 @@ fn run_add<A: Activities>(alloc: Global, acts: &A, input: &Input) -> Result<(), 
     }
 }
 
+/// The payload of an entry's frame.
+fn entry_payload(alloc: Global, input: &Input, entry: Entry) -> Result<Vec<u8>, Cause>
+    ensures payload { IfOk result (λ bytes. bytes.items ≡ payload_bytes input.now entry.position entry.incarnation entry.label) }
+    ensures short { IfOk result (λ bytes. length bytes.items ≤ 226) }
+    ensures memory { IfErr result (λ cause. cause ≡ Cause.Memory) }
+{
+    match payload(alloc, input, entry.position, entry.incarnation, entry.label) {
+        Ok(bytes) => Ok(bytes),
+        Err(_) => Err(Cause::Memory),
+    }
+}
+
 /// Commits a label in a frame of its own, and puts its entry on the trail. For the activity's end it is run first.
 pub(crate) fn settle_label<V: Site, A: Activities>(
     alloc: Global,
@@ -75,9 +87,9 @@ pub(crate) fn settle_label<V: Site, A: Activities>(
             Err(cause) => return Err(cause),
         }
     }
-    let bytes = match payload(alloc, input, entry.position, entry.incarnation, entry.label) {
+    let bytes = match entry_payload(alloc, input, entry) {
         Ok(bytes) => bytes,
-        Err(_) => return Err(Cause::Memory),
+        Err(cause) => return Err(cause),
     };
     match commit(alloc, site, log, &bytes) {
         Ok(log) => {

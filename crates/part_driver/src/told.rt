@@ -33,7 +33,6 @@ impl Told {
 }
 
 /// Says a line.
-#[tactic(auto, using(crate::proofs::Says::said_part, crate::proofs::Says::said_whole, crate::proofs::Says::says_no_file, crate::proofs::Says::says_during))]
 fn say<V: Site>(site: &mut V, line: &[u8]) -> Result<(), Cause>
     requires { 0 < length line.now }
     ensures said { V.tells → OnOk result (tape (V.history site.new) ≡ tape (V.history site.old) ++ line.now) }

@@ -147,7 +147,7 @@ labels-preserved g c =
           let settled = subst (λ (file : ℕ). Always (OthersSame file (g.V.Site.history c.say_due.new.site)) (g.V.Site.history c.say_due.new.site) (g.V.Site.history c.settle_label.new.site)) c.labels.invariant.place (c.settle_label.ensures.others tells) in
           and_then_same c.args.recovered.log.file (g.V.Site.history c.args.site.now) (g.V.Site.history c.say_due.new.site) (g.V.Site.history c.settle_label.new.site) said settled;
       rests = search rules;
-      said = search rules;
+      said = λ tells. c.settle_label.ensures.tape tells ∙ c.in-Ok.ensures.tape tells (tape (g.V.Site.history c.args.site.now)) (c.labels.invariant.said tells);
       later = search rules;
       later_say = search rules;
     }
