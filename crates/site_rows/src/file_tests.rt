@@ -1,119 +1,225 @@
 // What no clause says: which bytes the disk gives, which names the files have, and when a fault is counted.
 use site_files::{FileSite, print_at_once};
 use site_model::{Failed, Site};
-use std::alloc::AllocError;
+use std::alloc::Global;
 use std::cell::Cell;
 use std::io::ErrorKind;
-use std::test::Fail;
-use std::time::{SystemTime, UNIX_EPOCH};
+use std::process::Abort;
+use std::time::{Duration, SystemTime, UNIX_EPOCH};
 use std::{env, fmt, fs, io};
 
-// A new directory, whose name holds the time in nanoseconds.
-fn new_directory(rt: &HostRuntime, name: &str) -> io::Result<String> {
-    let Ok(since) = SystemTime::now(rt)?.duration_since(UNIX_EPOCH) else {
-        return Err(io::Error::from(ErrorKind::InvalidData));
-    };
-    let parent = env::temp_dir(rt)?;
-    let path = format!(in rt.alloc(); "{}/netherite-{name}-{}", parent.as_str(), since.as_nanos())?;
-    fs::create_dir(rt, path.as_str())?;
-    Ok(path)
+type Disk = FileSite<HostRuntime>;
+
+fn since_1970(rt: &impl Abort, host: &HostRuntime) -> Duration {
+    let now = SystemTime::now(host).expect(rt, "a time");
+    now.duration_since(UNIX_EPOCH)
+        .expect(rt, "a time since 1970")
 }
 
-fn open(rt: &HostRuntime, path: &str) -> Result<FileSite<HostRuntime>, AllocError> {
-    FileSite::open(*rt, rt.alloc(), path)
+/// A path whose last name holds the time in nanoseconds.
+fn new_path(rt: &impl Abort, host: &HostRuntime, name: &str) -> String {
+    let parent = env::temp_dir(host).expect(rt, "a folder");
+    let nanoseconds = since_1970(rt, host).as_nanos();
+    format!(in host.alloc(); "{}/netherite-{name}-{nanoseconds}", parent.as_str()).expect(
+        rt, "memory",
+    )
 }
 
-#[test]
-fn keeps_what_was_written(rt: HostRuntime) -> Result<(), Fail> {
-    let path = new_directory(&rt, "keeps")?;
+fn new_directory(rt: &impl Abort, host: &HostRuntime, name: &str) -> String {
+    let path = new_path(rt, host, name);
+    fs::create_dir(host, path.as_str()).expect(rt, "a directory");
+    path
+}
+
+fn remove(rt: &impl Abort, host: &HostRuntime, path: &str) {
+    fs::remove_dir_all(host, path).expect(rt, "the directory");
+}
+
+fn path_in(rt: &impl Abort, alloc: Global, path: &str, name: &str) -> String {
+    format!(in alloc; "{path}/{name}").expect(rt, "memory")
+}
+
+fn open(rt: &impl Abort, host: &HostRuntime, path: &str) -> Disk {
+    FileSite::open(*host, host.alloc(), path).expect(rt, "memory")
+}
+
+fn check_length(rt: &impl Abort, site: &mut Disk, file: u32, wanted: Result<u64, Failed>) {
+    assert!(rt; site.length(file) == wanted);
+}
+
+fn check_read(rt: &impl Abort, site: &mut Disk, file: u32, at: u64, wanted: &[u8]) {
     let mut out = [0u8; 8];
+    let count = site.read(file, at, &mut out).expect(rt, "a read");
+    assert!(rt; &out[..count] == wanted);
+}
 
-    let mut site = open(&rt, path.as_str())?;
-    assert_eq!(rt; site.length(17), Ok(0));
-    assert_eq!(rt; site.read(17, 0, &mut out), Ok(0));
-    assert_eq!(rt; site.sync(17), Ok(()));
-    assert!(rt; !fs::exists(&rt, format!(in rt.alloc(); "{path}/p00.log1")?)?);
-    assert_eq!(rt; site.write(17, 0, b"netherite"), Ok(()));
-    assert_eq!(rt; site.write(17, 6, b"ra"), Ok(()));
-    assert_eq!(rt; site.length(17), Ok(9));
-    assert_eq!(rt; site.sync(17), Ok(()));
-    assert_eq!(rt; site.sync(17), Ok(()));
-    assert_eq!(rt; site.say(b"kept\n"), Ok(()));
-    assert_eq!(rt; site.disk_faults(), 0);
-    drop(site);
+fn check_write(rt: &impl Abort, site: &mut Disk, file: u32, at: u64, bytes: &[u8]) {
+    assert!(rt; site.write(file, at, bytes) == Ok(()));
+}
 
-    let mut site = open(&rt, path.as_str())?;
-    assert_eq!(rt; site.read(17, 2, &mut out), Ok(7));
-    assert_eq!(rt; &out[..7], b"therrae".as_slice());
-    assert_eq!(rt; site.read(17, 9, &mut out), Ok(0));
-    assert_eq!(rt; site.read(17, 100, &mut out), Ok(0));
-    assert_eq!(rt; site.length(16), Ok(0));
-    assert_eq!(rt; site.disk_faults(), 0);
-    fs::remove_dir_all(&rt, path)?;
-    Ok(())
+fn check_sync(rt: &impl Abort, site: &mut Disk, file: u32) {
+    assert!(rt; site.sync(file) == Ok(()));
+}
+
+fn check_absent(rt: &impl Abort, host: &HostRuntime, path: &str, name: &str) {
+    let file = path_in(rt, host.alloc(), path, name);
+    let exists = fs::exists(host, file.as_str()).expect(rt, "a look-up");
+    assert!(rt; !exists);
+}
+
+/// A file that isn't there reads nothing, and none of this makes it.
+fn check_none(rt: &impl Abort, host: &HostRuntime, site: &mut Disk, path: &str) {
+    check_length(rt, site, 17, Ok(0));
+    check_read(rt, site, 17, 0, b"");
+    check_sync(rt, site, 17);
+    check_absent(rt, host, path, "p00.log1");
+}
+
+fn write_and_say(rt: &impl Abort, site: &mut Disk) {
+    check_write(rt, site, 17, 0, b"netherite");
+    check_write(rt, site, 17, 6, b"ra");
+    check_length(rt, site, 17, Ok(9));
+    check_sync(rt, site, 17);
+    check_sync(rt, site, 17);
+    assert!(rt; site.say(b"kept\n") == Ok(()));
+}
+
+fn check_kept(rt: &impl Abort, site: &mut Disk) {
+    check_read(rt, site, 17, 2, b"therrae");
+    check_read(rt, site, 17, 9, b"");
+    check_read(rt, site, 17, 100, b"");
+    check_length(rt, site, 16, Ok(0));
+}
+
+fn first_site(rt: &impl Abort, host: &HostRuntime, path: &str) {
+    let mut site = open(rt, host, path);
+    check_none(rt, host, &mut site, path);
+    write_and_say(rt, &mut site);
+    assert!(rt; site.disk_faults() == 0);
+}
+
+fn next_site(rt: &impl Abort, host: &HostRuntime, path: &str) {
+    let mut site = open(rt, host, path);
+    check_kept(rt, &mut site);
+    assert!(rt; site.disk_faults() == 0);
 }
 
 #[test]
-fn names_its_files(rt: HostRuntime) -> Result<(), Fail> {
-    let path = new_directory(&rt, "names")?;
-    let mut site = open(&rt, path.as_str())?;
-    for (number, name) in [
-        (0, "flows.json"),
-        (1, "requests.jsonl"),
-        (2, "plan.json"),
-        (16, "p00.log0"),
-        (21, "p01.log1"),
-        (58, "p10.ck0"),
-        (143, "p31.ck1"),
-    ] {
-        assert_eq!(rt; site.write(number, 0, name.as_bytes()), Ok(()));
-        let text = fs::read_to_string(&rt, format!(in rt.alloc(); "{path}/{name}")?)?;
-        assert_eq!(rt; text.as_str(), name);
+fn keeps_what_was_written(rt: HostRuntime) {
+    let path = new_directory(&rt, &rt, "keeps");
+    first_site(&rt, &rt, path.as_str());
+    next_site(&rt, &rt, path.as_str());
+    remove(&rt, &rt, path.as_str());
+}
+
+const NAMES: [(u32, &str); 7] = [
+    (0, "flows.json"),
+    (1, "requests.jsonl"),
+    (2, "plan.json"),
+    (16, "p00.log0"),
+    (21, "p01.log1"),
+    (58, "p10.ck0"),
+    (143, "p31.ck1"),
+];
+
+fn check_text(rt: &impl Abort, host: &HostRuntime, file: &str, wanted: &str) {
+    let text = fs::read_to_string(host, file).expect(rt, "a file");
+    assert!(rt; text.as_str() == wanted);
+}
+
+/// The file with this number, in which its name is written, stands under that name.
+fn check_name(
+    rt: &impl Abort,
+    host: &HostRuntime,
+    site: &mut Disk,
+    path: &str,
+    number: u32,
+    name: &str,
+) {
+    check_write(rt, site, number, 0, name.as_bytes());
+    let file = path_in(rt, host.alloc(), path, name);
+    check_text(rt, host, file.as_str(), name);
+}
+
+fn check_names(rt: &impl Abort, host: &HostRuntime, path: &str) {
+    let mut site = open(rt, host, path);
+    for (number, name) in NAMES {
+        check_name(rt, host, &mut site, path, number, name);
     }
-    assert_eq!(rt; site.disk_faults(), 0);
-    fs::remove_dir_all(&rt, path)?;
-    Ok(())
+    assert!(rt; site.disk_faults() == 0);
 }
 
 #[test]
-fn counts_each_fault(rt: HostRuntime) -> Result<(), Fail> {
-    let path = new_directory(&rt, "counts")?;
-    let mut site = open(&rt, path.as_str())?;
-    let mut out = [0u8; 8];
+fn names_its_files(rt: HostRuntime) {
+    let path = new_directory(&rt, &rt, "names");
+    check_names(&rt, &rt, path.as_str());
+    remove(&rt, &rt, path.as_str());
+}
+
+fn check_nameless(rt: &impl Abort, site: &mut Disk, number: u32) {
+    check_length(rt, site, number, Err(Failed));
+    assert!(rt; site.read(number, 0, &mut [0; 8]) == Err(Failed));
+    assert!(rt; site.write(number, 0, b"x") == Err(Failed));
+    assert!(rt; site.sync(number) == Err(Failed));
+}
+
+fn check_faults(rt: &impl Abort, site: &Disk, disk_faults: u64) {
+    assert!(rt; site.disk_faults() == disk_faults);
+    assert!(rt; site.say_faults() == 0);
+}
+
+/// A directory stands where the file should.
+fn check_other_kind(rt: &impl Abort, host: &HostRuntime, site: &mut Disk, path: &str) {
+    let file = path_in(rt, host.alloc(), path, "plan.json");
+    fs::create_dir(host, file.as_str()).expect(rt, "a directory");
+    check_length(rt, site, 2, Err(Failed));
+}
+
+/// The directory itself is gone.
+fn check_gone(rt: &impl Abort, site: &mut Disk) {
+    check_length(rt, site, 2, Ok(0));
+    assert!(rt; site.write(2, 0, b"x") == Err(Failed));
+}
+
+fn check_all_faults(rt: &impl Abort, host: &HostRuntime, path: &str) {
+    let mut site = open(rt, host, path);
     for number in [3, 15, 144, u32::MAX] {
-        assert_eq!(rt; site.length(number), Err(Failed));
-        assert_eq!(rt; site.read(number, 0, &mut out), Err(Failed));
-        assert_eq!(rt; site.write(number, 0, b"x"), Err(Failed));
-        assert_eq!(rt; site.sync(number), Err(Failed));
+        check_nameless(rt, &mut site, number);
     }
-    assert_eq!(rt; site.disk_faults(), 16);
-    assert_eq!(rt; site.say_faults(), 0);
-
-    // a directory stands where the file should, and then the directory itself is gone
-    fs::create_dir(&rt, format!(in rt.alloc(); "{path}/plan.json")?)?;
-    assert_eq!(rt; site.length(2), Err(Failed));
-    fs::remove_dir_all(&rt, path)?;
-    assert_eq!(rt; site.length(2), Ok(0));
-    assert_eq!(rt; site.write(2, 0, b"x"), Err(Failed));
-    assert_eq!(rt; site.disk_faults(), 18);
-    Ok(())
+    check_faults(rt, &site, 16);
+    check_other_kind(rt, host, &mut site, path);
+    remove(rt, host, path);
+    check_gone(rt, &mut site);
+    check_faults(rt, &site, 18);
 }
 
 #[test]
-fn reads_what_may_not_be_written(rt: HostRuntime) -> Result<(), Fail> {
-    let path = new_directory(&rt, "reads")?;
-    let file = format!(in rt.alloc(); "{path}/flows.json")?;
-    fs::write(&rt, file.as_str(), "{}")?;
-    let mut permissions = fs::metadata(&rt, file.as_str())?.permissions();
-    permissions.set_readonly(true);
-    fs::set_permissions(&rt, file.as_str(), permissions)?;
+fn counts_each_fault(rt: HostRuntime) {
+    let path = new_directory(&rt, &rt, "counts");
+    check_all_faults(&rt, &rt, path.as_str());
+}
 
-    let mut site = open(&rt, path.as_str())?;
-    let mut out = [0u8; 8];
-    assert_eq!(rt; site.read(0, 0, &mut out), Ok(2));
-    assert_eq!(rt; site.sync(0), Ok(()));
-    fs::remove_dir_all(&rt, path)?;
-    Ok(())
+fn write_for_reading(rt: &impl Abort, host: &HostRuntime, file: &str) {
+    fs::write(host, file, "{}").expect(rt, "a file");
+    let metadata = fs::metadata(host, file).expect(rt, "a file");
+    let mut permissions = metadata.permissions();
+    permissions.set_readonly(true);
+    fs::set_permissions(host, file, permissions).expect(rt, "a file");
+}
+
+fn check_readable(rt: &impl Abort, host: &HostRuntime, path: &str) {
+    let mut site = open(rt, host, path);
+    assert!(rt; site.read(0, 0, &mut [0; 8]) == Ok(2));
+    check_sync(rt, &mut site, 0);
+}
+
+#[test]
+fn reads_what_may_not_be_written(rt: HostRuntime) {
+    let path = new_directory(&rt, &rt, "reads");
+    let file = path_in(&rt, rt.alloc(), path.as_str(), "flows.json");
+    write_for_reading(&rt, &rt, file.as_str());
+    check_readable(&rt, &rt, path.as_str());
+    remove(&rt, &rt, path.as_str());
 }
 
 // Standard output that takes two bytes at a time and is cut off by a signal now and then, and that fails at its end.
@@ -148,14 +254,13 @@ impl Print for Narrow {
 }
 
 #[test]
-fn says_whole_lines(rt: HostRuntime) -> Result<(), Fail> {
+fn says_whole_lines(rt: HostRuntime) {
     let out = Narrow {
         room: Cell::new(8),
         was_cut_off: Cell::new(false),
     };
     assert!(rt; print_at_once(&out, b"hello").is_ok());
-    assert_eq!(rt; out.room.get(), 3);
+    assert!(rt; out.room.get() == 3);
     assert!(rt; print_at_once(&out, b"hello").is_err());
-    assert_eq!(rt; out.room.get(), 0);
-    Ok(())
+    assert!(rt; out.room.get() == 0);
 }
