@@ -1,6 +1,7 @@
 // What no clause says: that the clock gives moments at all, in milliseconds, and that a wait gives up.
+use crate::checks::check_same;
 use site_files::WallClock;
-use site_model::{Clock, Failed, LAST_MOMENT};
+use site_model::{Clock, LAST_MOMENT};
 use std::process::Abort;
 use std::time::Duration;
 use std::{io, rt};
@@ -34,14 +35,14 @@ fn check_moments(rt: &impl Abort, clock: &mut WallClock<HostRuntime>) {
 
 fn check_still(rt: &impl Abort) {
     let mut clock = WallClock::new(Still(Duration::from_millis(1234)));
-    assert!(rt; clock.wait_until(1234) == Ok(1234));
-    assert!(rt; clock.wait_until(1235) == Err(Failed));
+    check_same(rt, clock.wait_until(1234).expect(rt, "a moment"), 1234);
+    clock.wait_until(1235).expect_err(rt, "a fault");
 }
 
 /// A clock past the last moment gives none.
 fn check_past_the_last(rt: &impl Abort) {
     let mut clock = WallClock::new(Still(Duration::from_secs(u64::MAX)));
-    assert!(rt; clock.now() == Err(Failed));
+    clock.now().expect_err(rt, "a fault");
 }
 
 #[test]

@@ -1,6 +1,7 @@
 // What no clause says: which bytes the disk gives, which names the files have, and when a fault is counted.
+use crate::checks::{check_bytes, check_same};
 use site_files::{FileSite, print_at_once};
-use site_model::{Failed, Site};
+use site_model::Site;
 use std::alloc::Global;
 use std::cell::Cell;
 use std::io::ErrorKind;
@@ -43,22 +44,14 @@ fn open(rt: &impl Abort, host: &HostRuntime, path: &str) -> Disk {
     FileSite::open(*host, host.alloc(), path).expect(rt, "memory")
 }
 
-fn check_length(rt: &impl Abort, site: &mut Disk, file: u32, wanted: Result<u64, Failed>) {
-    assert!(rt; site.length(file) == wanted);
+fn check_length(rt: &impl Abort, site: &mut Disk, file: u32, wanted: u64) {
+    check_same(rt, site.length(file).expect(rt, "a length"), wanted);
 }
 
 fn check_read(rt: &impl Abort, site: &mut Disk, file: u32, at: u64, wanted: &[u8]) {
     let mut out = [0u8; 8];
     let count = site.read(file, at, &mut out).expect(rt, "a read");
-    assert!(rt; &out[..count] == wanted);
-}
-
-fn check_write(rt: &impl Abort, site: &mut Disk, file: u32, at: u64, bytes: &[u8]) {
-    assert!(rt; site.write(file, at, bytes) == Ok(()));
-}
-
-fn check_sync(rt: &impl Abort, site: &mut Disk, file: u32) {
-    assert!(rt; site.sync(file) == Ok(()));
+    check_bytes(rt, &out[..count], wanted);
 }
 
 fn check_absent(rt: &impl Abort, host: &HostRuntime, path: &str, name: &str) {
@@ -69,39 +62,39 @@ fn check_absent(rt: &impl Abort, host: &HostRuntime, path: &str, name: &str) {
 
 /// A file that isn't there reads nothing, and none of this makes it.
 fn check_none(rt: &impl Abort, host: &HostRuntime, site: &mut Disk, path: &str) {
-    check_length(rt, site, 17, Ok(0));
+    check_length(rt, site, 17, 0);
     check_read(rt, site, 17, 0, b"");
-    check_sync(rt, site, 17);
+    site.sync(17).expect(rt, "a sync");
     check_absent(rt, host, path, "p00.log1");
 }
 
 fn write_and_say(rt: &impl Abort, site: &mut Disk) {
-    check_write(rt, site, 17, 0, b"netherite");
-    check_write(rt, site, 17, 6, b"ra");
-    check_length(rt, site, 17, Ok(9));
-    check_sync(rt, site, 17);
-    check_sync(rt, site, 17);
-    assert!(rt; site.say(b"kept\n") == Ok(()));
+    site.write(17, 0, b"netherite").expect(rt, "a write");
+    site.write(17, 6, b"ra").expect(rt, "a write");
+    check_length(rt, site, 17, 9);
+    site.sync(17).expect(rt, "a sync");
+    site.sync(17).expect(rt, "a sync");
+    site.say(b"kept\n").expect(rt, "a line");
 }
 
 fn check_kept(rt: &impl Abort, site: &mut Disk) {
     check_read(rt, site, 17, 2, b"therrae");
     check_read(rt, site, 17, 9, b"");
     check_read(rt, site, 17, 100, b"");
-    check_length(rt, site, 16, Ok(0));
+    check_length(rt, site, 16, 0);
 }
 
 fn first_site(rt: &impl Abort, host: &HostRuntime, path: &str) {
     let mut site = open(rt, host, path);
     check_none(rt, host, &mut site, path);
     write_and_say(rt, &mut site);
-    assert!(rt; site.disk_faults() == 0);
+    check_same(rt, site.disk_faults(), 0);
 }
 
 fn next_site(rt: &impl Abort, host: &HostRuntime, path: &str) {
     let mut site = open(rt, host, path);
     check_kept(rt, &mut site);
-    assert!(rt; site.disk_faults() == 0);
+    check_same(rt, site.disk_faults(), 0);
 }
 
 #[test]
@@ -124,7 +117,7 @@ const NAMES: [(u32, &str); 7] = [
 
 fn check_text(rt: &impl Abort, host: &HostRuntime, file: &str, wanted: &str) {
     let text = fs::read_to_string(host, file).expect(rt, "a file");
-    assert!(rt; text.as_str() == wanted);
+    check_bytes(rt, text.as_bytes(), wanted.as_bytes());
 }
 
 /// The file with this number, in which its name is written, stands under that name.
@@ -136,7 +129,7 @@ fn check_name(
     number: u32,
     name: &str,
 ) {
-    check_write(rt, site, number, 0, name.as_bytes());
+    site.write(number, 0, name.as_bytes()).expect(rt, "a write");
     let file = path_in(rt, host.alloc(), path, name);
     check_text(rt, host, file.as_str(), name);
 }
@@ -146,7 +139,7 @@ fn check_names(rt: &impl Abort, host: &HostRuntime, path: &str) {
     for (number, name) in NAMES {
         check_name(rt, host, &mut site, path, number, name);
     }
-    assert!(rt; site.disk_faults() == 0);
+    check_same(rt, site.disk_faults(), 0);
 }
 
 #[test]
@@ -157,28 +150,28 @@ fn names_its_files(rt: HostRuntime) {
 }
 
 fn check_nameless(rt: &impl Abort, site: &mut Disk, number: u32) {
-    check_length(rt, site, number, Err(Failed));
-    assert!(rt; site.read(number, 0, &mut [0; 8]) == Err(Failed));
-    assert!(rt; site.write(number, 0, b"x") == Err(Failed));
-    assert!(rt; site.sync(number) == Err(Failed));
+    site.length(number).expect_err(rt, "a fault");
+    site.read(number, 0, &mut [0; 8]).expect_err(rt, "a fault");
+    site.write(number, 0, b"x").expect_err(rt, "a fault");
+    site.sync(number).expect_err(rt, "a fault");
 }
 
 fn check_faults(rt: &impl Abort, site: &Disk, disk_faults: u64) {
-    assert!(rt; site.disk_faults() == disk_faults);
-    assert!(rt; site.say_faults() == 0);
+    check_same(rt, site.disk_faults(), disk_faults);
+    check_same(rt, site.say_faults(), 0);
 }
 
 /// A directory stands where the file should.
 fn check_other_kind(rt: &impl Abort, host: &HostRuntime, site: &mut Disk, path: &str) {
     let file = path_in(rt, host.alloc(), path, "plan.json");
     fs::create_dir(host, file.as_str()).expect(rt, "a directory");
-    check_length(rt, site, 2, Err(Failed));
+    site.length(2).expect_err(rt, "a fault");
 }
 
 /// The directory itself is gone.
 fn check_gone(rt: &impl Abort, site: &mut Disk) {
-    check_length(rt, site, 2, Ok(0));
-    assert!(rt; site.write(2, 0, b"x") == Err(Failed));
+    check_length(rt, site, 2, 0);
+    site.write(2, 0, b"x").expect_err(rt, "a fault");
 }
 
 fn check_all_faults(rt: &impl Abort, host: &HostRuntime, path: &str) {
@@ -209,8 +202,9 @@ fn write_for_reading(rt: &impl Abort, host: &HostRuntime, file: &str) {
 
 fn check_readable(rt: &impl Abort, host: &HostRuntime, path: &str) {
     let mut site = open(rt, host, path);
-    assert!(rt; site.read(0, 0, &mut [0; 8]) == Ok(2));
-    check_sync(rt, &mut site, 0);
+    let count = site.read(0, 0, &mut [0; 8]).expect(rt, "a read");
+    check_same(rt, count as u64, 2);
+    site.sync(0).expect(rt, "a sync");
 }
 
 #[test]

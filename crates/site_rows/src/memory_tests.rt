@@ -1,3 +1,4 @@
+use crate::checks::{check_bytes, check_same};
 use site_memory::{Kept, Kind, MemorySite, Pick, TickClock};
 use site_model::{Clock, Failed, LAST_MOMENT, Site};
 use std::alloc::Global;
@@ -16,61 +17,69 @@ fn site_with(
 }
 
 /// A write that begins inside the file.
-fn check_write(
+fn write(
     rt: &impl Abort,
     alloc: Global,
     site: &mut MemorySite,
     at: u64,
     bytes: &[u8],
-    wanted: Result<(), Failed>,
-) {
+) -> Result<(), Failed> {
     let content = site.content(alloc, 1).expect(rt, "memory");
     assert!(rt; at <= content.len() as u64);
-    assert!(rt; site.write(1, at, bytes) == wanted);
+    site.write(1, at, bytes)
 }
 
-fn check_say(rt: &impl Abort, site: &mut MemorySite, line: &[u8], wanted: Result<(), Failed>) {
-    assert!(rt; !line.is_empty());
-    assert!(rt; site.say(line) == wanted);
+fn check_write(rt: &impl Abort, alloc: Global, site: &mut MemorySite, at: u64, bytes: &[u8]) {
+    write(rt, alloc, site, at, bytes).expect(rt, "a write");
 }
 
 fn check_read(rt: &impl Abort, site: &mut MemorySite, at: u64, wanted: &[u8]) {
     let mut out = [b'.'; 4];
     let count = site.read(1, at, &mut out).expect(rt, "a read");
-    assert!(rt; &out[..count] == wanted);
+    check_bytes(rt, &out[..count], wanted);
+}
+
+fn check_length(rt: &impl Abort, site: &mut MemorySite, file: u32, wanted: u64) {
+    check_same(rt, site.length(file).expect(rt, "a length"), wanted);
 }
 
 fn check_content(rt: &impl Abort, alloc: Global, site: &MemorySite, wanted: &[u8]) {
     let content = site.content(alloc, 1).expect(rt, "memory");
-    assert!(rt; content.as_slice() == wanted);
+    check_bytes(rt, &content, wanted);
 }
 
 fn check_tape(rt: &impl Abort, alloc: Global, site: &MemorySite, wanted: &[u8]) {
     let tape = site.tape(alloc).expect(rt, "memory");
-    assert!(rt; tape.as_slice() == wanted);
+    check_bytes(rt, &tape, wanted);
 }
 
 fn check_faults(rt: &impl Abort, site: &MemorySite, disk_faults: u64, say_faults: u64) {
-    assert!(rt; site.disk_faults() == disk_faults);
-    assert!(rt; site.say_faults() == say_faults);
+    check_same(rt, site.disk_faults(), disk_faults);
+    check_same(rt, site.say_faults(), say_faults);
 }
 
 fn write_and_say(rt: &impl Abort, alloc: Global, site: &mut MemorySite) {
-    check_write(rt, alloc, site, 0, b"abcd", Ok(()));
-    check_write(rt, alloc, site, 1, b"XY", Ok(()));
+    check_write(rt, alloc, site, 0, b"abcd");
+    check_write(rt, alloc, site, 1, b"XY");
     check_content(rt, alloc, site, b"aXYd");
-    check_write(rt, alloc, site, 3, b"zzz", Ok(()));
-    assert!(rt; site.write(2, 0, b"other") == Ok(()));
-    assert!(rt; site.sync(1) == Ok(()));
-    check_say(rt, site, b"hi\n", Ok(()));
+    check_write(rt, alloc, site, 3, b"zzz");
+    site.write(2, 0, b"other").expect(rt, "a success");
+    site.sync(1).expect(rt, "a success");
+    site.say(b"hi\n").expect(rt, "a tape");
 }
 
-const READS: [(u64, &[u8]); 5] = [(0, b"aXYz"), (1, b"XYzz"), (4, b"zz"), (6, b""), (9, b"")];
+fn check_reads(rt: &impl Abort, site: &mut MemorySite) {
+    check_read(rt, site, 0, b"aXYz");
+    check_read(rt, site, 1, b"XYzz");
+    check_read(rt, site, 4, b"zz");
+    check_read(rt, site, 6, b"");
+    check_read(rt, site, 9, b"");
+}
 
 fn check_lengths(rt: &impl Abort, site: &mut MemorySite) {
-    assert!(rt; site.length(1) == Ok(6));
-    assert!(rt; site.length(2) == Ok(5));
-    assert!(rt; site.length(3) == Ok(0));
+    check_length(rt, site, 1, 6);
+    check_length(rt, site, 2, 5);
+    check_length(rt, site, 3, 0);
 }
 
 fn check_record(rt: &impl Abort, record: &[Kept]) {
@@ -85,10 +94,10 @@ fn check_record(rt: &impl Abort, record: &[Kept]) {
 }
 
 fn check_calls(rt: &impl Abort, site: &MemorySite) {
-    assert!(rt; site.moment() == 8);
-    assert!(rt; site.calls(Kind::Read) == 6);
-    assert!(rt; site.calls(Kind::Device) == 14);
-    assert!(rt; site.disk_faults() == 0);
+    check_same(rt, site.moment(), 8);
+    check_same(rt, site.calls(Kind::Read), 6);
+    check_same(rt, site.calls(Kind::Device), 14);
+    check_same(rt, site.disk_faults(), 0);
 }
 
 #[test]
@@ -97,9 +106,7 @@ fn a_file_reads_what_was_written(rt: HostRuntime) {
     let mut site = site_with(&rt, alloc, 100, 20, &[]);
     check_read(&rt, &mut site, 0, b"");
     write_and_say(&rt, alloc, &mut site);
-    for (at, wanted) in READS {
-        check_read(&rt, &mut site, at, wanted);
-    }
+    check_reads(&rt, &mut site);
     check_lengths(&rt, &mut site);
     check_tape(&rt, alloc, &site, b"hi\n");
     check_record(&rt, site.record());
@@ -116,25 +123,25 @@ const FAILS: [(Kind, u64); 6] = [
 ];
 
 fn fail_to_write(rt: &impl Abort, alloc: Global, site: &mut MemorySite) {
-    assert!(rt; site.length(1) == Err(Failed));
-    assert!(rt; site.read(1, 0, &mut [0; 2]) == Err(Failed));
-    check_write(rt, alloc, site, 0, b"ab", Ok(()));
-    check_write(rt, alloc, site, 1, b"cde", Err(Failed));
+    site.length(1).expect_err(rt, "a fault");
+    site.read(1, 0, &mut [0; 2]).expect_err(rt, "a fault");
+    check_write(rt, alloc, site, 0, b"ab");
+    write(rt, alloc, site, 1, b"cde").expect_err(rt, "a fault");
     check_content(rt, alloc, site, b"acde");
 }
 
 fn fail_to_sync(rt: &impl Abort, site: &mut MemorySite) {
-    assert!(rt; site.moment() == 2);
-    assert!(rt; site.sync(1) == Err(Failed));
-    assert!(rt; site.moment() == 2);
-    assert!(rt; site.length(1) == Err(Failed));
-    assert!(rt; site.length(1) == Ok(4));
+    check_same(rt, site.moment(), 2);
+    site.sync(1).expect_err(rt, "a fault");
+    check_same(rt, site.moment(), 2);
+    site.length(1).expect_err(rt, "a fault");
+    check_length(rt, site, 1, 4);
 }
 
 fn fail_to_say(rt: &impl Abort, alloc: Global, site: &mut MemorySite) {
-    check_say(rt, site, b"lines", Err(Failed));
+    site.say(b"lines").expect_err(rt, "a fault");
     check_tape(rt, alloc, site, b"li");
-    check_say(rt, site, b"!", Ok(()));
+    site.say(b"!").expect(rt, "a tape");
     check_tape(rt, alloc, site, b"li!");
 }
 
@@ -150,18 +157,18 @@ fn a_listed_call_fails_and_is_counted(rt: HostRuntime) {
 }
 
 fn fill(rt: &impl Abort, alloc: Global, site: &mut MemorySite) {
-    assert!(rt; site.prepare(1, 0, b"abcde") == Err(Failed));
-    assert!(rt; site.prepare(1, 0, b"abc") == Ok(()));
-    check_write(rt, alloc, site, 0, b"xy", Err(Failed));
-    check_say(rt, site, b"xy", Err(Failed));
+    site.prepare(1, 0, b"abcde").expect_err(rt, "a fault");
+    site.prepare(1, 0, b"abc").expect(rt, "a success");
+    write(rt, alloc, site, 0, b"xy").expect_err(rt, "a fault");
+    site.say(b"xy").expect_err(rt, "a fault");
 }
 
 fn sync_once(rt: &impl Abort, site: &mut MemorySite) {
-    assert!(rt; site.moment() == 2);
-    assert!(rt; site.sync(1) == Ok(()));
-    assert!(rt; site.sync(1) == Err(Failed));
-    assert!(rt; site.moment() == 3);
-    assert!(rt; site.calls(Kind::Sync) == 2);
+    check_same(rt, site.moment(), 2);
+    site.sync(1).expect(rt, "a success");
+    site.sync(1).expect_err(rt, "a fault");
+    check_same(rt, site.moment(), 3);
+    check_same(rt, site.calls(Kind::Sync), 2);
 }
 
 #[test]
@@ -175,22 +182,6 @@ fn without_room_nothing_is_kept(rt: HostRuntime) {
 }
 
 const TORN: Pick = Pick::Torn(b'?');
-
-/// The moment of a crash, and what it leaves of the file and of the tape.
-const IMAGES: [(u64, Pick, &[u8], &[u8]); 12] = [
-    (0, Pick::All, b"", b""),
-    (1, Pick::All, b"abcd", b""),
-    (1, Pick::Stable, b"", b""),
-    (2, Pick::Stable, b"abcd", b""),
-    (3, Pick::Stable, b"abcd", b""),
-    (3, Pick::All, b"abXYZ", b""),
-    (3, TORN, b"ab???", b""),
-    (4, TORN, b"ab???", b"k"),
-    (6, Pick::Stable, b"abcd", b"k"),
-    (6, TORN, b"?b???", b"k"),
-    (7, Pick::Stable, b"-bXYZ", b"k"),
-    (9, TORN, b"-bXYZ", b"k"),
-];
 
 fn check_image(
     rt: &impl Abort,
@@ -206,20 +197,39 @@ fn check_image(
     check_tape(rt, alloc, &image, tape);
 }
 
+/// Crashes before the first line is said.
+fn check_early_images(rt: &impl Abort, alloc: Global, site: &MemorySite) {
+    check_image(rt, alloc, site, 0, Pick::All, b"", b"");
+    check_image(rt, alloc, site, 1, Pick::All, b"abcd", b"");
+    check_image(rt, alloc, site, 1, Pick::Stable, b"", b"");
+    check_image(rt, alloc, site, 2, Pick::Stable, b"abcd", b"");
+    check_image(rt, alloc, site, 3, Pick::Stable, b"abcd", b"");
+    check_image(rt, alloc, site, 3, Pick::All, b"abXYZ", b"");
+    check_image(rt, alloc, site, 3, TORN, b"ab???", b"");
+}
+
+fn check_later_images(rt: &impl Abort, alloc: Global, site: &MemorySite) {
+    check_image(rt, alloc, site, 4, TORN, b"ab???", b"k");
+    check_image(rt, alloc, site, 6, Pick::Stable, b"abcd", b"k");
+    check_image(rt, alloc, site, 6, TORN, b"?b???", b"k");
+    check_image(rt, alloc, site, 7, Pick::Stable, b"-bXYZ", b"k");
+    check_image(rt, alloc, site, 9, TORN, b"-bXYZ", b"k");
+}
+
 fn write_and_sync(rt: &impl Abort, alloc: Global, site: &mut MemorySite) {
-    assert!(rt; site.prepare(1, 0, b"abcd") == Ok(()));
-    check_write(rt, alloc, site, 2, b"XYZ", Ok(()));
-    check_say(rt, site, b"k", Ok(()));
-    assert!(rt; site.write(2, 0, b"other") == Ok(()));
-    check_write(rt, alloc, site, 0, b"-", Ok(()));
-    assert!(rt; site.sync(1) == Ok(()));
+    site.prepare(1, 0, b"abcd").expect(rt, "a success");
+    check_write(rt, alloc, site, 2, b"XYZ");
+    site.say(b"k").expect(rt, "a tape");
+    site.write(2, 0, b"other").expect(rt, "a success");
+    check_write(rt, alloc, site, 0, b"-");
+    site.sync(1).expect(rt, "a success");
 }
 
 /// The image has lost the other file, and its tape goes on.
 fn check_image_goes_on(rt: &impl Abort, alloc: Global, site: &MemorySite) {
     let mut image = site.image(alloc, 6, Pick::Stable).expect(rt, "memory");
-    assert!(rt; image.length(2) == Ok(0));
-    check_say(rt, &mut image, b"more", Ok(()));
+    check_length(rt, &mut image, 2, 0);
+    image.say(b"more").expect(rt, "a tape");
     check_tape(rt, alloc, &image, b"kmore");
 }
 
@@ -228,16 +238,15 @@ fn a_crash_leaves_what_was_synced(rt: HostRuntime) {
     let alloc = rt.alloc();
     let mut site = site_with(&rt, alloc, 100, 20, &[]);
     write_and_sync(&rt, alloc, &mut site);
-    for (moment, pick, wanted, tape) in IMAGES {
-        check_image(&rt, alloc, &site, moment, pick, wanted, tape);
-    }
+    check_early_images(&rt, alloc, &site);
+    check_later_images(&rt, alloc, &site);
     check_image_goes_on(&rt, alloc, &site);
 }
 
 fn check_waits(rt: &impl Abort, clock: &mut TickClock) {
-    assert!(rt; clock.wait_until(9) == Err(Failed));
-    assert!(rt; clock.wait_until(9) == Ok(9));
-    assert!(rt; clock.wait_until(3) == Ok(9));
+    clock.wait_until(9).expect_err(rt, "a fault");
+    check_same(rt, clock.wait_until(9).expect(rt, "a moment"), 9);
+    check_same(rt, clock.wait_until(3).expect(rt, "a moment"), 9);
 }
 
 #[test]
@@ -245,11 +254,15 @@ fn the_clock_moves_when_it_is_waited_for(rt: HostRuntime) {
     let alloc = rt.alloc();
     let fails = [1, 4].to_vec(alloc).expect(&rt, "memory");
     let mut clock = TickClock::new(5, fails);
-    assert!(rt; clock.latest() == 0);
-    assert!(rt; clock.now() == Ok(5));
+    check_same(&rt, clock.latest(), 0);
+    check_same(&rt, clock.now().expect(&rt, "a moment"), 5);
     check_waits(&rt, &mut clock);
-    assert!(rt; clock.now() == Err(Failed));
-    assert!(rt; clock.wait_until(LAST_MOMENT) == Ok(LAST_MOMENT));
-    assert!(rt; clock.latest() == LAST_MOMENT);
-    assert!(rt; clock.faults() == 2);
+    clock.now().expect_err(&rt, "a fault");
+    check_same(
+        &rt,
+        clock.wait_until(LAST_MOMENT).expect(&rt, "a moment"),
+        LAST_MOMENT,
+    );
+    check_same(&rt, clock.latest(), LAST_MOMENT);
+    check_same(&rt, clock.faults(), 2);
 }
