@@ -105,16 +105,6 @@ fn keeps_what_was_written(rt: HostRuntime) {
     remove(&rt, &rt, path.as_str());
 }
 
-const NAMES: [(u32, &str); 7] = [
-    (0, "flows.json"),
-    (1, "requests.jsonl"),
-    (2, "plan.json"),
-    (16, "p00.log0"),
-    (21, "p01.log1"),
-    (58, "p10.ck0"),
-    (143, "p31.ck1"),
-];
-
 fn check_text(rt: &impl Abort, host: &HostRuntime, file: &str, wanted: &str) {
     let text = fs::read_to_string(host, file).expect(rt, "a file");
     check_bytes(rt, text.as_bytes(), wanted.as_bytes());
@@ -136,9 +126,13 @@ fn check_name(
 
 fn check_names(rt: &impl Abort, host: &HostRuntime, path: &str) {
     let mut site = open(rt, host, path);
-    for (number, name) in NAMES {
-        check_name(rt, host, &mut site, path, number, name);
-    }
+    check_name(rt, host, &mut site, path, 0, "flows.json");
+    check_name(rt, host, &mut site, path, 1, "requests.jsonl");
+    check_name(rt, host, &mut site, path, 2, "plan.json");
+    check_name(rt, host, &mut site, path, 16, "p00.log0");
+    check_name(rt, host, &mut site, path, 21, "p01.log1");
+    check_name(rt, host, &mut site, path, 58, "p10.ck0");
+    check_name(rt, host, &mut site, path, 143, "p31.ck1");
     check_same(rt, site.disk_faults(), 0);
 }
 
@@ -176,9 +170,10 @@ fn check_gone(rt: &impl Abort, site: &mut Disk) {
 
 fn check_all_faults(rt: &impl Abort, host: &HostRuntime, path: &str) {
     let mut site = open(rt, host, path);
-    for number in [3, 15, 144, u32::MAX] {
-        check_nameless(rt, &mut site, number);
-    }
+    check_nameless(rt, &mut site, 3);
+    check_nameless(rt, &mut site, 15);
+    check_nameless(rt, &mut site, 144);
+    check_nameless(rt, &mut site, u32::MAX);
     check_faults(rt, &site, 16);
     check_other_kind(rt, host, &mut site, path);
     remove(rt, host, path);
@@ -192,7 +187,9 @@ fn counts_each_fault(rt: HostRuntime) {
     check_all_faults(&rt, &rt, path.as_str());
 }
 
-fn write_for_reading(rt: &impl Abort, host: &HostRuntime, file: &str) {
+fn write_for_reading(rt: &impl Abort, host: &HostRuntime, path: &str) {
+    let path = path_in(rt, host.alloc(), path, "flows.json");
+    let file = path.as_str();
     fs::write(host, file, "{}").expect(rt, "a file");
     let metadata = fs::metadata(host, file).expect(rt, "a file");
     let mut permissions = metadata.permissions();
@@ -202,16 +199,14 @@ fn write_for_reading(rt: &impl Abort, host: &HostRuntime, file: &str) {
 
 fn check_readable(rt: &impl Abort, host: &HostRuntime, path: &str) {
     let mut site = open(rt, host, path);
-    let count = site.read(0, 0, &mut [0; 8]).expect(rt, "a read");
-    check_same(rt, count as u64, 2);
+    check_read(rt, &mut site, 0, 0, b"{}");
     site.sync(0).expect(rt, "a sync");
 }
 
 #[test]
 fn reads_what_may_not_be_written(rt: HostRuntime) {
     let path = new_directory(&rt, &rt, "reads");
-    let file = path_in(&rt, rt.alloc(), path.as_str(), "flows.json");
-    write_for_reading(&rt, &rt, file.as_str());
+    write_for_reading(&rt, &rt, path.as_str());
     check_readable(&rt, &rt, path.as_str());
     remove(&rt, &rt, path.as_str());
 }

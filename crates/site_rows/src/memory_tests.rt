@@ -63,9 +63,9 @@ fn write_and_say(rt: &impl Abort, alloc: Global, site: &mut MemorySite) {
     check_write(rt, alloc, site, 1, b"XY");
     check_content(rt, alloc, site, b"aXYd");
     check_write(rt, alloc, site, 3, b"zzz");
-    site.write(2, 0, b"other").expect(rt, "a success");
-    site.sync(1).expect(rt, "a success");
-    site.say(b"hi\n").expect(rt, "a tape");
+    site.write(2, 0, b"other").expect(rt, "a write");
+    site.sync(1).expect(rt, "a sync");
+    site.say(b"hi\n").expect(rt, "a line");
 }
 
 fn check_reads(rt: &impl Abort, site: &mut MemorySite) {
@@ -141,7 +141,7 @@ fn fail_to_sync(rt: &impl Abort, site: &mut MemorySite) {
 fn fail_to_say(rt: &impl Abort, alloc: Global, site: &mut MemorySite) {
     site.say(b"lines").expect_err(rt, "a fault");
     check_tape(rt, alloc, site, b"li");
-    site.say(b"!").expect(rt, "a tape");
+    site.say(b"!").expect(rt, "a line");
     check_tape(rt, alloc, site, b"li!");
 }
 
@@ -158,14 +158,14 @@ fn a_listed_call_fails_and_is_counted(rt: HostRuntime) {
 
 fn fill(rt: &impl Abort, alloc: Global, site: &mut MemorySite) {
     site.prepare(1, 0, b"abcde").expect_err(rt, "a fault");
-    site.prepare(1, 0, b"abc").expect(rt, "a success");
+    site.prepare(1, 0, b"abc").expect(rt, "room");
     write(rt, alloc, site, 0, b"xy").expect_err(rt, "a fault");
     site.say(b"xy").expect_err(rt, "a fault");
 }
 
 fn sync_once(rt: &impl Abort, site: &mut MemorySite) {
     check_same(rt, site.moment(), 2);
-    site.sync(1).expect(rt, "a success");
+    site.sync(1).expect(rt, "a sync");
     site.sync(1).expect_err(rt, "a fault");
     check_same(rt, site.moment(), 3);
     check_same(rt, site.calls(Kind::Sync), 2);
@@ -217,19 +217,19 @@ fn check_later_images(rt: &impl Abort, alloc: Global, site: &MemorySite) {
 }
 
 fn write_and_sync(rt: &impl Abort, alloc: Global, site: &mut MemorySite) {
-    site.prepare(1, 0, b"abcd").expect(rt, "a success");
+    site.prepare(1, 0, b"abcd").expect(rt, "room");
     check_write(rt, alloc, site, 2, b"XYZ");
-    site.say(b"k").expect(rt, "a tape");
-    site.write(2, 0, b"other").expect(rt, "a success");
+    site.say(b"k").expect(rt, "a line");
+    site.write(2, 0, b"other").expect(rt, "a write");
     check_write(rt, alloc, site, 0, b"-");
-    site.sync(1).expect(rt, "a success");
+    site.sync(1).expect(rt, "a sync");
 }
 
 /// The image has lost the other file, and its tape goes on.
 fn check_image_goes_on(rt: &impl Abort, alloc: Global, site: &MemorySite) {
     let mut image = site.image(alloc, 6, Pick::Stable).expect(rt, "memory");
     check_length(rt, &mut image, 2, 0);
-    image.say(b"more").expect(rt, "a tape");
+    image.say(b"more").expect(rt, "a line");
     check_tape(rt, alloc, &image, b"kmore");
 }
 
@@ -243,26 +243,26 @@ fn a_crash_leaves_what_was_synced(rt: HostRuntime) {
     check_image_goes_on(&rt, alloc, &site);
 }
 
-fn check_waits(rt: &impl Abort, clock: &mut TickClock) {
+fn check_first_waits(rt: &impl Abort, clock: &mut TickClock) {
+    check_same(rt, clock.latest(), 0);
+    check_same(rt, clock.now().expect(rt, "a moment"), 5);
     clock.wait_until(9).expect_err(rt, "a fault");
     check_same(rt, clock.wait_until(9).expect(rt, "a moment"), 9);
     check_same(rt, clock.wait_until(3).expect(rt, "a moment"), 9);
 }
 
+fn check_last_wait(rt: &impl Abort, clock: &mut TickClock) {
+    clock.now().expect_err(rt, "a fault");
+    let last = clock.wait_until(LAST_MOMENT).expect(rt, "a moment");
+    check_same(rt, last, LAST_MOMENT);
+    check_same(rt, clock.latest(), LAST_MOMENT);
+    check_same(rt, clock.faults(), 2);
+}
+
 #[test]
 fn the_clock_moves_when_it_is_waited_for(rt: HostRuntime) {
-    let alloc = rt.alloc();
-    let fails = [1, 4].to_vec(alloc).expect(&rt, "memory");
+    let fails = [1, 4].to_vec(rt.alloc()).expect(&rt, "memory");
     let mut clock = TickClock::new(5, fails);
-    check_same(&rt, clock.latest(), 0);
-    check_same(&rt, clock.now().expect(&rt, "a moment"), 5);
-    check_waits(&rt, &mut clock);
-    clock.now().expect_err(&rt, "a fault");
-    check_same(
-        &rt,
-        clock.wait_until(LAST_MOMENT).expect(&rt, "a moment"),
-        LAST_MOMENT,
-    );
-    check_same(&rt, clock.latest(), LAST_MOMENT);
-    check_same(&rt, clock.faults(), 2);
+    check_first_waits(&rt, &mut clock);
+    check_last_wait(&rt, &mut clock);
 }
