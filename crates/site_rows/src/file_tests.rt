@@ -187,9 +187,7 @@ fn counts_each_fault(rt: HostRuntime) {
     check_all_faults(&rt, &rt, path.as_str());
 }
 
-fn write_for_reading(rt: &impl Abort, host: &HostRuntime, path: &str) {
-    let path = path_in(rt, host.alloc(), path, "flows.json");
-    let file = path.as_str();
+fn write_for_reading(rt: &impl Abort, host: &HostRuntime, file: &str) {
     fs::write(host, file, "{}").expect(rt, "a file");
     let metadata = fs::metadata(host, file).expect(rt, "a file");
     let mut permissions = metadata.permissions();
@@ -206,7 +204,8 @@ fn check_readable(rt: &impl Abort, host: &HostRuntime, path: &str) {
 #[test]
 fn reads_what_may_not_be_written(rt: HostRuntime) {
     let path = new_directory(&rt, &rt, "reads");
-    write_for_reading(&rt, &rt, path.as_str());
+    let file = path_in(&rt, rt.alloc(), path.as_str(), "flows.json");
+    write_for_reading(&rt, &rt, file.as_str());
     check_readable(&rt, &rt, path.as_str());
     remove(&rt, &rt, path.as_str());
 }
