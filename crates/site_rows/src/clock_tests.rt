@@ -1,7 +1,8 @@
 // What no clause says: that the clock gives moments at all, in milliseconds, and that a wait gives up.
+use crate::checks::check_same;
 use site_files::WallClock;
-use site_model::{Clock, Failed, LAST_MOMENT};
-use std::test::Fail;
+use site_model::{Clock, LAST_MOMENT};
+use std::process::Abort;
 use std::time::Duration;
 use std::{io, rt};
 
@@ -19,19 +20,34 @@ impl rt::Clock for Still {
     }
 }
 
-#[test]
-fn reads_the_clock(rt: HostRuntime) -> Result<(), Fail> {
-    let mut clock = WallClock::new(rt);
-    let first = clock.now()?;
-    let second = clock.now()?;
-    assert!(rt; 1_700_000_000_000 < first && first <= second);
-    let soon = second.saturating_add(5).min(LAST_MOMENT);
-    assert!(rt; clock.wait_until(soon)? >= soon);
+fn check_wait(rt: &impl Abort, clock: &mut WallClock<HostRuntime>, from: u64) {
+    let soon = from.saturating_add(5).min(LAST_MOMENT);
+    let reached = clock.wait_until(soon).expect(rt, "a wait");
+    assert!(rt; reached >= soon);
+}
 
+fn check_moments(rt: &impl Abort, clock: &mut WallClock<HostRuntime>) {
+    let first = clock.now().expect(rt, "a moment");
+    let second = clock.now().expect(rt, "a moment");
+    assert!(rt; 1_700_000_000_000 < first && first <= second);
+    check_wait(rt, clock, second);
+}
+
+fn check_still(rt: &impl Abort) {
     let mut clock = WallClock::new(Still(Duration::from_millis(1234)));
-    assert_eq!(rt; clock.wait_until(1234), Ok(1234));
-    assert_eq!(rt; clock.wait_until(1235), Err(Failed));
+    check_same(rt, clock.wait_until(1234).expect(rt, "a moment"), 1234);
+    clock.wait_until(1235).expect_err(rt, "a fault");
+}
+
+/// A clock past the last moment gives none.
+fn check_past_the_last(rt: &impl Abort) {
     let mut clock = WallClock::new(Still(Duration::from_secs(u64::MAX)));
-    assert_eq!(rt; clock.now(), Err(Failed));
-    Ok(())
+    clock.now().expect_err(rt, "a fault");
+}
+
+#[test]
+fn reads_the_clock(rt: HostRuntime) {
+    check_moments(&rt, &mut WallClock::new(rt));
+    check_still(&rt);
+    check_past_the_last(&rt);
 }

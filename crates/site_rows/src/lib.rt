@@ -2,6 +2,8 @@
 #![tactic(auto)]
 
 #[cfg(test)]
+mod checks;
+#[cfg(test)]
 mod clock_tests;
 #[cfg(test)]
 mod file_tests;

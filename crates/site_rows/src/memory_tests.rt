@@ -1,10 +1,22 @@
+use crate::checks::{check_bytes, check_same};
 use site_memory::{Kept, Kind, MemorySite, Pick, TickClock};
 use site_model::{Clock, Failed, LAST_MOMENT, Site};
 use std::alloc::Global;
 use std::process::Abort;
-use std::test::Fail;
 
-// A write that begins inside the file.
+/// A site where these calls fail.
+fn site_with(
+    rt: &impl Abort,
+    alloc: Global,
+    bytes: u64,
+    calls: u64,
+    fails: &[(Kind, u64)],
+) -> MemorySite {
+    let fails = fails.to_vec(alloc).expect(rt, "memory");
+    MemorySite::new(alloc, bytes, calls, fails).expect(rt, "memory")
+}
+
+/// A write that begins inside the file.
 fn write(
     rt: &impl Abort,
     alloc: Global,
@@ -17,115 +29,159 @@ fn write(
     site.write(1, at, bytes)
 }
 
+fn check_write(rt: &impl Abort, alloc: Global, site: &mut MemorySite, at: u64, bytes: &[u8]) {
+    write(rt, alloc, site, at, bytes).expect(rt, "a write");
+}
+
 fn check_read(rt: &impl Abort, site: &mut MemorySite, at: u64, wanted: &[u8]) {
     let mut out = [b'.'; 4];
     let count = site.read(1, at, &mut out).expect(rt, "a read");
-    assert_eq!(rt; &out[..count], wanted, "at {at}");
+    check_bytes(rt, &out[..count], wanted);
+}
+
+fn check_length(rt: &impl Abort, site: &mut MemorySite, file: u32, wanted: u64) {
+    check_same(rt, site.length(file).expect(rt, "a length"), wanted);
 }
 
 fn check_content(rt: &impl Abort, alloc: Global, site: &MemorySite, wanted: &[u8]) {
     let content = site.content(alloc, 1).expect(rt, "memory");
-    assert_eq!(rt; content.as_slice(), wanted);
+    check_bytes(rt, &content, wanted);
 }
 
 fn check_tape(rt: &impl Abort, alloc: Global, site: &MemorySite, wanted: &[u8]) {
     let tape = site.tape(alloc).expect(rt, "memory");
-    assert_eq!(rt; tape.as_slice(), wanted);
+    check_bytes(rt, &tape, wanted);
+}
+
+fn check_faults(rt: &impl Abort, site: &MemorySite, disk_faults: u64, say_faults: u64) {
+    check_same(rt, site.disk_faults(), disk_faults);
+    check_same(rt, site.say_faults(), say_faults);
+}
+
+fn write_and_say(rt: &impl Abort, alloc: Global, site: &mut MemorySite) {
+    check_write(rt, alloc, site, 0, b"abcd");
+    check_write(rt, alloc, site, 1, b"XY");
+    check_content(rt, alloc, site, b"aXYd");
+    check_write(rt, alloc, site, 3, b"zzz");
+    site.write(2, 0, b"other").expect(rt, "a write");
+    site.sync(1).expect(rt, "a sync");
+    site.say(b"hi\n").expect(rt, "a line");
+}
+
+fn check_reads(rt: &impl Abort, site: &mut MemorySite) {
+    check_read(rt, site, 0, b"aXYz");
+    check_read(rt, site, 1, b"XYzz");
+    check_read(rt, site, 4, b"zz");
+    check_read(rt, site, 6, b"");
+    check_read(rt, site, 9, b"");
+}
+
+fn check_lengths(rt: &impl Abort, site: &mut MemorySite) {
+    check_length(rt, site, 1, 6);
+    check_length(rt, site, 2, 5);
+    check_length(rt, site, 3, 0);
+}
+
+fn check_record(rt: &impl Abort, record: &[Kept]) {
+    let first = Kept::Wrote {
+        file: 1,
+        at: 0,
+        size: 4,
+    };
+    assert!(rt; record.len() == 22);
+    assert!(rt; record[0] == first);
+    assert!(rt; record[21] == Kept::Said(b'\n'));
+}
+
+fn check_calls(rt: &impl Abort, site: &MemorySite) {
+    check_same(rt, site.moment(), 8);
+    check_same(rt, site.calls(Kind::Read), 6);
+    check_same(rt, site.calls(Kind::Device), 14);
+    check_same(rt, site.disk_faults(), 0);
 }
 
 #[test]
-fn a_file_reads_what_was_written(rt: HostRuntime) -> Result<(), Fail> {
+fn a_file_reads_what_was_written(rt: HostRuntime) {
     let alloc = rt.alloc();
-    let mut site = MemorySite::new(alloc, 100, 20, Vec::new(alloc))?;
+    let mut site = site_with(&rt, alloc, 100, 20, &[]);
     check_read(&rt, &mut site, 0, b"");
-    write(&rt, alloc, &mut site, 0, b"abcd")?;
-    write(&rt, alloc, &mut site, 1, b"XY")?;
-    check_content(&rt, alloc, &site, b"aXYd");
-    write(&rt, alloc, &mut site, 3, b"zzz")?;
-    site.write(2, 0, b"other")?;
-    site.sync(1)?;
-    site.say(b"hi\n")?;
-    for (at, wanted) in [
-        (0, b"aXYz".as_slice()),
-        (1, b"XYzz"),
-        (4, b"zz"),
-        (6, b""),
-        (9, b""),
-    ] {
-        check_read(&rt, &mut site, at, wanted);
-    }
-    assert_eq!(rt; site.length(1)?, 6);
-    assert_eq!(rt; site.length(2)?, 5);
-    assert_eq!(rt; site.length(3)?, 0);
+    write_and_say(&rt, alloc, &mut site);
+    check_reads(&rt, &mut site);
+    check_lengths(&rt, &mut site);
     check_tape(&rt, alloc, &site, b"hi\n");
-    assert_eq!(rt; site.moment(), 8);
-    assert_eq!(rt; site.record().len(), 22);
-    assert_eq!(rt;
-        site.record().first().copied(),
-        Some(Kept::Wrote {
-            file: 1,
-            at: 0,
-            size: 4
-        })
-    );
-    assert_eq!(rt; site.record().last().copied(), Some(Kept::Said(b'\n')));
-    assert_eq!(rt; site.calls(Kind::Read), 6);
-    assert_eq!(rt; site.calls(Kind::Device), 14);
-    assert_eq!(rt; site.disk_faults(), 0);
-    Ok(())
+    check_record(&rt, site.record());
+    check_calls(&rt, &site);
+}
+
+const FAILS: [(Kind, u64); 6] = [
+    (Kind::Length, 0),
+    (Kind::Read, 0),
+    (Kind::Write, 1),
+    (Kind::Sync, 0),
+    (Kind::Device, 5),
+    (Kind::Say, 0),
+];
+
+fn fail_to_write(rt: &impl Abort, alloc: Global, site: &mut MemorySite) {
+    site.length(1).expect_err(rt, "a fault");
+    site.read(1, 0, &mut [0; 2]).expect_err(rt, "a fault");
+    check_write(rt, alloc, site, 0, b"ab");
+    write(rt, alloc, site, 1, b"cde").expect_err(rt, "a fault");
+    check_content(rt, alloc, site, b"acde");
+}
+
+fn fail_to_sync(rt: &impl Abort, site: &mut MemorySite) {
+    check_same(rt, site.moment(), 2);
+    site.sync(1).expect_err(rt, "a fault");
+    check_same(rt, site.moment(), 2);
+    site.length(1).expect_err(rt, "a fault");
+    check_length(rt, site, 1, 4);
+}
+
+fn fail_to_say(rt: &impl Abort, alloc: Global, site: &mut MemorySite) {
+    site.say(b"lines").expect_err(rt, "a fault");
+    check_tape(rt, alloc, site, b"li");
+    site.say(b"!").expect(rt, "a line");
+    check_tape(rt, alloc, site, b"li!");
 }
 
 #[test]
-fn a_listed_call_fails_and_is_counted(rt: HostRuntime) -> Result<(), Fail> {
+fn a_listed_call_fails_and_is_counted(rt: HostRuntime) {
     let alloc = rt.alloc();
-    let fails = vec![in alloc;
-        (Kind::Length, 0),
-        (Kind::Read, 0),
-        (Kind::Write, 1),
-        (Kind::Sync, 0),
-        (Kind::Device, 5),
-        (Kind::Say, 0),
-    ]?;
-    let mut site = MemorySite::new(alloc, 100, 20, fails)?;
-    assert_eq!(rt; site.length(1), Err(Failed));
-    assert_eq!(rt; site.read(1, 0, &mut [0; 2]), Err(Failed));
-    assert_eq!(rt; write(&rt, alloc, &mut site, 0, b"ab"), Ok(()));
-    assert_eq!(rt; write(&rt, alloc, &mut site, 1, b"cde"), Err(Failed));
-    check_content(&rt, alloc, &site, b"acde");
-    assert_eq!(rt; site.moment(), 2);
-    assert_eq!(rt; site.sync(1), Err(Failed));
-    assert_eq!(rt; site.moment(), 2);
-    assert_eq!(rt; site.length(1), Err(Failed));
-    assert_eq!(rt; site.length(1), Ok(4));
-    assert_eq!(rt; site.disk_faults(), 5);
-    assert_eq!(rt; site.say_faults(), 0);
-    assert_eq!(rt; site.say(b"lines"), Err(Failed));
-    check_tape(&rt, alloc, &site, b"li");
-    assert_eq!(rt; site.say(b"!"), Ok(()));
-    check_tape(&rt, alloc, &site, b"li!");
-    assert_eq!(rt; site.disk_faults(), 5);
-    assert_eq!(rt; site.say_faults(), 1);
-    Ok(())
+    let mut site = site_with(&rt, alloc, 100, 20, &FAILS);
+    fail_to_write(&rt, alloc, &mut site);
+    fail_to_sync(&rt, &mut site);
+    check_faults(&rt, &site, 5, 0);
+    fail_to_say(&rt, alloc, &mut site);
+    check_faults(&rt, &site, 5, 1);
+}
+
+fn fill(rt: &impl Abort, alloc: Global, site: &mut MemorySite) {
+    site.prepare(1, 0, b"abcde").expect_err(rt, "a fault");
+    site.prepare(1, 0, b"abc").expect(rt, "room");
+    write(rt, alloc, site, 0, b"xy").expect_err(rt, "a fault");
+    site.say(b"xy").expect_err(rt, "a fault");
+}
+
+fn sync_once(rt: &impl Abort, site: &mut MemorySite) {
+    check_same(rt, site.moment(), 2);
+    site.sync(1).expect(rt, "a sync");
+    site.sync(1).expect_err(rt, "a fault");
+    check_same(rt, site.moment(), 3);
+    check_same(rt, site.calls(Kind::Sync), 2);
 }
 
 #[test]
-fn without_room_nothing_is_kept(rt: HostRuntime) -> Result<(), Fail> {
+fn without_room_nothing_is_kept(rt: HostRuntime) {
     let alloc = rt.alloc();
-    let mut site = MemorySite::new(alloc, 4, 3, Vec::new(alloc))?;
-    assert_eq!(rt; site.prepare(1, 0, b"abcde"), Err(Failed));
-    assert_eq!(rt; site.prepare(1, 0, b"abc"), Ok(()));
-    assert_eq!(rt; write(&rt, alloc, &mut site, 0, b"xy"), Err(Failed));
-    assert_eq!(rt; site.say(b"xy"), Err(Failed));
-    assert_eq!(rt; site.moment(), 2);
-    assert_eq!(rt; site.sync(1), Ok(()));
-    assert_eq!(rt; site.sync(1), Err(Failed));
+    let mut site = site_with(&rt, alloc, 4, 3, &[]);
+    fill(&rt, alloc, &mut site);
+    sync_once(&rt, &mut site);
     check_content(&rt, alloc, &site, b"abc");
-    assert_eq!(rt; site.moment(), 3);
-    assert_eq!(rt; site.disk_faults(), 2);
-    assert_eq!(rt; site.say_faults(), 1);
-    assert_eq!(rt; site.calls(Kind::Sync), 2);
-    Ok(())
+    check_faults(&rt, &site, 2, 1);
 }
+
+const TORN: Pick = Pick::Torn(b'?');
 
 fn check_image(
     rt: &impl Abort,
@@ -141,51 +197,72 @@ fn check_image(
     check_tape(rt, alloc, &image, tape);
 }
 
-#[test]
-fn a_crash_leaves_what_was_synced(rt: HostRuntime) -> Result<(), Fail> {
-    let alloc = rt.alloc();
-    let mut site = MemorySite::new(alloc, 100, 20, Vec::new(alloc))?;
-    site.prepare(1, 0, b"abcd")?;
-    write(&rt, alloc, &mut site, 2, b"XYZ")?;
-    site.say(b"k")?;
-    site.write(2, 0, b"other")?;
-    write(&rt, alloc, &mut site, 0, b"-")?;
-    site.sync(1)?;
-    for (moment, pick, wanted, tape) in [
-        (0, Pick::All, b"".as_slice(), b"".as_slice()),
-        (1, Pick::All, b"abcd", b""),
-        (1, Pick::Stable, b"", b""),
-        (2, Pick::Stable, b"abcd", b""),
-        (3, Pick::Stable, b"abcd", b""),
-        (3, Pick::All, b"abXYZ", b""),
-        (3, Pick::Torn(b'?'), b"ab???", b""),
-        (4, Pick::Torn(b'?'), b"ab???", b"k"),
-        (6, Pick::Stable, b"abcd", b"k"),
-        (6, Pick::Torn(b'?'), b"?b???", b"k"),
-        (7, Pick::Stable, b"-bXYZ", b"k"),
-        (9, Pick::Torn(b'?'), b"-bXYZ", b"k"),
-    ] {
-        check_image(&rt, alloc, &site, moment, pick, wanted, tape);
-    }
-    let mut image = site.image(alloc, 6, Pick::Stable)?;
-    assert_eq!(rt; image.length(2)?, 0);
-    assert_eq!(rt; image.say(b"more"), Ok(()));
-    check_tape(&rt, alloc, &image, b"kmore");
-    Ok(())
+/// Crashes before the first line is said.
+fn check_early_images(rt: &impl Abort, alloc: Global, site: &MemorySite) {
+    check_image(rt, alloc, site, 0, Pick::All, b"", b"");
+    check_image(rt, alloc, site, 1, Pick::All, b"abcd", b"");
+    check_image(rt, alloc, site, 1, Pick::Stable, b"", b"");
+    check_image(rt, alloc, site, 2, Pick::Stable, b"abcd", b"");
+    check_image(rt, alloc, site, 3, Pick::Stable, b"abcd", b"");
+    check_image(rt, alloc, site, 3, Pick::All, b"abXYZ", b"");
+    check_image(rt, alloc, site, 3, TORN, b"ab???", b"");
+}
+
+fn check_later_images(rt: &impl Abort, alloc: Global, site: &MemorySite) {
+    check_image(rt, alloc, site, 4, TORN, b"ab???", b"k");
+    check_image(rt, alloc, site, 6, Pick::Stable, b"abcd", b"k");
+    check_image(rt, alloc, site, 6, TORN, b"?b???", b"k");
+    check_image(rt, alloc, site, 7, Pick::Stable, b"-bXYZ", b"k");
+    check_image(rt, alloc, site, 9, TORN, b"-bXYZ", b"k");
+}
+
+fn write_and_sync(rt: &impl Abort, alloc: Global, site: &mut MemorySite) {
+    site.prepare(1, 0, b"abcd").expect(rt, "room");
+    check_write(rt, alloc, site, 2, b"XYZ");
+    site.say(b"k").expect(rt, "a line");
+    site.write(2, 0, b"other").expect(rt, "a write");
+    check_write(rt, alloc, site, 0, b"-");
+    site.sync(1).expect(rt, "a sync");
+}
+
+/// The image has lost the other file, and its tape goes on.
+fn check_image_goes_on(rt: &impl Abort, alloc: Global, site: &MemorySite) {
+    let mut image = site.image(alloc, 6, Pick::Stable).expect(rt, "memory");
+    check_length(rt, &mut image, 2, 0);
+    image.say(b"more").expect(rt, "a line");
+    check_tape(rt, alloc, &image, b"kmore");
 }
 
 #[test]
-fn the_clock_moves_when_it_is_waited_for(rt: HostRuntime) -> Result<(), Fail> {
+fn a_crash_leaves_what_was_synced(rt: HostRuntime) {
     let alloc = rt.alloc();
-    let mut clock = TickClock::new(5, vec![in alloc; 1, 4]?);
-    assert_eq!(rt; clock.latest(), 0);
-    assert_eq!(rt; clock.now(), Ok(5));
-    assert_eq!(rt; clock.wait_until(9), Err(Failed));
-    assert_eq!(rt; clock.wait_until(9), Ok(9));
-    assert_eq!(rt; clock.wait_until(3), Ok(9));
-    assert_eq!(rt; clock.now(), Err(Failed));
-    assert_eq!(rt; clock.wait_until(LAST_MOMENT), Ok(LAST_MOMENT));
-    assert_eq!(rt; clock.latest(), LAST_MOMENT);
-    assert_eq!(rt; clock.faults(), 2);
-    Ok(())
+    let mut site = site_with(&rt, alloc, 100, 20, &[]);
+    write_and_sync(&rt, alloc, &mut site);
+    check_early_images(&rt, alloc, &site);
+    check_later_images(&rt, alloc, &site);
+    check_image_goes_on(&rt, alloc, &site);
+}
+
+fn check_first_waits(rt: &impl Abort, clock: &mut TickClock) {
+    check_same(rt, clock.latest(), 0);
+    check_same(rt, clock.now().expect(rt, "a moment"), 5);
+    clock.wait_until(9).expect_err(rt, "a fault");
+    check_same(rt, clock.wait_until(9).expect(rt, "a moment"), 9);
+    check_same(rt, clock.wait_until(3).expect(rt, "a moment"), 9);
+}
+
+fn check_last_wait(rt: &impl Abort, clock: &mut TickClock) {
+    clock.now().expect_err(rt, "a fault");
+    let last = clock.wait_until(LAST_MOMENT).expect(rt, "a moment");
+    check_same(rt, last, LAST_MOMENT);
+    check_same(rt, clock.latest(), LAST_MOMENT);
+    check_same(rt, clock.faults(), 2);
+}
+
+#[test]
+fn the_clock_moves_when_it_is_waited_for(rt: HostRuntime) {
+    let fails = [1, 4].to_vec(rt.alloc()).expect(&rt, "memory");
+    let mut clock = TickClock::new(5, fails);
+    check_first_waits(&rt, &mut clock);
+    check_last_wait(&rt, &mut clock);
 }
