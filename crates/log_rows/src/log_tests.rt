@@ -1,12 +1,12 @@
 ghost use Rattle.std.specs.Prelude.{◌≡◌, ◌≢◌, ◌++◌, ◌∷◌, [], List, ℕ, IfOk, OnOk};
-ghost use Rattle.site_model.specs.History.{changes_of};
+ghost use Rattle.site_model.specs.History.{changes_of, on, synced};
 ghost use Rattle.site_model.specs.Moments.{OnlyFile};
 ghost use Rattle.commit_log.specs.declared.header.Header.{Header};
 ghost use Rattle.commit_log.specs.States.{IsResting, IsSynced, IsSyncedThere, Rests};
 ghost use Rattle.commit_log.specs.Outcomes.{RestsAs};
 
 use commit_log::{
-    BodyError, Broken, Header, OpenError, Opened, Reopened, Resting, Synced, read_log,
+    BodyError, Broken, Header, OpenError, Opened, Payload, Reopened, Resting, Synced, read_log,
 };
 use site_memory::{Kept, Kind, MemorySite, Pick};
 use site_model::Site;
@@ -84,11 +84,9 @@ fn site_of(rt: &impl Abort, alloc: Global, bytes: &[u8], fails: u64) -> MemorySi
     site
 }
 
-// A site with this much room, whose file 1 holds the example.
-fn site_with_room(rt: &impl Abort, alloc: Global, room: u64) -> MemorySite {
-    let mut site = MemorySite::new(alloc, room, 40, Vec::new(alloc)).expect(rt, "memory");
-    site.prepare(1, 0, &ONE_FRAME).expect(rt, "room");
-    site
+// A site with this much room, where no call fails.
+fn empty_site(rt: &impl Abort, alloc: Global, room: u64) -> MemorySite {
+    MemorySite::new(alloc, room, 40, Vec::new(alloc)).expect(rt, "memory")
 }
 
 fn check_content(rt: &impl Abort, alloc: Global, site: &MemorySite, wanted: &[u8]) {
@@ -96,11 +94,20 @@ fn check_content(rt: &impl Abort, alloc: Global, site: &MemorySite, wanted: &[u8
     assert!(rt; content.as_slice() == wanted);
 }
 
+// Opens this file, whose log rests then.
+fn opened<V: Site>(rt: &impl Abort, alloc: Global, site: &mut V, file: u32) -> Resting
+    ensures rests { V.tells → Rests (changes_of file (V.history site.new)) result.gate }
+    ensures file { result.file ≡ file }
+    ensures synced { V.tells → V.history site.new ≡ on file synced ∷ V.history site.old }
+{
+    read_log(alloc, site, file).expect(rt, "a log").log
+}
+
 // Opens file 1, whose log rests then.
 fn rested<V: Site>(rt: &impl Abort, alloc: Global, site: &mut V) -> Resting
     ensures { V.tells → Rests (changes_of result.file (V.history site.new)) result.gate }
 {
-    read_log(alloc, site, 1).expect(rt, "a log").log
+    opened(rt, alloc, site, 1)
 }
 
 // The first two steps of a commit.
@@ -206,7 +213,7 @@ fn check_one(
 #[test]
 fn the_two_examples(rt: HostRuntime) {
     let alloc = rt.alloc();
-    let mut site = MemorySite::new(alloc, 1000, 40, Vec::new(alloc)).expect(&rt, "memory");
+    let mut site = empty_site(&rt, alloc, 1000);
     check_format(&rt, &mut site);
     check_content(&rt, alloc, &site, &EMPTY);
     check_order(&rt, site.record());
@@ -215,13 +222,20 @@ fn the_two_examples(rt: HostRuntime) {
     check_one(&rt, alloc, &mut site, 1, &PAYLOAD, 76);
 }
 
-// Where the limit is 77, the file would come to it, and stays as it was. Where it is 78, the log goes on.
-fn check_limits(rt: &impl Abort, alloc: Global, site: &mut MemorySite) {
+// The log at rest that is given back where the limit is 77, to which the file would come.
+fn full<V: Site>(rt: &impl Abort, alloc: Global, site: &mut V) -> Resting
+    ensures { V.tells → Rests (changes_of result.file (V.history site.new)) result.gate }
+{
     let log = rested(rt, alloc, site);
-    let Err(BodyError::Full { length, log }) = log.body(alloc, site, &PAYLOAD, 77) else {
-        panic!(rt; "there is room");
-    };
-    assert!(rt; length == 77);
+    match log.body(alloc, site, &PAYLOAD, 77) {
+        Err(BodyError::Full { length: 77, log }) => log,
+        _ => panic!(rt; "there is room"),
+    }
+}
+
+// The file stays as it was there. Where the limit is 78, the log goes on.
+fn check_limits(rt: &impl Abort, alloc: Global, site: &mut MemorySite) {
+    let log = full(rt, alloc, site);
     assert!(rt; log.gate == 33);
     check_content(rt, alloc, site, &EMPTY);
     let log = log.body(alloc, site, &PAYLOAD, 78).expect(rt, "room");
@@ -270,12 +284,16 @@ fn spell_frame(rt: &impl Abort, bytes: &mut Vec<u8>, payload: &[u8]) {
     bytes.extend_from_slice(payload).expect(rt, "memory");
 }
 
+fn spell_frames(rt: &impl Abort, bytes: &mut Vec<u8>, payloads: &[Payload]) {
+    for payload in payloads {
+        spell_frame(rt, bytes, payload.as_bytes());
+    }
+}
+
 // The header and the payloads, spelled up to the gate behind them, are the front of these bytes.
 fn check_front(rt: &impl Abort, alloc: Global, opened: &Opened, bytes: &[u8]) {
     let mut front = spelled(rt, alloc, opened.header);
-    for payload in &opened.payloads {
-        spell_frame(rt, &mut front, payload.as_bytes());
-    }
+    spell_frames(rt, &mut front, &opened.payloads);
     assert!(rt; front.len() as u64 == opened.log.gate);
     assert!(rt; bytes.starts_with(&front));
 }
@@ -552,7 +570,9 @@ fn reopen_after_each_call(rt: HostRuntime) {
     check_after_gate(&rt, alloc, site_of(&rt, alloc, &ONE_FRAME, NEVER));
     check_gate_fault(&rt, alloc, site_of(&rt, alloc, &ONE_FRAME, 5), true);
     // It failed for want of room.
-    check_gate_fault(&rt, alloc, site_with_room(&rt, alloc, 85), false);
+    let mut site = empty_site(&rt, alloc, 85);
+    site.prepare(1, 0, &ONE_FRAME).expect(&rt, "room");
+    check_gate_fault(&rt, alloc, site, false);
     check_body_fault(&rt, alloc, site_of(&rt, alloc, &ONE_FRAME, 3));
 }
 
@@ -580,8 +600,8 @@ fn commit_on_both<V: Site>(
 
 // Opens both files and commits on each.
 fn check_both(rt: &impl Abort, alloc: Global, site: &mut MemorySite) {
-    let one = read_log(alloc, site, 1).expect(rt, "a log").log;
-    let two = read_log(alloc, site, 2).expect(rt, "a log").log;
+    let one = opened(rt, alloc, site, 1);
+    let two = opened(rt, alloc, site, 2);
     let made = commit_on_both(alloc, site, one, two, &PAYLOAD, &NEXT);
     let (one, two) = made.expect(rt, "no fault");
     assert!(rt; (one.gate, two.gate) == (76, 41));
