@@ -1,18 +1,17 @@
 ghost use Rattle.std.specs.Prelude.{◌≡◌, ◌≢◌, ◌++◌, ◌∷◌, [], List, ℕ, IfOk, OnOk};
-ghost use Rattle.site_model.specs.History.{changes_of};
+ghost use Rattle.site_model.specs.History.{changes_of, on, synced};
 ghost use Rattle.site_model.specs.Moments.{OnlyFile};
 ghost use Rattle.commit_log.specs.declared.header.Header.{Header};
 ghost use Rattle.commit_log.specs.States.{IsResting, IsSynced, IsSyncedThere, Rests};
 ghost use Rattle.commit_log.specs.Outcomes.{RestsAs};
 
 use commit_log::{
-    BodyError, Broken, Header, OpenError, Opened, Reopened, Resting, Synced, read_log,
+    BodyError, Broken, Header, OpenError, Opened, Payload, Reopened, Resting, Synced, read_log,
 };
 use site_memory::{Kept, Kind, MemorySite, Pick};
 use site_model::Site;
 use std::alloc::Global;
 use std::process::Abort;
-use std::test::Fail;
 
 // An empty segment of partition 0 of 1, whose flows file holds `{}`.
 const HEADER: Header = Header {
@@ -85,16 +84,30 @@ fn site_of(rt: &impl Abort, alloc: Global, bytes: &[u8], fails: u64) -> MemorySi
     site
 }
 
+// A site with this much room, where no call fails.
+fn empty_site(rt: &impl Abort, alloc: Global, room: u64) -> MemorySite {
+    MemorySite::new(alloc, room, 40, Vec::new(alloc)).expect(rt, "memory")
+}
+
 fn check_content(rt: &impl Abort, alloc: Global, site: &MemorySite, wanted: &[u8]) {
     let content = site.content(alloc, 1).expect(rt, "memory");
-    assert_eq!(rt; content.as_slice(), wanted);
+    assert!(rt; content.as_slice() == wanted);
+}
+
+// Opens this file, whose log rests then.
+fn opened<V: Site>(rt: &impl Abort, alloc: Global, site: &mut V, file: u32) -> Resting
+    ensures rests { V.tells → Rests (changes_of file (V.history site.new)) result.gate }
+    ensures file { result.file ≡ file }
+    ensures synced { V.tells → V.history site.new ≡ on file synced ∷ V.history site.old }
+{
+    read_log(alloc, site, file).expect(rt, "a log").log
 }
 
 // Opens file 1, whose log rests then.
-fn open_rested<V: Site>(rt: &impl Abort, alloc: Global, site: &mut V) -> Opened
-    ensures { V.tells → Rests (changes_of result.log.file (V.history site.new)) result.log.gate }
+fn rested<V: Site>(rt: &impl Abort, alloc: Global, site: &mut V) -> Resting
+    ensures { V.tells → Rests (changes_of result.file (V.history site.new)) result.gate }
 {
-    read_log(alloc, site, 1).expect(rt, "a log")
+    opened(rt, alloc, site, 1)
 }
 
 // The first two steps of a commit.
@@ -142,16 +155,16 @@ fn commit<V: Site>(
     }
 }
 
-#[test]
-fn the_two_examples(rt: HostRuntime) -> Result<(), Fail> {
-    let alloc = rt.alloc();
-    let mut site = MemorySite::new(alloc, 1000, 40, Vec::new(alloc))?;
-    let log = Resting::format(&mut site, 1, HEADER)?;
-    assert_eq!(rt; log.gate, 33);
-    check_content(&rt, alloc, &site, &EMPTY);
-    // The first byte is closed, and made safe, before the header is written behind it.
+// A format of file 1 puts the gate behind the header.
+fn check_format(rt: &impl Abort, site: &mut MemorySite) {
+    let log = Resting::format(site, 1, HEADER).expect(rt, "room");
+    assert!(rt; log.gate == 33);
+}
+
+// The first byte is closed, and made safe, before the header is written behind it.
+fn check_order(rt: &impl Abort, record: &[Kept]) {
     assert!(rt;
-        site.record().starts_with(&[
+        record.starts_with(&[
             Kept::Wrote {
                 file: 1,
                 at: 0,
@@ -167,35 +180,77 @@ fn the_two_examples(rt: HostRuntime) -> Result<(), Fail> {
             Kept::Byte(b'N'),
         ])
     );
-    let log = open_rested(&rt, alloc, &mut site).log;
-    let log = commit(alloc, &mut site, log, &PAYLOAD)?;
-    assert_eq!(rt; log.gate, 76);
-    check_content(&rt, alloc, &site, &ONE_FRAME);
-    let opened = read_log(alloc, &mut site, 1)?;
-    assert_eq!(rt; opened.header, HEADER);
-    assert_eq!(rt; opened.log.gate, 76);
-    assert_eq!(rt; opened.payloads.len(), 1);
-    assert_eq!(rt; opened.payloads[0].as_bytes(), PAYLOAD.as_slice());
-    Ok(())
+}
+
+// A commit of the payload on file 1 puts the gate behind its frame.
+fn check_commit(rt: &impl Abort, alloc: Global, site: &mut MemorySite) {
+    let log = rested(rt, alloc, site);
+    let log = commit(alloc, site, log, &PAYLOAD).expect(rt, "no fault");
+    assert!(rt; log.gate == 76);
+}
+
+// The log has the header, this one payload and its gate here.
+fn check_opened(rt: &impl Abort, opened: &Opened, payload: &[u8], gate: u64) {
+    assert!(rt; opened.header == HEADER);
+    assert!(rt; opened.log.gate == gate);
+    assert!(rt; opened.payloads.len() == 1);
+    assert!(rt; opened.payloads[0].as_bytes() == payload);
+}
+
+// This file is read so.
+fn check_one(
+    rt: &impl Abort,
+    alloc: Global,
+    site: &mut MemorySite,
+    file: u32,
+    payload: &[u8],
+    gate: u64,
+) {
+    let opened = read_log(alloc, site, file).expect(rt, "a log");
+    check_opened(rt, &opened, payload, gate);
 }
 
 #[test]
-fn log_full(rt: HostRuntime) -> Result<(), Fail> {
+fn the_two_examples(rt: HostRuntime) {
+    let alloc = rt.alloc();
+    let mut site = empty_site(&rt, alloc, 1000);
+    check_format(&rt, &mut site);
+    check_content(&rt, alloc, &site, &EMPTY);
+    check_order(&rt, site.record());
+    check_commit(&rt, alloc, &mut site);
+    check_content(&rt, alloc, &site, &ONE_FRAME);
+    check_one(&rt, alloc, &mut site, 1, &PAYLOAD, 76);
+}
+
+// The log at rest that is given back where the limit is 77, to which the file would come.
+fn full<V: Site>(rt: &impl Abort, alloc: Global, site: &mut V) -> Resting
+    ensures { V.tells → Rests (changes_of result.file (V.history site.new)) result.gate }
+{
+    let log = rested(rt, alloc, site);
+    match log.body(alloc, site, &PAYLOAD, 77) {
+        Err(BodyError::Full { length: 77, log }) => log,
+        _ => panic!(rt; "there is room"),
+    }
+}
+
+// The file stays as it was there. Where the limit is 78, the log goes on.
+fn check_limits(rt: &impl Abort, alloc: Global, site: &mut MemorySite) {
+    let log = full(rt, alloc, site);
+    assert!(rt; log.gate == 33);
+    check_content(rt, alloc, site, &EMPTY);
+    let log = log.body(alloc, site, &PAYLOAD, 78).expect(rt, "room");
+    assert!(rt; log.next == 76);
+}
+
+#[test]
+fn log_full(rt: HostRuntime) {
     let alloc = rt.alloc();
     let mut site = site_of(&rt, alloc, &EMPTY, NEVER);
-    let log = open_rested(&rt, alloc, &mut site).log;
-    let Err(BodyError::Full { length, log }) = log.body(alloc, &mut site, &PAYLOAD, 77) else {
-        panic!(rt; "there is room");
-    };
-    assert_eq!(rt; length, 77);
-    assert_eq!(rt; log.gate, 33);
-    check_content(&rt, alloc, &site, &EMPTY);
-    assert_eq!(rt; log.body(alloc, &mut site, &PAYLOAD, 78)?.next, 76);
-    Ok(())
+    check_limits(&rt, alloc, &mut site);
 }
 
 // What a file is to be read as.
-#[derive(Clone, Copy, Debug, PartialEq, Eq)]
+#[derive(Clone, Copy, PartialEq, Eq)]
 enum Wanted {
     Fresh,
     At(u64),
@@ -203,9 +258,8 @@ enum Wanted {
     Log(usize, u64),
 }
 
-// A header and its payloads, spelled up to the gate behind them.
-fn spelled(rt: &impl Abort, alloc: Global, opened: &Opened) -> Vec<u8> {
-    let header = opened.header;
+// A header, spelled up to the first gate.
+fn spelled(rt: &impl Abort, alloc: Global, header: Header) -> Vec<u8> {
     let mut bytes = Vec::new(alloc);
     for part in [
         [0xC3].as_slice(),
@@ -217,34 +271,49 @@ fn spelled(rt: &impl Abort, alloc: Global, opened: &Opened) -> Vec<u8> {
     ] {
         bytes.extend_from_slice(part).expect(rt, "memory");
     }
-    for payload in &opened.payloads {
-        let payload = payload.as_bytes();
-        let length = u32::try_from(payload.len()).expect(rt, "a length");
-        bytes.push(0xC3).expect(rt, "memory");
-        bytes
-            .extend_from_slice(&length.to_be_bytes())
-            .expect(rt, "memory");
-        bytes.extend_from_slice(payload).expect(rt, "memory");
-    }
     bytes
 }
 
-fn check_reading(rt: &impl Abort, alloc: Global, bytes: &[u8], wanted: Wanted, at: usize) {
-    let mut site = site_of(rt, alloc, bytes, NEVER);
-    match read_log(alloc, &mut site, 1) {
-        Ok(opened) => {
-            let found = Wanted::Log(opened.payloads.len(), opened.log.gate);
-            assert_eq!(rt; found, wanted, "{at}");
-            let front = spelled(rt, alloc, &opened);
-            assert_eq!(rt; front.len() as u64, opened.log.gate);
-            assert!(rt; bytes.starts_with(&front), "{at}");
-        }
-        Err(OpenError::Fresh) => assert_eq!(rt; Wanted::Fresh, wanted, "{at}"),
-        Err(OpenError::Damaged { file: 1, offset }) => {
-            assert_eq!(rt; Wanted::At(offset), wanted, "{at}")
-        }
-        Err(other) => panic!(rt; "{other}"),
+// A frame, spelled from the gate before it up to the one behind it.
+fn spell_frame(rt: &impl Abort, bytes: &mut Vec<u8>, payload: &[u8]) {
+    let length = u32::try_from(payload.len()).expect(rt, "a length");
+    bytes.push(0xC3).expect(rt, "memory");
+    bytes
+        .extend_from_slice(&length.to_be_bytes())
+        .expect(rt, "memory");
+    bytes.extend_from_slice(payload).expect(rt, "memory");
+}
+
+fn spell_frames(rt: &impl Abort, bytes: &mut Vec<u8>, payloads: &[Payload]) {
+    for payload in payloads {
+        spell_frame(rt, bytes, payload.as_bytes());
     }
+}
+
+// The header and the payloads, spelled up to the gate behind them, are the front of these bytes.
+fn check_front(rt: &impl Abort, alloc: Global, opened: &Opened, bytes: &[u8]) {
+    let mut front = spelled(rt, alloc, opened.header);
+    spell_frames(rt, &mut front, &opened.payloads);
+    assert!(rt; front.len() as u64 == opened.log.gate);
+    assert!(rt; bytes.starts_with(&front));
+}
+
+// What file 1, of these bytes, is read as.
+fn found(rt: &impl Abort, alloc: Global, site: &mut MemorySite, bytes: &[u8]) -> Wanted {
+    match read_log(alloc, site, 1) {
+        Ok(opened) => {
+            check_front(rt, alloc, &opened, bytes);
+            Wanted::Log(opened.payloads.len(), opened.log.gate)
+        }
+        Err(OpenError::Fresh) => Wanted::Fresh,
+        Err(OpenError::Damaged { file: 1, offset }) => Wanted::At(offset),
+        Err(_) => panic!(rt; "another fault"),
+    }
+}
+
+fn check_reading(rt: &impl Abort, alloc: Global, bytes: &[u8], wanted: Wanted) {
+    let mut site = site_of(rt, alloc, bytes, NEVER);
+    assert!(rt; found(rt, alloc, &mut site, bytes) == wanted);
 }
 
 // What the first bytes of the example are, this many.
@@ -275,23 +344,21 @@ fn wanted_of_flip(offset: u64) -> Wanted {
 }
 
 #[test]
-fn each_prefix_and_each_byte(rt: HostRuntime) -> Result<(), Fail> {
+fn each_prefix_and_each_byte(rt: HostRuntime) {
     let alloc = rt.alloc();
     for length in 0..=77usize {
         let wanted = wanted_of_front(length as u64);
-        check_reading(&rt, alloc, &ONE_FRAME[..length], wanted, length);
+        check_reading(&rt, alloc, &ONE_FRAME[..length], wanted);
     }
     for offset in 0..77usize {
         let mut bytes = ONE_FRAME;
         bytes[offset] = !bytes[offset];
-        let wanted = wanted_of_flip(offset as u64);
-        check_reading(&rt, alloc, &bytes, wanted, offset);
+        check_reading(&rt, alloc, &bytes, wanted_of_flip(offset as u64));
     }
-    Ok(())
 }
 
 #[test]
-fn each_gate_and_each_length(rt: HostRuntime) -> Result<(), Fail> {
+fn each_gate_and_each_length(rt: HostRuntime) {
     let alloc = rt.alloc();
     for (offset, byte, wanted) in [
         (0usize, 0x00, Wanted::Fresh),
@@ -306,9 +373,8 @@ fn each_gate_and_each_length(rt: HostRuntime) -> Result<(), Fail> {
         let mut bytes = ONE_FRAME;
         assert!(rt; offset < 77);
         bytes[offset] = byte;
-        check_reading(&rt, alloc, &bytes, wanted, offset);
+        check_reading(&rt, alloc, &bytes, wanted);
     }
-    Ok(())
 }
 
 // Whether a gate that this step opens reads open in what a crash at this moment leaves.
@@ -328,7 +394,7 @@ fn check_image(
 ) {
     let image = site.image(alloc, moment, pick).expect(rt, "memory");
     let content = image.content(alloc, 1).expect(rt, "memory");
-    check_reading(rt, alloc, &content, wanted, moment as usize);
+    check_reading(rt, alloc, &content, wanted);
 }
 
 // Whether a gate that this step closes, if it isn't 0, still reads open then.
@@ -336,55 +402,60 @@ fn is_still_open(step: u64, moment: u64, pick: Pick) -> bool {
     moment < step || moment == step && (pick == Pick::Stable || pick == Pick::Torn(0xC3))
 }
 
-// Formats file 1, which comes to so many steps. The format's gate is closed and opened by these.
-fn check_stopped_format(
-    rt: &impl Abort,
-    alloc: Global,
-    mut site: MemorySite,
-    is_ok: bool,
-    steps: u64,
-    closes: u64,
-    opens: u64,
-) {
-    let made = Resting::format(&mut site, 1, HEADER);
-    assert_eq!(rt; made.is_ok(), is_ok);
-    assert_eq!(rt; site.moment(), steps);
-    for moment in 2..=steps {
+// What a crash at this moment leaves of the example where these steps close and open the format's gate.
+fn wanted_of_format(closes: u64, opens: u64, moment: u64, pick: Pick) -> Wanted {
+    if is_open(opens, moment, pick) {
+        Wanted::Log(0, 33)
+    } else if is_still_open(closes, moment, pick) {
+        Wanted::Log(1, 76)
+    } else {
+        Wanted::Fresh
+    }
+}
+
+fn check_format_images(rt: &impl Abort, alloc: Global, site: &MemorySite, closes: u64, opens: u64) {
+    for moment in 2..=site.moment() {
         for pick in PICKS {
-            let wanted = if is_open(opens, moment, pick) {
-                Wanted::Log(0, 33)
-            } else if is_still_open(closes, moment, pick) {
-                Wanted::Log(1, 76)
-            } else {
-                Wanted::Fresh
-            };
-            check_image(rt, alloc, &site, moment, pick, wanted);
+            let wanted = wanted_of_format(closes, opens, moment, pick);
+            check_image(rt, alloc, site, moment, pick, wanted);
         }
     }
 }
 
+// Formats file 1, which comes to so many steps.
+fn check_stopped_format(rt: &impl Abort, site: &mut MemorySite, is_ok: bool, steps: u64) {
+    let made = Resting::format(site, 1, HEADER);
+    assert!(rt; made.is_ok() == is_ok);
+    assert!(rt; site.moment() == steps);
+}
+
+// How many steps there are where the call with each number fails, and at last where none does. Two steps made the file.
+fn check_stopped_formats(
+    rt: &impl Abort,
+    alloc: Global,
+    bytes: &[u8],
+    closes: u64,
+    opens: u64,
+    stops: &[u64],
+) {
+    for (call, steps) in stops.iter().enumerate() {
+        let mut site = site_of(rt, alloc, bytes, call as u64);
+        check_stopped_format(rt, &mut site, call + 1 == stops.len(), *steps);
+        check_format_images(rt, alloc, &site, closes, opens);
+    }
+}
+
 #[test]
-fn a_format_stops_at_each_device_call(rt: HostRuntime) -> Result<(), Fail> {
+fn a_format_stops_at_each_device_call(rt: HostRuntime) {
     let alloc = rt.alloc();
     let mut closed = ONE_FRAME;
     closed[0] = 0x17;
-    // How many steps there are where the call with each number fails, and at last where none does. Two steps made the
-    // file.
-    for (bytes, closes, opens, stops) in [
-        // length, write, sync, write, sync, write, sync
-        (b"".as_slice(), 0, 7, [2, 3, 3, 5, 5, 7, 7, 8].as_slice()),
-        // length, read, sync, write, sync, write, sync
-        (&closed, 0, 6, &[2, 2, 2, 4, 4, 6, 6, 7]),
-        // length, read, write, sync, write, sync, write, sync
-        (&ONE_FRAME, 3, 7, &[2, 2, 3, 3, 5, 5, 7, 7, 8]),
-    ] {
-        for (call, steps) in stops.iter().enumerate() {
-            let site = site_of(&rt, alloc, bytes, call as u64);
-            let is_ok = call + 1 == stops.len();
-            check_stopped_format(&rt, alloc, site, is_ok, *steps, closes, opens);
-        }
-    }
-    Ok(())
+    // length, write, sync, write, sync, write, sync
+    check_stopped_formats(&rt, alloc, b"", 0, 7, &[2, 3, 3, 5, 5, 7, 7, 8]);
+    // length, read, sync, write, sync, write, sync
+    check_stopped_formats(&rt, alloc, &closed, 0, 6, &[2, 2, 2, 4, 4, 6, 6, 7]);
+    // length, read, write, sync, write, sync, write, sync
+    check_stopped_formats(&rt, alloc, &ONE_FRAME, 3, 7, &[2, 2, 3, 3, 5, 5, 7, 7, 8]);
 }
 
 // The segment with one frame, or with `NEXT` behind it.
@@ -396,24 +467,35 @@ fn frames(is_more: bool) -> Wanted {
     }
 }
 
-#[test]
-fn an_append_stops_at_each_device_call(rt: HostRuntime) -> Result<(), Fail> {
-    let alloc = rt.alloc();
-    // Opening it took three calls and a step. Then: write, sync, write, sync.
-    for (call, steps) in [(3, 4), (4, 4), (5, 6), (6, 6), (NEVER, 7)] {
-        let mut site = site_of(&rt, alloc, &ONE_FRAME, call);
-        let log = open_rested(&rt, alloc, &mut site).log;
-        let made = commit(alloc, &mut site, log, &NEXT);
-        assert_eq!(rt; made.is_ok(), call == NEVER);
-        assert_eq!(rt; site.moment(), steps);
-        for moment in 3..=steps {
-            for pick in PICKS {
-                let wanted = frames(is_open(6, moment, pick));
-                check_image(&rt, alloc, &site, moment, pick, wanted);
-            }
+fn check_append_images(rt: &impl Abort, alloc: Global, site: &MemorySite) {
+    for moment in 3..=site.moment() {
+        for pick in PICKS {
+            let wanted = frames(is_open(6, moment, pick));
+            check_image(rt, alloc, site, moment, pick, wanted);
         }
     }
-    Ok(())
+}
+
+// Commits `NEXT`, which comes to so many steps.
+fn check_append(rt: &impl Abort, alloc: Global, site: &mut MemorySite, is_ok: bool, steps: u64) {
+    let log = rested(rt, alloc, site);
+    let made = commit(alloc, site, log, &NEXT);
+    assert!(rt; made.is_ok() == is_ok);
+    assert!(rt; site.moment() == steps);
+}
+
+fn check_stopped_append(rt: &impl Abort, alloc: Global, call: u64, steps: u64) {
+    let mut site = site_of(rt, alloc, &ONE_FRAME, call);
+    check_append(rt, alloc, &mut site, call == NEVER, steps);
+    check_append_images(rt, alloc, &site);
+}
+
+#[test]
+fn an_append_stops_at_each_device_call(rt: HostRuntime) {
+    // Opening it took three calls and a step. Then: write, sync, write, sync.
+    for (call, steps) in [(3, 4), (4, 4), (5, 6), (6, 6), (NEVER, 7)] {
+        check_stopped_append(&rt, rt.alloc(), call, steps);
+    }
 }
 
 fn check_reopened(
@@ -424,69 +506,74 @@ fn check_reopened(
     settled: bool,
 ) {
     let found = found.expect(rt, "a log");
-    assert_eq!(rt; found.settled, settled);
-    assert_eq!(rt; found.log.gate, if settled { 84 } else { 76 });
-    check_image(
-        rt,
-        alloc,
-        site,
-        site.moment(),
-        Pick::Stable,
-        frames(settled),
-    );
+    assert!(rt; found.settled == settled);
+    assert!(rt; found.log.gate == if settled { 84 } else { 76 });
+    let wanted = frames(settled);
+    check_image(rt, alloc, site, site.moment(), Pick::Stable, wanted);
 }
 
-#[test]
-fn reopen_after_each_call(rt: HostRuntime) -> Result<(), Fail> {
-    let alloc = rt.alloc();
+// Opens file 1 and takes the first two steps of a commit of `NEXT`.
+fn next_synced<V: Site>(rt: &impl Abort, alloc: Global, site: &mut V) -> Synced
+    ensures { V.tells → IsSyncedThere (changes_of result.file (V.history site.new)) result.gate result.next }
+{
+    let log = rested(rt, alloc, site);
+    synced(alloc, site, log, &NEXT).expect(rt, "no fault")
+}
 
-    // The body is written.
-    let mut site = site_of(&rt, alloc, &ONE_FRAME, NEVER);
-    let log = open_rested(&rt, alloc, &mut site).log;
-    let log = log.body(alloc, &mut site, &NEXT, LIMIT)?;
+// The body is written.
+fn check_after_body(rt: &impl Abort, alloc: Global, mut site: MemorySite) {
+    let log = rested(rt, alloc, &mut site);
+    let log = log
+        .body(alloc, &mut site, &NEXT, LIMIT)
+        .expect(rt, "no fault");
     let found = log.reopen(&mut site);
-    check_reopened(&rt, alloc, &site, found, false);
+    check_reopened(rt, alloc, &site, found, false);
+}
 
-    // It is synced.
-    let mut site = site_of(&rt, alloc, &ONE_FRAME, NEVER);
-    let log = open_rested(&rt, alloc, &mut site).log;
-    let log = synced(alloc, &mut site, log, &NEXT)?;
+// It is synced.
+fn check_after_sync(rt: &impl Abort, alloc: Global, mut site: MemorySite) {
+    let found = next_synced(rt, alloc, &mut site).reopen(&mut site);
+    check_reopened(rt, alloc, &site, found, false);
+}
+
+// The gate is open.
+fn check_after_gate(rt: &impl Abort, alloc: Global, mut site: MemorySite) {
+    let log = next_synced(rt, alloc, &mut site);
+    let log = log.gate(&mut site).expect(rt, "no fault");
     let found = log.reopen(&mut site);
-    check_reopened(&rt, alloc, &site, found, false);
+    check_reopened(rt, alloc, &site, found, true);
+}
 
-    // The gate is open.
-    let mut site = site_of(&rt, alloc, &ONE_FRAME, NEVER);
-    let log = open_rested(&rt, alloc, &mut site).log;
-    let log = synced(alloc, &mut site, log, &NEXT)?.gate(&mut site)?;
-    let found = log.reopen(&mut site);
-    check_reopened(&rt, alloc, &site, found, true);
-
-    // The gate's write failed, and stands.
-    let mut site = site_of(&rt, alloc, &ONE_FRAME, 5);
-    let log = open_rested(&rt, alloc, &mut site).log;
-    let log = synced(alloc, &mut site, log, &NEXT)?;
-    let broken = log.gate(&mut site).expect_err(&rt, "a fault");
+// The gate's write failed, and stands or doesn't.
+fn check_gate_fault(rt: &impl Abort, alloc: Global, mut site: MemorySite, stands: bool) {
+    let log = next_synced(rt, alloc, &mut site);
+    let broken = log.gate(&mut site).expect_err(rt, "a fault");
     let found = broken.reopen(&mut site);
-    check_reopened(&rt, alloc, &site, found, true);
+    check_reopened(rt, alloc, &site, found, stands);
+}
 
-    // The gate's write failed, for want of room.
-    let mut site = MemorySite::new(alloc, 85, 40, Vec::new(alloc))?;
-    site.prepare(1, 0, &ONE_FRAME)?;
-    let log = open_rested(&rt, alloc, &mut site).log;
-    let log = synced(alloc, &mut site, log, &NEXT)?;
-    let broken = log.gate(&mut site).expect_err(&rt, "a fault");
-    let found = broken.reopen(&mut site);
-    check_reopened(&rt, alloc, &site, found, false);
-
-    // The body's write failed, and stands.
-    let mut site = site_of(&rt, alloc, &ONE_FRAME, 3);
-    let log = open_rested(&rt, alloc, &mut site).log;
+// The body's write failed, and stands.
+fn check_body_fault(rt: &impl Abort, alloc: Global, mut site: MemorySite) {
+    let log = rested(rt, alloc, &mut site);
     let Err(BodyError::SiteFault(broken)) = log.body(alloc, &mut site, &NEXT, LIMIT) else {
         panic!(rt; "no fault");
     };
     let found = broken.reopen(&mut site);
-    check_reopened(&rt, alloc, &site, found, false);
-    Ok(())
+    check_reopened(rt, alloc, &site, found, false);
+}
+
+#[test]
+fn reopen_after_each_call(rt: HostRuntime) {
+    let alloc = rt.alloc();
+    check_after_body(&rt, alloc, site_of(&rt, alloc, &ONE_FRAME, NEVER));
+    check_after_sync(&rt, alloc, site_of(&rt, alloc, &ONE_FRAME, NEVER));
+    check_after_gate(&rt, alloc, site_of(&rt, alloc, &ONE_FRAME, NEVER));
+    check_gate_fault(&rt, alloc, site_of(&rt, alloc, &ONE_FRAME, 5), true);
+    // It failed for want of room.
+    let mut site = empty_site(&rt, alloc, 85);
+    site.prepare(1, 0, &ONE_FRAME).expect(&rt, "room");
+    check_gate_fault(&rt, alloc, site, false);
+    check_body_fault(&rt, alloc, site_of(&rt, alloc, &ONE_FRAME, 3));
 }
 
 // A commit on each of two files, in turn.
@@ -511,18 +598,21 @@ fn commit_on_both<V: Site>(
     Ok((first, second))
 }
 
+// Opens both files and commits on each.
+fn check_both(rt: &impl Abort, alloc: Global, site: &mut MemorySite) {
+    let one = opened(rt, alloc, site, 1);
+    let two = opened(rt, alloc, site, 2);
+    let made = commit_on_both(alloc, site, one, two, &PAYLOAD, &NEXT);
+    let (one, two) = made.expect(rt, "no fault");
+    assert!(rt; (one.gate, two.gate) == (76, 41));
+}
+
 #[test]
-fn commits_on_two_files_in_turn(rt: HostRuntime) -> Result<(), Fail> {
+fn commits_on_two_files_in_turn(rt: HostRuntime) {
     let alloc = rt.alloc();
     let mut site = site_of(&rt, alloc, &EMPTY, NEVER);
-    site.prepare(2, 0, &EMPTY)?;
-    let one = read_log(alloc, &mut site, 1)?.log;
-    let two = read_log(alloc, &mut site, 2)?.log;
-    let (one, two) = commit_on_both(alloc, &mut site, one, two, &PAYLOAD, &NEXT)?;
-    assert_eq!(rt; (one.gate, two.gate), (76, 41));
+    site.prepare(2, 0, &EMPTY).expect(&rt, "room");
+    check_both(&rt, alloc, &mut site);
     check_content(&rt, alloc, &site, &ONE_FRAME);
-    let opened = read_log(alloc, &mut site, 2)?;
-    assert_eq!(rt; opened.payloads.len(), 1);
-    assert_eq!(rt; opened.payloads[0].as_bytes(), NEXT.as_slice());
-    Ok(())
+    check_one(&rt, alloc, &mut site, 2, &NEXT, 41);
 }

@@ -3,8 +3,8 @@
 use activity_table::{Activities, Outcome, Table};
 use dura_value::{Key, Name, Scalar, Scalars, Text, TextError, Value};
 use input_reader::{Flow, ReadError, Requests, read_flow, read_requests};
-use std::alloc::{AllocError, Global};
-use std::test::Fail;
+use std::alloc::Global;
+use std::process::Abort;
 
 const FLOW: &str = r#"{"flows":{"Sum":[["call","s","add",{"list":[2,3]}],["return",{"v":"s"}]]}}"#;
 
@@ -12,25 +12,27 @@ const START: &str = r#"{"client":"a","n":1,"start":"Sum/x"}"#;
 
 const WAIT: &str = r#"{"client":"a","n":2,"wait":"Sum/x"}"#;
 
-/// Whether a text of these bytes and its copy have so many.
-fn text_has(alloc: Global, bytes: &[u8], length: usize) -> Result<bool, AllocError> {
-    match Text::read(alloc, bytes) {
-        Ok(text) => {
-            let copy = text.clone(alloc)?;
-            Ok(text.as_str().len() == length && copy.as_bytes().len() == length)
-        }
-        Err(_) => Ok(false),
-    }
+/// A text of these bytes and its copy have so many.
+fn check_text(rt: &impl Abort, alloc: Global, bytes: &[u8], length: usize) {
+    let text = Text::read(alloc, bytes).expect(rt, "a text");
+    let copy = text.clone(alloc).expect(rt, "memory");
+    assert!(rt; text.as_str().len() == length);
+    assert!(rt; copy.as_bytes().len() == length);
+}
+
+fn is_too_long(alloc: Global, bytes: &[u8]) -> bool {
+    matches!(
+        Text::read(alloc, bytes),
+        Err(TextError::TooLong { length: 4097 })
+    )
 }
 
 #[test]
-fn text_limits(rt: HostRuntime) -> Result<(), Fail> {
+fn text_limits(rt: HostRuntime) {
     let alloc = rt.alloc();
-    let many = vec![in alloc; b'a'; 4097]?;
-    assert!(rt; text_has(alloc, &many[..4096], 4096)?);
-    let fault = Text::read(alloc, &many);
-    assert!(rt; matches!(fault, Err(TextError::TooLong { length: 4097 })));
-    Ok(())
+    let many = vec![in alloc; b'a'; 4097].expect(&rt, "memory");
+    check_text(&rt, alloc, &many[..4096], 4096);
+    assert!(rt; is_too_long(alloc, &many));
 }
 
 #[test]
@@ -39,23 +41,22 @@ fn text_form(rt: HostRuntime) {
     assert!(rt; matches!(fault, Err(TextError::NotUtf8 { offset: 1 })));
 }
 
-fn copies_name(alloc: Global) -> Result<bool, AllocError> {
-    let name = Name::of(alloc, b"Sum_1")?;
-    let copy = name.clone(alloc)?;
-    Ok(copy.as_bytes() == name.as_bytes())
+fn check_name(rt: &impl Abort, alloc: Global) {
+    let name = Name::of(alloc, b"Sum_1").expect(rt, "memory");
+    let copy = name.clone(alloc).expect(rt, "memory");
+    assert!(rt; copy.as_bytes() == name.as_bytes());
 }
 
-fn copies_key(alloc: Global) -> Result<bool, AllocError> {
-    let key = Key::of(alloc, b"1.x-y_z")?;
-    let copy = key.clone(alloc)?;
-    Ok(copy.as_bytes() == key.as_bytes())
+fn check_key(rt: &impl Abort, alloc: Global) {
+    let key = Key::of(alloc, b"1.x-y_z").expect(rt, "memory");
+    let copy = key.clone(alloc).expect(rt, "memory");
+    assert!(rt; copy.as_bytes() == key.as_bytes());
 }
 
 #[test]
-fn copies(rt: HostRuntime) -> Result<(), Fail> {
-    assert!(rt; copies_name(rt.alloc())?);
-    assert!(rt; copies_key(rt.alloc())?);
-    Ok(())
+fn copies(rt: HostRuntime) {
+    check_name(&rt, rt.alloc());
+    check_key(&rt, rt.alloc());
 }
 
 /// Whether a run of the activity fails with this fault.
@@ -66,34 +67,33 @@ fn fails(alloc: Global, word: &str, argument: &Value, fault: &str) -> bool {
     }
 }
 
-/// Whether it does so on a list of an integer and another scalar.
-fn pair_fails(
-    alloc: Global,
-    word: &str,
-    left: i64,
-    right: Scalar,
-    fault: &str,
-) -> Result<bool, AllocError> {
-    let pair = Scalars::pair(alloc, Scalar::Int(left), right)?;
-    Ok(fails(alloc, word, &Value::List(pair), fault))
+/// A list of an integer and another scalar.
+fn pair(rt: &impl Abort, alloc: Global, left: i64, right: Scalar) -> Value {
+    let pair = Scalars::pair(alloc, Scalar::Int(left), right).expect(rt, "memory");
+    Value::List(pair)
+}
+
+/// The activity fails so on such a list.
+fn check_pair(rt: &impl Abort, alloc: Global, word: &str, left: i64, right: Scalar, fault: &str) {
+    let pair = pair(rt, alloc, left, right);
+    assert!(rt; fails(alloc, word, &pair, fault));
 }
 
 #[test]
-fn sum_activity(rt: HostRuntime) -> Result<(), Fail> {
-    let pair = Scalars::pair(rt.alloc(), Scalar::Int(7), Scalar::Int(-2))?;
-    let sum = Table.run(rt.alloc(), "add", &Value::List(pair), 0);
-    assert!(rt; matches!(sum, Ok(Outcome::Done(Value::Int(5)))));
-    Ok(())
-}
-
-#[test]
-fn failing_activities(rt: HostRuntime) -> Result<(), Fail> {
+fn sum_activity(rt: HostRuntime) {
     let alloc = rt.alloc();
-    assert!(rt; pair_fails(alloc, "add", i64::MAX, Scalar::Int(1), "overflow")?);
-    assert!(rt; pair_fails(alloc, "add", 1, Scalar::True, "type")?);
+    let pair = pair(&rt, alloc, 7, Scalar::Int(-2));
+    let sum = Table.run(alloc, "add", &pair, 0);
+    assert!(rt; matches!(sum, Ok(Outcome::Done(Value::Int(5)))));
+}
+
+#[test]
+fn failing_activities(rt: HostRuntime) {
+    let alloc = rt.alloc();
+    check_pair(&rt, alloc, "add", i64::MAX, Scalar::Int(1), "overflow");
+    check_pair(&rt, alloc, "add", 1, Scalar::True, "type");
     assert!(rt; fails(alloc, "add", &Value::Null, "type"));
-    assert!(rt; pair_fails(alloc, "less", 7, Scalar::Int(-2), "unknown")?);
-    Ok(())
+    check_pair(&rt, alloc, "less", 7, Scalar::Int(-2), "unknown");
 }
 
 /// Whether the flow is that of `FLOW`.
@@ -111,31 +111,35 @@ fn gives_sum(alloc: Global, file: &str) -> bool {
 }
 
 #[test]
-fn sum_flow(rt: HostRuntime) -> Result<(), Fail> {
-    assert!(rt; gives_sum(rt.alloc(), FLOW));
-    let doubled = FLOW.replace(rt.alloc(), "{\"flows\"", "{\"flows\":{},\"flows\"")?;
-    assert!(rt; gives_sum(rt.alloc(), doubled.as_str()));
-    Ok(())
+fn sum_flow(rt: HostRuntime) {
+    let alloc = rt.alloc();
+    assert!(rt; gives_sum(alloc, FLOW));
+    let doubled = FLOW
+        .replace(alloc, "{\"flows\"", "{\"flows\":{},\"flows\"")
+        .expect(&rt, "memory");
+    assert!(rt; gives_sum(alloc, doubled.as_str()));
+}
+
+const NO_FLOWS: [&str; 9] = [
+    "",
+    "{}",
+    r#"{"flows":{}}"#,
+    r#"{"flows":{"Sum":[["call","s","add",{"list":[2,3]}],["return",{"v":"s"}]]},"flows":{}}"#,
+    r#"{"flows":{"Sum":[["call","s","add",{"list":[1000001,3]}],["return",{"v":"s"}]]}}"#,
+    r#"{"flows":{"Sum":[["call","s","add",{"list":[2.0,3]}],["return",{"v":"s"}]]}}"#,
+    r#"{"flows":{"Sum":[["call","s","add",{"list":[2,-0]}],["return",{"v":"s"}]]}}"#,
+    r#"{"flows":{"Sum":[["call","s","add",{"list":[2,3]}],["return",{"v":"t"}]]}}"#,
+    r#"{"flows":{"Sum":[["call","s","add",{"list":[2,3]}],["return",{"v":"s"}]],"Two":[]}}"#,
+];
+
+fn is_refused(alloc: Global, file: &str) -> bool {
+    matches!(read_flow(alloc, file.as_bytes()), Err(ReadError::Refused))
 }
 
 #[test]
 fn refused_flows(rt: HostRuntime) {
-    for file in [
-        "",
-        "{}",
-        r#"{"flows":{}}"#,
-        r#"{"flows":{"Sum":[["call","s","add",{"list":[2,3]}],["return",{"v":"s"}]]},"flows":{}}"#,
-        r#"{"flows":{"Sum":[["call","s","add",{"list":[1000001,3]}],["return",{"v":"s"}]]}}"#,
-        r#"{"flows":{"Sum":[["call","s","add",{"list":[2.0,3]}],["return",{"v":"s"}]]}}"#,
-        r#"{"flows":{"Sum":[["call","s","add",{"list":[2,-0]}],["return",{"v":"s"}]]}}"#,
-        r#"{"flows":{"Sum":[["call","s","add",{"list":[2,3]}],["return",{"v":"t"}]]}}"#,
-        r#"{"flows":{"Sum":[["call","s","add",{"list":[2,3]}],["return",{"v":"s"}]],"Two":[]}}"#,
-    ] {
-        let refused = matches!(
-            read_flow(rt.alloc(), file.as_bytes()),
-            Err(ReadError::Refused)
-        );
-        assert!(rt; refused, "at {file}");
+    for file in NO_FLOWS {
+        assert!(rt; is_refused(rt.alloc(), file));
     }
 }
 
@@ -144,51 +148,52 @@ fn are_ours(requests: &Requests) -> bool {
     requests.client.as_bytes() == "a".as_bytes() && requests.key.as_bytes() == "x".as_bytes()
 }
 
-fn gives_ours(alloc: Global, file: &[u8]) -> Result<bool, ReadError> {
-    let flow = Name::of(alloc, b"Sum")?;
+fn gives_ours(rt: &impl Abort, alloc: Global, file: &[u8]) -> bool {
+    let flow = Name::of(alloc, b"Sum").expect(rt, "memory");
     match read_requests(alloc, &flow, file) {
-        Ok(requests) => Ok(are_ours(&requests)),
-        Err(ReadError::Refused) => Ok(false),
-        Err(error) => Err(error),
+        Ok(requests) => are_ours(&requests),
+        Err(ReadError::Refused) => false,
+        Err(ReadError::Memory) => panic!(rt; "memory"),
     }
 }
 
 /// Whether these lines, each with an end, ask for key `x` of client `a`.
-fn asks(alloc: Global, lines: &[&str], end: &str) -> Result<bool, ReadError> {
-    let file = lines.join(alloc, end)?;
-    gives_ours(alloc, file.as_bytes())
+fn asks(rt: &impl Abort, alloc: Global, lines: &[&str], end: &str) -> bool {
+    let file = lines.join(alloc, end).expect(rt, "memory");
+    gives_ours(rt, alloc, file.as_bytes())
 }
 
-#[test]
-fn accepted_requests(rt: HostRuntime) -> Result<(), Fail> {
-    let alloc = rt.alloc();
-    let turned = r#" {"wait": "Sum/x", "n": 2, "client": "a"}"#;
-    for lines in [
-        [START, WAIT, "", ""],
-        ["", START, " \t", WAIT],
-        [START, START, WAIT, START],
-        [START, turned, WAIT, turned],
-    ] {
-        assert!(rt; asks(alloc, &lines, "\n")?);
-        assert!(rt; asks(alloc, &lines, "\r\n")?);
-    }
-    Ok(())
-}
+const TURNED: &str = r#" {"wait": "Sum/x", "n": 2, "client": "a"}"#;
+
+const OURS: [[&str; 4]; 4] = [
+    [START, WAIT, "", ""],
+    ["", START, " \t", WAIT],
+    [START, START, WAIT, START],
+    [START, TURNED, WAIT, TURNED],
+];
 
 #[test]
-fn refused_requests(rt: HostRuntime) -> Result<(), Fail> {
-    let alloc = rt.alloc();
-    for lines in [
-        ["", ""],
-        [START, ""],
-        [WAIT, START],
-        [START, r#"{"client":"b","n":2,"wait":"Sum/x"}"#],
-        [START, r#"{"client":"a","n":2,"wait":"Sum/y"}"#],
-        [START, r#"{"client":"a","n":3,"wait":"Sum/x"}"#],
-        [START, r#"{"client":"a","n":2,"wait":"Two/x"}"#],
-        [r#"{"arg":null,"client":"a","n":1,"start":"Sum/x"}"#, WAIT],
-    ] {
-        assert!(rt; !asks(alloc, &lines, "\n")?);
+fn accepted_requests(rt: HostRuntime) {
+    for lines in &OURS {
+        assert!(rt; asks(&rt, rt.alloc(), lines, "\n"));
+        assert!(rt; asks(&rt, rt.alloc(), lines, "\r\n"));
     }
-    Ok(())
+}
+
+const NO_REQUESTS: [[&str; 2]; 8] = [
+    ["", ""],
+    [START, ""],
+    [WAIT, START],
+    [START, r#"{"client":"b","n":2,"wait":"Sum/x"}"#],
+    [START, r#"{"client":"a","n":2,"wait":"Sum/y"}"#],
+    [START, r#"{"client":"a","n":3,"wait":"Sum/x"}"#],
+    [START, r#"{"client":"a","n":2,"wait":"Two/x"}"#],
+    [r#"{"arg":null,"client":"a","n":1,"start":"Sum/x"}"#, WAIT],
+];
+
+#[test]
+fn refused_requests(rt: HostRuntime) {
+    for lines in &NO_REQUESTS {
+        assert!(rt; !asks(&rt, rt.alloc(), lines, "\n"));
+    }
 }
