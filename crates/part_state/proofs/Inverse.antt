@@ -1,5 +1,5 @@
 -- Each step that a legal run has in the world of a state is one of the engine's labels.
-use Rattle.std.proofs.Common.{◌≡◌, ◌≤◌, ◌&&◌, ◌+◌, ℕ, zero, suc, pos, Bool, true, false, cond, [], ◌∷◌, Option, Some, None, refl, sym, ap, subst, ◌∙◌}
+use Rattle.std.proofs.Common.{◌≡◌, ◌&&◌, ◌+◌, ℕ, zero, suc, pos, Bool, true, false, cond, [], ◌∷◌, Option, Some, None, refl, sym, ap, subst, ◌∙◌}
 use Rattle.std.specs.Prelude.{codes, IfSome}
 use Rattle.input_reader.specs.declared.input.Input.{Input}
 use Rattle.dura_value.specs.declared.data.Scalar.TheVariants as scalars
@@ -17,8 +17,6 @@ use Rattle.dura_model.specs.Machine.{Task}
 use Rattle.dura_model.specs.World.{World, Orchestration, pending_in}
 use Rattle.dura_model.specs.Steps.{take, deliver, finish, step, delivered, ran, IsWithin}
 use Rattle.dura_model.specs.Steps.{Label as Step}
-use Rattle.dura_value.specs.Names.{is_name, is_key}
-use Rattle.input_reader.specs.FlowFile.{most_added}
 use Rattle.part_state.specs.Given.{IsGiven}
 use Rattle.part_state.specs.Meaning.{flows_of, label_of, the_client, the_instance, sum_in, world_of, instance_of, inbox_of, outbox_of, IsOwn}
 use Rattle.dura_value.proofs.Ids.{id_same, both_true}
