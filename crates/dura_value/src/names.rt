@@ -68,6 +68,7 @@ fn stand_in_key(bytes: &[u8]) -> bool
     bytes.iter().all(|byte| stands_in_key(*byte))
 }
 
+/// Whether the bytes are a name: 1 to 64 of them, a letter, then letters, digits and `_`.
 pub fn is_name(bytes: &[u8]) -> bool
     ensures { result ≡ is_name bytes.now }
 {
@@ -86,6 +87,7 @@ pub fn is_name(bytes: &[u8]) -> bool
     }
 }
 
+/// Whether the bytes are a key: 1 to 64 letters, digits, `_`, `-` and `.`.
 pub fn is_key(bytes: &[u8]) -> bool
     ensures { result ≡ is_key bytes.now }
 {

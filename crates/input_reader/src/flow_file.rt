@@ -19,9 +19,13 @@ const MOST_ADDED: u64 = 1_000_000;
 /// A flow that puts the sum of two numbers into a variable and returns it.
 #[derive(Drop)]
 pub struct Flow {
+    /// Its name.
     pub name: Name,
+    /// The variable that the sum is put into.
     pub variable: Name,
+    /// The first number.
     pub left: u32,
+    /// The second number.
     pub right: u32,
 }
 

@@ -18,7 +18,9 @@ use std::alloc::{AllocError, Global};
 /// The client and the key of the two requests.
 #[derive(Drop)]
 pub struct Requests {
+    /// Whose they are.
     pub client: Name,
+    /// The key of the instance that they name.
     pub key: Key,
 }
 
