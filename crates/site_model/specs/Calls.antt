@@ -6,9 +6,10 @@ use Rattle.site_model.specs.History.{Step, on, wrote, synced, saying}
 abbrev pub HasRisen : ℕ → ℕ → Type 0
 HasRisen before now = (before < now) ⊎ (2 ^ 64 ≤ before + 1)
 
--- The count never falls, and an error comes only where it rose.
+-- The count never falls, an error comes only where it rose, and it rises only where one comes.
 pub record HasCause {T E : Type 0} (before now : ℕ) (result : Result T E) : Type 0 where
   pub later : before ≤ now
+  pub same : OnOk result (now ≡ before)
   pub risen : OnErr result (HasRisen before now)
 
 -- As many bytes of the content from this offset on as there are and as the buffer holds, in its front.

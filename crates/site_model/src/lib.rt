@@ -2,8 +2,9 @@
 //!
 //! A [`Site`] holds numbered files and one output tape under one clock of moments. Its whole meaning is one
 //! ghost member, `history`: the list of what has happened so far. What a file reads, which files a crash may
-//! leave at a moment, and what stands on the tape are definitions over it (`specs/History.antt`). A site that
-//! tells nothing, as a real directory, meets the same trait: there `tells` is false.
+//! leave at a moment, and what stands on the tape are definitions over it (`specs/History.antt`). Whether the
+//! answers agree with it is `tells`: it holds of each site in memory, and of a real directory as long as the disk
+//! answered so.
 //!
 //! A [`Clock`] gives moments in milliseconds.
 #![tactic(auto)]
