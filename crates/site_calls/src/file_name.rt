@@ -1,6 +1,6 @@
 // The files of a site by number, and their names.
 ghost use Rattle.std.specs.Prelude.{◌≡◌, ◌↔◌, ◌%◌, IsSome, IfSome};
-ghost use Rattle.site_files.specs.FileNumbers.{IsFileNumber, number_of, place_of};
+ghost use Rattle.site_calls.specs.FileNumbers.{IsFileNumber, number_of, place_of};
 
 use std::fmt;
 

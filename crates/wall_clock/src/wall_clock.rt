@@ -2,7 +2,7 @@
 ghost use Rattle.std.specs.Prelude.{◌≡◌, ◌≤◌, max, IfOk, OnErr};
 ghost use Rattle.site_model.specs.Calls.{HasCause};
 
-use crate::fault::counted;
+use site_calls::counted;
 use site_model::{Clock, Failed, LAST_MOMENT};
 use std::io::ErrorKind;
 use std::time::{Duration, SystemTime, UNIX_EPOCH};

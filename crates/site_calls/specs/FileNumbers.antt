@@ -1,9 +1,9 @@
 -- The numbers of the files.
 use Rattle.std.specs.Prelude.{◌⊎◌, ◌<◌, ◌≤◌, ◌+◌, ◌*◌, ℕ}
-use Rattle.site_files.specs.declared.file_name.FileName.{FileName}
-use Rattle.site_files.specs.declared.file_name.FileName.TheVariants.{Flows, Requests, Plan, Part}
-use Rattle.site_files.specs.declared.file_name.PartKind.{PartKind}
-use Rattle.site_files.specs.declared.file_name.PartKind.TheVariants.{FirstLog, SecondLog, FirstCheckpoint, SecondCheckpoint}
+use Rattle.site_calls.specs.declared.file_name.FileName.{FileName}
+use Rattle.site_calls.specs.declared.file_name.FileName.TheVariants.{Flows, Requests, Plan, Part}
+use Rattle.site_calls.specs.declared.file_name.PartKind.{PartKind}
+use Rattle.site_calls.specs.declared.file_name.PartKind.TheVariants.{FirstLog, SecondLog, FirstCheckpoint, SecondCheckpoint}
 
 -- three inputs, and four files of each of 32 partitions
 abbrev pub IsFileNumber : ℕ → Type 0

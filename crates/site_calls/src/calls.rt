@@ -1,0 +1,94 @@
+//! The calls of the system that a site makes, each of which is noted with its answer.
+
+ghost use Rattle.std.specs.Prelude.{◌≡◌, ◌+◌, ◌<◌, ◌≤◌, ◌∷◌, List, length, take, drop, is_ok, IfOk, MatchResult};
+ghost use Rattle.site_calls.specs.Events.{Event, found, made, measured, got, begun, put, lost, flushed, named, absent, printed};
+
+use std::io;
+
+/// The calls of a directory's files and of standard output. A file's number says which it is.
+///
+/// Each method makes at most one call of the system and notes it with its answer. It goes on after no short answer and
+/// after no signal: that is for the caller.
+pub trait Calls {
+    /// The calls so far with their answers, the newest first.
+    ghost events: { Self → List Event };
+
+    /// Looks whether a file is there, and opens it if it is. What it holds is safe then, and so is its name. Only where
+    /// the system says that there is no such file it isn't there.
+    fn find(&mut self, file: u32) -> io::Result<bool>
+        ensures noted { MatchResult result
+            (λ is_there. events self.new ≡ found file is_there ∷ events self.old)
+            (λ _. events self.new ≡ events self.old) };
+
+    /// Makes a file that isn't there.
+    fn make(&mut self, file: u32) -> io::Result<()>
+        ensures noted { MatchResult result
+            (λ _. events self.new ≡ made file ∷ events self.old)
+            (λ _. events self.new ≡ events self.old) };
+
+    /// How many bytes a file has that was found or made.
+    fn measure(&mut self, file: u32) -> io::Result<u64>
+        ensures noted { MatchResult result
+            (λ size. events self.new ≡ measured file size ∷ events self.old)
+            (λ _. events self.new ≡ events self.old) };
+
+    /// Goes on with a read of `out.len()` bytes from offset `at` on, of which `done` have come.
+    fn read_some(&mut self, file: u32, at: u64, done: usize, out: &mut [u8]) -> io::Result<usize>
+        requires { done < length out.old }
+        ensures front { take done out.new ≡ take done out.old }
+        ensures count { IfOk result (λ count. done + count ≤ length out.old) }
+        ensures noted { MatchResult result
+            (λ count. events self.new ≡ got file at (length out.old) count (take (done + count) out.new) ∷ events self.old)
+            (λ _. events self.new ≡ events self.old) };
+
+    /// Notes that a write of so many bytes at this offset begins. It makes no call.
+    fn begin_write(&mut self, file: u32, at: u64, size: usize)
+        ensures { events self.new ≡ begun file at size ∷ events self.old };
+
+    /// Goes on with the write that began, of which `done` bytes are written. A call that failed may have left anything.
+    fn write_some(&mut self, file: u32, at: u64, done: usize, bytes: &[u8]) -> io::Result<usize>
+        requires { done < length bytes.now }
+        ensures count { IfOk result (λ count. done + count ≤ length bytes.now) }
+        ensures noted { MatchResult result
+            (λ count. events self.new ≡ put (take (done + count) bytes.now) ∷ events self.old)
+            (λ _. events self.new ≡ lost (take done bytes.now) ∷ events self.old) };
+
+    /// Makes safe what a file holds that was found or made.
+    fn flush(&mut self, file: u32) -> io::Result<()>
+        ensures { events self.new ≡ flushed file (is_ok result) ∷ events self.old };
+
+    /// Makes safe the names in the directory.
+    fn flush_names(&mut self) -> io::Result<()>
+        ensures { events self.new ≡ named (is_ok result) ∷ events self.old };
+
+    /// Notes that a file that isn't there was to be made safe. It makes no call.
+    fn pass_over(&mut self, file: u32)
+        ensures { events self.new ≡ absent file ∷ events self.old };
+
+    /// Goes on printing a line, of which `done` bytes are printed.
+    fn print_some(&mut self, done: usize, line: &[u8]) -> io::Result<usize>
+        requires { done < length line.now }
+        ensures count { IfOk result (λ count. done + count ≤ length line.now) }
+        ensures noted { MatchResult result
+            (λ count. events self.new ≡ printed (take count (drop done line.now)) ∷ events self.old)
+            (λ _. events self.new ≡ events self.old) };
+}
+
+/// What no answer of the system tells, as a ghost member of a type. No code can read it, so a function over any `Start`
+/// is proved for all contents of the files.
+pub trait Start: Drop {
+    ghost use Rattle.site_calls.specs.Events.{Unseen};
+
+    /// What each file held at the start, and what a failed write left.
+    ghost unseen: { Unseen };
+}
+
+/// The start of a program that knows nothing of its files.
+#[derive(Drop)]
+pub struct Unknown;
+
+impl Start for Unknown {
+    ghost use Rattle.std.specs.Prelude.{[]};
+
+    ghost unseen = { record { files = λ _. []; left = λ _. [] } };
+}
