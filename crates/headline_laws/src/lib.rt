@@ -2,10 +2,16 @@
 //! They are said of the definitions alone: the functions do nothing.
 //!
 //! - `outside` is on what happens to files and the tape, and what a crash leaves of them.
+//! - `machine` is on runs and worlds of the failure-free machine, and the lines of its answers.
 #![tactic(auto)]
 
+mod machine;
 mod outside;
 
+pub use machine::{
+    answers, counting_finishes, founded_entries, legal_runs, lines_of_answers, lines_of_requests,
+    overlapping, quiet_worlds,
+};
 pub use outside::{
     images, kept_by_a_sync, reading, risen_counts, saying, syncing, torn_writes,
     unsynced_files, writing,

@@ -1,0 +1,25 @@
+-- What entries that are founded stand on, one by one from the front.
+use Rattle.std.proofs.Common.{◌≡◌, ◌⊎◌, List, [], ◌∷◌, ◌++◌, sym, subst, append_assoc}
+use Rattle.std.proofs.lemmas.List.{append-nil}
+use Rattle.std.specs.List.{Contains}
+use Rattle.dura_model.specs.Dependencies.{Identity, DependsOn, Founded}
+use Rattle.dura_model.specs.Dependencies.Founded.{none, one_more}
+
+-- an entry stands on one of these, or on nothing
+abbrev pub StandsOn : (recovered before : List Identity) → Identity → Type 0
+StandsOn recovered before e = (e.position ≡ 0) ⊎ ((cause : Identity) × DependsOn e cause × (Contains recovered cause ⊎ Contains before cause))
+
+-- each of these stands on one before it
+abbrev pub EachStands : (recovered before : List Identity) → List Identity → Type 0
+EachStands recovered before [] = Unit {0}
+EachStands recovered before (e ∷ entries) = StandsOn recovered before e × EachStands recovered (before ++ e ∷ []) entries
+
+module _ (recovered : List Identity) where
+  stands_more : (before entries : List Identity) (e : Identity) → EachStands recovered before entries → StandsOn recovered (before ++ entries) e → EachStands recovered before (entries ++ e ∷ [])
+  stands_more before [] e each on = (subst (λ (l : List Identity). StandsOn recovered l e) (append-nil before) on, tt)
+  stands_more before (first ∷ entries) e each on =
+      (each.0, stands_more (before ++ first ∷ []) entries e each.1 (subst (λ (l : List Identity). StandsOn recovered l e) (sym (append_assoc before (first ∷ []) entries)) on))
+
+  pub each_stands : (entries : List Identity) → Founded recovered entries → EachStands recovered [] entries
+  each_stands _ none = tt
+  each_stands _ (one_more {entries} e before on) = stands_more [] entries e (each_stands entries before) on
