@@ -1,5 +1,6 @@
 pub mod Foundations
 pub mod LinesSaid
+pub mod Logs
 pub mod Runs
 pub mod Sections
 pub mod Telling

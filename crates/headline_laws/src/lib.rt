@@ -3,11 +3,14 @@
 //!
 //! - `outside` is on what happens to files and the tape, and what a crash leaves of them.
 //! - `machine` is on runs and worlds of the failure-free machine, and the lines of its answers.
+//! - `log` is on what a log keeps, and what the files stand for.
 #![tactic(auto)]
 
+mod log;
 mod machine;
 mod outside;
 
+pub use log::{kept_entries, numbered_entries, standing};
 pub use machine::{
     answers, counting_finishes, founded_entries, legal_runs, lines_of_answers, lines_of_requests,
     overlapping, quiet_worlds,
