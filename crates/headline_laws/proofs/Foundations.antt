@@ -1,7 +1,8 @@
 -- What entries that are founded stand on, one by one from the front.
-use Rattle.std.proofs.Common.{◌≡◌, ◌⊎◌, List, [], ◌∷◌, ◌++◌, sym, subst, append_assoc}
+use Rattle.std.proofs.Common.{◌≡◌, inl, inr, ◌⊎◌, ◌≢◌, List, [], ◌∷◌, ◌++◌, sym, subst, append_assoc}
 use Rattle.std.proofs.lemmas.List.{append-nil}
 use Rattle.std.specs.List.{Contains}
+use Rattle.headline_laws.proofs.Telling.{in_none, in_one}
 use Rattle.dura_model.specs.Dependencies.{Identity, DependsOn, Founded}
 use Rattle.dura_model.specs.Dependencies.Founded.{none, one_more}
 
@@ -23,3 +24,20 @@ module _ (recovered : List Identity) where
   pub each_stands : (entries : List Identity) → Founded recovered entries → EachStands recovered [] entries
   each_stands _ none = tt
   each_stands _ (one_more {entries} e before on) = stands_more [] entries e (each_stands entries before) on
+
+-- an entry that isn't the first stands on nothing where nothing is
+pub on_nothing : (e : Identity) → StandsOn [] [] e → e.position ≡ 0
+on_nothing e (inl first) = first
+on_nothing e (inr (cause, depends, inl found)) = absurd (in_none cause found)
+on_nothing e (inr (cause, depends, inr found)) = absurd (in_none cause found)
+
+-- and where one is, it stands right behind that, in its partition
+pub on_recovered : (only e : Identity) → StandsOn (only ∷ []) [] e → (e.position ≢ 0) → DependsOn e only
+on_recovered only e (inl first) later = absurd (later first)
+on_recovered only e (inr (cause, depends, inl found)) later = subst (DependsOn e) (sym (in_one only cause found)) depends
+on_recovered only e (inr (cause, depends, inr found)) later = absurd (in_none cause found)
+
+pub on_before : (only e : Identity) → StandsOn [] (only ∷ []) e → (e.position ≢ 0) → DependsOn e only
+on_before only e (inl first) later = absurd (later first)
+on_before only e (inr (cause, depends, inl found)) later = absurd (in_none cause found)
+on_before only e (inr (cause, depends, inr found)) later = subst (DependsOn e) (sym (in_one only cause found)) depends

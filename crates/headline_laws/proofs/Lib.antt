@@ -1,3 +1,4 @@
+pub mod Asked
 pub mod Foundations
 pub mod LinesSaid
 pub mod Logs

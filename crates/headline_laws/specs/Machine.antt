@@ -59,6 +59,9 @@ await_worker = record { from = anna; to = worker; body = wait 2 }
 abbrev pub start_taken : Label
 start_taken = take anna 1 start_worker
 
+abbrev pub await_taken : Label
+await_taken = take anna 2 await_worker
+
 -- it begins, and its activity finishes with such a number
 abbrev pub worker_begun : List Label
 worker_begun = start_taken ∷ deliver anna worker 0 ∷ []

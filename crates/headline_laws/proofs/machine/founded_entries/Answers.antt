@@ -1,27 +1,8 @@
-use Rattle.std.proofs.Common.{◌≡◌, ◌≢◌, inl, inr, [], ◌∷◌, refl, sym, subst, arith}
-use Rattle.dura_model.specs.Dependencies.{Identity, DependsOn}
+use Rattle.std.proofs.Common.{inl, inr, [], ◌∷◌, refl, arith}
 use Rattle.dura_model.specs.Dependencies.Founded.{none, one_more}
 use Rattle.headline_laws.specs.Machine.{at_place, elsewhere}
-use Rattle.headline_laws.proofs.Foundations.{StandsOn, each_stands}
-use Rattle.headline_laws.proofs.Telling.{in_none, in_one}
+use Rattle.headline_laws.proofs.Foundations.{each_stands, on_nothing, on_recovered, on_before}
 use Rattle.headline_laws.proofs.machine.founded_entries.Goals as goal
-
--- an entry that isn't the first stands on nothing where nothing is
-on_nothing : (e : Identity) → StandsOn [] [] e → e.position ≡ 0
-on_nothing e (inl first) = first
-on_nothing e (inr (cause, depends, inl found)) = absurd (in_none cause found)
-on_nothing e (inr (cause, depends, inr found)) = absurd (in_none cause found)
-
--- and where one is, it stands right behind that, in its partition
-on_recovered : (only e : Identity) → StandsOn (only ∷ []) [] e → (e.position ≢ 0) → DependsOn e only
-on_recovered only e (inl first) later = absurd (later first)
-on_recovered only e (inr (cause, depends, inl found)) later = subst (DependsOn e) (sym (in_one only cause found)) depends
-on_recovered only e (inr (cause, depends, inr found)) later = absurd (in_none cause found)
-
-on_before : (only e : Identity) → StandsOn [] (only ∷ []) e → (e.position ≢ 0) → DependsOn e only
-on_before only e (inl first) later = absurd (later first)
-on_before only e (inr (cause, depends, inl found)) later = absurd (in_none cause found)
-on_before only e (inr (cause, depends, inr found)) later = subst (DependsOn e) (sym (in_one only cause found)) depends
 
 pub returns : goal.returns
 returns c = record {
