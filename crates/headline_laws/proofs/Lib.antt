@@ -2,6 +2,10 @@ pub mod Asked
 pub mod Foundations
 pub mod LinesSaid
 pub mod Logs
+pub mod Moments
 pub mod Runs
 pub mod Sections
+pub mod Sound
+pub mod Stand
 pub mod Telling
+pub mod TellsLines

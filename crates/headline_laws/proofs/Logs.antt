@@ -69,7 +69,7 @@ stray_kept = inr ((stray_entry ∷ []) ∷ [], record {
 }, refl)
 
 -- the digest of a log
-abbrev digest_in : Reading → ℕ
+abbrev pub digest_in : Reading → ℕ
 digest_in (segment h payloads gate) = h.digest
 digest_in other = 0
 

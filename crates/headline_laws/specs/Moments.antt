@@ -1,12 +1,12 @@
 -- Examples of inputs, jobs, trails and moments.
-use Rattle.std.specs.Prelude.{ℕ, List, [], ◌∷◌, codes}
+use Rattle.std.specs.Prelude.{ℕ, List, [], ◌∷◌, codes, Some}
 use Rattle.site_model.specs.History.{Step, on, wrote, synced}
 use Rattle.input_reader.specs.declared.input.Input.{Input}
 use Rattle.input_reader.specs.declared.request_file.Kind.TheVariants as kinds
 use Rattle.part_state.specs.declared.state.Label.TheVariants.{Take}
 use Rattle.part_driver.specs.declared.trail.Entry.{Entry}
 use Rattle.dura_value.specs.Ids.{Id, client}
-use Rattle.dura_model.specs.World.{Message}
+use Rattle.dura_model.specs.World.{World, Message, empty, at_link, at_number}
 use Rattle.dura_model.specs.Entries.{Kept, ran}
 use Rattle.dura_model.specs.Steps.{Label, take}
 use Rattle.engine_run.specs.Headline.{Job}
@@ -53,3 +53,13 @@ gate_written gate = on 16 (wrote gate 1 (195 ∷ [])) ∷ []
 -- both bytes of the log were synced
 abbrev pub log_synced : List Step
 log_synced = on 16 synced ∷ on 16 (wrote 0 2 (1 ∷ 2 ∷ [])) ∷ []
+
+-- the log's first byte is that of an open log, and no header follows
+abbrev pub log_broken : List Step
+log_broken = on 16 synced ∷ on 16 (wrote 0 2 (195 ∷ 0 ∷ [])) ∷ []
+
+-- ---- worlds
+
+-- the world in which the start was taken
+abbrev pub after_start : World
+after_start = record empty { links = at_link empty.links anna worker (start_worker ∷ []); taken = at_number empty.taken anna 1 (Some start_worker) }

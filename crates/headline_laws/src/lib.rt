@@ -5,16 +5,24 @@
 //! - `machine` is on runs and worlds of the failure-free machine, and the lines of its answers.
 //! - `log` is on what a log keeps, and what the files stand for.
 //! - `entries` is on trails, and on the entries that a run makes durable.
+//! - `told` is on what a run says.
+//! - `headline` is on what a run promises of a moment, and of its end.
 #![tactic(auto)]
 
 mod entries;
+mod headline;
 mod log;
 mod machine;
 mod outside;
+mod told;
 
 pub use entries::{
     asked_requests, entries_and_jobs, entries_under_way, later_lives, rising_moments,
     settled_by_a_moment, sound_entries, stamps, written_gates,
+};
+pub use headline::{
+    every_moment, extending, headlines, holding_moments, opened_logs, own_logs, unfinished_runs,
+    unopened_logs,
 };
 pub use log::{kept_entries, numbered_entries, standing};
 pub use machine::{
@@ -25,3 +33,4 @@ pub use outside::{
     images, kept_by_a_sync, reading, risen_counts, saying, syncing, torn_writes,
     unsynced_files, writing,
 };
+pub use told::{fronts, speaking, told_lines};

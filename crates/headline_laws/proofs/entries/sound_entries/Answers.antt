@@ -5,13 +5,12 @@ use Rattle.std.specs.List.{All}
 use Rattle.dura_model.specs.Dependencies.{identity_of}
 use Rattle.dura_model.specs.Dependencies.Founded.{none, one_more}
 use Rattle.dura_model.specs.Entries.{Kept}
-use Rattle.dura_model.specs.Requests.Lines.{none as no_line}
 use Rattle.dura_model.specs.World.{empty}
 use Rattle.dura_model.specs.Steps.{deliver}
 use Rattle.engine_run.specs.Headline.{IsAsked, IsLater, moment_of}
-use Rattle.headline_laws.specs.Logs.{start_entry}
-use Rattle.headline_laws.specs.Machine.{anna, worker, start_worker, start_taken, sum_flows, at_place, first_request, second_request}
+use Rattle.headline_laws.specs.Machine.{anna, worker, start_worker, start_taken, sum_flows, at_place}
 use Rattle.headline_laws.specs.Moments.{sum_job, delivery_entry}
+use Rattle.headline_laws.proofs.Sound.{none_sound, one_sound}
 use Rattle.headline_laws.proofs.Asked.{not_of_nobody}
 use Rattle.headline_laws.proofs.Foundations.{each_stands, on_nothing}
 use Rattle.headline_laws.proofs.entries.sound_entries.Goals as goal
@@ -29,22 +28,8 @@ Lives recovered e = All (λ r. IsLater r e) recovered
 
 pub returns : goal.returns
 returns c = record {
-  none = record {
-    asked = All-nil (IsAsked sum_job.requests empty []);
-    timely = All-nil (λ label. moment_of label ≤ 0);
-    founded = none;
-    lives = All-nil (Lives []);
-    once = λ id task. omega arith;
-    apart = λ run rest v is legal o. absurd (never_overlaps sum_flows run v legal o);
-  };
-  one = record {
-    asked = All-cons (IsAsked sum_job.requests empty []) start_taken [] ([], first_request, second_request ∷ [], refl, refl, ([], no_line, ([], refl))) (All-nil (IsAsked sum_job.requests empty []));
-    timely = All-cons (λ label. moment_of label ≤ 0) start_taken [] (omega arith) (All-nil (λ label. moment_of label ≤ 0));
-    founded = one_more (at_place 0) none (inl refl);
-    lives = All-cons (Lives []) start_entry [] (All-nil (λ r. IsLater r start_entry)) (All-nil (Lives []));
-    once = λ id task. omega arith;
-    apart = λ run rest v is legal o. absurd (never_overlaps sum_flows run v legal o);
-  };
+  none = none_sound empty [];
+  one = one_sound empty [];
   of_another_job = λ w bytes s. not_of_nobody w bytes anna 1 start_worker (All-head (IsAsked [] w bytes) start_taken [] s.asked);
   too_late = λ w s. omega (arith, All-head (λ label. moment_of label ≤ 0) (deliver anna worker 1) [] s.timely);
   in_time = record {
