@@ -30,43 +30,59 @@ no_frame = inr ([], record { gate = 33; reads = refl; few = All-nil Few; whole =
 
 pub one_kept : HasEntries 5 start_log (start_entry ∷ [])
 unfolding header_at frame_at frames_from
-one_kept = inr ((start_entry ∷ []) ∷ [], record {
-  gate = _;
-  reads = refl;
-  few = All-cons Few (start_entry ∷ []) [] (omega arith, omega arith) (All-nil Few);
-  whole = All-cons IsEntry start_entry [] start_is (All-nil IsEntry);
-  numbered = (refl, omega arith, omega arith, tt);
-}, refl)
+one_kept = inr (
+  (start_entry ∷ []) ∷ [],
+  record {
+    gate = _;
+    reads = refl;
+    few = All-cons Few (start_entry ∷ []) [] (omega arith, omega arith) (All-nil Few);
+    whole = All-cons IsEntry start_entry [] start_is (All-nil IsEntry);
+    numbered = (refl, omega arith, omega arith, tt);
+  },
+  refl,
+)
 
 pub two_kept : HasEntries 5 (log_of 5 ((start_entry ∷ []) ∷ (await_entry ∷ []) ∷ [])) (start_entry ∷ await_entry ∷ [])
 unfolding header_at frame_at frames_from
-two_kept = inr ((start_entry ∷ []) ∷ (await_entry ∷ []) ∷ [], record {
-  gate = _;
-  reads = refl;
-  few = All-cons Few (start_entry ∷ []) ((await_entry ∷ []) ∷ []) (omega arith, omega arith) (All-cons Few (await_entry ∷ []) [] (omega arith, omega arith) (All-nil Few));
-  whole = All-cons IsEntry start_entry (await_entry ∷ []) start_is (All-cons IsEntry await_entry [] await_is (All-nil IsEntry));
-  numbered = (refl, omega arith, omega arith, (refl, omega arith, omega arith, tt));
-}, refl)
+two_kept = inr (
+  (start_entry ∷ []) ∷ (await_entry ∷ []) ∷ [],
+  record {
+    gate = _;
+    reads = refl;
+    few = All-cons Few (start_entry ∷ []) ((await_entry ∷ []) ∷ []) (omega arith, omega arith) (All-cons Few (await_entry ∷ []) [] (omega arith, omega arith) (All-nil Few));
+    whole = All-cons IsEntry start_entry (await_entry ∷ []) start_is (All-cons IsEntry await_entry [] await_is (All-nil IsEntry));
+    numbered = (refl, omega arith, omega arith, (refl, omega arith, omega arith, tt));
+  },
+  refl,
+)
 
 pub two_kept_together : HasEntries 5 (log_of 5 ((start_entry ∷ await_entry ∷ []) ∷ [])) (start_entry ∷ await_entry ∷ [])
 unfolding header_at frame_at frames_from
-two_kept_together = inr ((start_entry ∷ await_entry ∷ []) ∷ [], record {
-  gate = _;
-  reads = refl;
-  few = All-cons Few (start_entry ∷ await_entry ∷ []) [] (omega arith, omega arith) (All-nil Few);
-  whole = All-cons IsEntry start_entry (await_entry ∷ []) start_is (All-cons IsEntry await_entry [] await_is (All-nil IsEntry));
-  numbered = (refl, omega arith, omega arith, (refl, omega arith, omega arith, tt));
-}, refl)
+two_kept_together = inr (
+  (start_entry ∷ await_entry ∷ []) ∷ [],
+  record {
+    gate = _;
+    reads = refl;
+    few = All-cons Few (start_entry ∷ await_entry ∷ []) [] (omega arith, omega arith) (All-nil Few);
+    whole = All-cons IsEntry start_entry (await_entry ∷ []) start_is (All-cons IsEntry await_entry [] await_is (All-nil IsEntry));
+    numbered = (refl, omega arith, omega arith, (refl, omega arith, omega arith, tt));
+  },
+  refl,
+)
 
 pub stray_kept : HasEntries 5 (log_of 5 ((stray_entry ∷ []) ∷ [])) (stray_entry ∷ [])
 unfolding header_at frame_at frames_from
-stray_kept = inr ((stray_entry ∷ []) ∷ [], record {
-  gate = _;
-  reads = refl;
-  few = All-cons Few (stray_entry ∷ []) [] (omega arith, omega arith) (All-nil Few);
-  whole = All-cons IsEntry stray_entry [] stray_is (All-nil IsEntry);
-  numbered = (refl, omega arith, omega arith, tt);
-}, refl)
+stray_kept = inr (
+  (stray_entry ∷ []) ∷ [],
+  record {
+    gate = _;
+    reads = refl;
+    few = All-cons Few (stray_entry ∷ []) [] (omega arith, omega arith) (All-nil Few);
+    whole = All-cons IsEntry stray_entry [] stray_is (All-nil IsEntry);
+    numbered = (refl, omega arith, omega arith, tt);
+  },
+  refl,
+)
 
 -- the digest of a log
 abbrev pub digest_in : Reading → ℕ

@@ -89,6 +89,6 @@ from_moments {P} old (step ∷ steps) all =
     let none : suc (length (steps ++ old)) - suc (length (steps ++ old)) ≡ 0 = omega arith in
     goes_on
     (from_moments old steps (λ moment low high.
-      let one_more : suc (length (steps ++ old)) - moment ≡ suc (length (steps ++ old) - moment) = omega arith in
-      subst (λ (n : ℕ). P (drop n (step ∷ (steps ++ old)))) one_more (all moment low (omega arith))))
+    let one_more : suc (length (steps ++ old)) - moment ≡ suc (length (steps ++ old) - moment) = omega arith in
+    subst (λ (n : ℕ). P (drop n (step ∷ (steps ++ old)))) one_more (all moment low (omega arith))))
     (subst (λ (n : ℕ). P (drop n (step ∷ (steps ++ old)))) none (all (suc (length (steps ++ old))) (omega (arith, length-append steps old)) (omega arith)))

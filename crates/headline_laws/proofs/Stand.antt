@@ -1,16 +1,18 @@
 -- What the files of the examples stand for.
 use Rattle.std.proofs.Common.{◌≡◌, inl, inr, ℕ, List, [], ◌∷◌, refl, sym, ap, subst, ◌∙◌, Option, Some, None}
+use Rattle.std.proofs.lemmas.List.Elements.{All-nil}
 use Rattle.commit_log.specs.Segment.{fresh, reading_of, header_at, frame_at, frames_from}
-use Rattle.dura_model.specs.Entries.{Kept, items_of}
+use Rattle.dura_model.specs.Entries.{Kept, items_of, labels_in}
 use Rattle.dura_model.specs.Language.{Flows}
-use Rattle.dura_model.specs.Legal.{begins, goes_on, after}
+use Rattle.dura_model.specs.Legal.{Legal, begins, goes_on, after}
 use Rattle.dura_model.specs.Partition.{Partition, nothing, placed, shown}
-use Rattle.dura_model.specs.World.{World, Message}
+use Rattle.dura_model.specs.World.{World, Message, empty}
 use Rattle.dura_model.specs.Steps.{Label}
 use Rattle.plain_model.proofs.PlainLaws.{legal_run_after, stands_after}
 use Rattle.part_log.specs.Log.{HasEntries}
 use Rattle.part_log.specs.Stands.{Stands}
 use Rattle.part_log.proofs.Single.{entries_once}
+use Rattle.engine_run.specs.Headline.{Job, IsOfFile, IsOwnLog}
 use Rattle.headline_laws.specs.Machine.{anna, sum_flows, start_taken}
 use Rattle.headline_laws.specs.Logs.{start_entry, stray_entry, log_of, start_log}
 use Rattle.headline_laws.specs.Outside.{only_log}
@@ -49,8 +51,20 @@ unfolding header_at frame_at frames_from
 stray_digest digest entries (inl none) = absurd (cc none.0)
 stray_digest digest entries (inr kept) = ap digest_in kept.1.reads
 
+pub stray_entries : (digest : ℕ) (bytes : List ℕ) (entries : List Kept) → bytes ≡ log_of 5 ((stray_entry ∷ []) ∷ []) → HasEntries digest bytes entries → entries ≡ stray_entry ∷ []
+stray_entries digest bytes entries is here =
+    let kept : HasEntries digest (log_of 5 ((stray_entry ∷ []) ∷ [])) entries = subst (λ (l : List ℕ). HasEntries digest l entries) is here in
+    let own : HasEntries 5 (log_of 5 ((stray_entry ∷ []) ∷ [])) entries = subst (λ (n : ℕ). HasEntries n (log_of 5 ((stray_entry ∷ []) ∷ [])) entries) (sym (stray_digest digest entries kept)) kept in
+    entries_once 5 (log_of 5 ((stray_entry ∷ []) ∷ [])) entries (stray_entry ∷ []) own stray_kept
+
 pub stray_stands_not : (flows : Flows) (digest : ℕ) (files : ℕ → List ℕ) (run : List Label) → files 16 ≡ log_of 5 ((stray_entry ∷ []) ∷ []) → Stands flows digest files run → ⊥
-stray_stands_not flows digest files run is s =
-    let kept : HasEntries digest (log_of 5 ((stray_entry ∷ []) ∷ [])) s.entries = subst (λ (l : List ℕ). HasEntries digest l s.entries) is s.kept in
-    let own : HasEntries 5 (log_of 5 ((stray_entry ∷ []) ∷ [])) s.entries = subst (λ (n : ℕ). HasEntries n (log_of 5 ((stray_entry ∷ []) ∷ [])) s.entries) (sym (stray_digest digest s.entries kept)) kept in
-    absurd (cc (made_of flows digest files run (stray_entry ∷ []) s (entries_once 5 (log_of 5 ((stray_entry ∷ []) ∷ [])) s.entries (stray_entry ∷ []) own stray_kept)))
+stray_stands_not flows digest files run is s = absurd (cc (made_of flows digest files run (stray_entry ∷ []) s (stray_entries digest (files 16) s.entries is s.kept)))
+
+-- nor does any job own it
+pub stray_not_own : (job : Job) (bytes : List ℕ) → bytes ≡ log_of 5 ((stray_entry ∷ []) ∷ []) → IsOwnLog job bytes → ⊥
+stray_not_own job bytes is o =
+    absurd (cc (legal_run_after job.flows _ o.world (subst (λ (e : List Kept). Legal job.flows (labels_in e) o.world) (stray_entries job.digest bytes o.entries is o.kept) o.legal)))
+
+-- any job owns a fresh log
+pub fresh_own : (job : Job) (bytes : List ℕ) → reading_of bytes ≡ fresh → IsOwnLog job bytes
+fresh_own job bytes is = record { entries = []; kept = inl (is, refl); world = empty; legal = begins; own = All-nil (IsOfFile job.requests) }

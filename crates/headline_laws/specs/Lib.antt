@@ -1,3 +1,4 @@
+pub mod Causes
 pub mod Logs
 pub mod Machine
 pub mod Moments

@@ -7,15 +7,21 @@
 //! - `entries` is on trails, and on the entries that a run makes durable.
 //! - `told` is on what a run says.
 //! - `headline` is on what a run promises of a moment, and of its end.
+//! - `causes` is on why a run ends, what it has said then and what has changed; `limits` is on limits.
 #![tactic(auto)]
 
+mod causes;
 mod entries;
 mod headline;
+mod limits;
 mod log;
 mod machine;
 mod outside;
 mod told;
 
+pub use causes::{
+    answered_causes, command_words, refusals, said_by_causes, statuses, untouched_by_causes,
+};
 pub use entries::{
     asked_requests, entries_and_jobs, entries_under_way, later_lives, rising_moments,
     settled_by_a_moment, sound_entries, stamps, written_gates,
@@ -24,13 +30,14 @@ pub use headline::{
     every_moment, extending, headlines, holding_moments, opened_logs, own_logs, unfinished_runs,
     unopened_logs,
 };
+pub use limits::{integers_of_flows, names_and_keys, parts, texts_and_values};
 pub use log::{kept_entries, numbered_entries, standing};
 pub use machine::{
     answers, counting_finishes, founded_entries, legal_runs, lines_of_answers, lines_of_requests,
     overlapping, quiet_worlds,
 };
 pub use outside::{
-    images, kept_by_a_sync, reading, risen_counts, saying, syncing, torn_writes,
-    unsynced_files, writing,
+    images, kept_by_a_sync, reading, risen_counts, saying, syncing, torn_writes, unsynced_files,
+    writing,
 };
 pub use told::{fronts, speaking, told_lines};

@@ -15,7 +15,6 @@ use Rattle.headline_laws.proofs.Asked.{not_of_nobody}
 use Rattle.headline_laws.proofs.Foundations.{each_stands, on_nothing}
 use Rattle.headline_laws.proofs.entries.sound_entries.Goals as goal
 
-
 abbrev first : Kept
 first = delivery_entry 0 0 1
 
