@@ -2,6 +2,10 @@
 #![tactic(auto)]
 
 #[cfg(test)]
+mod activity_tests;
+#[cfg(test)]
+mod limit_tests;
+#[cfg(test)]
 mod log_tests;
 #[cfg(test)]
 mod run_tests;

@@ -11,9 +11,12 @@ use site_model::Site;
 use std::alloc::Global;
 use std::process::Abort;
 
-const FLOW: &str = r#"{"flows":{"Sum":[["call","s","add",{"list":[2,3]}],["return",{"v":"s"}]]}}"#;
+/// The flow file of `Sum`.
+pub(crate) const FLOW: &str =
+    r#"{"flows":{"Sum":[["call","s","add",{"list":[2,3]}],["return",{"v":"s"}]]}}"#;
 
-const REQUESTS: &str =
+/// The request file of `Sum`.
+pub(crate) const REQUESTS: &str =
     "{\"client\":\"a\",\"n\":1,\"start\":\"Sum/x\"}\n{\"client\":\"a\",\"n\":2,\"wait\":\"Sum/x\"}\n";
 
 /// What is said of them.
@@ -24,7 +27,8 @@ const COMMAND: [&str; 3] = ["run", "--partitions", "1"];
 /// A run on a site in memory.
 pub(crate) type Run = Ended<MemorySite, TickClock>;
 
-fn site_with(
+/// A site with these input files, where these calls fail.
+pub(crate) fn site_with(
     rt: &impl Abort,
     alloc: Global,
     flows: &str,
@@ -50,6 +54,11 @@ fn texts(rt: &impl Abort, alloc: Global, words: &[&str]) -> Vec<Text> {
         texts.push(text).expect(rt, "memory");
     }
     texts
+}
+
+/// The words of the command.
+pub(crate) fn command(rt: &impl Abort, alloc: Global) -> Vec<Text> {
+    texts(rt, alloc, &COMMAND)
 }
 
 fn run_words(rt: &impl Abort, alloc: Global, words: &[&str], site: MemorySite) -> Run {
@@ -339,13 +348,13 @@ fn refused_words(rt: HostRuntime) {
     }
 }
 
-const BAD_FLOWS: Cause = Cause::BadFlows {
+pub(crate) const BAD_FLOWS: Cause = Cause::BadFlows {
     fault: FlowFault::BadShape {
         path: FlowPath::Whole,
     },
 };
 
-const BAD_PLAN: Cause = Cause::BadPlan {
+pub(crate) const BAD_PLAN: Cause = Cause::BadPlan {
     place: PlanPlace::Whole,
 };
 

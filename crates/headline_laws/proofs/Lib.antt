@@ -3,6 +3,7 @@ pub mod Foundations
 pub mod LinesSaid
 pub mod Logs
 pub mod Moments
+pub mod Opened
 pub mod Runs
 pub mod Sections
 pub mod Sound

@@ -6,6 +6,8 @@ ghost use Rattle.site_model.specs.Moments.{Always};
 ghost use Rattle.commit_log.specs.Segment.{reading_of, fresh};
 ghost use Rattle.dura_model.specs.World.{World, empty};
 ghost use Rattle.dura_model.specs.Steps.{Label};
+ghost use Rattle.input_reader.specs.declared.input.Input.{Input};
+ghost use Rattle.input_reader.specs.Input.{HasForm};
 ghost use Rattle.input_reader.specs.Refusal.{refusal_of};
 ghost use Rattle.part_driver.specs.declared.trail.Entry.{Entry};
 ghost use Rattle.engine_run.specs.Headline.{Extends, Holds, Unopened, Opened, Headline, IsDone, IsOwnLog};
@@ -49,6 +51,7 @@ pub fn unopened_logs()
 
 /// A log is opened only where the input files are accepted and the files stood for a run.
 pub fn opened_logs()
+    ensures from_fresh { (files : ℕ → List ℕ) (input : Input) → HasForm files input → reading_of (files 16) ≡ fresh → Opened files [] [] [] }
     ensures accepted { (files : ℕ → List ℕ) (old : List Step) (trail : List Entry) (steps : List Step) → Opened files old trail steps → refusal_of files ≡ None }
     ensures of_no_run { (files : ℕ → List ℕ) (old : List Step) (trail : List Entry) (steps : List Step) → files 16 ≡ log_of 5 ((stray_entry ∷ []) ∷ []) → Opened files old trail steps → ⊥ }
     ensures settled_and_not_kept { (files : ℕ → List ℕ) → reading_of (files 16) ≡ fresh → Opened files [] (settled 0 ∷ []) [] → ⊥ }
