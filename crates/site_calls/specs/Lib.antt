@@ -1,2 +1,5 @@
 pub mod Events
 pub mod FileNumbers
+pub mod Known
+pub mod Runs
+pub mod Site

@@ -10,7 +10,14 @@
 mod calls;
 mod fault;
 mod file_name;
+mod known;
+mod printing;
+mod reading;
+mod site;
+mod syncing;
+mod writing;
 
 pub use calls::{Calls, Start, Unknown};
-pub use fault::counted;
+pub use fault::{Fault, FaultPlace, counted};
 pub use file_name::{FileName, PartKind};
+pub use site::CalledSite;
