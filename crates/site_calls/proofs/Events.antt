@@ -1,6 +1,6 @@
 -- One event more.
 use Rattle.std.proofs.Common.{◌≡◌, List, ◌∷◌, subst}
-use Rattle.site_calls.specs.Events.{Event, Unseen, replay, IsHonest}
+use Rattle.site_calls.specs.Events.{Event, Unseen, IsHonest}
 
 pub honest_more : {event : Event} {old new : List Event} (unseen : Unseen) → new ≡ event ∷ old → IsHonest unseen new → IsHonest unseen old
 honest_more unseen is honest = (subst (IsHonest unseen) is honest).0

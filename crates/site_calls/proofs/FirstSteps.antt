@@ -2,11 +2,9 @@
 use Rattle.std.proofs.Common.{◌≡◌, ◌≢◌, inl, inr, ℕ, zero, suc, ◌+◌, ◌*◌, ◌<◌, ◌≤◌, List, [], ◌∷◌, ◌++◌, length, sym, refl, ◌∙◌, ap, arith}
 use Rattle.std.proofs.lemmas.Bool.{cases_eq}
 use Rattle.std.proofs.lemmas.List.{append-nil, drop_all}
-use Rattle.site_model.specs.History.{Step, Change, on, wrote, synced, put, reads, changes_of, content_of}
+use Rattle.site_model.specs.History.{Change, on, wrote, synced, put, reads, changes_of, content_of}
 use Rattle.site_model.proofs.Paths.{own_change, other_change}
-use Rattle.site_calls.specs.Events.{Unseen, held_below, start_of, file_numbers, replay}
-use Rattle.site_calls.specs.declared.known.Known.{Known}
-use Rattle.site_calls.specs.Known.{Knows}
+use Rattle.site_calls.specs.Events.{held_below, start_of}
 use Rattle.site_calls.proofs.Inside.{AllInside, inside_wrote, inside_synced}
 
 length-held_below : (n : ℕ) (files : ℕ → List ℕ) → length (held_below n files) ≡ 2 * n

@@ -4,7 +4,7 @@ use Rattle.std.proofs.Math.Seq.{take-add}
 use Rattle.site_model.specs.History.{Step, said, saying}
 use Rattle.site_calls.specs.declared.known.Known.{Known}
 use Rattle.site_calls.specs.Known.{Knows}
-use Rattle.site_calls.specs.Events.{Event, Unseen, Standing, printed, after, replay}
+use Rattle.site_calls.specs.Events.{Event, Unseen, printed, after, replay}
 
 saying-append : (front back : List ℕ) (steps : List Step) → saying (front ++ back) steps ≡ saying back (saying front steps)
 saying-append [] back steps = refl

@@ -1,8 +1,8 @@
 -- What a call of a site leaves of what it tells.
-use Rattle.std.proofs.Common.{◌≡◌, ◌⊎◌, inl, inr, ℕ, ◌+◌, ◌^◌, ◌<◌, ◌≤◌, true, List, ◌∷◌, length, take, Result, Ok, Err, sym, ap, subst, arith}
+use Rattle.std.proofs.Common.{◌≡◌, inl, inr, ℕ, ◌^◌, ◌<◌, ◌≤◌, List, length, take, Result, Ok, Err, sym, ap, subst, arith}
 use Rattle.std.specs.Prelude.{IfOk, MatchResult}
 use Rattle.std.proofs.lemmas.Result.{IfOk-at_ok, MatchResult-at_ok}
-use Rattle.site_model.specs.History.{Step, on, wrote, synced, content_of, saying}
+use Rattle.site_model.specs.History.{Step, content_of}
 use Rattle.site_model.specs.Calls.{Writes, Syncs, Says}
 use Rattle.site_calls.specs.Events.{Event, Unseen, replay, IsHonest, Tells}
 use Rattle.site_calls.proofs.Inside.{AllInside, inside_wrote, inside_synced, inside_said}

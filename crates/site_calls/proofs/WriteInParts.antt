@@ -1,5 +1,5 @@
 -- A write, as far as its calls have come.
-use Rattle.std.proofs.Common.{◌≡◌, ℕ, ◌+◌, ◌<◌, ◌≤◌, List, ◌∷◌, ◌++◌, [], length, take, drop, sym, refl, ◌∙◌, ap, subst, arith, length-append, length-take, length-drop}
+use Rattle.std.proofs.Common.{◌≡◌, ℕ, ◌+◌, ◌≤◌, List, ◌∷◌, ◌++◌, [], length, take, drop, sym, refl, ◌∙◌, ap, subst, arith, length-append, length-take, length-drop}
 use Rattle.std.proofs.lemmas.List.{take-take, take_at, take_all}
 use Rattle.site_model.specs.History.{on, wrote}
 use Rattle.site_calls.specs.Events.{Event, Unseen, Standing, begun, put, lost, after, replay}

@@ -17,22 +17,22 @@ returns-in-Err-2-clause-told g c unseen honest = c.loop.invariant.told unseen (h
 pub loop-preserved : goal.loop-preserved
 loop-preserved g c = elim c.match-print_some.branch [
   | in-Ok w ↦ record {
-      within = omega (arith, w.in-Ok.ensures.count);
-      told = λ unseen honest. c.loop.invariant.told unseen (honest_more unseen w.in-Ok.ensures.noted honest);
-      known = λ unseen knows.
-      known_said c.loop.done w.in-Ok.count c.args.line.now unseen c.loop.known c.match-print_some.known (g.C.Calls.events c.loop.calls) (g.C.Calls.events c.print_some.new.self)
-      w.in-Ok.ensures.count w.in-Ok.ensures.noted (w.known-is ∙ w.count_steps.ensures) (c.loop.invariant.known unseen knows);
-      said = λ unseen.
-      said_more c.loop.done w.in-Ok.count c.match-print_some.done c.args.line.now unseen (replay unseen (g.C.Calls.events c.args.calls.now)).steps
-      (g.C.Calls.events c.loop.calls) (g.C.Calls.events c.print_some.new.self) w.done-is w.in-Ok.ensures.noted (c.loop.invariant.said unseen);
-    }
+    within = omega (arith, w.in-Ok.ensures.count);
+    told = λ unseen honest. c.loop.invariant.told unseen (honest_more unseen w.in-Ok.ensures.noted honest);
+    known = λ unseen knows.
+        known_said c.loop.done w.in-Ok.count c.args.line.now unseen c.loop.known c.match-print_some.known (g.C.Calls.events c.loop.calls) (g.C.Calls.events c.print_some.new.self)
+        w.in-Ok.ensures.count w.in-Ok.ensures.noted (w.known-is ∙ w.count_steps.ensures) (c.loop.invariant.known unseen knows);
+    said = λ unseen.
+        said_more c.loop.done w.in-Ok.count c.match-print_some.done c.args.line.now unseen (replay unseen (g.C.Calls.events c.args.calls.now)).steps
+        (g.C.Calls.events c.loop.calls) (g.C.Calls.events c.print_some.new.self) w.done-is w.in-Ok.ensures.noted (c.loop.invariant.said unseen);
+  }
   | in-Err w ↦ record {
-      within = omega arith;
-      told = λ unseen honest. c.loop.invariant.told unseen (honest_same unseen w.in-Err.ensures.noted honest);
-      known = λ unseen knows.
-      known_same unseen c.loop.known c.match-print_some.known (g.C.Calls.events c.loop.calls) (g.C.Calls.events c.print_some.new.self)
-      w.in-Err.ensures.noted w.known-is (c.loop.invariant.known unseen knows);
-      said = λ unseen. ap (λ events. (replay unseen events).steps) w.in-Err.ensures.noted ∙ c.loop.invariant.said unseen
-      ∙ ap (λ n. saying (take n c.args.line.now) (replay unseen (g.C.Calls.events c.args.calls.now)).steps) (sym w.done-is);
-    }
+    within = omega arith;
+    told = λ unseen honest. c.loop.invariant.told unseen (honest_same unseen w.in-Err.ensures.noted honest);
+    known = λ unseen knows.
+        known_same unseen c.loop.known c.match-print_some.known (g.C.Calls.events c.loop.calls) (g.C.Calls.events c.print_some.new.self)
+        w.in-Err.ensures.noted w.known-is (c.loop.invariant.known unseen knows);
+    said = λ unseen. ap (λ events. (replay unseen events).steps) w.in-Err.ensures.noted ∙ c.loop.invariant.said unseen
+        ∙ ap (λ n. saying (take n c.args.line.now) (replay unseen (g.C.Calls.events c.args.calls.now)).steps) (sym w.done-is);
+  }
 ]

@@ -17,20 +17,20 @@ returns-in-Err-2-clause-told g c unseen honest = c.loop.invariant.told unseen (h
 pub loop-preserved : goal.loop-preserved
 loop-preserved g c = elim c.match-read_some.branch [
   | in-Ok w ↦ record {
-      within = omega (arith, w.in-Ok.ensures.count);
-      told = λ unseen honest. c.loop.invariant.told unseen (honest_more unseen w.in-Ok.ensures.noted honest);
-      still = λ unseen. ap (replay unseen) w.in-Ok.ensures.noted ∙ c.loop.invariant.still unseen;
-      reading = λ unseen honest.
-      reading_more c.args.file c.args.at (length c.loop.out) c.loop.done w.in-Ok.count c.match-read_some.done c.read_some.new.out unseen
-      (g.C.Calls.events c.args.calls.now) (g.C.Calls.events c.loop.calls) (g.C.Calls.events c.read_some.new.self)
-      w.done-is (omega (arith, w.in-Ok.ensures.count)) c.loop.invariant.still w.in-Ok.ensures.noted honest;
-    }
+    within = omega (arith, w.in-Ok.ensures.count);
+    told = λ unseen honest. c.loop.invariant.told unseen (honest_more unseen w.in-Ok.ensures.noted honest);
+    still = λ unseen. ap (replay unseen) w.in-Ok.ensures.noted ∙ c.loop.invariant.still unseen;
+    reading = λ unseen honest.
+        reading_more c.args.file c.args.at (length c.loop.out) c.loop.done w.in-Ok.count c.match-read_some.done c.read_some.new.out unseen
+        (g.C.Calls.events c.args.calls.now) (g.C.Calls.events c.loop.calls) (g.C.Calls.events c.read_some.new.self)
+        w.done-is (omega (arith, w.in-Ok.ensures.count)) c.loop.invariant.still w.in-Ok.ensures.noted honest;
+  }
   | in-Err w ↦ record {
-      within = omega arith;
-      told = λ unseen honest. c.loop.invariant.told unseen (honest_same unseen w.in-Err.ensures.noted honest);
-      still = λ unseen. ap (replay unseen) w.in-Err.ensures.noted ∙ c.loop.invariant.still unseen;
-      reading = λ unseen honest.
-      reading_kept (content_of c.args.file (replay unseen (g.C.Calls.events c.args.calls.now)).steps) c.args.at c.loop.done c.match-read_some.done c.loop.out c.read_some.new.out
-      w.done-is w.in-Err.ensures.front (c.loop.invariant.reading unseen (honest_same unseen w.in-Err.ensures.noted honest));
-    }
+    within = omega arith;
+    told = λ unseen honest. c.loop.invariant.told unseen (honest_same unseen w.in-Err.ensures.noted honest);
+    still = λ unseen. ap (replay unseen) w.in-Err.ensures.noted ∙ c.loop.invariant.still unseen;
+    reading = λ unseen honest.
+        reading_kept (content_of c.args.file (replay unseen (g.C.Calls.events c.args.calls.now)).steps) c.args.at c.loop.done c.match-read_some.done c.loop.out c.read_some.new.out
+        w.done-is w.in-Err.ensures.front (c.loop.invariant.reading unseen (honest_same unseen w.in-Err.ensures.noted honest));
+  }
 ]

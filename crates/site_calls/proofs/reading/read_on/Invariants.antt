@@ -1,4 +1,4 @@
-use Rattle.std.proofs.Common.{◌≡◌, ◌≤◌, length}
+use Rattle.std.proofs.Common.{◌≤◌, length}
 use Rattle.site_model.specs.History.{content_of}
 use Rattle.site_calls.specs.Events.{Unseen, replay, IsHonest}
 use Rattle.site_calls.specs.Runs.{StaysHonest, StandsStill}

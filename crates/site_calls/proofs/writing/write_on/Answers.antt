@@ -1,4 +1,4 @@
-use Rattle.std.proofs.Common.{length, arith, ◌∙◌}
+use Rattle.std.proofs.Common.{arith}
 use Rattle.std.proofs.lemmas.Result.{MatchResult-at_ok}
 use Rattle.site_calls.specs.Events.{replay}
 use Rattle.site_calls.proofs.Events.{honest_more}
@@ -16,17 +16,17 @@ returns-in-Err-2-clause-told g c unseen honest = c.loop.invariant.told unseen (h
 pub loop-preserved : goal.loop-preserved
 loop-preserved g c = elim c.match-write_some.branch [
   | in-Ok w ↦ record {
-      within = omega (arith, w.in-Ok.ensures.count);
-      told = λ unseen honest. c.loop.invariant.told unseen (honest_more unseen w.in-Ok.ensures.noted honest);
-      writing = λ unseen.
-      writing_put c.args.file c.args.at c.loop.done w.in-Ok.count c.match-write_some.done c.args.bytes.now unseen (replay unseen (g.C.Calls.events c.args.calls.now))
-      (g.C.Calls.events c.loop.calls) (g.C.Calls.events c.write_some.new.self) w.done-is w.in-Ok.ensures.count w.in-Ok.ensures.noted (c.loop.invariant.writing unseen);
-    }
+    within = omega (arith, w.in-Ok.ensures.count);
+    told = λ unseen honest. c.loop.invariant.told unseen (honest_more unseen w.in-Ok.ensures.noted honest);
+    writing = λ unseen.
+        writing_put c.args.file c.args.at c.loop.done w.in-Ok.count c.match-write_some.done c.args.bytes.now unseen (replay unseen (g.C.Calls.events c.args.calls.now))
+        (g.C.Calls.events c.loop.calls) (g.C.Calls.events c.write_some.new.self) w.done-is w.in-Ok.ensures.count w.in-Ok.ensures.noted (c.loop.invariant.writing unseen);
+  }
   | in-Err w ↦ record {
-      within = omega arith;
-      told = λ unseen honest. c.loop.invariant.told unseen (honest_more unseen w.in-Err.ensures.noted honest);
-      writing = λ unseen.
-      writing_lost c.args.file c.args.at c.loop.done c.match-write_some.done c.args.bytes.now unseen (replay unseen (g.C.Calls.events c.args.calls.now))
-      (g.C.Calls.events c.loop.calls) (g.C.Calls.events c.write_some.new.self) w.done-is c.loop.invariant.within w.in-Err.ensures.noted (c.loop.invariant.writing unseen);
-    }
+    within = omega arith;
+    told = λ unseen honest. c.loop.invariant.told unseen (honest_more unseen w.in-Err.ensures.noted honest);
+    writing = λ unseen.
+        writing_lost c.args.file c.args.at c.loop.done c.match-write_some.done c.args.bytes.now unseen (replay unseen (g.C.Calls.events c.args.calls.now))
+        (g.C.Calls.events c.loop.calls) (g.C.Calls.events c.write_some.new.self) w.done-is c.loop.invariant.within w.in-Err.ensures.noted (c.loop.invariant.writing unseen);
+  }
 ]

@@ -1,4 +1,4 @@
-use Rattle.std.proofs.Common.{◌≡◌, ◌≤◌, length}
+use Rattle.std.proofs.Common.{◌≤◌, length}
 use Rattle.site_calls.specs.Events.{Unseen, replay}
 use Rattle.site_calls.specs.Runs.{StaysHonest}
 use Rattle.site_calls.proofs.WriteInParts.{IsWriting}

@@ -1,4 +1,4 @@
-use Rattle.std.proofs.Common.{length, arith, ap, sym, subst}
+use Rattle.std.proofs.Common.{sym, subst}
 use Rattle.site_calls.specs.Known.{Knows}
 use Rattle.site_calls.proofs.Inside.{AllInside}
 use Rattle.site_calls.proofs.Tells.{told_still, ok_through}

@@ -1,4 +1,3 @@
-use Rattle.site_calls.specs.Events.{Tells, replay}
 use Rattle.site_calls.proofs.Tells.{told_before, says_longer, says_inside_still}
 use Rattle.site_calls.proofs.site.CalledSiteSite.say.Goals as goal
 
@@ -10,8 +9,8 @@ invariant_of-self g c =
     record {
       knows = c.print_line-outcome.ensures.known unseen site.knows;
       inside = λ tells.
-      let before = told_before unseen _ _ (c.print_line-outcome.ensures.told unseen) (says_longer _ _ _ c.args.line.now done) tells in
-      says_inside_still _ _ _ c.args.line.now done (site.inside before);
+          let before = told_before unseen _ _ (c.print_line-outcome.ensures.told unseen) (says_longer _ _ _ c.args.line.now done) tells in
+          says_inside_still _ _ _ c.args.line.now done (site.inside before);
     }
 
 pub returns-clause-told : goal.returns-clause-told

@@ -1,4 +1,3 @@
-use Rattle.site_calls.specs.Events.{Tells, replay}
 use Rattle.site_calls.proofs.Tells.{told_before, syncs_longer, syncs_inside_still}
 use Rattle.site_calls.proofs.site.CalledSiteSite.sync.Goals as goal
 
@@ -10,8 +9,8 @@ invariant_of-self g c =
     record {
       knows = c.sync_file-outcome.ensures.known unseen site.knows;
       inside = λ tells.
-      let before = told_before unseen _ _ (c.sync_file-outcome.ensures.told unseen) (syncs_longer _ _ _ c.args.file done) tells in
-      syncs_inside_still _ _ _ c.args.file done (site.inside before);
+          let before = told_before unseen _ _ (c.sync_file-outcome.ensures.told unseen) (syncs_longer _ _ _ c.args.file done) tells in
+          syncs_inside_still _ _ _ c.args.file done (site.inside before);
     }
 
 pub returns-clause-told : goal.returns-clause-told

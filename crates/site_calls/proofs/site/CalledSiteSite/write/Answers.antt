@@ -1,4 +1,3 @@
-use Rattle.site_calls.specs.Events.{Tells, replay}
 use Rattle.site_calls.proofs.Tells.{told_before, writes_longer, writes_inside_still}
 use Rattle.site_calls.proofs.site.CalledSiteSite.write.Goals as goal
 
@@ -10,8 +9,8 @@ invariant_of-self g c =
     record {
       knows = c.write_file-outcome.ensures.known unseen site.knows;
       inside = λ tells.
-      let before = told_before unseen _ _ (c.write_file-outcome.ensures.told unseen) (writes_longer _ _ _ c.args.file c.args.at c.args.bytes.now done) tells in
-      writes_inside_still _ _ _ c.args.file c.args.at c.args.bytes.now done (c.requires before) (site.inside before);
+          let before = told_before unseen _ _ (c.write_file-outcome.ensures.told unseen) (writes_longer _ _ _ c.args.file c.args.at c.args.bytes.now done) tells in
+          writes_inside_still _ _ _ c.args.file c.args.at c.args.bytes.now done (c.requires before) (site.inside before);
     }
 
 pub returns-clause-told : goal.returns-clause-told
