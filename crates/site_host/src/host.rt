@@ -1,15 +1,16 @@
-//! Each method makes one call of the system, and then notes it with its answer.
+// Each method makes its call of the system, and then notes it with its answer.
 ghost use Rattle.std.specs.Prelude.{◌≡◌, [], IfOk};
 ghost use Rattle.site_host.specs.Host.{events_of};
 
 use crate::directory::Directory;
 use crate::reason::Reason;
 use crate::record::Record;
-use site_calls::{Calls, FileName};
+use site_calls::Calls;
 use std::alloc::{AllocError, Global};
 use std::fs::File;
 use std::io;
 use std::io::ErrorKind;
+use std::os::unix::fs::FileExt;
 use std::rt::Files;
 
 // The kinds of notes, as `event_of` reads them.
@@ -35,11 +36,10 @@ const ABSENT: u64 = 9;
 
 const PRINTED: u64 = 10;
 
-/// The files of a directory, and standard output.
+/// The files of a directory, which is locked for the life of this value, and standard output.
 #[derive(Drop)]
 pub struct Host<R> {
-    rt: R,
-    directory: Directory,
+    directory: Directory<R>,
     record: Record,
 }
 
@@ -51,25 +51,14 @@ impl<R> Host<R> {
         ensures { IfOk result (λ host. events_of host ≡ []) }
     {
         Ok(Host {
-            rt,
-            directory: Directory::new(alloc, directory)?,
+            directory: Directory::new(rt, alloc, directory)?,
             record: Record::new(),
         })
     }
 
-    /// Why the last search or making of a file failed, where its error doesn't tell it.
+    /// Why the last call failed, where the system's error doesn't tell it.
     pub fn reason(&self) -> Option<Reason> {
-        self.directory.reason()
-    }
-
-    /// Whether the directory was there.
-    pub fn has_directory(&self) -> bool {
-        self.directory.is_open()
-    }
-
-    /// Whether this file was found or made.
-    pub fn has(&self, name: FileName) -> bool {
-        self.directory.has(name)
+        self.directory.reason
     }
 }
 
@@ -77,42 +66,34 @@ impl<R: Files<File = File> + Print> Calls for Host<R> {
     ghost events = { λ host. events_of host };
 
     fn find(&mut self, file: u32) -> io::Result<bool> {
-        let answer = self.directory.find(&self.rt, file);
-        match answer {
-            Ok(true) => self.record.note(&[FOUND, file as u64, 1], &[]),
-            Ok(false) => self.record.note(&[FOUND, file as u64, 0], &[]),
-            Err(_) => {}
-        }
-        answer
+        let is_there = self.directory.find(file)?;
+        self.record
+            .note(&[FOUND, file as u64, u64::from(is_there)], &[]);
+        Ok(is_there)
     }
 
     fn make(&mut self, file: u32) -> io::Result<()> {
-        let answer = self.directory.make(&self.rt, file);
-        if answer.is_ok() {
-            self.record.note(&[MADE, file as u64], &[]);
-        }
-        answer
+        self.directory.make(file)?;
+        self.record.note(&[MADE, file as u64], &[]);
+        Ok(())
     }
 
     fn measure(&mut self, file: u32) -> io::Result<u64> {
-        let answer = self.directory.size(file);
-        if let Ok(size) = answer {
-            self.record.note(&[MEASURED, file as u64, size], &[]);
-        }
-        answer
+        let size = self.directory.file(file)?.file.metadata()?.len();
+        self.record.note(&[MEASURED, file as u64, size], &[]);
+        Ok(size)
     }
 
     fn read_some(&mut self, file: u32, at: u64, done: usize, out: &mut [u8]) -> io::Result<usize> {
-        let offset = at.saturating_add(done as u64);
-        let answer = self.directory.read(file, offset, &mut out[done..]);
-        if let Ok(count) = answer {
-            let want = out.len() as u64;
-            self.record.note(
-                &[GOT, file as u64, at, want, count as u64],
-                &out[..done + count],
-            );
-        }
-        answer
+        let from = at.saturating_add(done as u64);
+        let count = self
+            .directory
+            .file(file)?
+            .file
+            .read_at(&mut out[done..], from)?;
+        let numbers = [GOT, file as u64, at, out.len() as u64, count as u64];
+        self.record.note(&numbers, &out[..done + count]);
+        Ok(count)
     }
 
     fn begin_write(&mut self, file: u32, at: u64, size: usize) {
@@ -121,8 +102,8 @@ impl<R: Files<File = File> + Print> Calls for Host<R> {
     }
 
     fn write_some(&mut self, file: u32, at: u64, done: usize, bytes: &[u8]) -> io::Result<usize> {
-        let offset = at.saturating_add(done as u64);
-        let answer = self.directory.write(file, offset, &bytes[done..]);
+        let from = at.saturating_add(done as u64);
+        let answer = self.directory.write(file, from, &bytes[done..]);
         match answer {
             Ok(count) => self.record.note(&[PUT], &bytes[..done + count]),
             Err(_) => self.record.note(&[LOST], &bytes[..done]),
@@ -132,19 +113,14 @@ impl<R: Files<File = File> + Print> Calls for Host<R> {
 
     fn flush(&mut self, file: u32) -> io::Result<()> {
         let answer = self.directory.sync(file);
-        match answer {
-            Ok(()) => self.record.note(&[FLUSHED, file as u64, 1], &[]),
-            Err(_) => self.record.note(&[FLUSHED, file as u64, 0], &[]),
-        }
+        self.record
+            .note(&[FLUSHED, file as u64, u64::from(answer.is_ok())], &[]);
         answer
     }
 
     fn flush_names(&mut self) -> io::Result<()> {
         let answer = self.directory.sync_names();
-        match answer {
-            Ok(()) => self.record.note(&[NAMED, 1], &[]),
-            Err(_) => self.record.note(&[NAMED, 0], &[]),
-        }
+        self.record.note(&[NAMED, u64::from(answer.is_ok())], &[]);
         answer
     }
 
@@ -153,13 +129,8 @@ impl<R: Files<File = File> + Print> Calls for Host<R> {
     }
 
     fn print_some(&mut self, done: usize, line: &[u8]) -> io::Result<usize> {
-        let answer = match self.rt.write_some(&line[done..]) {
-            Ok(0) => Err(io::Error::from(ErrorKind::WriteZero)),
-            answer => answer,
-        };
-        if let Ok(count) = answer {
-            self.record.note(&[PRINTED], &line[done..done + count]);
-        }
-        answer
+        let count = self.directory.rt.write_some(&line[done..])?;
+        self.record.note(&[PRINTED], &line[done..done + count]);
+        Ok(count)
     }
 }
