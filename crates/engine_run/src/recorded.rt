@@ -19,6 +19,7 @@ use crate::ended::Ended;
 use crate::top::run;
 use activity_table::Activities;
 use dura_value::Text;
+use input_reader::Cause;
 use site_calls::{CalledSite, Calls, Start};
 use site_model::Clock;
 use std::alloc::Global;
