@@ -1,5 +1,5 @@
 -- A read, as far as its calls have come.
-use Rattle.std.proofs.Common.{◌≡◌, ℕ, ◌+◌, ◌-◌, ◌≤◌, List, ◌∷◌, length, take, drop, sym, refl, ◌∙◌, ap, subst, arith, length-take, length-drop}
+use Rattle.std.proofs.Common.{◌≡◌, ℕ, ◌+◌, ◌-◌, ◌≤◌, List, ◌∷◌, length, take, drop, sym, ◌∙◌, ap, subst, arith, length-take, length-drop}
 use Rattle.site_model.specs.History.{content_of}
 use Rattle.site_calls.specs.Events.{Event, Unseen, got, replay, IsHonest, Agrees}
 use Rattle.site_calls.specs.Runs.{StandsStill}
@@ -8,9 +8,6 @@ use Rattle.site_calls.specs.Runs.{StandsStill}
 pub record IsReading (content : List ℕ) (at done : ℕ) (out : List ℕ) : Type 0 where
   pub within : done ≤ length content - at
   pub front : take done out ≡ take done (drop at content)
-
-pub reading_begins : (content : List ℕ) (at : ℕ) (out : List ℕ) → IsReading content at 0 out
-reading_begins content at out = record { within = omega arith; front = refl }
 
 -- what an honest answer says
 agrees_is : (content : List ℕ) (at done : ℕ) (out : List ℕ) → done ≤ length out

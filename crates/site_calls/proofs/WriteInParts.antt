@@ -1,8 +1,8 @@
 -- A write, as far as its calls have come.
-use Rattle.std.proofs.Common.{◌≡◌, ℕ, ◌+◌, ◌≤◌, List, ◌∷◌, ◌++◌, [], length, take, drop, sym, refl, ◌∙◌, ap, subst, arith, length-append, length-take, length-drop}
-use Rattle.std.proofs.lemmas.List.{take-take, take_at, take_all}
+use Rattle.std.proofs.Common.{◌≡◌, ℕ, ◌+◌, ◌≤◌, List, ◌∷◌, ◌++◌, length, take, drop, sym, ◌∙◌, ap, subst, arith, length-append, length-take, length-drop}
+use Rattle.std.proofs.lemmas.List.{take-take, take_at}
 use Rattle.site_model.specs.History.{on, wrote}
-use Rattle.site_calls.specs.Events.{Event, Unseen, Standing, begun, put, lost, after, replay}
+use Rattle.site_calls.specs.Events.{Event, Unseen, Standing, put, lost, after, replay}
 use Rattle.site_calls.specs.Runs.{stepped}
 
 -- the newest step is the write, of which these bytes are known, and the first ones are those that were asked for
@@ -23,15 +23,6 @@ put_front count bytes rest within = take_at (take count bytes) rest count (omega
 
 lost_front : (count : ℕ) (bytes rest : List ℕ) → count ≤ length bytes → take count (take (length bytes) (take count bytes ++ rest)) ≡ take count bytes
 lost_front count bytes rest within = take-take count (length bytes) (take count bytes ++ rest) within ∙ put_front count bytes rest within
-
-pub writing_begins : (file at : ℕ) (bytes : List ℕ) (unseen : Unseen) (old new : List Event) → new ≡ begun file at (length bytes) ∷ old
-    → IsWriting file at bytes 0 (replay unseen old) (replay unseen new)
-writing_begins file at bytes unseen old new is = record {
-  known = [];
-  no_longer = omega arith;
-  front = refl;
-  step = ap (replay unseen) is;
-}
 
 pub writing_put : (file at done count next : ℕ) (bytes : List ℕ) (unseen : Unseen) (start : Standing) (old new : List Event) → next ≡ done + count → done + count ≤ length bytes
     → new ≡ put (take (done + count) bytes) ∷ old
@@ -57,8 +48,3 @@ writing_lost file at done next bytes unseen start old new same within is writing
       front = lost_front done bytes (drop (length (take done bytes)) left) within;
       step = ap (replay unseen) is ∙ ap (after left (lost (take done bytes))) writing.step;
     })
-
--- all bytes are written
-pub writing_ends : (known bytes : List ℕ) (done : ℕ) → done ≡ length bytes → length known ≤ length bytes → take done known ≡ take done bytes → known ≡ bytes
-writing_ends known bytes done all short front =
-    sym (take_all done known (omega arith)) ∙ front ∙ take_all done bytes (omega arith)

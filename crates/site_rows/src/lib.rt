@@ -1,6 +1,15 @@
-//! Tests of `site_memory` and `site_files`.
+//! Tests of `site_memory`, of the site over calls and of the real directory.
+//!
+//! - `ledger`: whether answers agree with the calls before them, as code. It is no test, since `specs/` names its types.
+//! - `scripted`: calls on a file in memory, for the tests of the site over calls.
 #![tactic(auto)]
 
+mod ledger;
+
+pub use ledger::{Entry, FILE, Ledger, Replayed, Writing};
+
+#[cfg(test)]
+mod called_tests;
 #[cfg(test)]
 mod checks;
 #[cfg(test)]
@@ -9,3 +18,5 @@ mod clock_tests;
 mod file_tests;
 #[cfg(test)]
 mod memory_tests;
+#[cfg(test)]
+mod scripted;
