@@ -1,10 +1,8 @@
-//! Tests of `site_memory` and `site_files`.
+//! Tests of the sites: in memory, over recorded calls, and over a real directory.
 #![tactic(auto)]
 
 #[cfg(test)]
 mod checks;
-#[cfg(test)]
-mod clock_tests;
 #[cfg(test)]
 mod file_tests;
 #[cfg(test)]
