@@ -1,7 +1,10 @@
 // What a site can know of how things stand.
-ghost use Rattle.std.specs.Prelude.{◌≡◌, ◌+◌, ◌-◌, ◌^◌, min, []};
+ghost use Rattle.std.specs.Prelude.{◌≡◌, ◌+◌, ◌-◌, ◌^◌, min, [], true};
 ghost use Rattle.site_calls.specs.Events.{Unseen, replay};
 ghost use Rattle.site_calls.specs.Known.{Knows};
+
+use crate::fault::{Fault, FaultPlace};
+use std::io;
 
 /// How many steps there are before the first call, whatever the files held.
 const STEPS_BEFORE: u64 = 288;
@@ -31,5 +34,13 @@ impl Known {
         ensures { self.new ≡ record self.old { moment = min (self.old.moment + count) (2 ^ 64 - 1) } }
     {
         self.moment = self.moment.saturating_add(count);
+    }
+    /// The fault of a call that was to make safe, after which no later one is believed.
+    pub(crate) fn broken_by(&mut self, place: FaultPlace, error: io::Error) -> Fault
+        ensures broken { self.new ≡ record self.old { is_broken = true } }
+        ensures fault { (result.place ≡ place) × (result.error ≡ error) }
+    {
+        self.is_broken = true;
+        Fault { place, error }
     }
 }

@@ -64,13 +64,7 @@ fn secure_names<C: Calls>(calls: &mut C, known: &mut Known) -> Result<(), Fault>
             known.is_loose = false;
             Ok(())
         }
-        Err(error) => {
-            known.is_broken = true;
-            Err(Fault {
-                place: FaultPlace::Names,
-                error,
-            })
-        }
+        Err(error) => Err(known.broken_by(FaultPlace::Names, error)),
     }
 }
 
@@ -87,12 +81,6 @@ fn flush_file<C: Calls>(calls: &mut C, known: &mut Known, file: u32) -> Result<(
             known.count_steps(1);
             Ok(())
         }
-        Err(error) => {
-            known.is_broken = true;
-            Err(Fault {
-                place: FaultPlace::File(file),
-                error,
-            })
-        }
+        Err(error) => Err(known.broken_by(FaultPlace::File(file), error)),
     }
 }
