@@ -7,4 +7,5 @@ use Rattle.netherite_cli.proofs.call.words_of.Given as goal
 abbrev pub invariant-loop-argument : goal.invariant-loop-argument
 invariant-loop-argument l = record {
   same : l.words.items ≡ map string_bytes (take l.argument-index l.arguments);
-  texts : All IsText l.words.items }
+  texts : All IsText l.words.items;
+}
