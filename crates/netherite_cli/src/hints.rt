@@ -2,29 +2,31 @@
 // written, the status alone tells the cause.
 use commit_log::read_log;
 use input_reader::{Cause, read_input};
-use site_calls::{CalledSite, Fault, FaultPlace, FileName, Start};
-use site_host::{Host, Reason};
+use site_calls::{Fault, FaultPlace, FileName};
+use site_host::Reason;
+use site_model::Site;
 use std::{fmt, fs};
-
-type Outside<S> = CalledSite<Host<HostRuntime>, S>;
 
 /// Tells which words are understood.
 pub(crate) fn hint_command(rt: &impl Eprint) {
     let _ = eprintln!(rt; "  netherite DIRECTORY run --partitions 1");
 }
 
-/// Tells more of a cause than its text does.
-pub(crate) fn hint_cause<S: Start>(
+/// Tells more of a cause than its text does: of a fault what failed and why, and of what is wrong with a file what the
+/// files say.
+pub(crate) fn hint_cause<V: Site + Drop>(
     rt: &HostRuntime,
     directory: &str,
     cause: Cause,
-    site: &mut Outside<S>,
+    fault: Option<Fault>,
+    reason: Option<Reason>,
+    site: V,
 ) {
     match cause {
         Cause::BadFlows { .. } => hint_absent(rt, directory, FileName::Flows),
         Cause::BadRequests { .. } => hint_absent(rt, directory, FileName::Requests),
         Cause::BadPlan { .. } => hint_absent(rt, directory, FileName::Plan),
-        Cause::SiteFault | Cause::SayFault => hint_fault(rt, directory, site),
+        Cause::SiteFault | Cause::SayFault => hint_fault(rt, directory, fault, reason),
         Cause::Damaged { file, .. } => hint_damage(rt, file, site),
         Cause::Done | Cause::Usage | Cause::TooLong { .. } | Cause::Memory => {}
     }
@@ -49,11 +51,11 @@ fn is_absent(rt: &HostRuntime, path: &str) -> bool {
 }
 
 // Tells what failed, and why.
-fn hint_fault<S: Start>(rt: &HostRuntime, directory: &str, site: &Outside<S>) {
-    let Some(Fault { place, error }) = site.fault() else {
+fn hint_fault(rt: &HostRuntime, directory: &str, fault: Option<Fault>, reason: Option<Reason>) {
+    let Some(Fault { place, error }) = fault else {
         return;
     };
-    let _ = match site.calls().reason() {
+    let _ = match reason {
         None => eprintln!(rt; "  {}: {error}", PlaceName(place)),
         Some(Reason::NullDevice) => eprintln!(rt; "  {}: {error}", Reason::NullDevice),
         Some(Reason::Directory) => eprintln!(rt; "  the directory {directory}: {error}"),
@@ -63,7 +65,7 @@ fn hint_fault<S: Start>(rt: &HostRuntime, directory: &str, site: &Outside<S>) {
 }
 
 // Tells whether a log that can't be gone on with was begun with other flows.
-fn hint_damage<S: Start>(rt: &HostRuntime, file: u32, site: &mut Outside<S>) {
+fn hint_damage<V: Site + Drop>(rt: &HostRuntime, file: u32, site: V) {
     let name = PlaceName(FaultPlace::File(file));
     let _ = if has_other_flows(rt, file, site) {
         eprintln!(rt; "  flows.json isn't the one that {name} was begun with")
@@ -72,11 +74,11 @@ fn hint_damage<S: Start>(rt: &HostRuntime, file: u32, site: &mut Outside<S>) {
     };
 }
 
-fn has_other_flows<S: Start>(rt: &HostRuntime, file: u32, site: &mut Outside<S>) -> bool {
-    let Ok(input) = read_input(rt.alloc(), site) else {
+fn has_other_flows<V: Site + Drop>(rt: &HostRuntime, file: u32, mut site: V) -> bool {
+    let Ok(input) = read_input(rt.alloc(), &mut site) else {
         return false;
     };
-    let Ok(opened) = read_log(rt.alloc(), site, file) else {
+    let Ok(opened) = read_log(rt.alloc(), &mut site, file) else {
         return false;
     };
     opened.header.digest != input.digest

@@ -45,9 +45,18 @@ fn serve<T: Threads + Wait + Sync, S: Start + Send>(
     };
     let site = CalledSite::new(host, start);
     let clock = WallClock::new(rt);
-    let mut ended = run_recorded(threads, alloc, &call.words, site, clock, &Table);
+    let ended = run_recorded(threads, alloc, &call.words, site, clock, &Table);
+    let fault = ended.site.fault();
+    let reason = ended.site.calls().reason();
     let status = end(&rt, ended.cause);
-    hint_cause(&rt, call.directory.as_str(), ended.cause, &mut ended.site);
+    hint_cause(
+        &rt,
+        call.directory.as_str(),
+        ended.cause,
+        fault,
+        reason,
+        ended.site,
+    );
     status
 }
 
