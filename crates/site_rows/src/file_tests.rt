@@ -89,7 +89,7 @@ fn check_kept(rt: &impl Abort, site: &mut Disk) {
     check_read(rt, site, 17, 2, b"therrae");
     check_read(rt, site, 17, 9, b"");
     check_read(rt, site, 17, 100, b"");
-    check_length(rt, site, 16, 0);
+    check_same(rt, site.length(16).expect(rt, "a length"), 0);
 }
 
 fn first_site(rt: &impl Abort, host: &HostRuntime, path: &str) {
@@ -163,6 +163,7 @@ fn check_inputs(rt: &impl Abort, site: &mut Disk) {
     check_read(rt, site, 0, 0, b"flows");
     check_read(rt, site, 1, 0, b"requests");
     check_read(rt, site, 2, 0, b"plan");
+    site.sync(2).expect(rt, "a sync");
 }
 
 /// No input is written or made.
@@ -180,7 +181,7 @@ fn check_directory_of_inputs(rt: &impl Abort, host: &HostRuntime, path: &str) {
     check_inputs(rt, &mut site);
     check_read_only(rt, &mut site);
     check_inputs(rt, &mut site);
-    check_faults(rt, &site, 6);
+    check_same(rt, site.disk_faults(), 6);
 }
 
 #[test]
@@ -219,6 +220,7 @@ fn refuses_one_file_under_two_names(rt: HostRuntime) {
 fn check_second(rt: &impl Abort, host: &HostRuntime, path: &str) {
     let mut site = open(rt, host, path);
     check_refused(rt, &mut site, 16, Reason::Locked);
+    check_same(rt, site.disk_faults(), 3);
 }
 
 /// While one run holds the directory another fails.
@@ -232,6 +234,7 @@ fn check_lock(rt: &impl Abort, host: &HostRuntime, path: &str) {
 fn check_after_lock(rt: &impl Abort, host: &HostRuntime, path: &str) {
     let mut site = open(rt, host, path);
     check_read(rt, &mut site, 16, 0, b"held");
+    check_same(rt, site.disk_faults(), 0);
 }
 
 #[test]
@@ -300,7 +303,7 @@ fn check_all_faults(rt: &impl Abort, host: &HostRuntime, path: &str) {
     check_other_kind(rt, host, &mut site, path);
     remove(rt, host, path);
     check_gone(rt, &mut site);
-    check_faults(rt, &site, 20);
+    check_same(rt, site.disk_faults(), 20);
 }
 
 #[test]
