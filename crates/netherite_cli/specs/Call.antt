@@ -1,5 +1,5 @@
 -- What the arguments of the program spell.
-use Rattle.std.specs.Prelude.{◌≡◌, List, [], ◌∷◌, map, string_bytes}
+use Rattle.std.specs.Prelude.{◌≡◌, List, ◌∷◌, map, string_bytes}
 use Rattle.std.specs.List.{All}
 use Rattle.std.specs.declared.string.String.{String}
 use Rattle.dura_value.specs.Text.{IsText}
