@@ -178,13 +178,12 @@ impl<R: Files<File = File>> Directory<R> {
             Err(error) if error.kind() == ErrorKind::NotFound => return Ok(false),
             Err(error) => return Err(self.because(Reason::Directory, error)),
         };
-        match folder.try_lock() {
-            Ok(()) => {}
-            Err(TryLockError::WouldBlock) => {
-                let error = io::Error::from(ErrorKind::WouldBlock);
-                return Err(self.because(Reason::Locked, error));
-            }
-            Err(TryLockError::Error(error)) => return Err(self.because(Reason::Directory, error)),
+        if let Err(refused) = folder.try_lock() {
+            let reason = match refused {
+                TryLockError::WouldBlock => Reason::Locked,
+                TryLockError::Error(_) => Reason::Directory,
+            };
+            return Err(self.because(reason, io::Error::from(refused)));
         }
         self.folder = Some(folder);
         Ok(true)

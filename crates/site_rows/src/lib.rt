@@ -1,4 +1,4 @@
-//! Tests of `site_memory`, of the site over calls and of the real directory.
+//! Tests of the sites: in memory, over recorded calls, and over a real directory.
 //!
 //! - `ledger`: whether answers agree with the calls before them, as code. It is no test, since `specs/` names its types.
 //! - `scripted`: calls on a file in memory, for the tests of the site over calls.
@@ -12,8 +12,6 @@ pub use ledger::{Entry, FILE, Ledger, Replayed, Writing};
 mod called_tests;
 #[cfg(test)]
 mod checks;
-#[cfg(test)]
-mod clock_tests;
 #[cfg(test)]
 mod file_tests;
 #[cfg(test)]

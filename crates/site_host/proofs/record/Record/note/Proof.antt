@@ -5,7 +5,7 @@ use base.Logic.{id⊢}
 use base.Fml.{ftrue, flft}
 use mir.Syntax.{named}
 use mir.Val.{vunit}
-use types.Kit.{‵, ◌⊛◌, ◌$◌, ◌∵◌, !, qed, done, move, keep, drop, use1, split, join, fsplit, fsplit3, fjoin, feq_i, suffices, frame, group}
+use types.Kit.{‵, ◌⊛◌, ◌$◌, ◌∵◌, !, qed, done, move, keep, use1, split, join, fsplit3, feq_i, suffices, frame, group}
 use types.Run.{unit_lit, of_opd, returns, enter}
 use types.ByLocal.{alloc_all, pass_all, free_all, look_at, sets}
 use denote.Builtin.{u8, u64}
@@ -13,7 +13,7 @@ use denote.Exit.{yes}
 use denote.Ref.{MutRef, mut_vals, mut_Tells}
 use denote.Signature.{plain}
 use denote.Slice.{ShrSlice, shr_slice_vals, shr_slice_Tells}
-use denote.Steps.{nothing, opens, closes}
+use denote.Steps.{opens, closes}
 use denote.Triple.Walked.{Stays, says, stay_ref, stay_none_slice, Goes-ref, Goes-none_slice, ends_at}
 use Rattle.site_host.specs.declared.record.Record.{Record}
 use Rattle.site_host.specs.Notes.{event_of}
