@@ -1,4 +1,6 @@
+pub mod Bytes
 pub mod Digest
 pub mod Ids
+pub mod Messages
 pub mod Names
 pub mod Text
