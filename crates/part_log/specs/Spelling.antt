@@ -11,8 +11,8 @@ use Rattle.activity_table.specs.declared.activities.Outcome.TheVariants.{Done, F
 use Rattle.dura_value.specs.Ids.{Id, orchestration, entity, client}
 use Rattle.dura_value.specs.Names.{is_name, is_key}
 use Rattle.dura_value.specs.Text.{IsText}
-use Rattle.dura_model.specs.World.{Body, start, wait, result, Reply, to_nobody, to_task, to_request, Answer, is_done, has_failed, was_started, was_there, is_unknown, is_missing}
-use Rattle.dura_model.specs.Entries.{Item, took, ran, ended}
+use Rattle.sum_model.specs.World.{Body, start, wait, result, Reply, to_nobody, to_task, to_request, Answer, is_done, has_failed, was_started, was_there, is_unknown, is_missing}
+use Rattle.sum_model.specs.Entries.{Item, took, ran, ended}
 
 -- an integer of 64 bits in two's complement
 abbrev pub int_bytes : ℤ → List ℕ

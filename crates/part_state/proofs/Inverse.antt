@@ -13,10 +13,10 @@ use Rattle.part_state.specs.declared.state.State.{State}
 use Rattle.activity_table.specs.Activities.{May, fits}
 use Rattle.part_state.specs.State.{is_there}
 use Rattle.dura_value.specs.Ids.{Id, id_eq}
-use Rattle.dura_model.specs.Machine.{Task}
-use Rattle.dura_model.specs.World.{World, Orchestration, pending_in}
-use Rattle.dura_model.specs.Steps.{take, deliver, finish, step, delivered, ran, IsWithin}
-use Rattle.dura_model.specs.Steps.{Label as Step}
+use Rattle.sum_model.specs.Machine.{Task}
+use Rattle.sum_model.specs.World.{World, Orchestration, pending_in}
+use Rattle.sum_model.specs.Steps.{take, deliver, finish, step, delivered, ran, IsWithin}
+use Rattle.sum_model.specs.Steps.{Label as Step}
 use Rattle.part_state.specs.Given.{IsGiven}
 use Rattle.part_state.specs.Meaning.{flows_of, label_of, the_client, the_instance, sum_in, world_of, instance_of, inbox_of, outbox_of, IsOwn}
 use Rattle.dura_value.proofs.Ids.{id_same, both_true}

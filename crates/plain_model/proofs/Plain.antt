@@ -7,11 +7,11 @@ use Rattle.dura_value.specs.declared.data.Value.{Value}
 use Rattle.dura_value.specs.declared.data.Value.TheVariants as values
 use Rattle.plain_model.specs.declared.plain_machine.PlainStatement.{PlainStatement}
 use Rattle.plain_model.specs.declared.plain_machine.PlainTask.{PlainTask}
-use Rattle.dura_model.specs.Language.{Variables, value_of, scalar_of, scalars_of, eval, eval_parts, list, ◌>>=◌}
+use Rattle.sum_model.specs.Language.{Variables, value_of, scalar_of, scalars_of, eval, eval_parts, list, ◌>>=◌}
 use Rattle.activity_table.specs.declared.activities.Outcome.{Outcome}
 use Rattle.activity_table.specs.declared.activities.Outcome.TheVariants as outcomes
-use Rattle.dura_model.specs.Language.{Statement, call, await, return}
-use Rattle.dura_model.specs.Machine.{Machine, Next, stays, goes, go, go_on, Task, next_of, awaited, called, thrown, running, done, failed, outcome_of, task_at}
+use Rattle.sum_model.specs.Language.{Statement, call, await, return}
+use Rattle.sum_model.specs.Machine.{Machine, Next, stays, goes, go, go_on, Task, next_of, awaited, called, thrown, running, done, failed, outcome_of, task_at}
 use Rattle.plain_model.specs.PlainMachine.{parts_of, is_going, can_go_on, statements_of, task_of, tasks_of}
 
 parts_given : (variables : Variables) (parts : List Scalar) → eval_parts variables (parts_of parts) ≡ Ok (map value_of parts)

@@ -2,13 +2,13 @@
 use Rattle.std.proofs.Common.{◌≡◌, List, [], ◌∷◌, ◌++◌, Option, Some, None, refl, ap, ◌∙◌}
 use Rattle.std.specs.Prelude.{option_map, map}
 use Rattle.std.specs.Option.{option_and_then}
-use Rattle.dura_model.specs.Language.{Flows}
-use Rattle.dura_model.specs.World.{World, empty}
-use Rattle.dura_model.specs.Steps.{Label, step}
-use Rattle.dura_model.specs.Legal.{Legal, begins, goes_on, after, after_from}
-use Rattle.dura_model.specs.Entries.{Item, label_in}
-use Rattle.dura_model.specs.Partition.{Partition, nothing, accepted, placed, shown}
-use Rattle.dura_model.proofs.Shows.{item_shown}
+use Rattle.sum_model.specs.Language.{Flows}
+use Rattle.sum_model.specs.World.{World, empty}
+use Rattle.sum_model.specs.Steps.{Label, step}
+use Rattle.sum_model.specs.Legal.{Legal, begins, goes_on, after, after_from}
+use Rattle.sum_model.specs.Entries.{Item, label_in}
+use Rattle.sum_model.specs.Partition.{Partition, nothing, accepted, placed, shown}
+use Rattle.sum_model.proofs.Shows.{item_shown}
 
 module _ (flows : Flows) where
   and_then_same : (w : Option World) → option_and_then (λ next. after_from flows next []) w ≡ w

@@ -3,15 +3,15 @@ use Rattle.std.proofs.Common.{◌≡◌, ℕ, zero, suc, ◌<◌, length, get_or
 use Rattle.plain_model.specs.declared.plain_messages.PlainMessage.{PlainMessage}
 use Rattle.plain_model.specs.declared.plain_world.PlainWaiting.{PlainWaiting}
 use Rattle.dura_value.specs.Ids.{Id}
-use Rattle.dura_model.specs.World.{World, Message, at_link}
-use Rattle.dura_model.specs.Partition.{nothing, first_in, link_in}
-use Rattle.dura_model.specs.Language.{Flows}
-use Rattle.dura_model.specs.Steps.{delivered, received}
+use Rattle.sum_model.specs.World.{World, Message, at_link}
+use Rattle.sum_model.specs.Partition.{nothing, first_in, link_in}
+use Rattle.sum_model.specs.Language.{Flows}
+use Rattle.sum_model.specs.Steps.{delivered, received}
 use Rattle.plain_model.specs.Plain.{message_of, messages_of}
 use Rattle.std.specs.List.{remove}
 use Rattle.std.specs.Prelude.{option_map}
 use Rattle.plain_model.specs.PlainWorld.{waiting_of, waiting_in, at_place}
-use Rattle.dura_model.proofs.Shows.{Finds, finds, link_shorter, queued_shown}
+use Rattle.sum_model.proofs.Shows.{Finds, finds, link_shorter, queued_shown}
 
 -- ---- a message joins
 

@@ -7,15 +7,15 @@ use Rattle.activity_table.specs.declared.activities.Outcome.{Outcome}
 use Rattle.plain_model.specs.declared.plain_world.PlainInstance.{PlainInstance}
 use Rattle.plain_model.specs.declared.plain_world.PlainWorld.{PlainWorld}
 use Rattle.dura_value.specs.Ids.{Id, orchestration, entity, client, id_eq}
-use Rattle.dura_model.specs.Language.{Flows}
-use Rattle.dura_model.specs.Legal.{Quiet, is_due}
-use Rattle.dura_model.specs.Machine.{Task, Progress, running, done, failed, task_at}
-use Rattle.dura_model.specs.Partition.{link_in}
+use Rattle.sum_model.specs.Language.{Flows}
+use Rattle.sum_model.specs.Legal.{Quiet, is_due}
+use Rattle.sum_model.specs.Machine.{Task, Progress, running, done, failed, task_at}
+use Rattle.sum_model.specs.Partition.{link_in}
 use Rattle.plain_model.specs.Plain.{id_of, messages_of}
 use Rattle.plain_model.specs.PlainQuiet.{is_entity, all_to_entities, none_open, resting_at, rests, all_resting, none_due, nothing_left}
 use Rattle.plain_model.specs.PlainWorld.{orchestration_of, instances_in, world_in}
-use Rattle.dura_model.specs.Steps.{delivered, to_instance}
-use Rattle.dura_model.specs.World.{World, Message, Orchestration, at_link, unfinished, open_task, pending_in}
+use Rattle.sum_model.specs.Steps.{delivered, to_instance}
+use Rattle.sum_model.specs.World.{World, Message, Orchestration, at_link, unfinished, open_task, pending_in}
 use Rattle.dura_value.proofs.Ids.{id_same, id_self, and_true, both_true}
 
 true_false : {X : Type 0} → true ≡ false → X

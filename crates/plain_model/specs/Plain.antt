@@ -12,8 +12,8 @@ use Rattle.plain_model.specs.declared.plain_messages.PlainMessage.{PlainMessage}
 use Rattle.plain_model.specs.declared.plain_messages.PlainLabel.{PlainLabel}
 use Rattle.plain_model.specs.declared.plain_messages.PlainLabel.TheVariants as labels
 use Rattle.dura_value.specs.Ids.{Id, orchestration, entity, client}
-use Rattle.dura_model.specs.World.{Message, Body, start, wait, result, Reply, to_nobody, to_task, to_request, Answer, is_done, has_failed, was_started, was_there, is_unknown, is_missing}
-use Rattle.dura_model.specs.Steps.{Label, take, deliver, finish}
+use Rattle.sum_model.specs.World.{Message, Body, start, wait, result, Reply, to_nobody, to_task, to_request, Answer, is_done, has_failed, was_started, was_there, is_unknown, is_missing}
+use Rattle.sum_model.specs.Steps.{Label, take, deliver, finish}
 
 abbrev pub id_of : PlainId → Id
 id_of (ids.Orchestration flow key) = orchestration flow key

@@ -15,8 +15,8 @@ use Rattle.plain_model.specs.declared.plain_machine.PlainNext.{PlainNext}
 use Rattle.plain_model.specs.declared.plain_machine.PlainNext.TheVariants as nexts
 use Rattle.plain_model.specs.declared.plain_machine.PlainEvent.{PlainEvent}
 use Rattle.plain_model.specs.declared.plain_machine.PlainEvent.TheVariants as events
-use Rattle.dura_model.specs.Language.{Expression, scalar, variable, list, Expressions, no_parts, part, Statement, call, await, return, Variables}
-use Rattle.dura_model.specs.Machine.{Task, Progress, running, done, failed, Machine, Event, started, finished, Next, stays, goes, outcome_of, task_at}
+use Rattle.sum_model.specs.Language.{Expression, scalar, variable, list, Expressions, no_parts, part, Statement, call, await, return, Variables}
+use Rattle.sum_model.specs.Machine.{Task, Progress, running, done, failed, Machine, Event, started, finished, Next, stays, goes, outcome_of, task_at}
 use Rattle.plain_model.specs.Plain.{id_of}
 
 -- a list of scalars, each of which stands for itself

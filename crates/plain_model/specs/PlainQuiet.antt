@@ -3,10 +3,10 @@ use Rattle.std.specs.Prelude.{List, [], ◌∷◌, Bool, true, false, ◌&&◌, 
 use Rattle.plain_model.specs.declared.plain_world.PlainInstance.{PlainInstance}
 use Rattle.plain_model.specs.declared.plain_world.PlainWorld.{PlainWorld}
 use Rattle.dura_value.specs.Ids.{Id, entity}
-use Rattle.dura_model.specs.Machine.{Task, Progress, running}
-use Rattle.dura_model.specs.World.{World, Message, Orchestration}
+use Rattle.sum_model.specs.Machine.{Task, Progress, running}
+use Rattle.sum_model.specs.World.{World, Message, Orchestration}
 use Rattle.plain_model.specs.Plain.{id_of, messages_of}
-use Rattle.dura_model.specs.Legal.{is_due}
+use Rattle.sum_model.specs.Legal.{is_due}
 use Rattle.plain_model.specs.PlainWorld.{instances_in, world_in}
 
 abbrev pub is_entity : Id → Bool

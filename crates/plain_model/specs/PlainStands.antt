@@ -3,8 +3,8 @@ use Rattle.std.specs.Prelude.{List, map}
 use Rattle.plain_model.specs.declared.plain_stands.PlainItem.{PlainItem}
 use Rattle.plain_model.specs.declared.plain_stands.PlainItem.TheVariants as items
 use Rattle.plain_model.specs.declared.plain_stands.PlainEntry.{PlainEntry}
-use Rattle.dura_model.specs.Entries.{Item, took, ran, ended}
-use Rattle.dura_model.specs.Entries.{Kept}
+use Rattle.sum_model.specs.Entries.{Item, took, ran, ended}
+use Rattle.sum_model.specs.Entries.{Kept}
 use Rattle.plain_model.specs.Plain.{id_of, message_of}
 
 abbrev pub item_of : PlainItem → Item

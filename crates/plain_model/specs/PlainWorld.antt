@@ -8,9 +8,9 @@ use Rattle.plain_model.specs.declared.plain_world.PlainTaken.{PlainTaken}
 use Rattle.plain_model.specs.declared.plain_world.PlainGiven.{PlainGiven}
 use Rattle.plain_model.specs.declared.plain_world.PlainWorld.{PlainWorld}
 use Rattle.dura_value.specs.Ids.{Id}
-use Rattle.dura_model.specs.Language.{Flows}
-use Rattle.dura_model.specs.World.{World, Orchestration, Message, Answer, at_id, at_number}
-use Rattle.dura_model.specs.Partition.{link_in}
+use Rattle.sum_model.specs.Language.{Flows}
+use Rattle.sum_model.specs.World.{World, Orchestration, Message, Answer, at_id, at_number}
+use Rattle.sum_model.specs.Partition.{link_in}
 use Rattle.plain_model.specs.Plain.{id_of, message_of, messages_of, answer_of}
 use Rattle.plain_model.specs.PlainMachine.{machine_of, statements_of}
 

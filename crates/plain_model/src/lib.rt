@@ -1,4 +1,4 @@
-//! The failure-free machine as a plain, slow program. Its contracts are the definitions of `dura_model`, so that tests can
+//! The failure-free machine as a plain, slow program. Its contracts are the definitions of `sum_model`, so that tests can
 //! run what the definitions say on small inputs. The engine doesn't use it.
 //!
 //! - `plain_messages`, `plain_machine` and `plain_world` are ids, labels, machines and worlds as plain data, and `plain_values`

@@ -1,9 +1,9 @@
 //! Deliveries, as plain data.
 
 ghost use Rattle.std.specs.Prelude.{◌≡◌, List, [], ◌∷◌, ◌++◌, map, option_map, IfOk, Option, Some, None};
-ghost use Rattle.dura_model.specs.Machine.{at_moment, new_machine, resume, started};
-ghost use Rattle.dura_model.specs.World.{at_number};
-ghost use Rattle.dura_model.specs.Steps.{sent, kept, answering, ending, begun, flow_of, arrived, waited, reached, to_instance, answered, to_client, received, delivered};
+ghost use Rattle.sum_model.specs.Machine.{at_moment, new_machine, resume, started};
+ghost use Rattle.sum_model.specs.World.{at_number};
+ghost use Rattle.sum_model.specs.Steps.{sent, kept, answering, ending, begun, flow_of, arrived, waited, reached, to_instance, answered, to_client, received, delivered};
 ghost use Rattle.plain_model.specs.Plain.{id_of, reply_of, body_of, answer_of};
 ghost use Rattle.plain_model.specs.PlainMachine.{statements_of, machine_of};
 ghost use Rattle.plain_model.specs.PlainWorld.{waiting_in, flows_in, world_in, if_moved};

@@ -1,8 +1,8 @@
 //! What expressions give, and what an event changes in a machine's lists.
 
 ghost use Rattle.std.specs.Prelude.{◌≡◌, ℕ, List, ◌∷◌, ◌++◌, map, codes, Some, IfOk};
-ghost use Rattle.dura_model.specs.Language.{eval, value_in, set_in};
-ghost use Rattle.dura_model.specs.Machine.{with_outcome, first_of};
+ghost use Rattle.sum_model.specs.Language.{eval, value_in, set_in};
+ghost use Rattle.sum_model.specs.Machine.{with_outcome, first_of};
 ghost use Rattle.plain_model.specs.PlainMachine.{expression_of, variables_of, task_of, tasks_of};
 
 use crate::plain_copies::{copy_task, copy_tasks, copy_variables};

@@ -2,7 +2,7 @@
 
 ghost use Rattle.std.specs.Prelude.{◌≡◌, ◌<◌, List, [], ◌∷◌, ◌++◌, length, map, option_map, IfOk, IfSome};
 ghost use Rattle.std.specs.Option.{option_and_then};
-ghost use Rattle.dura_model.specs.Partition.{first_in};
+ghost use Rattle.sum_model.specs.Partition.{first_in};
 ghost use Rattle.plain_model.specs.Plain.{id_of, message_of, messages_of};
 ghost use Rattle.plain_model.specs.PlainMachine.{statements_of};
 ghost use Rattle.plain_model.specs.PlainWorld.{orchestration_of, instances_in, taken_in, flows_in, waiting_in, at_place};

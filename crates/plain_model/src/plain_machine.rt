@@ -1,7 +1,7 @@
 //! The machine that runs one instance, as plain data.
 
 ghost use Rattle.std.specs.Prelude.{◌≡◌, true, false, ℕ, List, map, option_map, length, is_some};
-ghost use Rattle.dura_model.specs.Machine.{task_at, outcome_of, next_of, new_machine};
+ghost use Rattle.sum_model.specs.Machine.{task_at, outcome_of, next_of, new_machine};
 ghost use Rattle.plain_model.specs.PlainMachine.{task_of, tasks_of, machine_of, is_going, can_go, can_go_on, statement_of, statements_of};
 ghost use Rattle.plain_model.specs.Plain.{id_of};
 

@@ -4,7 +4,7 @@ ghost use Rattle.std.specs.Prelude.{◌≡◌, ◌&&◌, ◌==◌, ℕ, List, ma
 ghost use Rattle.std.specs.Str.{bytes_eq};
 ghost use Rattle.dura_value.specs.Ids.{id_eq};
 ghost use Rattle.plain_model.specs.Plain.{id_of, body_of, message_of};
-ghost use Rattle.dura_model.specs.Steps.{has_number, is_instance, is_number, is_request};
+ghost use Rattle.sum_model.specs.Steps.{has_number, is_instance, is_number, is_request};
 
 use crate::plain_values::copy_value;
 use activity_table::Outcome;

@@ -1,9 +1,9 @@
 //! Whether nothing is left to do in a world, as plain data.
 
 ghost use Rattle.std.specs.Prelude.{◌≡◌, ◌&&◌, Bool, true, false, List, [], ◌∷◌, ◌++◌, map, is_some, not, IfOk};
-ghost use Rattle.dura_model.specs.Language.{Flows};
-ghost use Rattle.dura_model.specs.Entries.{asked_number};
-ghost use Rattle.dura_model.specs.Legal.{Quiet, is_taken, is_answered, may_ask, is_due};
+ghost use Rattle.sum_model.specs.Language.{Flows};
+ghost use Rattle.sum_model.specs.Entries.{asked_number};
+ghost use Rattle.sum_model.specs.Legal.{Quiet, is_taken, is_answered, may_ask, is_due};
 ghost use Rattle.plain_model.specs.Plain.{id_of, message_of, messages_of};
 ghost use Rattle.plain_model.specs.PlainMachine.{tasks_of};
 ghost use Rattle.plain_model.specs.PlainWorld.{orchestration_of, instances_in, answers_in, world_in};

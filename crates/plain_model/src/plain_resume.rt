@@ -1,8 +1,8 @@
 //! How an event resumes a machine.
 
 ghost use Rattle.std.specs.Prelude.{◌≡◌, ℕ, List, [], ◌∷◌, ◌++◌, ◌+◌, ◌≤◌, ◌<◌, drop, map, length, option_map, codes, None, Some, Ok, IfOk, vec_len};
-ghost use Rattle.dura_model.specs.Language.{eval, value_in, set_in};
-ghost use Rattle.dura_model.specs.Machine.{with_outcome, first_of, next_of, running, thrown, called, awaited, returned, recorded, go, most_steps, resume, task_at, outcome_of};
+ghost use Rattle.sum_model.specs.Language.{eval, value_in, set_in};
+ghost use Rattle.sum_model.specs.Machine.{with_outcome, first_of, next_of, running, thrown, called, awaited, returned, recorded, go, most_steps, resume, task_at, outcome_of};
 ghost use Rattle.plain_model.specs.PlainMachine.{expression_of, statement_of, statements_of, variables_of, task_of, tasks_of, machine_of, event_of, next_in, next_at};
 
 use crate::plain_copies::copy_statement;

@@ -1,10 +1,10 @@
 //! What the entries of a log stand for, as plain data.
 
 ghost use Rattle.std.specs.Prelude.{◌≡◌, List, ◌++◌, map, option_map, IfOk};
-ghost use Rattle.dura_model.specs.Legal.{after};
-ghost use Rattle.dura_model.specs.Entries.{items_of, labels_in};
-ghost use Rattle.dura_model.specs.Partition.{nothing, placed, shown};
-ghost use Rattle.dura_model.specs.Entries.{asked_number, label_in, took, ran};
+ghost use Rattle.sum_model.specs.Legal.{after};
+ghost use Rattle.sum_model.specs.Entries.{items_of, labels_in};
+ghost use Rattle.sum_model.specs.Partition.{nothing, placed, shown};
+ghost use Rattle.sum_model.specs.Entries.{asked_number, label_in, took, ran};
 ghost use Rattle.plain_model.specs.Plain.{id_of, body_of, message_of, label_of, labels_of};
 ghost use Rattle.plain_model.specs.PlainStands.{item_of, plain_items, entries_of};
 ghost use Rattle.plain_model.specs.PlainWorld.{flows_in, world_in};

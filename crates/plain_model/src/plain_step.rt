@@ -1,11 +1,11 @@
 //! What a label makes of a world, and where a run comes to.
 
 ghost use Rattle.std.specs.Prelude.{◌≡◌, List, [], ◌∷◌, map, option_map, is_some, IfOk, Option, Some, None};
-ghost use Rattle.dura_model.specs.Language.{Flows};
-ghost use Rattle.dura_model.specs.Legal.{Legal, after, after_from};
-ghost use Rattle.dura_model.specs.Machine.{resume, finished};
-ghost use Rattle.dura_model.specs.World.{World, at_number, pending, pending_in};
-ghost use Rattle.dura_model.specs.Steps.{Label, sent, taken, ran, step};
+ghost use Rattle.sum_model.specs.Language.{Flows};
+ghost use Rattle.sum_model.specs.Legal.{Legal, after, after_from};
+ghost use Rattle.sum_model.specs.Machine.{resume, finished};
+ghost use Rattle.sum_model.specs.World.{World, at_number, pending, pending_in};
+ghost use Rattle.sum_model.specs.Steps.{Label, sent, taken, ran, step};
 ghost use Rattle.plain_model.specs.Plain.{id_of, message_of, label_of, labels_of};
 ghost use Rattle.plain_model.specs.PlainMachine.{machine_of};
 ghost use Rattle.plain_model.specs.PlainWorld.{orchestration_of, taken_in, flows_in, world_in, if_moved};

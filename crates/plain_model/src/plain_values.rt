@@ -1,7 +1,7 @@
 //! Copies of values, and texts of few bytes.
 
 ghost use Rattle.std.specs.Prelude.{◌≡◌, ◌≤◌, ◌∷◌, ◌++◌, length, IfOk};
-ghost use Rattle.dura_model.specs.Language.{value_of};
+ghost use Rattle.sum_model.specs.Language.{value_of};
 
 use activity_table::Outcome;
 use dura_value::{Scalar, Scalars, Text, Value};

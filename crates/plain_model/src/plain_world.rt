@@ -1,8 +1,8 @@
 //! The world of the failure-free machine, as plain data.
 
 ghost use Rattle.std.specs.Prelude.{◌≡◌, List, [], ◌∷◌, map, option_map, IfOk, Some, None};
-ghost use Rattle.dura_model.specs.World.{empty};
-ghost use Rattle.dura_model.specs.Steps.{sent, kept, answering, answering_all, ending};
+ghost use Rattle.sum_model.specs.World.{empty};
+ghost use Rattle.sum_model.specs.Steps.{sent, kept, answering, answering_all, ending};
 ghost use Rattle.plain_model.specs.Plain.{id_of, message_of, body_of, reply_of, answer_of};
 ghost use Rattle.plain_model.specs.PlainMachine.{machine_of, progress_of};
 ghost use Rattle.plain_model.specs.PlainWorld.{waiting_in, world_in};

@@ -1,6 +1,6 @@
 use Rattle.std.proofs.Common.{◌≡◌, ◌<◌, ◌∙◌, List, Some, length, ap, sym, subst}
 use Rattle.plain_model.specs.declared.plain_messages.PlainMessage.{PlainMessage}
-use Rattle.dura_model.specs.Partition.{first_in}
+use Rattle.sum_model.specs.Partition.{first_in}
 use Rattle.plain_model.specs.Plain.{id_of, message_of, messages_of}
 use Rattle.plain_model.specs.PlainWorld.{at_place}
 use Rattle.plain_model.proofs.PlainQueue.{place_removed}

@@ -1,5 +1,5 @@
 use Rattle.std.proofs.Common.{◌≡◌, ◌∙◌, ap, sym, arith, suc, ◌-◌, ◌+◌}
-use Rattle.dura_model.specs.Machine.{most_steps}
+use Rattle.sum_model.specs.Machine.{most_steps}
 use Rattle.plain_model.specs.PlainMachine.{machine_of, next_in}
 use Rattle.plain_model.proofs.Plain.{go_goes, go_stays}
 use Rattle.plain_model.proofs.plain_resume.go.Goals as goal

@@ -1,5 +1,5 @@
 use Rattle.std.proofs.Common.{◌≡◌, ◌-◌}
-use Rattle.dura_model.specs.Machine.{go, most_steps}
+use Rattle.sum_model.specs.Machine.{go, most_steps}
 use Rattle.plain_model.specs.PlainMachine.{machine_of}
 use Rattle.plain_model.proofs.plain_resume.go.Given as goal
 

@@ -1,5 +1,5 @@
 use Rattle.std.proofs.Common.{◌∙◌, ap, sym}
-use Rattle.dura_model.specs.Machine.{stays}
+use Rattle.sum_model.specs.Machine.{stays}
 use Rattle.plain_model.specs.PlainMachine.{machine_of, next_in}
 use Rattle.plain_model.proofs.Plain.{go_over, go_ends, if_ok}
 use Rattle.plain_model.proofs.plain_resume.last_of.Goals as goal

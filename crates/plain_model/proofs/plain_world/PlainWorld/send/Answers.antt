@@ -1,9 +1,9 @@
 use Rattle.std.proofs.Common.{List, ◌∙◌, refl, ap}
 use Rattle.plain_model.specs.declared.plain_messages.PlainMessage.{PlainMessage}
-use Rattle.dura_model.specs.Partition.{link_in}
+use Rattle.sum_model.specs.Partition.{link_in}
 use Rattle.plain_model.specs.Plain.{messages_of}
 use Rattle.plain_model.proofs.PlainQueue.{queue_sent}
-use Rattle.dura_model.proofs.Same.{worlds_same}
+use Rattle.sum_model.proofs.Same.{worlds_same}
 use Rattle.plain_model.proofs.plain_world.PlainWorld.send.Goals as goal
 
 pub returns : goal.returns

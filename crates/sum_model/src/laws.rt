@@ -2,12 +2,12 @@
 
 ghost use Rattle.std.specs.Prelude.{◌≡◌, ◌≤◌, ℕ, List, option_map};
 ghost use Rattle.dura_value.specs.Ids.{Id};
-ghost use Rattle.dura_model.specs.Language.{Flows};
-ghost use Rattle.dura_model.specs.Legal.{Legal, finishes, Overlap};
-ghost use Rattle.dura_model.specs.Partition.{Partition, accepted, shown};
-ghost use Rattle.dura_model.specs.Entries.{Item, label_in};
-ghost use Rattle.dura_model.specs.Steps.{Label, step};
-ghost use Rattle.dura_model.specs.World.{World};
+ghost use Rattle.sum_model.specs.Language.{Flows};
+ghost use Rattle.sum_model.specs.Legal.{Legal, finishes, Overlap};
+ghost use Rattle.sum_model.specs.Partition.{Partition, accepted, shown};
+ghost use Rattle.sum_model.specs.Entries.{Item, label_in};
+ghost use Rattle.sum_model.specs.Steps.{Label, step};
+ghost use Rattle.sum_model.specs.World.{World};
 
 /// In a legal run no task of an instance is ended twice.
 #[tactic(auto, using(crate::proofs::Outcomes::never_twice))]

@@ -3,20 +3,20 @@ use Rattle.std.proofs.Common.{◌≡◌, ◌⊎◌, inl, inr, ℕ, zero, suc, �
 use Rattle.std.proofs.lemmas.Bool.{eqb-true}
 use Rattle.std.proofs.Common.{◌≤◌, ◌<◌, length, arith}
 use Rattle.std.specs.List.{Contains}
-use Rattle.dura_model.specs.Legal.Legal.{begins, goes_on}
+use Rattle.sum_model.specs.Legal.Legal.{begins, goes_on}
 use Rattle.dura_value.proofs.Ids.{id_same, id_self, both_true}
 use Rattle.std.specs.Prelude.{Result, Ok, Err, codes, ◌+◌, nat_le}
 use Rattle.dura_value.specs.declared.data.Value.{Value}
 use Rattle.activity_table.specs.declared.activities.Outcome.TheVariants as outcomes
-use Rattle.dura_model.specs.Language.{eval, call, await, return}
-use Rattle.dura_model.specs.Machine.{running, done, failed}
+use Rattle.sum_model.specs.Language.{eval, call, await, return}
+use Rattle.sum_model.specs.Machine.{running, done, failed}
 use Rattle.dura_value.specs.Ids.{Id, orchestration, entity, client, id_eq}
-use Rattle.dura_model.specs.Language.{Flows, Statement}
-use Rattle.dura_model.specs.Machine.{Task, Machine, Next, stays, goes, Event, started, finished, Progress, next_of, go, go_on, task_at, outcome_of, with_outcome, first_of, recorded, resume, new_machine, thrown, called, awaited, returned}
-use Rattle.dura_model.specs.Machine.{most_events, most_steps, at_moment}
-use Rattle.dura_model.specs.World.{World, Orchestration, Message, Body, start, wait, result, Reply, to_nobody, to_task, to_request, Answer, is_unknown, was_started, is_missing, was_there, at_id, at_link, at_number, pending, pending_in, open_task, unfinished}
-use Rattle.dura_model.specs.Steps.{Label, take, deliver, finish, sent, step, kept, taken, answering, answering_all, ending, begun, flow_of, arrived, waited, reached, to_instance, answered, to_client, received, delivered, ran, is_request}
-use Rattle.dura_model.specs.Legal.{Legal, finishes, is_finish, Overlap}
+use Rattle.sum_model.specs.Language.{Flows, Statement}
+use Rattle.sum_model.specs.Machine.{Task, Machine, Next, stays, goes, Event, started, finished, Progress, next_of, go, go_on, task_at, outcome_of, with_outcome, first_of, recorded, resume, new_machine, thrown, called, awaited, returned}
+use Rattle.sum_model.specs.Machine.{most_events, most_steps, at_moment}
+use Rattle.sum_model.specs.World.{World, Orchestration, Message, Body, start, wait, result, Reply, to_nobody, to_task, to_request, Answer, is_unknown, was_started, is_missing, was_there, at_id, at_link, at_number, pending, pending_in, open_task, unfinished}
+use Rattle.sum_model.specs.Steps.{Label, take, deliver, finish, sent, step, kept, taken, answering, answering_all, ending, begun, flow_of, arrived, waited, reached, to_instance, answered, to_client, received, delivered, ran, is_request}
+use Rattle.sum_model.specs.Legal.{Legal, finishes, is_finish, Overlap}
 use Rattle.activity_table.specs.declared.activities.Outcome.{Outcome}
 
 -- an outcome that is there stays

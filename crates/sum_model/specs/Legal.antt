@@ -3,10 +3,10 @@ use Rattle.std.specs.Prelude.{◌≡◌, ◌&&◌, ◌==◌, ℕ, ◌+◌, List,
 use Rattle.std.specs.List.{Contains}
 use Rattle.std.specs.Option.{option_and_then}
 use Rattle.dura_value.specs.Ids.{Id, id_eq}
-use Rattle.dura_model.specs.Language.{Flows}
-use Rattle.dura_model.specs.World.{World, Orchestration, Message, empty, pending}
-use Rattle.dura_model.specs.Entries.{asked_number}
-use Rattle.dura_model.specs.Steps.{Label, deliver, finish, step, IsWithin}
+use Rattle.sum_model.specs.Language.{Flows}
+use Rattle.sum_model.specs.World.{World, Orchestration, Message, empty, pending}
+use Rattle.sum_model.specs.Entries.{asked_number}
+use Rattle.sum_model.specs.Steps.{Label, deliver, finish, step, IsWithin}
 
 -- The run is legal, and this is the world after it: from the empty world on each label has a step.
 pub data Legal (flows : Flows) : List Label → World → Type 0 where

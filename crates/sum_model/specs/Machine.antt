@@ -1,7 +1,7 @@
 -- The machine that runs one instance of a flow. It is resumed by each event that reaches it.
 use Rattle.std.specs.Prelude.{ℕ, zero, suc, ◌+◌, ◌==◌, List, [], ◌∷◌, ◌++◌, length, codes, if◌then◌else◌, Option, Some, None, Result, Ok, Err}
 use Rattle.dura_value.specs.Ids.{Id}
-use Rattle.dura_model.specs.Language.{Statement, call, await, return, Variables, set_in, eval}
+use Rattle.sum_model.specs.Language.{Statement, call, await, return, Variables, set_in, eval}
 use Rattle.dura_value.specs.declared.data.Value.{Value}
 use Rattle.dura_value.specs.declared.data.Value.TheVariants as values
 use Rattle.activity_table.specs.declared.activities.Outcome.{Outcome}

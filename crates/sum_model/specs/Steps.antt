@@ -2,9 +2,9 @@
 use Rattle.std.specs.Prelude.{true, nat_lt, ◌^◌, ℕ, ◌==◌, ◌&&◌, List, [], ◌∷◌, ◌++◌, Bool, false, nat_le, if◌then◌else◌, Option, Some, None, IfSome}
 use Rattle.activity_table.specs.Activities.{May}
 use Rattle.dura_value.specs.Ids.{Id, orchestration, entity, client, id_eq}
-use Rattle.dura_model.specs.Language.{Flows, Statement}
-use Rattle.dura_model.specs.Machine.{Machine, Task, Progress, running, done, failed, new_machine, resume, at_moment, started, finished}
-use Rattle.dura_model.specs.World.{World, Orchestration, Message, Body, Reply, to_nobody, to_request, start, wait, result, Answer, is_done, has_failed, was_started, was_there, is_unknown, is_missing, at_id, at_link, at_number, pending}
+use Rattle.sum_model.specs.Language.{Flows, Statement}
+use Rattle.sum_model.specs.Machine.{Machine, Task, Progress, running, done, failed, new_machine, resume, at_moment, started, finished}
+use Rattle.sum_model.specs.World.{World, Orchestration, Message, Body, Reply, to_nobody, to_request, start, wait, result, Answer, is_done, has_failed, was_started, was_there, is_unknown, is_missing, at_id, at_link, at_number, pending}
 use Rattle.dura_value.specs.declared.data.Value.{Value}
 use Rattle.activity_table.specs.declared.activities.Outcome.{Outcome}
 

@@ -1,7 +1,7 @@
 -- Which entries an entry depends on.
 use Rattle.std.specs.Prelude.{◌≡◌, ◌⊎◌, ℕ, ◌+◌, List, [], ◌∷◌, ◌++◌}
 use Rattle.std.specs.List.{Contains}
-use Rattle.dura_model.specs.Entries.{Kept}
+use Rattle.sum_model.specs.Entries.{Kept}
 
 -- an entry by its partition, the life of the partition that made it, and its place
 pub record Identity : Type 0 where

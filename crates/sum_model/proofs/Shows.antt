@@ -6,15 +6,15 @@ use Rattle.dura_value.specs.declared.data.Value.{Value}
 use Rattle.activity_table.specs.declared.activities.Outcome.{Outcome}
 use Rattle.activity_table.specs.declared.activities.Outcome.TheVariants as outcomes
 use Rattle.dura_value.specs.Ids.{Id, orchestration, entity, client, id_eq}
-use Rattle.dura_model.specs.Language.{Flows, Statement, call, await, return, eval}
-use Rattle.dura_model.specs.Machine.{Machine, Next, stays, goes, go, go_on, next_of, Event, started, finished, new_machine, resume, thrown, at_moment, recorded, most_events, most_steps, Task, Progress, running, done, failed, called, awaited, returned, outcome_of, task_at}
-use Rattle.dura_model.specs.World.{World, Message, Body, start, wait, result, Reply, to_nobody, to_task, to_request, Answer, was_started, was_there, is_unknown, is_missing, at_id, at_link, at_number, pending_in}
-use Rattle.dura_model.specs.Steps.{step, sent, kept, taken, is_request, begun, flow_of, received, delivered, to_instance, to_client, arrived, reached, waited, answered, answering, answering_all, ending}
-use Rattle.dura_model.specs.Steps.{ran as is_run}
-use Rattle.dura_model.specs.Entries.{Item, took, ran, ended, label_in, asked_number}
-use Rattle.dura_model.specs.Partition.{Past, Row, Partition, replayed, unstarted, machine_at, instance_at, link_in, shown, queued, rowed, with_past, first_in, starts_row, arrives, waits_row, reaches, comes_to_row, answer_kept, comes_to_client, comes, comes_first, takes_request, ends_task, accepted}
+use Rattle.sum_model.specs.Language.{Flows, Statement, call, await, return, eval}
+use Rattle.sum_model.specs.Machine.{Machine, Next, stays, goes, go, go_on, next_of, Event, started, finished, new_machine, resume, thrown, at_moment, recorded, most_events, most_steps, Task, Progress, running, done, failed, called, awaited, returned, outcome_of, task_at}
+use Rattle.sum_model.specs.World.{World, Message, Body, start, wait, result, Reply, to_nobody, to_task, to_request, Answer, was_started, was_there, is_unknown, is_missing, at_id, at_link, at_number, pending_in}
+use Rattle.sum_model.specs.Steps.{step, sent, kept, taken, is_request, begun, flow_of, received, delivered, to_instance, to_client, arrived, reached, waited, answered, answering, answering_all, ending}
+use Rattle.sum_model.specs.Steps.{ran as is_run}
+use Rattle.sum_model.specs.Entries.{Item, took, ran, ended, label_in, asked_number}
+use Rattle.sum_model.specs.Partition.{Past, Row, Partition, replayed, unstarted, machine_at, instance_at, link_in, shown, queued, rowed, with_past, first_in, starts_row, arrives, waits_row, reaches, comes_to_row, answer_kept, comes_to_client, comes, comes_first, takes_request, ends_task, accepted}
 use Rattle.dura_value.proofs.Ids.{id_same, both_true}
-use Rattle.dura_model.proofs.Same.{worlds_same}
+use Rattle.sum_model.proofs.Same.{worlds_same}
 
 -- ---- the queue and the links
 

@@ -4,11 +4,11 @@ use Rattle.std.specs.Option.{option_and_then}
 use Rattle.activity_table.specs.declared.activities.Outcome.{Outcome}
 use Rattle.dura_value.specs.declared.data.Value.{Value}
 use Rattle.dura_value.specs.Ids.{Id, orchestration, entity, client, id_eq}
-use Rattle.dura_model.specs.Language.{Flows, Statement}
-use Rattle.dura_model.specs.Machine.{Machine, Event, started, finished, new_machine, resume, thrown, at_moment, Task}
-use Rattle.dura_model.specs.World.{World, Orchestration, Message, Body, start, wait, result, Reply, to_request, Answer, was_started, was_there, is_unknown, is_missing, at_id, at_number, pending_in}
-use Rattle.dura_model.specs.Steps.{is_request, answering, answering_all, ending, flow_of}
-use Rattle.dura_model.specs.Entries.{Item, took, ran, ended, asked_number}
+use Rattle.sum_model.specs.Language.{Flows, Statement}
+use Rattle.sum_model.specs.Machine.{Machine, Event, started, finished, new_machine, resume, thrown, at_moment, Task}
+use Rattle.sum_model.specs.World.{World, Orchestration, Message, Body, start, wait, result, Reply, to_request, Answer, was_started, was_there, is_unknown, is_missing, at_id, at_number, pending_in}
+use Rattle.sum_model.specs.Steps.{is_request, answering, answering_all, ending, flow_of}
+use Rattle.sum_model.specs.Entries.{Item, took, ran, ended, asked_number}
 
 -- what happened to an instance, and when
 pub record Past : Type 0 where

@@ -3,8 +3,8 @@ use Rattle.std.specs.Prelude.{ℕ, List, map}
 use Rattle.std.specs.List.{flat_map}
 use Rattle.activity_table.specs.declared.activities.Outcome.{Outcome}
 use Rattle.dura_value.specs.Ids.{Id}
-use Rattle.dura_model.specs.Steps.{Label, take, deliver, finish}
-use Rattle.dura_model.specs.World.{Message, Body, start, wait, to_request}
+use Rattle.sum_model.specs.Steps.{Label, take, deliver, finish}
+use Rattle.sum_model.specs.World.{Message, Body, start, wait, to_request}
 
 -- One step of a partition as its log keeps it: a request was taken, a message was delivered, a task was ended.
 pub data Item : Type 0 where

@@ -8,7 +8,7 @@ use Rattle.dura_value.specs.declared.data.Scalar.TheVariants as scalars
 use Rattle.dura_value.specs.declared.data.Value.{Value}
 use Rattle.dura_value.specs.declared.data.Value.TheVariants as values
 use Rattle.dura_value.specs.Ids.{client}
-use Rattle.dura_model.specs.World.{World, Message, Answer, is_done, has_failed, was_started, was_there, is_unknown, is_missing}
+use Rattle.sum_model.specs.World.{World, Message, Answer, is_done, has_failed, was_started, was_there, is_unknown, is_missing}
 
 -- a request: whose it is, its number, and the message that it sends
 pub record Request : Type 0 where

@@ -1,7 +1,7 @@
 -- The world of the failure-free machine: instances, links, requests and answers.
 use Rattle.std.specs.Prelude.{ℕ, ◌==◌, ◌&&◌, List, [], if◌then◌else◌, Option, Some, None}
 use Rattle.dura_value.specs.Ids.{Id, id_eq}
-use Rattle.dura_model.specs.Machine.{Machine, Task, Progress, running, task_at}
+use Rattle.sum_model.specs.Machine.{Machine, Task, Progress, running, task_at}
 use Rattle.dura_value.specs.declared.data.Value.{Value}
 use Rattle.activity_table.specs.declared.activities.Outcome.{Outcome}
 
