@@ -8,6 +8,7 @@ use Rattle.dura_value.specs.declared.data.Scalar.{Scalar}
 use Rattle.dura_value.specs.declared.data.Scalar.TheVariants as scalars
 use Rattle.dura_value.specs.declared.data.Value.{Value}
 use Rattle.dura_value.specs.declared.data.Value.TheVariants as values
+use Rattle.activity_table.specs.Table.{value_eq}
 use Rattle.flow_syntax.specs.Syntax.{Expression, scalar, variable, list, unary, binary, Expressions, no_parts, part, Unary, not_of, length_of, text_of, Binary, add, sub, mul, div, rem, equal, less, both, either, join, at, push}
 
 -- something, or the text of a fault
@@ -123,34 +124,6 @@ to_key (values.Text bytes) = if is_key bytes then Ok bytes else Err (codes "key"
 to_key other = Err (codes "key")
 
 -- ---- operations
-
-abbrev pub int_eq : ℤ → ℤ → Bool
-int_eq (pos a) (pos b) = a == b
-int_eq (negsuc a) (negsuc b) = a == b
-int_eq a b = false
-
-abbrev pub scalar_eq : Scalar → Scalar → Bool
-scalar_eq scalars.Null scalars.Null = true
-scalar_eq scalars.False scalars.False = true
-scalar_eq scalars.True scalars.True = true
-scalar_eq (scalars.Int a) (scalars.Int b) = int_eq a b
-scalar_eq (scalars.Text a) (scalars.Text b) = bytes_eq a b
-scalar_eq a b = false
-
-abbrev pub scalars_eq : List Scalar → List Scalar → Bool
-scalars_eq [] [] = true
-scalars_eq (a ∷ as_) (b ∷ bs) = scalar_eq a b && scalars_eq as_ bs
-scalars_eq a b = false
-
--- equal values, of any kinds
-abbrev pub value_eq : Value → Value → Bool
-value_eq values.Null values.Null = true
-value_eq values.False values.False = true
-value_eq values.True values.True = true
-value_eq (values.Int a) (values.Int b) = int_eq a b
-value_eq (values.Text a) (values.Text b) = bytes_eq a b
-value_eq (values.List a) (values.List b) = scalars_eq a b
-value_eq a b = false
 
 -- decimal, with a sign where it is negative
 abbrev pub int_text : ℤ → List ℕ

@@ -1,0 +1,5 @@
+pub mod Deliveries
+pub mod Legal
+pub mod Requests
+pub mod Steps
+pub mod World

@@ -1,0 +1,2 @@
+//! The failure-free machine, as definitions, and laws of them.
+#![tactic(auto)]
