@@ -1,5 +1,6 @@
 pub mod Deliveries
 pub mod Legal
+pub mod Partition
 pub mod Requests
 pub mod Steps
 pub mod World

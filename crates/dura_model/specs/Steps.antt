@@ -1,8 +1,8 @@
 -- The steps of the failure-free machine.
 use Rattle.std.specs.Prelude.{ℕ, ◌==◌, ◌&&◌, ◌^◌, List, [], ◌∷◌, ◌++◌, Bool, true, false, nat_le, nat_lt, if◌then◌else◌, Option, Some, None}
 use Rattle.activity_table.specs.Table.{may}
-use Rattle.activity_table.specs.declared.activities.Outcome.{Outcome}
-use Rattle.activity_table.specs.declared.activities.Outcome.TheVariants as outcomes
+use Rattle.dura_value.specs.declared.outcome.Outcome.{Outcome}
+use Rattle.dura_value.specs.declared.outcome.Outcome.TheVariants as outcomes
 use Rattle.dura_value.specs.declared.data.Value.{Value}
 use Rattle.dura_value.specs.Ids.{Id, orchestration, entity, client, id_eq}
 use Rattle.dura_value.specs.Messages.{Reply, to_request, Answer, is_done, has_failed, Body, start, raise, query, wait, result, Message}
@@ -93,11 +93,12 @@ abbrev pub entity_of : Flows → (class : List ℕ) → Option Entity → Entity
 entity_of flows class None = record { value = initial (class_of flows class); holder = None; last = 0 }
 entity_of flows class (Some e) = e
 
+abbrev pub entity_stands : World → Id → Delivered → World
+entity_stands w to d = sent (record w { entities = at_id w.entities to (Some d.entity) }) d.sent
+
 abbrev pub to_entity : Flows → World → (class : List ℕ) → (from to : Id) → ℕ → Body → Entity → Option World
 to_entity flows w class from to stamp body e =
-    if takes e.holder from && nat_le e.last stamp then Some (reached (deliver_to flows (record e { last = stamp }) class from to body)) else None where
-  reached : Delivered → World
-  reached d = sent (record w { entities = at_id w.entities to (Some d.entity) }) d.sent
+    if takes e.holder from && nat_le e.last stamp then Some (entity_stands w to (deliver_to flows (record e { last = stamp }) class from to body)) else None
 
 -- an answer to a request that was taken is recorded
 abbrev pub answered : World → Id → ℕ → Answer → Option Message → World

@@ -1,8 +1,8 @@
 -- The machine that runs one instance of a flow. It is resumed by each event that reaches it.
 use Rattle.std.specs.Prelude.{ℕ, zero, suc, ◌+◌, ◌^◌, ◌==◌, ◌&&◌, ◌||◌, List, [], ◌∷◌, ◌++◌, length, codes, Bool, true, false, not, nat_lt, nat_le, if◌then◌else◌, Option, Some, None, Result, Ok, Err, pos, negsuc, ℤ}
 use Rattle.std.specs.Str.{bytes_eq}
-use Rattle.activity_table.specs.declared.activities.Outcome.{Outcome}
-use Rattle.activity_table.specs.declared.activities.Outcome.TheVariants as outcomes
+use Rattle.dura_value.specs.declared.outcome.Outcome.{Outcome}
+use Rattle.dura_value.specs.declared.outcome.Outcome.TheVariants as outcomes
 use Rattle.dura_value.specs.declared.data.Scalar.{Scalar}
 use Rattle.dura_value.specs.declared.data.Scalar.TheVariants as scalars
 use Rattle.dura_value.specs.declared.data.Value.{Value}

@@ -1,5 +1,8 @@
-//! Tests of the engine's state against the plain program of the failure-free machine.
+//! Worked examples of the failure-free machine, as theorems by computation.
 #![tactic(auto)]
 
-#[cfg(test)]
-mod plain_tests;
+ghost use Rattle.model_rows.specs.Rows.{RowSum};
+
+pub fn sum()
+    ensures { RowSum }
+{}

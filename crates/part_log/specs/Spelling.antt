@@ -6,8 +6,8 @@ use Rattle.dura_value.specs.declared.data.Scalar.{Scalar}
 use Rattle.dura_value.specs.declared.data.Scalar.TheVariants as scalars
 use Rattle.dura_value.specs.declared.data.Value.{Value}
 use Rattle.dura_value.specs.declared.data.Value.TheVariants as values
-use Rattle.activity_table.specs.declared.activities.Outcome.{Outcome}
-use Rattle.activity_table.specs.declared.activities.Outcome.TheVariants.{Done, Failed}
+use Rattle.dura_value.specs.declared.outcome.Outcome.{Outcome}
+use Rattle.dura_value.specs.declared.outcome.Outcome.TheVariants.{Done, Failed}
 use Rattle.dura_value.specs.Ids.{Id, orchestration, entity, client}
 use Rattle.dura_value.specs.Names.{is_name, is_key}
 use Rattle.dura_value.specs.Text.{IsText}

@@ -4,7 +4,7 @@ use Rattle.std.specs.Prelude.{codes, Result, Ok, nat_le}
 use Rattle.std.specs.Str.{bytes_eq}
 use Rattle.dura_value.specs.declared.data.Value.{Value}
 use Rattle.dura_value.specs.declared.data.Value.TheVariants as values
-use Rattle.activity_table.specs.declared.activities.Outcome.TheVariants.{Done}
+use Rattle.dura_value.specs.declared.outcome.Outcome.TheVariants.{Done}
 use Rattle.input_reader.specs.declared.request_file.Kind.TheVariants as kinds
 use Rattle.input_reader.specs.declared.input.Input.{Input}
 use Rattle.dura_value.specs.Ids.{Id, id_eq}

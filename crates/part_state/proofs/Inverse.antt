@@ -4,8 +4,8 @@ use Rattle.std.specs.Prelude.{codes, IfSome}
 use Rattle.input_reader.specs.declared.input.Input.{Input}
 use Rattle.dura_value.specs.declared.data.Scalar.TheVariants as scalars
 use Rattle.dura_value.specs.declared.data.Value.TheVariants as values
-use Rattle.activity_table.specs.declared.activities.Outcome.{Outcome}
-use Rattle.activity_table.specs.declared.activities.Outcome.TheVariants.{Done, Failed}
+use Rattle.dura_value.specs.declared.outcome.Outcome.{Outcome}
+use Rattle.dura_value.specs.declared.outcome.Outcome.TheVariants.{Done, Failed}
 use Rattle.part_state.specs.declared.state.WaitStage.{WaitStage}
 use Rattle.part_state.specs.declared.state.Label.{Label}
 use Rattle.part_state.specs.declared.state.Label.TheVariants.{Take, ToInstance, ToClient, Finish}

@@ -4,7 +4,7 @@ use Rattle.std.specs.Str.{bytes_eq}
 use Rattle.dura_value.specs.declared.data.Scalar.TheVariants as scalars
 use Rattle.dura_value.specs.declared.data.Value.{Value}
 use Rattle.dura_value.specs.declared.data.Value.TheVariants as values
-use Rattle.activity_table.specs.declared.activities.Outcome.TheVariants.{Done}
+use Rattle.dura_value.specs.declared.outcome.Outcome.TheVariants.{Done}
 use Rattle.input_reader.specs.declared.flow_file.Flow.{Flow}
 use Rattle.input_reader.specs.declared.request_file.Kind.{Kind}
 use Rattle.input_reader.specs.declared.request_file.Kind.TheVariants as kinds

@@ -7,7 +7,7 @@ use Rattle.sum_model.specs.Legal.Legal.{begins, goes_on}
 use Rattle.dura_value.proofs.Ids.{id_same, id_self, both_true}
 use Rattle.std.specs.Prelude.{Result, Ok, Err, codes, ◌+◌, nat_le}
 use Rattle.dura_value.specs.declared.data.Value.{Value}
-use Rattle.activity_table.specs.declared.activities.Outcome.TheVariants as outcomes
+use Rattle.dura_value.specs.declared.outcome.Outcome.TheVariants as outcomes
 use Rattle.sum_model.specs.Language.{eval, call, await, return}
 use Rattle.sum_model.specs.Machine.{running, done, failed}
 use Rattle.dura_value.specs.Ids.{Id, orchestration, entity, client, id_eq}
@@ -17,7 +17,7 @@ use Rattle.sum_model.specs.Machine.{most_events, most_steps, at_moment}
 use Rattle.sum_model.specs.World.{World, Orchestration, Message, Body, start, wait, result, Reply, to_nobody, to_task, to_request, Answer, is_unknown, was_started, is_missing, was_there, at_id, at_link, at_number, pending, pending_in, open_task, unfinished}
 use Rattle.sum_model.specs.Steps.{Label, take, deliver, finish, sent, step, kept, taken, answering, answering_all, ending, begun, flow_of, arrived, waited, reached, to_instance, answered, to_client, received, delivered, ran, is_request}
 use Rattle.sum_model.specs.Legal.{Legal, finishes, is_finish, Overlap}
-use Rattle.activity_table.specs.declared.activities.Outcome.{Outcome}
+use Rattle.dura_value.specs.declared.outcome.Outcome.{Outcome}
 
 -- an outcome that is there stays
 abbrev pub KeepsOutcomes : List Task → List Task → Type 0

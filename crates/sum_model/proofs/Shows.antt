@@ -3,8 +3,8 @@ use Rattle.std.proofs.Common.{◌≡◌, ◌&&◌, ℕ, zero, suc, ◌+◌, ◌=
 use Rattle.std.specs.Prelude.{option_map, codes, nat_le, Result, Ok, Err}
 use Rattle.std.proofs.lemmas.List.{append-nil, append_assoc}
 use Rattle.dura_value.specs.declared.data.Value.{Value}
-use Rattle.activity_table.specs.declared.activities.Outcome.{Outcome}
-use Rattle.activity_table.specs.declared.activities.Outcome.TheVariants as outcomes
+use Rattle.dura_value.specs.declared.outcome.Outcome.{Outcome}
+use Rattle.dura_value.specs.declared.outcome.Outcome.TheVariants as outcomes
 use Rattle.dura_value.specs.Ids.{Id, orchestration, entity, client, id_eq}
 use Rattle.sum_model.specs.Language.{Flows, Statement, call, await, return, eval}
 use Rattle.sum_model.specs.Machine.{Machine, Next, stays, goes, go, go_on, next_of, Event, started, finished, new_machine, resume, thrown, at_moment, recorded, most_events, most_steps, Task, Progress, running, done, failed, called, awaited, returned, outcome_of, task_at}

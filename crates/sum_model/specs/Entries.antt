@@ -1,7 +1,7 @@
 -- The entries that a partition keeps, and the labels of them.
 use Rattle.std.specs.Prelude.{ℕ, List, map}
 use Rattle.std.specs.List.{flat_map}
-use Rattle.activity_table.specs.declared.activities.Outcome.{Outcome}
+use Rattle.dura_value.specs.declared.outcome.Outcome.{Outcome}
 use Rattle.dura_value.specs.Ids.{Id}
 use Rattle.sum_model.specs.Steps.{Label, take, deliver, finish}
 use Rattle.sum_model.specs.World.{Message, Body, start, wait, to_request}

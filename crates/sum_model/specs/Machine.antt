@@ -4,8 +4,8 @@ use Rattle.dura_value.specs.Ids.{Id}
 use Rattle.sum_model.specs.Language.{Statement, call, await, return, Variables, set_in, eval}
 use Rattle.dura_value.specs.declared.data.Value.{Value}
 use Rattle.dura_value.specs.declared.data.Value.TheVariants as values
-use Rattle.activity_table.specs.declared.activities.Outcome.{Outcome}
-use Rattle.activity_table.specs.declared.activities.Outcome.TheVariants.{Done, Failed}
+use Rattle.dura_value.specs.declared.outcome.Outcome.{Outcome}
+use Rattle.dura_value.specs.declared.outcome.Outcome.TheVariants.{Done, Failed}
 
 -- an activity that was asked for, and its outcome once it is there
 pub record Task : Type 0 where

@@ -1,7 +1,7 @@
 -- What one partition keeps of the world, and what its entries make of it. It keeps each instance as its history.
 use Rattle.std.specs.Prelude.{ℕ, ◌&&◌, List, [], ◌∷◌, ◌++◌, nat_le, codes, if◌then◌else◌, Option, Some, None, option_map}
 use Rattle.std.specs.Option.{option_and_then}
-use Rattle.activity_table.specs.declared.activities.Outcome.{Outcome}
+use Rattle.dura_value.specs.declared.outcome.Outcome.{Outcome}
 use Rattle.dura_value.specs.declared.data.Value.{Value}
 use Rattle.dura_value.specs.Ids.{Id, orchestration, entity, client, id_eq}
 use Rattle.sum_model.specs.Language.{Flows, Statement}

@@ -6,7 +6,7 @@ use Rattle.sum_model.specs.Language.{Flows, Statement}
 use Rattle.sum_model.specs.Machine.{Machine, Task, Progress, running, done, failed, new_machine, resume, at_moment, started, finished}
 use Rattle.sum_model.specs.World.{World, Orchestration, Message, Body, Reply, to_nobody, to_request, start, wait, result, Answer, is_done, has_failed, was_started, was_there, is_unknown, is_missing, at_id, at_link, at_number, pending}
 use Rattle.dura_value.specs.declared.data.Value.{Value}
-use Rattle.activity_table.specs.declared.activities.Outcome.{Outcome}
+use Rattle.dura_value.specs.declared.outcome.Outcome.{Outcome}
 
 -- A request of a client is taken; the first message of a link is delivered at this moment; a pending activity finishes.
 pub data Label : Type 0 where

@@ -3,7 +3,7 @@ use Rattle.std.specs.Prelude.{ℕ, ◌==◌, ◌&&◌, List, [], if◌then◌els
 use Rattle.dura_value.specs.Ids.{Id, id_eq}
 use Rattle.sum_model.specs.Machine.{Machine, Task, Progress, running, task_at}
 use Rattle.dura_value.specs.declared.data.Value.{Value}
-use Rattle.activity_table.specs.declared.activities.Outcome.{Outcome}
+use Rattle.dura_value.specs.declared.outcome.Outcome.{Outcome}
 
 -- who waits for an answer: nobody, the task of an instance with this number, or the client's request with this number
 pub data Reply : Type 0 where

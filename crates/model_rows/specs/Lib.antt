@@ -1,0 +1,2 @@
+pub mod RowFlows
+pub mod Rows
