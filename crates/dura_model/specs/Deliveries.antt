@@ -39,7 +39,10 @@ answering_all id (one ∷ waiting) answer = record { from = id; to = one.0; body
 abbrev pub at_end : Resumed → List (Id × ℕ) → List Message → Option Answer → Effect
 at_end r waiting before None = record { instance = Some (record { machine = r.machine; waiting = waiting }); sent = before ++ r.sent; asked = r.asked; gives_up = false }
 at_end r waiting before (Some answer) = record {
-  instance = Some (record { machine = r.machine; waiting = [] }); sent = before ++ r.sent ++ answering_all r.machine.id waiting answer; asked = []; gives_up = true
+  instance = Some (record { machine = r.machine; waiting = [] });
+  sent = before ++ r.sent ++ answering_all r.machine.id waiting answer;
+  asked = [];
+  gives_up = true;
 }
 
 -- An event reaches it, and this is sent before all that the machine sends.

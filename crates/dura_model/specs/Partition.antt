@@ -60,8 +60,19 @@ nobody = record { partition = 0; incarnation = 0; position = 0 }
 -- a partition where nothing happened
 abbrev pub fresh : ℕ → Partition
 fresh number = record {
-  number = number; position = 0; incarnation = 0; stamp = 0; taken = λ id n. None; answers = λ id n. None; instances = λ id. None; entities = λ id. None;
-  activities = λ id task. None; timers = λ id task. None; queue = []; inboxes = λ source. record { next = 0; reader = nobody }; outboxes = λ target. record { first = 0; messages = [] }
+  number = number;
+  position = 0;
+  incarnation = 0;
+  stamp = 0;
+  taken = λ id n. None;
+  answers = λ id n. None;
+  instances = λ id. None;
+  entities = λ id. None;
+  activities = λ id task. None;
+  timers = λ id task. None;
+  queue = [];
+  inboxes = λ source. record { next = 0; reader = nobody };
+  outboxes = λ target. record { first = 0; messages = [] };
 }
 
 -- the entry that its items belong to: it has begun, so the place of the next one is behind it
@@ -276,5 +287,5 @@ shown flows count parts = record {
   activities = λ id task. (parts (home count id)).activities id task;
   timers = λ id task. (parts (home count id)).timers id task;
   taken = λ id number. (parts (home count id)).taken id number;
-  answers = λ id number. (parts (home count id)).answers id number
+  answers = λ id number. (parts (home count id)).answers id number;
 }

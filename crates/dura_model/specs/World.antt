@@ -31,8 +31,13 @@ pub record World : Type 0 where
 -- nothing happened yet
 abbrev pub empty : World
 empty = record {
-  orchestrations = λ id. None; entities = λ id. None; links = λ from to. []; activities = λ id task. None; timers = λ id task. None;
-  taken = λ client number. None; answers = λ client number. None
+  orchestrations = λ id. None;
+  entities = λ id. None;
+  links = λ from to. [];
+  activities = λ id task. None;
+  timers = λ id task. None;
+  taken = λ client number. None;
+  answers = λ client number. None;
 }
 
 -- at one place this, elsewhere as before

@@ -11,4 +11,3 @@ pub enum Outcome {
     /// It failed with a text.
     Failed(Text),
 }
-

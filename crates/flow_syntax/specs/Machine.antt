@@ -79,8 +79,19 @@ pub record Machine : Type 0 where
 -- before its first event
 abbrev pub new_machine : Id → Option Block → Machine
 new_machine id body = record {
-  id = id; body = body; starter = id; reply = to_nobody; variables = []; rest = []; tasks = []; arrivals = 0; kept = [];
-  section = outside; last = 0; events = 0; progress = unborn
+  id = id;
+  body = body;
+  starter = id;
+  reply = to_nobody;
+  variables = [];
+  rest = [];
+  tasks = [];
+  arrivals = 0;
+  kept = [];
+  section = outside;
+  last = 0;
+  events = 0;
+  progress = unborn;
 }
 
 -- what a machine asks the outside for: an activity, or a timer
@@ -314,14 +325,14 @@ abbrev pub starts : Machine → (variable flow key : List ℕ) → Value → Res
 starts m variable flow key argument = record {
   machine = with_task (with_handle m variable) of_flow;
   sent = says m (orchestration flow key) (start argument (to_task (length m.tasks))) ∷ [];
-  asked = []
+  asked = [];
 }
 
 abbrev pub asks : Machine → (variable : List ℕ) → Spot → (operation : List ℕ) → Value → Resumed
 asks m variable spot operation argument = record {
   machine = with_task (with_handle m variable) (of_entity spot);
   sent = says m (at_spot spot) (operate operation argument (to_task (length m.tasks))) ∷ [];
-  asked = []
+  asked = [];
 }
 
 abbrev pub signals : Machine → Spot → (operation : List ℕ) → Value → Resumed
@@ -394,7 +405,7 @@ abbrev pub locks : Machine → List Spot → Block → Resumed
 locks m set body = record {
   machine = record (with_task m (of_grant set)) { section = acquiring (length m.tasks) set; rest = wait_lock ∷ todo body ++ unlock ∷ m.rest };
   sent = locking m (length m.tasks) set (entity_at set 0);
-  asked = []
+  asked = [];
 }
 
 abbrev pub branches : Machine → Bool → Block → Block → Resumed

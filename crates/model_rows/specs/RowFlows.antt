@@ -7,5 +7,5 @@ use Rattle.flow_syntax.specs.Syntax.{scalar, variable, list, part, no_parts, cal
 abbrev pub flows : Flows
 flows = record {
   flows = record { name = codes "Sum"; it = first_then (call (codes "s") (codes "add") (list (part (scalar (scalars.Int (pos 2))) (part (scalar (scalars.Int (pos 3))) no_parts)))) (first_then (return (variable (codes "s"))) nothing) } ∷ [];
-  classes = []
+  classes = [];
 }
