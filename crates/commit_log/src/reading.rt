@@ -38,8 +38,9 @@ fn parse_file(alloc: Global, file: u32, bytes: &[u8]) -> Result<Parsed, OpenErro
 
 /// Syncs a file, and says how long it is.
 pub(crate) fn synced_length<V: Site>(site: &mut V, file: u32) -> Result<u64, Failed>
-    ensures either { V.tells → Syncs file (V.history site.old) (V.history site.new) result }
-    ensures value { V.tells → IfOk result (λ n. n ≡ length (content_of file (V.history site.old))) }
+    ensures told { V.tells site.new → V.tells site.old }
+    ensures either { Syncs file (V.history site.old) (V.history site.new) result }
+    ensures value { V.tells site.new → IfOk result (λ n. n ≡ length (content_of file (V.history site.old))) }
     ensures cause { HasCause (V.disk_faults site.old) (V.disk_faults site.new) result }
     ensures say_faults { V.say_faults site.new ≡ V.say_faults site.old }
 {
@@ -51,13 +52,14 @@ pub(crate) fn synced_length<V: Site>(site: &mut V, file: u32) -> Result<u64, Fai
 
 /// Opens a log: syncs the file, and reads it. The log then rests behind its frames.
 pub fn read_log<V: Site>(alloc: Global, site: &mut V, file: u32) -> Result<Opened, OpenError>
+    ensures told { V.tells site.new → V.tells site.old }
     // A crash leaves what it could have left before.
-    ensures during { V.tells → LeavesOnly file (V.history site.old) (V.history site.new) (Leaves (changes_of file (V.history site.old))) }
-    ensures opens { V.tells → OpensAs (content_of file (V.history site.old)) file (V.history site.new) result }
-    ensures syncs { V.tells → (V.history site.new ≡ on file synced ∷ V.history site.old) ⊎ (V.history site.new ≡ V.history site.old) }
-    ensures synced { V.tells → OnOk result (V.history site.new ≡ on file synced ∷ V.history site.old) }
-    ensures synced_fresh { V.tells → result ≡ Err OpenError.Fresh → V.history site.new ≡ on file synced ∷ V.history site.old }
-    ensures synced_damaged { V.tells → (other offset : ℕ) → result ≡ Err (OpenError.Damaged other offset) → V.history site.new ≡ on file synced ∷ V.history site.old }
+    ensures during { V.tells site.new → LeavesOnly file (V.history site.old) (V.history site.new) (Leaves (changes_of file (V.history site.old))) }
+    ensures opens { V.tells site.new → OpensAs (content_of file (V.history site.old)) file (V.history site.new) result }
+    ensures syncs { (V.history site.new ≡ on file synced ∷ V.history site.old) ⊎ (V.history site.new ≡ V.history site.old) }
+    ensures synced { OnOk result (V.history site.new ≡ on file synced ∷ V.history site.old) }
+    ensures synced_fresh { result ≡ Err OpenError.Fresh → V.history site.new ≡ on file synced ∷ V.history site.old }
+    ensures synced_damaged { (other offset : ℕ) → result ≡ Err (OpenError.Damaged other offset) → V.history site.new ≡ on file synced ∷ V.history site.old }
     ensures place { IfOk result (λ found. found.log.file ≡ file) }
     ensures ends { IfOk result (λ found. EndsAt found.header found.payloads.items found.log.gate) }
     ensures fault { result ≡ Err OpenError.SiteFault → HasRisen (V.disk_faults site.old) (V.disk_faults site.new) }

@@ -3,11 +3,14 @@
 //!
 //! - `words` is the command, `ended` what a run gives back, and `top` the call that a program makes. `specs/Headline` is
 //!   what it promises of every moment.
+//! - `recorded` is that call over recorded calls of the system, which is what the program makes.
 #![tactic(auto)]
 
 mod ended;
+mod recorded;
 mod top;
 mod words;
 
 pub use ended::Ended;
+pub use recorded::run_recorded;
 pub use top::{run, run_alone};

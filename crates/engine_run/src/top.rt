@@ -31,13 +31,14 @@ fn perform<V: Site, A: Activities>(
     entries: &mut Vec<Entry>,
 ) -> Cause
     requires { entries.old.items ≡ [] }
-    ensures answers { V.tells → Answers (λ file. content_of file (V.history site.old)) result }
-    ensures says { V.tells → Says (λ file. content_of file (V.history site.old)) (tape (V.history site.old)) (tape (V.history site.new)) result }
-    ensures untouched { V.tells → Untouched (V.history site.old) (V.history site.new) result }
-    ensures headline { V.tells → Always (Headline (λ file. content_of file (V.history site.old)) (V.history site.old) entries.new.items) (V.history site.old) (V.history site.new) }
-    ensures rises { V.tells → Rises (length (V.history site.old)) entries.new.items (length (V.history site.new)) }
+    ensures told { V.tells site.new → V.tells site.old }
+    ensures answers { V.tells site.new → Answers (λ file. content_of file (V.history site.old)) result }
+    ensures says { V.tells site.new → Says (λ file. content_of file (V.history site.old)) (tape (V.history site.old)) (tape (V.history site.new)) result }
+    ensures untouched { V.tells site.new → Untouched (V.history site.old) (V.history site.new) result }
+    ensures headline { V.tells site.new → Always (Headline (λ file. content_of file (V.history site.old)) (V.history site.old) entries.new.items) (V.history site.old) (V.history site.new) }
+    ensures rises { V.tells site.new → Rises (length (V.history site.old)) entries.new.items (length (V.history site.new)) }
     ensures homes { All (λ e. e.partition ≡ 0) entries.new.items }
-    ensures done { V.tells → result ≡ Cause.Done → IsDone (λ file. content_of file (V.history site.old)) (V.history site.old) entries.new.items (V.history site.new) }
+    ensures done { V.tells site.new → result ≡ Cause.Done → IsDone (λ file. content_of file (V.history site.old)) (V.history site.old) entries.new.items (V.history site.new) }
     ensures no_usage { result ≢ Cause.Usage }
     ensures site_fault { result ≡ Cause.SiteFault → HasRisen (V.disk_faults site.old) (V.disk_faults site.new) }
     ensures say_fault { result ≡ Cause.SayFault → HasRisen (V.say_faults site.old) (V.say_faults site.new) }
@@ -66,16 +67,17 @@ pub fn run_alone<V: Site, C: Clock, A: Activities>(
     clock: C,
     acts: &A,
 ) -> Ended<V, C>
+    ensures told { V.tells result.site → V.tells site }
     ensures status { result.status ≡ status_of result.cause }
     ensures usage { words.now ≢ run_words → result.cause ≡ Cause.Usage }
     ensures only_usage { result.cause ≡ Cause.Usage → words.now ≢ run_words }
-    ensures answers { V.tells → words.now ≡ run_words → Answers (λ file. content_of file (V.history site)) result.cause }
-    ensures says { V.tells → Says (λ file. content_of file (V.history site)) (tape (V.history site)) (tape (V.history result.site)) result.cause }
-    ensures untouched { V.tells → Untouched (V.history site) (V.history result.site) result.cause }
-    ensures headline { V.tells → Always (Headline (λ file. content_of file (V.history site)) (V.history site) result.trail) (V.history site) (V.history result.site) }
-    ensures rises { V.tells → Rises (length (V.history site)) result.trail (length (V.history result.site)) }
+    ensures answers { V.tells result.site → words.now ≡ run_words → Answers (λ file. content_of file (V.history site)) result.cause }
+    ensures says { V.tells result.site → Says (λ file. content_of file (V.history site)) (tape (V.history site)) (tape (V.history result.site)) result.cause }
+    ensures untouched { V.tells result.site → Untouched (V.history site) (V.history result.site) result.cause }
+    ensures headline { V.tells result.site → Always (Headline (λ file. content_of file (V.history site)) (V.history site) result.trail) (V.history site) (V.history result.site) }
+    ensures rises { V.tells result.site → Rises (length (V.history site)) result.trail (length (V.history result.site)) }
     ensures homes { All (λ e. e.partition ≡ 0) result.trail }
-    ensures done { V.tells → result.cause ≡ Cause.Done → IsDone (λ file. content_of file (V.history site)) (V.history site) result.trail (V.history result.site) }
+    ensures done { V.tells result.site → result.cause ≡ Cause.Done → IsDone (λ file. content_of file (V.history site)) (V.history site) result.trail (V.history result.site) }
     ensures site_fault { result.cause ≡ Cause.SiteFault → HasRisen (V.disk_faults site) (V.disk_faults result.site) }
     ensures say_fault { result.cause ≡ Cause.SayFault → HasRisen (V.say_faults site) (V.say_faults result.site) }
     ensures disk_later { V.disk_faults site ≤ V.disk_faults result.site }
@@ -112,6 +114,7 @@ pub fn run<R: Threads + Wait + Sync, V: Site + Send, C: Clock + Send, A: Activit
     clock: C,
     acts: &A,
 ) -> Ended<V, C>
+    ensures told { V.tells result.site → V.tells site }
     ensures status { result.status ≡ status_of result.cause }
 
     // The words alone decide on a usage fault.
@@ -119,7 +122,7 @@ pub fn run<R: Threads + Wait + Sync, V: Site + Send, C: Clock + Send, A: Activit
     ensures only_usage { result.cause ≡ Cause.Usage → words.now ≢ run_words }
 
     // Which other causes there may be, by what the files read at the start.
-    ensures answers { V.tells → words.now ≡ run_words → Answers (λ file. content_of file (V.history site)) result.cause }
+    ensures answers { V.tells result.site → words.now ≡ run_words → Answers (λ file. content_of file (V.history site)) result.cause }
 
     // A fault has its cause.
     ensures site_fault { result.cause ≡ Cause.SiteFault → HasRisen (V.disk_faults site) (V.disk_faults result.site) }
@@ -128,17 +131,17 @@ pub fn run<R: Threads + Wait + Sync, V: Site + Send, C: Clock + Send, A: Activit
     ensures say_later { V.say_faults site ≤ V.say_faults result.site }
 
     // What was said, and that a refusal changes nothing.
-    ensures says { V.tells → Says (λ file. content_of file (V.history site)) (tape (V.history site)) (tape (V.history result.site)) result.cause }
-    ensures untouched { V.tells → Untouched (V.history site) (V.history result.site) result.cause }
+    ensures says { V.tells result.site → Says (λ file. content_of file (V.history site)) (tape (V.history site)) (tape (V.history result.site)) result.cause }
+    ensures untouched { V.tells result.site → Untouched (V.history site) (V.history result.site) result.cause }
 
     // At every moment, inside each call of the site too, a crash leaves files that stand for a legal run of the
     // failure-free machine: the one at the start, then what is settled by then, then at most the one entry whose gate is
     // being written. What was said by then is that run's, and nothing else that a run must never do is in it. The moments on
     // the trail rise. At the end of a run that is done nothing is left to do, and every request is answered and said.
-    ensures headline { V.tells → Always (Headline (λ file. content_of file (V.history site)) (V.history site) result.trail) (V.history site) (V.history result.site) }
-    ensures rises { V.tells → Rises (length (V.history site)) result.trail (length (V.history result.site)) }
+    ensures headline { V.tells result.site → Always (Headline (λ file. content_of file (V.history site)) (V.history site) result.trail) (V.history site) (V.history result.site) }
+    ensures rises { V.tells result.site → Rises (length (V.history site)) result.trail (length (V.history result.site)) }
     ensures homes { All (λ e. e.partition ≡ 0) result.trail }
-    ensures done { V.tells → result.cause ≡ Cause.Done → IsDone (λ file. content_of file (V.history site)) (V.history site) result.trail (V.history result.site) }
+    ensures done { V.tells result.site → result.cause ≡ Cause.Done → IsDone (λ file. content_of file (V.history site)) (V.history site) result.trail (V.history result.site) }
     ensures clock { result.clock ≡ clock }
 {
     let _ = rt;

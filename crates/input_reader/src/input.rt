@@ -49,7 +49,8 @@ impl Input {
 
 /// The length of an input file, unless it is too long.
 fn input_length<V: Site>(site: &mut V, file: u32) -> Result<u64, Cause>
-    ensures reads { V.tells → LengthRead (content_of file (V.history site.old)) file result }
+    ensures told { V.tells site.new → V.tells site.old }
+    ensures reads { V.tells site.new → LengthRead (content_of file (V.history site.old)) file result }
     ensures input_cause { IfErr result IsInputCause }
     ensures unchanged { V.history site.new ≡ V.history site.old }
     ensures later { V.disk_faults site.old ≤ V.disk_faults site.new }
@@ -70,7 +71,8 @@ fn input_length<V: Site>(site: &mut V, file: u32) -> Result<u64, Cause>
 
 /// The bytes of an input file.
 fn read_file<V: Site>(alloc: Global, site: &mut V, file: u32) -> Result<Vec<u8>, Cause>
-    ensures reads { V.tells → ReadsFile (content_of file (V.history site.old)) file result }
+    ensures told { V.tells site.new → V.tells site.old }
+    ensures reads { V.tells site.new → ReadsFile (content_of file (V.history site.old)) file result }
     ensures input_cause { IfErr result IsInputCause }
     ensures unchanged { V.history site.new ≡ V.history site.old }
     ensures later { V.disk_faults site.old ≤ V.disk_faults site.new }
@@ -89,7 +91,8 @@ fn read_file<V: Site>(alloc: Global, site: &mut V, file: u32) -> Result<Vec<u8>,
 
 /// The flow of file 0, and the digest of the file.
 fn read_flow_file<V: Site>(alloc: Global, site: &mut V) -> Result<(Flow, u64), Cause>
-    ensures reads { V.tells → FlowsRead (content_of FLOWS (V.history site.old)) result }
+    ensures told { V.tells site.new → V.tells site.old }
+    ensures reads { V.tells site.new → FlowsRead (content_of FLOWS (V.history site.old)) result }
     ensures input_cause { IfErr result IsInputCause }
     ensures unchanged { V.history site.new ≡ V.history site.old }
     ensures later { V.disk_faults site.old ≤ V.disk_faults site.new }
@@ -112,7 +115,8 @@ fn read_flow_file<V: Site>(alloc: Global, site: &mut V) -> Result<(Flow, u64), C
 
 /// The requests of file 1.
 fn read_request_file<V: Site>(alloc: Global, site: &mut V, flow: &Name) -> Result<Requests, Cause>
-    ensures reads { V.tells → RequestsRead flow.now (content_of REQUESTS (V.history site.old)) result }
+    ensures told { V.tells site.new → V.tells site.old }
+    ensures reads { V.tells site.new → RequestsRead flow.now (content_of REQUESTS (V.history site.old)) result }
     ensures input_cause { IfErr result IsInputCause }
     ensures unchanged { V.history site.new ≡ V.history site.old }
     ensures later { V.disk_faults site.old ≤ V.disk_faults site.new }
@@ -131,7 +135,8 @@ fn read_request_file<V: Site>(alloc: Global, site: &mut V, flow: &Name) -> Resul
 
 /// Looks whether file 2 is empty.
 fn check_plan<V: Site>(site: &mut V) -> Result<(), Cause>
-    ensures reads { V.tells → PlanRead (content_of PLAN (V.history site.old)) result }
+    ensures told { V.tells site.new → V.tells site.old }
+    ensures reads { V.tells site.new → PlanRead (content_of PLAN (V.history site.old)) result }
     ensures input_cause { IfErr result IsInputCause }
     ensures unchanged { V.history site.new ≡ V.history site.old }
     ensures later { V.disk_faults site.old ≤ V.disk_faults site.new }
@@ -149,7 +154,8 @@ fn check_plan<V: Site>(site: &mut V) -> Result<(), Cause>
 
 /// The requests of file 1, if file 2 is empty.
 fn read_rest<V: Site>(alloc: Global, site: &mut V, flow: &Name) -> Result<Requests, Cause>
-    ensures reads { V.tells → MatchResult result
+    ensures told { V.tells site.new → V.tells site.old }
+    ensures reads { V.tells site.new → MatchResult result
         (λ requests. (requests_refusal flow.now (content_of REQUESTS (V.history site.old)) (content_of PLAN (V.history site.old)) ≡ None)
         × (requests_in flow.now (content_of REQUESTS (V.history site.old)) ≡ Some requests))
         (λ cause. Refuses (requests_refusal flow.now (content_of REQUESTS (V.history site.old)) (content_of PLAN (V.history site.old))) cause) }
@@ -170,7 +176,8 @@ fn read_rest<V: Site>(alloc: Global, site: &mut V, flow: &Name) -> Result<Reques
 
 /// Reads files 0, 1 and 2 in this order, each one's length first.
 pub fn read_input<V: Site>(alloc: Global, site: &mut V) -> Result<Input, Cause>
-    ensures reads { V.tells → ReadsInput (λ file. content_of file (V.history site.old)) result }
+    ensures told { V.tells site.new → V.tells site.old }
+    ensures reads { V.tells site.new → ReadsInput (λ file. content_of file (V.history site.old)) result }
     ensures input_cause { IfErr result IsInputCause }
     ensures unchanged { V.history site.new ≡ V.history site.old }
     ensures later { V.disk_faults site.old ≤ V.disk_faults site.new }

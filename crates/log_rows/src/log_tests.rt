@@ -96,16 +96,18 @@ fn check_content(rt: &impl Abort, alloc: Global, site: &MemorySite, wanted: &[u8
 
 // Opens this file, whose log rests then.
 fn opened<V: Site>(rt: &impl Abort, alloc: Global, site: &mut V, file: u32) -> Resting
-    ensures rests { V.tells → Rests (changes_of file (V.history site.new)) result.gate }
+    ensures told { V.tells site.new → V.tells site.old }
+    ensures rests { V.tells site.new → Rests (changes_of file (V.history site.new)) result.gate }
     ensures file { result.file ≡ file }
-    ensures synced { V.tells → V.history site.new ≡ on file synced ∷ V.history site.old }
+    ensures synced { V.history site.new ≡ on file synced ∷ V.history site.old }
 {
     read_log(alloc, site, file).expect(rt, "a log").log
 }
 
 // Opens file 1, whose log rests then.
 fn rested<V: Site>(rt: &impl Abort, alloc: Global, site: &mut V) -> Resting
-    ensures { V.tells → Rests (changes_of result.file (V.history site.new)) result.gate }
+    ensures told { V.tells site.new → V.tells site.old }
+    ensures rests { V.tells site.new → Rests (changes_of result.file (V.history site.new)) result.gate }
 {
     opened(rt, alloc, site, 1)
 }
@@ -117,12 +119,13 @@ fn synced<V: Site>(
     log: Resting,
     payload: &[u8],
 ) -> Result<Synced, BodyError>
-    requires { V.tells → Rests (changes_of log.file (V.history site.old)) log.gate }
-    ensures frames { V.tells → (h : Header) (payloads : List (List ℕ)) → IsResting (changes_of log.file (V.history site.old)) h payloads log.gate
+    requires { V.tells site.old → Rests (changes_of log.file (V.history site.old)) log.gate }
+    ensures told { V.tells site.new → V.tells site.old }
+    ensures frames { (h : Header) (payloads : List (List ℕ)) → IsResting (changes_of log.file (V.history site.old)) h payloads log.gate
         → IfOk result (λ made. IsSynced (changes_of made.file (V.history site.new)) h payloads payload.now made.gate made.next) }
-    ensures there { V.tells → IfOk result (λ made. IsSyncedThere (changes_of made.file (V.history site.new)) made.gate made.next) }
+    ensures there { V.tells site.new → IfOk result (λ made. IsSyncedThere (changes_of made.file (V.history site.new)) made.gate made.next) }
     ensures file { IfOk result (λ made. made.file ≡ log.file) }
-    ensures only { V.tells → OnOk result (OnlyFile log.file (V.history site.old) (V.history site.new)) }
+    ensures only { V.tells site.new → OnOk result (OnlyFile log.file (V.history site.old) (V.history site.new)) }
 {
     let log = log.body(alloc, site, payload, LIMIT)?;
     match log.sync_body(site) {
@@ -138,11 +141,12 @@ fn commit<V: Site>(
     log: Resting,
     payload: &[u8],
 ) -> Result<Resting, BodyError>
-    requires { V.tells → Rests (changes_of log.file (V.history site.old)) log.gate }
-    ensures frames { V.tells → (h : Header) (payloads : List (List ℕ)) → IsResting (changes_of log.file (V.history site.old)) h payloads log.gate
+    requires { V.tells site.old → Rests (changes_of log.file (V.history site.old)) log.gate }
+    ensures told { V.tells site.new → V.tells site.old }
+    ensures frames { (h : Header) (payloads : List (List ℕ)) → IsResting (changes_of log.file (V.history site.old)) h payloads log.gate
         → IfOk result (λ made. RestsAs (V.history site.new) h (payloads ++ payload.now ∷ []) made) }
     ensures file { IfOk result (λ made. made.file ≡ log.file) }
-    ensures only { V.tells → OnOk result (OnlyFile log.file (V.history site.old) (V.history site.new)) }
+    ensures only { V.tells site.new → OnOk result (OnlyFile log.file (V.history site.old) (V.history site.new)) }
 {
     let log = synced(alloc, site, log, payload)?;
     let log = match log.gate(site) {
@@ -224,7 +228,8 @@ fn the_two_examples(rt: HostRuntime) {
 
 // The log at rest that is given back where the limit is 77, to which the file would come.
 fn full<V: Site>(rt: &impl Abort, alloc: Global, site: &mut V) -> Resting
-    ensures { V.tells → Rests (changes_of result.file (V.history site.new)) result.gate }
+    ensures told { V.tells site.new → V.tells site.old }
+    ensures rests { V.tells site.new → Rests (changes_of result.file (V.history site.new)) result.gate }
 {
     let log = rested(rt, alloc, site);
     match log.body(alloc, site, &PAYLOAD, 77) {
@@ -514,7 +519,8 @@ fn check_reopened(
 
 // Opens file 1 and takes the first two steps of a commit of `NEXT`.
 fn next_synced<V: Site>(rt: &impl Abort, alloc: Global, site: &mut V) -> Synced
-    ensures { V.tells → IsSyncedThere (changes_of result.file (V.history site.new)) result.gate result.next }
+    ensures told { V.tells site.new → V.tells site.old }
+    ensures there { V.tells site.new → IsSyncedThere (changes_of result.file (V.history site.new)) result.gate result.next }
 {
     let log = rested(rt, alloc, site);
     synced(alloc, site, log, &NEXT).expect(rt, "no fault")
@@ -586,11 +592,12 @@ fn commit_on_both<V: Site>(
     other: &[u8],
 ) -> Result<(Resting, Resting), BodyError>
     requires apart { first.file ≢ second.file }
-    requires first_rests { V.tells → Rests (changes_of first.file (V.history site.old)) first.gate }
-    requires second_rests { V.tells → Rests (changes_of second.file (V.history site.old)) second.gate }
-    ensures on_first { V.tells → (h : Header) (payloads : List (List ℕ)) → IsResting (changes_of first.file (V.history site.old)) h payloads first.gate
+    requires first_rests { V.tells site.old → Rests (changes_of first.file (V.history site.old)) first.gate }
+    requires second_rests { V.tells site.old → Rests (changes_of second.file (V.history site.old)) second.gate }
+    ensures told { V.tells site.new → V.tells site.old }
+    ensures on_first { V.tells site.new → (h : Header) (payloads : List (List ℕ)) → IsResting (changes_of first.file (V.history site.old)) h payloads first.gate
         → IfOk result (λ made. RestsAs (V.history site.new) h (payloads ++ one.now ∷ []) made.0) }
-    ensures on_second { V.tells → (h : Header) (payloads : List (List ℕ)) → IsResting (changes_of second.file (V.history site.old)) h payloads second.gate
+    ensures on_second { V.tells site.new → (h : Header) (payloads : List (List ℕ)) → IsResting (changes_of second.file (V.history site.old)) h payloads second.gate
         → IfOk result (λ made. RestsAs (V.history site.new) h (payloads ++ other.now ∷ []) made.1) }
 {
     let first = commit(alloc, site, first, one)?;

@@ -1,36 +1,77 @@
 //! The command `netherite`: its words, and the real outside that it hands to the engine.
 //!
 //! - `call`: the words that the program was called with.
+//! - `hints`: what a person is told beside the cause.
 #![tactic(auto)]
 
+ghost use Rattle.std.specs.Prelude.{◌≡◌};
+ghost use Rattle.std.specs.Process.{exit_status};
+ghost use Rattle.input_reader.specs.Refusal.{status_of};
+
 mod call;
+mod hints;
+#[cfg(test)]
+mod tests;
 
 use activity_table::Table;
-use call::{Call, CallError};
-use engine_run::run;
+use call::{CallError, read_call};
+use engine_run::run_recorded;
+use hints::{hint_cause, hint_command};
 use input_reader::Cause;
-use site_files::{FileSite, WallClock};
+use site_calls::{CalledSite, Start, Unknown};
+use site_host::Host;
 use std::process::ExitCode;
+use std::sync::Wait;
+use std::thread::Threads;
+use wall_clock::WallClock;
 
 fn main(rt: HostRuntime) -> ExitCode {
+    serve(&rt, rt, Unknown)
+}
+
+// Runs the command on the real outside. No code can read `start`, so this is proved whatever the files held.
+fn serve<T: Threads + Wait + Sync, S: Start + Send>(
+    threads: &T,
+    rt: HostRuntime,
+    start: S,
+) -> ExitCode {
     let alloc = rt.alloc();
-    let call = match Call::read(&rt) {
+    let call = match read_call(&rt) {
         Ok(call) => call,
         Err(CallError::Usage) => return end(&rt, Cause::Usage),
         Err(CallError::Memory) => return end(&rt, Cause::Memory),
     };
-    let site = match FileSite::open(rt, alloc, call.directory.as_str()) {
-        Ok(site) => site,
+    let host = match Host::open(rt, alloc, call.directory.as_str()) {
+        Ok(host) => host,
         Err(_) => return end(&rt, Cause::Memory),
     };
-    let ended = run(&rt, alloc, &call.words, site, WallClock::new(rt), &Table);
-    end(&rt, ended.cause)
+    let site = CalledSite::new(host, start);
+    let clock = WallClock::new(rt);
+    let ended = run_recorded(threads, alloc, &call.words, site, clock, &Table);
+    let fault = ended.site.fault();
+    let reason = ended.site.calls().reason();
+    let status = end(&rt, ended.cause);
+    hint_cause(
+        &rt,
+        call.directory.as_str(),
+        ended.cause,
+        fault,
+        reason,
+        ended.site,
+    );
+    status
 }
 
-// Ends with the cause's status. A fault goes to standard error; where that is closed, the status alone tells it.
-fn end(rt: &impl Eprint, cause: Cause) -> ExitCode {
+// Ends with the cause's status. A cause that isn't done goes to standard error; where that is closed, the status alone
+// tells it.
+fn end(rt: &HostRuntime, cause: Cause) -> ExitCode
+    ensures { exit_status result ≡ status_of cause }
+{
     if cause != Cause::Done {
         let _ = eprintln!(rt; "netherite: {cause}");
+    }
+    if cause == Cause::Usage {
+        hint_command(rt);
     }
     ExitCode::from(cause.status())
 }

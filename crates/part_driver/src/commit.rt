@@ -25,10 +25,11 @@ fn write_frame<V: Site>(
     payload: &[u8],
 ) -> Result<Synced, Cause>
     requires room { log.gate + 6 + length payload.now < 2 ^ 31 }
-    requires rests { V.tells → Rests (changes_of log.file (V.history site.old)) log.gate }
-    ensures during { V.tells → (h : Header) (payloads : List (List ℕ)) → IsResting (changes_of log.file (V.history site.old)) h payloads log.gate
+    requires rests { V.tells site.old → Rests (changes_of log.file (V.history site.old)) log.gate }
+    ensures told { V.tells site.new → V.tells site.old }
+    ensures during { (h : Header) (payloads : List (List ℕ)) → IsResting (changes_of log.file (V.history site.old)) h payloads log.gate
         → LeavesOnly log.file (V.history site.old) (V.history site.new) (HasFrames h payloads log.gate) }
-    ensures after { V.tells → (h : Header) (payloads : List (List ℕ)) → IsResting (changes_of log.file (V.history site.old)) h payloads log.gate
+    ensures after { (h : Header) (payloads : List (List ℕ)) → IsResting (changes_of log.file (V.history site.old)) h payloads log.gate
         → IfOk result (λ safe. IsSynced (changes_of safe.file (V.history site.new)) h payloads payload.now safe.gate safe.next) }
     ensures place { IfOk result (λ safe. (safe.file ≡ log.file) × (safe.gate ≡ log.gate) × (safe.next ≡ log.gate + 5 + length payload.now)) }
     ensures outside { IfErr result IsOutside }
@@ -50,13 +51,14 @@ fn write_frame<V: Site>(
 
 /// Opens the gate before a safe frame, and makes it safe too.
 fn open_gate<V: Site>(site: &mut V, safe: Synced) -> Result<Resting, Cause>
-    requires { V.tells → IsSyncedThere (changes_of safe.file (V.history site.old)) safe.gate safe.next }
-    ensures during { V.tells → (h : Header) (payloads : List (List ℕ)) (payload : List ℕ) → IsSynced (changes_of safe.file (V.history site.old)) h payloads payload safe.gate safe.next
+    requires { V.tells site.old → IsSyncedThere (changes_of safe.file (V.history site.old)) safe.gate safe.next }
+    ensures told { V.tells site.new → V.tells site.old }
+    ensures during { (h : Header) (payloads : List (List ℕ)) (payload : List ℕ) → IsSynced (changes_of safe.file (V.history site.old)) h payloads payload safe.gate safe.next
         → Always (LeavesCommit safe.file h payloads payload safe.gate (V.history site.old)) (V.history site.old) (V.history site.new) }
-    ensures after { V.tells → (h : Header) (payloads : List (List ℕ)) (payload : List ℕ) → IsSynced (changes_of safe.file (V.history site.old)) h payloads payload safe.gate safe.next
+    ensures after { (h : Header) (payloads : List (List ℕ)) (payload : List ℕ) → IsSynced (changes_of safe.file (V.history site.old)) h payloads payload safe.gate safe.next
         → IfOk result (λ next. RestsAs (V.history site.new) h (payloads ++ payload ∷ []) next) }
     ensures place { IfOk result (λ next. (next.file ≡ safe.file) × (next.gate ≡ safe.next)) }
-    ensures moves { V.tells → OnOk result (length (V.history site.old) < length (V.history site.new)) }
+    ensures moves { OnOk result (length (V.history site.old) < length (V.history site.new)) }
     ensures outside { IfErr result IsOutside }
     ensures fault { OnErr result (HasRisen (V.disk_faults site.old) (V.disk_faults site.new)) }
     ensures later { V.disk_faults site.old ≤ V.disk_faults site.new }
@@ -80,15 +82,16 @@ pub(crate) fn commit<V: Site>(
     payload: &[u8],
 ) -> Result<Resting, Cause>
     requires room { log.gate + 6 + length payload.now < 2 ^ 31 }
-    requires rests { V.tells → Rests (changes_of log.file (V.history site.old)) log.gate }
-    ensures during { V.tells → (h : Header) (payloads : List (List ℕ)) → IsResting (changes_of log.file (V.history site.old)) h payloads log.gate
+    requires rests { V.tells site.old → Rests (changes_of log.file (V.history site.old)) log.gate }
+    ensures told { V.tells site.new → V.tells site.old }
+    ensures during { (h : Header) (payloads : List (List ℕ)) → IsResting (changes_of log.file (V.history site.old)) h payloads log.gate
         → Always (LeavesCommit log.file h payloads payload.now log.gate (V.history site.old)) (V.history site.old) (V.history site.new) }
-    ensures after { V.tells → (h : Header) (payloads : List (List ℕ)) → IsResting (changes_of log.file (V.history site.old)) h payloads log.gate
+    ensures after { (h : Header) (payloads : List (List ℕ)) → IsResting (changes_of log.file (V.history site.old)) h payloads log.gate
         → IfOk result (λ next. RestsAs (V.history site.new) h (payloads ++ payload.now ∷ []) next) }
-    ensures rests { V.tells → IfOk result (λ next. Rests (changes_of next.file (V.history site.new)) next.gate) }
+    ensures rests { V.tells site.new → IfOk result (λ next. Rests (changes_of next.file (V.history site.new)) next.gate) }
     ensures place { IfOk result (λ next. (next.file ≡ log.file) × (next.gate ≡ log.gate + 5 + length payload.now)) }
-    ensures moves { V.tells → OnOk result (length (V.history site.old) < length (V.history site.new)) }
-    ensures tape { V.tells → tape (V.history site.new) ≡ tape (V.history site.old) }
+    ensures moves { V.tells site.new → OnOk result (length (V.history site.old) < length (V.history site.new)) }
+    ensures tape { V.tells site.new → tape (V.history site.new) ≡ tape (V.history site.old) }
     ensures outside { IfErr result IsOutside }
     ensures fault { result ≡ Err Cause.SiteFault → HasRisen (V.disk_faults site.old) (V.disk_faults site.new) }
     ensures later { V.disk_faults site.old ≤ V.disk_faults site.new }

@@ -35,15 +35,16 @@ pub fn drive<V: Site, A: Activities>(
     entries: &mut Vec<Entry>,
 ) -> Result<(), Cause>
     requires empty { entries.old.items ≡ [] }
-    requires rests { V.tells → Rests (changes_of recovered.log.file (V.history site.old)) recovered.log.gate }
-    ensures during { V.tells → (h : Header) (payloads : List (List ℕ)) → IsResting (changes_of recovered.log.file (V.history site.old)) h payloads recovered.log.gate
+    requires rests { V.tells site.old → Rests (changes_of recovered.log.file (V.history site.old)) recovered.log.gate }
+    ensures told { V.tells site.new → V.tells site.old }
+    ensures during { V.tells site.new → (h : Header) (payloads : List (List ℕ)) → IsResting (changes_of recovered.log.file (V.history site.old)) h payloads recovered.log.gate
         → Always (AtMoment input.now (origin_of recovered h payloads) (tape (V.history site.old)) entries.new.items) (V.history site.old) (V.history site.new) }
-    ensures others { V.tells → Always (OthersSame recovered.log.file (V.history site.old)) (V.history site.old) (V.history site.new) }
-    ensures rises { V.tells → Rises (length (V.history site.old)) entries.new.items (length (V.history site.new)) }
+    ensures others { V.tells site.new → Always (OthersSame recovered.log.file (V.history site.old)) (V.history site.old) (V.history site.new) }
+    ensures rises { V.tells site.new → Rises (length (V.history site.old)) entries.new.items (length (V.history site.new)) }
     ensures all { (end : State) × Appends recovered.incarnation recovered.position recovered.state entries.new.items end × OnOk result (IsQuiet end true) }
-    ensures settled { V.tells → (h : Header) (payloads : List (List ℕ)) → IsResting (changes_of recovered.log.file (V.history site.old)) h payloads recovered.log.gate
+    ensures settled { V.tells site.new → (h : Header) (payloads : List (List ℕ)) → IsResting (changes_of recovered.log.file (V.history site.old)) h payloads recovered.log.gate
         → OnOk result (LeavesAll input.now (origin_of recovered h payloads) entries.new.items (V.history site.new)) }
-    ensures tape { V.tells → DrivesTape recovered.state input.now (tape (V.history site.old)) (tape (V.history site.new)) result }
+    ensures tape { V.tells site.new → DrivesTape recovered.state input.now (tape (V.history site.old)) (tape (V.history site.new)) result }
     ensures driving { IfErr result IsDriving }
     ensures fault { result ≡ Err Cause.SiteFault → HasRisen (V.disk_faults site.old) (V.disk_faults site.new) }
     ensures say_fault { result ≡ Err Cause.SayFault → HasRisen (V.say_faults site.old) (V.say_faults site.new) }

@@ -91,15 +91,16 @@ fn recover_opened(alloc: Global, input: &Input, opened: Opened) -> Result<Recove
 
 /// Makes the log of a partition that has none.
 fn make_log<V: Site>(site: &mut V, input: &Input) -> Result<Recovered, Cause>
-    requires { V.tells → IsKept (changes_of LOG (V.history site.old)) }
-    ensures rests { V.tells → IfOk result (λ r. Rests (changes_of r.log.file (V.history site.new)) r.log.gate) }
-    ensures during { V.tells → LeavesOnly LOG (V.history site.old) (V.history site.new) (IsFormatting (content_of LOG (V.history site.old)) (header_with input.now.digest)) }
-    ensures stands { V.tells → IfOk result (λ r. IsResting (changes_of r.log.file (V.history site.new)) (header_with input.now.digest) [] r.log.gate) }
+    requires { V.tells site.old → IsKept (changes_of LOG (V.history site.old)) }
+    ensures told { V.tells site.new → V.tells site.old }
+    ensures rests { V.tells site.new → IfOk result (λ r. Rests (changes_of r.log.file (V.history site.new)) r.log.gate) }
+    ensures during { V.tells site.new → LeavesOnly LOG (V.history site.old) (V.history site.new) (IsFormatting (content_of LOG (V.history site.old)) (header_with input.now.digest)) }
+    ensures stands { V.tells site.new → IfOk result (λ r. IsResting (changes_of r.log.file (V.history site.new)) (header_with input.now.digest) [] r.log.gate) }
     ensures first { IfOk result (λ r. (r.position ≡ 0) × (r.incarnation ≡ 0)) }
     ensures place { IfOk result (λ r. r.log.file ≡ LOG) }
     ensures fresh { IfOk result (λ r. r.state ≡ fresh_state) }
     ensures fault { OnErr result ((result ≡ Err Cause.SiteFault) × HasRisen (V.disk_faults site.old) (V.disk_faults site.new)) }
-    ensures tape { V.tells → tape (V.history site.new) ≡ tape (V.history site.old) }
+    ensures tape { V.tells site.new → tape (V.history site.new) ≡ tape (V.history site.old) }
     ensures later { V.disk_faults site.old ≤ V.disk_faults site.new }
     ensures say_faults { V.say_faults site.new ≡ V.say_faults site.old }
 {
@@ -123,16 +124,17 @@ fn make_log<V: Site>(site: &mut V, input: &Input) -> Result<Recovered, Cause>
 /// Opens the log, or makes it where there is none.
 #[tactic(auto, using(crate::proofs::Opening::opening_reads, crate::proofs::Opening::opening_formats, crate::proofs::Opening::not_damaged, crate::proofs::Opening::recovers_opened))]
 pub fn recover<V: Site>(alloc: Global, site: &mut V, input: &Input) -> Result<Recovered, Cause>
-    ensures recovers { V.tells → Recovers input.now (content_of LOG (V.history site.old)) result }
-    ensures during { V.tells → Always (LeavesOpening input.now (V.history site.old)) (V.history site.old) (V.history site.new) }
-    ensures stands { V.tells → IfOk result (λ r. (payloads : List (List ℕ)) × IsResting (changes_of r.log.file (V.history site.new)) (header_with input.now.digest) payloads r.log.gate
+    ensures told { V.tells site.new → V.tells site.old }
+    ensures recovers { V.tells site.new → Recovers input.now (content_of LOG (V.history site.old)) result }
+    ensures during { V.tells site.new → Always (LeavesOpening input.now (V.history site.old)) (V.history site.old) (V.history site.new) }
+    ensures stands { V.tells site.new → IfOk result (λ r. (payloads : List (List ℕ)) × IsResting (changes_of r.log.file (V.history site.new)) (header_with input.now.digest) payloads r.log.gate
         × StartsFrom input.now (content_of LOG (V.history site.old)) payloads r.state r.position r.incarnation) }
-    ensures rests { V.tells → IfOk result (λ r. Rests (changes_of r.log.file (V.history site.new)) r.log.gate) }
+    ensures rests { V.tells site.new → IfOk result (λ r. Rests (changes_of r.log.file (V.history site.new)) r.log.gate) }
     ensures place { IfOk result (λ r. r.log.file ≡ LOG) }
-    ensures untouched { V.tells → (other offset : ℕ) → result ≡ Err (Cause.Damaged other offset) → V.history site.new ≡ on LOG synced ∷ V.history site.old }
+    ensures untouched { V.tells site.new → (other offset : ℕ) → result ≡ Err (Cause.Damaged other offset) → V.history site.new ≡ on LOG synced ∷ V.history site.old }
     ensures outside { IfErr result IsOpening }
     ensures fault { result ≡ Err Cause.SiteFault → HasRisen (V.disk_faults site.old) (V.disk_faults site.new) }
-    ensures tape { V.tells → tape (V.history site.new) ≡ tape (V.history site.old) }
+    ensures tape { V.tells site.new → tape (V.history site.new) ≡ tape (V.history site.old) }
     ensures later { V.disk_faults site.old ≤ V.disk_faults site.new }
     ensures say_faults { V.say_faults site.new ≡ V.say_faults site.old }
 {

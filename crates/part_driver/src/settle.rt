@@ -61,18 +61,19 @@ pub(crate) fn settle_label<V: Site, A: Activities>(
     entries: &mut Vec<Entry>,
 ) -> Result<Resting, Cause>
     requires room { log.gate + 232 < 2 ^ 31 }
-    requires rests { V.tells → Rests (changes_of log.file (V.history site.old)) log.gate }
-    ensures during { V.tells → (h : Header) (payloads : List (List ℕ)) → IsResting (changes_of log.file (V.history site.old)) h payloads log.gate
+    requires rests { V.tells site.old → Rests (changes_of log.file (V.history site.old)) log.gate }
+    ensures told { V.tells site.new → V.tells site.old }
+    ensures during { (h : Header) (payloads : List (List ℕ)) → IsResting (changes_of log.file (V.history site.old)) h payloads log.gate
         → Always (LeavesCommit log.file h payloads (payload_bytes input.now entry.position entry.incarnation entry.label) log.gate (V.history site.old)) (V.history site.old) (V.history site.new) }
-    ensures after { V.tells → (h : Header) (payloads : List (List ℕ)) → IsResting (changes_of log.file (V.history site.old)) h payloads log.gate
+    ensures after { (h : Header) (payloads : List (List ℕ)) → IsResting (changes_of log.file (V.history site.old)) h payloads log.gate
         → IfOk result (λ next. RestsAs (V.history site.new) h (payloads ++ payload_bytes input.now entry.position entry.incarnation entry.label ∷ []) next) }
-    ensures others { V.tells → Always (OthersSame log.file (V.history site.old)) (V.history site.old) (V.history site.new) }
-    ensures trail { OnOk result ((at : ℕ) × (V.tells → at ≡ length (V.history site.new)) × (entries.new.items ≡ entries.old.items ++ record entry { at = at } ∷ [])) }
+    ensures others { V.tells site.new → Always (OthersSame log.file (V.history site.old)) (V.history site.old) (V.history site.new) }
+    ensures trail { OnOk result ((at : ℕ) × (V.tells site.new → at ≡ length (V.history site.new)) × (entries.new.items ≡ entries.old.items ++ record entry { at = at } ∷ [])) }
     ensures no_trail { OnErr result (entries.new.items ≡ entries.old.items) }
-    ensures moves { V.tells → OnOk result (length (V.history site.old) < length (V.history site.new)) }
-    ensures rests { V.tells → IfOk result (λ next. Rests (changes_of next.file (V.history site.new)) next.gate) }
+    ensures moves { V.tells site.new → OnOk result (length (V.history site.old) < length (V.history site.new)) }
+    ensures rests { V.tells site.new → IfOk result (λ next. Rests (changes_of next.file (V.history site.new)) next.gate) }
     ensures place { IfOk result (λ next. (next.file ≡ log.file) × (next.gate ≤ log.gate + 231)) }
-    ensures tape { V.tells → tape (V.history site.new) ≡ tape (V.history site.old) }
+    ensures tape { V.tells site.new → tape (V.history site.new) ≡ tape (V.history site.old) }
     ensures outside { IfErr result IsOutside }
     ensures fault { result ≡ Err Cause.SiteFault → HasRisen (V.disk_faults site.old) (V.disk_faults site.new) }
     ensures later { V.disk_faults site.old ≤ V.disk_faults site.new }

@@ -35,10 +35,11 @@ impl Told {
 /// Says a line.
 fn say<V: Site>(site: &mut V, line: &[u8]) -> Result<(), Cause>
     requires { 0 < length line.now }
-    ensures said { V.tells → OnOk result (tape (V.history site.new) ≡ tape (V.history site.old) ++ line.now) }
-    ensures part { V.tells → (part : List ℕ) × (tape (V.history site.new) ≡ tape (V.history site.old) ++ part) × IsFront part line.now }
-    ensures files { V.tells → (file : ℕ) → changes_of file (V.history site.new) ≡ changes_of file (V.history site.old) }
-    ensures during { V.tells → Always (SaysPart line.now (V.history site.old)) (V.history site.old) (V.history site.new) }
+    ensures told { V.tells site.new → V.tells site.old }
+    ensures said { OnOk result (tape (V.history site.new) ≡ tape (V.history site.old) ++ line.now) }
+    ensures part { (part : List ℕ) × (tape (V.history site.new) ≡ tape (V.history site.old) ++ part) × IsFront part line.now }
+    ensures files { (file : ℕ) → changes_of file (V.history site.new) ≡ changes_of file (V.history site.old) }
+    ensures during { Always (SaysPart line.now (V.history site.old)) (V.history site.old) (V.history site.new) }
     ensures fault { OnErr result ((result ≡ Err Cause.SayFault) × HasRisen (V.say_faults site.old) (V.say_faults site.new)) }
     ensures later { V.say_faults site.old ≤ V.say_faults site.new }
     ensures disk_faults { V.disk_faults site.new ≡ V.disk_faults site.old }
@@ -59,11 +60,12 @@ fn say_start<V: Site>(
     told: Told,
 ) -> Result<Told, Cause>
     requires { TellsRightly state told }
-    ensures tape { V.tells → (before : List ℕ) → tape (V.history site.old) ≡ before ++ said_of input.now told → TapeAfter input.now before (tape (V.history site.new)) result }
+    ensures told { V.tells site.new → V.tells site.old }
+    ensures tape { (before : List ℕ) → tape (V.history site.old) ≡ before ++ said_of input.now told → TapeAfter input.now before (tape (V.history site.new)) result }
     ensures right { IfOk result (TellsRightly state) }
     ensures all { IfOk result (λ next. next ≡ Told.Nothing → state.start ≡ StartStage.Answered → ⊥) }
-    ensures files { V.tells → (file : ℕ) → changes_of file (V.history site.new) ≡ changes_of file (V.history site.old) }
-    ensures during { V.tells → Always (LeavesFiles input.now state told (V.history site.old)) (V.history site.old) (V.history site.new) }
+    ensures files { (file : ℕ) → changes_of file (V.history site.new) ≡ changes_of file (V.history site.old) }
+    ensures during { Always (LeavesFiles input.now state told (V.history site.old)) (V.history site.old) (V.history site.new) }
     ensures saying { IfErr result IsSaying }
     ensures fault { result ≡ Err Cause.SayFault → HasRisen (V.say_faults site.old) (V.say_faults site.new) }
     ensures later { V.say_faults site.old ≤ V.say_faults site.new }
@@ -92,12 +94,13 @@ fn say_wait<V: Site>(
     told: Told,
 ) -> Result<Told, Cause>
     requires { TellsRightly state told }
-    ensures tape { V.tells → (before : List ℕ) → tape (V.history site.old) ≡ before ++ said_of input.now told → TapeAfter input.now before (tape (V.history site.new)) result }
+    ensures told { V.tells site.new → V.tells site.old }
+    ensures tape { (before : List ℕ) → tape (V.history site.old) ≡ before ++ said_of input.now told → TapeAfter input.now before (tape (V.history site.new)) result }
     ensures right { IfOk result (TellsRightly state) }
     ensures all { IfOk result (λ next. next ≡ Told.Start → (found : Found) → state.wait ≡ WaitStage.Answered found → ⊥) }
     ensures still { IfOk result (λ next. next ≡ Told.Nothing → told ≡ Told.Nothing) }
-    ensures files { V.tells → (file : ℕ) → changes_of file (V.history site.new) ≡ changes_of file (V.history site.old) }
-    ensures during { V.tells → Always (LeavesFiles input.now state told (V.history site.old)) (V.history site.old) (V.history site.new) }
+    ensures files { (file : ℕ) → changes_of file (V.history site.new) ≡ changes_of file (V.history site.old) }
+    ensures during { Always (LeavesFiles input.now state told (V.history site.old)) (V.history site.old) (V.history site.new) }
     ensures saying { IfErr result IsSaying }
     ensures fault { result ≡ Err Cause.SayFault → HasRisen (V.say_faults site.old) (V.say_faults site.new) }
     ensures later { V.say_faults site.old ≤ V.say_faults site.new }
@@ -130,11 +133,12 @@ pub(crate) fn say_due<V: Site>(
     told: Told,
 ) -> Result<Told, Cause>
     requires { TellsRightly state told }
-    ensures tape { V.tells → (before : List ℕ) → tape (V.history site.old) ≡ before ++ said_of input.now told → TapeAfter input.now before (tape (V.history site.new)) result }
+    ensures told { V.tells site.new → V.tells site.old }
+    ensures tape { (before : List ℕ) → tape (V.history site.old) ≡ before ++ said_of input.now told → TapeAfter input.now before (tape (V.history site.new)) result }
     ensures right { IfOk result (TellsRightly state) }
     ensures all { IfOk result (TellsAll state) }
-    ensures files { V.tells → (file : ℕ) → changes_of file (V.history site.new) ≡ changes_of file (V.history site.old) }
-    ensures during { V.tells → Always (LeavesFiles input.now state told (V.history site.old)) (V.history site.old) (V.history site.new) }
+    ensures files { (file : ℕ) → changes_of file (V.history site.new) ≡ changes_of file (V.history site.old) }
+    ensures during { Always (LeavesFiles input.now state told (V.history site.old)) (V.history site.old) (V.history site.new) }
     ensures saying { IfErr result IsSaying }
     ensures fault { result ≡ Err Cause.SayFault → HasRisen (V.say_faults site.old) (V.say_faults site.new) }
     ensures later { V.say_faults site.old ≤ V.say_faults site.new }

@@ -1,2 +1,6 @@
 pub mod Events
 pub mod FileNumbers
+pub mod Known
+pub mod Laws
+pub mod Runs
+pub mod Site

@@ -1,6 +1,6 @@
 //! The calls of the system that a site makes, each of which is noted with its answer.
 
-ghost use Rattle.std.specs.Prelude.{◌≡◌, ◌+◌, ◌<◌, ◌≤◌, ◌∷◌, List, length, take, drop, is_ok, IfOk, MatchResult};
+ghost use Rattle.std.specs.Prelude.{◌≡◌, ◌+◌, ◌<◌, ◌≤◌, ◌∷◌, List, length, take, drop, false, is_ok, IfOk, MatchResult};
 ghost use Rattle.site_calls.specs.Events.{Event, found, made, measured, got, begun, put, lost, flushed, named, absent, printed};
 
 use std::io;
@@ -61,8 +61,9 @@ pub trait Calls {
     fn flush_names(&mut self) -> io::Result<()>
         ensures { events self.new ≡ named (is_ok result) ∷ events self.old };
 
-    /// Notes that a file that isn't there was to be made safe. It makes no call.
+    /// Notes that a file that isn't there was to be made safe, right after it wasn't found. It makes no call.
     fn pass_over(&mut self, file: u32)
+        requires { (before : List Event) × (events self.old ≡ found file false ∷ before) }
         ensures { events self.new ≡ absent file ∷ events self.old };
 
     /// Goes on printing a line, of which `done` bytes are printed.

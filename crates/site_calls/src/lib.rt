@@ -5,12 +5,28 @@
 //! - `calls`: the calls, and what no answer tells.
 //! - `fault`: how an error of the system becomes a counted fault.
 //! - `file_name`: which numbers are files, and their names.
+//! - `site`: the site. What it does at each call stands in `reading`, `writing`, `syncing` and `printing`, over calls
+//!   alone, and `known` is what it knows of its history.
+//! - `laws`: what follows from the definitions.
 #![tactic(auto)]
 
 mod calls;
 mod fault;
 mod file_name;
+mod known;
+mod laws;
+mod printing;
+mod reading;
+mod site;
+mod syncing;
+mod writing;
 
 pub use calls::{Calls, Start, Unknown};
-pub use fault::counted;
+pub use fault::{Fault, FaultPlace, counted};
 pub use file_name::{FileName, PartKind};
+pub use laws::{
+    a_failed_sync_stays, a_file_reads_as_it_was_held, a_lost_write_leaves_what_was_unseen,
+    a_sync_counts_where_names_are_safe, a_wrong_answer_is_seen, an_honest_answer_exists,
+    honest_answers_tell, the_past_stays,
+};
+pub use site::CalledSite;

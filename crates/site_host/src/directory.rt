@@ -1,14 +1,16 @@
-// The numbered files of a directory, each opened once and kept open.
-ghost use Rattle.site_files.specs.FileNumbers.{IsFileNumber};
-ghost use Rattle.std.specs.Prelude.{◌≡◌, ◌≤◌, ◌<◌, true, false, length, IfOk, IfSome, IsOk, IsErr, OnOk, OnErr};
+// A directory that is held for the run, and its files, each opened once and kept open.
+ghost use Rattle.std.specs.Prelude.{◌≤◌, length, IfOk};
 
-use crate::file_name::FileName;
+use crate::reason::Reason;
+use site_calls::FileName;
 use std::alloc::{AllocError, Global};
-use std::fs::{File, OpenOptions};
-use std::io;
+use std::fmt::Display;
+use std::fs::{File, OpenOptions, TryLockError};
 use std::io::ErrorKind;
-use std::os::unix::fs::FileExt;
+use std::os::fd::AsRawFd;
+use std::os::unix::fs::{FileExt, MetadataExt};
 use std::rt::Files;
+use std::{fs, io};
 
 /// Room for the longest name of a file and the slash before it.
 const NAME_ROOM: usize = 16;
@@ -16,240 +18,240 @@ const NAME_ROOM: usize = 16;
 /// As many files as there are names.
 const MOST_FILES: usize = 131;
 
-/// A directory and those of its files that are open.
 #[derive(Drop)]
-pub struct Directory {
+pub(crate) struct Directory<R> {
+    pub(crate) rt: R,
     path: String,
-    // the path of the file that is being opened, in memory that was set aside when the directory was
+    // the path of what is being opened, in memory that was set aside when the directory was
     file_path: String,
-    opened: Vec<OpenedFile>,
-    // the names that were there when this run began are durable
-    names_are_durable: bool,
+    files: Vec<OpenFile>,
+    // what stands in for the standard streams that are closed
+    stand_ins: Vec<File>,
+    // open and locked, once it was there
+    pub(crate) folder: Option<File>,
+    names_are_safe: bool,
+    failed_sync: Option<io::Error>,
+    pub(crate) reason: Option<Reason>,
 }
 
-/// An open file.
 #[derive(Drop)]
-struct OpenedFile {
-    number: u32,
-    file: File,
-    // a crash may take its name from the directory
-    name_is_loose: bool,
-    // After a sync that failed the system may take what is lost for safe, so that the next one would succeed.
-    sync_has_failed: bool,
+pub(crate) struct OpenFile {
+    name: FileName,
+    pub(crate) file: File,
+    // the device and the file's number there, of a file that was found
+    identity: Option<(u64, u64)>,
+    // why the file can't be written
+    refusal: Option<io::Error>,
 }
 
-impl Directory {
-    /// The directory with this path, of which nothing is open yet. All the memory that its files need is taken here.
-    pub fn new(alloc: Global, path: &str) -> Result<Directory, AllocError> {
+impl<R> Directory<R> {
+    /// The directory with this path, of which nothing is open yet. All the memory that is ever needed is taken here.
+    pub(crate) fn new(rt: R, alloc: Global, path: &str) -> Result<Directory<R>, AllocError>
+    where
+        R: Drop,
+    {
         let path = if path.is_empty() { "." } else { path };
         Ok(Directory {
+            rt,
             path: String::from_str(alloc, path)?,
             file_path: String::with_capacity(alloc, path.len() + NAME_ROOM)?,
-            opened: Vec::with_capacity(alloc, MOST_FILES)?,
-            names_are_durable: false,
+            files: Vec::with_capacity(alloc, MOST_FILES)?,
+            stand_ins: Vec::with_capacity(alloc, 3)?,
+            folder: None,
+            names_are_safe: false,
+            failed_sync: None,
+            reason: None,
         })
     }
 
-    /// How many bytes the file has.
-    pub fn length(&mut self, rt: &impl Files<File = File>, number: u32) -> io::Result<u64>
-        ensures file { OnOk result (IsFileNumber number) }
-    {
-        match self.find(rt, number)? {
-            Some(place) => Ok(self.opened[place].file.metadata()?.len()),
-            None => Ok(0),
+    /// The file with this number, which was found or made.
+    pub(crate) fn file(&self, number: u32) -> io::Result<&OpenFile> {
+        let name = name_of(number)?;
+        match self.files.iter().find(|file| file.name == name) {
+            Some(file) => Ok(file),
+            None => Err(io::Error::from(ErrorKind::NotFound)),
         }
     }
 
-    /// Reads from an offset on, as many bytes as there are and as `out` holds, and says how many.
-    pub fn read(
-        &mut self,
-        rt: &impl Files<File = File>,
-        number: u32,
-        at: u64,
-        out: &mut [u8],
-    ) -> io::Result<usize>
-        ensures file { OnOk result (IsFileNumber number) }
-        ensures count { IfOk result (λ n. n ≤ length out.old) }
+    /// Writes bytes, and not none.
+    pub(crate) fn write(&self, number: u32, at: u64, bytes: &[u8]) -> io::Result<usize>
+        ensures { IfOk result (λ count. count ≤ length bytes.now) }
     {
-        match self.find(rt, number)? {
-            Some(place) => read_from(&self.opened[place].file, at, out),
-            None => Ok(0),
+        let OpenFile { file, refusal, .. } = self.file(number)?;
+        if let Some(refusal) = refusal {
+            return Err(*refusal);
+        }
+        match file.write_at(bytes, at) {
+            Ok(0) => Err(io::Error::from(ErrorKind::WriteZero)),
+            answer => answer,
         }
     }
 
-    /// Writes all of the bytes from an offset on. A file that isn't there is made.
-    pub fn write(
-        &mut self,
-        rt: &impl Files<File = File>,
-        number: u32,
-        at: u64,
-        bytes: &[u8],
-    ) -> io::Result<()>
-        ensures file { OnOk result (IsFileNumber number) }
-    {
-        let place = match self.find(rt, number)? {
-            Some(place) => place,
-            None => self.make(rt, number)?,
+    pub(crate) fn sync(&self, number: u32) -> io::Result<()> {
+        self.file(number)?.file.sync_all()
+    }
+
+    pub(crate) fn sync_names(&self) -> io::Result<()> {
+        match &self.folder {
+            Some(folder) => folder.sync_all(),
+            None => Err(io::Error::from(ErrorKind::NotFound)),
+        }
+    }
+
+    // Makes safe what a file that was there holds, and its name: an earlier run may have crashed and left them in the
+    // system's memory alone. After one that failed the system may take what is lost for safe, so none is tried again.
+    fn make_safe(&mut self, file: &File) -> io::Result<()> {
+        if let Some(error) = self.failed_sync {
+            return Err(error);
+        }
+        let answer = match file.sync_all() {
+            Ok(()) if !self.names_are_safe => self.sync_names(),
+            answer => answer,
         };
-        write_from(&self.opened[place].file, at, bytes)
-    }
-
-    /// Makes what a read of the file gives durable, and its name too.
-    pub fn sync(&mut self, rt: &impl Files<File = File>, number: u32) -> io::Result<()>
-        ensures file { OnOk result (IsFileNumber number) }
-    {
-        match self.find(rt, number)? {
-            Some(place) => self.opened[place].sync(rt, self.path.as_str()),
-            None => Ok(()),
+        match answer {
+            Ok(()) => self.names_are_safe = true,
+            Err(error) => self.failed_sync = Some(error),
         }
+        answer
     }
 
-    // The place of a file among the open ones, if it is in the directory. It is opened for writing where that is
-    // allowed.
-    fn find(&mut self, rt: &impl Files<File = File>, number: u32) -> io::Result<Option<usize>>
-        ensures file { OnOk result (IsFileNumber number) }
-        ensures place { IfOk result (λ found. IfSome found (λ place. place < length self.new.opened.items)) }
-    {
-        let name = name_of(number)?;
-        let known = self
-            .opened
-            .iter()
-            .position(|opened| opened.number == number);
-        if known.is_some() {
-            return Ok(known);
-        }
-        self.point_to(name)?;
-        match open_there(rt, self.file_path.as_str()) {
-            Ok(file) => Ok(Some(self.take(rt, number, file)?)),
-            Err(error) if error.kind() == ErrorKind::NotFound => Ok(None),
-            Err(error) => Err(error),
-        }
-    }
-
-    // Makes a file that isn't in the directory.
-    fn make(&mut self, rt: &impl Files<File = File>, number: u32) -> io::Result<usize>
-        ensures place { IfOk result (λ place. place < length self.new.opened.items) }
-    {
-        let name = name_of(number)?;
-        self.point_to(name)?;
-        let file = File::create_new(rt, self.file_path.as_str())?;
-        self.keep(number, file, true)
-    }
-
-    // Sets the path to a file's.
-    fn point_to(&mut self, name: FileName) -> io::Result<()> {
+    // Sets the path to that of a name in the directory.
+    fn point_to<D: Display + Drop>(&mut self, name: D) -> io::Result<()> {
         self.file_path.clear();
         write!(self.file_path, "{}/{name}", self.path)?;
         Ok(())
     }
 
-    // Takes a file that was there. An earlier run may have crashed and left what it wrote, and the file's name, in the
-    // system's memory alone: both are made durable before anything rests on what the file holds.
-    fn take(&mut self, rt: &impl Files<File = File>, number: u32, file: File) -> io::Result<usize>
-        ensures place { IfOk result (λ place. place < length self.new.opened.items) }
-    {
-        file.sync_all()?;
-        if !self.names_are_durable {
-            sync_names(rt, self.path.as_str())?;
-            self.names_are_durable = true;
-        }
-        self.keep(number, file, false)
-    }
-
-    fn keep(&mut self, number: u32, file: File, name_is_loose: bool) -> io::Result<usize>
-        ensures place { IfOk result (λ place. place < length self.new.opened.items) }
-    {
-        let place = self.opened.len();
-        self.opened.push(OpenedFile {
-            number,
-            file,
-            name_is_loose,
-            sync_has_failed: false,
-        })?;
-        Ok(place)
+    fn because(&mut self, reason: Reason, error: io::Error) -> io::Error {
+        self.reason = Some(reason);
+        error
     }
 }
 
-impl OpenedFile {
-    fn sync(&mut self, rt: &impl Files<File = File>, directory: &str) -> io::Result<()>
-        ensures failing { self.old.sync_has_failed ≡ true → IsErr result }
-        ensures failed { OnErr result (self.new.sync_has_failed ≡ true) }
-        ensures done { OnOk result (self.new.name_is_loose ≡ false) }
-    {
-        if self.sync_has_failed {
-            return Err(io::Error::from(ErrorKind::Other));
+impl<R: Files<File = File>> Directory<R> {
+    /// Looks for a file. One that is there is opened and made safe.
+    pub(crate) fn find(&mut self, number: u32) -> io::Result<bool> {
+        self.reason = None;
+        let name = name_of(number)?;
+        if self.file(number).is_ok() {
+            return Ok(true);
         }
-        self.sync_has_failed = true;
-        self.file.sync_all()?;
-        if self.name_is_loose {
-            sync_names(rt, directory)?;
-            self.name_is_loose = false;
+        if !self.open_folder()? {
+            return Ok(false);
         }
-        self.sync_has_failed = false;
+        self.point_to(name)?;
+        match self.open_there(name) {
+            Err(error) if error.kind() == ErrorKind::NotFound => Ok(false),
+            answer => answer.and(Ok(true)),
+        }
+    }
+
+    /// Makes a file that isn't there. An input is never made.
+    pub(crate) fn make(&mut self, number: u32) -> io::Result<()> {
+        let name = name_of(number)?;
+        if is_input(name) {
+            return Err(io::Error::from(ErrorKind::PermissionDenied));
+        }
+        if !self.open_folder()? {
+            return Err(io::Error::from(ErrorKind::NotFound));
+        }
+        self.point_to(name)?;
+        let file = File::create_new(&self.rt, self.file_path.as_str())?;
+        self.files.push(OpenFile {
+            name,
+            file,
+            identity: None,
+            refusal: None,
+        })?;
+        Ok(())
+    }
+
+    // Opens and locks the directory, if it is there.
+    fn open_folder(&mut self) -> io::Result<bool> {
+        if self.folder.is_some() {
+            return Ok(true);
+        }
+        self.take_streams()?;
+        self.point_to(".")?;
+        let folder = match File::open(&self.rt, self.file_path.as_str()) {
+            Ok(folder) => folder,
+            Err(error) if error.kind() == ErrorKind::NotFound => return Ok(false),
+            Err(error) => return Err(self.because(Reason::Directory, error)),
+        };
+        if let Err(refused) = folder.try_lock() {
+            let reason = match refused {
+                TryLockError::WouldBlock => Reason::Locked,
+                TryLockError::Error(_) => Reason::Directory,
+            };
+            return Err(self.because(reason, io::Error::from(refused)));
+        }
+        self.folder = Some(folder);
+        Ok(true)
+    }
+
+    // Opens the null device for reading until descriptors 0 to 2 are taken. So no file gets one of them, and a standard
+    // output that is closed stays one that can't be written.
+    fn take_streams(&mut self) -> io::Result<()> {
+        for _ in 0..4 {
+            let stand_in = match File::open(&self.rt, "/dev/null") {
+                Ok(stand_in) => stand_in,
+                Err(error) => return Err(self.because(Reason::NullDevice, error)),
+            };
+            if stand_in.as_raw_fd() > 2 {
+                return Ok(());
+            }
+            self.stand_ins.push(stand_in)?;
+        }
+        Err(io::Error::from(ErrorKind::Unsupported))
+    }
+
+    // Opens the file that the path leads to. A pipe isn't opened, which might wait, nor the same file under two names.
+    fn open_there(&mut self, name: FileName) -> io::Result<()> {
+        let error = io::Error::from(ErrorKind::InvalidInput);
+        if !fs::metadata(&self.rt, self.file_path.as_str())?.is_file() {
+            return Err(self.because(Reason::NotRegular, error));
+        }
+        let (file, refusal) = open_named(&self.rt, self.file_path.as_str(), name)?;
+        let metadata = file.metadata()?;
+        let identity = Some((metadata.dev(), metadata.ino()));
+        if let Some(other) = self.files.iter().find(|other| other.identity == identity) {
+            let reason = Reason::SameAs(other.name);
+            return Err(self.because(reason, error));
+        }
+        self.make_safe(&file)?;
+        self.files.push(OpenFile {
+            name,
+            file,
+            identity,
+            refusal,
+        })?;
         Ok(())
     }
 }
 
 // A number that is no file's is an error.
-fn name_of(number: u32) -> io::Result<FileName>
-    ensures file { OnOk result (IsFileNumber number) }
-    ensures there { IsFileNumber number → IsOk result }
-{
+fn name_of(number: u32) -> io::Result<FileName> {
     FileName::from_number(number).ok_or(io::Error::from(ErrorKind::InvalidInput))
 }
 
-// Makes the names in a directory durable.
-fn sync_names(rt: &impl Files<File = File>, directory: &str) -> io::Result<()> {
-    File::open(rt, directory)?.sync_all()
+fn is_input(name: FileName) -> bool {
+    !matches!(name, FileName::Part(..))
 }
 
-// Opens a file that is there, for reading alone where it may not be written.
-fn open_there(rt: &impl Files<File = File>, path: &str) -> io::Result<File> {
-    match OpenOptions::new().read(true).write(true).open(rt, path) {
-        Err(error) if is_refusal(error.kind()) => File::open(rt, path),
-        opened => opened,
+// Opens an input for reading alone. Another file is opened so too where it can't be written, and each write then gives
+// the error that was given here.
+fn open_named(
+    rt: &impl Files<File = File>,
+    path: &str,
+    name: FileName,
+) -> io::Result<(File, Option<io::Error>)> {
+    let opened = if is_input(name) {
+        Err(io::Error::from(ErrorKind::PermissionDenied))
+    } else {
+        OpenOptions::new().read(true).write(true).open(rt, path)
+    };
+    match opened {
+        Ok(file) => Ok((file, None)),
+        Err(refusal) => Ok((File::open(rt, path)?, Some(refusal))),
     }
-}
-
-fn is_refusal(kind: ErrorKind) -> bool {
-    matches!(
-        kind,
-        ErrorKind::PermissionDenied | ErrorKind::ReadOnlyFilesystem
-    )
-}
-
-// Reads on after a short read and after one that a signal cut off.
-fn read_from(file: &File, at: u64, out: &mut [u8]) -> io::Result<usize>
-    ensures count { IfOk result (λ n. n ≤ length out.old) }
-{
-    let mut done = 0;
-    for _ in 0..u64::MAX {
-        if done >= out.len() {
-            return Ok(done);
-        }
-        match file.read_at(&mut out[done..], at.saturating_add(done as u64)) {
-            Ok(0) => return Ok(done),
-            Ok(count) => done += count,
-            Err(error) if error.kind() == ErrorKind::Interrupted => {}
-            Err(error) => return Err(error),
-        }
-    }
-    Err(io::Error::from(ErrorKind::TimedOut))
-}
-
-// Writes on after a short write and after one that a signal cut off.
-fn write_from(file: &File, at: u64, bytes: &[u8]) -> io::Result<()> {
-    let mut done = 0;
-    for _ in 0..u64::MAX {
-        if done >= bytes.len() {
-            return Ok(());
-        }
-        match file.write_at(&bytes[done..], at.saturating_add(done as u64)) {
-            Ok(0) => return Err(io::Error::from(ErrorKind::WriteZero)),
-            Ok(count) => done += count,
-            Err(error) if error.kind() == ErrorKind::Interrupted => {}
-            Err(error) => return Err(error),
-        }
-    }
-    Err(io::Error::from(ErrorKind::TimedOut))
 }

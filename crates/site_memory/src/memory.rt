@@ -144,7 +144,7 @@ impl MemorySite {
 }
 
 impl Site for MemorySite {
-    ghost tells = { Unit {0} };
+    ghost tells = { λ _. Unit {0} };
 
     ghost history = { memory_history };
 

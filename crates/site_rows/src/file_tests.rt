@@ -1,15 +1,15 @@
-// What no clause says: which bytes the disk gives, which names the files have, and when a fault is counted.
+// What no clause says: which bytes the disk gives, which names the files have, what is refused, and when a fault is
+// counted.
 use crate::checks::{check_bytes, check_same};
-use site_files::{FileSite, print_at_once};
+use site_calls::{CalledSite, FileName, Unknown};
+use site_host::{Host, Reason};
 use site_model::Site;
 use std::alloc::Global;
-use std::cell::Cell;
-use std::io::ErrorKind;
 use std::process::Abort;
 use std::time::{Duration, SystemTime, UNIX_EPOCH};
-use std::{env, fmt, fs, io};
+use std::{env, fs};
 
-type Disk = FileSite<HostRuntime>;
+type Disk = CalledSite<Host<HostRuntime>, Unknown>;
 
 fn since_1970(rt: &impl Abort, host: &HostRuntime) -> Duration {
     let now = SystemTime::now(host).expect(rt, "a time");
@@ -41,7 +41,8 @@ fn path_in(rt: &impl Abort, alloc: Global, path: &str, name: &str) -> String {
 }
 
 fn open(rt: &impl Abort, host: &HostRuntime, path: &str) -> Disk {
-    FileSite::open(*host, host.alloc(), path).expect(rt, "memory")
+    let calls = Host::open(*host, host.alloc(), path).expect(rt, "memory");
+    CalledSite::new(calls, Unknown)
 }
 
 fn check_length(rt: &impl Abort, site: &mut Disk, file: u32, wanted: u64) {
@@ -68,9 +69,16 @@ fn check_none(rt: &impl Abort, host: &HostRuntime, site: &mut Disk, path: &str) 
     check_absent(rt, host, path, "p00.log1");
 }
 
+/// Writes inside a file.
+fn overwrite(rt: &impl Abort, site: &mut Disk, file: u32, at: u64, bytes: &[u8]) {
+    let length = site.length(file).expect(rt, "a length");
+    assert!(rt; at <= length);
+    site.write(file, at, bytes).expect(rt, "a write");
+}
+
 fn write_and_say(rt: &impl Abort, site: &mut Disk) {
     site.write(17, 0, b"netherite").expect(rt, "a write");
-    site.write(17, 6, b"ra").expect(rt, "a write");
+    overwrite(rt, site, 17, 6, b"ra");
     check_length(rt, site, 17, 9);
     site.sync(17).expect(rt, "a sync");
     site.sync(17).expect(rt, "a sync");
@@ -81,7 +89,7 @@ fn check_kept(rt: &impl Abort, site: &mut Disk) {
     check_read(rt, site, 17, 2, b"therrae");
     check_read(rt, site, 17, 9, b"");
     check_read(rt, site, 17, 100, b"");
-    check_length(rt, site, 16, 0);
+    check_same(rt, site.length(16).expect(rt, "a length"), 0);
 }
 
 fn first_site(rt: &impl Abort, host: &HostRuntime, path: &str) {
@@ -110,7 +118,7 @@ fn check_text(rt: &impl Abort, host: &HostRuntime, file: &str, wanted: &str) {
     check_bytes(rt, text.as_bytes(), wanted.as_bytes());
 }
 
-/// The file with this number, in which its name is written, stands under that name.
+/// The file of a partition with this number stands under this name.
 fn check_name(
     rt: &impl Abort,
     host: &HostRuntime,
@@ -126,9 +134,6 @@ fn check_name(
 
 fn check_names(rt: &impl Abort, host: &HostRuntime, path: &str) {
     let mut site = open(rt, host, path);
-    check_name(rt, host, &mut site, path, 0, "flows.json");
-    check_name(rt, host, &mut site, path, 1, "requests.jsonl");
-    check_name(rt, host, &mut site, path, 2, "plan.json");
     check_name(rt, host, &mut site, path, 16, "p00.log0");
     check_name(rt, host, &mut site, path, 21, "p01.log1");
     check_name(rt, host, &mut site, path, 58, "p10.ck0");
@@ -140,6 +145,126 @@ fn check_names(rt: &impl Abort, host: &HostRuntime, path: &str) {
 fn names_its_files(rt: HostRuntime) {
     let path = new_directory(&rt, &rt, "names");
     check_names(&rt, &rt, path.as_str());
+    remove(&rt, &rt, path.as_str());
+}
+
+fn put_file(rt: &impl Abort, host: &HostRuntime, path: &str, name: &str, text: &str) {
+    let file = path_in(rt, host.alloc(), path, name);
+    fs::write(host, file.as_str(), text).expect(rt, "a file");
+}
+
+fn put_inputs(rt: &impl Abort, host: &HostRuntime, path: &str) {
+    put_file(rt, host, path, "flows.json", "flows");
+    put_file(rt, host, path, "requests.jsonl", "requests");
+    put_file(rt, host, path, "plan.json", "plan");
+}
+
+fn check_inputs(rt: &impl Abort, site: &mut Disk) {
+    check_read(rt, site, 0, 0, b"flows");
+    check_read(rt, site, 1, 0, b"requests");
+    check_read(rt, site, 2, 0, b"plan");
+    site.sync(2).expect(rt, "a sync");
+}
+
+/// No input is written or made.
+fn check_read_only(rt: &impl Abort, site: &mut Disk) {
+    site.write(0, 0, b"x").expect_err(rt, "a fault");
+    site.write(1, 0, b"x").expect_err(rt, "a fault");
+    site.write(2, 0, b"x").expect_err(rt, "a fault");
+}
+
+fn check_directory_of_inputs(rt: &impl Abort, host: &HostRuntime, path: &str) {
+    let mut site = open(rt, host, path);
+    check_read_only(rt, &mut site);
+    check_absent(rt, host, path, "flows.json");
+    put_inputs(rt, host, path);
+    check_inputs(rt, &mut site);
+    check_read_only(rt, &mut site);
+    check_inputs(rt, &mut site);
+    check_same(rt, site.disk_faults(), 6);
+}
+
+#[test]
+fn reads_its_inputs_alone(rt: HostRuntime) {
+    let path = new_directory(&rt, &rt, "inputs");
+    check_directory_of_inputs(&rt, &rt, path.as_str());
+    remove(&rt, &rt, path.as_str());
+}
+
+fn check_refused(rt: &impl Abort, site: &mut Disk, file: u32, reason: Reason) {
+    site.length(file).expect_err(rt, "a fault");
+    assert!(rt; site.calls().reason() == Some(reason));
+    site.write(file, 0, b"x").expect_err(rt, "a fault");
+    site.sync(file).expect_err(rt, "a fault");
+}
+
+/// A log that is a link to an input is refused, and the input stays as it was.
+fn check_link(rt: &impl Abort, host: &HostRuntime, path: &str) {
+    put_file(rt, host, path, "flows.json", "flows");
+    let flows = path_in(rt, host.alloc(), path, "flows.json");
+    let log = path_in(rt, host.alloc(), path, "p00.log0");
+    fs::hard_link(host, flows.as_str(), log.as_str()).expect(rt, "a link");
+    let mut site = open(rt, host, path);
+    check_read(rt, &mut site, 0, 0, b"flows");
+    check_refused(rt, &mut site, 16, Reason::SameAs(FileName::Flows));
+    check_read(rt, &mut site, 0, 0, b"flows");
+}
+
+#[test]
+fn refuses_one_file_under_two_names(rt: HostRuntime) {
+    let path = new_directory(&rt, &rt, "links");
+    check_link(&rt, &rt, path.as_str());
+    remove(&rt, &rt, path.as_str());
+}
+
+fn check_second(rt: &impl Abort, host: &HostRuntime, path: &str) {
+    let mut site = open(rt, host, path);
+    check_refused(rt, &mut site, 16, Reason::Locked);
+    check_same(rt, site.disk_faults(), 3);
+}
+
+/// While one run holds the directory another fails.
+fn check_lock(rt: &impl Abort, host: &HostRuntime, path: &str) {
+    let mut site = open(rt, host, path);
+    check_length(rt, &mut site, 16, 0);
+    check_second(rt, host, path);
+    site.write(16, 0, b"held").expect(rt, "a write");
+}
+
+fn check_after_lock(rt: &impl Abort, host: &HostRuntime, path: &str) {
+    let mut site = open(rt, host, path);
+    check_read(rt, &mut site, 16, 0, b"held");
+    check_same(rt, site.disk_faults(), 0);
+}
+
+#[test]
+fn holds_its_directory(rt: HostRuntime) {
+    let path = new_directory(&rt, &rt, "holds");
+    check_lock(&rt, &rt, path.as_str());
+    check_after_lock(&rt, &rt, path.as_str());
+    remove(&rt, &rt, path.as_str());
+}
+
+fn check_no_directory(rt: &impl Abort, site: &mut Disk) {
+    check_length(rt, site, 16, 0);
+    check_read(rt, site, 0, 0, b"");
+    site.sync(16).expect(rt, "a sync");
+    site.write(16, 0, b"x").expect_err(rt, "a fault");
+    check_faults(rt, site, 1);
+}
+
+/// A directory that comes later is looked for at each call.
+fn check_late_directory(rt: &impl Abort, host: &HostRuntime, path: &str) {
+    let mut site = open(rt, host, path);
+    check_no_directory(rt, &mut site);
+    fs::create_dir(host, path).expect(rt, "a directory");
+    site.write(16, 0, b"x").expect(rt, "a write");
+}
+
+#[test]
+fn makes_no_directory(rt: HostRuntime) {
+    let path = new_path(&rt, &rt, "late");
+    check_late_directory(&rt, &rt, path.as_str());
     remove(&rt, &rt, path.as_str());
 }
 
@@ -159,13 +284,13 @@ fn check_faults(rt: &impl Abort, site: &Disk, disk_faults: u64) {
 fn check_other_kind(rt: &impl Abort, host: &HostRuntime, site: &mut Disk, path: &str) {
     let file = path_in(rt, host.alloc(), path, "plan.json");
     fs::create_dir(host, file.as_str()).expect(rt, "a directory");
-    site.length(2).expect_err(rt, "a fault");
+    check_refused(rt, site, 2, Reason::NotRegular);
 }
 
 /// The directory itself is gone.
 fn check_gone(rt: &impl Abort, site: &mut Disk) {
-    check_length(rt, site, 2, 0);
-    site.write(2, 0, b"x").expect_err(rt, "a fault");
+    check_length(rt, site, 16, 0);
+    site.write(16, 0, b"x").expect_err(rt, "a fault");
 }
 
 fn check_all_faults(rt: &impl Abort, host: &HostRuntime, path: &str) {
@@ -178,7 +303,7 @@ fn check_all_faults(rt: &impl Abort, host: &HostRuntime, path: &str) {
     check_other_kind(rt, host, &mut site, path);
     remove(rt, host, path);
     check_gone(rt, &mut site);
-    check_faults(rt, &site, 18);
+    check_same(rt, site.disk_faults(), 20);
 }
 
 #[test]
@@ -208,47 +333,4 @@ fn reads_what_may_not_be_written(rt: HostRuntime) {
     write_for_reading(&rt, &rt, file.as_str());
     check_readable(&rt, &rt, path.as_str());
     remove(&rt, &rt, path.as_str());
-}
-
-// Standard output that takes two bytes at a time and is cut off by a signal now and then, and that fails at its end.
-#[derive(Drop)]
-struct Narrow {
-    room: Cell<usize>,
-    was_cut_off: Cell<bool>,
-}
-
-impl Print for Narrow {
-    fn print<D: fmt::Display + Drop>(&self, _value: D) -> io::Result<()> {
-        Err(io::Error::from(ErrorKind::Unsupported))
-    }
-
-    fn println<D: fmt::Display + Drop>(&self, _value: D) -> io::Result<()> {
-        Err(io::Error::from(ErrorKind::Unsupported))
-    }
-
-    fn write_all(&self, _bytes: &[u8]) -> io::Result<()> {
-        Err(io::Error::from(ErrorKind::Unsupported))
-    }
-
-    fn write_some(&self, bytes: &[u8]) -> io::Result<usize> {
-        self.was_cut_off.set(!self.was_cut_off.get());
-        if self.was_cut_off.get() {
-            return Err(io::Error::from(ErrorKind::Interrupted));
-        }
-        let count = bytes.len().min(2).min(self.room.get());
-        self.room.set(self.room.get().saturating_sub(count));
-        Ok(count)
-    }
-}
-
-#[test]
-fn says_whole_lines(rt: HostRuntime) {
-    let out = Narrow {
-        room: Cell::new(8),
-        was_cut_off: Cell::new(false),
-    };
-    assert!(rt; print_at_once(&out, b"hello").is_ok());
-    assert!(rt; out.room.get() == 3);
-    assert!(rt; print_at_once(&out, b"hello").is_err());
-    assert!(rt; out.room.get() == 0);
 }

@@ -27,7 +27,7 @@ pub returns-in-Err-recover-clause-headline : goal.returns-in-Err-recover-clause-
 returns-in-Err-recover-clause-headline g c tells =
     let old = g.V.Site.history c.args.site.now in
     let mid = g.V.Site.history c.recover.new.site in
-    let form = c.in-Ok.ensures.reads tells in
+    let form = c.in-Ok.ensures.reads (c.recover.ensures.told tells) in
     let opening = subst (λ (steps : List Step). Always (LeavesOpening c.in-Ok.input steps) steps mid) c.read_input.ensures.unchanged (c.recover.ensures.during tells) in
     run_opened old c.in-Ok.input form mid c.args.entries.now.items (length mid) (rises_empty (length mid) (length mid) c.args.entries.now.items c.requires (omega arith)) opening
 
@@ -35,7 +35,7 @@ pub returns-in-Err-recover-clause-rises : goal.returns-in-Err-recover-clause-ris
 returns-in-Err-recover-clause-rises g c tells =
     let old = g.V.Site.history c.args.site.now in
     let mid = g.V.Site.history c.recover.new.site in
-    let form = c.in-Ok.ensures.reads tells in
+    let form = c.in-Ok.ensures.reads (c.recover.ensures.told tells) in
     let opening = subst (λ (steps : List Step). Always (LeavesOpening c.in-Ok.input steps) steps mid) c.read_input.ensures.unchanged (c.recover.ensures.during tells) in
     rises_empty (length old) (length mid) c.args.entries.now.items c.requires (no_shorter opening)
 
@@ -43,15 +43,15 @@ pub returns-in-Ok-drive-clause-headline : goal.returns-in-Ok-drive-clause-headli
 returns-in-Ok-drive-clause-headline g c tells =
     let old = g.V.Site.history c.args.site.now in
     let mid = g.V.Site.history c.recover.new.site in
-    let form = c.in-Ok.ensures.reads tells in
-    let opening = subst (λ (steps : List Step). Always (LeavesOpening c.in-Ok.input steps) steps mid) c.read_input.ensures.unchanged (c.recover.ensures.during tells) in
+    let form = c.in-Ok.ensures.reads (c.recover.ensures.told (c.drive.ensures.told tells)) in
+    let opening = subst (λ (steps : List Step). Always (LeavesOpening c.in-Ok.input steps) steps mid) c.read_input.ensures.unchanged (c.recover.ensures.during (c.drive.ensures.told tells)) in
     let new = g.V.Site.history c.drive.new.site in
     let trail = c.drive.new.entries.items in
     let rises = c.drive.ensures.rises tells in
-    let stands = c.in-Ok-recover.ensures.stands tells in
+    let stands = c.in-Ok-recover.ensures.stands (c.drive.ensures.told tells) in
     let r = c.in-Ok-recover.recovered in
     let starts = subst (λ (steps : List Step). StartsFrom c.in-Ok.input (content_of 16 steps) stands.0 r.state r.position r.incarnation) c.read_input.ensures.unchanged stands.2 in
-    let same = c.recover.ensures.tape tells ∙ ap tape c.read_input.ensures.unchanged in
+    let same = c.recover.ensures.tape (c.drive.ensures.told tells) ∙ ap tape c.read_input.ensures.unchanged in
     let during = c.drive.ensures.during tells (header_with c.in-Ok.input.digest) stands.0 stands.1 in
     let before = run_opened old c.in-Ok.input form mid trail (length new) rises opening in
     run_driven old c.in-Ok.input form stands.0 r.state r.position r.incarnation r.log.file c.in-Ok-recover.ensures.place starts r.low r.sound.low mid new trail same before during (c.drive.ensures.others tells)
@@ -60,8 +60,8 @@ pub returns-in-Ok-drive-clause-rises : goal.returns-in-Ok-drive-clause-rises
 returns-in-Ok-drive-clause-rises g c tells =
     let old = g.V.Site.history c.args.site.now in
     let mid = g.V.Site.history c.recover.new.site in
-    let form = c.in-Ok.ensures.reads tells in
-    let opening = subst (λ (steps : List Step). Always (LeavesOpening c.in-Ok.input steps) steps mid) c.read_input.ensures.unchanged (c.recover.ensures.during tells) in
+    let form = c.in-Ok.ensures.reads (c.recover.ensures.told (c.drive.ensures.told tells)) in
+    let opening = subst (λ (steps : List Step). Always (LeavesOpening c.in-Ok.input steps) steps mid) c.read_input.ensures.unchanged (c.recover.ensures.during (c.drive.ensures.told tells)) in
     let new = g.V.Site.history c.drive.new.site in
     let trail = c.drive.new.entries.items in
     let rises = c.drive.ensures.rises tells in
@@ -71,15 +71,15 @@ pub returns-clause-headline : goal.returns-clause-headline
 returns-clause-headline g c tells =
     let old = g.V.Site.history c.args.site.now in
     let mid = g.V.Site.history c.recover.new.site in
-    let form = c.in-Ok.ensures.reads tells in
-    let opening = subst (λ (steps : List Step). Always (LeavesOpening c.in-Ok.input steps) steps mid) c.read_input.ensures.unchanged (c.recover.ensures.during tells) in
+    let form = c.in-Ok.ensures.reads (c.recover.ensures.told (c.drive.ensures.told tells)) in
+    let opening = subst (λ (steps : List Step). Always (LeavesOpening c.in-Ok.input steps) steps mid) c.read_input.ensures.unchanged (c.recover.ensures.during (c.drive.ensures.told tells)) in
     let new = g.V.Site.history c.drive.new.site in
     let trail = c.drive.new.entries.items in
     let rises = c.drive.ensures.rises tells in
-    let stands = c.in-Ok-recover.ensures.stands tells in
+    let stands = c.in-Ok-recover.ensures.stands (c.drive.ensures.told tells) in
     let r = c.in-Ok-recover.recovered in
     let starts = subst (λ (steps : List Step). StartsFrom c.in-Ok.input (content_of 16 steps) stands.0 r.state r.position r.incarnation) c.read_input.ensures.unchanged stands.2 in
-    let same = c.recover.ensures.tape tells ∙ ap tape c.read_input.ensures.unchanged in
+    let same = c.recover.ensures.tape (c.drive.ensures.told tells) ∙ ap tape c.read_input.ensures.unchanged in
     let during = c.drive.ensures.during tells (header_with c.in-Ok.input.digest) stands.0 stands.1 in
     let before = run_opened old c.in-Ok.input form mid trail (length new) rises opening in
     run_driven old c.in-Ok.input form stands.0 r.state r.position r.incarnation r.log.file c.in-Ok-recover.ensures.place starts r.low r.sound.low mid new trail same before during (c.drive.ensures.others tells)
@@ -88,8 +88,8 @@ pub returns-clause-rises : goal.returns-clause-rises
 returns-clause-rises g c tells =
     let old = g.V.Site.history c.args.site.now in
     let mid = g.V.Site.history c.recover.new.site in
-    let form = c.in-Ok.ensures.reads tells in
-    let opening = subst (λ (steps : List Step). Always (LeavesOpening c.in-Ok.input steps) steps mid) c.read_input.ensures.unchanged (c.recover.ensures.during tells) in
+    let form = c.in-Ok.ensures.reads (c.recover.ensures.told (c.drive.ensures.told tells)) in
+    let opening = subst (λ (steps : List Step). Always (LeavesOpening c.in-Ok.input steps) steps mid) c.read_input.ensures.unchanged (c.recover.ensures.during (c.drive.ensures.told tells)) in
     let new = g.V.Site.history c.drive.new.site in
     let trail = c.drive.new.entries.items in
     let rises = c.drive.ensures.rises tells in
@@ -99,15 +99,15 @@ pub returns-in-Ok-drive-clause-done : goal.returns-in-Ok-drive-clause-done
 returns-in-Ok-drive-clause-done g c tells done =
     let old = g.V.Site.history c.args.site.now in
     let mid = g.V.Site.history c.recover.new.site in
-    let form = c.in-Ok.ensures.reads tells in
-    let opening = subst (λ (steps : List Step). Always (LeavesOpening c.in-Ok.input steps) steps mid) c.read_input.ensures.unchanged (c.recover.ensures.during tells) in
+    let form = c.in-Ok.ensures.reads (c.recover.ensures.told (c.drive.ensures.told tells)) in
+    let opening = subst (λ (steps : List Step). Always (LeavesOpening c.in-Ok.input steps) steps mid) c.read_input.ensures.unchanged (c.recover.ensures.during (c.drive.ensures.told tells)) in
     let new = g.V.Site.history c.drive.new.site in
     let trail = c.drive.new.entries.items in
     let rises = c.drive.ensures.rises tells in
-    let stands = c.in-Ok-recover.ensures.stands tells in
+    let stands = c.in-Ok-recover.ensures.stands (c.drive.ensures.told tells) in
     let r = c.in-Ok-recover.recovered in
     let starts = subst (λ (steps : List Step). StartsFrom c.in-Ok.input (content_of 16 steps) stands.0 r.state r.position r.incarnation) c.read_input.ensures.unchanged stands.2 in
-    let same = c.recover.ensures.tape tells ∙ ap tape c.read_input.ensures.unchanged in
+    let same = c.recover.ensures.tape (c.drive.ensures.told tells) ∙ ap tape c.read_input.ensures.unchanged in
     let during = c.drive.ensures.during tells (header_with c.in-Ok.input.digest) stands.0 stands.1 in
     let all = c.in-Ok-drive.ensures.all in
     let said = c.in-Ok-drive.ensures.tape tells in
@@ -118,21 +118,21 @@ returns-in-Err-recover-clause-answers g c tells =
     let input = c.in-Ok.input in
     let cause = c.in-Err-recover.cause in
     let recovers = subst (λ (steps : List Step). Recovers input (content_of 16 steps) (Err cause)) c.read_input.ensures.unchanged (c.in-Err-recover.ensures.recovers tells) in
-    answers_refused (λ file. content_of file (g.V.Site.history c.args.site.now)) input cause (c.in-Ok.ensures.reads tells) c.in-Err-recover.ensures.outside recovers
+    answers_refused (λ file. content_of file (g.V.Site.history c.args.site.now)) input cause (c.in-Ok.ensures.reads (c.recover.ensures.told tells)) c.in-Err-recover.ensures.outside recovers
 
 pub returns-in-Ok-drive-clause-answers : goal.returns-in-Ok-drive-clause-answers
 returns-in-Ok-drive-clause-answers g c tells =
-    let stands = c.in-Ok-recover.ensures.stands tells in
+    let stands = c.in-Ok-recover.ensures.stands (c.drive.ensures.told tells) in
     let r = c.in-Ok-recover.recovered in
     let starts = subst (λ (steps : List Step). StartsFrom c.in-Ok.input (content_of 16 steps) stands.0 r.state r.position r.incarnation) c.read_input.ensures.unchanged stands.2 in
-    answers_done (λ file. content_of file (g.V.Site.history c.args.site.now)) c.in-Ok.input stands.0 r.state r.position r.incarnation (c.in-Ok.ensures.reads tells) starts
+    answers_done (λ file. content_of file (g.V.Site.history c.args.site.now)) c.in-Ok.input stands.0 r.state r.position r.incarnation (c.in-Ok.ensures.reads (c.recover.ensures.told (c.drive.ensures.told tells))) starts
 
 pub returns-clause-answers : goal.returns-clause-answers
 returns-clause-answers g c tells =
-    let stands = c.in-Ok-recover.ensures.stands tells in
+    let stands = c.in-Ok-recover.ensures.stands (c.drive.ensures.told tells) in
     let r = c.in-Ok-recover.recovered in
     let starts = subst (λ (steps : List Step). StartsFrom c.in-Ok.input (content_of 16 steps) stands.0 r.state r.position r.incarnation) c.read_input.ensures.unchanged stands.2 in
-    let done = answers_done (λ file. content_of file (g.V.Site.history c.args.site.now)) c.in-Ok.input stands.0 r.state r.position r.incarnation (c.in-Ok.ensures.reads tells) starts in
+    let done = answers_done (λ file. content_of file (g.V.Site.history c.args.site.now)) c.in-Ok.input stands.0 r.state r.position r.incarnation (c.in-Ok.ensures.reads (c.recover.ensures.told (c.drive.ensures.told tells))) starts in
     answers_driven (λ file. content_of file (g.V.Site.history c.args.site.now)) c.in-Err-drive.cause c.in-Err-drive.ensures.driving done
 
 pub returns-in-Err-clause-homes : goal.returns-in-Err-clause-homes

@@ -17,7 +17,7 @@ returns-clause-headline g c tells = elim c.if-is_run_command.branch [
   | then-is_run_command w ↦
       let old = g.V.Site.history c.args.site in
       let trail : w.perform-cause.new.entries.items ≡ c.of.result = ap (λ entries. entries.items) (sym w.entries-is) ∙ sym c.of.ensures in
-      let here = subst (λ (entries : List Entry). Always (Headline (λ file. content_of file old) old entries) old (g.V.Site.history w.perform-cause.new.site)) trail (w.perform-cause.ensures.headline tells) in
+      let here = subst (λ (entries : List Entry). Always (Headline (λ file. content_of file old) old entries) old (g.V.Site.history w.perform-cause.new.site)) trail (w.perform-cause.ensures.headline (subst g.V.Site.tells w.site-is tells)) in
       subst (λ site. Always (Headline (λ file. content_of file old) old c.of.result) old (g.V.Site.history site)) (sym w.site-is) here
   | else-is_run_command w ↦ only_read (g.V.Site.history c.args.site) (g.V.Site.history c.if-is_run_command.site) c.of.result (search rules) (ap g.V.Site.history w.site-is)
 ]
@@ -27,7 +27,7 @@ returns-clause-rises g c tells = elim c.if-is_run_command.branch [
   | then-is_run_command w ↦
       let old = g.V.Site.history c.args.site in
       let trail : w.perform-cause.new.entries.items ≡ c.of.result = ap (λ entries. entries.items) (sym w.entries-is) ∙ sym c.of.ensures in
-      let here = subst (λ (entries : List Entry). Rises (length old) entries (length (g.V.Site.history w.perform-cause.new.site))) trail (w.perform-cause.ensures.rises tells) in
+      let here = subst (λ (entries : List Entry). Rises (length old) entries (length (g.V.Site.history w.perform-cause.new.site))) trail (w.perform-cause.ensures.rises (subst g.V.Site.tells w.site-is tells)) in
       subst (λ site. Rises (length old) c.of.result (length (g.V.Site.history site))) (sym w.site-is) here
   | else-is_run_command w ↦
       let old = g.V.Site.history c.args.site in
@@ -40,7 +40,7 @@ returns-clause-done g c tells done = elim c.if-is_run_command.branch [
       let old = g.V.Site.history c.args.site in
       let ended : w.perform-cause.result ≡ Done = search rules in
       let trail : w.perform-cause.new.entries.items ≡ c.of.result = ap (λ entries. entries.items) (sym w.entries-is) ∙ sym c.of.ensures in
-      let here = subst (λ (entries : List Entry). IsDone (λ file. content_of file old) old entries (g.V.Site.history w.perform-cause.new.site)) trail (w.perform-cause.ensures.done tells ended) in
+      let here = subst (λ (entries : List Entry). IsDone (λ file. content_of file old) old entries (g.V.Site.history w.perform-cause.new.site)) trail (w.perform-cause.ensures.done (subst g.V.Site.tells w.site-is tells) ended) in
       subst (λ site. IsDone (λ file. content_of file old) old c.of.result (g.V.Site.history site)) (sym w.site-is) here
   | else-is_run_command w ↦ search rules
 ]

@@ -21,7 +21,7 @@ use Rattle.part_driver.proofs.driver.drive.Goals as goal
 pub returns-in-Err-settle_label-clause-tape : goal.returns-in-Err-settle_label-clause-tape
 returns-in-Err-settle_label-clause-tape g c tells =
     let before = tape (g.V.Site.history c.args.site.now) in
-    let said = c.in-Ok.ensures.tape tells before (c.labels.invariant.said tells) in
+    let said = c.in-Ok.ensures.tape before (c.labels.invariant.said (c.say_due.ensures.told (c.settle_label.ensures.told tells))) in
     (said_of c.args.input.now c.in-Ok.said, c.settle_label.ensures.tape tells ∙ said, told_front c.args.input.now c.in-Ok.said)
 
 pub labels-init : goal.labels-init
@@ -35,6 +35,7 @@ labels-init g c = record {
   came = came_first c.args.recovered c.args.entries.now.items c.requires.empty;
   kept = λ tells h payloads rests. kept_first c.args.input.now c.args.recovered h payloads (g.V.Site.history c.args.site.now) c.args.entries.now.items c.requires.empty rests;
   others = λ tells. none_yet c.args.recovered.log.file (g.V.Site.history c.args.site.now);
+  told = λ tells. tells;
   rests = c.requires.rests;
   said = λ tells. search rules;
   later = search rules;
@@ -43,19 +44,19 @@ labels-init g c = record {
 
 pub returns-in-Err-clause-during : goal.returns-in-Err-clause-during
 returns-in-Err-clause-during g c tells h payloads rests =
-    let kept = c.labels.invariant.kept tells h payloads rests in
-    while_saying c.args.input.now c.args.recovered h payloads (g.V.Site.history c.args.site.now) (g.V.Site.history c.labels.site) (g.V.Site.history c.say_due.new.site) c.labels.state c.labels.told c.labels.position c.labels.log.gate c.labels.entries.items kept (c.labels.invariant.said tells) (c.say_due.ensures.during tells)
+    let kept = c.labels.invariant.kept (c.say_due.ensures.told tells) h payloads rests in
+    while_saying c.args.input.now c.args.recovered h payloads (g.V.Site.history c.args.site.now) (g.V.Site.history c.labels.site) (g.V.Site.history c.say_due.new.site) c.labels.state c.labels.told c.labels.position c.labels.log.gate c.labels.entries.items kept (c.labels.invariant.said (c.say_due.ensures.told tells)) (c.say_due.ensures.during)
 
 pub returns-in-None-clause-during : goal.returns-in-None-clause-during
 returns-in-None-clause-during g c tells h payloads rests =
-    let kept = c.labels.invariant.kept tells h payloads rests in
-    while_saying c.args.input.now c.args.recovered h payloads (g.V.Site.history c.args.site.now) (g.V.Site.history c.labels.site) (g.V.Site.history c.say_due.new.site) c.labels.state c.labels.told c.labels.position c.labels.log.gate c.labels.entries.items kept (c.labels.invariant.said tells) (c.say_due.ensures.during tells)
+    let kept = c.labels.invariant.kept (c.say_due.ensures.told tells) h payloads rests in
+    while_saying c.args.input.now c.args.recovered h payloads (g.V.Site.history c.args.site.now) (g.V.Site.history c.labels.site) (g.V.Site.history c.say_due.new.site) c.labels.state c.labels.told c.labels.position c.labels.log.gate c.labels.entries.items kept (c.labels.invariant.said (c.say_due.ensures.told tells)) (c.say_due.ensures.during)
 
 pub returns-in-Err-settle_label-clause-during : goal.returns-in-Err-settle_label-clause-during
 returns-in-Err-settle_label-clause-during g c tells h payloads rests =
-    let kept = c.labels.invariant.kept tells h payloads rests in
-    let stood = c.in-Ok.ensures.tape tells (tape (g.V.Site.history c.args.site.now)) (c.labels.invariant.said tells) in
-    let spoken = kept_said c.args.input.now c.args.recovered h payloads (g.V.Site.history c.args.site.now) (g.V.Site.history c.labels.site) (g.V.Site.history c.say_due.new.site) c.labels.state c.labels.told c.labels.position c.labels.log.gate c.labels.entries.items kept (c.labels.invariant.said tells) c.in-Ok.said (c.say_due.ensures.during tells) stood in
+    let kept = c.labels.invariant.kept (c.say_due.ensures.told (c.settle_label.ensures.told tells)) h payloads rests in
+    let stood = c.in-Ok.ensures.tape (tape (g.V.Site.history c.args.site.now)) (c.labels.invariant.said (c.say_due.ensures.told (c.settle_label.ensures.told tells))) in
+    let spoken = kept_said c.args.input.now c.args.recovered h payloads (g.V.Site.history c.args.site.now) (g.V.Site.history c.labels.site) (g.V.Site.history c.say_due.new.site) c.labels.state c.labels.told c.labels.position c.labels.log.gate c.labels.entries.items kept (c.labels.invariant.said (c.say_due.ensures.told (c.settle_label.ensures.told tells))) c.in-Ok.said (c.say_due.ensures.during) stood in
     let entry = entry_of c.args.recovered.incarnation c.labels.position c.in-Some.found.0 in
     let still : TellsRightly c.in-Some.found.1 c.in-Ok.said = search rules in
     let asks : c.in-Some.found.0 ≡ Take kinds.Wait → is_start_told c.in-Ok.said ≡ true = search rules in
@@ -63,35 +64,35 @@ returns-in-Err-settle_label-clause-during g c tells h payloads rests =
     let all = payloads ++ frames_of c.args.input.now c.labels.entries.items in
     let here = subst (λ (file : ℕ). IsResting (changes_of file (g.V.Site.history c.say_due.new.site)) h all c.labels.log.gate) (sym c.labels.invariant.place) spoken.rests in
     let frame = payload_bytes c.args.input.now c.labels.position c.args.recovered.incarnation c.in-Some.found.0 in
-    let during = subst (λ (file : ℕ). Always (LeavesCommit file h all frame c.labels.log.gate (g.V.Site.history c.say_due.new.site)) (g.V.Site.history c.say_due.new.site) (g.V.Site.history c.settle_label.new.site)) c.labels.invariant.place (c.settle_label.ensures.during tells h all here) in
+    let during = subst (λ (file : ℕ). Always (LeavesCommit file h all frame c.labels.log.gate (g.V.Site.history c.say_due.new.site)) (g.V.Site.history c.say_due.new.site) (g.V.Site.history c.settle_label.new.site)) c.labels.invariant.place (c.settle_label.ensures.during h all here) in
     subst (λ (entries : List Entry). Always (AtMoment c.args.input.now (origin_of c.args.recovered h payloads) (tape (g.V.Site.history c.args.site.now)) entries) (g.V.Site.history c.args.site.now) (g.V.Site.history c.settle_label.new.site)) (sym c.in-Err-settle_label.ensures.no_trail)
     (while_settling c.args.input.now c.args.recovered h payloads (g.V.Site.history c.args.site.now) (g.V.Site.history c.say_due.new.site) (g.V.Site.history c.settle_label.new.site) c.labels.state c.in-Ok.said c.labels.position c.labels.log.gate c.labels.entries.items spoken stood c.in-Some.found.1 entry settles during)
 
 pub returns-in-Err-clause-rises : goal.returns-in-Err-clause-rises
 returns-in-Err-clause-rises g c tells =
-    let rests = c.requires.rests tells in
-    let kept = c.labels.invariant.kept tells rests.0 rests.1 rests.2 in
-    rises_higher (length (g.V.Site.history c.args.site.now)) (length (g.V.Site.history c.labels.site)) (length (g.V.Site.history c.say_due.new.site)) c.labels.entries.items kept.rises (no_shorter (c.say_due.ensures.during tells))
+    let rests = c.requires.rests (c.labels.invariant.told (c.say_due.ensures.told tells)) in
+    let kept = c.labels.invariant.kept (c.say_due.ensures.told tells) rests.0 rests.1 rests.2 in
+    rises_higher (length (g.V.Site.history c.args.site.now)) (length (g.V.Site.history c.labels.site)) (length (g.V.Site.history c.say_due.new.site)) c.labels.entries.items kept.rises (no_shorter (c.say_due.ensures.during))
 
 pub returns-in-None-clause-rises : goal.returns-in-None-clause-rises
 returns-in-None-clause-rises g c tells =
-    let rests = c.requires.rests tells in
-    let kept = c.labels.invariant.kept tells rests.0 rests.1 rests.2 in
-    rises_higher (length (g.V.Site.history c.args.site.now)) (length (g.V.Site.history c.labels.site)) (length (g.V.Site.history c.say_due.new.site)) c.labels.entries.items kept.rises (no_shorter (c.say_due.ensures.during tells))
+    let rests = c.requires.rests (c.labels.invariant.told (c.say_due.ensures.told tells)) in
+    let kept = c.labels.invariant.kept (c.say_due.ensures.told tells) rests.0 rests.1 rests.2 in
+    rises_higher (length (g.V.Site.history c.args.site.now)) (length (g.V.Site.history c.labels.site)) (length (g.V.Site.history c.say_due.new.site)) c.labels.entries.items kept.rises (no_shorter (c.say_due.ensures.during))
 
 pub returns-in-Err-settle_label-clause-rises : goal.returns-in-Err-settle_label-clause-rises
 returns-in-Err-settle_label-clause-rises g c tells =
-    let some = c.requires.rests tells in
-    let kept = c.labels.invariant.kept tells some.0 some.1 some.2 in
+    let some = c.requires.rests (c.labels.invariant.told (c.say_due.ensures.told (c.settle_label.ensures.told tells))) in
+    let kept = c.labels.invariant.kept (c.say_due.ensures.told (c.settle_label.ensures.told tells)) some.0 some.1 some.2 in
     let h = some.0 in
     let payloads = some.1 in
-    let said = rises_higher (length (g.V.Site.history c.args.site.now)) (length (g.V.Site.history c.labels.site)) (length (g.V.Site.history c.say_due.new.site)) c.labels.entries.items kept.rises (no_shorter (c.say_due.ensures.during tells)) in
-    let stood = c.in-Ok.ensures.tape tells (tape (g.V.Site.history c.args.site.now)) (c.labels.invariant.said tells) in
-    let spoken = kept_said c.args.input.now c.args.recovered h payloads (g.V.Site.history c.args.site.now) (g.V.Site.history c.labels.site) (g.V.Site.history c.say_due.new.site) c.labels.state c.labels.told c.labels.position c.labels.log.gate c.labels.entries.items kept (c.labels.invariant.said tells) c.in-Ok.said (c.say_due.ensures.during tells) stood in
+    let said = rises_higher (length (g.V.Site.history c.args.site.now)) (length (g.V.Site.history c.labels.site)) (length (g.V.Site.history c.say_due.new.site)) c.labels.entries.items kept.rises (no_shorter (c.say_due.ensures.during)) in
+    let stood = c.in-Ok.ensures.tape (tape (g.V.Site.history c.args.site.now)) (c.labels.invariant.said (c.say_due.ensures.told (c.settle_label.ensures.told tells))) in
+    let spoken = kept_said c.args.input.now c.args.recovered h payloads (g.V.Site.history c.args.site.now) (g.V.Site.history c.labels.site) (g.V.Site.history c.say_due.new.site) c.labels.state c.labels.told c.labels.position c.labels.log.gate c.labels.entries.items kept (c.labels.invariant.said (c.say_due.ensures.told (c.settle_label.ensures.told tells))) c.in-Ok.said (c.say_due.ensures.during) stood in
     let all = payloads ++ frames_of c.args.input.now c.labels.entries.items in
     let here = subst (λ (file : ℕ). IsResting (changes_of file (g.V.Site.history c.say_due.new.site)) h all c.labels.log.gate) (sym c.labels.invariant.place) spoken.rests in
     let frame = payload_bytes c.args.input.now c.labels.position c.args.recovered.incarnation c.in-Some.found.0 in
-    let during = subst (λ (file : ℕ). Always (LeavesCommit file h all frame c.labels.log.gate (g.V.Site.history c.say_due.new.site)) (g.V.Site.history c.say_due.new.site) (g.V.Site.history c.settle_label.new.site)) c.labels.invariant.place (c.settle_label.ensures.during tells h all here) in
+    let during = subst (λ (file : ℕ). Always (LeavesCommit file h all frame c.labels.log.gate (g.V.Site.history c.say_due.new.site)) (g.V.Site.history c.say_due.new.site) (g.V.Site.history c.settle_label.new.site)) c.labels.invariant.place (c.settle_label.ensures.during h all here) in
     subst (λ (entries : List Entry). Rises (length (g.V.Site.history c.args.site.now)) entries (length (g.V.Site.history c.settle_label.new.site))) (sym c.in-Err-settle_label.ensures.no_trail)
     (rises_higher (length (g.V.Site.history c.args.site.now)) (length (g.V.Site.history c.say_due.new.site)) (length (g.V.Site.history c.settle_label.new.site)) c.labels.entries.items said (no_shorter during))
 
@@ -110,9 +111,9 @@ returns-in-Err-settle_label-clause-all g c =
 
 pub returns-in-None-clause-settled : goal.returns-in-None-clause-settled
 returns-in-None-clause-settled g c tells h payloads rests =
-    let kept = c.labels.invariant.kept tells h payloads rests in
-    let stood = c.in-Ok.ensures.tape tells (tape (g.V.Site.history c.args.site.now)) (c.labels.invariant.said tells) in
-    let spoken = kept_said c.args.input.now c.args.recovered h payloads (g.V.Site.history c.args.site.now) (g.V.Site.history c.labels.site) (g.V.Site.history c.say_due.new.site) c.labels.state c.labels.told c.labels.position c.labels.log.gate c.labels.entries.items kept (c.labels.invariant.said tells) c.in-Ok.said (c.say_due.ensures.during tells) stood in
+    let kept = c.labels.invariant.kept (c.say_due.ensures.told tells) h payloads rests in
+    let stood = c.in-Ok.ensures.tape (tape (g.V.Site.history c.args.site.now)) (c.labels.invariant.said (c.say_due.ensures.told tells)) in
+    let spoken = kept_said c.args.input.now c.args.recovered h payloads (g.V.Site.history c.args.site.now) (g.V.Site.history c.labels.site) (g.V.Site.history c.say_due.new.site) c.labels.state c.labels.told c.labels.position c.labels.log.gate c.labels.entries.items kept (c.labels.invariant.said (c.say_due.ensures.told tells)) c.in-Ok.said (c.say_due.ensures.during) stood in
     resting c.args.input.now c.args.recovered h payloads (g.V.Site.history c.say_due.new.site) (g.V.Site.history c.say_due.new.site) c.labels.log.gate c.labels.entries.items spoken.rests refl
 
 pub labels-preserved : goal.labels-preserved
@@ -132,34 +133,35 @@ labels-preserved g c =
       place = search rules;
       came = came;
       kept = λ tells h payloads rests.
-          let kept = c.labels.invariant.kept tells h payloads rests in
-          let stood = c.in-Ok.ensures.tape tells (tape (g.V.Site.history c.args.site.now)) (c.labels.invariant.said tells) in
-          let spoken = kept_said c.args.input.now c.args.recovered h payloads (g.V.Site.history c.args.site.now) (g.V.Site.history c.labels.site) (g.V.Site.history c.say_due.new.site) c.labels.state c.labels.told c.labels.position c.labels.log.gate c.labels.entries.items kept (c.labels.invariant.said tells) c.in-Ok.said (c.say_due.ensures.during tells) stood in
+          let kept = c.labels.invariant.kept (c.say_due.ensures.told (c.settle_label.ensures.told tells)) h payloads rests in
+          let stood = c.in-Ok.ensures.tape (tape (g.V.Site.history c.args.site.now)) (c.labels.invariant.said (c.say_due.ensures.told (c.settle_label.ensures.told tells))) in
+          let spoken = kept_said c.args.input.now c.args.recovered h payloads (g.V.Site.history c.args.site.now) (g.V.Site.history c.labels.site) (g.V.Site.history c.say_due.new.site) c.labels.state c.labels.told c.labels.position c.labels.log.gate c.labels.entries.items kept (c.labels.invariant.said (c.say_due.ensures.told (c.settle_label.ensures.told tells))) c.in-Ok.said (c.say_due.ensures.during) stood in
           let all = payloads ++ frames_of c.args.input.now c.labels.entries.items in
           let here = subst (λ (file : ℕ). IsResting (changes_of file (g.V.Site.history c.say_due.new.site)) h all c.labels.log.gate) (sym c.labels.invariant.place) spoken.rests in
           let frame = payload_bytes c.args.input.now c.labels.position c.args.recovered.incarnation c.in-Some.found.0 in
-          let during = subst (λ (file : ℕ). Always (LeavesCommit file h all frame c.labels.log.gate (g.V.Site.history c.say_due.new.site)) (g.V.Site.history c.say_due.new.site) (g.V.Site.history c.settle_label.new.site)) c.labels.invariant.place (c.settle_label.ensures.during tells h all here) in
+          let during = subst (λ (file : ℕ). Always (LeavesCommit file h all frame c.labels.log.gate (g.V.Site.history c.say_due.new.site)) (g.V.Site.history c.say_due.new.site) (g.V.Site.history c.settle_label.new.site)) c.labels.invariant.place (c.settle_label.ensures.during h all here) in
           let file = c.in-Ok-settle_label.ensures.place.0 ∙ c.labels.invariant.place in
-          let after = subst (λ (other : ℕ). IsResting (changes_of other (g.V.Site.history c.settle_label.new.site)) h (all ++ frame ∷ []) c.in-Ok-settle_label.settled.gate) file (c.in-Ok-settle_label.ensures.after tells h all here) in
+          let after = subst (λ (other : ℕ). IsResting (changes_of other (g.V.Site.history c.settle_label.new.site)) h (all ++ frame ∷ []) c.in-Ok-settle_label.settled.gate) file (c.in-Ok-settle_label.ensures.after h all here) in
           kept_settled c.args.input.now c.args.recovered h payloads (g.V.Site.history c.args.site.now) (g.V.Site.history c.say_due.new.site) (g.V.Site.history c.settle_label.new.site) c.labels.state c.in-Ok.said c.labels.position c.labels.log.gate c.labels.entries.items spoken stood c.in-Some.found.1 entry settles c.in-Ok-settle_label.settled.gate (c.in-Ok-settle_label.ensures.moves tells) trail.0 c.settle_label.new.entries.items (trail.1 tells) trail.2 came after during;
       others = λ tells.
-          let said = says_none c.args.recovered.log.file c.args.input.now c.labels.state c.labels.told (g.V.Site.history c.args.site.now) (g.V.Site.history c.labels.site) (g.V.Site.history c.say_due.new.site) (c.labels.invariant.others tells) (c.say_due.ensures.during tells) in
+          let said = says_none c.args.recovered.log.file c.args.input.now c.labels.state c.labels.told (g.V.Site.history c.args.site.now) (g.V.Site.history c.labels.site) (g.V.Site.history c.say_due.new.site) (c.labels.invariant.others (c.say_due.ensures.told (c.settle_label.ensures.told tells))) (c.say_due.ensures.during) in
           let settled = subst (λ (file : ℕ). Always (OthersSame file (g.V.Site.history c.say_due.new.site)) (g.V.Site.history c.say_due.new.site) (g.V.Site.history c.settle_label.new.site)) c.labels.invariant.place (c.settle_label.ensures.others tells) in
           and_then_same c.args.recovered.log.file (g.V.Site.history c.args.site.now) (g.V.Site.history c.say_due.new.site) (g.V.Site.history c.settle_label.new.site) said settled;
+      told = λ tells. c.labels.invariant.told (c.say_due.ensures.told (c.settle_label.ensures.told tells));
       rests = search rules;
-      said = λ tells. c.settle_label.ensures.tape tells ∙ c.in-Ok.ensures.tape tells (tape (g.V.Site.history c.args.site.now)) (c.labels.invariant.said tells);
+      said = λ tells. c.settle_label.ensures.tape tells ∙ c.in-Ok.ensures.tape (tape (g.V.Site.history c.args.site.now)) (c.labels.invariant.said (c.say_due.ensures.told (c.settle_label.ensures.told tells)));
       later = search rules;
       later_say = search rules;
     }
 
 pub returns-in-Err-clause-others : goal.returns-in-Err-clause-others
-returns-in-Err-clause-others g c tells = says_none c.args.recovered.log.file c.args.input.now c.labels.state c.labels.told (g.V.Site.history c.args.site.now) (g.V.Site.history c.labels.site) (g.V.Site.history c.say_due.new.site) (c.labels.invariant.others tells) (c.say_due.ensures.during tells)
+returns-in-Err-clause-others g c tells = says_none c.args.recovered.log.file c.args.input.now c.labels.state c.labels.told (g.V.Site.history c.args.site.now) (g.V.Site.history c.labels.site) (g.V.Site.history c.say_due.new.site) (c.labels.invariant.others (c.say_due.ensures.told tells)) (c.say_due.ensures.during)
 
 pub returns-in-None-clause-others : goal.returns-in-None-clause-others
-returns-in-None-clause-others g c tells = says_none c.args.recovered.log.file c.args.input.now c.labels.state c.labels.told (g.V.Site.history c.args.site.now) (g.V.Site.history c.labels.site) (g.V.Site.history c.say_due.new.site) (c.labels.invariant.others tells) (c.say_due.ensures.during tells)
+returns-in-None-clause-others g c tells = says_none c.args.recovered.log.file c.args.input.now c.labels.state c.labels.told (g.V.Site.history c.args.site.now) (g.V.Site.history c.labels.site) (g.V.Site.history c.say_due.new.site) (c.labels.invariant.others (c.say_due.ensures.told tells)) (c.say_due.ensures.during)
 
 pub returns-in-Err-settle_label-clause-others : goal.returns-in-Err-settle_label-clause-others
 returns-in-Err-settle_label-clause-others g c tells =
-    let said = says_none c.args.recovered.log.file c.args.input.now c.labels.state c.labels.told (g.V.Site.history c.args.site.now) (g.V.Site.history c.labels.site) (g.V.Site.history c.say_due.new.site) (c.labels.invariant.others tells) (c.say_due.ensures.during tells) in
+    let said = says_none c.args.recovered.log.file c.args.input.now c.labels.state c.labels.told (g.V.Site.history c.args.site.now) (g.V.Site.history c.labels.site) (g.V.Site.history c.say_due.new.site) (c.labels.invariant.others (c.say_due.ensures.told (c.settle_label.ensures.told tells))) (c.say_due.ensures.during) in
     let settled = subst (λ (file : ℕ). Always (OthersSame file (g.V.Site.history c.say_due.new.site)) (g.V.Site.history c.say_due.new.site) (g.V.Site.history c.settle_label.new.site)) c.labels.invariant.place (c.settle_label.ensures.others tells) in
     and_then_same c.args.recovered.log.file (g.V.Site.history c.args.site.now) (g.V.Site.history c.say_due.new.site) (g.V.Site.history c.settle_label.new.site) said settled

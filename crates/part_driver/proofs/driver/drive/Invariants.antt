@@ -20,11 +20,12 @@ invariant-labels g l = record {
   room : l.log.gate + 231 * work l.state ≤ 2 ^ 20 + 1848;
   place : l.log.file ≡ l.fn.recovered.log.file;
   came : Came l.fn.recovered l.state l.position l.entries.items;
-  kept : g.V.Site.tells → (h : Header) (payloads : List (List ℕ)) → IsResting (changes_of l.fn.recovered.log.file (g.V.Site.history l.fn.site)) h payloads l.fn.recovered.log.gate
+  kept : g.V.Site.tells l.site → (h : Header) (payloads : List (List ℕ)) → IsResting (changes_of l.fn.recovered.log.file (g.V.Site.history l.fn.site)) h payloads l.fn.recovered.log.gate
       → Kept l.input l.fn.recovered h payloads (g.V.Site.history l.fn.site) (g.V.Site.history l.site) l.state l.told l.position l.log.gate l.entries.items;
-  others : g.V.Site.tells → Always (OthersSame l.fn.recovered.log.file (g.V.Site.history l.fn.site)) (g.V.Site.history l.fn.site) (g.V.Site.history l.site);
-  rests : g.V.Site.tells → Rests (changes_of l.log.file (g.V.Site.history l.site)) l.log.gate;
-  said : g.V.Site.tells → tape (g.V.Site.history l.site) ≡ tape (g.V.Site.history l.fn.site) ++ said_of l.input l.told;
+  others : g.V.Site.tells l.site → Always (OthersSame l.fn.recovered.log.file (g.V.Site.history l.fn.site)) (g.V.Site.history l.fn.site) (g.V.Site.history l.site);
+  told : g.V.Site.tells l.site → g.V.Site.tells l.fn.site;
+  rests : g.V.Site.tells l.site → Rests (changes_of l.log.file (g.V.Site.history l.site)) l.log.gate;
+  said : g.V.Site.tells l.site → tape (g.V.Site.history l.site) ≡ tape (g.V.Site.history l.fn.site) ++ said_of l.input l.told;
   later : g.V.Site.disk_faults l.fn.site ≤ g.V.Site.disk_faults l.site;
   later_say : g.V.Site.say_faults l.fn.site ≤ g.V.Site.say_faults l.site;
 }

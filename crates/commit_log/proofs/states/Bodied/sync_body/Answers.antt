@@ -5,19 +5,19 @@ use Rattle.commit_log.proofs.Steps.{bodied_images, bodied_synced_images, bodied_
 use Rattle.commit_log.proofs.states.Bodied.sync_body.Goals as goal
 
 pub returns-in-Ok-clause-during : goal.returns-in-Ok-clause-during
-returns-in-Ok-clause-during g c tells h payloads payload bodied =
-    sync_during _ _ _ _ _ (c.sync.ensures.done tells) (bodied_images h payloads payload _ _ _ bodied) (bodied_synced_images h payloads payload _ _ _ bodied)
+returns-in-Ok-clause-during g c h payloads payload bodied =
+    sync_during _ _ _ _ _ (c.sync.ensures.done) (bodied_images h payloads payload _ _ _ bodied) (bodied_synced_images h payloads payload _ _ _ bodied)
 
 pub returns-in-Ok-clause-after : goal.returns-in-Ok-clause-after
-returns-in-Ok-clause-after g c tells h payloads payload bodied =
+returns-in-Ok-clause-after g c h payloads payload bodied =
     subst (λ (changes : List Change). IsSynced changes h payloads payload c.args.self.gate c.args.self.next)
-    (sym (synced_changes _ _ _ (c.in-Ok.ensures.done tells).ok)) (bodied_synced h payloads payload _ _ _ bodied)
+    (sym (synced_changes _ _ _ (c.in-Ok.ensures.done).ok)) (bodied_synced h payloads payload _ _ _ bodied)
 
 pub returns-in-Err-clause-during : goal.returns-in-Err-clause-during
-returns-in-Err-clause-during g c tells h payloads payload bodied =
-    sync_during _ _ _ _ _ (c.sync.ensures.done tells) (bodied_images h payloads payload _ _ _ bodied) (bodied_synced_images h payloads payload _ _ _ bodied)
+returns-in-Err-clause-during g c h payloads payload bodied =
+    sync_during _ _ _ _ _ (c.sync.ensures.done) (bodied_images h payloads payload _ _ _ bodied) (bodied_synced_images h payloads payload _ _ _ bodied)
 
 pub returns-in-Err-clause-after : goal.returns-in-Err-clause-after
-returns-in-Err-clause-after g c tells h payloads payload bodied =
-    after_sync _ _ _ _ (λ changes. IsBroken changes h payloads payload c.args.self.gate c.args.self.next) (c.sync.ensures.done tells)
+returns-in-Err-clause-after g c h payloads payload bodied =
+    after_sync _ _ _ _ (λ changes. IsBroken changes h payloads payload c.args.self.gate c.args.self.next) (c.sync.ensures.done)
     (bodied_broken h payloads payload _ _ _ bodied) (bodied_synced_broken h payloads payload _ _ _ bodied)

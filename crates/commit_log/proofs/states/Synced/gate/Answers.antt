@@ -8,13 +8,13 @@ write-requires g c tells =
     omega (arith, synced_long there.0 there.1 there.2 _ _ _ there.3)
 
 pub returns-in-Ok-clause-during : goal.returns-in-Ok-clause-during
-returns-in-Ok-clause-during g c tells h payloads payload synced = gate_during _ _ _ h payloads payload _ _ _ synced (c.write.ensures.done tells)
+returns-in-Ok-clause-during g c h payloads payload synced = gate_during _ _ _ h payloads payload _ _ _ synced (c.write.ensures.done)
 
 pub returns-in-Ok-clause-after : goal.returns-in-Ok-clause-after
-returns-in-Ok-clause-after g c tells h payloads payload synced = gate_done _ _ _ h payloads payload _ _ synced (c.in-Ok.ensures.done tells).ok
+returns-in-Ok-clause-after g c h payloads payload synced = gate_done _ _ _ h payloads payload _ _ synced (c.in-Ok.ensures.done).ok
 
 pub returns-in-Err-clause-during : goal.returns-in-Err-clause-during
-returns-in-Err-clause-during g c tells h payloads payload synced = gate_during _ _ _ h payloads payload _ _ _ synced (c.write.ensures.done tells)
+returns-in-Err-clause-during g c h payloads payload synced = gate_during _ _ _ h payloads payload _ _ _ synced (c.write.ensures.done)
 
 pub returns-in-Err-clause-after : goal.returns-in-Err-clause-after
-returns-in-Err-clause-after g c tells h payloads payload synced = gate_fails _ _ _ h payloads payload _ _ _ synced (c.write.ensures.done tells)
+returns-in-Err-clause-after g c h payloads payload synced = gate_fails _ _ _ h payloads payload _ _ _ synced (c.write.ensures.done)

@@ -1,0 +1,6 @@
+use Rattle.std.proofs.Common.{refl}
+use Rattle.site_calls.proofs.Histories.{sync_counts}
+use Rattle.site_calls.proofs.laws.a_sync_counts_where_names_are_safe.Goals as goal
+
+pub returns : goal.returns
+returns c = record { counts = λ unseen events file. sync_counts file unseen events; made = λ unseen events file. refl; named = λ unseen events. refl }

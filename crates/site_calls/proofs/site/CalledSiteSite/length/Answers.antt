@@ -1,0 +1,25 @@
+use Rattle.std.proofs.Common.{sym, subst}
+use Rattle.site_calls.specs.Known.{Knows}
+use Rattle.site_calls.proofs.Inside.{AllInside}
+use Rattle.site_calls.proofs.Tells.{told_still, ok_through}
+use Rattle.site_calls.proofs.site.CalledSiteSite.length.Goals as goal
+
+pub invariant_of-self : goal.invariant_of-self
+invariant_of-self g c =
+    let unseen = g.S.Start.unseen in
+    let site = c.args.self.now in
+    let still = c.length_of-outcome.ensures.still unseen in
+    record {
+      knows = subst (Knows site.known) (sym still) site.knows;
+      inside = λ tells. subst (λ m. AllInside m.steps) (sym still) (site.inside (told_still unseen _ _ (c.length_of-outcome.ensures.told unseen) still tells));
+    }
+
+pub returns-clause-told : goal.returns-clause-told
+returns-clause-told g c tells =
+    let unseen = g.S.Start.unseen in
+    told_still unseen _ _ (c.length_of-outcome.ensures.told unseen) (c.length_of-outcome.ensures.still unseen) tells
+
+pub returns-clause-value : goal.returns-clause-value
+returns-clause-value g c tells =
+    ok_through c.length_of-outcome.result c.placed-outcome.result c.noted.result _ _ c.noted.ensures.same c.placed-outcome.ensures
+    (c.length_of-outcome.ensures.value g.S.Start.unseen tells.0)

@@ -1,0 +1,20 @@
+use Rattle.site_calls.proofs.Tells.{told_before, syncs_longer, syncs_inside_still}
+use Rattle.site_calls.proofs.site.CalledSiteSite.sync.Goals as goal
+
+pub invariant_of-self : goal.invariant_of-self
+invariant_of-self g c =
+    let unseen = g.S.Start.unseen in
+    let site = c.args.self.now in
+    let done = c.sync_file-outcome.ensures.done unseen site.knows in
+    record {
+      knows = c.sync_file-outcome.ensures.known unseen site.knows;
+      inside = λ tells.
+          let before = told_before unseen _ _ (c.sync_file-outcome.ensures.told unseen) (syncs_longer _ _ _ c.args.file done) tells in
+          syncs_inside_still _ _ _ c.args.file done (site.inside before);
+    }
+
+pub returns-clause-told : goal.returns-clause-told
+returns-clause-told g c tells =
+    let unseen = g.S.Start.unseen in
+    let done = c.sync_file-outcome.ensures.done unseen c.args.self.now.knows in
+    told_before unseen _ _ (c.sync_file-outcome.ensures.told unseen) (syncs_longer _ _ _ c.args.file done) tells

@@ -1,0 +1,53 @@
+// Laws of the definitions. Each is the contract of a function that does nothing.
+ghost use Rattle.std.specs.Prelude.{◌≡◌, ℕ, ◌<◌, ◌≤◌, List, [], ◌∷◌, ◌++◌, length, take, drop, true, false};
+ghost use Rattle.site_model.specs.History.{Step, content_of};
+ghost use Rattle.site_calls.specs.Events.{Event, Unseen, made, flushed, named, start_of, file_numbers, replay, IsHonest, Tells};
+ghost use Rattle.site_calls.specs.Laws.{HasHonestAnswers, HoldsTwoBytes, honest_events, NoneIsHonest, SyncCounts, left_by, LeavesUnseen};
+
+/// Before the first call each file reads as it was held at the start, and behind the last number there is none.
+pub fn a_file_reads_as_it_was_held()
+    ensures held { (files : ℕ → List ℕ) (file : ℕ) → file < file_numbers → content_of file (start_of files) ≡ files file }
+    ensures none { (files : ℕ → List ℕ) (file : ℕ) → file_numbers ≤ file → content_of file (start_of files) ≡ [] }
+{}
+
+/// No history shuts out that the next answer agrees with it.
+pub fn an_honest_answer_exists()
+    ensures { (steps : List Step) → HasHonestAnswers steps }
+{}
+
+/// An example of answers that agree, call by call.
+pub fn honest_answers_tell()
+    ensures { (unseen : Unseen) → HoldsTwoBytes unseen → Tells unseen honest_events }
+{}
+
+/// Examples of answers that don't.
+pub fn a_wrong_answer_is_seen()
+    ensures { (unseen : Unseen) → HoldsTwoBytes unseen → NoneIsHonest unseen }
+{}
+
+/// Answers that agreed do so whatever follows, and those that didn't never will.
+pub fn the_past_stays()
+    ensures { (unseen : Unseen) (later events : List Event) → IsHonest unseen (later ++ events) → IsHonest unseen events }
+{}
+
+/// A sync counts only where every name is safe and no sync has failed.
+pub fn a_sync_counts_where_names_are_safe()
+    ensures counts { (unseen : Unseen) (events : List Event) (file : ℕ) → SyncCounts file unseen events }
+    ensures made { (unseen : Unseen) (events : List Event) (file : ℕ) → (replay unseen (made file ∷ events)).loose ≡ true }
+    ensures named { (unseen : Unseen) (events : List Event) → (replay unseen (named true ∷ events)).loose ≡ false }
+{}
+
+/// After a sync that failed, of a file or of the names, no later one counts.
+pub fn a_failed_sync_stays()
+    ensures file { (unseen : Unseen) (later events : List Event) (file : ℕ) → (replay unseen (later ++ flushed file false ∷ events)).broken ≡ true }
+    ensures names { (unseen : Unseen) (later events : List Event) → (replay unseen (later ++ named false ∷ events)).broken ≡ true }
+{}
+
+/// What a write that failed leaves is not told by any answer. It stays within what was asked for, and the bytes that
+/// were written before are its front.
+pub fn a_lost_write_leaves_what_was_unseen()
+    ensures content { (unseen : Unseen) (events : List Event) → LeavesUnseen unseen events }
+    ensures within { (bytes left : List ℕ) (size : ℕ) → length (left_by bytes size left) ≤ size }
+    ensures front { (bytes left : List ℕ) (size : ℕ) → length bytes ≤ size → take (length bytes) (left_by bytes size left) ≡ bytes }
+    ensures behind { (bytes left : List ℕ) (size : ℕ) → length bytes ≤ size → drop (length bytes) (left_by bytes size left) ≡ drop (length bytes) (take size left) }
+{}
