@@ -2,9 +2,9 @@
 use Rattle.std.proofs.Common.{◌≡◌, ℕ, List, [], ◌∷◌, ◌++◌, length, refl, sym, ap, subst, ◌∙◌, arith}
 use Rattle.std.proofs.lemmas.List.{length-append}
 use Rattle.dura_value.specs.Ids.{Id, client}
-use Rattle.dura_model.specs.World.{World, Message}
-use Rattle.dura_model.specs.Requests.{Request, Lines}
-use Rattle.dura_model.specs.Steps.{Label, take, deliver, finish}
+use Rattle.sum_model.specs.World.{World, Message}
+use Rattle.sum_model.specs.Requests.{Request, Lines}
+use Rattle.sum_model.specs.Steps.{Label, take, deliver, finish}
 use Rattle.engine_run.specs.Headline.{IsAsked}
 use Rattle.headline_laws.specs.Machine.{anna, first_request, second_request, await_taken}
 use Rattle.headline_laws.specs.Moments.{bert, taken_by_another}

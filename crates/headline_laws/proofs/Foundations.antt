@@ -3,8 +3,8 @@ use Rattle.std.proofs.Common.{◌≡◌, inl, inr, ◌⊎◌, ◌≢◌, List, [
 use Rattle.std.proofs.lemmas.List.{append-nil}
 use Rattle.std.specs.List.{Contains}
 use Rattle.headline_laws.proofs.Telling.{in_none, in_one}
-use Rattle.dura_model.specs.Dependencies.{Identity, DependsOn, Founded}
-use Rattle.dura_model.specs.Dependencies.Founded.{none, one_more}
+use Rattle.sum_model.specs.Dependencies.{Identity, DependsOn, Founded}
+use Rattle.sum_model.specs.Dependencies.Founded.{none, one_more}
 
 -- an entry stands on one of these, or on nothing
 abbrev pub StandsOn : (recovered before : List Identity) → Identity → Type 0

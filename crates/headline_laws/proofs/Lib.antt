@@ -1,4 +1,5 @@
 pub mod Asked
+pub mod Folds
 pub mod Foundations
 pub mod LinesSaid
 pub mod Logs

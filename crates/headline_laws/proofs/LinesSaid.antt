@@ -1,9 +1,9 @@
 -- The lines of requests, as a function.
 use Rattle.std.proofs.Common.{◌≡◌, ℕ, List, [], ◌∷◌, ◌++◌, Option, Some, None, refl, sym, ap, ◌∙◌, append_assoc}
 use Rattle.std.proofs.lemmas.List.{append-nil}
-use Rattle.dura_model.specs.World.{World, Answer}
-use Rattle.dura_model.specs.Requests.{Request, Lines, answer_to, line_of}
-use Rattle.dura_model.specs.Requests.Lines.{none, one_more}
+use Rattle.sum_model.specs.World.{World, Answer}
+use Rattle.sum_model.specs.Requests.{Request, Lines, answer_to, line_of}
+use Rattle.sum_model.specs.Requests.Lines.{none, one_more}
 
 -- a line, and those behind it
 abbrev pub with_line : Request → Option Answer → Option (List ℕ) → Option (List ℕ)

@@ -3,7 +3,7 @@ use Rattle.std.proofs.Common.{inl, inr, ℕ, List, [], ◌∷◌, refl, sym, ap,
 use Rattle.std.specs.List.{All}
 use Rattle.std.proofs.lemmas.List.Elements.{All-nil, All-cons}
 use Rattle.commit_log.specs.Segment.{Reading, segment, header_at, frame_at, frames_from}
-use Rattle.dura_model.specs.Entries.{Kept, Item}
+use Rattle.sum_model.specs.Entries.{Kept, Item}
 use Rattle.part_log.specs.Spelling.{Fits}
 use Rattle.part_log.specs.Log.{HasEntries, IsEntry, IsFew, IsNumbered}
 use Rattle.headline_laws.specs.Logs.{start_entry, await_entry, stray_entry, log_of, start_log}

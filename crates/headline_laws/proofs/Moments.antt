@@ -5,12 +5,12 @@ use Rattle.site_model.specs.History.{Step, wrote, synced, said, back_to, put, Le
 use Rattle.site_model.specs.Moments.{Always}
 use Rattle.site_model.specs.Moments.Always.{begins, goes_on}
 use Rattle.commit_log.specs.Segment.{fresh, reading_of, header_at}
-use Rattle.dura_model.specs.Entries.{Kept}
-use Rattle.dura_model.specs.Requests.{answer_to}
-use Rattle.dura_model.specs.World.{World, empty}
+use Rattle.sum_model.specs.Entries.{Kept}
+use Rattle.sum_model.specs.Requests.{answer_to}
+use Rattle.sum_model.specs.World.{World, empty}
 use Rattle.part_log.specs.Log.{HasEntries}
 use Rattle.part_log.proofs.Single.{entries_once}
-use Rattle.plain_model.proofs.PlainLaws.{legal_run_after}
+use Rattle.headline_laws.proofs.Folds.{legal_run_after}
 use Rattle.part_driver.specs.declared.trail.Entry.{Entry}
 use Rattle.engine_run.specs.Headline.{Holds, Opened, job_of, kept_by}
 use Rattle.part_driver.specs.Trail.{settled_at}

@@ -4,14 +4,13 @@ use Rattle.std.proofs.lemmas.List.{append-nil}
 use Rattle.std.proofs.lemmas.List.Elements.{All-nil}
 use Rattle.std.specs.List.{All}
 use Rattle.commit_log.specs.Segment.{fresh, reading_of}
-use Rattle.dura_value.specs.Ids.{Id}
-use Rattle.dura_model.proofs.Outcomes.{never_twice, never_overlaps}
-use Rattle.dura_model.specs.Dependencies.Founded.{none}
-use Rattle.dura_model.specs.Entries.{Kept, items_of, labels_in}
-use Rattle.dura_model.specs.Legal.{Legal, finishes}
-use Rattle.dura_model.specs.Partition.{Partition, nothing, placed, shown}
-use Rattle.dura_model.specs.Requests.Lines.{none as no_line}
-use Rattle.dura_model.specs.Steps.{Label}
+use Rattle.sum_model.proofs.Outcomes.{never_twice, never_overlaps}
+use Rattle.sum_model.specs.Dependencies.Founded.{none}
+use Rattle.sum_model.specs.Entries.{Kept, items_of, labels_in}
+use Rattle.sum_model.specs.Legal.{Legal}
+use Rattle.sum_model.specs.Partition.{Partition, nothing, placed, shown}
+use Rattle.sum_model.specs.Requests.Lines.{none as no_line}
+use Rattle.sum_model.specs.Steps.{Label}
 use Rattle.input_reader.specs.declared.input.Input.{Input}
 use Rattle.input_reader.specs.Input.{HasForm}
 use Rattle.part_log.specs.Log.{HasEntries}

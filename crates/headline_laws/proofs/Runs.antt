@@ -3,11 +3,11 @@ use Rattle.std.proofs.Common.{◌≡◌, ℕ, ◌+◌, Bool, cond, List, [], ◌
 use Rattle.std.specs.Prelude.{IfSome}
 use Rattle.std.specs.Option.{option_and_then}
 use Rattle.dura_value.specs.Ids.{Id}
-use Rattle.dura_model.specs.Language.{Flows}
-use Rattle.dura_model.specs.World.{World, empty}
-use Rattle.dura_model.specs.Steps.{Label, step, IsWithin}
-use Rattle.dura_model.specs.Legal.{Legal, begins, goes_on, finishes, is_finish, after_from}
-use Rattle.plain_model.proofs.PlainLaws.{legal_run_after}
+use Rattle.sum_model.specs.Language.{Flows}
+use Rattle.sum_model.specs.World.{World, empty}
+use Rattle.sum_model.specs.Steps.{Label, step, IsWithin}
+use Rattle.sum_model.specs.Legal.{Legal, begins, goes_on, finishes, is_finish, after_from}
+use Rattle.headline_laws.proofs.Folds.{legal_run_after}
 
 -- a label that ends the task makes one finish more, and another one none
 pub one_more : (id : Id) (task : ℕ) (label : Label) (ends : Bool) (run : List Label) → is_finish id task label ≡ ends → finishes id task (run ++ label ∷ []) ≡ finishes id task run + cond ends 1 0

@@ -3,8 +3,8 @@ use Rattle.std.proofs.Common.{◌≡◌, inl, inr, ◌⊎◌, true, false, List,
 use Rattle.std.specs.List.{Contains}
 use Rattle.dura_value.specs.Ids.{Id, id_eq}
 use Rattle.dura_value.proofs.Ids.{id_self, id_same}
-use Rattle.dura_model.specs.World.{Orchestration, empty}
-use Rattle.dura_model.specs.Legal.{Overlap}
+use Rattle.sum_model.specs.World.{Orchestration, empty}
+use Rattle.sum_model.specs.Legal.{Overlap}
 use Rattle.headline_laws.specs.Machine.{worker, helper, holding, one_holds, both_hold}
 use Rattle.headline_laws.proofs.Telling.{at_some}
 

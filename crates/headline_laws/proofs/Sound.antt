@@ -2,11 +2,11 @@
 use Rattle.std.proofs.Common.{inl, ◌≤◌, ℕ, List, [], ◌∷◌, refl, arith}
 use Rattle.std.proofs.lemmas.List.Elements.{All-nil, All-cons}
 use Rattle.std.specs.List.{All}
-use Rattle.dura_model.proofs.Outcomes.{never_overlaps}
-use Rattle.dura_model.specs.Dependencies.Founded.{none, one_more}
-use Rattle.dura_model.specs.Entries.{Kept}
-use Rattle.dura_model.specs.Requests.Lines.{none as no_line}
-use Rattle.dura_model.specs.World.{World}
+use Rattle.sum_model.proofs.Outcomes.{never_overlaps}
+use Rattle.sum_model.specs.Dependencies.Founded.{none, one_more}
+use Rattle.sum_model.specs.Entries.{Kept}
+use Rattle.sum_model.specs.Requests.Lines.{none as no_line}
+use Rattle.sum_model.specs.World.{World}
 use Rattle.engine_run.specs.Headline.{AreSound, IsAsked, IsLater, moment_of}
 use Rattle.headline_laws.specs.Logs.{start_entry}
 use Rattle.headline_laws.specs.Machine.{start_taken, sum_flows, at_place, first_request, second_request}

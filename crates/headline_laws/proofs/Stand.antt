@@ -2,13 +2,13 @@
 use Rattle.std.proofs.Common.{◌≡◌, inl, inr, ℕ, List, [], ◌∷◌, refl, sym, ap, subst, ◌∙◌, Option, Some, None}
 use Rattle.std.proofs.lemmas.List.Elements.{All-nil}
 use Rattle.commit_log.specs.Segment.{fresh, reading_of, header_at, frame_at, frames_from}
-use Rattle.dura_model.specs.Entries.{Kept, items_of, labels_in}
-use Rattle.dura_model.specs.Language.{Flows}
-use Rattle.dura_model.specs.Legal.{Legal, begins, goes_on, after}
-use Rattle.dura_model.specs.Partition.{Partition, nothing, placed, shown}
-use Rattle.dura_model.specs.World.{World, Message, empty}
-use Rattle.dura_model.specs.Steps.{Label}
-use Rattle.plain_model.proofs.PlainLaws.{legal_run_after, stands_after}
+use Rattle.sum_model.specs.Entries.{Kept, items_of, labels_in}
+use Rattle.sum_model.specs.Language.{Flows}
+use Rattle.sum_model.specs.Legal.{Legal, begins, goes_on, after}
+use Rattle.sum_model.specs.Partition.{Partition, nothing, placed, shown}
+use Rattle.sum_model.specs.World.{World, Message, empty}
+use Rattle.sum_model.specs.Steps.{Label}
+use Rattle.headline_laws.proofs.Folds.{legal_run_after, stands_after}
 use Rattle.part_log.specs.Log.{HasEntries}
 use Rattle.part_log.specs.Stands.{Stands}
 use Rattle.part_log.proofs.Single.{entries_once}

@@ -2,8 +2,8 @@
 use Rattle.std.proofs.Common.{◌≡◌, inl, inr, ◌⊎◌, ℕ, List, [], ◌∷◌, ◌++◌, length, refl, sym, ap, subst, ◌∙◌, arith, Option, Some, None}
 use Rattle.std.proofs.lemmas.List.{append-nil, length-append}
 use Rattle.site_model.specs.History.{Step}
-use Rattle.dura_model.specs.World.{World, Answer}
-use Rattle.dura_model.specs.Requests.{Request, answer_to, line_of}
+use Rattle.sum_model.specs.World.{World, Answer}
+use Rattle.sum_model.specs.Requests.{Request, answer_to, line_of}
 use Rattle.part_driver.specs.Told.{IsFront, IsSpeaking}
 use Rattle.engine_run.specs.Headline.{Told}
 use Rattle.headline_laws.proofs.LinesSaid.{lines_are, lines_in, with_line}

@@ -1,10 +1,10 @@
 -- Examples of logs and of the entries that they keep.
 use Rattle.std.specs.Prelude.{ℕ, List, [], ◌∷◌, ◌++◌, map}
 use Rattle.dura_value.specs.declared.data.Value.TheVariants as values
-use Rattle.activity_table.specs.declared.activities.Outcome.TheVariants.{Done}
+use Rattle.dura_value.specs.declared.outcome.Outcome.TheVariants.{Done}
 use Rattle.commit_log.specs.Segment.{segment_bytes}
 use Rattle.dura_value.specs.Ids.{client}
-use Rattle.dura_model.specs.Entries.{Item, Kept, took, ran, ended}
+use Rattle.sum_model.specs.Entries.{Item, Kept, took, ran, ended}
 use Rattle.part_log.specs.Log.{header_with, frame_spelled}
 use Rattle.headline_laws.specs.Machine.{worker, start_worker, await_worker}
 

@@ -3,14 +3,14 @@ use Rattle.std.specs.Prelude.{ℕ, pos, List, [], ◌∷◌, ◌++◌, codes, if
 use Rattle.std.specs.Str.{bytes_eq}
 use Rattle.dura_value.specs.declared.data.Scalar.TheVariants as scalars
 use Rattle.dura_value.specs.declared.data.Value.TheVariants as values
-use Rattle.activity_table.specs.declared.activities.Outcome.TheVariants.{Done}
+use Rattle.dura_value.specs.declared.outcome.Outcome.TheVariants.{Done}
 use Rattle.dura_value.specs.Ids.{Id, orchestration, entity, client}
-use Rattle.dura_model.specs.Language.{call, return, scalar, variable, list, no_parts, part, Flows}
-use Rattle.dura_model.specs.Machine.{Task, new_machine}
-use Rattle.dura_model.specs.World.{World, Orchestration, Message, start, wait, to_request, is_done, was_started, at_id, at_number, empty}
-use Rattle.dura_model.specs.Requests.{Request}
-use Rattle.dura_model.specs.Steps.{Label, take, deliver, finish}
-use Rattle.dura_model.specs.Dependencies.{Identity}
+use Rattle.sum_model.specs.Language.{call, return, scalar, variable, list, no_parts, part, Flows}
+use Rattle.sum_model.specs.Machine.{Task, new_machine}
+use Rattle.sum_model.specs.World.{World, Orchestration, Message, start, wait, to_request, is_done, was_started, at_id, at_number, empty}
+use Rattle.sum_model.specs.Requests.{Request}
+use Rattle.sum_model.specs.Steps.{Label, take, deliver, finish}
+use Rattle.sum_model.specs.Dependencies.{Identity}
 
 -- ---- who there is
 

@@ -6,9 +6,9 @@ use Rattle.input_reader.specs.declared.request_file.Kind.TheVariants as kinds
 use Rattle.part_state.specs.declared.state.Label.TheVariants.{Take}
 use Rattle.part_driver.specs.declared.trail.Entry.{Entry}
 use Rattle.dura_value.specs.Ids.{Id, client}
-use Rattle.dura_model.specs.World.{World, Message, empty, at_link, at_number}
-use Rattle.dura_model.specs.Entries.{Kept, ran}
-use Rattle.dura_model.specs.Steps.{Label, take}
+use Rattle.sum_model.specs.World.{World, Message, empty, at_link, at_number}
+use Rattle.sum_model.specs.Entries.{Kept, ran}
+use Rattle.sum_model.specs.Steps.{Label, take}
 use Rattle.engine_run.specs.Headline.{Job}
 use Rattle.headline_laws.specs.Logs.{entry_of}
 use Rattle.headline_laws.specs.Machine.{sum_flows, first_request, second_request, anna, worker, start_worker}

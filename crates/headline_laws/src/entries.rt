@@ -2,10 +2,10 @@
 
 ghost use Rattle.std.specs.Prelude.{◌≡◌, ◌++◌, ◌^◌, ◌-◌, ℕ, List, [], ◌∷◌};
 ghost use Rattle.site_model.specs.History.{wrote, synced, on, said};
-ghost use Rattle.dura_model.specs.Entries.{Kept, labels_in};
-ghost use Rattle.dura_model.specs.Legal.{Legal, Overlap};
-ghost use Rattle.dura_model.specs.Steps.{Label, deliver};
-ghost use Rattle.dura_model.specs.World.{World, empty};
+ghost use Rattle.sum_model.specs.Entries.{Kept, labels_in};
+ghost use Rattle.sum_model.specs.Legal.{Legal, Overlap};
+ghost use Rattle.sum_model.specs.Steps.{Label, deliver};
+ghost use Rattle.sum_model.specs.World.{World, empty};
 ghost use Rattle.part_driver.specs.Commit.{WroteGate};
 ghost use Rattle.part_driver.specs.Trail.{settled_at, Rises};
 ghost use Rattle.engine_run.specs.Headline.{Job, IsAsked, IsLater, IsUnderWay, AreSound, moment_of, greatest, kept_by, job_of};

@@ -1,16 +1,20 @@
 //! Laws of what a run promises of a moment, and of its end.
 
-ghost use Rattle.std.specs.Prelude.{◌≡◌, ◌≤◌, ◌++◌, ℕ, List, [], ◌∷◌, length, None};
+ghost use Rattle.std.specs.Prelude.{◌≡◌, ◌≤◌, ◌++◌, ℕ, List, [], ◌∷◌, length, map, None};
 ghost use Rattle.site_model.specs.History.{Change, Step, on, said, synced, back_to};
 ghost use Rattle.site_model.specs.Moments.{Always};
 ghost use Rattle.commit_log.specs.Segment.{reading_of, fresh};
-ghost use Rattle.dura_model.specs.World.{World, empty};
-ghost use Rattle.dura_model.specs.Steps.{Label};
+ghost use Rattle.sum_model.specs.Entries.{labels_in};
+ghost use Rattle.sum_model.specs.Legal.{Legal, Quiet};
+ghost use Rattle.sum_model.specs.Requests.{messages_of};
+ghost use Rattle.part_state.specs.Meaning.{flows_of, requests_of};
+ghost use Rattle.sum_model.specs.World.{World, empty};
+ghost use Rattle.sum_model.specs.Steps.{Label};
 ghost use Rattle.input_reader.specs.declared.input.Input.{Input};
 ghost use Rattle.input_reader.specs.Input.{HasForm};
 ghost use Rattle.input_reader.specs.Refusal.{refusal_of};
 ghost use Rattle.part_driver.specs.declared.trail.Entry.{Entry};
-ghost use Rattle.engine_run.specs.Headline.{Extends, Holds, Unopened, Opened, Headline, IsDone, IsOwnLog};
+ghost use Rattle.engine_run.specs.Headline.{Extends, Holds, Unopened, Opened, Headline, IsDone, IsOwnLog, kept_by};
 ghost use Rattle.headline_laws.specs.Logs.{start_entry, stray_entry, log_of, start_log};
 ghost use Rattle.headline_laws.specs.Machine.{start_taken, sum_flows};
 ghost use Rattle.headline_laws.specs.Moments.{sum_job, settled, log_synced, log_broken, after_start};
@@ -77,10 +81,13 @@ pub fn every_moment()
     ensures from_each { (files : ℕ → List ℕ) (first : List Step) (trail : List Entry) (old steps : List Step) → ((moment : ℕ) → length old ≤ moment → moment ≤ length (steps ++ old) → Headline files first trail (back_to moment (steps ++ old))) → Always (Headline files first trail) old (steps ++ old) }
 {}
 
-/// No run is done that said nothing, or that settled nothing where the log was fresh.
+/// No run is done that said nothing, or that settled nothing where the log was fresh. Then what it settled is a legal run to a
+/// quiet world.
 pub fn unfinished_runs()
     ensures nothing_said { (files : ℕ → List ℕ) (old : List Step) (trail : List Entry) → reading_of (files 16) ≡ fresh → IsDone files old trail old → ⊥ }
     ensures nothing_settled { (files : ℕ → List ℕ) (old new : List Step) → reading_of (files 16) ≡ fresh → IsDone files old [] new → ⊥ }
+    ensures at_the_end { (files : ℕ → List ℕ) (old : List Step) (trail : List Entry) (new : List Step) → reading_of (files 16) ≡ fresh → IsDone files old trail new
+        → (input : Input) × HasForm files input × ((w : World) × Legal (flows_of input) (labels_in (map (kept_by input) trail)) w × Quiet (flows_of input) (messages_of (requests_of input)) w) }
     ensures refused { (files : ℕ → List ℕ) (old : List Step) (trail : List Entry) (new : List Step) → IsDone files old trail new → refusal_of files ≡ None }
 {}
 

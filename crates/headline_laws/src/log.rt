@@ -1,11 +1,11 @@
 //! Laws of what a log keeps, and of what the files stand for.
 
 ghost use Rattle.std.specs.Prelude.{◌≡◌, ◌^◌, ◌-◌, ℕ, List, [], ◌∷◌};
-ghost use Rattle.activity_table.specs.declared.activities.Outcome.{Outcome};
+ghost use Rattle.dura_value.specs.declared.outcome.Outcome.{Outcome};
 ghost use Rattle.dura_value.specs.Ids.{Id};
-ghost use Rattle.dura_model.specs.Entries.{Kept};
-ghost use Rattle.dura_model.specs.Language.{Flows};
-ghost use Rattle.dura_model.specs.Steps.{Label, finish};
+ghost use Rattle.sum_model.specs.Entries.{Kept};
+ghost use Rattle.sum_model.specs.Language.{Flows};
+ghost use Rattle.sum_model.specs.Steps.{Label, finish};
 ghost use Rattle.part_log.specs.Log.{HasEntries, IsLog, IsNumbered};
 ghost use Rattle.part_log.specs.Stands.{Stands};
 ghost use Rattle.headline_laws.specs.Logs.{start_entry, await_entry, stray_entry, empty_entry, nameless_entry, log_of, start_log};

@@ -1,18 +1,18 @@
 //! Laws of the failure-free machine: its runs, its worlds, and the lines of its answers.
 
 ghost use Rattle.std.specs.Prelude.{◌≡◌, ◌≢◌, ◌+◌, ℕ, pos, negsuc, List, [], ◌∷◌, ◌++◌, codes, false, Some, None};
-ghost use Rattle.activity_table.specs.declared.activities.Outcome.{Outcome};
+ghost use Rattle.dura_value.specs.declared.outcome.Outcome.{Outcome};
 ghost use Rattle.serde_json.specs.Data.{string};
 ghost use Rattle.serde_json.specs.Written.{compact_text};
 ghost use Rattle.dura_value.specs.declared.data.Scalar.TheVariants as scalars;
 ghost use Rattle.dura_value.specs.declared.data.Value.TheVariants as values;
 ghost use Rattle.dura_value.specs.Ids.{Id, id_eq};
-ghost use Rattle.dura_model.specs.Dependencies.{Founded};
-ghost use Rattle.dura_model.specs.Language.{Flows};
-ghost use Rattle.dura_model.specs.Legal.{Legal, Quiet, finishes, Overlap};
-ghost use Rattle.dura_model.specs.Requests.{Lines, answer_to, line_of};
-ghost use Rattle.dura_model.specs.Steps.{Label, take, deliver, finish};
-ghost use Rattle.dura_model.specs.World.{World, Message, empty, is_done, has_failed, was_started, was_there, is_unknown, is_missing};
+ghost use Rattle.sum_model.specs.Dependencies.{Founded};
+ghost use Rattle.sum_model.specs.Language.{Flows};
+ghost use Rattle.sum_model.specs.Legal.{Legal, Quiet, finishes, Overlap};
+ghost use Rattle.sum_model.specs.Requests.{Lines, answer_to, line_of};
+ghost use Rattle.sum_model.specs.Steps.{Label, take, deliver, finish};
+ghost use Rattle.sum_model.specs.World.{World, Message, empty, is_done, has_failed, was_started, was_there, is_unknown, is_missing};
 ghost use Rattle.headline_laws.specs.Machine.{account, vault, one_holds, both_hold, worker, anna, sum_flows, start_worker, await_worker, start_taken, worker_begun, sum_finished, worker_pending, wait_under_way, first_request, second_request, one_answered, both_answered, started_line, done_line, at_place, elsewhere};
 
 /// Two instances that hold one entity overlap. One alone doesn't, nor do two that hold different ones.

@@ -96,7 +96,8 @@ pub fn saying()
     ensures failed_on_a_file { Says line [] (on 16 synced ∷ []) failed → ⊥ }
 {}
 
-/// A count has risen where it is more, or where it stands at the last number. An error comes only with it, and it never falls.
+/// A count has risen where it is more, or where it stands at the last number. It never falls,
+/// an error comes only with it, and it rises only with an error.
 pub fn risen_counts()
     ensures more { HasRisen 3 4 }
     ensures stayed { HasRisen 3 3 → ⊥ }
@@ -106,5 +107,7 @@ pub fn risen_counts()
     ensures went { HasCause 3 3 went }
     ensures failed { HasCause 3 4 failed }
     ensures failed_without { HasCause 3 3 failed → ⊥ }
+    ensures went_and_rose { HasCause 3 4 went → ⊥ }
+    ensures failed_and_fell { HasCause 3 2 failed → ⊥ }
     ensures went_and_fell { HasCause 3 2 went → ⊥ }
 {}

@@ -1,8 +1,8 @@
 //! Laws of what a run tells: fronts of lines, and whole lines but for the one that is being said.
 
-ghost use Rattle.std.specs.Prelude.{◌++◌, ℕ, List, [], ◌∷◌};
+ghost use Rattle.std.specs.Prelude.{◌++◌, ℕ, List, [], ◌∷◌, codes};
 ghost use Rattle.site_model.specs.History.{Step, synced, on, said};
-ghost use Rattle.dura_model.specs.World.{empty};
+ghost use Rattle.sum_model.specs.World.{empty};
 ghost use Rattle.part_driver.specs.Told.{IsFront, IsSpeaking};
 ghost use Rattle.engine_run.specs.Headline.{Told};
 ghost use Rattle.headline_laws.specs.Machine.{one_answered, both_answered, started_line, done_line};
@@ -39,5 +39,6 @@ pub fn told_lines()
     ensures skipped { Told sum_job.requests both_answered done_line [] → ⊥ }
     ensures twice { Told sum_job.requests both_answered (started_line ++ started_line) [] → ⊥ }
     ensures other_bytes { Told sum_job.requests both_answered (1 ∷ []) (said 1 ∷ []) → ⊥ }
+    ensures another_in_the_midst { Told sum_job.requests both_answered (codes "a 2") (said 50 ∷ []) → ⊥ }
     ensures of_no_request { Told [] both_answered started_line [] → ⊥ }
 {}

@@ -1,7 +1,7 @@
 use Rattle.std.proofs.Common.{◌≡◌, ℕ, List, [], ◌∷◌, ◌++◌, Some, refl, sym, ap, ◌∙◌}
 use Rattle.std.specs.Fmt.{digits}
-use Rattle.dura_model.specs.World.{was_started, empty}
-use Rattle.dura_model.specs.Requests.Lines.{none, one_more}
+use Rattle.sum_model.specs.World.{was_started, empty}
+use Rattle.sum_model.specs.Requests.Lines.{none, one_more}
 use Rattle.headline_laws.specs.Machine.{anna, start_worker, first_request, second_request, one_answered, started_line}
 use Rattle.headline_laws.proofs.Asked.{not_of_another, not_of_nobody, first_said}
 use Rattle.headline_laws.proofs.LinesSaid.{lines_are}

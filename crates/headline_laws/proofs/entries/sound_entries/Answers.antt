@@ -1,12 +1,12 @@
 use Rattle.std.proofs.Common.{◌≤◌, inl, inr, List, [], ◌∷◌, refl, arith}
 use Rattle.std.proofs.lemmas.List.Elements.{All-nil, All-cons, All-head}
-use Rattle.dura_model.proofs.Outcomes.{never_overlaps}
+use Rattle.sum_model.proofs.Outcomes.{never_overlaps}
 use Rattle.std.specs.List.{All}
-use Rattle.dura_model.specs.Dependencies.{identity_of}
-use Rattle.dura_model.specs.Dependencies.Founded.{none, one_more}
-use Rattle.dura_model.specs.Entries.{Kept}
-use Rattle.dura_model.specs.World.{empty}
-use Rattle.dura_model.specs.Steps.{deliver}
+use Rattle.sum_model.specs.Dependencies.{identity_of}
+use Rattle.sum_model.specs.Dependencies.Founded.{none, one_more}
+use Rattle.sum_model.specs.Entries.{Kept}
+use Rattle.sum_model.specs.World.{empty}
+use Rattle.sum_model.specs.Steps.{deliver}
 use Rattle.engine_run.specs.Headline.{IsAsked, IsLater, moment_of}
 use Rattle.headline_laws.specs.Machine.{anna, worker, start_worker, start_taken, sum_flows, at_place}
 use Rattle.headline_laws.specs.Moments.{sum_job, delivery_entry}

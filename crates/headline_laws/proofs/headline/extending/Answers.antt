@@ -1,7 +1,7 @@
 use Rattle.std.proofs.Common.{◌≡◌, inl, inr, List, [], ◌∷◌, length, refl, sym, ap, subst, ◌∙◌, arith}
 use Rattle.std.proofs.lemmas.List.Elements.{All-head}
-use Rattle.dura_model.specs.Entries.{Kept, labels_in}
-use Rattle.dura_model.specs.World.{empty}
+use Rattle.sum_model.specs.Entries.{Kept, labels_in}
+use Rattle.sum_model.specs.World.{empty}
 use Rattle.part_log.specs.Stands.{Stands}
 use Rattle.part_log.proofs.Single.{entries_once}
 use Rattle.engine_run.specs.Headline.{IsAsked, IsUnderWay}

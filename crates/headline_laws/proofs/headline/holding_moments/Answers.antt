@@ -1,8 +1,8 @@
 use Rattle.std.proofs.Common.{inl, [], ◌∷◌, length, refl, ap, arith}
 use Rattle.commit_log.specs.Segment.{reading_of}
-use Rattle.dura_model.specs.Legal.{begins}
-use Rattle.dura_model.specs.Requests.Lines.{none}
-use Rattle.dura_model.specs.World.{empty}
+use Rattle.sum_model.specs.Legal.{begins}
+use Rattle.sum_model.specs.Requests.Lines.{none}
+use Rattle.sum_model.specs.World.{empty}
 use Rattle.part_log.proofs.Single.{entries_once}
 use Rattle.headline_laws.specs.Logs.{start_entry}
 use Rattle.headline_laws.specs.Machine.{sum_flows}

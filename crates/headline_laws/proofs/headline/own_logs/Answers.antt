@@ -2,8 +2,8 @@ use Rattle.std.proofs.Common.{List, [], ◌∷◌, length, refl, ap, subst, arit
 use Rattle.std.proofs.lemmas.List.{length-append}
 use Rattle.std.proofs.lemmas.List.Elements.{All-nil, All-cons, All-head}
 use Rattle.std.specs.List.{All}
-use Rattle.dura_model.specs.Entries.{Kept, labels_in}
-use Rattle.dura_model.specs.Legal.{begins, goes_on}
+use Rattle.sum_model.specs.Entries.{Kept, labels_in}
+use Rattle.sum_model.specs.Legal.{begins, goes_on}
 use Rattle.part_log.proofs.Single.{entries_once}
 use Rattle.engine_run.specs.Headline.{IsOfFile}
 use Rattle.headline_laws.specs.Logs.{start_entry, stray_entry, log_of, start_log}

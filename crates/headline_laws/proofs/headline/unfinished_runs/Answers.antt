@@ -1,13 +1,13 @@
 use Rattle.std.proofs.Common.{◌≡◌, ◌≤◌, ℕ, List, [], ◌∷◌, ◌++◌, length, Option, Some, None, refl, ap, ◌∙◌, arith}
 use Rattle.std.proofs.lemmas.List.{length-append}
 use Rattle.site_model.specs.History.{tape}
-use Rattle.dura_model.specs.Legal.{is_due}
+use Rattle.sum_model.specs.Legal.{is_due}
 use Rattle.std.specs.Fmt.{decimal}
 use Rattle.input_reader.specs.declared.request_file.Kind.TheVariants as kinds
 use Rattle.part_state.specs.Meaning.{flows_of, request_of, requests_of}
-use Rattle.dura_model.specs.Requests.{Request, answer_text, line_of}
-use Rattle.dura_model.specs.World.{World, Answer, empty}
-use Rattle.plain_model.proofs.PlainLaws.{legal_run_after}
+use Rattle.sum_model.specs.Requests.{Request, answer_text, line_of}
+use Rattle.sum_model.specs.World.{World, Answer, empty}
+use Rattle.headline_laws.proofs.Folds.{legal_run_after}
 use Rattle.headline_laws.proofs.LinesSaid.{lines_are, with_line}
 use Rattle.headline_laws.proofs.Stand.{fresh_stands}
 use Rattle.headline_laws.proofs.headline.unfinished_runs.Goals as goal
@@ -33,3 +33,8 @@ returns-clause-nothing_settled c files old new is d =
     let world_is : empty ≡ end.0 = cc (legal_run_after (flows_of d.input) [] end.0 end.1) in
     let start = request_of d.input kinds.Start in
     absurd (cc (ap (λ (w : World). is_due w [] start) world_is ∙ end.2.asked [] start (request_of d.input kinds.Wait ∷ []) refl))
+
+pub returns-clause-at_the_end : goal.returns-clause-at_the_end
+returns-clause-at_the_end c files old trail new is d =
+    let end = d.every [] (fresh_stands _ _ files is) in
+    (d.input, d.form, (end.0, end.1, end.2))

@@ -1,9 +1,9 @@
 use Rattle.std.proofs.Common.{inl, ℕ, List, [], ◌∷◌, refl, ap, length, arith}
 use Rattle.std.proofs.lemmas.List.Elements.{All-head}
-use Rattle.dura_model.specs.Entries.{Kept}
+use Rattle.sum_model.specs.Entries.{Kept}
 use Rattle.part_log.specs.Log.{IsEntry, IsFew}
 use Rattle.part_log.specs.Spelling.{Fits}
-use Rattle.dura_model.specs.Entries.{ran}
+use Rattle.sum_model.specs.Entries.{ran}
 use Rattle.dura_value.specs.Ids.{client}
 use Rattle.part_log.proofs.Single.{entries_once}
 use Rattle.headline_laws.specs.Machine.{worker}

@@ -1,5 +1,5 @@
 use Rattle.std.proofs.Common.{[], ◌∷◌, refl}
-use Rattle.plain_model.proofs.PlainLaws.{legal_run_after}
+use Rattle.headline_laws.proofs.Folds.{legal_run_after}
 use Rattle.part_log.proofs.Single.{entries_once}
 use Rattle.headline_laws.specs.Machine.{sum_flows}
 use Rattle.headline_laws.specs.Logs.{start_entry, stray_entry, log_of, start_log}

@@ -2,7 +2,7 @@ use Rattle.std.proofs.Common.{◌≡◌, ◌==◌, true, false, Bool, ◌&&◌, 
 use Rattle.std.proofs.lemmas.Bool.{eq-eqb, ne_eqb}
 use Rattle.dura_value.proofs.Ids.{id_self, and_true}
 use Rattle.dura_value.specs.Ids.{id_eq}
-use Rattle.dura_model.specs.Steps.{take, deliver, finish}
+use Rattle.sum_model.specs.Steps.{take, deliver, finish}
 use Rattle.headline_laws.proofs.Runs.{one_more}
 use Rattle.headline_laws.proofs.machine.counting_finishes.Goals as goal
 

@@ -1,5 +1,5 @@
 use Rattle.std.proofs.Common.{inl, inr, [], ◌∷◌, refl, arith}
-use Rattle.dura_model.specs.Dependencies.Founded.{none, one_more}
+use Rattle.sum_model.specs.Dependencies.Founded.{none, one_more}
 use Rattle.headline_laws.specs.Machine.{at_place, elsewhere}
 use Rattle.headline_laws.proofs.Foundations.{each_stands, on_nothing, on_recovered, on_before}
 use Rattle.headline_laws.proofs.machine.founded_entries.Goals as goal

@@ -1,10 +1,10 @@
 use Rattle.std.proofs.Common.{[], ◌∷◌, ◌++◌, refl, ap}
 use Rattle.std.specs.Prelude.{option_map}
-use Rattle.dura_model.specs.Machine.{go_on}
-use Rattle.dura_model.specs.World.{World}
-use Rattle.dura_model.specs.Steps.{deliver}
-use Rattle.dura_model.specs.Legal.{begins, goes_on}
-use Rattle.plain_model.proofs.PlainLaws.{legal_run_after}
+use Rattle.sum_model.specs.Machine.{go_on}
+use Rattle.sum_model.specs.World.{World}
+use Rattle.sum_model.specs.Steps.{deliver}
+use Rattle.sum_model.specs.Legal.{begins, goes_on}
+use Rattle.headline_laws.proofs.Folds.{legal_run_after}
 use Rattle.headline_laws.specs.Machine.{anna, worker, sum_flows, start_taken, worker_begun, sum_finished}
 use Rattle.headline_laws.proofs.Runs.{legal_run_within}
 use Rattle.headline_laws.proofs.machine.legal_runs.Goals as goal

@@ -1,7 +1,7 @@
 use Rattle.std.proofs.Common.{◌≡◌, [], ◌∷◌, ◌++◌, refl, Some}
 use Rattle.std.specs.Prelude.{codes}
-use Rattle.dura_model.specs.World.{empty}
-use Rattle.dura_model.specs.Requests.Lines.{none, one_more}
+use Rattle.sum_model.specs.World.{empty}
+use Rattle.sum_model.specs.Requests.Lines.{none, one_more}
 use Rattle.std.specs.Fmt.{digits}
 use Rattle.headline_laws.specs.Machine.{first_request, second_request, both_answered, started_line, done_line}
 use Rattle.headline_laws.proofs.LinesSaid.{lines_are}

@@ -1,9 +1,10 @@
 use Rattle.std.proofs.Common.{◌≡◌, ◌⊎◌, inl, inr, ℕ, List, [], ◌∷◌, ◌++◌, get_or, Some, refl, sym, ap, ◌∙◌, arith}
+use Rattle.std.specs.Prelude.{codes}
 use Rattle.std.specs.Fmt.{digits}
-use Rattle.site_model.specs.History.{said}
-use Rattle.dura_model.specs.World.{World, was_started, empty}
-use Rattle.dura_model.specs.Requests.{Request, Lines, answer_to, line_of}
-use Rattle.dura_model.specs.Requests.Lines.{none, one_more}
+use Rattle.site_model.specs.History.{Step, said}
+use Rattle.sum_model.specs.World.{World, was_started, empty}
+use Rattle.sum_model.specs.Requests.{Request, Lines, answer_to, line_of}
+use Rattle.sum_model.specs.Requests.Lines.{none, one_more}
 use Rattle.part_driver.specs.Told.{IsSpeaking}
 use Rattle.engine_run.specs.Headline.{Told}
 use Rattle.headline_laws.specs.Machine.{first_request, second_request, one_answered, both_answered, started_line, done_line}
@@ -15,9 +16,9 @@ use Rattle.headline_laws.proofs.told.told_lines.Goals as goal
 some_same : {X : Type 0} {x y : X} → Some x ≡ Some y → x ≡ y
 some_same is = cc is
 
--- the first byte of a list
-abbrev head : List ℕ → ℕ
-head l = get_or l 0 0
+-- the byte at a place
+abbrev place : ℕ → List ℕ → ℕ
+place k l = get_or l k 0
 
 one_line : (w : World) → answer_to w first_request ≡ Some was_started → Lines w (first_request ∷ []) started_line
 unfolding digits
@@ -27,26 +28,31 @@ both_lines : Lines both_answered (first_request ∷ second_request ∷ []) (star
 unfolding digits
 both_lines = one_more second_request _ (one_line both_answered refl) refl
 
--- no line begins with another byte
-begins : Told (first_request ∷ second_request ∷ []) both_answered (1 ∷ []) (said 1 ∷ []) → ⊥
+-- where no line was told yet, what is told is a front of the first one
+at_first : (k : ℕ) (bytes : List ℕ) (steps : List Step) → (bytes ≡ [] → ⊥) → ((more : List ℕ) → get_or started_line k 0 ≡ get_or (bytes ++ more) k 0 → ⊥) → TellsWhole both_answered [] (first_request ∷ second_request ∷ []) bytes steps → ⊥
 unfolding digits
-begins t = elim (told_whole first_request second_request both_answered (1 ∷ []) (said 1 ∷ []) t) [
-  | inl whole ↦ at_first whole
-  | inr some ↦ elim some [
-    | inl one ↦ omega (arith, ap head (one.3 ∙ ap (λ (l : List ℕ). l ++ one.1) (sym (some_same one.2))))
-    | inr both ↦ omega (arith, ap head (both.3 ∙ ap (λ (l : List ℕ). l ++ both.1) (sym (some_same both.2))))
+at_first k bytes steps some differs (lines, rest, are, all, inl empty_rest) =
+    let lines_none : [] ≡ lines = cc are in
+    some (all ∙ ap (λ (l : List ℕ). lines ++ l) empty_rest ∙ ap (λ (l : List ℕ). l ++ []) (sym lines_none))
+at_first k bytes steps some differs (lines, rest, are, all, inr (speaks, (r, more, answer, left, it, front))) =
+    let lines_none : [] ≡ lines = cc are in
+    let rest_is : bytes ≡ rest = all ∙ ap (λ (l : List ℕ). l ++ rest) (sym lines_none) in
+    let r_is : first_request ≡ r = cc left in
+    let answer_is : Some was_started ≡ Some answer = ap (answer_to both_answered) r_is ∙ it in
+    let line : started_line ≡ line_of r answer = ap (λ (x : Request). line_of x was_started) r_is ∙ ap (line_of r) (some_same answer_is) in
+    differs front.0 (ap (place k) (line ∙ front.1 ∙ ap (λ (l : List ℕ). l ++ front.0) (sym rest_is)))
+
+-- no byte at a place of the first line is another one
+begins : (k : ℕ) (bytes : List ℕ) (steps : List Step) → (bytes ≡ [] → ⊥) → ((more : List ℕ) → get_or started_line k 0 ≡ get_or (bytes ++ more) k 0 → ⊥) → ((more : List ℕ) → get_or bytes k 0 ≡ get_or (started_line ++ more) k 0 → ⊥)
+    → Told (first_request ∷ second_request ∷ []) both_answered bytes steps → ⊥
+unfolding digits
+begins k bytes steps some differs differs_too t = elim (told_whole first_request second_request both_answered bytes steps t) [
+  | inl whole ↦ at_first k bytes steps some differs whole
+  | inr told ↦ elim told [
+    | inl one ↦ differs_too one.1 (ap (place k) (one.3 ∙ ap (λ (l : List ℕ). l ++ one.1) (sym (some_same one.2))))
+    | inr both ↦ differs_too (done_line ++ both.1) (ap (place k) (both.3 ∙ ap (λ (l : List ℕ). l ++ both.1) (sym (some_same both.2))))
   ]
 ]
-  where
-    at_first : TellsWhole both_answered [] (first_request ∷ second_request ∷ []) (1 ∷ []) (said 1 ∷ []) → ⊥
-    at_first (lines, rest, are, all, inl empty) = let lines_none : [] ≡ lines = cc are in let none : 1 ∷ [] ≡ [] = all ∙ ap (λ (l : List ℕ). lines ++ l) empty ∙ ap (λ (l : List ℕ). l ++ []) (sym lines_none) in absurd (cc none)
-    at_first (lines, rest, are, all, inr (speaks, (r, more, answer, left, it, front))) =
-        let lines_none : [] ≡ lines = cc are in
-        let rest_is : 1 ∷ [] ≡ rest = all ∙ ap (λ (l : List ℕ). l ++ rest) (sym lines_none) in
-        let r_is : first_request ≡ r = cc left in
-        let answer_is : Some was_started ≡ Some answer = ap (answer_to both_answered) r_is ∙ it in
-        let line : started_line ≡ line_of r answer = ap (λ (x : Request). line_of x was_started) r_is ∙ ap (line_of r) (some_same answer_is) in
-        omega (arith, ap head (line ∙ front.1 ∙ ap (λ (l : List ℕ). l ++ front.0) (sym rest_is)))
 
 silent_rest : {X : Type 0} (rest : List ℕ) → (rest ≡ []) ⊎ (IsSpeaking [] × X) → rest ≡ []
 silent_rest rest (inl empty_rest) = empty_rest
@@ -94,6 +100,7 @@ returns c = record {
       | inr is ↦ other_bytes (started_line ++ done_line) (started_line ++ started_line) refl (some_same is)
     ]
   ];
-  other_bytes = begins;
+  other_bytes = begins 0 (1 ∷ []) (said 1 ∷ []) (λ is. absurd (cc is)) (λ more is. omega (arith, is)) (λ more is. omega (arith, is));
+  another_in_the_midst = begins 2 (codes "a 2") (said 50 ∷ []) (λ is. absurd (cc is)) (λ more is. omega (arith, is)) (λ more is. omega (arith, is));
   of_no_request = λ t. no_request t.done t.left t.lines t.rest t.order (lines_are both_answered t.done t.lines t.whole) (silent_rest t.rest t.speaking) t.all;
 }
