@@ -6,8 +6,8 @@ use Rattle.dura_value.specs.declared.data.Scalar.{Scalar}
 use Rattle.dura_value.specs.declared.data.Scalar.TheVariants as scalars
 use Rattle.dura_value.specs.declared.data.Value.{Value}
 use Rattle.dura_value.specs.declared.data.Value.TheVariants as values
-use Rattle.activity_table.specs.declared.activities.Outcome.{Outcome}
-use Rattle.activity_table.specs.declared.activities.Outcome.TheVariants.{Done, Failed}
+use Rattle.dura_value.specs.declared.outcome.Outcome.{Outcome}
+use Rattle.dura_value.specs.declared.outcome.Outcome.TheVariants.{Done, Failed}
 
 -- an integer of 64 bits
 abbrev pub fits : ℤ → Bool

@@ -3,17 +3,8 @@
 ghost use Rattle.std.specs.Prelude.{◌≡◌, ◌≤◌, length, IfOk};
 ghost use Rattle.activity_table.specs.Activities.{May, sum_of, added};
 
-use dura_value::{Scalar, Text, Value};
+use dura_value::{Outcome, Scalar, Text, Value};
 use std::alloc::{AllocError, Global};
-
-/// What an activity gave.
-#[derive(Debug, Drop)]
-pub enum Outcome {
-    /// It ended with a value.
-    Done(Value),
-    /// It failed with a text.
-    Failed(Text),
-}
 
 /// The activities that an engine can run.
 pub trait Activities {

@@ -3,4 +3,4 @@
 
 mod activities;
 
-pub use activities::{Activities, Outcome, Table};
+pub use activities::{Activities, Table};

@@ -1,8 +1,5 @@
-pub mod Dependencies
-pub mod Entries
-pub mod Language
+pub mod Deliveries
 pub mod Legal
-pub mod Machine
 pub mod Partition
 pub mod Requests
 pub mod Steps

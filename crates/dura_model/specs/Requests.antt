@@ -1,5 +1,6 @@
 -- The requests of a file, and the lines of their answers.
-use Rattle.std.specs.Prelude.{map, ◌≡◌, ℕ, ℤ, pos, negsuc, List, [], ◌∷◌, ◌++◌, codes, Option, Some, true, false}
+use Rattle.std.specs.Prelude.{map, ◌≡◌, ◌&&◌, ◌==◌, ℕ, ℤ, pos, negsuc, List, [], ◌∷◌, ◌++◌, codes, Bool, Option, Some, None, true, false, if◌then◌else◌}
+use Rattle.std.specs.Str.{bytes_eq}
 use Rattle.serde_json.specs.Data.{Data, Items, null, boolean, number, string, array, no_items, item, unsigned, negative}
 use Rattle.std.specs.Fmt.{decimal}
 use Rattle.serde_json.specs.Written.{compact_text}
@@ -8,7 +9,8 @@ use Rattle.dura_value.specs.declared.data.Scalar.TheVariants as scalars
 use Rattle.dura_value.specs.declared.data.Value.{Value}
 use Rattle.dura_value.specs.declared.data.Value.TheVariants as values
 use Rattle.dura_value.specs.Ids.{client}
-use Rattle.dura_model.specs.World.{World, Message, Answer, is_done, has_failed, was_started, was_there, is_unknown, is_missing}
+use Rattle.dura_value.specs.Messages.{Answer, is_done, has_failed, was_started, was_there, is_unknown, was_raised, has_ended, is_missing, is_running, is_value, Message}
+use Rattle.dura_model.specs.World.{World}
 
 -- a request: whose it is, its number, and the message that it sends
 pub record Request : Type 0 where
@@ -23,17 +25,22 @@ answer_to w r = w.answers (client r.client) r.number
 abbrev pub messages_of : List Request → List Message
 messages_of = map (λ r. r.message)
 
+-- the requests of one client, in their order
+abbrev pub requests_of : List ℕ → List Request → List Request
+requests_of name [] = []
+requests_of name (r ∷ requests) = if bytes_eq r.client name then r ∷ requests_of name requests else requests_of name requests
+
 -- ---- the lines
 
-abbrev pub integer : ℤ → Data
-integer (pos n) = number (unsigned n)
-integer (negsuc n) = number (negative (negsuc n))
+abbrev pub integer_data : ℤ → Data
+integer_data (pos n) = number (unsigned n)
+integer_data (negsuc n) = number (negative (negsuc n))
 
 abbrev pub scalar_data : Scalar → Data
 scalar_data scalars.Null = null
 scalar_data scalars.False = boolean false
 scalar_data scalars.True = boolean true
-scalar_data (scalars.Int n) = integer n
+scalar_data (scalars.Int n) = integer_data n
 scalar_data (scalars.Text text) = string text
 
 abbrev pub items_data : List Scalar → Items
@@ -45,7 +52,7 @@ abbrev pub value_data : Value → Data
 value_data values.Null = null
 value_data values.False = boolean false
 value_data values.True = boolean true
-value_data (values.Int n) = integer n
+value_data (values.Int n) = integer_data n
 value_data (values.Text text) = string text
 value_data (values.List parts) = array (items_data parts)
 
@@ -55,7 +62,11 @@ answer_text (has_failed text) = codes "failed " ++ compact_text (string text)
 answer_text was_started = codes "started"
 answer_text was_there = codes "exists"
 answer_text is_unknown = codes "unknown"
+answer_text was_raised = codes "raised"
+answer_text has_ended = codes "ended"
 answer_text is_missing = codes "none"
+answer_text is_running = codes "running"
+answer_text (is_value value) = codes "value " ++ compact_text (value_data value)
 
 -- CLIENT NUMBER ANSWER, and a line feed
 abbrev pub line_of : Request → Answer → List ℕ
@@ -65,3 +76,7 @@ line_of r answer = r.client ++ (32 ∷ decimal r.number ++ 32 ∷ []) ++ answer_
 pub data Lines (w : World) : List Request → List ℕ → Type 0 where
   none : Lines w [] []
   one_more : {requests : List Request} {lines : List ℕ} (r : Request) (answer : Answer) → Lines w requests lines → answer_to w r ≡ Some answer → Lines w (requests ++ r ∷ []) (lines ++ line_of r answer)
+
+-- Of each client these are its first requests of the file, in its order and with none skipped.
+pub record ArePrefixes (file said : List Request) : Type 0 where
+  pub each : (name : List ℕ) → (left : List Request) × (requests_of name file ≡ requests_of name said ++ left)

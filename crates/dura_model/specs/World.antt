@@ -1,52 +1,44 @@
--- The world of the failure-free machine: instances, links, requests and answers.
-use Rattle.std.specs.Prelude.{ℕ, ◌==◌, ◌&&◌, List, [], if◌then◌else◌, Option, Some, None}
-use Rattle.dura_value.specs.Ids.{Id, id_eq}
-use Rattle.dura_model.specs.Machine.{Machine, Task, Progress, running, task_at}
+-- The world of the failure-free machine.
+use Rattle.std.specs.Prelude.{ℕ, ◌==◌, ◌&&◌, List, [], ◌∷◌, Bool, if◌then◌else◌, Option, Some, None}
 use Rattle.dura_value.specs.declared.data.Value.{Value}
-use Rattle.activity_table.specs.declared.activities.Outcome.{Outcome}
-
--- who waits for an answer: nobody, the task of an instance with this number, or the client's request with this number
-pub data Reply : Type 0 where
-  to_nobody : Reply
-  to_task : (number : ℕ) → Reply
-  to_request : (number : ℕ) → Reply
-
--- what a request or a task is answered
-pub data Answer : Type 0 where
-  is_done : (value : Value) → Answer
-  has_failed : (text : List ℕ) → Answer
-  was_started : Answer
-  was_there : Answer
-  is_unknown : Answer
-  is_missing : Answer
-
--- start an instance with an argument; wait for its end, as request with this number; the answer to a reply
-pub data Body : Type 0 where
-  start : (argument : Value) → (reply : Reply) → Body
-  wait : (number : ℕ) → Body
-  result : (reply : Reply) → (answer : Answer) → Body
-
-pub record Message : Type 0 where
-  pub from : Id
-  pub to : Id
-  pub body : Body
+use Rattle.dura_value.specs.Ids.{Id, id_eq}
+use Rattle.dura_value.specs.Messages.{Answer, Message}
+use Rattle.flow_syntax.specs.Machine.{Machine}
+use Rattle.flow_syntax.specs.Entity.{Entity}
 
 -- an instance: its machine, and the clients that wait for its end, with the numbers of their requests, the longest waiting first
 pub record Orchestration : Type 0 where
   pub machine : Machine
   pub waiting : List (Id × ℕ)
 
--- All instances; the messages under way from each sender to each receiver, the oldest first; the requests taken and the
--- answers that came, by client and number.
+-- an activity that is asked for
+pub record Activity : Type 0 where
+  pub name : List ℕ
+  pub argument : Value
+
+-- All instances and all entities that a message reached; the messages under way from each sender to each receiver, the
+-- oldest first; the activities and the timers that are pending, by instance and task; the requests taken and the answers
+-- that came, by client and number.
 pub record World : Type 0 where
   pub orchestrations : Id → Option Orchestration
+  pub entities : Id → Option Entity
   pub links : Id → Id → List Message
+  pub activities : Id → ℕ → Option Activity
+  pub timers : Id → ℕ → Option ℕ
   pub taken : Id → ℕ → Option Message
   pub answers : Id → ℕ → Option Answer
 
 -- nothing happened yet
 abbrev pub empty : World
-empty = record { orchestrations = λ id. None; links = λ from to. []; taken = λ client number. None; answers = λ client number. None }
+empty = record {
+  orchestrations = λ id. None;
+  entities = λ id. None;
+  links = λ from to. [];
+  activities = λ id task. None;
+  timers = λ id task. None;
+  taken = λ client number. None;
+  answers = λ client number. None;
+}
 
 -- at one place this, elsewhere as before
 abbrev pub at_id : {X : Type 0} → (Id → X) → Id → X → Id → X
@@ -58,19 +50,6 @@ at_link f from to x other_from other_to = if id_eq from other_from && id_eq to o
 abbrev pub at_number : {X : Type 0} → (Id → ℕ → X) → Id → ℕ → X → Id → ℕ → X
 at_number f id number x other other_number = if id_eq id other && number == other_number then x else f other other_number
 
--- the task, while its machine runs and it has no outcome
-abbrev pub unfinished : Task → Option Outcome → Option Task
-unfinished task None = Some task
-unfinished task (Some outcome) = None
-
-abbrev pub open_task : Progress → Option Task → Option Task
-open_task running (Some task) = unfinished task task.outcome
-open_task progress task = None
-
-abbrev pub pending_in : Option Orchestration → ℕ → Option Task
-pending_in None number = None
-pending_in (Some o) number = open_task o.machine.progress (task_at o.machine.tasks number)
-
--- the activity that is pending for a task of an instance
-abbrev pub pending : World → Id → ℕ → Option Task
-pending w id number = pending_in (w.orchestrations id) number
+-- nothing at any number of this id
+abbrev pub cleared : {X : Type 0} → (Id → ℕ → Option X) → Id → Id → ℕ → Option X
+cleared f id other number = if id_eq id other then None else f other number

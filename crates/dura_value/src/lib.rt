@@ -2,6 +2,7 @@
 //! partition each of them lives in.
 //!
 //! - `text` is a bounded text, `data` the values that flows compute with, and `names` short words.
+//! - `outcome` is what an activity or an instance came to.
 //! - `digest` is a digest of 64 bits.
 //! - `laws` has a law of ids.
 #![tactic(auto)]
@@ -10,9 +11,11 @@ mod data;
 mod digest;
 mod laws;
 mod names;
+mod outcome;
 mod text;
 
 pub use data::{Scalar, Scalars, Value};
 pub use digest::{fnv, word};
 pub use names::{Key, Name, is_key, is_name};
+pub use outcome::Outcome;
 pub use text::{Text, TextError};

@@ -6,18 +6,18 @@ use Rattle.std.proofs.lemmas.List.Elements.{All-nil, All-cons, All-append, All-h
 use Rattle.input_reader.specs.declared.input.Input.{Input}
 use Rattle.part_state.specs.declared.state.State.{State}
 use Rattle.part_driver.specs.declared.trail.Entry.{Entry}
-use Rattle.dura_model.specs.Dependencies.{Identity, identity_of, DependsOn, Founded}
-use Rattle.dura_model.specs.Dependencies.Founded.{none, one_more}
+use Rattle.sum_model.specs.Dependencies.{Identity, identity_of, DependsOn, Founded}
+use Rattle.sum_model.specs.Dependencies.Founded.{none, one_more}
 use Rattle.engine_run.specs.Headline.{kept_by, IsLater}
 use Rattle.part_driver.specs.Labels.{Appends}
 use Rattle.part_driver.specs.Labels.Appends.{none as no_entry, one_more as one_entry}
-use Rattle.dura_model.specs.Entries.{labels_in, Kept}
+use Rattle.sum_model.specs.Entries.{labels_in, Kept}
 use Rattle.std.proofs.Common.{Option, Some, None}
 use Rattle.std.proofs.lemmas.List.Elements.{Contains-append_right, All-map}
 use Rattle.part_items.specs.Items.{LogEntry}
 use Rattle.part_items.specs.Replay.{IsNumbered, last_incarnation}
 use Rattle.part_state.specs.State.{stamp_of}
-use Rattle.dura_model.specs.Steps.{Label as Step}
+use Rattle.sum_model.specs.Steps.{Label as Step}
 use Rattle.part_state.specs.Meaning.{label_of}
 use Rattle.engine_run.proofs.Held.{labels_kept}
 use Rattle.part_state.specs.Given.{IsGiven}

@@ -17,16 +17,16 @@ use Rattle.input_reader.specs.Input.{HasForm}
 use Rattle.part_items.specs.Items.{LogEntry}
 use Rattle.part_driver.specs.Labels.{Appends, AsksRightly, Origin, HoldsEntries, HoldsNext, StandsAt, frames_of}
 use Rattle.part_driver.specs.Labels.Appends.{one_more}
-use Rattle.dura_model.specs.Legal.{Legal}
-use Rattle.dura_model.specs.Entries.{Kept, labels_in}
+use Rattle.sum_model.specs.Legal.{Legal}
+use Rattle.sum_model.specs.Entries.{Kept, labels_in}
 use Rattle.part_log.specs.Log.{HasEntries}
 use Rattle.part_state.specs.Meaning.{flows_of, label_of, item_of, requests_of, world_of}
 use Rattle.part_log.specs.Log.{header_with}
 use Rattle.part_items.specs.Replay.{labels_of, entries_of}
-use Rattle.dura_model.specs.Entries.{label_in}
+use Rattle.sum_model.specs.Entries.{label_in}
 use Rattle.part_log.specs.Stands.{Stands}
 use Rattle.part_state.specs.State.{stamp_of, fresh_state}
-use Rattle.dura_model.specs.Steps.{Label as Step}
+use Rattle.sum_model.specs.Steps.{Label as Step}
 use Rattle.part_driver.specs.Told.{IsFront, said_of, told_of}
 use Rattle.engine_run.proofs.Asking.{LastOf, ids_kept, last_of_log, founded_path, timely_path, of_labels, lives_path}
 use Rattle.engine_run.proofs.Appended.{GoesTo}
@@ -38,7 +38,7 @@ use Rattle.part_state.specs.Given.{IsRight}
 use Rattle.part_state.proofs.Meant.{right_fresh}
 use Rattle.input_reader.proofs.Named.{flow_named, requests_named}
 use Rattle.input_reader.proofs.Numbers.{flow_low}
-use Rattle.dura_model.proofs.Outcomes.{never_twice, never_overlaps}
+use Rattle.sum_model.proofs.Outcomes.{never_twice, never_overlaps}
 use Rattle.part_log.proofs.Single.{entries_once}
 use Rattle.part_items.specs.Keeping.{kept_of}
 use Rattle.part_items.proofs.Standing.{items_kept}

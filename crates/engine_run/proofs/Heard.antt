@@ -18,10 +18,10 @@ use Rattle.part_driver.specs.declared.told.Told.{Told as Spoken}
 use Rattle.part_driver.specs.declared.told.Told.TheVariants.{Nothing, Start, Both}
 use Rattle.part_driver.specs.Lines.{start_line, wait_line, sum_text}
 use Rattle.part_driver.specs.Told.{said_of, told_of, told_start, TellsRightly, IsFront, IsSpeaking, IsNextFront, IsSaidSoFar}
-use Rattle.dura_model.specs.World.{was_started}
-use Rattle.dura_model.specs.Requests.{Request, answer_to, line_of, Lines}
+use Rattle.sum_model.specs.World.{was_started}
+use Rattle.sum_model.specs.Requests.{Request, answer_to, line_of, Lines}
 use Rattle.std.specs.Fmt.{digits}
-use Rattle.dura_model.specs.Requests.Lines.{none, one_more}
+use Rattle.sum_model.specs.Requests.Lines.{none, one_more}
 use Rattle.part_state.specs.Meaning.{request_of, requests_of, world_of, answer_of, start_answer, wait_answer, label_of}
 use Rattle.engine_run.specs.Headline.{Told, IsAsked}
 use Rattle.part_state.proofs.Meant.{o, i, u, t1, t2, a1, a2}

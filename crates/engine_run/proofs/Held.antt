@@ -15,13 +15,13 @@ use Rattle.part_driver.specs.Commit.{Holds}
 use Rattle.part_driver.specs.Labels.{Appends, frames_of}
 use Rattle.part_log.specs.Log.{IsFew, header_with}
 use Rattle.part_driver.specs.Recovery.{StartsFrom, Follows, next_incarnation}
-use Rattle.dura_model.specs.World.{empty}
-use Rattle.dura_model.specs.Steps.{Label as Step}
-use Rattle.dura_model.specs.Legal.{Legal}
-use Rattle.dura_model.specs.Legal.Legal.{begins}
-use Rattle.dura_model.specs.Entries.{Kept, items_of, labels_in}
+use Rattle.sum_model.specs.World.{empty}
+use Rattle.sum_model.specs.Steps.{Label as Step}
+use Rattle.sum_model.specs.Legal.{Legal}
+use Rattle.sum_model.specs.Legal.Legal.{begins}
+use Rattle.sum_model.specs.Entries.{Kept, items_of, labels_in}
 use Rattle.part_log.specs.Log.{HasEntries}
-use Rattle.dura_model.specs.Partition.{Partition, nothing, placed, shown}
+use Rattle.sum_model.specs.Partition.{Partition, nothing, placed, shown}
 use Rattle.part_log.specs.Stands.{Stands}
 use Rattle.part_state.specs.Meaning.{flows_of, label_of, world_of}
 use Rattle.engine_run.specs.Headline.{kept_by}
@@ -35,7 +35,7 @@ use Rattle.part_state.specs.Meaning.{the_client, the_instance}
 use Rattle.std.proofs.Common.{◌&&◌, ◌==◌}
 use Rattle.part_items.specs.Keeping.{kept_of}
 use Rattle.part_items.proofs.Standing.{has_entries, items_kept}
-use Rattle.dura_model.proofs.Same.{worlds_same}
+use Rattle.sum_model.proofs.Same.{worlds_same}
 
 some_same : {X : Type 0} {x y : X} → Some x ≡ Some y → x ≡ y
 some_same is = cc

@@ -13,20 +13,20 @@ use Rattle.part_state.specs.State.{applied}
 use Rattle.part_items.specs.Replay.{applied_all}
 use Rattle.part_driver.specs.Labels.{Appends}
 use Rattle.part_driver.specs.Labels.Appends.{none, one_more}
-use Rattle.dura_model.specs.World.{World, empty}
-use Rattle.dura_model.specs.Steps.{step}
-use Rattle.dura_model.specs.Steps.{Label as Step}
-use Rattle.dura_model.specs.Legal.{Legal}
-use Rattle.dura_model.specs.Legal.Legal.{goes_on}
-use Rattle.dura_model.specs.Entries.{label_in}
-use Rattle.dura_model.specs.Partition.{Partition, nothing, accepted, placed, shown}
+use Rattle.sum_model.specs.World.{World, empty}
+use Rattle.sum_model.specs.Steps.{step}
+use Rattle.sum_model.specs.Steps.{Label as Step}
+use Rattle.sum_model.specs.Legal.{Legal}
+use Rattle.sum_model.specs.Legal.Legal.{goes_on}
+use Rattle.sum_model.specs.Entries.{label_in}
+use Rattle.sum_model.specs.Partition.{Partition, nothing, accepted, placed, shown}
 use Rattle.part_state.specs.Meaning.{flows_of, label_of, item_of, world_of}
 use Rattle.part_state.specs.Given.{IsGiven}
 use Rattle.part_state.proofs.Inverse.{within}
 use Rattle.part_state.specs.Given.{IsRight}
 use Rattle.part_state.proofs.Meant.{does, right_after}
-use Rattle.dura_model.proofs.Shows.{item_shown}
-use Rattle.dura_model.proofs.Same.{worlds_same}
+use Rattle.sum_model.proofs.Shows.{item_shown}
+use Rattle.sum_model.proofs.Same.{worlds_same}
 
 same : {X : Type 0} {x y : X} → Some x ≡ Some y → x ≡ y
 same is = cc

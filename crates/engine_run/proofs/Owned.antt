@@ -14,21 +14,21 @@ use Rattle.part_state.specs.declared.state.Label.TheVariants.{Take, ToInstance, 
 use Rattle.part_state.specs.State.{applied, fresh_state}
 use Rattle.engine_run.specs.Headline.{IsOfFile, IsOwnLog, job_of}
 use Rattle.part_items.specs.Items.{LogEntry, frame_bytes}
-use Rattle.dura_model.specs.Legal.{Legal}
-use Rattle.dura_model.specs.Legal.Legal.{begins, goes_on}
-use Rattle.dura_model.specs.Entries.{Kept, items_of, labels_in}
+use Rattle.sum_model.specs.Legal.{Legal}
+use Rattle.sum_model.specs.Legal.Legal.{begins, goes_on}
+use Rattle.sum_model.specs.Entries.{Kept, items_of, labels_in}
 use Rattle.part_log.specs.Log.{IsFew, IsEntry, IsNumbered, IsLog, HasEntries, frame_spelled}
 use Rattle.part_state.specs.Meaning.{flows_of, label_of, item_of, requests_of, world_of, IsOwn}
 use Rattle.part_log.specs.Log.{header_with}
 use Rattle.part_driver.specs.Recovery.{Readable}
 use Rattle.part_items.specs.Replay.{applied_all, labels_of, entries_of, Point, Replays, IsTimely, MayFollow, last_incarnation}
 use Rattle.part_items.specs.Replay.{IsEntry as IsWhole, IsNumbered as IsPlaced}
-use Rattle.dura_model.specs.Requests.{Request}
-use Rattle.dura_model.specs.Entries.{Item, took, ran, ended, label_in}
+use Rattle.sum_model.specs.Requests.{Request}
+use Rattle.sum_model.specs.Entries.{Item, took, ran, ended, label_in}
 use Rattle.part_log.specs.Spelling.{Fits}
-use Rattle.dura_model.specs.Steps.{take, deliver, finish, step, IsWithin}
-use Rattle.dura_model.specs.Steps.{Label as Step}
-use Rattle.dura_model.specs.World.{World, empty}
+use Rattle.sum_model.specs.Steps.{take, deliver, finish, step, IsWithin}
+use Rattle.sum_model.specs.Steps.{Label as Step}
+use Rattle.sum_model.specs.World.{World, empty}
 use Rattle.dura_value.specs.Ids.{client}
 use Rattle.engine_run.proofs.Appended.{applied_more}
 use Rattle.engine_run.proofs.Heard.{first, second}

@@ -9,10 +9,10 @@ use Rattle.part_state.specs.declared.state.WaitStage.TheVariants as waits
 use Rattle.part_state.specs.declared.state.State.{State}
 use Rattle.part_state.specs.State.{IsQuiet, HasAnswer, is_there, is_pending}
 use Rattle.dura_value.specs.Ids.{id_eq}
-use Rattle.dura_model.specs.World.{Orchestration, Message, pending_in}
-use Rattle.dura_model.specs.Steps.{delivered}
-use Rattle.dura_model.specs.Requests.{Request, messages_of}
-use Rattle.dura_model.specs.Legal.{Quiet, is_taken, may_ask, is_due}
+use Rattle.sum_model.specs.World.{Orchestration, Message, pending_in}
+use Rattle.sum_model.specs.Steps.{delivered}
+use Rattle.sum_model.specs.Requests.{Request, messages_of}
+use Rattle.sum_model.specs.Legal.{Quiet, is_taken, may_ask, is_due}
 use Rattle.std.proofs.Common.{not, is_some}
 use Rattle.part_state.specs.Meaning.{request_of, flows_of, the_client, the_instance, requests_of, world_of, instance_of, inbox_of, outbox_of, start_taken, wait_taken}
 use Rattle.engine_run.proofs.Heard.{first, second}

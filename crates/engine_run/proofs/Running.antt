@@ -17,14 +17,14 @@ use Rattle.engine_run.specs.Headline.{job_of, kept_by, Holds, Opened, Headline, 
 use Rattle.input_reader.specs.Input.{HasForm}
 use Rattle.part_driver.specs.Labels.{AsksRightly, AtMoment, StandsAt, OthersSame}
 use Rattle.part_driver.specs.Labels.Appends.{none}
-use Rattle.dura_model.specs.Entries.{Kept, labels_in}
+use Rattle.sum_model.specs.Entries.{Kept, labels_in}
 use Rattle.part_log.specs.Log.{HasEntries}
 use Rattle.part_state.specs.Meaning.{flows_of, world_of}
 use Rattle.part_log.specs.Log.{header_with}
 use Rattle.part_driver.specs.Recovery.{LeavesRead, LeavesMade, LeavesOpening, StartsFrom}
 use Rattle.part_log.specs.Stands.{Stands}
 use Rattle.part_state.specs.State.{fresh_state}
-use Rattle.dura_model.specs.Steps.{Label}
+use Rattle.sum_model.specs.Steps.{Label}
 use Rattle.part_driver.specs.Trail.{settled_at, Rises}
 use Rattle.engine_run.proofs.Headlines.{given_of, own_log, some_run, legal_on, settled_image, image_on, kept_on, holds_on, origin_at, first_legal}
 use Rattle.engine_run.proofs.Heard.{heard_all}

@@ -5,21 +5,21 @@ use Rattle.site_model.specs.History.{Step, changes_of, tape, IsImage}
 use Rattle.input_reader.specs.declared.input.Input.{Input}
 use Rattle.part_driver.specs.declared.trail.Entry.{Entry}
 use Rattle.part_driver.specs.Commit.{WroteGate}
-use Rattle.dura_model.specs.Dependencies.{identity_of, Founded}
+use Rattle.sum_model.specs.Dependencies.{identity_of, Founded}
 use Rattle.dura_value.specs.Ids.{Id, client}
 use Rattle.input_reader.specs.Input.{HasForm}
 use Rattle.part_driver.specs.Labels.{OthersSame}
-use Rattle.dura_model.specs.Language.{Flows}
-use Rattle.dura_model.specs.Legal.{Legal, Quiet, finishes, Overlap}
-use Rattle.dura_model.specs.Entries.{Kept, labels_in}
+use Rattle.sum_model.specs.Language.{Flows}
+use Rattle.sum_model.specs.Legal.{Legal, Quiet, finishes, Overlap}
+use Rattle.sum_model.specs.Entries.{Kept, labels_in}
 use Rattle.part_log.specs.Log.{HasEntries}
 use Rattle.part_state.specs.Meaning.{flows_of, item_of, requests_of}
-use Rattle.dura_model.specs.Requests.{Request, Lines, answer_to, line_of, messages_of}
+use Rattle.sum_model.specs.Requests.{Request, Lines, answer_to, line_of, messages_of}
 use Rattle.part_log.specs.Stands.{Stands}
-use Rattle.dura_model.specs.Steps.{Label, take, deliver}
+use Rattle.sum_model.specs.Steps.{Label, take, deliver}
 use Rattle.part_driver.specs.Told.{IsFront, IsSpeaking}
 use Rattle.part_driver.specs.Trail.{settled_at}
-use Rattle.dura_model.specs.World.{World, Answer}
+use Rattle.sum_model.specs.World.{World, Answer}
 
 -- what the input files ask for: flows, the digest of their file, and requests in their order
 pub record Job : Type 0 where

@@ -1,5 +1,13 @@
-//! Tests of the engine's state against the plain program of the failure-free machine.
+//! Worked examples of the failure-free machine, as theorems by computation.
 #![tactic(auto)]
 
-#[cfg(test)]
-mod plain_tests;
+ghost use Rattle.model_rows.specs.Rows.{RowSum};
+ghost use Rattle.model_rows.specs.Trace000.{Agrees as Agrees_000};
+
+pub fn sum()
+    ensures { RowSum }
+{}
+
+pub fn trace_000()
+    ensures { Agrees_000 }
+{}

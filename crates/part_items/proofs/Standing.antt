@@ -15,9 +15,9 @@ use Rattle.part_items.specs.Items.{item_bytes, LogEntry, entry_bytes, frame_byte
 use Rattle.part_items.specs.Replay.{labels_of, entries_of, Point, Replays, IsTimely, MayFollow}
 use Rattle.part_items.specs.Replay.{IsEntry as IsWhole, IsNumbered as IsPlaced}
 use Rattle.part_log.specs.Log.{header_with}
-use Rattle.dura_model.specs.Entries.{Item}
+use Rattle.sum_model.specs.Entries.{Item}
 use Rattle.part_log.specs.Spelling.{spelled, Fits}
-use Rattle.dura_model.specs.Entries.{Kept, items_of}
+use Rattle.sum_model.specs.Entries.{Kept, items_of}
 use Rattle.part_log.specs.Log.{IsFew, entry_spelled, frame_spelled, IsEntry, IsNumbered, IsLog, HasEntries}
 use Rattle.part_state.specs.Meaning.{item_of}
 use Rattle.part_items.specs.Keeping.{kept_of}

@@ -1,6 +1,6 @@
 -- The entries of the engine's labels as a log keeps them.
 use Rattle.std.specs.Prelude.{map}
-use Rattle.dura_model.specs.Entries.{Kept}
+use Rattle.sum_model.specs.Entries.{Kept}
 use Rattle.input_reader.specs.declared.input.Input.{Input}
 use Rattle.part_items.specs.Items.{LogEntry}
 use Rattle.part_state.specs.Meaning.{item_of}

@@ -5,9 +5,9 @@ use Rattle.std.specs.Int.{w16, w64, to_be_bytes}
 use Rattle.std.proofs.lemmas.List.{append-nil}
 use Rattle.std.proofs.lemmas.List.Elements.{All-nil, All-cons, All-head, All-tail}
 use Rattle.commit_log.specs.Segment.{Reading, fresh, segment, reading_of}
-use Rattle.dura_model.specs.Entries.{Item}
+use Rattle.sum_model.specs.Entries.{Item}
 use Rattle.part_log.specs.Spelling.{spelled, Fits}
-use Rattle.dura_model.specs.Entries.{Kept}
+use Rattle.sum_model.specs.Entries.{Kept}
 use Rattle.part_log.specs.Log.{IsFew, entry_spelled, frame_spelled, IsEntry, IsNumbered, header_with, IsLog, HasEntries}
 use Rattle.part_log.proofs.Spelled.{Reader, Reads, once, then_read, reads_then, number, reads_16, reads_64, counted, reads_counted, item, reads_item}
 

@@ -11,12 +11,12 @@ use Rattle.dura_value.specs.declared.data.Scalar.{Scalar}
 use Rattle.dura_value.specs.declared.data.Scalar.TheVariants as scalars
 use Rattle.dura_value.specs.declared.data.Value.{Value}
 use Rattle.dura_value.specs.declared.data.Value.TheVariants as values
-use Rattle.activity_table.specs.declared.activities.Outcome.{Outcome}
-use Rattle.activity_table.specs.declared.activities.Outcome.TheVariants.{Done, Failed}
+use Rattle.dura_value.specs.declared.outcome.Outcome.{Outcome}
+use Rattle.dura_value.specs.declared.outcome.Outcome.TheVariants.{Done, Failed}
 use Rattle.dura_value.specs.Ids.{Id, orchestration, entity, client}
 use Rattle.part_log.specs.Spelling.{word_bytes}
-use Rattle.dura_model.specs.World.{Message, Body, start, wait, result, Reply, to_nobody, to_task, to_request, Answer, is_done, has_failed, was_started, was_there, is_unknown, is_missing}
-use Rattle.dura_model.specs.Entries.{Item, took, ran, ended}
+use Rattle.sum_model.specs.World.{Message, Body, start, wait, result, Reply, to_nobody, to_task, to_request, Answer, is_done, has_failed, was_started, was_there, is_unknown, is_missing}
+use Rattle.sum_model.specs.Entries.{Item, took, ran, ended}
 use Rattle.part_log.specs.Spelling.{int_bytes, text_bytes, scalar_bytes, value_bytes, id_bytes, reply_bytes, outcome_bytes, answer_bytes, body_bytes, spelled, FitsInt, FitsScalar, FitsValue, FitsReply, FitsOutcome, FitsAnswer, FitsBody, Fits}
 use Rattle.dura_value.specs.Text.{IsText}
 

@@ -4,7 +4,7 @@ use Rattle.std.specs.List.{All, flat_map}
 use Rattle.std.specs.Int.{w16, w64, to_be_bytes}
 use Rattle.commit_log.specs.declared.header.Header.{Header}
 use Rattle.commit_log.specs.Segment.{fresh, segment, reading_of}
-use Rattle.dura_model.specs.Entries.{Kept}
+use Rattle.sum_model.specs.Entries.{Kept}
 use Rattle.part_log.specs.Spelling.{spelled, Fits}
 
 -- from 1 to 64

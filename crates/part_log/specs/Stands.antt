@@ -1,11 +1,11 @@
 -- What the files stand for.
 use Rattle.std.specs.Prelude.{◌≡◌, ℕ, List, Some}
-use Rattle.dura_model.specs.Language.{Flows}
-use Rattle.dura_model.specs.Legal.{Legal}
-use Rattle.dura_model.specs.Entries.{Kept, items_of}
+use Rattle.sum_model.specs.Language.{Flows}
+use Rattle.sum_model.specs.Legal.{Legal}
+use Rattle.sum_model.specs.Entries.{Kept, items_of}
 use Rattle.part_log.specs.Log.{HasEntries}
-use Rattle.dura_model.specs.Partition.{Partition, nothing, placed, shown}
-use Rattle.dura_model.specs.Steps.{Label}
+use Rattle.sum_model.specs.Partition.{Partition, nothing, placed, shown}
+use Rattle.sum_model.specs.Steps.{Label}
 
 -- The files stand for a run: the log, under the digest of file 0, has entries, all of them are placed, and the partition
 -- then shows the world after that run, which is legal.

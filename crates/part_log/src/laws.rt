@@ -1,7 +1,7 @@
 //! Laws of what a log keeps. They are said of the definitions alone: the functions do nothing.
 
 ghost use Rattle.std.specs.Prelude.{◌≡◌, ℕ, List, ◌++◌};
-ghost use Rattle.dura_model.specs.Entries.{Item, Kept};
+ghost use Rattle.sum_model.specs.Entries.{Item, Kept};
 ghost use Rattle.part_log.specs.Log.{HasEntries};
 ghost use Rattle.part_log.specs.Spelling.{Fits, spelled};
 

@@ -4,14 +4,14 @@ use Rattle.std.specs.Prelude.{codes, Result, Ok, nat_le}
 use Rattle.std.specs.Str.{bytes_eq}
 use Rattle.dura_value.specs.declared.data.Value.{Value}
 use Rattle.dura_value.specs.declared.data.Value.TheVariants as values
-use Rattle.activity_table.specs.declared.activities.Outcome.TheVariants.{Done}
+use Rattle.dura_value.specs.declared.outcome.Outcome.TheVariants.{Done}
 use Rattle.input_reader.specs.declared.request_file.Kind.TheVariants as kinds
 use Rattle.input_reader.specs.declared.input.Input.{Input}
 use Rattle.dura_value.specs.Ids.{Id, id_eq}
-use Rattle.dura_model.specs.Language.{Statement, Variables, value_in, set_in}
-use Rattle.dura_model.specs.Machine.{Machine, goes, go_on, returned, resume, new_machine, started, finished, running}
-use Rattle.dura_model.specs.World.{World, Orchestration, Message, start, wait, to_request, Answer, is_done, was_started, is_missing, at_link, pending_in, Body}
-use Rattle.dura_model.specs.Steps.{take, deliver, finish, step, sent, kept, taken, answered, is_request, begun, flow_of, delivered, to_instance, ran, ending}
+use Rattle.sum_model.specs.Language.{Statement, Variables, value_in, set_in}
+use Rattle.sum_model.specs.Machine.{Machine, goes, go_on, returned, resume, new_machine, started, finished, running}
+use Rattle.sum_model.specs.World.{World, Orchestration, Message, start, wait, to_request, Answer, is_done, was_started, is_missing, at_link, pending_in, Body}
+use Rattle.sum_model.specs.Steps.{take, deliver, finish, step, sent, kept, taken, answered, is_request, begun, flow_of, delivered, to_instance, ran, ending}
 use Rattle.part_state.specs.Meaning.{body_of, flows_of, the_client, the_instance, request_of, sum_in, machine_of, reply_to, world_with}
 use Rattle.dura_value.proofs.Ids.{id_self, and_true, bytes_self}
 use Rattle.part_state.proofs.Worlds.{id_there, here, reads_instance, reads_inbox, reads_outbox, reads_first, reads_second, puts_instance, puts_inbox, puts_outbox, puts_first, puts_second, puts_first_answer, puts_second_answer}

@@ -4,8 +4,8 @@ use Rattle.std.specs.Prelude.{codes, IfSome}
 use Rattle.input_reader.specs.declared.input.Input.{Input}
 use Rattle.dura_value.specs.declared.data.Scalar.TheVariants as scalars
 use Rattle.dura_value.specs.declared.data.Value.TheVariants as values
-use Rattle.activity_table.specs.declared.activities.Outcome.{Outcome}
-use Rattle.activity_table.specs.declared.activities.Outcome.TheVariants.{Done, Failed}
+use Rattle.dura_value.specs.declared.outcome.Outcome.{Outcome}
+use Rattle.dura_value.specs.declared.outcome.Outcome.TheVariants.{Done, Failed}
 use Rattle.part_state.specs.declared.state.WaitStage.{WaitStage}
 use Rattle.part_state.specs.declared.state.Label.{Label}
 use Rattle.part_state.specs.declared.state.Label.TheVariants.{Take, ToInstance, ToClient, Finish}
@@ -13,10 +13,10 @@ use Rattle.part_state.specs.declared.state.State.{State}
 use Rattle.activity_table.specs.Activities.{May, fits}
 use Rattle.part_state.specs.State.{is_there}
 use Rattle.dura_value.specs.Ids.{Id, id_eq}
-use Rattle.dura_model.specs.Machine.{Task}
-use Rattle.dura_model.specs.World.{World, Orchestration, pending_in}
-use Rattle.dura_model.specs.Steps.{take, deliver, finish, step, delivered, ran, IsWithin}
-use Rattle.dura_model.specs.Steps.{Label as Step}
+use Rattle.sum_model.specs.Machine.{Task}
+use Rattle.sum_model.specs.World.{World, Orchestration, pending_in}
+use Rattle.sum_model.specs.Steps.{take, deliver, finish, step, delivered, ran, IsWithin}
+use Rattle.sum_model.specs.Steps.{Label as Step}
 use Rattle.part_state.specs.Given.{IsGiven}
 use Rattle.part_state.specs.Meaning.{flows_of, label_of, the_client, the_instance, sum_in, world_of, instance_of, inbox_of, outbox_of, IsOwn}
 use Rattle.dura_value.proofs.Ids.{id_same, both_true}

@@ -13,11 +13,11 @@ use Rattle.part_state.specs.declared.state.Label.{Label}
 use Rattle.part_state.specs.declared.state.Label.TheVariants.{Take, ToInstance, ToClient, Finish}
 use Rattle.part_state.specs.declared.state.State.{State}
 use Rattle.part_state.specs.State.{applied, is_there, is_sent, is_pending, is_kept_rightly, is_finished_rightly, asked_at, took_start, took_wait, began, asked, arrived, answered, told_wait, ended, finished, inbox, outbox, fresh_state}
-use Rattle.dura_model.specs.World.{Orchestration, Message, Answer}
-use Rattle.dura_model.specs.Steps.{step}
+use Rattle.sum_model.specs.World.{Orchestration, Message, Answer}
+use Rattle.sum_model.specs.Steps.{step}
 use Rattle.part_state.specs.Meaning.{flows_of, label_of, request_of, reply_to, world_with, world_of, instance_of, inbox_of, outbox_of, start_taken, wait_taken, start_answer, wait_answer, in_order, is_start_sent, answer_of}
 use Rattle.std.proofs.lemmas.Bool.Decides.{nat_tests}
-use Rattle.dura_model.specs.World.{was_started}
+use Rattle.sum_model.specs.World.{was_started}
 use Rattle.part_state.specs.Meaning.{waiting_of}
 use Rattle.part_state.specs.Given.{IsRight}
 use Rattle.part_state.proofs.Doing as do_

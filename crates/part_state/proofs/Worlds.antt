@@ -3,10 +3,10 @@ use Rattle.std.proofs.Common.{◌≡◌, ◌&&◌, ℕ, ◌==◌, Bool, true, fa
 use Rattle.std.proofs.lemmas.Bool.{eqb-true}
 use Rattle.input_reader.specs.declared.input.Input.{Input}
 use Rattle.dura_value.specs.Ids.{Id, id_eq}
-use Rattle.dura_model.specs.World.{World, Orchestration, Message, Answer, at_id, at_link, at_number, empty}
+use Rattle.sum_model.specs.World.{World, Orchestration, Message, Answer, at_id, at_link, at_number, empty}
 use Rattle.part_state.specs.Meaning.{the_client, the_instance, world_with}
 use Rattle.dura_value.proofs.Ids.{id_self, id_same, and_true, both_true}
-use Rattle.dura_model.proofs.Same.{worlds_same}
+use Rattle.sum_model.proofs.Same.{worlds_same}
 
 id_again : {X : Type 0} (f : Id → X) (id : Id) (x y : X) → at_id (at_id f id x) id y ≡ at_id f id y
 id_again f id x y = λ i q. twice (id_eq id q) (f q) i

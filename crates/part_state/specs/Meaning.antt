@@ -4,7 +4,7 @@ use Rattle.std.specs.Str.{bytes_eq}
 use Rattle.dura_value.specs.declared.data.Scalar.TheVariants as scalars
 use Rattle.dura_value.specs.declared.data.Value.{Value}
 use Rattle.dura_value.specs.declared.data.Value.TheVariants as values
-use Rattle.activity_table.specs.declared.activities.Outcome.TheVariants.{Done}
+use Rattle.dura_value.specs.declared.outcome.Outcome.TheVariants.{Done}
 use Rattle.input_reader.specs.declared.flow_file.Flow.{Flow}
 use Rattle.input_reader.specs.declared.request_file.Kind.{Kind}
 use Rattle.input_reader.specs.declared.request_file.Kind.TheVariants as kinds
@@ -20,13 +20,13 @@ use Rattle.part_state.specs.declared.state.State.{State}
 use Rattle.input_reader.specs.declared.input.Input.{Input}
 use Rattle.part_state.specs.State.{is_there, is_sent, is_replied}
 use Rattle.dura_value.specs.Ids.{Id, orchestration, client}
-use Rattle.dura_model.specs.Language.{Statement, call, await, return, scalar, variable, list, no_parts, part, Flows, set_in}
-use Rattle.dura_model.specs.Machine.{Machine, running, done}
-use Rattle.dura_model.specs.World.{World, Orchestration, Message, start, wait, result, to_request, Answer, is_done, was_started, is_missing, at_id, at_link, at_number, empty}
-use Rattle.dura_model.specs.Requests.{Request}
-use Rattle.dura_model.specs.Entries.{Item, took, ran, ended}
-use Rattle.dura_model.specs.Steps.{take, deliver, finish}
-use Rattle.dura_model.specs.Steps.{Label as Step}
+use Rattle.sum_model.specs.Language.{Statement, call, await, return, scalar, variable, list, no_parts, part, Flows, set_in}
+use Rattle.sum_model.specs.Machine.{Machine, running, done}
+use Rattle.sum_model.specs.World.{World, Orchestration, Message, start, wait, result, to_request, Answer, is_done, was_started, is_missing, at_id, at_link, at_number, empty}
+use Rattle.sum_model.specs.Requests.{Request}
+use Rattle.sum_model.specs.Entries.{Item, took, ran, ended}
+use Rattle.sum_model.specs.Steps.{take, deliver, finish}
+use Rattle.sum_model.specs.Steps.{Label as Step}
 
 -- the body of the one flow: ["call",x,"add",{"list":[i,j]}],["return",{"v":x}]
 abbrev pub body_of : Flow → List Statement

@@ -1,8 +1,8 @@
 //! Laws of what states and labels stand for. They are said of the definitions alone: the functions do nothing.
 
 ghost use Rattle.std.specs.Prelude.{◌≡◌, Some, option_map};
-ghost use Rattle.dura_model.specs.Steps.{Label as Step, step, IsWithin};
-ghost use Rattle.dura_model.specs.World.{World};
+ghost use Rattle.sum_model.specs.Steps.{Label as Step, step, IsWithin};
+ghost use Rattle.sum_model.specs.World.{World};
 ghost use Rattle.input_reader.specs.declared.input.Input.{Input};
 ghost use Rattle.part_state.specs.declared.state.Label.{Label};
 ghost use Rattle.part_state.specs.declared.state.State.{State};

@@ -1,7 +1,7 @@
 //! What is read, and what is refused.
 
-use activity_table::{Activities, Outcome, Table};
-use dura_value::{Key, Name, Scalar, Scalars, Text, TextError, Value};
+use activity_table::{Activities, Table};
+use dura_value::{Key, Name, Outcome, Scalar, Scalars, Text, TextError, Value};
 use input_reader::{Flow, ReadError, Requests, read_flow, read_requests};
 use std::alloc::Global;
 use std::process::Abort;

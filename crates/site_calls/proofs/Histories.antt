@@ -1,5 +1,7 @@
 -- What follows from the definitions of events.
 use Rattle.std.proofs.Common.{◌≡◌, true, false, ◌||◌, cond, ℕ, ◌+◌, ◌-◌, ◌≤◌, min, List, [], ◌∷◌, ◌++◌, length, take, drop, sym, refl, ◌∙◌, ap, subst, arith, length-take, length-drop}
+use Rattle.std.proofs.Math.Seq.{take-append_seam, drop-append_seam}
+use Rattle.std.proofs.lemmas.List.{take-take, drop-take}
 use Rattle.site_model.specs.History.{Step, Change, on, wrote, synced, content_of, reads}
 use Rattle.site_model.specs.History as history
 use Rattle.site_model.proofs.Paths.{own_change}
@@ -95,3 +97,20 @@ broken_later unseen (event ∷ later) events broken =
 pub leaves_unseen : (unseen : Unseen) (events : List Event) → LeavesUnseen unseen events
 leaves_unseen unseen events file at size bytes =
     ap reads (own_change file (wrote at size (left_by bytes size (unseen.left (length (begun file at size ∷ events))))) (replay unseen events).steps)
+
+module _ (bytes left : List ℕ) (size : ℕ) where
+  pub left_within : length (left_by bytes size left) ≤ size
+  left_within = omega (arith, length-take size (bytes ++ drop (length bytes) left))
+
+  module _ (fits : length bytes ≤ size) where
+    pub left_front : take (length bytes) (left_by bytes size left) ≡ bytes
+    left_front = take-take (length bytes) size (bytes ++ drop (length bytes) left) fits ∙ take-append_seam bytes (drop (length bytes) left)
+
+    pub left_behind : drop (length bytes) (left_by bytes size left) ≡ drop (length bytes) (take size left)
+    left_behind =
+        let whole : length bytes + (size - length bytes) ≡ size = omega arith in
+        ap (λ (n : ℕ). drop (length bytes) (take n (bytes ++ drop (length bytes) left))) (sym whole)
+        ∙ drop-take (length bytes) (size - length bytes) (bytes ++ drop (length bytes) left)
+        ∙ ap (λ (l : List ℕ). take (size - length bytes) l) (drop-append_seam bytes (drop (length bytes) left))
+        ∙ sym (drop-take (length bytes) (size - length bytes) left)
+        ∙ ap (λ (n : ℕ). drop (length bytes) (take n left)) whole

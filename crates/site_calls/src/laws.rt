@@ -1,8 +1,8 @@
 // Laws of the definitions. Each is the contract of a function that does nothing.
-ghost use Rattle.std.specs.Prelude.{◌≡◌, ℕ, ◌<◌, ◌≤◌, List, [], ◌∷◌, ◌++◌, true, false};
+ghost use Rattle.std.specs.Prelude.{◌≡◌, ℕ, ◌<◌, ◌≤◌, List, [], ◌∷◌, ◌++◌, length, take, drop, true, false};
 ghost use Rattle.site_model.specs.History.{Step, content_of};
 ghost use Rattle.site_calls.specs.Events.{Event, Unseen, made, flushed, named, start_of, file_numbers, replay, IsHonest, Tells};
-ghost use Rattle.site_calls.specs.Laws.{HasHonestAnswers, HoldsTwoBytes, honest_events, NoneIsHonest, SyncCounts, LeavesUnseen};
+ghost use Rattle.site_calls.specs.Laws.{HasHonestAnswers, HoldsTwoBytes, honest_events, NoneIsHonest, SyncCounts, left_by, LeavesUnseen};
 
 /// Before the first call each file reads as it was held at the start, and behind the last number there is none.
 pub fn a_file_reads_as_it_was_held()
@@ -43,7 +43,11 @@ pub fn a_failed_sync_stays()
     ensures names { (unseen : Unseen) (later events : List Event) → (replay unseen (later ++ named false ∷ events)).broken ≡ true }
 {}
 
-/// What a write that failed leaves is not told by any answer, and stays within what was asked for.
+/// What a write that failed leaves is not told by any answer. It stays within what was asked for, and the bytes that
+/// were written before are its front.
 pub fn a_lost_write_leaves_what_was_unseen()
-    ensures { (unseen : Unseen) (events : List Event) → LeavesUnseen unseen events }
+    ensures content { (unseen : Unseen) (events : List Event) → LeavesUnseen unseen events }
+    ensures within { (bytes left : List ℕ) (size : ℕ) → length (left_by bytes size left) ≤ size }
+    ensures front { (bytes left : List ℕ) (size : ℕ) → length bytes ≤ size → take (length bytes) (left_by bytes size left) ≡ bytes }
+    ensures behind { (bytes left : List ℕ) (size : ℕ) → length bytes ≤ size → drop (length bytes) (left_by bytes size left) ≡ drop (length bytes) (take size left) }
 {}

@@ -1,9 +1,20 @@
 //! Tests of the sites: in memory, over recorded calls, and over a real directory.
+//!
+//! - `ledger`: whether answers agree with the calls before them, as code. It is no test, since `specs/` names its types.
+//! - `scripted`: calls on a file in memory, for the tests of the site over calls.
 #![tactic(auto)]
 
+mod ledger;
+
+pub use ledger::{Entry, FILE, Ledger, Replayed, Writing};
+
+#[cfg(test)]
+mod called_tests;
 #[cfg(test)]
 mod checks;
 #[cfg(test)]
 mod file_tests;
 #[cfg(test)]
 mod memory_tests;
+#[cfg(test)]
+mod scripted;

@@ -1,0 +1,5 @@
+pub mod Check
+pub mod Entity
+pub mod Eval
+pub mod Machine
+pub mod Syntax

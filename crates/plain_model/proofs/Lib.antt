@@ -1,4 +1,0 @@
-pub mod Plain
-pub mod PlainLaws
-pub mod PlainQueue
-pub mod PlainQuiets

@@ -1,5 +1,0 @@
-pub mod Plain
-pub mod PlainMachine
-pub mod PlainQuiet
-pub mod PlainStands
-pub mod PlainWorld
