@@ -18,6 +18,7 @@ const NAME_ROOM: usize = 16;
 /// As many files as there are names.
 const MOST_FILES: usize = 131;
 
+/// A directory, with its lock and those of its files that were found or made.
 #[derive(Drop)]
 pub(crate) struct Directory<R> {
     pub(crate) rt: R,
@@ -29,8 +30,11 @@ pub(crate) struct Directory<R> {
     stand_ins: Vec<File>,
     // open and locked, once it was there
     pub(crate) folder: Option<File>,
+    // the names of the files that were there are safe
     names_are_safe: bool,
+    // why a file that was there couldn't be made safe
     failed_sync: Option<io::Error>,
+    // why the last search or making of a file failed, where its error doesn't tell it
     pub(crate) reason: Option<Reason>,
 }
 
@@ -73,7 +77,7 @@ impl<R> Directory<R> {
         }
     }
 
-    /// Writes bytes, and not none.
+    /// Writes some of the bytes, and says how many.
     pub(crate) fn write(&self, number: u32, at: u64, bytes: &[u8]) -> io::Result<usize>
         ensures { IfOk result (λ count. count ≤ length bytes.now) }
     {
