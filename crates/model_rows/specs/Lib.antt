@@ -1,4 +1,2 @@
 pub mod Made
-pub mod RowFlows
-pub mod Rows
-pub mod Trace000
+pub mod Runs

@@ -1,13 +1,7 @@
-//! Worked examples of the failure-free machine, as theorems by computation.
+//! Worked examples of the failure-free machine, as theorems by computation: each is a function that does nothing, whose
+//! contract is the example.
+//!
+//! - `runs` are whole runs, with what each answers, how all stand after it, and a neighbour that isn't legal.
 #![tactic(auto)]
 
-ghost use Rattle.model_rows.specs.Rows.{RowSum};
-ghost use Rattle.model_rows.specs.Trace000.{Agrees as Agrees_000};
-
-pub fn sum()
-    ensures { RowSum }
-{}
-
-pub fn trace_000()
-    ensures { Agrees_000 }
-{}
+mod runs;
