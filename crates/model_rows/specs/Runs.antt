@@ -1,3 +1,6 @@
+pub mod Values
+pub mod Ends
+pub mod Inside
 pub mod Count4998
 pub mod Count4999
 pub mod Draw

@@ -1,4 +1,7 @@
 // Whole runs. Made by tools/theorems from tools/runs.
+ghost use Rattle.model_rows.specs.Runs.Values.{Agrees as ValuesAgrees};
+ghost use Rattle.model_rows.specs.Runs.Ends.{Agrees as EndsAgrees};
+ghost use Rattle.model_rows.specs.Runs.Inside.{Agrees as InsideAgrees};
 ghost use Rattle.model_rows.specs.Runs.Count4998.{Agrees as Count4998Agrees};
 ghost use Rattle.model_rows.specs.Runs.Count4999.{Agrees as Count4999Agrees};
 ghost use Rattle.model_rows.specs.Runs.Draw.{Agrees as DrawAgrees};
@@ -25,6 +28,18 @@ ghost use Rattle.model_rows.specs.Runs.Trace023.{Agrees as Trace023Agrees};
 ghost use Rattle.model_rows.specs.Runs.Trace034.{Agrees as Trace034Agrees};
 ghost use Rattle.model_rows.specs.Runs.Trace046.{Agrees as Trace046Agrees};
 ghost use Rattle.model_rows.specs.Runs.Transfers.{Agrees as TransfersAgrees};
+
+pub fn values()
+    ensures { ValuesAgrees }
+{}
+
+pub fn ends()
+    ensures { EndsAgrees }
+{}
+
+pub fn inside()
+    ensures { InsideAgrees }
+{}
 
 pub fn count_4998()
     ensures { Count4998Agrees }
