@@ -1,7 +1,10 @@
 //! Worked examples of the failure-free machine, as theorems by computation: each is a function that does nothing, whose
 //! contract is the example.
 //!
-//! - `runs` are whole runs, with what each answers, how all stand after it, and a neighbour that isn't legal.
+//! - `runs` are whole runs, with what each answers, how all stand after it, and a neighbour that isn't legal; and tables of
+//!   expressions and statements.
+//! - `deliveries` are messages of each kind to receivers of each kind.
 #![tactic(auto)]
 
+mod deliveries;
 mod runs;
