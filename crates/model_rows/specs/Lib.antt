@@ -1,3 +1,4 @@
+pub mod ByHand
 pub mod Deliveries
 pub mod Made
 pub mod Runs

@@ -3,8 +3,10 @@
 //!
 //! - `runs` are whole runs, with what each answers, how all stand after it, and a neighbour that isn't legal; and tables of
 //!   expressions and statements.
+//! - `by_hand` are worlds, entries and floors that have a definition, and some that haven't.
 //! - `deliveries` are messages of each kind to receivers of each kind.
 #![tactic(auto)]
 
+mod by_hand;
 mod deliveries;
 mod runs;
