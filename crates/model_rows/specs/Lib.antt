@@ -1,4 +1,4 @@
+pub mod ByHand
+pub mod Deliveries
 pub mod Made
-pub mod RowFlows
-pub mod Rows
-pub mod Trace000
+pub mod Runs

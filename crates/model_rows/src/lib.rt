@@ -1,13 +1,12 @@
-//! Worked examples of the failure-free machine, as theorems by computation.
+//! Worked examples of the failure-free machine, as theorems by computation: each is a function that does nothing, whose
+//! contract is the example.
+//!
+//! - `runs` are whole runs, with what each answers, how all stand after it, and a neighbour that isn't legal; and tables of
+//!   expressions and statements.
+//! - `by_hand` are worlds, entries and floors that have a definition, and some that haven't.
+//! - `deliveries` are messages of each kind to receivers of each kind.
 #![tactic(auto)]
 
-ghost use Rattle.model_rows.specs.Rows.{RowSum};
-ghost use Rattle.model_rows.specs.Trace000.{Agrees as Agrees_000};
-
-pub fn sum()
-    ensures { RowSum }
-{}
-
-pub fn trace_000()
-    ensures { Agrees_000 }
-{}
+mod by_hand;
+mod deliveries;
+mod runs;
