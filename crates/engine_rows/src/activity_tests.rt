@@ -4,8 +4,8 @@ ghost use Rattle.std.specs.Prelude.{IfOk};
 ghost use Rattle.activity_table.specs.Activities.{May};
 
 use crate::run_tests::{SUM, check_end, check_tape, command, sum_site};
-use activity_table::{Activities, Outcome, Table};
-use dura_value::{Scalar, Value};
+use activity_table::{Activities, Table};
+use dura_value::{Outcome, Scalar, Value};
 use engine_run::{Ended, run_alone};
 use input_reader::Cause;
 use site_memory::{MemorySite, TickClock};
