@@ -5,8 +5,8 @@ use Rattle.dura_value.specs.declared.data.Value.{Value}
 use Rattle.dura_value.specs.declared.data.Value.TheVariants as values
 use Rattle.dura_value.specs.Ids.{Id, orchestration, entity, client}
 use Rattle.dura_value.specs.Messages.{Reply, to_nobody, to_task, to_request, Answer, is_done, has_failed, was_started, was_there, is_unknown, was_raised, has_ended, is_missing, is_running, is_value, Spot, Body, start, raise, query, wait, result, operate, lock, granted, release, Message}
-use Rattle.flow_syntax.specs.Syntax.{scalar, variable, binary, add, let_be, event, await, return, fail, lock_in, nothing, first_then, Flows}
-use Rattle.flow_syntax.specs.Machine.{Machine, Progress, running, done, failed, new_machine, resume, started, resulted, fired, was_granted, spot_of, Resumed}
+use Rattle.flow_syntax.specs.Syntax.{scalar, variable, binary, add, let_be, spawn, event, await, return, fail, lock_in, nothing, first_then, Flows}
+use Rattle.flow_syntax.specs.Machine.{Machine, Event, outside, Progress, running, done, failed, new_machine, resume, started, resulted, fired, was_granted, spot_of, Resumed}
 use Rattle.flow_syntax.specs.Machine.{was_raised as raised}
 use Rattle.flow_syntax.specs.Entity.{Entity, Delivered, takes, deliver}
 use Rattle.dura_model.specs.World.{World, Orchestration, empty, at_number}
@@ -206,3 +206,26 @@ LimitAgrees =
     -- an end is never changed by what comes later
     × ((resume (machine_in over) (raised (codes "go") six) 7).machine.progress ≡ done five)
     × ((resume (machine_in over) (started a six (to_request 1)) 7).machine.progress ≡ done five)
+
+-- ---- events that find nothing
+
+-- it runs an activity, and awaits an event before the activity's result
+abbrev pub patient : Machine
+patient =
+    (resume (new_machine x (Some (first_then (spawn (codes "h") (codes "echo") (scalar (scalars.Int (pos 1)))) (first_then (event (codes "e") (codes "go")) (first_then (await (codes "v") (variable (codes "e")))
+    (first_then (await (codes "v") (variable (codes "h"))) (first_then (return (variable (codes "v"))) nothing))))))) (started a values.Null (to_request 1)) 0).machine
+
+abbrev pub resumed_twice : Machine → Event → Event → Machine
+resumed_twice m first second = (resume (resume m first 1).machine second 2).machine
+
+abbrev pub FindNothing : Type 0
+FindNothing =
+    -- a task's first result counts, and a task that isn't there finds nothing
+    ((resume (resumed_twice patient (resulted 0 (is_done five)) (resulted 0 (is_done six))) (raised (codes "go") values.Null) 3).machine.progress ≡ done five)
+    × ((resume (resumed_twice patient (resulted 0 (is_done five)) (resulted 7 (is_done six))) (raised (codes "go") values.Null) 3).machine.progress ≡ done five)
+    × ((resumed_twice patient (resulted 7 (is_done six)) (fired 9)).events ≡ 3)
+    -- an answer that is no end of a task finds nothing
+    × ((resume (resumed_twice patient (resulted 0 was_started) (resulted 0 (is_done six))) (raised (codes "go") values.Null) 3).machine.progress ≡ done six)
+    -- a grant that nobody waits for changes nothing
+    × ((resumed_twice patient (was_granted 0) (was_granted 1)).section ≡ outside)
+    × ((resume patient (was_granted 0) 1).sent ≡ [])

@@ -2,3 +2,4 @@ pub mod ByHand
 pub mod Deliveries
 pub mod Made
 pub mod Runs
+pub mod Waiting

@@ -1,5 +1,5 @@
 // What each kind of message makes of each kind of receiver, and what the most events do.
-ghost use Rattle.model_rows.specs.Deliveries.{AbsentAgree, RunningAgree, EndedAgree, ParentAgrees, EntityAgrees, ClientAgrees, LimitAgrees};
+ghost use Rattle.model_rows.specs.Deliveries.{AbsentAgree, RunningAgree, EndedAgree, ParentAgrees, EntityAgrees, ClientAgrees, LimitAgrees, FindNothing};
 
 pub fn to_an_absent_instance()
     ensures { AbsentAgree }
@@ -27,4 +27,8 @@ pub fn to_a_client()
 
 pub fn the_most_events()
     ensures { LimitAgrees }
+{}
+
+pub fn events_that_find_nothing()
+    ensures { FindNothing }
 {}

@@ -5,8 +5,10 @@
 //!   expressions and statements.
 //! - `by_hand` are worlds, entries and floors that have a definition, and some that haven't.
 //! - `deliveries` are messages of each kind to receivers of each kind.
+//! - `waiting` is a quiet world.
 #![tactic(auto)]
 
 mod by_hand;
 mod deliveries;
 mod runs;
+mod waiting;
