@@ -1,5 +1,6 @@
 pub mod Asked
 pub mod Folds
+pub mod Forms
 pub mod Foundations
 pub mod LinesSaid
 pub mod Logs

@@ -3,6 +3,7 @@
 ghost use Rattle.std.specs.Prelude.{◌≡◌, ◌≤◌, ◌<◌, ◌++◌, ℕ, List, [], ◌∷◌, length, codes, Some, None};
 ghost use Rattle.site_model.specs.History.{Step, on, synced, wrote};
 ghost use Rattle.commit_log.specs.Segment.{reading_of, fresh};
+ghost use Rattle.dura_value.specs.Digest.{fnv};
 ghost use Rattle.input_reader.specs.declared.cause.Cause.{Cause};
 ghost use Rattle.input_reader.specs.declared.cause.Cause.TheVariants as causes;
 ghost use Rattle.input_reader.specs.declared.cause.FlowFault.{FlowFault};
@@ -57,6 +58,13 @@ pub fn refusals()
     ensures plan_too_long { (files : ℕ → List ℕ) (flow : Flow) (requests : Requests) → ReadsFlow files flow → ReadsRequests files flow requests → 16_777_216 < length (files 2) → refusal_of files ≡ Some (causes.TooLong 2) }
     ensures a_plan { (files : ℕ → List ℕ) (flow : Flow) (requests : Requests) → ReadsFlow files flow → ReadsRequests files flow requests → length (files 2) ≤ 16_777_216 → 0 < length (files 2) → refusal_of files ≡ Some (causes.BadPlan places.Whole) }
     ensures accepted { (files : ℕ → List ℕ) (flow : Flow) (requests : Requests) → ReadsFlow files flow → ReadsRequests files flow requests → files 2 ≡ [] → refusal_of files ≡ None }
+{}
+
+/// Files that are accepted have one form: the flow and the requests that they give, and the digest of the first.
+pub fn forms_of_files()
+    ensures one { (files : ℕ → List ℕ) (a b : Input) → HasForm files a → HasForm files b → a ≡ b }
+    ensures digest { (files : ℕ → List ℕ) (input : Input) → HasForm files input → input.digest ≡ fnv (files 0) }
+    ensures refused { (files : ℕ → List ℕ) (input : Input) (refusal : Cause) → refusal_of files ≡ Some refusal → HasForm files input → ⊥ }
 {}
 
 /// A run is done, or fails to say a line, only where the input files are accepted and the log is its own; it refuses them only

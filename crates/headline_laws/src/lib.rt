@@ -7,7 +7,7 @@
 //! - `entries` is on trails, and on the entries that a run makes durable.
 //! - `told` is on what a run says.
 //! - `headline` is on what a run promises of a moment, and of its end.
-//! - `causes` is on why a run ends, what it has said then and what has changed; `limits` is on limits.
+//! - `causes` is on why a run ends, what it has said then and what has changed; `limits` is on limits and the digest.
 #![tactic(auto)]
 
 mod causes;
@@ -20,7 +20,8 @@ mod outside;
 mod told;
 
 pub use causes::{
-    answered_causes, command_words, refusals, said_by_causes, statuses, untouched_by_causes,
+    answered_causes, command_words, forms_of_files, refusals, said_by_causes, statuses,
+    untouched_by_causes,
 };
 pub use entries::{
     asked_requests, entries_and_jobs, entries_under_way, later_lives, rising_moments,
@@ -30,7 +31,7 @@ pub use headline::{
     every_moment, extending, headlines, holding_moments, opened_logs, own_logs, unfinished_runs,
     unopened_logs,
 };
-pub use limits::{integers_of_flows, names_and_keys, parts, texts_and_values};
+pub use limits::{digests, integers_of_flows, names_and_keys, parts, texts_and_values};
 pub use log::{kept_entries, numbered_entries, standing};
 pub use machine::{
     answers, counting_finishes, founded_entries, legal_runs, lines_of_answers, lines_of_requests,

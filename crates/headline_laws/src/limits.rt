@@ -1,11 +1,12 @@
-//! Laws of limits, from both sides.
+//! Laws of limits, from both sides, and of the digest.
 
-ghost use Rattle.std.specs.Prelude.{◌≡◌, ◌≤◌, ℕ, List, [], length, true, false, replicate, Some, None};
+ghost use Rattle.std.specs.Prelude.{◌≡◌, ◌≤◌, ℕ, List, [], length, true, false, replicate, codes, Some, None};
 ghost use Rattle.std.specs.List.{All};
 ghost use Rattle.std.specs.Str.{is_utf8};
 ghost use Rattle.serde_json.specs.Data.{number, unsigned};
 ghost use Rattle.dura_value.specs.declared.data.Scalar.{Scalar};
 ghost use Rattle.dura_value.specs.declared.data.Value.TheVariants as values;
+ghost use Rattle.dura_value.specs.Digest.{fnv};
 ghost use Rattle.dura_value.specs.Names.{is_name, is_key};
 ghost use Rattle.dura_value.specs.Text.{IsText};
 ghost use Rattle.input_reader.specs.FlowFile.{number_in};
@@ -49,4 +50,11 @@ pub fn parts()
     ensures most { IsFew 64 }
     ensures none { IsFew 0 → ⊥ }
     ensures one_more { IsFew 65 → ⊥ }
+{}
+
+/// The digest is FNV-1a of 64 bits.
+pub fn digests()
+    ensures of_nothing { fnv [] ≡ 0xcbf29ce484222325 }
+    ensures of_a { fnv (codes "a") ≡ 0xaf63dc4c8601ec8c }
+    ensures of_foobar { fnv (codes "foobar") ≡ 0x85944171f73967e8 }
 {}

@@ -1,29 +1,14 @@
-use Rattle.std.proofs.Common.{◌≡◌, ℕ, List, [], ◌∷◌, ◌++◌, length, get_or, Some, refl, sym, ap, ◌∙◌, append_assoc, arith}
+use Rattle.std.proofs.Common.{◌≡◌, ℕ, List, [], ◌∷◌, ◌++◌, length, get_or, refl, sym, ap, ◌∙◌, append_assoc, arith}
 use Rattle.std.specs.Prelude.{codes}
 use Rattle.std.proofs.lemmas.List.{length-append, append_cancel_left}
-use Rattle.input_reader.specs.declared.flow_file.Flow.{Flow}
 use Rattle.input_reader.specs.declared.input.Input.{Input}
-use Rattle.input_reader.specs.declared.request_file.Requests.{Requests}
-use Rattle.input_reader.specs.Input.{HasForm}
-use Rattle.input_reader.specs.RequestFile.{requests_in}
 use Rattle.part_driver.specs.Lines.{start_line, wait_line, sum_text}
 use Rattle.part_driver.specs.Told.{said_of}
 use Rattle.part_driver.specs.declared.told.Told.TheVariants.{Both}
 use Rattle.part_state.specs.declared.state.Found.{Found}
 use Rattle.part_state.specs.declared.state.Found.TheVariants.{Missing, Ended}
+use Rattle.headline_laws.proofs.Forms.{one_form}
 use Rattle.headline_laws.proofs.causes.said_by_causes.Goals as goal
-
-abbrev input_at : Flow → Requests → ℕ → Input
-input_at flow requests digest = record { flow = flow; requests = requests; digest = digest }
-
--- the files have one form
-one_form : (files : ℕ → List ℕ) (a b : Input) → HasForm files a → HasForm files b → a ≡ b
-one_form files a b one two =
-    let flows : Some a.flow ≡ Some b.flow = sym one.flow ∙ two.flow in
-    let flow : a.flow ≡ b.flow = cc flows in
-    let asked : Some a.requests ≡ Some b.requests = sym one.requests ∙ ap (λ (f : Flow). requests_in f.name (files 1)) flow ∙ two.requests in
-    let requests : a.requests ≡ b.requests = cc asked in
-    ap (λ (f : Flow). input_at f a.requests a.digest) flow ∙ ap (λ (r : Requests). input_at b.flow r a.digest) requests ∙ ap (λ (n : ℕ). input_at b.flow b.requests n) (one.digest ∙ sym two.digest)
 
 -- two answers aren't one line
 none_or_done : (input : Input) → wait_line input Missing ≡ wait_line input Ended → ⊥
