@@ -1,6 +1,7 @@
 pub mod Values
 pub mod Ends
 pub mod Inside
+pub mod AnyTakesTheFirst
 pub mod Count4998
 pub mod Count4999
 pub mod Draw

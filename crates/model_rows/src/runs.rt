@@ -2,6 +2,7 @@
 ghost use Rattle.model_rows.specs.Runs.Values.{Agrees as ValuesAgrees};
 ghost use Rattle.model_rows.specs.Runs.Ends.{Agrees as EndsAgrees};
 ghost use Rattle.model_rows.specs.Runs.Inside.{Agrees as InsideAgrees};
+ghost use Rattle.model_rows.specs.Runs.AnyTakesTheFirst.{Agrees as AnyTakesTheFirstAgrees};
 ghost use Rattle.model_rows.specs.Runs.Count4998.{Agrees as Count4998Agrees};
 ghost use Rattle.model_rows.specs.Runs.Count4999.{Agrees as Count4999Agrees};
 ghost use Rattle.model_rows.specs.Runs.Draw.{Agrees as DrawAgrees};
@@ -39,6 +40,10 @@ pub fn ends()
 
 pub fn inside()
     ensures { InsideAgrees }
+{}
+
+pub fn any_takes_the_first()
+    ensures { AnyTakesTheFirstAgrees }
 {}
 
 pub fn count_4998()
