@@ -3,6 +3,7 @@
 //
 //   CALLS_LOG=FILE     a line for each call: its name, the file's name, and for a transfer the offset and the result
 //   CALLS_FAIL=NAME:N  the Nth call of this name, from 1, fails with EIO and does nothing
+//   CALLS_NONE=N       the Nth write moves nothing and says so
 //   CALLS_KILL=N       the program is killed before the Nth call that writes, syncs, makes or prints; -N: right behind it
 //   CALLS_SHORT=K      a transfer moves at most K bytes
 //   CALLS_SIGNAL=1     every second transfer is cut off by a signal first, and moves nothing
@@ -20,6 +21,7 @@
 
 static long changes = 0;
 static long transfers = 0;
+static long writes = 0;
 
 static long number(const char *name) {
     const char *text = getenv(name);
@@ -145,6 +147,7 @@ ssize_t pwrite(int fd, const void *bytes, size_t count, off_t at) {
     if (is_cut_off()) { errno = EINTR; return -1; }
     before_change();
     FAIL("write")
+    if (++writes == number("CALLS_NONE")) return 0;
     ssize_t result = real(fd, bytes, shortened(count), at);
     list("write %s %ld %zd\n", name_of(fd), (long)at, result);
     after_change();
