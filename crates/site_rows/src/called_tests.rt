@@ -1,6 +1,6 @@
 // What no clause says: that each call gets through, in which order the calls are made, and that just one fault is counted.
 use crate::FILE;
-use crate::checks::{check_bytes, check_same};
+use crate::checks::{believe, check_bytes, check_same};
 use crate::scripted::{CallKind, Mishap, Planned, ScriptedCalls};
 use site_calls::{CalledSite, FaultPlace, Unknown};
 use site_model::Site;
@@ -43,11 +43,6 @@ fn check_fault<R: Abort>(rt: &R, site: &Scripted<R>, place: FaultPlace, kind: Er
     let fault = site.fault().expect(rt, "a fault");
     assert!(rt; fault.place == place && fault.error.kind() == kind);
 }
-
-/// A call that asks for an honest site.
-fn believe<V: Site>(_site: &V)
-    requires { V.tells _site.now }
-{}
 
 #[test]
 fn a_write_through_short_calls_reads_back_whole(rt: HostRuntime) {

@@ -1,4 +1,4 @@
-use crate::checks::{check_bytes, check_same};
+use crate::checks::{believe, check_bytes, check_same};
 use site_memory::{Kept, Kind, MemorySite, Pick, TickClock};
 use site_model::{Clock, Failed, LAST_MOMENT, Site};
 use std::alloc::Global;
@@ -143,6 +143,16 @@ fn fail_to_say(rt: &impl Abort, alloc: Global, site: &mut MemorySite) {
     check_tape(rt, alloc, site, b"li");
     site.say(b"!").expect(rt, "a line");
     check_tape(rt, alloc, site, b"li!");
+}
+
+/// A site in memory always tells, also after calls that failed.
+#[test]
+fn a_site_in_memory_tells(rt: HostRuntime) {
+    let alloc = rt.alloc();
+    let mut site = site_with(&rt, alloc, 8, 8, &[(Kind::Sync, 0)]);
+    believe(&site);
+    site.sync(1).expect_err(&rt, "a fault");
+    believe(&site);
 }
 
 #[test]
