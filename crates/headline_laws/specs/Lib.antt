@@ -3,3 +3,4 @@ pub mod Logs
 pub mod Machine
 pub mod Moments
 pub mod Outside
+pub mod SumRecord

@@ -7,6 +7,7 @@
 //! - `entries` is on trails, and on the entries that a run makes durable.
 //! - `told` is on what a run says.
 //! - `headline` is on what a run promises of a moment, and of its end.
+//! - `record` is an honest record of a whole run.
 //! - `causes` is on why a run ends, what it has said then and what has changed; `limits` is on limits and the digest.
 #![tactic(auto)]
 
@@ -17,6 +18,7 @@ mod limits;
 mod log;
 mod machine;
 mod outside;
+mod record;
 mod told;
 
 pub use causes::{
@@ -41,4 +43,5 @@ pub use outside::{
     images, kept_by_a_sync, reading, risen_counts, saying, syncing, torn_writes, unsynced_files,
     writing,
 };
+pub use record::a_run_of_the_sum_tells;
 pub use told::{fronts, speaking, told_lines};
