@@ -1,2 +1,5 @@
 pub mod Growing
 pub mod Outcomes
+pub mod Sending
+pub mod Items
+pub mod Merged

@@ -1,6 +1,7 @@
 pub mod Deliveries
 pub mod Legal
 pub mod Partition
+pub mod Placed
 pub mod Requests
 pub mod Steps
 pub mod World

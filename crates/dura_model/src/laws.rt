@@ -12,3 +12,9 @@ ghost use Rattle.dura_model.specs.World.{World};
 pub fn ends_once()
     ensures { (flows : Flows) (run : List Label) (w : World) → Legal flows run w → (id : Id) (task : ℕ) → finishes id task run ≤ 1 }
 {}
+
+/// Try.
+#[tactic(auto, using(crate::proofs::Items::trial))]
+pub fn trial()
+    ensures { 0 ≤ 0 }
+{}
