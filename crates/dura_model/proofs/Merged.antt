@@ -106,10 +106,13 @@ module _ (flows : Flows) (count : ℕ) (parts : ℕ → Partition) (p : ℕ) whe
   abbrev pub outboxes_at : (ℕ → Outbox) → ℕ → ℕ → Outbox
   outboxes_at outboxes place = cond (p == place) outboxes (parts place).outboxes
 
+  -- what a stream holds that wasn't taken in
+  abbrev pub behind : (ℕ → Inbox) → (ℕ → Outbox) → (source target : ℕ) → List Message
+  behind inboxes outboxes source target = messages_in (drop ((inboxes_at inboxes target source).next - (outboxes_at outboxes source target).first) (outboxes_at outboxes source target).messages)
+
   -- what is under way from one partition to another
   abbrev pub way : List Message → (ℕ → Inbox) → (ℕ → Outbox) → (source target : ℕ) → List Message
-  way queue inboxes outboxes source target =
-      queue_at queue target ++ messages_in (drop ((inboxes_at inboxes target source).next - (outboxes_at outboxes source target).first) (outboxes_at outboxes source target).messages)
+  way queue inboxes outboxes source target = queue_at queue target ++ behind inboxes outboxes source target
 
   abbrev pub merged : Partition → World
   merged q = record {
@@ -241,7 +244,7 @@ module _ (flows : Flows) (count : ℕ) (parts : ℕ → Partition) (p : ℕ) whe
   queued_merged q message ready sends receives = λ i. record (merged q) { links = sent_link q message (λ from to. link_in (way (q.queue ++ message ∷ []) q.inboxes q.outboxes (home count from) (home count to)) from to) own others i }
     where
       rest : (source target : ℕ) → List Message
-      rest source target = messages_in (drop ((inboxes_at q.inboxes target source).next - (outboxes_at q.outboxes source target).first) (outboxes_at q.outboxes source target).messages)
+      rest source target = behind q.inboxes q.outboxes source target
       none : (source target : ℕ) → source ≡ p → target ≡ p → (source_here : (p == source) ≡ true) → rest source target ≡ []
       none source target source_is target_is source_here =
           let empty : (outboxes_at q.outboxes source target).messages ≡ [] =

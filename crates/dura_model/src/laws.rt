@@ -14,7 +14,7 @@ pub fn ends_once()
 {}
 
 /// Try.
-#[tactic(auto, using(crate::proofs::Items::trial))]
+#[tactic(auto, using(crate::proofs::Items::ran_as, crate::proofs::Streams::comes_in))]
 pub fn trial()
     ensures { 0 ≤ 0 }
 {}
