@@ -29,6 +29,15 @@ written true false x y z lives = refl
 written false true x y z lives = let wrong = lives refl in absurd (cc wrong)
 written false false x y z lives = refl
 
+-- a test of numbers, the other way round
+pub turned : (a b : ℕ) (test : Bool) → (a == b) ≡ test → (b == a) ≡ test
+turned a b true is = eq-eqb b a (sym (eqb-true a b is))
+turned a b false is = by (b == a) refl
+  where
+    by : (other : Bool) → (b == a) ≡ other → (b == a) ≡ false
+    by true also = let same = eqb-true b a also in let wrong : true ≡ false = sym (eq-eqb a b (sym same)) ∙ is in absurd (cc wrong)
+    by false also = also
+
 -- ---- links
 
 id_swap : (a b : Id) → id_eq a b ≡ id_eq b a
@@ -320,14 +329,6 @@ module _ (flows : Flows) (count : ℕ) (parts : ℕ → Partition) (p : ℕ) whe
   -- whether a receiver lives here, by the state's number
   away_of : (q : Partition) (to : Id) (test : Bool) → q.number ≡ p → (home count to == q.number) ≡ test → (p == home count to) ≡ test
   away_of q to test number is = turned (home count to) p test (ap (λ (n : ℕ). home count to == n) (sym number) ∙ is)
-    where
-      turned : (a b : ℕ) (t : Bool) → (a == b) ≡ t → (b == a) ≡ t
-      turned a b true is = eq-eqb b a (sym (eqb-true a b is))
-      turned a b false is = by (b == a) refl
-        where
-          by : (other : Bool) → (b == a) ≡ other → (b == a) ≡ false
-          by true also = let same = eqb-true b a also in let wrong : true ≡ false = sym (eq-eqb a b (sym same)) ∙ is in absurd (cc wrong)
-          by false also = also
 
   pub post_merged : (q : Partition) (message : Message) → IsReady q → home count message.from ≡ p
       → merged (post count q message) ≡ record (merged q) { links = at_link (merged q).links message.from message.to ((merged q).links message.from message.to ++ message ∷ []) }
