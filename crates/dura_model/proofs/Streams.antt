@@ -101,7 +101,7 @@ module _ (flows : Flows) (count : ℕ) (parts : ℕ → Partition) (p : ℕ) whe
       by x y false there here_is there_is = ap (seen x y (q.queue ++ message ∷ []) boxes) here_is ∙ ap (seen x y q.queue q.inboxes) (sym here_is)
       by x y true there here_is there_is = ap (seen x y (q.queue ++ message ∷ []) boxes) here_is ∙ core x y there here_is there_is ∙ ap (seen x y q.queue q.inboxes) (sym here_is)
 
-  pub got_as : (q next : Partition) (source : Identity) (number : ℕ) (message : Message) → Ready q → home count message.from ≡ source.partition → IsStreamed parts source p number message
+  pub got_as : (q next : Partition) (source : Identity) (number : ℕ) (message : Message) → Ready q → (nat_lt source.partition count ≡ true → home count message.from ≡ source.partition) → IsStreamed parts source p number message
       → accepted flows count q (got source number message) ≡ Some next → world next ≡ world q
   got_as q next source number message ready sends streamed is =
       let away = source.partition == q.number in
@@ -114,7 +114,7 @@ module _ (flows : Flows) (count : ℕ) (parts : ℕ → Partition) (p : ℕ) whe
       let two = both_true low (in_turn && lives) one.1 in
       let three = both_true in_turn lives two.1 in
       let apart : (p == source.partition) ≡ false = turned source.partition p false (ap (λ (n : ℕ). source.partition == n) (sym ready.number) ∙ not_true away one.0) in
-      ap world (sym it.1) ∙ got_same q source number message apart (eqb-true number (q.inboxes source.partition).next three.0) sends streamed
+      ap world (sym it.1) ∙ got_same q source number message apart (eqb-true number (q.inboxes source.partition).next three.0) (sends two.0) streamed
 
   trim_same : (q : Partition) (target number : ℕ) → (p == target) ≡ false → number ≤ ((parts target).inboxes p).next → world (record q { outboxes = with_first q.outboxes target number }) ≡ world q
   trim_same q target number apart read = λ i. record (world q) { links = λ x y. by x y (p == home count x) refl i }

@@ -1,13 +1,16 @@
 -- What the states of all partitions need, so that they show a world.
-use Rattle.std.specs.Prelude.{◌≡◌, ◌⊎◌, ℕ, ◌+◌, ◌-◌, ◌<◌, ◌≤◌, List, [], ◌∷◌, length, drop, Option, Some}
+use Rattle.std.specs.Prelude.{◌≡◌, ◌⊎◌, ℕ, ◌+◌, ◌-◌, ◌<◌, ◌≤◌, List, [], ◌∷◌, length, drop, true, Option, Some, None, option_map}
 use Rattle.std.specs.List.{Contains}
+use Rattle.activity_table.specs.Table.{may}
 use Rattle.dura_value.specs.Ids.{Id, home}
-use Rattle.dura_value.specs.Items.{Identity}
+use Rattle.dura_value.specs.Items.{Identity, Item, took, got, ran, ended, fired, trim}
 use Rattle.dura_value.specs.Messages.{Answer, Message}
+use Rattle.flow_syntax.specs.Syntax.{Flows}
 use Rattle.flow_syntax.specs.Machine.{Past}
 use Rattle.flow_syntax.specs.Entity.{Entity}
 use Rattle.dura_model.specs.World.{Activity}
-use Rattle.dura_model.specs.Partition.{Row, Posted, Partition}
+use Rattle.dura_model.specs.Steps.{Label, step}
+use Rattle.dura_model.specs.Partition.{Row, Posted, Partition, first_in, accepted, shown, with_part}
 
 -- an entry of this partition, before its next one and of no later life
 pub record IsBehind (p : Partition) (entry : Identity) : Type 0 where
@@ -72,3 +75,30 @@ pub record IsStreamed (parts : ℕ → Partition) (source : Identity) (target nu
   pub begun : ((parts source.partition).outboxes target).first ≤ number
   pub later : List Posted
   pub stands : drop (number - ((parts source.partition).outboxes target).first) ((parts source.partition).outboxes target).messages ≡ record { entry = source; message = message } ∷ later
+
+-- where the label of an item happens
+abbrev pub happens_at : Item → Option Id
+happens_at (took message) = Some message.from
+happens_at (ran from to stamp) = Some to
+happens_at (ended id task outcome) = Some id
+happens_at (fired id task stamp) = Some id
+happens_at other = None
+
+-- What an item of a partition needs so that it is its label, beside being accepted: a message that comes in is the stream's;
+-- of a link that is delivered a message came in; an outcome is one that the pending activity may give; what is let go was
+-- read.
+abbrev pub IsGiven : (ℕ → Partition) → ℕ → Item → Type 0
+IsGiven parts p (took message) = Unit {0}
+IsGiven parts p (got source number message) = IsStreamed parts source p number message
+IsGiven parts p (ran from to stamp) = first_in (parts p).queue from to ≡ None → ⊥
+IsGiven parts p (ended id task outcome) = (activity : Activity) → (parts p).activities id task ≡ Some activity → may activity.name activity.argument outcome ≡ true
+IsGiven parts p (fired id task stamp) = Unit {0}
+IsGiven parts p (trim reader number) = number ≤ ((parts reader.partition).inboxes p).next
+
+-- An item makes of one of the states what a label makes of the world that they show.
+abbrev pub IsLabelled : Flows → (count : ℕ) → (ℕ → Partition) → ℕ → Item → Label → Type 0
+IsLabelled flows count parts p item label = option_map (λ next. shown flows count (with_part parts p next)) (accepted flows count (parts p) item) ≡ step flows (shown flows count parts) label
+
+-- An item makes of one of the states nothing that shows.
+abbrev pub ShowsNothing : Flows → (count : ℕ) → (ℕ → Partition) → ℕ → Item → Type 0
+ShowsNothing flows count parts p item = (next : Partition) → accepted flows count (parts p) item ≡ Some next → shown flows count (with_part parts p next) ≡ shown flows count parts
