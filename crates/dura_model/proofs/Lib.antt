@@ -5,4 +5,5 @@ pub mod Sending
 pub mod Shown
 pub mod Streams
 pub mod Items
+pub mod Keeping
 pub mod Merged

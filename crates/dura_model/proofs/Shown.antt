@@ -12,7 +12,7 @@ use Rattle.flow_syntax.specs.Syntax.{Flows}
 use Rattle.dura_model.specs.World.{World}
 use Rattle.dura_model.specs.Steps.{Label, take as take_in, deliver, finish, fire, number_in, step}
 use Rattle.dura_model.specs.Partition.{Posted, Outbox, Partition, first_in, accepted, label_in, shown, with_part}
-use Rattle.dura_model.specs.Placed.{Belongs, IsOther, IsReader, IsStreamed, AreShown, happens_at, IsGiven, IsLabelled, ShowsNothing}
+use Rattle.dura_model.specs.Placed.{Belongs, IsOther, IsReader, IsStreamed, AreShown, happens_at, IsGiven, IsOfStreams, IsLabelled, ShowsNothing}
 use Rattle.dura_model.proofs.Merged.{merged, IsReady, shown_merged, merged_shown}
 use Rattle.dura_model.proofs.Items.{took_as, fired_as, ended_as, ran_as}
 use Rattle.dura_model.proofs.Streams.{got_as, trim_as}
@@ -34,7 +34,7 @@ module _ (flows : Flows) (count : ℕ) (parts : ℕ → Partition) (p : ℕ) whe
       let here = shows.each p below in
       record {
         number = here.number;
-        alone = by (here.outboxes p);
+        alone = by (here.outboxes.others p);
         readers = λ to away. (shows.readers p (home count to) below (home_below count p to below)).to_end;
       }
     where
@@ -59,7 +59,7 @@ module _ (flows : Flows) (count : ℕ) (parts : ℕ → Partition) (p : ℕ) whe
   there_is None is = absurd (is refl)
   there_is (Some body) is = (body, refl)
 
-  pub item_labelled : (item : Item) (label : Label) (id : Id) → AreShown count parts → p < count → label_in item ≡ Some label → happens_at item ≡ Some id → home count id ≡ p → IsGiven parts p item → IsLabelled flows count parts p item label
+  pub item_labelled : (item : Item) (label : Label) (id : Id) → AreShown count parts → p < count → label_in item ≡ Some label → happens_at item ≡ Some id → home count id ≡ p → IsGiven (parts p) item → IsLabelled flows count parts p item label
   item_labelled (took message) label id shows below is at here given =
       subst (IsLabelled flows count parts p (took message)) (some_same is)
       (labelled (took message) (take_in message.from (number_in message.body) message) (took_as flows count parts p (parts p) message (ready_of shows below) (home_of id message.from at here)))
@@ -82,9 +82,9 @@ module _ (flows : Flows) (count : ℕ) (parts : ℕ → Partition) (p : ℕ) whe
       let posted : Posted = record { entry = source; message = message } in
       let head : Contains (posted ∷ streamed.later) posted = (0, omega arith, refl) in
       let left = subst (λ (l : List Posted). Contains l posted) (sym streamed.stands) head in
-      (shows.each source.partition (ltb-true source.partition count low)).senders p posted (dropped_in (number - box.first) box.messages posted left)
+      (shows.each source.partition (ltb-true source.partition count low)).outboxes.senders p posted (dropped_in (number - box.first) box.messages posted left)
 
-  pub item_silent : (item : Item) → AreShown count parts → p < count → label_in item ≡ None → IsGiven parts p item → ShowsNothing flows count parts p item
+  pub item_silent : (item : Item) → AreShown count parts → p < count → label_in item ≡ None → IsOfStreams parts p item → ShowsNothing flows count parts p item
   item_silent (got source number message) shows below is given next accepts =
       silent next (got_as flows count parts p (parts p) next source number message (ready_of shows below) (stream_sender source number message shows given) given accepts)
   item_silent (trim reader number) shows below is given next accepts = silent next (trim_as flows count parts p (parts p) next reader number (ready_of shows below) given accepts)

@@ -10,55 +10,82 @@ use Rattle.flow_syntax.specs.Machine.{Past}
 use Rattle.flow_syntax.specs.Entity.{Entity}
 use Rattle.dura_model.specs.World.{Activity}
 use Rattle.dura_model.specs.Steps.{Label, step}
-use Rattle.dura_model.specs.Partition.{Row, Posted, Partition, first_in, accepted, shown, with_part}
+use Rattle.dura_model.specs.Partition.{Row, Posted, Outbox, Inbox, Partition, first_in, accepted, shown, with_part}
 
--- an entry of this partition, before its next one and of no later life
-pub record IsBehind (p : Partition) (entry : Identity) : Type 0 where
-  pub here : entry.partition ≡ p.number
-  pub before : entry.position < p.position
-  pub alive : entry.incarnation ≤ p.incarnation
+-- an entry of this partition, before this position and of no later life than this
+pub record IsBehind (place position incarnation : ℕ) (entry : Identity) : Type 0 where
+  pub here : entry.partition ≡ place
+  pub before : entry.position < position
+  pub alive : entry.incarnation ≤ incarnation
 
 -- another partition of so many
 pub record IsOther (count place other : ℕ) : Type 0 where
   pub apart : other ≡ place → ⊥
   pub below : other < count
 
+-- each id that something is kept for lives at this place
+abbrev pub Live : {X : Type 0} → (count place : ℕ) → (Id → Option X) → Type 0
+Live {X} count place f = (id : Id) (x : X) → f id ≡ Some x → home count id ≡ place
+
+abbrev pub NumbersLive : {X : Type 0} → (count place : ℕ) → (Id → ℕ → Option X) → Type 0
+NumbersLive {X} count place f = (id : Id) (number : ℕ) (x : X) → f id number ≡ Some x → home count id ≡ place
+
+-- All that has rows lives at this place.
+pub record RowsLive (count place : ℕ) (taken : Id → ℕ → Option Message) (answers : Id → ℕ → Option Answer) (instances : Id → Option Row) (entities : Id → Option Entity) (activities : Id → ℕ → Option Activity) (timers : Id → ℕ → Option ℕ) : Type 0 where
+  -- a client with requests
+  pub requests : NumbersLive count place taken
+  -- a client with answers
+  pub answered : NumbersLive count place answers
+  -- an instance
+  pub kept : Live count place instances
+  -- an entity
+  pub reached : Live count place entities
+  -- an instance with activities
+  pub pending : NumbersLive count place activities
+  -- an instance with timers
+  pub due : NumbersLive count place timers
+
+-- The streams to other partitions.
+pub record OutboxesStand (count place position incarnation : ℕ) (outboxes : ℕ → Outbox) : Type 0 where
+  -- there is none to the place itself or past the count
+  pub others : (target : ℕ) → IsOther count place target ⊎ (outboxes target ≡ record { first = 0; messages = [] })
+  -- the sender of a message lives here
+  pub senders : (target : ℕ) (posted : Posted) → Contains (outboxes target).messages posted → home count posted.message.from ≡ place
+  -- its receiver lives at the target
+  pub receivers : (target : ℕ) (posted : Posted) → Contains (outboxes target).messages posted → home count posted.message.to ≡ target
+  -- the entry that sends it is an earlier one
+  pub earlier : (target : ℕ) (posted : Posted) → Contains (outboxes target).messages posted → IsBehind place position incarnation posted.entry
+
+-- How far the streams from other partitions were taken in.
+pub record InboxesStand (count place position incarnation : ℕ) (inboxes : ℕ → Inbox) : Type 0 where
+  -- nothing came in from the place itself or from past the count
+  pub others : (source : ℕ) → IsOther count place source ⊎ ((inboxes source).next ≡ 0)
+  -- the entry that took in the last message is an earlier one
+  pub earlier : (source : ℕ) → 0 < (inboxes source).next → IsBehind place position incarnation (inboxes source).reader
+
+-- Nothing is of a later moment than this.
+pub record MomentsStand (stamp : ℕ) (instances : Id → Option Row) (entities : Id → Option Entity) : Type 0 where
+  -- an instance's last moment
+  pub rows : (id : Id) (row : Row) → instances id ≡ Some row → row.stamp ≤ stamp
+  -- the moment of an event
+  pub events : (id : Id) (row : Row) → instances id ≡ Some row → (past : Past) → Contains row.history past → past.stamp ≤ stamp
+  -- an entity's last moment
+  pub lasts : (id : Id) (e : Entity) → entities id ≡ Some e → e.last ≤ stamp
+
 -- What the state at a place among so many needs by itself.
 pub record Belongs (count place : ℕ) (p : Partition) : Type 0 where
   -- its number is its place
   pub number : p.number ≡ place
-  -- a client with requests lives here
-  pub taken : (id : Id) (number : ℕ) (message : Message) → p.taken id number ≡ Some message → home count id ≡ place
-  -- a client with answers lives here
-  pub answers : (id : Id) (number : ℕ) (answer : Answer) → p.answers id number ≡ Some answer → home count id ≡ place
-  -- an instance lives here
-  pub instances : (id : Id) (row : Row) → p.instances id ≡ Some row → home count id ≡ place
-  -- an entity lives here
-  pub entities : (id : Id) (e : Entity) → p.entities id ≡ Some e → home count id ≡ place
-  -- an instance with activities lives here
-  pub activities : (id : Id) (task : ℕ) (activity : Activity) → p.activities id task ≡ Some activity → home count id ≡ place
-  -- an instance with timers lives here
-  pub timers : (id : Id) (task due : ℕ) → p.timers id task ≡ Some due → home count id ≡ place
+  -- all that has rows lives here
+  pub rows : RowsLive count place p.taken p.answers p.instances p.entities p.activities p.timers
   -- the receiver of a message in the queue lives here
   pub queue : (message : Message) → Contains p.queue message → home count message.to ≡ place
-  -- there is no stream to itself or past the count
-  pub outboxes : (target : ℕ) → IsOther count place target ⊎ (p.outboxes target ≡ record { first = 0; messages = [] })
-  -- nothing came in from itself or from past the count
-  pub inboxes : (source : ℕ) → IsOther count place source ⊎ ((p.inboxes source).next ≡ 0)
-  -- the sender of a message in an outbox lives here
-  pub senders : (target : ℕ) (posted : Posted) → Contains (p.outboxes target).messages posted → home count posted.message.from ≡ place
-  -- its receiver lives at the target
-  pub receivers : (target : ℕ) (posted : Posted) → Contains (p.outboxes target).messages posted → home count posted.message.to ≡ target
-  -- the entry that sends it is an earlier one
-  pub posted : (target : ℕ) (posted : Posted) → Contains (p.outboxes target).messages posted → IsBehind p posted.entry
-  -- the entry that took in the last message of a stream is an earlier one
-  pub read : (source : ℕ) → 0 < (p.inboxes source).next → IsBehind p (p.inboxes source).reader
-  -- no instance is at a later moment
-  pub moments : (id : Id) (row : Row) → p.instances id ≡ Some row → row.stamp ≤ p.stamp
-  -- no event is of a later moment
-  pub events : (id : Id) (row : Row) (past : Past) → p.instances id ≡ Some row → Contains row.history past → past.stamp ≤ p.stamp
-  -- no entity is at a later moment
-  pub lasts : (id : Id) (e : Entity) → p.entities id ≡ Some e → e.last ≤ p.stamp
+  -- its streams are to other partitions, from here to there, by its entries so far
+  pub outboxes : OutboxesStand count place p.position p.incarnation p.outboxes
+  -- what came in is from other partitions, taken in by its entries so far
+  pub inboxes : InboxesStand count place p.position p.incarnation p.inboxes
+  -- nothing in it is of a later moment than its own
+  pub moments : MomentsStand p.stamp p.instances p.entities
 
 -- The next message that a partition reads of another's stream lies from the stream's first to its end.
 pub record IsReader (parts : ℕ → Partition) (source target : ℕ) : Type 0 where
@@ -84,16 +111,18 @@ happens_at (ended id task outcome) = Some id
 happens_at (fired id task stamp) = Some id
 happens_at other = None
 
--- What an item of a partition needs so that it is its label, beside being accepted: a message that comes in is the stream's;
--- of a link that is delivered a message came in; an outcome is one that the pending activity may give; what is let go was
--- read.
-abbrev pub IsGiven : (ℕ → Partition) → ℕ → Item → Type 0
-IsGiven parts p (took message) = Unit {0}
-IsGiven parts p (got source number message) = IsStreamed parts source p number message
-IsGiven parts p (ran from to stamp) = first_in (parts p).queue from to ≡ None → ⊥
-IsGiven parts p (ended id task outcome) = (activity : Activity) → (parts p).activities id task ≡ Some activity → may activity.name activity.argument outcome ≡ true
-IsGiven parts p (fired id task stamp) = Unit {0}
-IsGiven parts p (trim reader number) = number ≤ ((parts reader.partition).inboxes p).next
+-- What an item that was accepted in a state needs so that it is its label: of a link that is delivered a message came in,
+-- and an outcome is one that the pending activity may give.
+abbrev pub IsGiven : Partition → Item → Type 0
+IsGiven p (ran from to stamp) = first_in p.queue from to ≡ None → ⊥
+IsGiven p (ended id task outcome) = (activity : Activity) → p.activities id task ≡ Some activity → may activity.name activity.argument outcome ≡ true
+IsGiven p other = Unit {0}
+
+-- What comes in to a partition is the stream's, and what it lets go was read.
+abbrev pub IsOfStreams : (ℕ → Partition) → ℕ → Item → Type 0
+IsOfStreams parts p (got source number message) = IsStreamed parts source p number message
+IsOfStreams parts p (trim reader number) = number ≤ ((parts reader.partition).inboxes p).next
+IsOfStreams parts p other = Unit {0}
 
 -- An item makes of one of the states what a label makes of the world that they show.
 abbrev pub IsLabelled : Flows → (count : ℕ) → (ℕ → Partition) → ℕ → Item → Label → Type 0

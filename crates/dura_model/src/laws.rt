@@ -6,7 +6,7 @@ ghost use Rattle.dura_value.specs.Items.{Item};
 ghost use Rattle.flow_syntax.specs.Syntax.{Flows};
 ghost use Rattle.dura_model.specs.Legal.{Legal, finishes};
 ghost use Rattle.dura_model.specs.Partition.{Partition, label_in};
-ghost use Rattle.dura_model.specs.Placed.{AreShown, happens_at, IsGiven, IsLabelled, ShowsNothing};
+ghost use Rattle.dura_model.specs.Placed.{AreShown, happens_at, IsGiven, IsOfStreams, IsLabelled, ShowsNothing};
 ghost use Rattle.dura_model.specs.Steps.{Label};
 ghost use Rattle.dura_model.specs.World.{World};
 
@@ -20,11 +20,11 @@ pub fn ends_once()
 #[tactic(auto, using(crate::proofs::Shown::item_labelled))]
 pub fn items_are_labels()
     ensures { (flows : Flows) (count : ℕ) (parts : ℕ → Partition) (p : ℕ) (item : Item) (label : Label) (id : Id)
-        → AreShown count parts → p < count → label_in item ≡ Some label → happens_at item ≡ Some id → home count id ≡ p → IsGiven parts p item → IsLabelled flows count parts p item label }
+        → AreShown count parts → p < count → label_in item ≡ Some label → happens_at item ≡ Some id → home count id ≡ p → IsGiven (parts p) item → IsLabelled flows count parts p item label }
 {}
 
 /// An item that is no label shows nothing.
-#[tactic(auto, using(crate::proofs::Shown::item_silent))]
+#[tactic(auto, using(crate::proofs::Shown::item_silent, crate::proofs::Keeping::follows_then))]
 pub fn streams_show_nothing()
-    ensures { (flows : Flows) (count : ℕ) (parts : ℕ → Partition) (p : ℕ) (item : Item) → AreShown count parts → p < count → label_in item ≡ None → IsGiven parts p item → ShowsNothing flows count parts p item }
+    ensures { (flows : Flows) (count : ℕ) (parts : ℕ → Partition) (p : ℕ) (item : Item) → AreShown count parts → p < count → label_in item ≡ None → IsOfStreams parts p item → ShowsNothing flows count parts p item }
 {}
