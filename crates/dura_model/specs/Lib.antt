@@ -2,6 +2,7 @@ pub mod Deliveries
 pub mod Dependencies
 pub mod Legal
 pub mod Partition
+pub mod Placed
 pub mod Requests
 pub mod Steps
 pub mod World

@@ -289,3 +289,7 @@ shown flows count parts = record {
   taken = λ id number. (parts (home count id)).taken id number;
   answers = λ id number. (parts (home count id)).answers id number;
 }
+
+-- one of them in another state
+abbrev pub with_part : (ℕ → Partition) → ℕ → Partition → ℕ → Partition
+with_part parts p next other = if p == other then next else parts other

@@ -1,2 +1,4 @@
 //! The failure-free machine, as definitions, and laws of them.
 #![tactic(auto)]
+
+mod laws;
