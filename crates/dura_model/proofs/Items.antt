@@ -71,6 +71,7 @@ first_here message queue from to body same is = record {
   where
     parts_are : (id_eq from message.from ≡ true) × (id_eq to message.to ≡ true)
     parts_are = both_true (id_eq from message.from) (id_eq to message.to) same
+
     away : (x y : Id) → id_eq from x && id_eq to y ≡ false → id_eq x message.from && id_eq y message.to ≡ false
     away x y apart = by (id_eq x message.from && id_eq y message.to) refl
       where
@@ -90,13 +91,13 @@ first_later message queue from to body apart f = record {
   message = f.message;
   is = f.is;
   first =
-    ap (λ (b : Bool). cond b (message ∷ link_in queue from to) (link_in queue from to)) apart
-    ∙ f.first
-    ∙ ap (λ (b : Bool). f.message ∷ cond b (message ∷ link_in (without_first queue from to) from to) (link_in (without_first queue from to) from to)) (sym apart)
-    ∙ ap (λ (b : Bool). f.message ∷ link_in (cond b queue (message ∷ without_first queue from to)) from to) (sym apart);
+      ap (λ (b : Bool). cond b (message ∷ link_in queue from to) (link_in queue from to)) apart
+      ∙ f.first
+      ∙ ap (λ (b : Bool). f.message ∷ cond b (message ∷ link_in (without_first queue from to) from to) (link_in (without_first queue from to) from to)) (sym apart)
+      ∙ ap (λ (b : Bool). f.message ∷ link_in (cond b queue (message ∷ without_first queue from to)) from to) (sym apart);
   others = λ x y away.
-    ap (λ (b : Bool). link_in (cond b queue (message ∷ without_first queue from to)) x y) apart
-    ∙ ap (λ (l : List Message). cond (id_eq x message.from && id_eq y message.to) (message ∷ l) l) (f.others x y away);
+      ap (λ (b : Bool). link_in (cond b queue (message ∷ without_first queue from to)) x y) apart
+      ∙ ap (λ (l : List Message). cond (id_eq x message.from && id_eq y message.to) (message ∷ l) l) (f.others x y away);
 }
 
 is_first : (queue : List Message) (from to : Id) (body : Body) → first_in queue from to ≡ Some body → IsFirst queue from to body
@@ -131,7 +132,7 @@ module _ (flows : Flows) (count : ℕ) (parts : ℕ → Partition) (p : ℕ) whe
   taken_as q message None ready here =
       let noted : Partition = record q { taken = at_number q.taken message.from (number_in message.body) (Some message) } in
       ap Some (post_merged flows count parts p noted message (record { number = ready.number; alone = ready.alone; readers = ready.readers }) here
-        ∙ ap (λ (w : World). sent w (message ∷ [])) (taken_merged flows count parts p q message.from (number_in message.body) (Some message) here))
+      ∙ ap (λ (w : World). sent w (message ∷ [])) (taken_merged flows count parts p q message.from (number_in message.body) (Some message) here))
   taken_as q message (Some other) ready here = refl
 
   pub took_as : (q : Partition) (message : Message) → Ready q → home count message.from ≡ p
@@ -226,7 +227,7 @@ module _ (flows : Flows) (count : ℕ) (parts : ℕ → Partition) (p : ℕ) whe
       let w : World = record (world q) { entities = at_id (world q).entities to (Some d.entity) } in
       chosen (takes e.holder from && nat_le e.last stamp) (Some (post_all count after d.sent)) (Some (sent w d.sent))
       (ap Some (post_all_merged flows count parts p after to d.sent (record { number = ready.number; alone = ready.alone; readers = ready.readers }) here (entity_from flows was class from to body)
-        ∙ ap (λ (v : World). sent v d.sent) (entity_merged flows count parts p q to (Some d.entity) here)))
+      ∙ ap (λ (v : World). sent v d.sent) (entity_merged flows count parts p q to (Some d.entity) here)))
 
   last_same : (id : Id) (row : Option Row) → last_in row ≡ last_of (option_map (instance_in flows id) row)
   last_same id None = refl

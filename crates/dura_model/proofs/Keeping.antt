@@ -76,59 +76,91 @@ module _ (count p : ℕ) where
 
   pub taken_follows : (q : Partition) (id : Id) (number : ℕ) (message : Option Message) → home count id ≡ p → Belongs count p q → 0 < q.position → Follows q (record q { taken = at_number q.taken id number message })
   taken_follows q id number message here b begun = same_streams q (record q { taken = at_number q.taken id number message })
-    (record {
-      number = b.number;
-      rows = record {
-        requests = live_number count p q.taken id number message here b.rows.requests;
-        answered = b.rows.answered; kept = b.rows.kept; reached = b.rows.reached; pending = b.rows.pending; due = b.rows.due;
-      };
-      queue = b.queue; outboxes = b.outboxes; inboxes = b.inboxes; moments = b.moments;
-    }) begun refl refl
+      (record {
+        number = b.number;
+        rows = record {
+          requests = live_number count p q.taken id number message here b.rows.requests;
+          answered = b.rows.answered;
+          kept = b.rows.kept;
+          reached = b.rows.reached;
+          pending = b.rows.pending;
+          due = b.rows.due;
+        };
+        queue = b.queue;
+        outboxes = b.outboxes;
+        inboxes = b.inboxes;
+        moments = b.moments;
+      }) begun refl refl
 
   pub answers_follows : (q : Partition) (id : Id) (number : ℕ) (answer : Option Answer) → home count id ≡ p → Belongs count p q → 0 < q.position → Follows q (record q { answers = at_number q.answers id number answer })
   answers_follows q id number answer here b begun = same_streams q (record q { answers = at_number q.answers id number answer })
-    (record {
-      number = b.number;
-      rows = record {
-        requests = b.rows.requests;
-        answered = live_number count p q.answers id number answer here b.rows.answered;
-        kept = b.rows.kept; reached = b.rows.reached; pending = b.rows.pending; due = b.rows.due;
-      };
-      queue = b.queue; outboxes = b.outboxes; inboxes = b.inboxes; moments = b.moments;
-    }) begun refl refl
+      (record {
+        number = b.number;
+        rows = record {
+          requests = b.rows.requests;
+          answered = live_number count p q.answers id number answer here b.rows.answered;
+          kept = b.rows.kept;
+          reached = b.rows.reached;
+          pending = b.rows.pending;
+          due = b.rows.due;
+        };
+        queue = b.queue;
+        outboxes = b.outboxes;
+        inboxes = b.inboxes;
+        moments = b.moments;
+      }) begun refl refl
 
   pub activities_follows : (q : Partition) (id : Id) (task : ℕ) (activity : Option Activity) → home count id ≡ p → Belongs count p q → 0 < q.position → Follows q (record q { activities = at_number q.activities id task activity })
   activities_follows q id task activity here b begun = same_streams q (record q { activities = at_number q.activities id task activity })
-    (record {
-      number = b.number;
-      rows = record {
-        requests = b.rows.requests; answered = b.rows.answered; kept = b.rows.kept; reached = b.rows.reached;
-        pending = live_number count p q.activities id task activity here b.rows.pending;
-        due = b.rows.due;
-      };
-      queue = b.queue; outboxes = b.outboxes; inboxes = b.inboxes; moments = b.moments;
-    }) begun refl refl
+      (record {
+        number = b.number;
+        rows = record {
+          requests = b.rows.requests;
+          answered = b.rows.answered;
+          kept = b.rows.kept;
+          reached = b.rows.reached;
+          pending = live_number count p q.activities id task activity here b.rows.pending;
+          due = b.rows.due;
+        };
+        queue = b.queue;
+        outboxes = b.outboxes;
+        inboxes = b.inboxes;
+        moments = b.moments;
+      }) begun refl refl
 
   pub timers_follows : (q : Partition) (id : Id) (task : ℕ) (due : Option ℕ) → home count id ≡ p → Belongs count p q → 0 < q.position → Follows q (record q { timers = at_number q.timers id task due })
   timers_follows q id task due here b begun = same_streams q (record q { timers = at_number q.timers id task due })
-    (record {
-      number = b.number;
-      rows = record {
-        requests = b.rows.requests; answered = b.rows.answered; kept = b.rows.kept; reached = b.rows.reached; pending = b.rows.pending;
-        due = live_number count p q.timers id task due here b.rows.due;
-      };
-      queue = b.queue; outboxes = b.outboxes; inboxes = b.inboxes; moments = b.moments;
-    }) begun refl refl
+      (record {
+        number = b.number;
+        rows = record {
+          requests = b.rows.requests;
+          answered = b.rows.answered;
+          kept = b.rows.kept;
+          reached = b.rows.reached;
+          pending = b.rows.pending;
+          due = live_number count p q.timers id task due here b.rows.due;
+        };
+        queue = b.queue;
+        outboxes = b.outboxes;
+        inboxes = b.inboxes;
+        moments = b.moments;
+      }) begun refl refl
 
   pub given_up_follows : (q : Partition) (id : Id) (over : Bool) → Belongs count p q → 0 < q.position → Follows q (given_up_in q id over)
   given_up_follows q id false b begun = same_streams q q b begun refl refl
   given_up_follows q id true b begun = same_streams q (given_up_in q id true)
-    (record {
-      number = b.number;
-      rows = record {
-        requests = b.rows.requests; answered = b.rows.answered; kept = b.rows.kept; reached = b.rows.reached;
-        pending = live_cleared count p q.activities id b.rows.pending;
-        due = live_cleared count p q.timers id b.rows.due;
-      };
-      queue = b.queue; outboxes = b.outboxes; inboxes = b.inboxes; moments = b.moments;
-    }) begun refl refl
+      (record {
+        number = b.number;
+        rows = record {
+          requests = b.rows.requests;
+          answered = b.rows.answered;
+          kept = b.rows.kept;
+          reached = b.rows.reached;
+          pending = live_cleared count p q.activities id b.rows.pending;
+          due = live_cleared count p q.timers id b.rows.due;
+        };
+        queue = b.queue;
+        outboxes = b.outboxes;
+        inboxes = b.inboxes;
+        moments = b.moments;
+      }) begun refl refl

@@ -67,7 +67,7 @@ module _ (flows : Flows) (id : Id) where
       record {
         fits = ap Some (resumed_fits m event stamp row [] is);
         sent = from_both id (before ++ r.sent) (answering_all r.machine.id waiting answer) (from_both id before r.sent from_it (subst (λ (i : Id). AllFrom i r.sent) same keeps.sent))
-          (subst (λ (i : Id). AllFrom i (answering_all r.machine.id waiting answer)) (keeps.same ∙ same) (answering_from r.machine.id waiting answer));
+            (subst (λ (i : Id). AllFrom i (answering_all r.machine.id waiting answer)) (keeps.same ∙ same) (answering_from r.machine.id waiting answer));
       }
 
   goes_on_suits : (o : Orchestration) (event : Event) (stamp : ℕ) (row : Option Row) (before : List Message) → o.machine.id ≡ id → AllFrom id before
