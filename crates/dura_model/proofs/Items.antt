@@ -37,7 +37,7 @@ lock_from : (id other : Id) (task : ℕ) (set : List Spot) (index : ℕ) (next :
 lock_from id other task set index None = (refl, tt)
 lock_from id other task set index (Some next) = (refl, tt)
 
-entity_from : (flows : Flows) (e : Entity) (class : List ℕ) (from id : Id) (body : Body) → AllFrom id (deliver_to flows e class from id body).sent
+pub entity_from : (flows : Flows) (e : Entity) (class : List ℕ) (from id : Id) (body : Body) → AllFrom id (deliver_to flows e class from id body).sent
 entity_from flows e class from id (operate operation argument reply) = operated_from e from id argument reply (operation_of (class_of flows class) operation)
 entity_from flows e class from id (query number) = answering_from id from (to_request number) (value_answer (class_of flows class) e.value)
 entity_from flows e class from id (lock other task set index) = lock_from id other task set (suc index) (entity_at set (suc index))

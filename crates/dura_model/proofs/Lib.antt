@@ -6,4 +6,5 @@ pub mod Shown
 pub mod Streams
 pub mod Items
 pub mod Keeping
+pub mod Kept
 pub mod Merged

@@ -35,11 +35,11 @@ lets_go number next box false is read =
     ∙ (let sum : number - box.first + (next - number) ≡ next - box.first = omega (arith, high, read) in ap (λ (k : ℕ). drop k box.messages) sum)
 
 -- what a test lets through
-passed : (test : Bool) (x next : Partition) → cond test (Some x) None ≡ Some next → (test ≡ true) × (x ≡ next)
+pub passed : (test : Bool) (x next : Partition) → cond test (Some x) None ≡ Some next → (test ≡ true) × (x ≡ next)
 passed true x next is = (refl, cc is)
 passed false x next is = absurd (cc is)
 
-not_true : (b : Bool) → not b ≡ true → b ≡ false
+pub not_true : (b : Bool) → not b ≡ true → b ≡ false
 not_true true is = absurd (cc is)
 not_true false is = refl
 
