@@ -153,3 +153,200 @@ module _ (flows : Flows) (count p : ℕ) where
       let one = queue_follows count p q (without_first q.queue from to) b begun (λ message of_it. b.queue message (without_contained count p q.queue from to message of_it)) in
       let two = raised_follows count p left stamp one.belongs one.begun in
       follows_then count p q left next one (follows_then count p left later next two.0 (received_comes later next from to stamp body below here two.0.belongs two.0.begun two.1 is))
+
+-- ---- all states, with one of them replaced
+
+-- a reader of a stream, by the stream and by how far it was taken in
+abbrev Reads : Outbox → ℕ → Type 0
+Reads box next = (box.first ≤ next) × (next ≤ box.first + length box.messages)
+
+module _ (flows : Flows) (count : ℕ) (parts : ℕ → Partition) (p : ℕ) where
+  with_shown : (next : Partition) → AreShown count parts → Belongs count p next
+      → ((target : ℕ) → target < count → Reads (next.outboxes target) ((parts target).inboxes p).next)
+      → ((source : ℕ) → source < count → Reads ((parts source).outboxes p) (next.inboxes source).next)
+      → AreShown count (with_part parts p next)
+  with_shown next shows belongs sends reads = record {
+    each = λ place below. each place below (p == place) refl;
+    readers = λ source target low below. let both = reader source target low below (p == source) (p == target) refl refl in record { from_first = both.0; to_end = both.1 };
+  }
+    where
+      each : (place : ℕ) → place < count → (test : Bool) → (p == place) ≡ test → Belongs count place (cond test next (parts place))
+      each place below true is = subst (λ (n : ℕ). Belongs count n next) (eqb-true p place is) belongs
+      each place below false is = shows.each place below
+      nothing_out : IsOther count p p ⊎ (next.outboxes p ≡ record { first = 0; messages = [] }) → next.outboxes p ≡ record { first = 0; messages = [] }
+      nothing_out (inl other) = absurd (other.apart refl)
+      nothing_out (inr is) = is
+      nothing_in : IsOther count p p ⊎ ((next.inboxes p).next ≡ 0) → (next.inboxes p).next ≡ 0
+      nothing_in (inl other) = absurd (other.apart refl)
+      nothing_in (inr is) = is
+      self : Reads (next.outboxes p) (next.inboxes p).next
+      self = let read = nothing_in (belongs.inboxes.others p) in subst (λ (box : Outbox). Reads box (next.inboxes p).next) (sym (nothing_out (belongs.outboxes.others p))) (omega arith, omega (arith, read))
+      reader : (source target : ℕ) → source < count → target < count → (here there : Bool) → (p == source) ≡ here → (p == target) ≡ there
+          → Reads ((cond here next (parts source)).outboxes target) ((cond there next (parts target)).inboxes source).next
+      reader source target low below true true is also =
+          subst (λ (s : ℕ). Reads (next.outboxes target) (next.inboxes s).next) (eqb-true p source is) (subst (λ (t : ℕ). Reads (next.outboxes t) (next.inboxes p).next) (eqb-true p target also) self)
+      reader source target low below true false is also = subst (λ (s : ℕ). Reads (next.outboxes target) ((parts target).inboxes s).next) (eqb-true p source is) (sends target below)
+      reader source target low below false true is also = subst (λ (t : ℕ). Reads ((parts source).outboxes t) (next.inboxes source).next) (eqb-true p target also) (reads source low)
+      reader source target low below false false is also = let is_reader = shows.readers source target low below in (is_reader.from_first, is_reader.to_end)
+
+  -- a state that comes from the one before, whose streams got no shorter
+  pub comes_shown : (next : Partition) → AreShown count parts → p < count → Follows count p (parts p) next → AreShown count (with_part parts p next)
+  comes_shown next shows below comes =
+      with_shown next shows comes.belongs
+      (λ target low. let is = shows.readers p target below low in let first = comes.first target in let longer = comes.longer target in (omega (arith, first, is.from_first), omega (arith, first, longer, is.to_end)))
+      (λ source low. let is = shows.readers source p low below in let read = comes.read source in (omega (arith, read, is.from_first), omega (arith, read, is.to_end)))
+
+  -- ---- streams
+
+  in_behind : (q : Partition) → Belongs count p q → 0 < q.position → IsBehind p q.position q.incarnation (entry_of q)
+  in_behind q b begun = record { here = b.number; before = omega (arith, begun); alive = omega arith }
+
+  eqb_apart : (x y : ℕ) → (x == y) ≡ false → x ≡ y → ⊥
+  eqb_apart x y is equal = let wrong : true ≡ false = sym (eq-eqb x y equal) ∙ is in cc wrong
+
+  -- the stream goes on behind a message that it has
+  has_more : (stream later : List Posted) (first number : ℕ) (posted : Posted) → first ≤ number → drop (number - first) stream ≡ posted ∷ later → number + 1 ≤ first + length stream
+  has_more stream later first number posted begun is = let left = ap length is in omega (arith, begun, left, length-drop (number - first) stream)
+
+  pub got_shown : (next : Partition) (source : Identity) (number : ℕ) (message : Message) → AreShown count parts → p < count → 0 < (parts p).position → IsStreamed parts source p number message
+      → accepted flows count (parts p) (got source number message) ≡ Some next → AreShown count (with_part parts p next)
+  got_shown next source number message shows below begun streamed is =
+      subst (λ (s : Partition). AreShown count (with_part parts p s)) it.1
+      (with_shown after shows belongs
+        (λ target low. let r = shows.readers p target below low in (r.from_first, r.to_end))
+        (λ other low. reads other low (source.partition == other) refl))
+    where
+      q : Partition
+      q = parts p
+      b : Belongs count p q
+      b = shows.each p below
+      box : Inbox
+      box = record { next = number + 1; reader = entry_of q }
+      after : Partition
+      after = record q { queue = q.queue ++ message ∷ []; inboxes = with_inbox q.inboxes source.partition box }
+      away : Bool
+      away = source.partition == q.number
+      low_source : Bool
+      low_source = nat_lt source.partition count
+      in_turn : Bool
+      in_turn = number == (q.inboxes source.partition).next
+      lives : Bool
+      lives = home count message.to == q.number
+      it : ((not away && (low_source && (in_turn && lives))) ≡ true) × (after ≡ next)
+      it = passed (not away && (low_source && (in_turn && lives))) after next is
+      one : (not away ≡ true) × ((low_source && (in_turn && lives)) ≡ true)
+      one = both_true (not away) (low_source && (in_turn && lives)) it.0
+      two : (low_source ≡ true) × ((in_turn && lives) ≡ true)
+      two = both_true low_source (in_turn && lives) one.1
+      three : (in_turn ≡ true) × (lives ≡ true)
+      three = both_true in_turn lives two.1
+      other_source : IsOther count p source.partition
+      other_source = record { apart = λ wrong. eqb_apart source.partition q.number (not_true away one.0) (wrong ∙ sym b.number); below = ltb-true source.partition count two.0 }
+      others : (other : ℕ) (test : Bool) → (source.partition == other) ≡ test → IsOther count p other ⊎ ((cond test box (q.inboxes other)).next ≡ 0)
+      others other true same = inl (subst (IsOther count p) (eqb-true source.partition other same) other_source)
+      others other false apart = b.inboxes.others other
+      earlier : (other : ℕ) (test : Bool) → 0 < (cond test box (q.inboxes other)).next → IsBehind p q.position q.incarnation (cond test box (q.inboxes other)).reader
+      earlier other true some = in_behind q b begun
+      earlier other false some = b.inboxes.earlier other some
+      belongs : Belongs count p after
+      belongs = record {
+        number = b.number; rows = b.rows;
+        queue = queued_lives count p q.queue message b.queue (eqb-true (home count message.to) q.number three.1 ∙ b.number);
+        outboxes = b.outboxes;
+        inboxes = record { others = λ other. others other (source.partition == other) refl; earlier = λ other. earlier other (source.partition == other) };
+        moments = b.moments;
+      }
+      reads : (other : ℕ) → other < count → (test : Bool) → (source.partition == other) ≡ test → Reads ((parts other).outboxes p) (cond test box (q.inboxes other)).next
+      reads other low true same =
+          let stream = (parts source.partition).outboxes p in
+          let more = has_more stream.messages streamed.later stream.first number (record { entry = source; message = message }) streamed.begun streamed.stands in
+          subst (λ (n : ℕ). Reads ((parts n).outboxes p) (number + 1)) (eqb-true source.partition other same) (omega (arith, streamed.begun), more)
+      reads other low false apart = let r = shows.readers other p low below in (r.from_first, r.to_end)
+
+  pub trim_shown : (next : Partition) (reader : Identity) (number : ℕ) → AreShown count parts → p < count → number ≤ ((parts reader.partition).inboxes p).next
+      → accepted flows count (parts p) (trim reader number) ≡ Some next → AreShown count (with_part parts p next)
+  trim_shown next reader number shows below read is =
+      subst (λ (s : Partition). AreShown count (with_part parts p s)) it.1
+      (with_shown after shows belongs
+        (λ other low. reads other low (target == other) refl)
+        (λ source low. let r = shows.readers source p low below in (r.from_first, r.to_end)))
+    where
+      q : Partition
+      q = parts p
+      b : Belongs count p q
+      b = shows.each p below
+      target : ℕ
+      target = reader.partition
+      after : Partition
+      after = record q { outboxes = with_first q.outboxes target number }
+      away : Bool
+      away = target == q.number
+      low_target : Bool
+      low_target = nat_lt target count
+      enough : Bool
+      enough = nat_le number ((q.outboxes target).first + length (q.outboxes target).messages)
+      it : ((not away && (low_target && enough)) ≡ true) × (after ≡ next)
+      it = passed (not away && (low_target && enough)) after next is
+      one : (not away ≡ true) × ((low_target && enough) ≡ true)
+      one = both_true (not away) (low_target && enough) it.0
+      two : (low_target ≡ true) × (enough ≡ true)
+      two = both_true low_target enough one.1
+      other_target : IsOther count p target
+      other_target = record { apart = λ wrong. eqb_apart target q.number (not_true away one.0) (wrong ∙ sym b.number); below = ltb-true target count two.0 }
+      box_of : ℕ → Bool → Outbox
+      box_of other test = cond test (begins_at number (q.outboxes other)) (q.outboxes other)
+      others : (other : ℕ) (test : Bool) → (target == other) ≡ test → IsOther count p other ⊎ (box_of other test ≡ record { first = 0; messages = [] })
+      others other true same = inl (subst (IsOther count p) (eqb-true target other same) other_target)
+      others other false apart = b.outboxes.others other
+      left : (other : ℕ) (one_posted : Posted) (test : Bool) → Contains (box_of other test).messages one_posted → Contains (q.outboxes other).messages one_posted
+      left other posted true of_it = by (nat_le number (q.outboxes other).first) of_it
+        where
+          by : (low : Bool) → Contains (cond low (q.outboxes other) (record { first = number; messages = drop (number - (q.outboxes other).first) (q.outboxes other).messages })).messages posted → Contains (q.outboxes other).messages posted
+          by true has = has
+          by false has = dropped_in (number - (q.outboxes other).first) (q.outboxes other).messages posted has
+      left other posted false of_it = of_it
+      belongs : Belongs count p after
+      belongs = record {
+        number = b.number; rows = b.rows; queue = b.queue;
+        outboxes = record {
+          others = λ other. others other (target == other) refl;
+          senders = λ other posted of_it. b.outboxes.senders other posted (left other posted (target == other) of_it);
+          receivers = λ other posted of_it. b.outboxes.receivers other posted (left other posted (target == other) of_it);
+          earlier = λ other posted of_it. b.outboxes.earlier other posted (left other posted (target == other) of_it);
+        };
+        inboxes = b.inboxes; moments = b.moments;
+      }
+      reads : (other : ℕ) → other < count → (test : Bool) → (target == other) ≡ test → Reads (box_of other test) ((parts other).inboxes p).next
+      reads other low false apart = let r = shows.readers p other below low in (r.from_first, r.to_end)
+      reads other low true same =
+          subst (λ (t : ℕ). Reads (begins_at number (q.outboxes t)) ((parts t).inboxes p).next) (eqb-true target other same)
+          (by (nat_le number (q.outboxes target).first) refl)
+        where
+          stream : Outbox
+          stream = q.outboxes target
+          by : (begun : Bool) → nat_le number stream.first ≡ begun → Reads (cond begun stream (record { first = number; messages = drop (number - stream.first) stream.messages })) ((parts target).inboxes p).next
+          by true begun = let r = shows.readers p target below (ltb-true target count two.0) in (r.from_first, r.to_end)
+          by false begun =
+              let r = shows.readers p target below (ltb-true target count two.0) in
+              let high : stream.first < number = leb-false number stream.first begun in
+              let end : number ≤ stream.first + length stream.messages = leb-true number (stream.first + length stream.messages) two.1 in
+              (read, omega (arith, high, end, r.to_end, length-drop (number - stream.first) stream.messages))
+
+  -- ---- items
+
+  pub item_keeps : (item : Item) (next : Partition) → AreShown count parts → p < count → 0 < (parts p).position → IsOfStreams parts p item → accepted flows count (parts p) item ≡ Some next → AreShown count (with_part parts p next)
+  item_keeps (took message) next shows below begun given is =
+      let q = parts p in
+      let b = shows.each p below in
+      let number = number_in message.body in
+      let it = let_through (home count message.from == q.number && is_request message.from number message) (taken_in count q message (q.taken message.from number)) next is in
+      let here = eqb-true (home count message.from) q.number (both_true (home count message.from == q.number) (is_request message.from number message) it.0).0 in
+      comes_shown next shows below (taken_comes flows count p q next message (q.taken message.from number) below (here ∙ b.number) b begun it.1)
+  item_keeps (ran from to stamp) next shows below begun given is =
+      comes_shown next shows below (delivered_comes flows count p (parts p) next from to stamp (first_in (parts p).queue from to) refl below (shows.each p below) begun is)
+  item_keeps (ended id task outcome) next shows below begun given is =
+      comes_shown next shows below (ended_comes flows count p (parts p) next id task outcome ((parts p).instances id) ((parts p).activities id task) below (shows.each p below) begun refl is)
+  item_keeps (fired id task stamp) next shows below begun given is =
+      comes_shown next shows below (fired_comes flows count p (parts p) next id task stamp ((parts p).instances id) ((parts p).timers id task) below (shows.each p below) begun refl is)
+  item_keeps (got source number message) next shows below begun given is = got_shown next source number message shows below begun given is
+  item_keeps (trim reader number) next shows below begun given is = trim_shown next reader number shows below given is

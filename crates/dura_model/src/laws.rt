@@ -24,7 +24,7 @@ pub fn items_are_labels()
 {}
 
 /// An item that is no label shows nothing.
-#[tactic(auto, using(crate::proofs::Shown::item_silent, crate::proofs::Kept::delivered_comes))]
+#[tactic(auto, using(crate::proofs::Shown::item_silent, crate::proofs::Kept::item_keeps))]
 pub fn streams_show_nothing()
     ensures { (flows : Flows) (count : ℕ) (parts : ℕ → Partition) (p : ℕ) (item : Item) → AreShown count parts → p < count → label_in item ≡ None → IsOfStreams parts p item → ShowsNothing flows count parts p item }
 {}
