@@ -46,11 +46,12 @@ live_cleared count place f id live other n y is = by (id_eq id other) is
 -- ---- one state after another
 
 module _ (count p : ℕ) where
-  -- A state comes from another one whose streams were no longer: it belongs to the place, an entry has begun, and as much was
-  -- taken in.
+  -- A state comes from another one in the same entry, whose streams were no longer and took in as much. It belongs to the place.
   pub record Follows (q next : Partition) : Type 0 where
     pub belongs : Belongs count p next
     pub begun : 0 < next.position
+    pub position : next.position ≡ q.position
+    pub incarnation : next.incarnation ≡ q.incarnation
     pub first : (target : ℕ) → (next.outboxes target).first ≡ (q.outboxes target).first
     pub longer : (target : ℕ) → length (q.outboxes target).messages ≤ length (next.outboxes target).messages
     pub read : (source : ℕ) → (next.inboxes source).next ≡ (q.inboxes source).next
@@ -59,16 +60,20 @@ module _ (count p : ℕ) where
   follows_then a b c one two = record {
     belongs = two.belongs;
     begun = two.begun;
+    position = two.position ∙ one.position;
+    incarnation = two.incarnation ∙ one.incarnation;
     first = λ target. two.first target ∙ one.first target;
     longer = λ target. omega (arith, one.longer target, two.longer target);
     read = λ source. two.read source ∙ one.read source;
   }
 
   -- the streams are as they were
-  same_streams : (q next : Partition) → Belongs count p next → 0 < next.position → next.outboxes ≡ q.outboxes → next.inboxes ≡ q.inboxes → Follows q next
-  same_streams q next belongs begun out in_there = record {
+  same_streams : (q next : Partition) → Belongs count p next → 0 < next.position → next.position ≡ q.position → next.incarnation ≡ q.incarnation → next.outboxes ≡ q.outboxes → next.inboxes ≡ q.inboxes → Follows q next
+  same_streams q next belongs begun position incarnation out in_there = record {
     belongs = belongs;
     begun = begun;
+    position = position;
+    incarnation = incarnation;
     first = λ target. ap (λ (f : ℕ → Outbox). (f target).first) out;
     longer = λ target. let is = ap (λ (f : ℕ → Outbox). length (f target).messages) out in omega (arith, is);
     read = λ source. ap (λ (f : ℕ → Inbox). (f source).next) in_there;
@@ -83,7 +88,7 @@ module _ (count p : ℕ) where
         answered = b.rows.answered; kept = b.rows.kept; reached = b.rows.reached; pending = b.rows.pending; due = b.rows.due;
       };
       queue = b.queue; outboxes = b.outboxes; inboxes = b.inboxes; moments = b.moments;
-    }) begun refl refl
+    }) begun refl refl refl refl
 
   pub answers_follows : (q : Partition) (id : Id) (number : ℕ) (answer : Option Answer) → home count id ≡ p → Belongs count p q → 0 < q.position → Follows q (record q { answers = at_number q.answers id number answer })
   answers_follows q id number answer here b begun = same_streams q (record q { answers = at_number q.answers id number answer })
@@ -95,7 +100,7 @@ module _ (count p : ℕ) where
         kept = b.rows.kept; reached = b.rows.reached; pending = b.rows.pending; due = b.rows.due;
       };
       queue = b.queue; outboxes = b.outboxes; inboxes = b.inboxes; moments = b.moments;
-    }) begun refl refl
+    }) begun refl refl refl refl
 
   pub activities_follows : (q : Partition) (id : Id) (task : ℕ) (activity : Option Activity) → home count id ≡ p → Belongs count p q → 0 < q.position → Follows q (record q { activities = at_number q.activities id task activity })
   activities_follows q id task activity here b begun = same_streams q (record q { activities = at_number q.activities id task activity })
@@ -107,7 +112,7 @@ module _ (count p : ℕ) where
         due = b.rows.due;
       };
       queue = b.queue; outboxes = b.outboxes; inboxes = b.inboxes; moments = b.moments;
-    }) begun refl refl
+    }) begun refl refl refl refl
 
   pub timers_follows : (q : Partition) (id : Id) (task : ℕ) (due : Option ℕ) → home count id ≡ p → Belongs count p q → 0 < q.position → Follows q (record q { timers = at_number q.timers id task due })
   timers_follows q id task due here b begun = same_streams q (record q { timers = at_number q.timers id task due })
@@ -118,10 +123,10 @@ module _ (count p : ℕ) where
         due = live_number count p q.timers id task due here b.rows.due;
       };
       queue = b.queue; outboxes = b.outboxes; inboxes = b.inboxes; moments = b.moments;
-    }) begun refl refl
+    }) begun refl refl refl refl
 
   pub given_up_follows : (q : Partition) (id : Id) (over : Bool) → Belongs count p q → 0 < q.position → Follows q (given_up_in q id over)
-  given_up_follows q id false b begun = same_streams q q b begun refl refl
+  given_up_follows q id false b begun = same_streams q q b begun refl refl refl refl
   given_up_follows q id true b begun = same_streams q (given_up_in q id true)
     (record {
       number = b.number;
@@ -131,10 +136,10 @@ module _ (count p : ℕ) where
         due = live_cleared count p q.timers id b.rows.due;
       };
       queue = b.queue; outboxes = b.outboxes; inboxes = b.inboxes; moments = b.moments;
-    }) begun refl refl
+    }) begun refl refl refl refl
 
   pub asked_follows : (q : Partition) (id : Id) (list : List Asked) → home count id ≡ p → Belongs count p q → 0 < q.position → Follows q (asked_in q id list)
-  asked_follows q id [] here b begun = same_streams q q b begun refl refl
+  asked_follows q id [] here b begun = same_streams q q b begun refl refl refl refl
   asked_follows q id (an_activity task name argument ∷ more) here b begun =
       let after : Partition = record q { activities = at_number q.activities id task (Some (record { name = name; argument = argument })) } in
       let one = activities_follows q id task (Some (record { name = name; argument = argument })) here b begun in
@@ -163,7 +168,7 @@ module _ (count p : ℕ) where
               events = λ id row found past of_it. let low = b.moments.events id row found past of_it in omega (arith, low, is);
               lasts = λ id e found. let low = b.moments.lasts id e found in omega (arith, low, is);
             };
-          }) begun refl refl,
+          }) begun refl refl refl refl,
         above.1,
       )
 
@@ -199,7 +204,7 @@ module _ (count p : ℕ) where
         events = λ other row found. (by other row (id_eq id other) o found).1;
         lasts = b.moments.lasts;
       };
-    }) begun refl refl
+    }) begun refl refl refl refl
     where
       by : (other : Id) (row : Row) (test : Bool) (now : Option Orchestration) → cond test (option_map (row_after (q.instances id) stamp event) now) (q.instances other) ≡ Some row
           → (row.stamp ≤ q.stamp) × ((past : Past) → Contains row.history past → past.stamp ≤ q.stamp)
@@ -220,7 +225,7 @@ module _ (count p : ℕ) where
       };
       queue = b.queue; outboxes = b.outboxes; inboxes = b.inboxes;
       moments = record { rows = b.moments.rows; events = b.moments.events; lasts = λ other one found. by other one (id_eq id other) found };
-    }) begun refl refl
+    }) begun refl refl refl refl
     where
       by : (other : Id) (one : Entity) (test : Bool) → cond test (Some e) (q.entities other) ≡ Some one → one.last ≤ q.stamp
       by other one true found = subst (λ (x : Entity). x.last ≤ q.stamp) (some_same found) low
@@ -231,7 +236,7 @@ module _ (count p : ℕ) where
   -- the queue is another one, of messages to receivers here
   pub queue_follows : (q : Partition) (queue : List Message) → Belongs count p q → 0 < q.position → ((message : Message) → Contains queue message → home count message.to ≡ p) → Follows q (record q { queue = queue })
   queue_follows q queue b begun lives = same_streams q (record q { queue = queue })
-    (record { number = b.number; rows = b.rows; queue = lives; outboxes = b.outboxes; inboxes = b.inboxes; moments = b.moments }) begun refl refl
+    (record { number = b.number; rows = b.rows; queue = lives; outboxes = b.outboxes; inboxes = b.inboxes; moments = b.moments }) begun refl refl refl refl
 
   -- one more message in a queue
   pub queued_lives : (queue : List Message) (message : Message) → ((one : Message) → Contains queue one → home count one.to ≡ p) → home count message.to ≡ p → (one : Message) → Contains (queue ++ message ∷ []) one → home count one.to ≡ p
@@ -260,6 +265,8 @@ module _ (count p : ℕ) where
       inboxes = b.inboxes; moments = b.moments;
     };
     begun = begun;
+    position = refl;
+    incarnation = refl;
     first = λ other. first other (target == other);
     longer = λ other. longer other (target == other);
     read = λ source. refl;
@@ -304,7 +311,7 @@ module _ (count p : ℕ) where
       by false is = posted_follows q message here below (λ wrong. eqb_apart (home count message.to) q.number is (wrong ∙ sym b.number)) b begun
 
   pub post_all_follows : (q : Partition) (id : Id) (messages : List Message) → ((to : Id) → home count to < count) → home count id ≡ p → AllFrom id messages → Belongs count p q → 0 < q.position → Follows q (post_all count q messages)
-  post_all_follows q id [] below here all b begun = same_streams q q b begun refl refl
+  post_all_follows q id [] below here all b begun = same_streams q q b begun refl refl refl refl
   post_all_follows q id (message ∷ messages) below here all b begun =
       let one = post_follows q message (ap (home count) all.0 ∙ here) (below message.to) b begun in
       follows_then q (post count q message) (post_all count (post count q message) messages) one (post_all_follows (post count q message) id messages below here all.1 one.belongs one.begun)

@@ -1,6 +1,6 @@
 -- Accepted items keep what the states of all partitions need so that they show a world.
 use Rattle.std.proofs.Common.{◌≡◌, ◌≤◌, ◌<◌, ◌+◌, ◌-◌, ◌==◌, ◌&&◌, ◌⊎◌, inl, inr, ℕ, zero, suc, length, drop, Bool, true, false, cond, List, [], ◌∷◌, ◌++◌, Option, Some, None, refl, sym, ap, subst, ◌∙◌, arith, eq-eqb}
-use Rattle.std.specs.Prelude.{option_map, nat_le, nat_lt, not}
+use Rattle.std.specs.Prelude.{option_map, nat_le, nat_lt, not, is_some}
 use Rattle.std.specs.List.{Contains}
 use Rattle.std.proofs.lemmas.Bool.{eqb-true, leb-true, leb-false, ltb-true}
 use Rattle.std.proofs.lemmas.List.{length-drop}
@@ -12,16 +12,16 @@ use Rattle.flow_syntax.specs.Syntax.{Flows, Block, class_of}
 use Rattle.flow_syntax.specs.Machine.{resulted}
 use Rattle.flow_syntax.specs.Machine.{fired as timer_fired}
 use Rattle.flow_syntax.specs.Entity.{Entity, operated, operation_of, takes, deliver as deliver_to}
-use Rattle.dura_model.specs.World.{Activity, at_id, at_number}
+use Rattle.dura_model.specs.World.{empty, Activity, at_id, at_number}
 use Rattle.dura_model.specs.Deliveries.{goes_on_from, to_instance}
 use Rattle.dura_model.specs.Steps.{is_request, number_in, entity_of, answer_of}
-use Rattle.dura_model.specs.Partition.{Row, Posted, Outbox, Inbox, Partition, entry_of, instance_in, instance_at, event_of, raised_to, first_in, without_first, last_in, answered_in, client_received, entity_received, entity_after, received_in, delivered_in, taken_in, ended_in, fired_in, with_inbox, begins_at, with_first, post, post_all, stands_in, accepted, with_part}
-use Rattle.dura_model.specs.Placed.{IsBehind, IsOther, IsReader, IsStreamed, OutboxesStand, InboxesStand, Belongs, AreShown, IsOfStreams}
+use Rattle.dura_model.specs.Partition.{label_in, enter, fresh, shown, Row, Posted, Outbox, Inbox, Partition, entry_of, instance_in, instance_at, event_of, raised_to, first_in, without_first, last_in, answered_in, client_received, entity_received, entity_after, received_in, delivered_in, taken_in, ended_in, fired_in, with_inbox, begins_at, with_first, post, post_all, stands_in, accepted, with_part}
+use Rattle.dura_model.specs.Placed.{IsBehind, IsOther, IsReader, IsStreamed, OutboxesStand, InboxesStand, Belongs, AreShown, IsOfStreams, IsSameEntry}
 use Rattle.dura_value.proofs.Ids.{both_true}
 use Rattle.dura_model.proofs.Rows.{Suits, instance_suits, row_goes_on}
 use Rattle.dura_model.proofs.Items.{entity_from}
 use Rattle.dura_model.proofs.Streams.{passed, not_true}
-use Rattle.dura_model.proofs.Shown.{home_below, dropped_in}
+use Rattle.dura_model.proofs.Shown.{home_below, dropped_in, silent}
 use Rattle.dura_model.proofs.Keeping.{Follows, follows_then, taken_follows, answers_follows, activities_follows, timers_follows, raised_follows, entity_follows, queue_follows, queued_lives, post_follows, post_all_follows, stands_follows, without_contained, first_lives}
 
 some_same : {X : Type 0} {x y : X} → Some x ≡ Some y → x ≡ y
@@ -52,7 +52,7 @@ module _ (flows : Flows) (count p : ℕ) where
   Comes = Follows count p
 
   same : (q : Partition) → Belongs count p q → 0 < q.position → Comes q q
-  same q b begun = record { belongs = b; begun = begun; first = λ target. refl; longer = λ target. omega arith; read = λ source. refl }
+  same q b begun = record { belongs = b; begun = begun; position = refl; incarnation = refl; first = λ target. refl; longer = λ target. omega arith; read = λ source. refl }
 
   then_is : (q middle next : Partition) → Comes q middle → middle ≡ next → Comes q next
   then_is q middle next comes is = subst (Comes q) is comes
@@ -334,19 +334,102 @@ module _ (flows : Flows) (count : ℕ) (parts : ℕ → Partition) (p : ℕ) whe
 
   -- ---- items
 
-  pub item_keeps : (item : Item) (next : Partition) → AreShown count parts → p < count → 0 < (parts p).position → IsOfStreams parts p item → accepted flows count (parts p) item ≡ Some next → AreShown count (with_part parts p next)
-  item_keeps (took message) next shows below begun given is =
+  -- what a label makes of a state comes from it
+  label_follows : (item : Item) (next : Partition) → is_some (label_in item) ≡ true → AreShown count parts → p < count → 0 < (parts p).position → accepted flows count (parts p) item ≡ Some next → Follows count p (parts p) next
+  label_follows (took message) next some shows below begun is =
       let q = parts p in
       let b = shows.each p below in
       let number = number_in message.body in
       let it = let_through (home count message.from == q.number && is_request message.from number message) (taken_in count q message (q.taken message.from number)) next is in
       let here = eqb-true (home count message.from) q.number (both_true (home count message.from == q.number) (is_request message.from number message) it.0).0 in
-      comes_shown next shows below (taken_comes flows count p q next message (q.taken message.from number) below (here ∙ b.number) b begun it.1)
-  item_keeps (ran from to stamp) next shows below begun given is =
-      comes_shown next shows below (delivered_comes flows count p (parts p) next from to stamp (first_in (parts p).queue from to) refl below (shows.each p below) begun is)
-  item_keeps (ended id task outcome) next shows below begun given is =
-      comes_shown next shows below (ended_comes flows count p (parts p) next id task outcome ((parts p).instances id) ((parts p).activities id task) below (shows.each p below) begun refl is)
-  item_keeps (fired id task stamp) next shows below begun given is =
-      comes_shown next shows below (fired_comes flows count p (parts p) next id task stamp ((parts p).instances id) ((parts p).timers id task) below (shows.each p below) begun refl is)
+      taken_comes flows count p q next message (q.taken message.from number) below (here ∙ b.number) b begun it.1
+  label_follows (ran from to stamp) next some shows below begun is =
+      delivered_comes flows count p (parts p) next from to stamp (first_in (parts p).queue from to) refl below (shows.each p below) begun is
+  label_follows (ended id task outcome) next some shows below begun is =
+      ended_comes flows count p (parts p) next id task outcome ((parts p).instances id) ((parts p).activities id task) below (shows.each p below) begun refl is
+  label_follows (fired id task stamp) next some shows below begun is =
+      fired_comes flows count p (parts p) next id task stamp ((parts p).instances id) ((parts p).timers id task) below (shows.each p below) begun refl is
+  label_follows (got source number message) next some shows below begun is = absurd (cc some)
+  label_follows (trim reader number) next some shows below begun is = absurd (cc some)
+
+  label_keeps : (item : Item) (next : Partition) → is_some (label_in item) ≡ true → AreShown count parts → p < count → 0 < (parts p).position → accepted flows count (parts p) item ≡ Some next → AreShown count (with_part parts p next)
+  label_keeps item next some shows below begun is = comes_shown next shows below (label_follows item next some shows below begun is)
+
+  pub item_keeps : (item : Item) (next : Partition) → AreShown count parts → p < count → 0 < (parts p).position → IsOfStreams parts p item → accepted flows count (parts p) item ≡ Some next → AreShown count (with_part parts p next)
+  item_keeps (took message) next shows below begun given is = label_keeps (took message) next refl shows below begun is
+  item_keeps (ran from to stamp) next shows below begun given is = label_keeps (ran from to stamp) next refl shows below begun is
+  item_keeps (ended id task outcome) next shows below begun given is = label_keeps (ended id task outcome) next refl shows below begun is
+  item_keeps (fired id task stamp) next shows below begun given is = label_keeps (fired id task stamp) next refl shows below begun is
   item_keeps (got source number message) next shows below begun given is = got_shown next source number message shows below begun given is
   item_keeps (trim reader number) next shows below begun given is = trim_shown next reader number shows below given is
+
+  label_stands : (item : Item) (next : Partition) → is_some (label_in item) ≡ true → AreShown count parts → p < count → 0 < (parts p).position → accepted flows count (parts p) item ≡ Some next → IsSameEntry (parts p) next
+  label_stands item next some shows below begun is = let comes = label_follows item next some shows below begun is in record { number = comes.belongs.number ∙ sym (shows.each p below).number; position = comes.position; incarnation = comes.incarnation }
+
+  pub item_stands : (item : Item) (next : Partition) → AreShown count parts → p < count → 0 < (parts p).position → accepted flows count (parts p) item ≡ Some next → IsSameEntry (parts p) next
+  item_stands (took message) next shows below begun is = label_stands (took message) next refl shows below begun is
+  item_stands (ran from to stamp) next shows below begun is = label_stands (ran from to stamp) next refl shows below begun is
+  item_stands (ended id task outcome) next shows below begun is = label_stands (ended id task outcome) next refl shows below begun is
+  item_stands (fired id task stamp) next shows below begun is = label_stands (fired id task stamp) next refl shows below begun is
+  item_stands (got source number message) next shows below begun is =
+      let q = parts p in
+      let after : Partition = record q { queue = q.queue ++ message ∷ []; inboxes = with_inbox q.inboxes source.partition (record { next = number + 1; reader = entry_of q }) } in
+      subst (IsSameEntry q) (passed (not (source.partition == q.number) && (nat_lt source.partition count && (number == (q.inboxes source.partition).next && home count message.to == q.number))) after next is).1 (record { number = refl; position = refl; incarnation = refl })
+  item_stands (trim reader number) next shows below begun is =
+      let q = parts p in
+      let after : Partition = record q { outboxes = with_first q.outboxes reader.partition number } in
+      subst (IsSameEntry q) (passed (not (reader.partition == q.number) && (nat_lt reader.partition count && nat_le number ((q.outboxes reader.partition).first + length (q.outboxes reader.partition).messages))) after next is).1 (record { number = refl; position = refl; incarnation = refl })
+
+  -- ---- entries
+
+  entered_behind : (was now life new : ℕ) (entry : Identity) → was ≤ now → life ≤ new → IsBehind p was life entry → IsBehind p now new entry
+  entered_behind was now life new entry later younger is = record { here = is.here; before = omega (arith, later, is.before); alive = omega (arith, younger, is.alive) }
+
+  pub enter_keeps : (incarnation : ℕ) → AreShown count parts → p < count → (parts p).incarnation ≤ incarnation → AreShown count (with_part parts p (enter incarnation (parts p)))
+  enter_keeps incarnation shows below young =
+      let q = parts p in
+      let b = shows.each p below in
+      with_shown (enter incarnation q) shows
+      (record {
+        number = b.number; rows = b.rows; queue = b.queue;
+        outboxes = record {
+          others = b.outboxes.others; senders = b.outboxes.senders; receivers = b.outboxes.receivers;
+          earlier = λ target posted of_it. entered_behind q.position (q.position + 1) q.incarnation incarnation posted.entry (omega arith) young (b.outboxes.earlier target posted of_it);
+        };
+        inboxes = record {
+          others = b.inboxes.others;
+          earlier = λ source some. entered_behind q.position (q.position + 1) q.incarnation incarnation (q.inboxes source).reader (omega arith) young (b.inboxes.earlier source some);
+        };
+        moments = b.moments;
+      })
+      (λ target low. let r = shows.readers p target below low in (r.from_first, r.to_end))
+      (λ source low. let r = shows.readers source p low below in (r.from_first, r.to_end))
+
+  pub enter_silent : (incarnation : ℕ) → shown flows count (with_part parts p (enter incarnation (parts p))) ≡ shown flows count parts
+  enter_silent incarnation = silent flows count parts p (enter incarnation (parts p)) refl
+
+-- ---- the beginning
+
+fresh_belongs : (count place : ℕ) → Belongs count place (fresh place)
+fresh_belongs count place = record {
+  number = refl;
+  rows = record { requests = λ id n x is. absurd (cc is); answered = λ id n x is. absurd (cc is); kept = λ id x is. absurd (cc is); reached = λ id x is. absurd (cc is); pending = λ id n x is. absurd (cc is); due = λ id n x is. absurd (cc is) };
+  queue = λ message of_it. nothing_in message of_it;
+  outboxes = record {
+    others = λ target. inr refl;
+    senders = λ target posted of_it. nothing_in posted of_it;
+    receivers = λ target posted of_it. nothing_in posted of_it;
+    earlier = λ target posted of_it. nothing_in posted of_it;
+  };
+  inboxes = record { others = λ source. inr refl; earlier = λ source some. absurd (omega (arith, some)) };
+  moments = record { rows = λ id row is. absurd (cc is); events = λ id row is. absurd (cc is); lasts = λ id e is. absurd (cc is) };
+}
+  where
+    nothing_in : {X Y : Type 0} (x : X) → Contains [] x → Y
+    nothing_in x of_it = absurd (let none : of_it.0 < 0 = of_it.1 in omega (arith, none))
+
+pub fresh_shown : (count : ℕ) → AreShown count fresh
+fresh_shown count = record { each = λ place below. fresh_belongs count place; readers = λ source target low below. record { from_first = omega arith; to_end = omega arith } }
+
+pub fresh_empty : (flows : Flows) (count : ℕ) → shown flows count fresh ≡ empty
+fresh_empty flows count = refl
