@@ -16,7 +16,7 @@ use Rattle.dura_model.specs.World.{empty, Activity, at_id, at_number}
 use Rattle.dura_model.specs.Deliveries.{goes_on_from, to_instance}
 use Rattle.dura_model.specs.Steps.{is_request, number_in, entity_of, answer_of}
 use Rattle.dura_model.specs.Partition.{label_in, enter, fresh, shown, Row, Posted, Outbox, Inbox, Partition, entry_of, instance_in, instance_at, event_of, raised_to, first_in, without_first, last_in, answered_in, client_received, entity_received, entity_after, received_in, delivered_in, taken_in, ended_in, fired_in, with_inbox, begins_at, with_first, post, post_all, stands_in, accepted, with_part}
-use Rattle.dura_model.specs.Placed.{IsBehind, IsOther, IsReader, IsStreamed, OutboxesStand, InboxesStand, Belongs, AreShown, IsOfStreams, IsSameEntry}
+use Rattle.dura_model.specs.Placed.{IsBehind, IsOther, IsReader, IsStreamed, OutboxesStand, InboxesStand, Belongs, AreShown, happens_at, IsOfStreams, IsSameEntry}
 use Rattle.dura_value.proofs.Ids.{both_true}
 use Rattle.dura_model.proofs.Rows.{Suits, instance_suits, row_goes_on}
 use Rattle.dura_model.proofs.Items.{entity_from}
@@ -379,6 +379,40 @@ module _ (flows : Flows) (count : ℕ) (parts : ℕ → Partition) (p : ℕ) whe
       let q = parts p in
       let after : Partition = record q { outboxes = with_first q.outboxes reader.partition number } in
       subst (IsSameEntry q) (passed (not (reader.partition == q.number) && (nat_lt reader.partition count && nat_le number ((q.outboxes reader.partition).first + length (q.outboxes reader.partition).messages))) after next is).1 (record { number = refl; position = refl; incarnation = refl })
+
+  -- ---- where items happen
+
+  here_is : (id other : Id) → Some other ≡ Some id → home count other ≡ p → home count id ≡ p
+  here_is id other is here = ap (home count) (sym (some_same is)) ∙ here
+
+  there_is : {X : Type 0} (row : Option Row) (other : Option X) (f : Option Row → Option X → Option Partition) (next : Partition) → ((x : Option X) → f None x ≡ None) → f row other ≡ Some next → (one : Row) × (row ≡ Some one)
+  there_is None other f next none is = let wrong : None ≡ Some next = sym (none other) ∙ is in absurd (cc wrong)
+  there_is (Some one) other f next none is = (one, refl)
+
+  came_in : (found : Option Body) (f : Option Body → Option Partition) (next : Partition) → f None ≡ None → f found ≡ Some next → (body : Body) × (found ≡ Some body)
+  came_in None f next none is = let wrong : None ≡ Some next = sym none ∙ is in absurd (cc wrong)
+  came_in (Some body) f next none is = (body, refl)
+
+  pub item_lives : (item : Item) (next : Partition) (id : Id) → AreShown count parts → p < count → happens_at item ≡ Some id → accepted flows count (parts p) item ≡ Some next → home count id ≡ p
+  item_lives (took message) next id shows below at is =
+      let q = parts p in
+      let number = number_in message.body in
+      let it = let_through (home count message.from == q.number && is_request message.from number message) (taken_in count q message (q.taken message.from number)) next is in
+      here_is id message.from at (eqb-true (home count message.from) q.number (both_true (home count message.from == q.number) (is_request message.from number message) it.0).0 ∙ (shows.each p below).number)
+  item_lives (ran from to stamp) next id shows below at is =
+      let q = parts p in
+      let found = came_in (first_in q.queue from to) (delivered_in flows count q from to stamp) next refl is in
+      here_is id to at (first_lives count p q.queue from to found.0 (shows.each p below).queue found.1)
+  item_lives (ended other task outcome) next id shows below at is =
+      let q = parts p in
+      let row = there_is (q.instances other) (q.activities other task) (λ found pending. ended_in flows count q other task outcome (option_map (instance_in flows other) found) pending) next (λ x. refl) is in
+      here_is id other at ((shows.each p below).rows.kept other row.0 row.1)
+  item_lives (fired other task stamp) next id shows below at is =
+      let q = parts p in
+      let row = there_is (q.instances other) (q.timers other task) (λ found timer. fired_in flows count q other task stamp (option_map (instance_in flows other) found) timer) next (λ x. refl) is in
+      here_is id other at ((shows.each p below).rows.kept other row.0 row.1)
+  item_lives (got source number message) next id shows below at is = absurd (cc at)
+  item_lives (trim reader number) next id shows below at is = absurd (cc at)
 
   -- ---- entries
 

@@ -16,12 +16,14 @@ pub fn ends_once()
     ensures { (flows : Flows) (run : List Label) (w : World) → Legal flows run w → (id : Id) (task : ℕ) → finishes id task run ≤ 1 }
 {}
 
-/// An item of one of the partitions does to the world that they show what its label does. A link is delivered only where a
-/// message of it came in.
-#[tactic(auto, using(crate::proofs::Shown::item_labelled, crate::proofs::Shown::link_waits))]
+/// An item of one of the partitions does to the world that they show what its label does. It is accepted only in the home of
+/// whom it happens to, and a link is delivered only where a message of it came in.
+#[tactic(auto, using(crate::proofs::Shown::item_labelled, crate::proofs::Shown::link_waits, crate::proofs::Kept::item_lives))]
 pub fn items_are_labels()
     ensures labels { (flows : Flows) (count : ℕ) (parts : ℕ → Partition) (p : ℕ) (item : Item) (label : Label) (id : Id)
         → AreShown count parts → p < count → label_in item ≡ Some label → happens_at item ≡ Some id → home count id ≡ p → IsGiven (parts p) item → IsLabelled flows count parts p item label }
+    ensures lives { (flows : Flows) (count : ℕ) (parts : ℕ → Partition) (p : ℕ) (item : Item) (next : Partition) (id : Id)
+        → AreShown count parts → p < count → happens_at item ≡ Some id → accepted flows count (parts p) item ≡ Some next → home count id ≡ p }
     ensures waits { (flows : Flows) (count : ℕ) (p : Partition) (from to : Id) (stamp : ℕ) → first_in p.queue from to ≡ None → accepted flows count p (ran from to stamp) ≡ None }
 {}
 
