@@ -1,12 +1,11 @@
 -- Items are labels.
-use Rattle.std.proofs.Common.{◌≡◌, ◌≤◌, ◌<◌, ◌+◌, ◌-◌, ◌==◌, ◌&&◌, ◌⊎◌, inl, inr, ℕ, zero, suc, length, map, drop, Bool, true, false, cond, List, [], ◌∷◌, ◌++◌, Option, Some, None, refl, sym, ap, subst, ◌∙◌, arith, eq-eqb}
-use Rattle.std.specs.Prelude.{option_map, nat_le, nat_lt, not}
-use Rattle.std.proofs.lemmas.Bool.{eqb-true}
+use Rattle.std.proofs.Common.{◌≡◌, ◌==◌, ◌&&◌, ℕ, suc, Bool, true, false, cond, List, [], ◌∷◌, ◌++◌, Option, Some, None, refl, sym, ap, subst, ◌∙◌, eq-eqb}
+use Rattle.std.specs.Prelude.{option_map, nat_le}
 use Rattle.activity_table.specs.Table.{may}
 use Rattle.dura_value.specs.declared.data.Value.{Value}
 use Rattle.dura_value.specs.declared.outcome.Outcome.{Outcome}
 use Rattle.dura_value.specs.Ids.{Id, orchestration, entity, client, home, id_eq}
-use Rattle.dura_value.specs.Items.{Identity, Item, took, got, ran, ended, fired, trim}
+use Rattle.dura_value.specs.Items.{took, ran, ended, fired}
 use Rattle.dura_value.specs.Messages.{Reply, to_nobody, to_task, to_request, Answer, Spot, entity_at, Body, start, raise, query, wait, result, operate, lock, granted, release, Message}
 use Rattle.flow_syntax.specs.Syntax.{Flows, Block, class_of}
 use Rattle.flow_syntax.specs.Machine.{resulted}
@@ -14,10 +13,10 @@ use Rattle.flow_syntax.specs.Machine.{fired as timer_fired}
 use Rattle.flow_syntax.specs.Entity.{Entity, answering, operated, operation_of, value_answer, lock_goes_on, takes, deliver as deliver_to}
 use Rattle.dura_model.specs.World.{World, Orchestration, Activity, at_id, at_link, at_number}
 use Rattle.dura_model.specs.Deliveries.{goes_on_from, to_instance}
-use Rattle.dura_model.specs.Steps.{Label, take, deliver, finish, fire, is_request, number_in, taken, last_of, entity_of, to_entity, answered, to_client, received, delivered, answer_of, finished, timed, stands_as, sent, step}
-use Rattle.dura_model.specs.Partition.{Row, Posted, Partition, instance_in, instance_at, event_of, raised_to, first_in, without_first, last_in, answered_in, client_received, entity_received, received_in, delivered_in, taken_in, ended_in, fired_in, post, post_all, stands_in, accepted, link_in}
-use Rattle.dura_model.specs.Placed.{AreShown}
+use Rattle.dura_model.specs.Steps.{take, deliver, finish, fire, is_request, number_in, taken, last_of, entity_of, to_entity, answered, to_client, received, delivered, answer_of, finished, timed, stands_as, sent, step}
+use Rattle.dura_model.specs.Partition.{Row, Partition, instance_in, instance_at, event_of, raised_to, first_in, without_first, last_in, answered_in, client_received, entity_received, received_in, delivered_in, taken_in, ended_in, fired_in, post_all, stands_in, accepted, link_in}
 use Rattle.dura_value.proofs.Ids.{id_same, id_self, both_true}
+use Rattle.dura_model.proofs.Basics.{some_same}
 use Rattle.dura_model.proofs.Sending.{AllFrom}
 use Rattle.dura_model.proofs.Rows.{Suits, instance_suits, row_goes_on}
 use Rattle.dura_model.proofs.Merged.{merged, IsReady, post_merged, post_all_merged, stands_merged, taken_merged, timer_merged, activity_merged, entity_merged, answer_merged, link_both, behind, queue_at}
@@ -57,9 +56,6 @@ record IsFirst (queue : List Message) (from to : Id) (body : Body) : Type 0 wher
   first : link_in queue from to ≡ message ∷ link_in (without_first queue from to) from to
   others : (x y : Id) → id_eq from x && id_eq to y ≡ false → link_in (without_first queue from to) x y ≡ link_in queue x y
 
-some_same : {X : Type 0} {x y : X} → Some x ≡ Some y → x ≡ y
-some_same is = cc
-
 -- the first one
 first_here : (message : Message) (queue : List Message) (from to : Id) (body : Body) → id_eq from message.from && id_eq to message.to ≡ true → message.body ≡ body → IsFirst (message ∷ queue) from to body
 first_here message queue from to body same is = record {
@@ -71,6 +67,7 @@ first_here message queue from to body same is = record {
   where
     parts_are : (id_eq from message.from ≡ true) × (id_eq to message.to ≡ true)
     parts_are = both_true (id_eq from message.from) (id_eq to message.to) same
+
     away : (x y : Id) → id_eq from x && id_eq to y ≡ false → id_eq x message.from && id_eq y message.to ≡ false
     away x y apart = by (id_eq x message.from && id_eq y message.to) refl
       where
@@ -90,13 +87,13 @@ first_later message queue from to body apart f = record {
   message = f.message;
   is = f.is;
   first =
-    ap (λ (b : Bool). cond b (message ∷ link_in queue from to) (link_in queue from to)) apart
-    ∙ f.first
-    ∙ ap (λ (b : Bool). f.message ∷ cond b (message ∷ link_in (without_first queue from to) from to) (link_in (without_first queue from to) from to)) (sym apart)
-    ∙ ap (λ (b : Bool). f.message ∷ link_in (cond b queue (message ∷ without_first queue from to)) from to) (sym apart);
+      ap (λ (b : Bool). cond b (message ∷ link_in queue from to) (link_in queue from to)) apart
+      ∙ f.first
+      ∙ ap (λ (b : Bool). f.message ∷ cond b (message ∷ link_in (without_first queue from to) from to) (link_in (without_first queue from to) from to)) (sym apart)
+      ∙ ap (λ (b : Bool). f.message ∷ link_in (cond b queue (message ∷ without_first queue from to)) from to) (sym apart);
   others = λ x y away.
-    ap (λ (b : Bool). link_in (cond b queue (message ∷ without_first queue from to)) x y) apart
-    ∙ ap (λ (l : List Message). cond (id_eq x message.from && id_eq y message.to) (message ∷ l) l) (f.others x y away);
+      ap (λ (b : Bool). link_in (cond b queue (message ∷ without_first queue from to)) x y) apart
+      ∙ ap (λ (l : List Message). cond (id_eq x message.from && id_eq y message.to) (message ∷ l) l) (f.others x y away);
 }
 
 is_first : (queue : List Message) (from to : Id) (body : Body) → first_in queue from to ≡ Some body → IsFirst queue from to body
@@ -131,7 +128,7 @@ module _ (flows : Flows) (count : ℕ) (parts : ℕ → Partition) (p : ℕ) whe
   taken_as q message None ready here =
       let noted : Partition = record q { taken = at_number q.taken message.from (number_in message.body) (Some message) } in
       ap Some (post_merged flows count parts p noted message (record { number = ready.number; alone = ready.alone; readers = ready.readers }) here
-        ∙ ap (λ (w : World). sent w (message ∷ [])) (taken_merged flows count parts p q message.from (number_in message.body) (Some message) here))
+      ∙ ap (λ (w : World). sent w (message ∷ [])) (taken_merged flows count parts p q message.from (number_in message.body) (Some message) here))
   taken_as q message (Some other) ready here = refl
 
   pub took_as : (q : Partition) (message : Message) → Ready q → home count message.from ≡ p
@@ -148,9 +145,9 @@ module _ (flows : Flows) (count : ℕ) (parts : ℕ → Partition) (p : ℕ) whe
   instance_here : (q : Partition) (id : Id) → home count id ≡ p → instance_at flows q id ≡ (world q).orchestrations id
   instance_here q id here = ap (λ (b : Bool). cond b (instance_at flows q id) (instance_at flows (parts (home count id)) id)) (sym (here_is id here))
 
-  goes_on_as : (q r : Partition) (id : Id) (row : Row) (stamp : ℕ) (w : World) (event : _) → Ready q → home count id ≡ p → q.instances id ≡ Some row → world q ≡ w
+  goes_on_as : (q : Partition) (id : Id) (row : Row) (stamp : ℕ) (w : World) (event : _) → Ready q → home count id ≡ p → q.instances id ≡ Some row → world q ≡ w
       → world (stands_in count q id stamp (Some event) (goes_on_from (instance_in flows id row) event stamp [])) ≡ stands_as w id (goes_on_from (instance_in flows id row) event stamp [])
-  goes_on_as q r id row stamp w event ready here there is =
+  goes_on_as q id row stamp w event ready here there is =
       let e = goes_on_from (instance_in flows id row) event stamp [] in
       let suits : Suits flows id (q.instances id) stamp (Some event) e = subst (λ (found : Option Row). Suits flows id found stamp (Some event) e) (sym there) (row_goes_on flows id row event stamp) in
       stands_merged flows count parts p q id stamp (Some event) e ready here suits.sent suits.fits ∙ ap (λ (v : World). stands_as v id e) is
@@ -165,7 +162,7 @@ module _ (flows : Flows) (count : ℕ) (parts : ℕ → Partition) (p : ℕ) whe
       let event = timer_fired task in
       let w : World = record (world q) { timers = at_number (world q).timers id task None } in
       chosen (nat_le due stamp && nat_le o.machine.last stamp) (Some (stands_in count over id stamp (Some event) (goes_on_from o event stamp []))) (Some (stands_as w id (goes_on_from o event stamp [])))
-      (ap Some (goes_on_as over q id row stamp w event (record { number = ready.number; alone = ready.alone; readers = ready.readers }) here there (timer_merged flows count parts p q id task None here)))
+      (ap Some (goes_on_as over id row stamp w event (record { number = ready.number; alone = ready.alone; readers = ready.readers }) here there (timer_merged flows count parts p q id task None here)))
 
   pub fired_as : (q : Partition) (id : Id) (task stamp : ℕ) → Ready q → home count id ≡ p
       → option_map world (accepted flows count q (fired id task stamp)) ≡ step flows (world q) (fire id task stamp)
@@ -184,7 +181,7 @@ module _ (flows : Flows) (count : ℕ) (parts : ℕ → Partition) (p : ℕ) whe
       let o = instance_in flows id row in
       let event = resulted task (answer_of outcome) in
       let w : World = record (world q) { activities = at_number (world q).activities id task None } in
-      ap Some (goes_on_as over q id row o.machine.last w event (record { number = ready.number; alone = ready.alone; readers = ready.readers }) here there (activity_merged flows count parts p q id task None here))
+      ap Some (goes_on_as over id row o.machine.last w event (record { number = ready.number; alone = ready.alone; readers = ready.readers }) here there (activity_merged flows count parts p q id task None here))
       ∙ ap (λ (b : Bool). cond b (Some (stands_as w id (goes_on_from o event o.machine.last []))) None) (sym (given activity refl))
 
   pub ended_as : (q : Partition) (id : Id) (task : ℕ) (outcome : Outcome) → Ready q → home count id ≡ p
@@ -226,7 +223,7 @@ module _ (flows : Flows) (count : ℕ) (parts : ℕ → Partition) (p : ℕ) whe
       let w : World = record (world q) { entities = at_id (world q).entities to (Some d.entity) } in
       chosen (takes e.holder from && nat_le e.last stamp) (Some (post_all count after d.sent)) (Some (sent w d.sent))
       (ap Some (post_all_merged flows count parts p after to d.sent (record { number = ready.number; alone = ready.alone; readers = ready.readers }) here (entity_from flows was class from to body)
-        ∙ ap (λ (v : World). sent v d.sent) (entity_merged flows count parts p q to (Some d.entity) here)))
+      ∙ ap (λ (v : World). sent v d.sent) (entity_merged flows count parts p q to (Some d.entity) here)))
 
   last_same : (id : Id) (row : Option Row) → last_in row ≡ last_of (option_map (instance_in flows id) row)
   last_same id None = refl

@@ -1,24 +1,20 @@
 -- What a state needs so that it is shown is kept by all that is done to it.
-use Rattle.std.proofs.Common.{◌≡◌, ◌≤◌, ◌<◌, ◌+◌, ◌-◌, ◌==◌, ◌&&◌, ◌⊎◌, inl, inr, ℕ, zero, suc, length, Bool, true, false, cond, List, [], ◌∷◌, ◌++◌, Option, Some, None, refl, sym, ap, subst, ◌∙◌, arith, eq-eqb, length-append}
+use Rattle.std.proofs.Common.{◌≡◌, ◌≤◌, ◌<◌, ◌==◌, ◌&&◌, ◌⊎◌, inl, inr, ℕ, length, Bool, true, false, cond, List, [], ◌∷◌, ◌++◌, Option, Some, None, refl, sym, ap, subst, ◌∙◌, arith, length-append}
 use Rattle.std.specs.Prelude.{option_map, nat_le}
 use Rattle.std.specs.List.{Contains}
 use Rattle.std.proofs.lemmas.Bool.{eqb-true, leb-true, leb-false}
 use Rattle.std.proofs.lemmas.List.Elements.{Contains-push_cases, Contains-append_cases, Contains-append_right, Contains-append_left}
 use Rattle.dura_value.specs.Ids.{Id, home, id_eq}
-use Rattle.dura_value.specs.Items.{Identity}
 use Rattle.dura_value.specs.Messages.{Answer, Body, Message}
-use Rattle.flow_syntax.specs.Syntax.{Flows}
 use Rattle.flow_syntax.specs.Machine.{Asked, an_activity, a_timer, Event, Past}
 use Rattle.flow_syntax.specs.Entity.{Entity}
 use Rattle.dura_model.specs.World.{Orchestration, Activity, at_id, at_number, cleared}
 use Rattle.dura_model.specs.Deliveries.{Effect}
 use Rattle.dura_model.specs.Partition.{Row, Posted, Outbox, Inbox, Partition, entry_of, history_of, with_event, row_after, with_posted, post, post_all, asked_in, given_up_in, stands_in, raised_to, first_in, without_first}
-use Rattle.dura_model.specs.Placed.{IsBehind, IsOther, Live, NumbersLive, RowsLive, OutboxesStand, InboxesStand, MomentsStand, Belongs}
+use Rattle.dura_model.specs.Placed.{IsBehind, IsOther, Live, NumbersLive, Belongs}
 use Rattle.dura_value.proofs.Ids.{id_same, both_true}
+use Rattle.dura_model.proofs.Basics.{some_same, eqb_apart}
 use Rattle.dura_model.proofs.Sending.{AllFrom}
-
-some_same : {X : Type 0} {x y : X} → Some x ≡ Some y → x ≡ y
-some_same is = cc
 
 -- ---- rows
 
@@ -81,62 +77,94 @@ module _ (count p : ℕ) where
 
   pub taken_follows : (q : Partition) (id : Id) (number : ℕ) (message : Option Message) → home count id ≡ p → Belongs count p q → 0 < q.position → Follows q (record q { taken = at_number q.taken id number message })
   taken_follows q id number message here b begun = same_streams q (record q { taken = at_number q.taken id number message })
-    (record {
-      number = b.number;
-      rows = record {
-        requests = live_number count p q.taken id number message here b.rows.requests;
-        answered = b.rows.answered; kept = b.rows.kept; reached = b.rows.reached; pending = b.rows.pending; due = b.rows.due;
-      };
-      queue = b.queue; outboxes = b.outboxes; inboxes = b.inboxes; moments = b.moments;
-    }) begun refl refl refl refl
+      (record {
+        number = b.number;
+        rows = record {
+          requests = live_number count p q.taken id number message here b.rows.requests;
+          answered = b.rows.answered;
+          kept = b.rows.kept;
+          reached = b.rows.reached;
+          pending = b.rows.pending;
+          due = b.rows.due;
+        };
+        queue = b.queue;
+        outboxes = b.outboxes;
+        inboxes = b.inboxes;
+        moments = b.moments;
+      }) begun refl refl refl refl
 
   pub answers_follows : (q : Partition) (id : Id) (number : ℕ) (answer : Option Answer) → home count id ≡ p → Belongs count p q → 0 < q.position → Follows q (record q { answers = at_number q.answers id number answer })
   answers_follows q id number answer here b begun = same_streams q (record q { answers = at_number q.answers id number answer })
-    (record {
-      number = b.number;
-      rows = record {
-        requests = b.rows.requests;
-        answered = live_number count p q.answers id number answer here b.rows.answered;
-        kept = b.rows.kept; reached = b.rows.reached; pending = b.rows.pending; due = b.rows.due;
-      };
-      queue = b.queue; outboxes = b.outboxes; inboxes = b.inboxes; moments = b.moments;
-    }) begun refl refl refl refl
+      (record {
+        number = b.number;
+        rows = record {
+          requests = b.rows.requests;
+          answered = live_number count p q.answers id number answer here b.rows.answered;
+          kept = b.rows.kept;
+          reached = b.rows.reached;
+          pending = b.rows.pending;
+          due = b.rows.due;
+        };
+        queue = b.queue;
+        outboxes = b.outboxes;
+        inboxes = b.inboxes;
+        moments = b.moments;
+      }) begun refl refl refl refl
 
   pub activities_follows : (q : Partition) (id : Id) (task : ℕ) (activity : Option Activity) → home count id ≡ p → Belongs count p q → 0 < q.position → Follows q (record q { activities = at_number q.activities id task activity })
   activities_follows q id task activity here b begun = same_streams q (record q { activities = at_number q.activities id task activity })
-    (record {
-      number = b.number;
-      rows = record {
-        requests = b.rows.requests; answered = b.rows.answered; kept = b.rows.kept; reached = b.rows.reached;
-        pending = live_number count p q.activities id task activity here b.rows.pending;
-        due = b.rows.due;
-      };
-      queue = b.queue; outboxes = b.outboxes; inboxes = b.inboxes; moments = b.moments;
-    }) begun refl refl refl refl
+      (record {
+        number = b.number;
+        rows = record {
+          requests = b.rows.requests;
+          answered = b.rows.answered;
+          kept = b.rows.kept;
+          reached = b.rows.reached;
+          pending = live_number count p q.activities id task activity here b.rows.pending;
+          due = b.rows.due;
+        };
+        queue = b.queue;
+        outboxes = b.outboxes;
+        inboxes = b.inboxes;
+        moments = b.moments;
+      }) begun refl refl refl refl
 
   pub timers_follows : (q : Partition) (id : Id) (task : ℕ) (due : Option ℕ) → home count id ≡ p → Belongs count p q → 0 < q.position → Follows q (record q { timers = at_number q.timers id task due })
   timers_follows q id task due here b begun = same_streams q (record q { timers = at_number q.timers id task due })
-    (record {
-      number = b.number;
-      rows = record {
-        requests = b.rows.requests; answered = b.rows.answered; kept = b.rows.kept; reached = b.rows.reached; pending = b.rows.pending;
-        due = live_number count p q.timers id task due here b.rows.due;
-      };
-      queue = b.queue; outboxes = b.outboxes; inboxes = b.inboxes; moments = b.moments;
-    }) begun refl refl refl refl
+      (record {
+        number = b.number;
+        rows = record {
+          requests = b.rows.requests;
+          answered = b.rows.answered;
+          kept = b.rows.kept;
+          reached = b.rows.reached;
+          pending = b.rows.pending;
+          due = live_number count p q.timers id task due here b.rows.due;
+        };
+        queue = b.queue;
+        outboxes = b.outboxes;
+        inboxes = b.inboxes;
+        moments = b.moments;
+      }) begun refl refl refl refl
 
   pub given_up_follows : (q : Partition) (id : Id) (over : Bool) → Belongs count p q → 0 < q.position → Follows q (given_up_in q id over)
   given_up_follows q id false b begun = same_streams q q b begun refl refl refl refl
   given_up_follows q id true b begun = same_streams q (given_up_in q id true)
-    (record {
-      number = b.number;
-      rows = record {
-        requests = b.rows.requests; answered = b.rows.answered; kept = b.rows.kept; reached = b.rows.reached;
-        pending = live_cleared count p q.activities id b.rows.pending;
-        due = live_cleared count p q.timers id b.rows.due;
-      };
-      queue = b.queue; outboxes = b.outboxes; inboxes = b.inboxes; moments = b.moments;
-    }) begun refl refl refl refl
+      (record {
+        number = b.number;
+        rows = record {
+          requests = b.rows.requests;
+          answered = b.rows.answered;
+          kept = b.rows.kept;
+          reached = b.rows.reached;
+          pending = live_cleared count p q.activities id b.rows.pending;
+          due = live_cleared count p q.timers id b.rows.due;
+        };
+        queue = b.queue;
+        outboxes = b.outboxes;
+        inboxes = b.inboxes;
+        moments = b.moments;
+      }) begun refl refl refl refl
 
   pub asked_follows : (q : Partition) (id : Id) (list : List Asked) → home count id ≡ p → Belongs count p q → 0 < q.position → Follows q (asked_in q id list)
   asked_follows q id [] here b begun = same_streams q q b begun refl refl refl refl
@@ -161,14 +189,18 @@ module _ (count p : ℕ) where
       let above = raised_above q.stamp stamp (nat_le q.stamp stamp) refl in
       let is = above.0 in (
         same_streams q (raised_to stamp q)
-          (record {
-            number = b.number; rows = b.rows; queue = b.queue; outboxes = b.outboxes; inboxes = b.inboxes;
-            moments = record {
-              rows = λ id row found. let low = b.moments.rows id row found in omega (arith, low, is);
-              events = λ id row found past of_it. let low = b.moments.events id row found past of_it in omega (arith, low, is);
-              lasts = λ id e found. let low = b.moments.lasts id e found in omega (arith, low, is);
-            };
-          }) begun refl refl refl refl,
+            (record {
+              number = b.number;
+              rows = b.rows;
+              queue = b.queue;
+              outboxes = b.outboxes;
+              inboxes = b.inboxes;
+              moments = record {
+                rows = λ id row found. let low = b.moments.rows id row found in omega (arith, low, is);
+                events = λ id row found past of_it. let low = b.moments.events id row found past of_it in omega (arith, low, is);
+                lasts = λ id e found. let low = b.moments.lasts id e found in omega (arith, low, is);
+              };
+            }) begun refl refl refl refl,
         above.1,
       )
 
@@ -179,6 +211,7 @@ module _ (count p : ℕ) where
     where
       new : Past
       new = record { event = event; stamp = stamp }
+
       by : Contains history past ⊎ (new ≡ past) → past.stamp ≤ top
       by (inl before) = old past before
       by (inr is) = subst (λ (one : Past). one.stamp ≤ top) is low
@@ -191,20 +224,25 @@ module _ (count p : ℕ) where
   pub row_follows : (q : Partition) (id : Id) (stamp : ℕ) (event : Option Event) (o : Option Orchestration) → home count id ≡ p → Belongs count p q → 0 < q.position → stamp ≤ q.stamp
       → Follows q (record q { instances = at_id q.instances id (option_map (row_after (q.instances id) stamp event) o) })
   row_follows q id stamp event o here b begun low = same_streams q (record q { instances = at_id q.instances id (option_map (row_after (q.instances id) stamp event) o) })
-    (record {
-      number = b.number;
-      rows = record {
-        requests = b.rows.requests; answered = b.rows.answered;
-        kept = live_at count p q.instances id (option_map (row_after (q.instances id) stamp event) o) here b.rows.kept;
-        reached = b.rows.reached; pending = b.rows.pending; due = b.rows.due;
-      };
-      queue = b.queue; outboxes = b.outboxes; inboxes = b.inboxes;
-      moments = record {
-        rows = λ other row found. (by other row (id_eq id other) o found).0;
-        events = λ other row found. (by other row (id_eq id other) o found).1;
-        lasts = b.moments.lasts;
-      };
-    }) begun refl refl refl refl
+      (record {
+        number = b.number;
+        rows = record {
+          requests = b.rows.requests;
+          answered = b.rows.answered;
+          kept = live_at count p q.instances id (option_map (row_after (q.instances id) stamp event) o) here b.rows.kept;
+          reached = b.rows.reached;
+          pending = b.rows.pending;
+          due = b.rows.due;
+        };
+        queue = b.queue;
+        outboxes = b.outboxes;
+        inboxes = b.inboxes;
+        moments = record {
+          rows = λ other row found. (by other row (id_eq id other) o found).0;
+          events = λ other row found. (by other row (id_eq id other) o found).1;
+          lasts = b.moments.lasts;
+        };
+      }) begun refl refl refl refl
     where
       by : (other : Id) (row : Row) (test : Bool) (now : Option Orchestration) → cond test (option_map (row_after (q.instances id) stamp event) now) (q.instances other) ≡ Some row
           → (row.stamp ≤ q.stamp) × ((past : Past) → Contains row.history past → past.stamp ≤ q.stamp)
@@ -216,16 +254,21 @@ module _ (count p : ℕ) where
 
   pub entity_follows : (q : Partition) (id : Id) (e : Entity) → home count id ≡ p → Belongs count p q → 0 < q.position → e.last ≤ q.stamp → Follows q (record q { entities = at_id q.entities id (Some e) })
   entity_follows q id e here b begun low = same_streams q (record q { entities = at_id q.entities id (Some e) })
-    (record {
-      number = b.number;
-      rows = record {
-        requests = b.rows.requests; answered = b.rows.answered; kept = b.rows.kept;
-        reached = live_at count p q.entities id (Some e) here b.rows.reached;
-        pending = b.rows.pending; due = b.rows.due;
-      };
-      queue = b.queue; outboxes = b.outboxes; inboxes = b.inboxes;
-      moments = record { rows = b.moments.rows; events = b.moments.events; lasts = λ other one found. by other one (id_eq id other) found };
-    }) begun refl refl refl refl
+      (record {
+        number = b.number;
+        rows = record {
+          requests = b.rows.requests;
+          answered = b.rows.answered;
+          kept = b.rows.kept;
+          reached = live_at count p q.entities id (Some e) here b.rows.reached;
+          pending = b.rows.pending;
+          due = b.rows.due;
+        };
+        queue = b.queue;
+        outboxes = b.outboxes;
+        inboxes = b.inboxes;
+        moments = record { rows = b.moments.rows; events = b.moments.events; lasts = λ other one found. by other one (id_eq id other) found };
+      }) begun refl refl refl refl
     where
       by : (other : Id) (one : Entity) (test : Bool) → cond test (Some e) (q.entities other) ≡ Some one → one.last ≤ q.stamp
       by other one true found = subst (λ (x : Entity). x.last ≤ q.stamp) (some_same found) low
@@ -236,7 +279,7 @@ module _ (count p : ℕ) where
   -- the queue is another one, of messages to receivers here
   pub queue_follows : (q : Partition) (queue : List Message) → Belongs count p q → 0 < q.position → ((message : Message) → Contains queue message → home count message.to ≡ p) → Follows q (record q { queue = queue })
   queue_follows q queue b begun lives = same_streams q (record q { queue = queue })
-    (record { number = b.number; rows = b.rows; queue = lives; outboxes = b.outboxes; inboxes = b.inboxes; moments = b.moments }) begun refl refl refl refl
+      (record { number = b.number; rows = b.rows; queue = lives; outboxes = b.outboxes; inboxes = b.inboxes; moments = b.moments }) begun refl refl refl refl
 
   -- one more message in a queue
   pub queued_lives : (queue : List Message) (message : Message) → ((one : Message) → Contains queue one → home count one.to ≡ p) → home count message.to ≡ p → (one : Message) → Contains (queue ++ message ∷ []) one → home count one.to ≡ p
@@ -247,7 +290,7 @@ module _ (count p : ℕ) where
       by (inr is) = ap (λ (m : Message). home count m.to) (sym is) ∙ here
 
   -- the entry that is under way is an earlier one than the next
-  entry_behind : (q : Partition) → Belongs count p q → 0 < q.position → IsBehind p q.position q.incarnation (entry_of q)
+  pub entry_behind : (q : Partition) → Belongs count p q → 0 < q.position → IsBehind p q.position q.incarnation (entry_of q)
   entry_behind q b begun = record { here = b.number; before = omega (arith, begun); alive = omega arith }
 
   -- a message to another partition
@@ -255,14 +298,17 @@ module _ (count p : ℕ) where
       → Follows q (record q { outboxes = with_posted q.outboxes (home count message.to) (record { entry = entry_of q; message = message }) })
   posted_follows q message here below away b begun = record {
     belongs = record {
-      number = b.number; rows = b.rows; queue = b.queue;
+      number = b.number;
+      rows = b.rows;
+      queue = b.queue;
       outboxes = record {
         others = λ other. others other (target == other) refl;
         senders = λ other one of_it. (holds other one (target == other) refl of_it).0;
         receivers = λ other one of_it. (holds other one (target == other) refl of_it).1;
         earlier = λ other one of_it. (holds other one (target == other) refl of_it).2;
       };
-      inboxes = b.inboxes; moments = b.moments;
+      inboxes = b.inboxes;
+      moments = b.moments;
     };
     begun = begun;
     position = refl;
@@ -274,23 +320,31 @@ module _ (count p : ℕ) where
     where
       target : ℕ
       target = home count message.to
+
       posted : Posted
       posted = record { entry = entry_of q; message = message }
+
       box_of : ℕ → Bool → Outbox
       box_of other test = cond test (record (q.outboxes other) { messages = (q.outboxes other).messages ++ posted ∷ [] }) (q.outboxes other)
+
       first : (other : ℕ) (test : Bool) → (box_of other test).first ≡ (q.outboxes other).first
       first other true = refl
       first other false = refl
+
       longer : (other : ℕ) (test : Bool) → length (q.outboxes other).messages ≤ length (box_of other test).messages
       longer other true = let more = length-append (q.outboxes other).messages (posted ∷ []) in omega (arith, more)
       longer other false = omega arith
+
       others : (other : ℕ) (test : Bool) → (target == other) ≡ test → IsOther count p other ⊎ (box_of other test ≡ record { first = 0; messages = [] })
       others other true is = let same = eqb-true target other is in inl (record { apart = λ wrong. away (same ∙ wrong); below = omega (arith, same, below) })
       others other false is = b.outboxes.others other
+
       AllIs : ℕ → Posted → Type 0
       AllIs other one = (home count one.message.from ≡ p) × (home count one.message.to ≡ other) × IsBehind p q.position q.incarnation one.entry
+
       before : (other : ℕ) (one : Posted) → Contains (q.outboxes other).messages one → AllIs other one
       before other one of_it = (b.outboxes.senders other one of_it, b.outboxes.receivers other one of_it, b.outboxes.earlier other one of_it)
+
       holds : (other : ℕ) (one : Posted) (test : Bool) → (target == other) ≡ test → Contains (box_of other test).messages one → AllIs other one
       holds other one true is of_it = by (Contains-push_cases (q.outboxes other).messages posted one of_it)
         where
@@ -298,9 +352,6 @@ module _ (count p : ℕ) where
           by (inl old) = before other one old
           by (inr new) = subst (λ (x : Posted). AllIs other x) new (here, eqb-true target other is, entry_behind q b begun)
       holds other one false is of_it = before other one of_it
-
-  eqb_apart : (x y : ℕ) → (x == y) ≡ false → x ≡ y → ⊥
-  eqb_apart x y is same = let wrong : true ≡ false = sym (eq-eqb x y same) ∙ is in cc wrong
 
   pub post_follows : (q : Partition) (message : Message) → home count message.from ≡ p → home count message.to < count → Belongs count p q → 0 < q.position → Follows q (post count q message)
   post_follows q message here below b begun = by (home count message.to == q.number) refl
@@ -336,6 +387,7 @@ module _ (count p : ℕ) where
     where
       later : Contains queue one → Contains (message ∷ queue) one
       later has = Contains-append_right (message ∷ []) queue one has
+
       by : (test : Bool) → Contains (cond test queue (message ∷ without_first queue from to)) one → (Contains (without_first queue from to) one → Contains queue one) → Contains (message ∷ queue) one
       by true has rest = later has
       by false has rest = split (Contains-append_cases (message ∷ []) (without_first queue from to) one has)

@@ -1,5 +1,5 @@
 -- Accepted items keep what the states of all partitions need so that they show a world.
-use Rattle.std.proofs.Common.{◌≡◌, ◌≤◌, ◌<◌, ◌+◌, ◌-◌, ◌==◌, ◌&&◌, ◌⊎◌, inl, inr, ℕ, zero, suc, length, drop, Bool, true, false, cond, List, [], ◌∷◌, ◌++◌, Option, Some, None, refl, sym, ap, subst, ◌∙◌, arith, eq-eqb}
+use Rattle.std.proofs.Common.{◌≡◌, ◌≤◌, ◌<◌, ◌+◌, ◌-◌, ◌==◌, ◌&&◌, ◌⊎◌, inl, inr, ℕ, length, drop, Bool, true, false, cond, List, [], ◌∷◌, ◌++◌, Option, Some, None, refl, sym, ap, subst, ◌∙◌, arith}
 use Rattle.std.specs.Prelude.{option_map, nat_le, nat_lt, not, is_some}
 use Rattle.std.specs.List.{Contains}
 use Rattle.std.proofs.lemmas.Bool.{eqb-true, leb-true, leb-false, ltb-true}
@@ -15,21 +15,14 @@ use Rattle.flow_syntax.specs.Entity.{Entity, operated, operation_of, takes, deli
 use Rattle.dura_model.specs.World.{empty, Activity, at_id, at_number}
 use Rattle.dura_model.specs.Deliveries.{goes_on_from, to_instance}
 use Rattle.dura_model.specs.Steps.{is_request, number_in, entity_of, answer_of}
-use Rattle.dura_model.specs.Partition.{label_in, enter, fresh, shown, Row, Posted, Outbox, Inbox, Partition, entry_of, instance_in, instance_at, event_of, raised_to, first_in, without_first, last_in, answered_in, client_received, entity_received, entity_after, received_in, delivered_in, taken_in, ended_in, fired_in, with_inbox, begins_at, with_first, post, post_all, stands_in, accepted, with_part}
-use Rattle.dura_model.specs.Placed.{IsBehind, IsOther, IsReader, IsStreamed, OutboxesStand, InboxesStand, Belongs, AreShown, happens_at, IsOfStreams, IsSameEntry}
+use Rattle.dura_model.specs.Partition.{label_in, enter, fresh, shown, Row, Posted, Outbox, Inbox, Partition, entry_of, instance_in, instance_at, event_of, raised_to, first_in, without_first, last_in, answered_in, client_received, entity_received, received_in, delivered_in, taken_in, ended_in, fired_in, with_inbox, begins_at, with_first, post, post_all, stands_in, accepted, with_part}
+use Rattle.dura_model.specs.Placed.{IsBehind, IsOther, IsStreamed, Belongs, AreShown, happens_at, IsOfStreams, IsSameEntry}
 use Rattle.dura_value.proofs.Ids.{both_true}
-use Rattle.dura_model.proofs.Rows.{Suits, instance_suits, row_goes_on}
+use Rattle.dura_model.proofs.Basics.{some_same, passes, passed, not_true, eqb_apart}
+use Rattle.dura_model.proofs.Rows.{instance_suits, row_goes_on}
 use Rattle.dura_model.proofs.Items.{entity_from}
-use Rattle.dura_model.proofs.Streams.{passed, not_true}
 use Rattle.dura_model.proofs.Shown.{home_below, dropped_in, silent}
-use Rattle.dura_model.proofs.Keeping.{Follows, follows_then, taken_follows, answers_follows, activities_follows, timers_follows, raised_follows, entity_follows, queue_follows, queued_lives, post_follows, post_all_follows, stands_follows, without_contained, first_lives}
-
-some_same : {X : Type 0} {x y : X} → Some x ≡ Some y → x ≡ y
-some_same is = cc
-
-let_through : (test : Bool) (x : Option Partition) (next : Partition) → cond test x None ≡ Some next → (test ≡ true) × (x ≡ Some next)
-let_through true x next is = (refl, is)
-let_through false x next is = absurd (cc is)
+use Rattle.dura_model.proofs.Keeping.{entry_behind, Follows, follows_then, taken_follows, answers_follows, activities_follows, timers_follows, raised_follows, entity_follows, queue_follows, queued_lives, post_follows, post_all_follows, stands_follows, without_contained, first_lives}
 
 -- an entity that was delivered to is at the moment that it was at
 operated_last : (e : Entity) (from to : Id) (argument : _) (reply : Reply) (body : Option Block) → (operated e from to argument reply body).entity.last ≡ e.last
@@ -173,14 +166,18 @@ module _ (flows : Flows) (count : ℕ) (parts : ℕ → Partition) (p : ℕ) whe
       each : (place : ℕ) → place < count → (test : Bool) → (p == place) ≡ test → Belongs count place (cond test next (parts place))
       each place below true is = subst (λ (n : ℕ). Belongs count n next) (eqb-true p place is) belongs
       each place below false is = shows.each place below
+
       nothing_out : IsOther count p p ⊎ (next.outboxes p ≡ record { first = 0; messages = [] }) → next.outboxes p ≡ record { first = 0; messages = [] }
       nothing_out (inl other) = absurd (other.apart refl)
       nothing_out (inr is) = is
+
       nothing_in : IsOther count p p ⊎ ((next.inboxes p).next ≡ 0) → (next.inboxes p).next ≡ 0
       nothing_in (inl other) = absurd (other.apart refl)
       nothing_in (inr is) = is
+
       self : Reads (next.outboxes p) (next.inboxes p).next
       self = let read = nothing_in (belongs.inboxes.others p) in subst (λ (box : Outbox). Reads box (next.inboxes p).next) (sym (nothing_out (belongs.outboxes.others p))) (omega arith, omega (arith, read))
+
       reader : (source target : ℕ) → source < count → target < count → (here there : Bool) → (p == source) ≡ here → (p == target) ≡ there
           → Reads ((cond here next (parts source)).outboxes target) ((cond there next (parts target)).inboxes source).next
       reader source target low below true true is also =
@@ -198,12 +195,6 @@ module _ (flows : Flows) (count : ℕ) (parts : ℕ → Partition) (p : ℕ) whe
 
   -- ---- streams
 
-  in_behind : (q : Partition) → Belongs count p q → 0 < q.position → IsBehind p q.position q.incarnation (entry_of q)
-  in_behind q b begun = record { here = b.number; before = omega (arith, begun); alive = omega arith }
-
-  eqb_apart : (x y : ℕ) → (x == y) ≡ false → x ≡ y → ⊥
-  eqb_apart x y is equal = let wrong : true ≡ false = sym (eq-eqb x y equal) ∙ is in cc wrong
-
   -- the stream goes on behind a message that it has
   has_more : (stream later : List Posted) (first number : ℕ) (posted : Posted) → first ≤ number → drop (number - first) stream ≡ posted ∷ later → number + 1 ≤ first + length stream
   has_more stream later first number posted begun is = let left = ap length is in omega (arith, begun, left, length-drop (number - first) stream)
@@ -213,49 +204,66 @@ module _ (flows : Flows) (count : ℕ) (parts : ℕ → Partition) (p : ℕ) whe
   got_shown next source number message shows below begun streamed is =
       subst (λ (s : Partition). AreShown count (with_part parts p s)) it.1
       (with_shown after shows belongs
-        (λ target low. let r = shows.readers p target below low in (r.from_first, r.to_end))
-        (λ other low. reads other low (source.partition == other) refl))
+      (λ target low. let r = shows.readers p target below low in (r.from_first, r.to_end))
+      (λ other low. reads other low (source.partition == other) refl))
     where
       q : Partition
       q = parts p
+
       b : Belongs count p q
       b = shows.each p below
+
       box : Inbox
       box = record { next = number + 1; reader = entry_of q }
+
       after : Partition
       after = record q { queue = q.queue ++ message ∷ []; inboxes = with_inbox q.inboxes source.partition box }
+
       away : Bool
       away = source.partition == q.number
+
       low_source : Bool
       low_source = nat_lt source.partition count
+
       in_turn : Bool
       in_turn = number == (q.inboxes source.partition).next
+
       lives : Bool
       lives = home count message.to == q.number
+
       it : ((not away && (low_source && (in_turn && lives))) ≡ true) × (after ≡ next)
       it = passed (not away && (low_source && (in_turn && lives))) after next is
+
       one : (not away ≡ true) × ((low_source && (in_turn && lives)) ≡ true)
       one = both_true (not away) (low_source && (in_turn && lives)) it.0
+
       two : (low_source ≡ true) × ((in_turn && lives) ≡ true)
       two = both_true low_source (in_turn && lives) one.1
+
       three : (in_turn ≡ true) × (lives ≡ true)
       three = both_true in_turn lives two.1
+
       other_source : IsOther count p source.partition
       other_source = record { apart = λ wrong. eqb_apart source.partition q.number (not_true away one.0) (wrong ∙ sym b.number); below = ltb-true source.partition count two.0 }
+
       others : (other : ℕ) (test : Bool) → (source.partition == other) ≡ test → IsOther count p other ⊎ ((cond test box (q.inboxes other)).next ≡ 0)
       others other true same = inl (subst (IsOther count p) (eqb-true source.partition other same) other_source)
       others other false apart = b.inboxes.others other
+
       earlier : (other : ℕ) (test : Bool) → 0 < (cond test box (q.inboxes other)).next → IsBehind p q.position q.incarnation (cond test box (q.inboxes other)).reader
-      earlier other true some = in_behind q b begun
+      earlier other true some = entry_behind count p q b begun
       earlier other false some = b.inboxes.earlier other some
+
       belongs : Belongs count p after
       belongs = record {
-        number = b.number; rows = b.rows;
+        number = b.number;
+        rows = b.rows;
         queue = queued_lives count p q.queue message b.queue (eqb-true (home count message.to) q.number three.1 ∙ b.number);
         outboxes = b.outboxes;
         inboxes = record { others = λ other. others other (source.partition == other) refl; earlier = λ other. earlier other (source.partition == other) };
         moments = b.moments;
       }
+
       reads : (other : ℕ) → other < count → (test : Bool) → (source.partition == other) ≡ test → Reads ((parts other).outboxes p) (cond test box (q.inboxes other)).next
       reads other low true same =
           let stream = (parts source.partition).outboxes p in
@@ -268,36 +276,49 @@ module _ (flows : Flows) (count : ℕ) (parts : ℕ → Partition) (p : ℕ) whe
   trim_shown next reader number shows below read is =
       subst (λ (s : Partition). AreShown count (with_part parts p s)) it.1
       (with_shown after shows belongs
-        (λ other low. reads other low (target == other) refl)
-        (λ source low. let r = shows.readers source p low below in (r.from_first, r.to_end)))
+      (λ other low. reads other low (target == other) refl)
+      (λ source low. let r = shows.readers source p low below in (r.from_first, r.to_end)))
     where
       q : Partition
       q = parts p
+
       b : Belongs count p q
       b = shows.each p below
+
       target : ℕ
       target = reader.partition
+
       after : Partition
       after = record q { outboxes = with_first q.outboxes target number }
+
       away : Bool
       away = target == q.number
+
       low_target : Bool
       low_target = nat_lt target count
+
       enough : Bool
       enough = nat_le number ((q.outboxes target).first + length (q.outboxes target).messages)
+
       it : ((not away && (low_target && enough)) ≡ true) × (after ≡ next)
       it = passed (not away && (low_target && enough)) after next is
+
       one : (not away ≡ true) × ((low_target && enough) ≡ true)
       one = both_true (not away) (low_target && enough) it.0
+
       two : (low_target ≡ true) × (enough ≡ true)
       two = both_true low_target enough one.1
+
       other_target : IsOther count p target
       other_target = record { apart = λ wrong. eqb_apart target q.number (not_true away one.0) (wrong ∙ sym b.number); below = ltb-true target count two.0 }
+
       box_of : ℕ → Bool → Outbox
       box_of other test = cond test (begins_at number (q.outboxes other)) (q.outboxes other)
+
       others : (other : ℕ) (test : Bool) → (target == other) ≡ test → IsOther count p other ⊎ (box_of other test ≡ record { first = 0; messages = [] })
       others other true same = inl (subst (IsOther count p) (eqb-true target other same) other_target)
       others other false apart = b.outboxes.others other
+
       left : (other : ℕ) (one_posted : Posted) (test : Bool) → Contains (box_of other test).messages one_posted → Contains (q.outboxes other).messages one_posted
       left other posted true of_it = by (nat_le number (q.outboxes other).first) of_it
         where
@@ -305,17 +326,22 @@ module _ (flows : Flows) (count : ℕ) (parts : ℕ → Partition) (p : ℕ) whe
           by true has = has
           by false has = dropped_in (number - (q.outboxes other).first) (q.outboxes other).messages posted has
       left other posted false of_it = of_it
+
       belongs : Belongs count p after
       belongs = record {
-        number = b.number; rows = b.rows; queue = b.queue;
+        number = b.number;
+        rows = b.rows;
+        queue = b.queue;
         outboxes = record {
           others = λ other. others other (target == other) refl;
           senders = λ other posted of_it. b.outboxes.senders other posted (left other posted (target == other) of_it);
           receivers = λ other posted of_it. b.outboxes.receivers other posted (left other posted (target == other) of_it);
           earlier = λ other posted of_it. b.outboxes.earlier other posted (left other posted (target == other) of_it);
         };
-        inboxes = b.inboxes; moments = b.moments;
+        inboxes = b.inboxes;
+        moments = b.moments;
       }
+
       reads : (other : ℕ) → other < count → (test : Bool) → (target == other) ≡ test → Reads (box_of other test) ((parts other).inboxes p).next
       reads other low false apart = let r = shows.readers p other below low in (r.from_first, r.to_end)
       reads other low true same =
@@ -324,6 +350,7 @@ module _ (flows : Flows) (count : ℕ) (parts : ℕ → Partition) (p : ℕ) whe
         where
           stream : Outbox
           stream = q.outboxes target
+
           by : (begun : Bool) → nat_le number stream.first ≡ begun → Reads (cond begun stream (record { first = number; messages = drop (number - stream.first) stream.messages })) ((parts target).inboxes p).next
           by true begun = let r = shows.readers p target below (ltb-true target count two.0) in (r.from_first, r.to_end)
           by false begun =
@@ -340,7 +367,7 @@ module _ (flows : Flows) (count : ℕ) (parts : ℕ → Partition) (p : ℕ) whe
       let q = parts p in
       let b = shows.each p below in
       let number = number_in message.body in
-      let it = let_through (home count message.from == q.number && is_request message.from number message) (taken_in count q message (q.taken message.from number)) next is in
+      let it = passes (home count message.from == q.number && is_request message.from number message) (taken_in count q message (q.taken message.from number)) next is in
       let here = eqb-true (home count message.from) q.number (both_true (home count message.from == q.number) (is_request message.from number message) it.0).0 in
       taken_comes flows count p q next message (q.taken message.from number) below (here ∙ b.number) b begun it.1
   label_follows (ran from to stamp) next some shows below begun is =
@@ -397,7 +424,7 @@ module _ (flows : Flows) (count : ℕ) (parts : ℕ → Partition) (p : ℕ) whe
   item_lives (took message) next id shows below at is =
       let q = parts p in
       let number = number_in message.body in
-      let it = let_through (home count message.from == q.number && is_request message.from number message) (taken_in count q message (q.taken message.from number)) next is in
+      let it = passes (home count message.from == q.number && is_request message.from number message) (taken_in count q message (q.taken message.from number)) next is in
       here_is id message.from at (eqb-true (home count message.from) q.number (both_true (home count message.from == q.number) (is_request message.from number message) it.0).0 ∙ (shows.each p below).number)
   item_lives (ran from to stamp) next id shows below at is =
       let q = parts p in
@@ -425,9 +452,13 @@ module _ (flows : Flows) (count : ℕ) (parts : ℕ → Partition) (p : ℕ) whe
       let b = shows.each p below in
       with_shown (enter incarnation q) shows
       (record {
-        number = b.number; rows = b.rows; queue = b.queue;
+        number = b.number;
+        rows = b.rows;
+        queue = b.queue;
         outboxes = record {
-          others = b.outboxes.others; senders = b.outboxes.senders; receivers = b.outboxes.receivers;
+          others = b.outboxes.others;
+          senders = b.outboxes.senders;
+          receivers = b.outboxes.receivers;
           earlier = λ target posted of_it. entered_behind q.position (q.position + 1) q.incarnation incarnation posted.entry (omega arith) young (b.outboxes.earlier target posted of_it);
         };
         inboxes = record {

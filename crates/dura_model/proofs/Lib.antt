@@ -1,3 +1,4 @@
+pub mod Basics
 pub mod Growing
 pub mod Outcomes
 pub mod Rows

@@ -1,5 +1,5 @@
 -- The world that partitions show where one of them is in a state that is looked at.
-use Rattle.std.proofs.Common.{◌≡◌, ◌≤◌, ◌<◌, ◌+◌, ◌-◌, ◌==◌, ◌&&◌, ℕ, zero, suc, length, map, drop, Bool, true, false, cond, List, [], ◌∷◌, ◌++◌, Option, Some, None, refl, sym, ap, subst, ◌∙◌, arith, eq-eqb, length-append}
+use Rattle.std.proofs.Common.{◌≡◌, ◌≤◌, ◌+◌, ◌-◌, ◌==◌, ◌&&◌, ℕ, zero, suc, length, drop, Bool, true, false, cond, List, [], ◌∷◌, ◌++◌, Option, Some, None, refl, sym, ap, subst, ◌∙◌, arith, eq-eqb, length-append}
 use Rattle.std.specs.Prelude.{option_map}
 use Rattle.std.proofs.lemmas.Bool.{eqb-true}
 use Rattle.std.proofs.lemmas.List.{append-nil, append_assoc, drop-append-le}
@@ -45,6 +45,7 @@ id_swap a b = by (id_eq a b) (id_eq b a) refl refl
   where
     turned : (x y : Id) → id_eq x y ≡ true → id_eq y x ≡ true
     turned x y is = subst (λ (z : Id). id_eq z x ≡ true) (id_same x y is) (id_self x)
+
     by : (one other : Bool) → id_eq a b ≡ one → id_eq b a ≡ other → id_eq a b ≡ id_eq b a
     by true other is also = is ∙ sym (turned a b is)
     by false true is also = turned b a also ∙ sym also
@@ -254,16 +255,20 @@ module _ (flows : Flows) (count : ℕ) (parts : ℕ → Partition) (p : ℕ) whe
     where
       rest : (source target : ℕ) → List Message
       rest source target = behind q.inboxes q.outboxes source target
+
       none : (source target : ℕ) → source ≡ p → target ≡ p → (source_here : (p == source) ≡ true) → rest source target ≡ []
       none source target source_is target_is source_here =
           let empty : (outboxes_at q.outboxes source target).messages ≡ [] =
-                ap (λ (b : Bool). (cond b q.outboxes (parts source).outboxes target).messages) source_here ∙ ap (λ (t : ℕ). (q.outboxes t).messages) target_is ∙ ready.alone in
+          ap (λ (b : Bool). (cond b q.outboxes (parts source).outboxes target).messages) source_here ∙ ap (λ (t : ℕ). (q.outboxes t).messages) target_is ∙ ready.alone in
           ap (λ (l : List Posted). messages_in (drop ((inboxes_at q.inboxes target source).next - (outboxes_at q.outboxes source target).first) l)) empty
           ∙ ap messages_in (drop_nothing ((inboxes_at q.inboxes target source).next - (outboxes_at q.outboxes source target).first))
+
       here : (p == home count message.to) ≡ true
       here = eq-eqb p (home count message.to) (sym receives)
+
       nothing : rest (home count message.from) (home count message.to) ≡ []
       nothing = none (home count message.from) (home count message.to) sends receives (eq-eqb p (home count message.from) (sym sends))
+
       own : link_in (way (q.queue ++ message ∷ []) q.inboxes q.outboxes (home count message.from) (home count message.to)) message.from message.to
           ≡ link_in (way q.queue q.inboxes q.outboxes (home count message.from) (home count message.to)) message.from message.to ++ message ∷ []
       own =
@@ -274,6 +279,7 @@ module _ (flows : Flows) (count : ℕ) (parts : ℕ → Partition) (p : ℕ) whe
           ∙ ap (λ (b : Bool). link_in (cond b q.queue (parts (home count message.to)).queue) message.from message.to ++ message ∷ []) (sym here)
           ∙ ap (λ (l : List Message). link_in l message.from message.to ++ message ∷ []) (sym (append-nil (queue_at q.queue (home count message.to))))
           ∙ ap (λ (l : List Message). link_in (queue_at q.queue (home count message.to) ++ l) message.from message.to ++ message ∷ []) (sym nothing)
+
       others : (from to : Id) → is_of from to message ≡ false → link_in (way (q.queue ++ message ∷ []) q.inboxes q.outboxes (home count from) (home count to)) from to ≡ (merged q).links from to
       others from to apart =
           link_both (queue_at (q.queue ++ message ∷ []) (home count to)) (rest (home count from) (home count to)) from to
@@ -291,19 +297,26 @@ module _ (flows : Flows) (count : ℕ) (parts : ℕ → Partition) (p : ℕ) whe
     where
       target : ℕ
       target = home count posted.message.to
+
       source : ℕ
       source = home count posted.message.from
+
       -- a stream from here, by whether it is the one to the target
       way_of : (queue : List Message) (next : ℕ) (box : Outbox) → List Message
       way_of queue next box = queue ++ messages_in (drop (next - box.first) box.messages)
+
       longer : Outbox → Outbox
       longer box = record box { messages = box.messages ++ posted ∷ [] }
+
       next : ℕ
       next = (inboxes_at q.inboxes target source).next
+
       next_is : next ≡ ((parts target).inboxes p).next
       next_is = ap (λ (b : Bool). (cond b q.inboxes (parts target).inboxes source).next) away ∙ ap (λ (a : ℕ). ((parts target).inboxes a).next) sends
+
       here : (p == source) ≡ true
       here = eq-eqb p source (sym sends)
+
       own : link_in (way q.queue q.inboxes (with_posted q.outboxes target posted) source target) posted.message.from posted.message.to
           ≡ link_in (way q.queue q.inboxes q.outboxes source target) posted.message.from posted.message.to ++ posted.message ∷ []
       own =
@@ -311,16 +324,20 @@ module _ (flows : Flows) (count : ℕ) (parts : ℕ → Partition) (p : ℕ) whe
           ∙ ap (λ (b : Bool). link_in (way_of (queue_at q.queue target) next (cond b (longer (q.outboxes target)) (q.outboxes target))) posted.message.from posted.message.to) (eq-eqb target target refl)
           ∙ stream_own (queue_at q.queue target) (next - (q.outboxes target).first) (q.outboxes target).messages posted posted.message.from posted.message.to (own_is posted.message) (omega (arith, next_is, ready.readers posted.message.to away))
           ∙ ap (λ (b : Bool). link_in (way_of (queue_at q.queue target) next (cond b q.outboxes (parts source).outboxes target)) posted.message.from posted.message.to ++ posted.message ∷ []) (sym here)
+
       others : (from to : Id) → is_of from to posted.message ≡ false → link_in (way q.queue q.inboxes (with_posted q.outboxes target posted) (home count from) (home count to)) from to ≡ (merged q).links from to
       others from to apart = by (p == home count from)
         where
           queue : List Message
           queue = queue_at q.queue (home count to)
+
           read : ℕ
           read = (inboxes_at q.inboxes (home count to) (home count from)).next
+
           inner : (same : Bool) → link_in (way_of queue read (cond same (longer (q.outboxes (home count to))) (q.outboxes (home count to)))) from to ≡ link_in (way_of queue read (q.outboxes (home count to))) from to
           inner true = stream_other queue (read - (q.outboxes (home count to)).first) (q.outboxes (home count to)).messages posted from to apart
           inner false = refl
+
           by : (here : Bool) → link_in (way_of queue read (cond here (with_posted q.outboxes target posted) (parts (home count from)).outboxes (home count to))) from to
               ≡ link_in (way_of queue read (cond here q.outboxes (parts (home count from)).outboxes (home count to))) from to
           by true = inner (target == home count to)
@@ -345,9 +362,11 @@ module _ (flows : Flows) (count : ℕ) (parts : ℕ → Partition) (p : ℕ) whe
     where
       posted : Posted
       posted = record { entry = entry_of q; message = message }
+
       longer : (box : Outbox) (next : ℕ) (test : Bool) → next ≤ box.first + length box.messages → next ≤ (cond test (record box { messages = box.messages ++ posted ∷ [] }) box).first + length (cond test (record box { messages = box.messages ++ posted ∷ [] }) box).messages
       longer box next true is = let more = length-append box.messages (posted ∷ []) in omega (arith, is, more)
       longer box next false is = is
+
       by : (test : Bool) → (home count message.to == q.number) ≡ test
           → IsReady (cond test (record q { queue = q.queue ++ message ∷ [] }) (record q { outboxes = with_posted q.outboxes (home count message.to) posted }))
       by true is = record { number = ready.number; alone = ready.alone; readers = ready.readers }
