@@ -1,12 +1,11 @@
 -- Items are labels.
-use Rattle.std.proofs.Common.{◌≡◌, ◌≤◌, ◌<◌, ◌+◌, ◌-◌, ◌==◌, ◌&&◌, ◌⊎◌, inl, inr, ℕ, zero, suc, length, map, drop, Bool, true, false, cond, List, [], ◌∷◌, ◌++◌, Option, Some, None, refl, sym, ap, subst, ◌∙◌, arith, eq-eqb}
-use Rattle.std.specs.Prelude.{option_map, nat_le, nat_lt, not}
-use Rattle.std.proofs.lemmas.Bool.{eqb-true}
+use Rattle.std.proofs.Common.{◌≡◌, ◌==◌, ◌&&◌, ℕ, suc, Bool, true, false, cond, List, [], ◌∷◌, ◌++◌, Option, Some, None, refl, sym, ap, subst, ◌∙◌, eq-eqb}
+use Rattle.std.specs.Prelude.{option_map, nat_le}
 use Rattle.activity_table.specs.Table.{may}
 use Rattle.dura_value.specs.declared.data.Value.{Value}
 use Rattle.dura_value.specs.declared.outcome.Outcome.{Outcome}
 use Rattle.dura_value.specs.Ids.{Id, orchestration, entity, client, home, id_eq}
-use Rattle.dura_value.specs.Items.{Identity, Item, took, got, ran, ended, fired, trim}
+use Rattle.dura_value.specs.Items.{took, ran, ended, fired}
 use Rattle.dura_value.specs.Messages.{Reply, to_nobody, to_task, to_request, Answer, Spot, entity_at, Body, start, raise, query, wait, result, operate, lock, granted, release, Message}
 use Rattle.flow_syntax.specs.Syntax.{Flows, Block, class_of}
 use Rattle.flow_syntax.specs.Machine.{resulted}
@@ -14,10 +13,10 @@ use Rattle.flow_syntax.specs.Machine.{fired as timer_fired}
 use Rattle.flow_syntax.specs.Entity.{Entity, answering, operated, operation_of, value_answer, lock_goes_on, takes, deliver as deliver_to}
 use Rattle.dura_model.specs.World.{World, Orchestration, Activity, at_id, at_link, at_number}
 use Rattle.dura_model.specs.Deliveries.{goes_on_from, to_instance}
-use Rattle.dura_model.specs.Steps.{Label, take, deliver, finish, fire, is_request, number_in, taken, last_of, entity_of, to_entity, answered, to_client, received, delivered, answer_of, finished, timed, stands_as, sent, step}
-use Rattle.dura_model.specs.Partition.{Row, Posted, Partition, instance_in, instance_at, event_of, raised_to, first_in, without_first, last_in, answered_in, client_received, entity_received, received_in, delivered_in, taken_in, ended_in, fired_in, post, post_all, stands_in, accepted, link_in}
-use Rattle.dura_model.specs.Placed.{AreShown}
+use Rattle.dura_model.specs.Steps.{take, deliver, finish, fire, is_request, number_in, taken, last_of, entity_of, to_entity, answered, to_client, received, delivered, answer_of, finished, timed, stands_as, sent, step}
+use Rattle.dura_model.specs.Partition.{Row, Partition, instance_in, instance_at, event_of, raised_to, first_in, without_first, last_in, answered_in, client_received, entity_received, received_in, delivered_in, taken_in, ended_in, fired_in, post_all, stands_in, accepted, link_in}
 use Rattle.dura_value.proofs.Ids.{id_same, id_self, both_true}
+use Rattle.dura_model.proofs.Basics.{some_same}
 use Rattle.dura_model.proofs.Sending.{AllFrom}
 use Rattle.dura_model.proofs.Rows.{Suits, instance_suits, row_goes_on}
 use Rattle.dura_model.proofs.Merged.{merged, IsReady, post_merged, post_all_merged, stands_merged, taken_merged, timer_merged, activity_merged, entity_merged, answer_merged, link_both, behind, queue_at}
@@ -37,7 +36,7 @@ lock_from : (id other : Id) (task : ℕ) (set : List Spot) (index : ℕ) (next :
 lock_from id other task set index None = (refl, tt)
 lock_from id other task set index (Some next) = (refl, tt)
 
-entity_from : (flows : Flows) (e : Entity) (class : List ℕ) (from id : Id) (body : Body) → AllFrom id (deliver_to flows e class from id body).sent
+pub entity_from : (flows : Flows) (e : Entity) (class : List ℕ) (from id : Id) (body : Body) → AllFrom id (deliver_to flows e class from id body).sent
 entity_from flows e class from id (operate operation argument reply) = operated_from e from id argument reply (operation_of (class_of flows class) operation)
 entity_from flows e class from id (query number) = answering_from id from (to_request number) (value_answer (class_of flows class) e.value)
 entity_from flows e class from id (lock other task set index) = lock_from id other task set (suc index) (entity_at set (suc index))
@@ -56,9 +55,6 @@ record IsFirst (queue : List Message) (from to : Id) (body : Body) : Type 0 wher
   is : message.body ≡ body
   first : link_in queue from to ≡ message ∷ link_in (without_first queue from to) from to
   others : (x y : Id) → id_eq from x && id_eq to y ≡ false → link_in (without_first queue from to) x y ≡ link_in queue x y
-
-some_same : {X : Type 0} {x y : X} → Some x ≡ Some y → x ≡ y
-some_same is = cc
 
 -- the first one
 first_here : (message : Message) (queue : List Message) (from to : Id) (body : Body) → id_eq from message.from && id_eq to message.to ≡ true → message.body ≡ body → IsFirst (message ∷ queue) from to body
@@ -149,9 +145,9 @@ module _ (flows : Flows) (count : ℕ) (parts : ℕ → Partition) (p : ℕ) whe
   instance_here : (q : Partition) (id : Id) → home count id ≡ p → instance_at flows q id ≡ (world q).orchestrations id
   instance_here q id here = ap (λ (b : Bool). cond b (instance_at flows q id) (instance_at flows (parts (home count id)) id)) (sym (here_is id here))
 
-  goes_on_as : (q r : Partition) (id : Id) (row : Row) (stamp : ℕ) (w : World) (event : _) → Ready q → home count id ≡ p → q.instances id ≡ Some row → world q ≡ w
+  goes_on_as : (q : Partition) (id : Id) (row : Row) (stamp : ℕ) (w : World) (event : _) → Ready q → home count id ≡ p → q.instances id ≡ Some row → world q ≡ w
       → world (stands_in count q id stamp (Some event) (goes_on_from (instance_in flows id row) event stamp [])) ≡ stands_as w id (goes_on_from (instance_in flows id row) event stamp [])
-  goes_on_as q r id row stamp w event ready here there is =
+  goes_on_as q id row stamp w event ready here there is =
       let e = goes_on_from (instance_in flows id row) event stamp [] in
       let suits : Suits flows id (q.instances id) stamp (Some event) e = subst (λ (found : Option Row). Suits flows id found stamp (Some event) e) (sym there) (row_goes_on flows id row event stamp) in
       stands_merged flows count parts p q id stamp (Some event) e ready here suits.sent suits.fits ∙ ap (λ (v : World). stands_as v id e) is
@@ -166,7 +162,7 @@ module _ (flows : Flows) (count : ℕ) (parts : ℕ → Partition) (p : ℕ) whe
       let event = timer_fired task in
       let w : World = record (world q) { timers = at_number (world q).timers id task None } in
       chosen (nat_le due stamp && nat_le o.machine.last stamp) (Some (stands_in count over id stamp (Some event) (goes_on_from o event stamp []))) (Some (stands_as w id (goes_on_from o event stamp [])))
-      (ap Some (goes_on_as over q id row stamp w event (record { number = ready.number; alone = ready.alone; readers = ready.readers }) here there (timer_merged flows count parts p q id task None here)))
+      (ap Some (goes_on_as over id row stamp w event (record { number = ready.number; alone = ready.alone; readers = ready.readers }) here there (timer_merged flows count parts p q id task None here)))
 
   pub fired_as : (q : Partition) (id : Id) (task stamp : ℕ) → Ready q → home count id ≡ p
       → option_map world (accepted flows count q (fired id task stamp)) ≡ step flows (world q) (fire id task stamp)
@@ -185,7 +181,7 @@ module _ (flows : Flows) (count : ℕ) (parts : ℕ → Partition) (p : ℕ) whe
       let o = instance_in flows id row in
       let event = resulted task (answer_of outcome) in
       let w : World = record (world q) { activities = at_number (world q).activities id task None } in
-      ap Some (goes_on_as over q id row o.machine.last w event (record { number = ready.number; alone = ready.alone; readers = ready.readers }) here there (activity_merged flows count parts p q id task None here))
+      ap Some (goes_on_as over id row o.machine.last w event (record { number = ready.number; alone = ready.alone; readers = ready.readers }) here there (activity_merged flows count parts p q id task None here))
       ∙ ap (λ (b : Bool). cond b (Some (stands_as w id (goes_on_from o event o.machine.last []))) None) (sym (given activity refl))
 
   pub ended_as : (q : Partition) (id : Id) (task : ℕ) (outcome : Outcome) → Ready q → home count id ≡ p

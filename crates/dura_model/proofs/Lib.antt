@@ -1,3 +1,4 @@
+pub mod Basics
 pub mod Growing
 pub mod Outcomes
 pub mod Rows
@@ -6,4 +7,5 @@ pub mod Shown
 pub mod Streams
 pub mod Items
 pub mod Keeping
+pub mod Kept
 pub mod Merged

@@ -1,6 +1,6 @@
 -- Laws of legal runs.
-use Rattle.std.proofs.Common.{◌≡◌, ◌≤◌, ◌<◌, ◌+◌, ◌⊎◌, inl, inr, ◌==◌, ◌&&◌, ℕ, zero, suc, length, Bool, true, false, cond, List, [], ◌∷◌, ◌++◌, Option, Some, None, refl, sym, ap, subst, ◌∙◌, arith, eq-eqb}
-use Rattle.std.specs.Prelude.{nat_le, codes}
+use Rattle.std.proofs.Common.{◌≡◌, ◌≤◌, ◌<◌, ◌+◌, ◌⊎◌, inl, inr, ◌==◌, ◌&&◌, ℕ, length, Bool, true, false, cond, List, [], ◌∷◌, ◌++◌, Option, Some, None, refl, sym, ap, subst, ◌∙◌, arith, eq-eqb}
+use Rattle.std.specs.Prelude.{nat_le}
 use Rattle.std.specs.Option.{option_and_then}
 use Rattle.std.proofs.lemmas.Bool.{eqb-true, cases_lt}
 use Rattle.activity_table.specs.Table.{may}
@@ -9,14 +9,15 @@ use Rattle.dura_value.specs.declared.outcome.Outcome.{Outcome}
 use Rattle.dura_value.specs.Ids.{Id, orchestration, entity, client, id_eq}
 use Rattle.dura_value.specs.Messages.{Reply, to_nobody, to_task, to_request, Answer, Body, start, raise, query, wait, result, operate, lock, granted, release, Message}
 use Rattle.flow_syntax.specs.Syntax.{Flows, Block}
-use Rattle.flow_syntax.specs.Machine.{Machine, Progress, unborn, running, done, failed, new_machine, Asked, an_activity, a_timer, Resumed, Event, started, resulted, was_raised, fired, was_granted, resume}
+use Rattle.flow_syntax.specs.Machine.{Machine, new_machine, Asked, an_activity, a_timer, Resumed, Event, started, resulted, was_raised, fired, was_granted, resume}
 use Rattle.flow_syntax.specs.Entity.{Entity, takes, deliver as deliver_to}
-use Rattle.dura_model.specs.World.{World, Orchestration, Activity, at_id, at_link, at_number, cleared, empty}
+use Rattle.dura_model.specs.World.{World, Orchestration, Activity, at_id, at_link, at_number, empty}
 use Rattle.dura_model.specs.Deliveries.{Effect, ending, at_end, goes_on_from, begun, flow_of, beginning, to_absent, to_present, is_over, waited, raised_at, result_at, granted_at, at_moment, to_instance, telling}
 use Rattle.dura_value.specs.Messages.{was_raised as is_raised}
 use Rattle.dura_model.specs.Steps.{Label, take, deliver, finish, fire, sent, asked, given_up, stands_as, is_request, taken, last_of, entity_of, to_entity, answered, to_client, received, delivered, answer_of, finished, timed, step}
 use Rattle.dura_model.specs.Legal.{Legal, after_from, is_finish, finishes}
 use Rattle.dura_value.proofs.Ids.{id_same, id_self, both_true, and_true}
+use Rattle.dura_model.proofs.Basics.{some_same, passes, passed}
 use Rattle.dura_model.proofs.Growing.{Grows, AllNew, resume_grows}
 
 -- how many tasks an instance has
@@ -192,14 +193,6 @@ stands_moves w v id e same fewer adds = record {
 
 -- ---- steps
 
-some_same : {X : Type 0} {x y : X} → Some x ≡ Some y → x ≡ y
-some_same is = cc
-
--- a test that lets something through
-passes : (test : Bool) (x : Option World) (y : World) → cond test x None ≡ Some y → x ≡ Some y
-passes true x y is = is
-passes false x y is = absurd (cc is)
-
 module _ (flows : Flows) where
   taken_moves : (w : World) (who : Id) (number : ℕ) (message : Message) (before : Option Message) (next : World) → taken w who number message before ≡ Some next → Moves w next
   taken_moves w who number message None next is =
@@ -230,13 +223,13 @@ module _ (flows : Flows) where
       let d = deliver_to flows (record e { last = stamp }) class from to body in
       let u : World = record v { entities = at_id v.entities to (Some d.entity) } in
       let sends = sent_same u d.sent in
-      subst (Moves w) (some_same (passes (takes e.holder from && nat_le e.last stamp) (Some (sent u d.sent)) next is)) (moves_same w (sent u d.sent) (sends.0 ∙ same) (sends.1 ∙ also))
+      subst (Moves w) (passed (takes e.holder from && nat_le e.last stamp) (sent u d.sent) next is).1 (moves_same w (sent u d.sent) (sends.0 ∙ same) (sends.1 ∙ also))
 
   received_moves : (w v : World) (from to : Id) (stamp : ℕ) (body : Body) (next : World) → v.orchestrations ≡ w.orchestrations → v.activities ≡ w.activities → received flows v from to stamp body ≡ Some next → Moves w next
   received_moves w v from (orchestration flow key) stamp body next same also is =
       let to = orchestration flow key in
       let e = to_instance flows (v.orchestrations to) from to stamp body in
-      subst (Moves w) (some_same (passes (nat_le (last_of (v.orchestrations to)) stamp) (Some (stands_as v to e)) next is))
+      subst (Moves w) (passed (nat_le (last_of (v.orchestrations to)) stamp) (stands_as v to e) next is).1
       (stands_moves w v to e same (λ other task none. ap (λ (f : Id → ℕ → Option Activity). f other task) also ∙ none)
       (subst (λ (f : Id → Option Orchestration). Adds (tasks_of (f to)) e) same (instance_adds flows (v.orchestrations to) from to stamp body)))
   received_moves w v from (entity class key) stamp body next same also is =
@@ -256,7 +249,7 @@ finished_moves w id task outcome (Some o) None next there is = absurd (cc is)
 finished_moves w id task outcome (Some o) (Some activity) next there is =
     let e = goes_on_from o (resulted task (answer_of outcome)) o.machine.last [] in
     let v : World = record w { activities = at_number w.activities id task None } in
-    subst (Moves w) (some_same (passes (may activity.name activity.argument outcome) (Some (stands_as v id e)) next is))
+    subst (Moves w) (passed (may activity.name activity.argument outcome) (stands_as v id e) next is).1
     (stands_moves w v id e refl (less_none w id task) (subst (λ (p : Option Orchestration). Adds (tasks_of p) e) (sym there) (goes_on_adds o (resulted task (answer_of outcome)) o.machine.last [])))
 
 timed_moves : (w : World) (id : Id) (task stamp : ℕ) (there : Option Orchestration) (timer : Option ℕ) (next : World) → w.orchestrations id ≡ there → timed w id task stamp there timer ≡ Some next → Moves w next
@@ -265,11 +258,11 @@ timed_moves w id task stamp (Some o) None next there is = absurd (cc is)
 timed_moves w id task stamp (Some o) (Some due) next there is =
     let e = goes_on_from o (fired task) stamp [] in
     let v : World = record w { timers = at_number w.timers id task None } in
-    subst (Moves w) (some_same (passes (nat_le due stamp && nat_le o.machine.last stamp) (Some (stands_as v id e)) next is))
+    subst (Moves w) (passed (nat_le due stamp && nat_le o.machine.last stamp) (stands_as v id e) next is).1
     (stands_moves w v id e refl (λ other number none. none) (subst (λ (p : Option Orchestration). Adds (tasks_of p) e) (sym there) (goes_on_adds o (fired task) stamp [])))
 
 step_moves : (flows : Flows) (w : World) (label : Label) (next : World) → step flows w label ≡ Some next → Moves w next
-step_moves flows w (take who number message) next is = taken_moves flows w who number message (w.taken who number) next (passes (is_request who number message) (taken w who number message (w.taken who number)) next is)
+step_moves flows w (take who number message) next is = taken_moves flows w who number message (w.taken who number) next (passes (is_request who number message) (taken w who number message (w.taken who number)) next is).1
 step_moves flows w (deliver from to stamp) next is = delivered_moves flows w from to stamp (w.links from to) next is
 step_moves flows w (finish id task outcome) next is = finished_moves w id task outcome (w.orchestrations id) (w.activities id task) next refl is
 step_moves flows w (fire id task stamp) next is = timed_moves w id task stamp (w.orchestrations id) (w.timers id task) next refl is
@@ -313,7 +306,7 @@ ends w id task outcome (Some o) (Some activity) next there asks within is = (not
 
     moves : Moves v next
     moves =
-        subst (Moves v) (some_same (passes (may activity.name activity.argument outcome) (Some (stands_as v id e)) next is))
+        subst (Moves v) (passed (may activity.name activity.argument outcome) (stands_as v id e) next is).1
         (stands_moves v v id e refl (λ other number none. none) (subst (λ (p : Option Orchestration). Adds (tasks_of p) e) (sym there) (goes_on_adds o (resulted task (answer_of outcome)) o.machine.last [])))
 
     not_none : w.activities id task ≡ None → ⊥

@@ -1,14 +1,14 @@
 -- The row of an instance stands for what an effect made of it, and all that is sent comes from it.
-use Rattle.std.proofs.Common.{◌≡◌, ◌+◌, ℕ, Bool, true, false, List, [], ◌∷◌, ◌++◌, Option, Some, None, refl, sym, ap, subst, ◌∙◌}
+use Rattle.std.proofs.Common.{◌≡◌, ℕ, Bool, true, false, List, [], ◌∷◌, ◌++◌, Option, Some, None, refl, sym, ap, subst, ◌∙◌}
 use Rattle.std.specs.Prelude.{option_map, codes}
 use Rattle.dura_value.specs.declared.data.Value.{Value}
 use Rattle.dura_value.specs.Ids.{Id}
 use Rattle.dura_value.specs.Messages.{Reply, to_nobody, to_task, to_request, Answer, was_there, is_unknown, Body, start, raise, query, wait, result, operate, lock, granted, release, Message}
 use Rattle.dura_value.specs.Messages.{was_raised as is_raised}
 use Rattle.flow_syntax.specs.Syntax.{Flows, Block}
-use Rattle.flow_syntax.specs.Machine.{Machine, new_machine, Event, started, resulted, was_raised, was_granted, Resumed, resume, Past, replayed}
+use Rattle.flow_syntax.specs.Machine.{Machine, new_machine, Event, started, resulted, was_raised, was_granted, resume, Past, replayed}
 use Rattle.dura_model.specs.World.{Orchestration}
-use Rattle.dura_model.specs.Deliveries.{Effect, ending, answering_all, at_end, goes_on_from, refusing, beginning, telling, flow_of, begun, to_absent, is_over, waited, raised_at, result_at, granted_at, to_present, at_moment, to_instance, standing}
+use Rattle.dura_model.specs.Deliveries.{Effect, ending, answering_all, at_end, goes_on_from, refusing, beginning, telling, flow_of, begun, to_absent, is_over, waited, raised_at, result_at, granted_at, to_present, at_moment, to_instance}
 use Rattle.dura_model.specs.Partition.{Row, instance_in, if_running, start_event, event_of, history_of, row_after}
 use Rattle.dura_model.proofs.Sending.{AllFrom, from_both, resume_keeps}
 

@@ -1,5 +1,5 @@
 -- Items are labels, of the states of all partitions.
-use Rattle.std.proofs.Common.{◌≡◌, ◌≤◌, ◌<◌, ◌+◌, ◌⊎◌, inl, inr, ℕ, length, Bool, true, false, List, [], Option, Some, None, refl, sym, ap, subst, ◌∙◌, arith, ◌-◌, ◌∷◌, take, drop}
+use Rattle.std.proofs.Common.{◌≡◌, ◌<◌, ◌⊎◌, inl, inr, ℕ, true, List, [], Option, Some, None, refl, sym, ap, subst, ◌∙◌, arith, ◌-◌, ◌∷◌, take, drop}
 use Rattle.std.specs.Prelude.{option_map, nat_lt}
 use Rattle.std.specs.List.{Contains}
 use Rattle.std.proofs.lemmas.List.{take-append-drop}
@@ -11,14 +11,12 @@ use Rattle.dura_value.specs.Messages.{Body, Message}
 use Rattle.flow_syntax.specs.Syntax.{Flows}
 use Rattle.dura_model.specs.World.{World}
 use Rattle.dura_model.specs.Steps.{Label, take as take_in, deliver, finish, fire, number_in, step}
-use Rattle.dura_model.specs.Partition.{Posted, Outbox, Partition, first_in, accepted, label_in, shown, with_part}
-use Rattle.dura_model.specs.Placed.{Belongs, IsOther, IsReader, IsStreamed, AreShown, happens_at, IsGiven, IsOfStreams, IsLabelled, ShowsNothing}
+use Rattle.dura_model.specs.Partition.{Posted, Outbox, Partition, first_in, delivered_in, accepted, label_in, shown, with_part}
+use Rattle.dura_model.specs.Placed.{IsOther, IsStreamed, AreShown, happens_at, IsGiven, IsOfStreams, IsLabelled, ShowsNothing}
+use Rattle.dura_model.proofs.Basics.{some_same}
 use Rattle.dura_model.proofs.Merged.{merged, IsReady, shown_merged, merged_shown}
 use Rattle.dura_model.proofs.Items.{took_as, fired_as, ended_as, ran_as}
 use Rattle.dura_model.proofs.Streams.{got_as, trim_as}
-
-some_same : {X : Type 0} {x y : X} → Some x ≡ Some y → x ≡ y
-some_same is = cc
 
 -- an id lives below the number of partitions
 pub home_below : (count p : ℕ) (id : Id) → p < count → home count id < count
@@ -49,7 +47,7 @@ module _ (flows : Flows) (count : ℕ) (parts : ℕ → Partition) (p : ℕ) whe
       ∙ is
       ∙ ap (λ (w : World). step flows w label) (merged_shown flows count parts p)
 
-  silent : (next : Partition) → merged flows count parts p next ≡ merged flows count parts p (parts p) → shown flows count (with_part parts p next) ≡ shown flows count parts
+  pub silent : (next : Partition) → merged flows count parts p next ≡ merged flows count parts p (parts p) → shown flows count (with_part parts p next) ≡ shown flows count parts
   silent next is = shown_merged flows count parts p next ∙ is ∙ merged_shown flows count parts p
 
   home_of : (id other : Id) → Some other ≡ Some id → home count id ≡ p → home count other ≡ p
@@ -92,3 +90,7 @@ module _ (flows : Flows) (count : ℕ) (parts : ℕ → Partition) (p : ℕ) whe
   item_silent (ran from to stamp) shows below is given next accepts = absurd (cc is)
   item_silent (ended id task outcome) shows below is given next accepts = absurd (cc is)
   item_silent (fired id task stamp) shows below is given next accepts = absurd (cc is)
+
+  -- a link of which no message came in isn't delivered
+  pub link_waits : (q : Partition) (from to : Id) (stamp : ℕ) → first_in q.queue from to ≡ None → accepted flows count q (ran from to stamp) ≡ None
+  link_waits q from to stamp nothing = ap (delivered_in flows count q from to stamp) nothing

@@ -1,16 +1,17 @@
 -- What comes in from a stream, or is let go, changes nothing that is shown.
-use Rattle.std.proofs.Common.{◌≡◌, ◌≤◌, ◌<◌, ◌+◌, ◌-◌, ◌==◌, ◌&&◌, ◌⊎◌, inl, inr, ℕ, zero, suc, length, map, drop, Bool, true, false, cond, List, [], ◌∷◌, ◌++◌, Option, Some, None, refl, sym, ap, subst, ◌∙◌, arith, eq-eqb}
+use Rattle.std.proofs.Common.{◌≡◌, ◌≤◌, ◌<◌, ◌+◌, ◌-◌, ◌==◌, ◌&&◌, ℕ, length, drop, Bool, true, false, cond, List, [], ◌∷◌, ◌++◌, Some, refl, sym, ap, subst, ◌∙◌, arith, eq-eqb}
 use Rattle.std.specs.Prelude.{nat_le, nat_lt, not}
 use Rattle.std.proofs.lemmas.Bool.{eqb-true, leb-false}
 use Rattle.std.proofs.lemmas.List.{append_assoc, drop-drop}
 use Rattle.dura_value.specs.Ids.{Id, home, id_eq}
-use Rattle.dura_value.specs.Items.{Identity, Item, got, trim}
+use Rattle.dura_value.specs.Items.{Identity, got, trim}
 use Rattle.dura_value.specs.Messages.{Message}
 use Rattle.flow_syntax.specs.Syntax.{Flows}
 use Rattle.dura_model.specs.World.{World}
-use Rattle.dura_model.specs.Partition.{Posted, Outbox, Inbox, Partition, entry_of, with_inbox, got_in, begins_at, with_first, trim_in, accepted, link_in, messages_in}
+use Rattle.dura_model.specs.Partition.{Posted, Outbox, Inbox, Partition, entry_of, with_inbox, begins_at, with_first, accepted, link_in, messages_in}
 use Rattle.dura_model.specs.Placed.{IsStreamed}
 use Rattle.dura_value.proofs.Ids.{id_same, both_true}
+use Rattle.dura_model.proofs.Basics.{passed, not_true}
 use Rattle.dura_model.proofs.Merged.{turned, merged, IsReady, link_both, link_other, is_of, outboxes_at, inboxes_at, queue_at}
 
 -- a message that came in stands at the end of the queue in place of the head of what wasn't taken in
@@ -33,15 +34,6 @@ lets_go number next box false is read =
     let high : box.first < number = leb-false number box.first is in
     drop-drop (next - number) (number - box.first) box.messages
     ∙ (let sum : number - box.first + (next - number) ≡ next - box.first = omega (arith, high, read) in ap (λ (k : ℕ). drop k box.messages) sum)
-
--- what a test lets through
-passed : (test : Bool) (x next : Partition) → cond test (Some x) None ≡ Some next → (test ≡ true) × (x ≡ next)
-passed true x next is = (refl, cc is)
-passed false x next is = absurd (cc is)
-
-not_true : (b : Bool) → not b ≡ true → b ≡ false
-not_true true is = absurd (cc is)
-not_true false is = refl
 
 module _ (flows : Flows) (count : ℕ) (parts : ℕ → Partition) (p : ℕ) where
   abbrev world : Partition → World

@@ -1,11 +1,10 @@
 -- What a message makes of its receiver, as messages that are sent, activities and timers.
-use Rattle.std.specs.Prelude.{ℕ, List, [], ◌∷◌, ◌++◌, codes, Bool, true, false, if◌then◌else◌, Option, Some, None}
+use Rattle.std.specs.Prelude.{ℕ, List, [], ◌∷◌, ◌++◌, codes, Bool, true, false, Option, Some, None}
 use Rattle.dura_value.specs.declared.data.Value.{Value}
 use Rattle.dura_value.specs.Ids.{Id, orchestration}
 use Rattle.dura_value.specs.Messages.{Reply, to_nobody, to_task, to_request, Answer, is_done, has_failed, was_started, was_there, is_unknown, was_raised, has_ended, is_missing, is_running, Body, start, raise, query, wait, result, granted, Message}
 use Rattle.flow_syntax.specs.Syntax.{Block, Flows, body_of}
-use Rattle.flow_syntax.specs.Machine.{Machine, Progress, unborn, running, done, failed, new_machine, Event, started, resulted, was_raised as raised, was_granted, resume, Resumed, Asked, only}
-use Rattle.flow_syntax.specs.Entity.{answering}
+use Rattle.flow_syntax.specs.Machine.{Machine, Progress, done, failed, new_machine, Event, started, resulted, was_raised as raised, was_granted, resume, Resumed, Asked}
 use Rattle.dura_model.specs.World.{Orchestration}
 
 -- What a delivery to an instance made: the instance, or none where it isn't there; the messages in the order in which they

@@ -1,9 +1,9 @@
 -- Legal runs, and where they come to.
-use Rattle.std.specs.Prelude.{◌≡◌, ◌⊎◌, ◌&&◌, ◌==◌, ℕ, zero, suc, ◌+◌, ◌<◌, List, [], ◌∷◌, ◌++◌, Bool, true, false, not, is_some, if◌then◌else◌, Option, Some, None}
+use Rattle.std.specs.Prelude.{◌≡◌, ◌&&◌, ◌==◌, ℕ, ◌+◌, List, [], ◌∷◌, ◌++◌, Bool, true, false, not, is_some, if◌then◌else◌, Option, Some, None}
 use Rattle.std.specs.List.{Contains}
 use Rattle.std.specs.Option.{option_and_then}
 use Rattle.dura_value.specs.Ids.{Id, id_eq}
-use Rattle.dura_value.specs.Messages.{Spot, at_spot, Body, lock, release, Message}
+use Rattle.dura_value.specs.Messages.{Spot, at_spot, lock, release, Message}
 use Rattle.flow_syntax.specs.Syntax.{Flows}
 use Rattle.flow_syntax.specs.Machine.{inside}
 use Rattle.flow_syntax.specs.Entity.{Entity}

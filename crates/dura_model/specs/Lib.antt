@@ -1,5 +1,4 @@
 pub mod Deliveries
-pub mod Dependencies
 pub mod Legal
 pub mod Partition
 pub mod Placed

@@ -1,15 +1,14 @@
 -- The state of one partition, what an item makes of it, and the world that the states of all partitions show.
-use Rattle.std.specs.Prelude.{ℕ, suc, ◌+◌, ◌-◌, ◌==◌, ◌&&◌, List, [], ◌∷◌, ◌++◌, length, drop, map, Bool, true, false, not, nat_le, nat_lt, if◌then◌else◌, Option, Some, None, option_map}
-use Rattle.std.specs.Option.{option_and_then}
+use Rattle.std.specs.Prelude.{ℕ, ◌+◌, ◌-◌, ◌==◌, ◌&&◌, List, [], ◌∷◌, ◌++◌, length, drop, map, Bool, true, false, not, nat_le, nat_lt, if◌then◌else◌, Option, Some, None, option_map}
 use Rattle.dura_value.specs.declared.outcome.Outcome.{Outcome}
 use Rattle.dura_value.specs.Ids.{Id, orchestration, entity, client, id_eq, home}
 use Rattle.dura_value.specs.Items.{Identity, Item, took, got, ran, ended, fired, trim}
 use Rattle.dura_value.specs.Messages.{to_task, to_request, Answer, Body, start, raise, result, granted, Message}
 use Rattle.flow_syntax.specs.Syntax.{Flows}
-use Rattle.flow_syntax.specs.Machine.{Machine, new_machine, Event, started, resulted, was_raised, was_granted, Past, replayed, Asked, an_activity, a_timer}
+use Rattle.flow_syntax.specs.Machine.{new_machine, Event, started, resulted, was_raised, was_granted, Past, replayed, Asked, an_activity, a_timer}
 use Rattle.flow_syntax.specs.Machine.{fired as timer_fired}
 use Rattle.flow_syntax.specs.Entity.{Entity, Delivered, takes, deliver as deliver_to}
-use Rattle.dura_model.specs.World.{World, Orchestration, Activity, at_id, at_link, at_number, cleared}
+use Rattle.dura_model.specs.World.{World, Orchestration, Activity, at_id, at_number, cleared}
 use Rattle.dura_model.specs.Deliveries.{Effect, to_instance, goes_on_from, flow_of, is_over}
 use Rattle.dura_model.specs.Steps.{Label, take, deliver, finish, fire, is_request, number_in, entity_of, answer_of}
 

@@ -131,3 +131,9 @@ IsLabelled flows count parts p item label = option_map (λ next. shown flows cou
 -- An item makes of one of the states nothing that shows.
 abbrev pub ShowsNothing : Flows → (count : ℕ) → (ℕ → Partition) → ℕ → Item → Type 0
 ShowsNothing flows count parts p item = (next : Partition) → accepted flows count (parts p) item ≡ Some next → shown flows count (with_part parts p next) ≡ shown flows count parts
+
+-- two states of one partition, in the same entry
+pub record IsSameEntry (p next : Partition) : Type 0 where
+  pub number : next.number ≡ p.number
+  pub position : next.position ≡ p.position
+  pub incarnation : next.incarnation ≡ p.incarnation

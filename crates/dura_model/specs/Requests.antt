@@ -1,5 +1,5 @@
 -- The requests of a file, and the lines of their answers.
-use Rattle.std.specs.Prelude.{map, ◌≡◌, ◌&&◌, ◌==◌, ℕ, ℤ, pos, negsuc, List, [], ◌∷◌, ◌++◌, codes, Bool, Option, Some, None, true, false, if◌then◌else◌}
+use Rattle.std.specs.Prelude.{map, ◌≡◌, ℕ, ℤ, pos, negsuc, List, [], ◌∷◌, ◌++◌, codes, Option, Some, true, false, if◌then◌else◌}
 use Rattle.std.specs.Str.{bytes_eq}
 use Rattle.serde_json.specs.Data.{Data, Items, null, boolean, number, string, array, no_items, item, unsigned, negative}
 use Rattle.std.specs.Fmt.{decimal}

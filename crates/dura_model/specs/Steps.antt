@@ -3,11 +3,10 @@ use Rattle.std.specs.Prelude.{ℕ, ◌==◌, ◌&&◌, ◌^◌, List, [], ◌∷
 use Rattle.activity_table.specs.Table.{may}
 use Rattle.dura_value.specs.declared.outcome.Outcome.{Outcome}
 use Rattle.dura_value.specs.declared.outcome.Outcome.TheVariants as outcomes
-use Rattle.dura_value.specs.declared.data.Value.{Value}
 use Rattle.dura_value.specs.Ids.{Id, orchestration, entity, client, id_eq}
-use Rattle.dura_value.specs.Messages.{Reply, to_request, Answer, is_done, has_failed, Body, start, raise, query, wait, result, Message}
+use Rattle.dura_value.specs.Messages.{to_request, Answer, is_done, has_failed, Body, start, raise, query, wait, result, Message}
 use Rattle.flow_syntax.specs.Syntax.{Flows, class_of}
-use Rattle.flow_syntax.specs.Machine.{Asked, an_activity, a_timer, Event, resulted, fired}
+use Rattle.flow_syntax.specs.Machine.{Asked, an_activity, a_timer, resulted, fired}
 use Rattle.flow_syntax.specs.Entity.{Entity, takes, initial, deliver as deliver_to, Delivered}
 use Rattle.dura_model.specs.World.{World, Orchestration, Activity, at_id, at_link, at_number, cleared}
 use Rattle.dura_model.specs.Deliveries.{Effect, to_instance, goes_on_from}

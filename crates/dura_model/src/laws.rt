@@ -2,13 +2,13 @@
 
 ghost use Rattle.std.specs.Prelude.{◌≡◌, ◌<◌, ◌≤◌, ℕ, List, Some, None};
 ghost use Rattle.dura_value.specs.Ids.{Id, home};
-ghost use Rattle.dura_value.specs.Items.{Item};
+ghost use Rattle.dura_value.specs.Items.{Item, ran};
 ghost use Rattle.flow_syntax.specs.Syntax.{Flows};
 ghost use Rattle.dura_model.specs.Legal.{Legal, finishes};
-ghost use Rattle.dura_model.specs.Partition.{Partition, label_in};
-ghost use Rattle.dura_model.specs.Placed.{AreShown, happens_at, IsGiven, IsOfStreams, IsLabelled, ShowsNothing};
+ghost use Rattle.dura_model.specs.Partition.{Partition, fresh, enter, first_in, accepted, label_in, shown, with_part};
+ghost use Rattle.dura_model.specs.Placed.{AreShown, happens_at, IsGiven, IsOfStreams, IsLabelled, ShowsNothing, IsSameEntry};
 ghost use Rattle.dura_model.specs.Steps.{Label};
-ghost use Rattle.dura_model.specs.World.{World};
+ghost use Rattle.dura_model.specs.World.{World, empty};
 
 /// In a legal run no task of an instance is ended twice.
 #[tactic(auto, using(crate::proofs::Outcomes::never_twice))]
@@ -16,15 +16,42 @@ pub fn ends_once()
     ensures { (flows : Flows) (run : List Label) (w : World) → Legal flows run w → (id : Id) (task : ℕ) → finishes id task run ≤ 1 }
 {}
 
-/// An item of one of the partitions does to the world that they show what its label does.
-#[tactic(auto, using(crate::proofs::Shown::item_labelled))]
+/// An item of one of the partitions does to the world that they show what its label does. It is accepted only in the home of
+/// whom it happens to, and a link is delivered only where a message of it came in.
+#[tactic(auto, using(crate::proofs::Shown::item_labelled, crate::proofs::Shown::link_waits, crate::proofs::Kept::item_lives))]
 pub fn items_are_labels()
-    ensures { (flows : Flows) (count : ℕ) (parts : ℕ → Partition) (p : ℕ) (item : Item) (label : Label) (id : Id)
+    ensures labels { (flows : Flows) (count : ℕ) (parts : ℕ → Partition) (p : ℕ) (item : Item) (label : Label) (id : Id)
         → AreShown count parts → p < count → label_in item ≡ Some label → happens_at item ≡ Some id → home count id ≡ p → IsGiven (parts p) item → IsLabelled flows count parts p item label }
+    ensures lives { (flows : Flows) (count : ℕ) (parts : ℕ → Partition) (p : ℕ) (item : Item) (next : Partition) (id : Id)
+        → AreShown count parts → p < count → happens_at item ≡ Some id → accepted flows count (parts p) item ≡ Some next → home count id ≡ p }
+    ensures waits { (flows : Flows) (count : ℕ) (p : Partition) (from to : Id) (stamp : ℕ) → first_in p.queue from to ≡ None → accepted flows count p (ran from to stamp) ≡ None }
 {}
 
 /// An item that is no label shows nothing.
-#[tactic(auto, using(crate::proofs::Shown::item_silent, crate::proofs::Keeping::follows_then))]
+#[tactic(auto, using(crate::proofs::Shown::item_silent))]
 pub fn streams_show_nothing()
     ensures { (flows : Flows) (count : ℕ) (parts : ℕ → Partition) (p : ℕ) (item : Item) → AreShown count parts → p < count → label_in item ≡ None → IsOfStreams parts p item → ShowsNothing flows count parts p item }
+{}
+
+/// States that show a world still do after an item that is accepted in an entry, which goes on.
+#[tactic(auto, using(crate::proofs::Kept::item_keeps))]
+pub fn items_keep_shown()
+    ensures shown { (flows : Flows) (count : ℕ) (parts : ℕ → Partition) (p : ℕ) (item : Item) (next : Partition)
+        → AreShown count parts → p < count → 0 < (parts p).position → IsOfStreams parts p item → accepted flows count (parts p) item ≡ Some next → AreShown count (with_part parts p next) }
+    ensures entry { (flows : Flows) (count : ℕ) (parts : ℕ → Partition) (p : ℕ) (item : Item) (next : Partition)
+        → AreShown count parts → p < count → 0 < (parts p).position → accepted flows count (parts p) item ≡ Some next → IsSameEntry (parts p) next }
+{}
+
+/// The begin of an entry shows nothing.
+#[tactic(auto, using(crate::proofs::Kept::enter_keeps, crate::proofs::Kept::enter_silent))]
+pub fn entries_show_nothing()
+    ensures kept { (count : ℕ) (parts : ℕ → Partition) (p incarnation : ℕ) → AreShown count parts → p < count → (parts p).incarnation ≤ incarnation → AreShown count (with_part parts p (enter incarnation (parts p))) }
+    ensures same { (flows : Flows) (count : ℕ) (parts : ℕ → Partition) (p incarnation : ℕ) → shown flows count (with_part parts p (enter incarnation (parts p))) ≡ shown flows count parts }
+{}
+
+/// Partitions where nothing happened show the empty world.
+#[tactic(auto, using(crate::proofs::Kept::fresh_shown, crate::proofs::Kept::fresh_empty))]
+pub fn fresh_show_nothing()
+    ensures kept { (count : ℕ) → AreShown count fresh }
+    ensures same { (flows : Flows) (count : ℕ) → shown flows count fresh ≡ empty }
 {}
