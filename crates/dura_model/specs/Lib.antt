@@ -1,4 +1,5 @@
 pub mod Deliveries
+pub mod Dependencies
 pub mod Legal
 pub mod Partition
 pub mod Placed
