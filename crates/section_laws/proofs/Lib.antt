@@ -1,8 +1,11 @@
 pub mod Counts
 pub mod Does
+pub mod Grants
+pub mod Instances
 pub mod MessageKinds
 pub mod Moves
 pub mod Order
 pub mod Programs
+pub mod Releases
 pub mod Sets
 pub mod Tallies

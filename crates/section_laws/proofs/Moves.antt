@@ -14,32 +14,32 @@ use Rattle.section_laws.proofs.Sets.{is_rising}
 
 -- ---- of lists and tests
 
-nothing_more : {X : Type 0} (test : Bool) (xs ys : List X) → xs ≡ ys → xs ++ cond test [] [] ≡ ys
+pub nothing_more : {X : Type 0} (test : Bool) (xs ys : List X) → xs ≡ ys → xs ++ cond test [] [] ≡ ys
 nothing_more test xs ys is = ap (λ (more : List _). xs ++ more) (where_nothing test) ∙ append-nil xs ∙ is
 
-nothing_less : {X : Type 0} (test : Bool) (xs ys rest : List X) → ys ≡ xs → xs ≡ cond test [] [] ++ rest → rest ≡ ys
+pub nothing_less : {X : Type 0} (test : Bool) (xs ys rest : List X) → ys ≡ xs → xs ≡ cond test [] [] ++ rest → rest ≡ ys
 nothing_less test xs ys rest is has = ap (λ (more : List _). more ++ rest) (sym (where_nothing test)) ∙ sym has ∙ sym is
 
-none_left : {X : Type 0} (test : Bool) (x : X) (rest : List X) → cond test (x ∷ []) [] ≡ cond test (x ∷ []) [] ++ rest → rest ≡ []
+pub none_left : {X : Type 0} (test : Bool) (x : X) (rest : List X) → cond test (x ∷ []) [] ≡ cond test (x ∷ []) [] ++ rest → rest ≡ []
 none_left true x rest is = cc is
 none_left false x rest is = sym is
 
-none_from : {X : Type 0} (test : Bool) (xs : List X) → test ≡ false → cond test xs [] ≡ []
+pub none_from : {X : Type 0} (test : Bool) (xs : List X) → test ≡ false → cond test xs [] ≡ []
 none_from test xs is = when_false test xs [] is
 
-and_second : (a b : Bool) → b ≡ true → a && b ≡ a
+pub and_second : (a b : Bool) → b ≡ true → a && b ≡ a
 and_second true b is = is
 and_second false b is = refl
 
-and_first : (a b : Bool) → a ≡ true → a && b ≡ b
+pub and_first : (a b : Bool) → a ≡ true → a && b ≡ b
 and_first true b is = refl
 and_first false b is = absurd (cc is)
 
-not_second : (a b : Bool) → b ≡ false → a && b ≡ false
+pub not_second : (a b : Bool) → b ≡ false → a && b ≡ false
 not_second true b is = is
 not_second false b is = refl
 
-not_first : (a b : Bool) → a ≡ false → a && b ≡ false
+pub not_first : (a b : Bool) → a ≡ false → a && b ≡ false
 not_first true b is = absurd (cc is)
 not_first false b is = refl
 
@@ -55,7 +55,7 @@ module _ (k : Id) (places later : Id → Place) (was place : Place) (is : places
   pub sound_each : (sound : (id : Id) → Sound id (places id)) → Sound k place → (id : Id) → Sound id (later id)
   sound_each sound here = case_id k (λ id. Sound id (later id)) (subst (Sound k) (sym shift.here) here) (λ id apart. subst (Sound id) (sym (shift.there id apart)) (sound id))
 
-  same_held : held place ≡ held was → (id b : Id) → among (held (later id)) b ≡ among (held (places id)) b
+  pub same_held : held place ≡ held was → (id b : Id) → among (held (later id)) b ≡ among (held (places id)) b
   same_held same id b = at_each (λ id p q. among (held q) b ≡ among (held p) b) (ap (λ (set : List Spot). among set b) same) (λ id apart p. refl) id
 
 -- ---- locks
@@ -63,8 +63,11 @@ module _ (k : Id) (places later : Id → Place) (was place : Place) (is : places
 abbrev lock_of : ℕ → List Spot → ℕ → Lock
 lock_of task set index = record { task = task; set = set; index = index }
 
-is_unchanged : (before after more : ℕ) → more ≡ 0 → after ≡ before → before ≡ after + more
+pub is_unchanged : (before after more : ℕ) → more ≡ 0 → after ≡ before → before ≡ after + more
 is_unchanged before after more none is = omega (arith, none, is)
+
+pub is_fewer : (before after more rest who : ℕ) → more ≡ 0 → after ≡ before → before + (more + rest) ≡ who → after + rest ≡ who
+is_fewer before after more rest who none same is = omega (arith, none, same, is)
 
 -- a lock is sent
 pub lock_pushed : (k : Id) (places later : Id → Place) (links : Id → Id → List Message) (holders : Id → Option Id) (task : ℕ) (set : List Spot) (index : ℕ) (from at : Id) (message : Message) → kind_of message.body ≡ is_lock k task set index
@@ -135,10 +138,7 @@ lock_popped k places later links holders task set index a b message rest there k
           (λ id apart p rest has. nothing_less (id_eq a x && id_eq b id) (grants_at p x) (grants_at p x) rest refl has)
           y;
       count = λ x y rest has.
-        fewer (among (held (places x)) y) (among (held (later x)) y) (count_link a b x y 0) rest (named (holders y) x) (count_nothing (id_eq a x && id_eq b y)) (same_held k places later (locking task set index a b) (quiet (first index set)) is shift refl x y) has;
+        is_fewer (among (held (places x)) y) (among (held (later x)) y) (count_link a b x y 0) rest (named (holders y) x) (count_nothing (id_eq a x && id_eq b y)) (same_held k places later (locking task set index a b) (quiet (first index set)) is shift refl x y) has;
       sound = sound_each k places later (locking task set index a b) (quiet (first index set)) is shift tally.sound tt;
       holder = tally.holder;
     })
-  where
-    fewer : (before after more rest who : ℕ) → more ≡ 0 → after ≡ before → before + (more + rest) ≡ who → after + rest ≡ who
-    fewer before after more rest who none same is = omega (arith, none, same, is)
