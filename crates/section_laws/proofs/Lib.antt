@@ -1,5 +1,6 @@
 pub mod Counts
 pub mod Does
+pub mod Effects
 pub mod Grants
 pub mod Instances
 pub mod MessageKinds
