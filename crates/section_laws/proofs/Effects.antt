@@ -13,7 +13,7 @@ use Rattle.dura_model.specs.Deliveries.{Effect, stays_away, stays_so, ending, an
 use Rattle.dura_model.specs.Steps.{is_instance}
 use Rattle.section_laws.proofs.MessageKinds.{kind_of, is_other}
 use Rattle.section_laws.proofs.Does.{Does, rests, Plain, plain_does, does_then, IsSettled, not_over_settled}
-use Rattle.section_laws.proofs.Programs.{is_unborn, Meets, resume_meets, grant_meets}
+use Rattle.section_laws.proofs.Programs.{is_unborn, is_grant, Meets, resume_meets, grant_meets}
 
 -- the section of an instance, and whether it has ended
 abbrev pub section_of : Option Orchestration → Section
@@ -110,9 +110,8 @@ module _ (id : Id) (o : Orchestration) (sits : Sits id (Some o)) (settled : IsSe
   meeting : (e : Event) (stamp : ℕ) → Meets o.machine.id o.machine.section (is_over o.machine.progress) (resume o.machine e stamp) → Meets id o.machine.section (is_over o.machine.progress) (resume o.machine e stamp)
   meeting e stamp meets = subst (λ (i : Id). Meets i o.machine.section (is_over o.machine.progress) (resume o.machine e stamp)) sits.0 meets
 
-  pub result_behaves : (task stamp : ℕ) (answer : Answer) → Fine (goes_on_from o (resulted task answer) stamp [])
-  result_behaves task stamp answer =
-      going_behaves id sits.2 o.machine.section (is_over o.machine.progress) o (resulted task answer) stamp [] (meeting (resulted task answer) stamp (resume_meets o.machine (resulted task answer) stamp refl settled)) tt
+  pub event_behaves : (e : Event) (stamp : ℕ) → is_grant e ≡ false → Fine (goes_on_from o e stamp [])
+  event_behaves e stamp plain = going_behaves id sits.2 o.machine.section (is_over o.machine.progress) o e stamp [] (meeting e stamp (resume_meets o.machine e stamp plain settled)) tt
 
   waited_behaves : (from : Id) (number : ℕ) (answer : Option Answer) → Fine (waited o.machine o.waiting from id number answer)
   waited_behaves from number None = so _ [] tt
@@ -126,7 +125,7 @@ module _ (id : Id) (o : Orchestration) (sits : Sits id (Some o)) (settled : IsSe
 
   result_at_behaves : (stamp task : ℕ) (answer : Answer) (over : Bool) → Fine (result_at o stamp task answer over)
   result_at_behaves stamp task answer true = so _ [] tt
-  result_at_behaves stamp task answer false = result_behaves task stamp answer
+  result_at_behaves stamp task answer false = event_behaves (resulted task answer) stamp refl
 
   present_behaves : (from : Id) (stamp : ℕ) (body : Body) → kind_of body ≡ is_other → Fine (to_present o from id stamp body)
   present_behaves from stamp (start argument reply) is = so _ _ (refusing_plain id from reply was_there (codes "exists"))

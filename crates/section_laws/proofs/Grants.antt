@@ -14,7 +14,7 @@ use Rattle.section_laws.proofs.Sets.{is_rising}
 
 -- ---- an entity takes a lock
 
-not_both : (id : Id) → is_instance id ≡ true → is_entity id ≡ true → ⊥
+pub not_both : (id : Id) → is_instance id ≡ true → is_entity id ≡ true → ⊥
 not_both (orchestration flow key) instance is = cc is
 not_both (entity class key) instance is = cc instance
 not_both (client name) instance is = cc is

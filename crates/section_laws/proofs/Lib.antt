@@ -1,8 +1,10 @@
 pub mod Counts
 pub mod Does
 pub mod Effects
+pub mod Entities
 pub mod Grants
 pub mod Instances
+pub mod Keeps
 pub mod MessageKinds
 pub mod Moves
 pub mod Order
