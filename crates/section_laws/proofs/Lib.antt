@@ -10,5 +10,6 @@ pub mod Moves
 pub mod Order
 pub mod Programs
 pub mod Releases
+pub mod Runs
 pub mod Sets
 pub mod Tallies
