@@ -1,11 +1,11 @@
 -- What stands in a link, and one message more.
-use Rattle.std.proofs.Common.{◌≡◌, ◌&&◌, ◌+◌, ◌⊎◌, inl, inr, ℕ, zero, suc, Bool, true, false, cond, List, [], ◌∷◌, ◌++◌, refl, sym, ap, subst, ◌∙◌, arith, append_assoc}
+use Rattle.std.proofs.Common.{◌≡◌, ◌&&◌, ◌+◌, ◌⊎◌, inl, inr, ℕ, Bool, true, false, cond, List, [], ◌∷◌, ◌++◌, refl, sym, ap, subst, ◌∙◌, arith, append_assoc}
 use Rattle.std.proofs.lemmas.List.{append-nil}
 use Rattle.dura_value.specs.Ids.{Id, id_eq}
 use Rattle.dura_value.specs.Messages.{Spot, Message}
 use Rattle.dura_value.proofs.Ids.{id_same, id_self, both_true}
 use Rattle.dura_model.specs.World.{at_link}
-use Rattle.section_laws.proofs.MessageKinds.{Kind, kind_of, is_lock, is_grant, is_release, is_other}
+use Rattle.section_laws.proofs.MessageKinds.{Kind, kind_of, is_lock, is_grant, is_release}
 
 -- ---- cases
 
@@ -150,55 +150,55 @@ module _ (links : Id → Id → List Message) (a b : Id) where
 
   pub locks_pushed : (message : Message) (id x y : Id) → locks_of id (pushed_one message x y) ≡ locks_of id (links x y) ++ where_link a b x y (locks_in id (kind_of message.body))
   locks_pushed message id = case_link a b (λ x y. locks_of id (pushed_one message x y) ≡ locks_of id (links x y) ++ where_link a b x y (locks_in id (kind_of message.body)))
-    (ap (locks_of id) (link_here (links a b ++ message ∷ [])) ∙ locks_end id (links a b) message ∙ ap (λ (more : List Lock). locks_of id (links a b) ++ more) (sym (when_true (id_eq a a && id_eq b b) (locks_in id (kind_of message.body)) [] (link_self a b))))
-    (λ x y apart. ap (locks_of id) (link_there (links a b ++ message ∷ []) x y apart) ∙ sym (append-nil (locks_of id (links x y)))
+      (ap (locks_of id) (link_here (links a b ++ message ∷ [])) ∙ locks_end id (links a b) message ∙ ap (λ (more : List Lock). locks_of id (links a b) ++ more) (sym (when_true (id_eq a a && id_eq b b) (locks_in id (kind_of message.body)) [] (link_self a b))))
+      (λ x y apart. ap (locks_of id) (link_there (links a b ++ message ∷ []) x y apart) ∙ sym (append-nil (locks_of id (links x y)))
       ∙ ap (λ (more : List Lock). locks_of id (links x y) ++ more) (sym (when_false (id_eq a x && id_eq b y) (locks_in id (kind_of message.body)) [] apart)))
 
   pub grants_pushed : (message : Message) (x y : Id) → grants_of (pushed_one message x y) ≡ grants_of (links x y) ++ where_link a b x y (grants_in (kind_of message.body))
   grants_pushed message = case_link a b (λ x y. grants_of (pushed_one message x y) ≡ grants_of (links x y) ++ where_link a b x y (grants_in (kind_of message.body)))
-    (ap grants_of (link_here (links a b ++ message ∷ [])) ∙ grants_end (links a b) message ∙ ap (λ (more : List ℕ). grants_of (links a b) ++ more) (sym (when_true (id_eq a a && id_eq b b) (grants_in (kind_of message.body)) [] (link_self a b))))
-    (λ x y apart. ap grants_of (link_there (links a b ++ message ∷ []) x y apart) ∙ sym (append-nil (grants_of (links x y)))
+      (ap grants_of (link_here (links a b ++ message ∷ [])) ∙ grants_end (links a b) message ∙ ap (λ (more : List ℕ). grants_of (links a b) ++ more) (sym (when_true (id_eq a a && id_eq b b) (grants_in (kind_of message.body)) [] (link_self a b))))
+      (λ x y apart. ap grants_of (link_there (links a b ++ message ∷ []) x y apart) ∙ sym (append-nil (grants_of (links x y)))
       ∙ ap (λ (more : List ℕ). grants_of (links x y) ++ more) (sym (when_false (id_eq a x && id_eq b y) (grants_in (kind_of message.body)) [] apart)))
 
   pub releases_pushed : (message : Message) (x y : Id) → releases (pushed_one message x y) ≡ releases (links x y) + count_link a b x y (releases_in (kind_of message.body))
   releases_pushed message = case_link a b (λ x y. releases (pushed_one message x y) ≡ releases (links x y) + count_link a b x y (releases_in (kind_of message.body)))
-    (ap releases (link_here (links a b ++ message ∷ [])) ∙ releases_end (links a b) message ∙ ap (λ (more : ℕ). releases (links a b) + more) (sym (when_true (id_eq a a && id_eq b b) (releases_in (kind_of message.body)) 0 (link_self a b))))
-    (λ x y apart. ap releases (link_there (links a b ++ message ∷ []) x y apart) ∙ nothing (releases (links x y)) (count_link a b x y (releases_in (kind_of message.body))) (when_false (id_eq a x && id_eq b y) (releases_in (kind_of message.body)) 0 apart))
+      (ap releases (link_here (links a b ++ message ∷ [])) ∙ releases_end (links a b) message ∙ ap (λ (more : ℕ). releases (links a b) + more) (sym (when_true (id_eq a a && id_eq b b) (releases_in (kind_of message.body)) 0 (link_self a b))))
+      (λ x y apart. ap releases (link_there (links a b ++ message ∷ []) x y apart) ∙ nothing (releases (links x y)) (count_link a b x y (releases_in (kind_of message.body))) (when_false (id_eq a x && id_eq b y) (releases_in (kind_of message.body)) 0 apart))
     where
       nothing : (n more : ℕ) → more ≡ 0 → n ≡ n + more
       nothing n more is = omega (arith, is)
 
   pub behind_pushed : (message : Message) → (locks_of a (links a b) ≡ []) ⊎ (releases_in (kind_of message.body) ≡ 0) → (id y : Id) → behind id (links id y) ≡ 0 → behind id (pushed_one message id y) ≡ 0
   behind_pushed message new = case_link a b (λ x y. behind x (links x y) ≡ 0 → behind x (pushed_one message x y) ≡ 0)
-    (λ is. ap (behind a) (link_here (links a b ++ message ∷ [])) ∙ behind_end a (links a b) message is new)
-    (λ x y apart is. ap (behind x) (link_there (links a b ++ message ∷ []) x y apart) ∙ is)
+      (λ is. ap (behind a) (link_here (links a b ++ message ∷ [])) ∙ behind_end a (links a b) message is new)
+      (λ x y apart is. ap (behind x) (link_there (links a b ++ message ∷ []) x y apart) ∙ is)
 
   -- the first message leaves a link
   module _ (message : Message) (rest : List Message) (is : links a b ≡ message ∷ rest) where
     pub locks_popped : (id x y : Id) → locks_of id (links x y) ≡ where_link a b x y (locks_in id (kind_of message.body)) ++ locks_of id (at_link links a b rest x y)
     locks_popped id = case_link a b (λ x y. locks_of id (links x y) ≡ where_link a b x y (locks_in id (kind_of message.body)) ++ locks_of id (at_link links a b rest x y))
-      (ap (locks_of id) is ∙ ap (λ (more : List Lock). more ++ locks_of id rest) (sym (when_true (id_eq a a && id_eq b b) (locks_in id (kind_of message.body)) [] (link_self a b)))
+        (ap (locks_of id) is ∙ ap (λ (more : List Lock). more ++ locks_of id rest) (sym (when_true (id_eq a a && id_eq b b) (locks_in id (kind_of message.body)) [] (link_self a b)))
         ∙ ap (λ (messages : List Message). where_link a b a b (locks_in id (kind_of message.body)) ++ locks_of id messages) (sym (link_here rest)))
-      (λ x y apart. ap (λ (more : List Lock). more ++ locks_of id (links x y)) (sym (when_false (id_eq a x && id_eq b y) (locks_in id (kind_of message.body)) [] apart))
+        (λ x y apart. ap (λ (more : List Lock). more ++ locks_of id (links x y)) (sym (when_false (id_eq a x && id_eq b y) (locks_in id (kind_of message.body)) [] apart))
         ∙ ap (λ (messages : List Message). where_link a b x y (locks_in id (kind_of message.body)) ++ locks_of id messages) (sym (link_there rest x y apart)))
 
     pub grants_popped : (x y : Id) → grants_of (links x y) ≡ where_link a b x y (grants_in (kind_of message.body)) ++ grants_of (at_link links a b rest x y)
     grants_popped = case_link a b (λ x y. grants_of (links x y) ≡ where_link a b x y (grants_in (kind_of message.body)) ++ grants_of (at_link links a b rest x y))
-      (ap grants_of is ∙ ap (λ (more : List ℕ). more ++ grants_of rest) (sym (when_true (id_eq a a && id_eq b b) (grants_in (kind_of message.body)) [] (link_self a b)))
+        (ap grants_of is ∙ ap (λ (more : List ℕ). more ++ grants_of rest) (sym (when_true (id_eq a a && id_eq b b) (grants_in (kind_of message.body)) [] (link_self a b)))
         ∙ ap (λ (messages : List Message). where_link a b a b (grants_in (kind_of message.body)) ++ grants_of messages) (sym (link_here rest)))
-      (λ x y apart. ap (λ (more : List ℕ). more ++ grants_of (links x y)) (sym (when_false (id_eq a x && id_eq b y) (grants_in (kind_of message.body)) [] apart))
+        (λ x y apart. ap (λ (more : List ℕ). more ++ grants_of (links x y)) (sym (when_false (id_eq a x && id_eq b y) (grants_in (kind_of message.body)) [] apart))
         ∙ ap (λ (messages : List Message). where_link a b x y (grants_in (kind_of message.body)) ++ grants_of messages) (sym (link_there rest x y apart)))
 
     pub releases_popped : (x y : Id) → releases (links x y) ≡ count_link a b x y (releases_in (kind_of message.body)) + releases (at_link links a b rest x y)
     releases_popped = case_link a b (λ x y. releases (links x y) ≡ count_link a b x y (releases_in (kind_of message.body)) + releases (at_link links a b rest x y))
-      (ap releases is ∙ ap (λ (more : ℕ). more + releases rest) (sym (when_true (id_eq a a && id_eq b b) (releases_in (kind_of message.body)) 0 (link_self a b)))
+        (ap releases is ∙ ap (λ (more : ℕ). more + releases rest) (sym (when_true (id_eq a a && id_eq b b) (releases_in (kind_of message.body)) 0 (link_self a b)))
         ∙ ap (λ (messages : List Message). count_link a b a b (releases_in (kind_of message.body)) + releases messages) (sym (link_here rest)))
-      (λ x y apart. nothing (releases (links x y)) (releases (at_link links a b rest x y)) (count_link a b x y (releases_in (kind_of message.body))) (ap releases (link_there rest x y apart)) (when_false (id_eq a x && id_eq b y) (releases_in (kind_of message.body)) 0 apart))
+        (λ x y apart. nothing (releases (links x y)) (releases (at_link links a b rest x y)) (count_link a b x y (releases_in (kind_of message.body))) (ap releases (link_there rest x y apart)) (when_false (id_eq a x && id_eq b y) (releases_in (kind_of message.body)) 0 apart))
       where
         nothing : (n m more : ℕ) → m ≡ n → more ≡ 0 → n ≡ more + m
         nothing n m more same is = omega (arith, same, is)
 
     pub behind_popped : (id y : Id) → behind id (links id y) ≡ 0 → behind id (at_link links a b rest id y) ≡ 0
     behind_popped = case_link a b (λ x y. behind x (links x y) ≡ 0 → behind x (at_link links a b rest x y) ≡ 0)
-      (λ none. ap (behind a) (link_here rest) ∙ behind_front a message rest (ap (behind a) (sym is) ∙ none))
-      (λ x y apart none. ap (behind x) (link_there rest x y apart) ∙ none)
+        (λ none. ap (behind a) (link_here rest) ∙ behind_front a message rest (ap (behind a) (sym is) ∙ none))
+        (λ x y apart none. ap (behind x) (link_there rest x y apart) ∙ none)

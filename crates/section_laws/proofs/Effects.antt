@@ -1,18 +1,18 @@
 -- What a delivery makes of an instance is what it may do.
-use Rattle.std.proofs.Common.{◌≡◌, ℕ, Bool, true, false, List, [], ◌∷◌, ◌++◌, Option, Some, None, refl, sym, ap, subst, ◌∙◌}
+use Rattle.std.proofs.Common.{◌≡◌, ℕ, Bool, true, false, List, [], ◌∷◌, ◌++◌, Option, Some, None, refl, subst}
 use Rattle.std.proofs.lemmas.List.{append-nil}
 use Rattle.std.specs.Prelude.{codes}
 use Rattle.dura_value.specs.declared.data.Value.{Value}
-use Rattle.dura_value.specs.Ids.{Id, orchestration, entity, client}
-use Rattle.dura_value.specs.Messages.{Reply, to_nobody, to_task, to_request, Answer, was_there, was_started, was_raised, has_ended, is_unknown, is_missing, Spot, Body, start, raise, query, wait, result, operate, lock, granted, release, Message}
+use Rattle.dura_value.specs.Ids.{Id}
+use Rattle.dura_value.specs.Messages.{Reply, to_nobody, to_task, to_request, Answer, was_there, was_raised, is_unknown, Spot, Body, start, raise, query, wait, result, operate, lock, granted, release, Message}
 use Rattle.flow_syntax.specs.Syntax.{Block, Flows}
-use Rattle.flow_syntax.specs.Machine.{Machine, Section, outside, acquiring, inside, Progress, new_machine, Event, started, resulted, was_granted, resume, Resumed}
+use Rattle.flow_syntax.specs.Machine.{Section, outside, acquiring, inside, new_machine, Event, started, resulted, was_granted, resume, Resumed}
 use Rattle.flow_syntax.specs.Machine.{was_raised as raised}
 use Rattle.dura_model.specs.World.{Orchestration}
-use Rattle.dura_model.specs.Deliveries.{Effect, stays_away, stays_so, ending, answering_all, at_end, goes_on_from, refusing, beginning, telling, flow_of, begun, to_absent, standing, is_over, waited, raised_at, result_at, granted_at, to_present, at_moment, to_instance}
+use Rattle.dura_model.specs.Deliveries.{Effect, stays_away, stays_so, ending, answering_all, at_end, goes_on_from, refusing, beginning, telling, flow_of, begun, to_absent, is_over, waited, raised_at, result_at, granted_at, to_present, at_moment, to_instance}
 use Rattle.dura_model.specs.Steps.{is_instance}
 use Rattle.section_laws.proofs.MessageKinds.{kind_of, is_other}
-use Rattle.section_laws.proofs.Does.{Does, rests, Plain, plain_does, does_then, IsSettled, not_over_settled}
+use Rattle.section_laws.proofs.Does.{Does, rests, Plain, plain_does, does_then, IsSettled}
 use Rattle.section_laws.proofs.Programs.{is_unborn, is_grant, Meets, resume_meets, grant_meets}
 
 -- the section of an instance, and whether it has ended
@@ -53,13 +53,13 @@ module _ (id : Id) (instance : is_instance id ≡ true) (section : Section) (ove
   }
   going r waiting before (Some answer) meets plain =
       let first : Does id section over (before ++ r.sent) r.machine.section (is_over r.machine.progress) =
-        plain_does id before r.sent section r.machine.section over (is_over r.machine.progress) plain meets.does in
+      plain_does id before r.sent section r.machine.section over (is_over r.machine.progress) plain meets.does in
       let last : Does id r.machine.section (is_over r.machine.progress) (answering_all r.machine.id waiting answer) r.machine.section (is_over r.machine.progress) =
-        plain_rests id (answering_all r.machine.id waiting answer) r.machine.section (is_over r.machine.progress) (answers_plain id r.machine.id waiting answer meets.same) in
+      plain_rests id (answering_all r.machine.id waiting answer) r.machine.section (is_over r.machine.progress) (answers_plain id r.machine.id waiting answer meets.same) in
       record {
         sits = (meets.same, meets.born, instance);
         does =
-          does_then id section r.machine.section r.machine.section over (is_over r.machine.progress) (is_over r.machine.progress) (before ++ r.sent) (answering_all r.machine.id waiting answer) first last;
+            does_then id section r.machine.section r.machine.section over (is_over r.machine.progress) (is_over r.machine.progress) (before ++ r.sent) (answering_all r.machine.id waiting answer) first last;
         settled = meets.settled;
       }
 
@@ -85,7 +85,7 @@ begun_behaves : (id from : Id) (argument : Value) (reply : Reply) (stamp : ℕ) 
 begun_behaves id from argument reply stamp None instance = away id (refusing id from reply is_unknown (codes "unknown")) (refusing_plain id from reply is_unknown (codes "unknown"))
 begun_behaves id from argument reply stamp (Some body) instance =
     going_behaves id instance outside false (record { machine = new_machine id (Some body); waiting = [] }) (started from argument reply) stamp (beginning id from reply)
-      (resume_meets (new_machine id (Some body)) (started from argument reply) stamp refl tt) (beginning_plain id from reply)
+    (resume_meets (new_machine id (Some body)) (started from argument reply) stamp refl tt) (beginning_plain id from reply)
 
 absent_behaves : (flows : Flows) (id from : Id) (stamp : ℕ) (body : Body) → is_instance id ≡ true → Behaves id outside false (to_absent flows from id stamp body)
 absent_behaves flows id from stamp (start argument reply) instance = begun_behaves id from argument reply stamp (flow_of flows id) instance
@@ -121,7 +121,7 @@ module _ (id : Id) (o : Orchestration) (sits : Sits id (Some o)) (settled : IsSe
   raised_behaves from stamp event value number true = so _ _ (refl, refl, tt)
   raised_behaves from stamp event value number false =
       going_behaves id sits.2 o.machine.section (is_over o.machine.progress) o (raised event value) stamp (telling id from number was_raised)
-        (meeting (raised event value) stamp (resume_meets o.machine (raised event value) stamp refl settled)) (refl, refl, tt)
+      (meeting (raised event value) stamp (resume_meets o.machine (raised event value) stamp refl settled)) (refl, refl, tt)
 
   result_at_behaves : (stamp task : ℕ) (answer : Answer) (over : Bool) → Fine (result_at o stamp task answer over)
   result_at_behaves stamp task answer true = so _ [] tt

@@ -1,25 +1,25 @@
 -- A message is delivered to an entity or a client.
-use Rattle.std.proofs.Common.{◌≡◌, ◌&&◌, ℕ, zero, suc, Bool, true, false, cond, List, [], ◌∷◌, ◌++◌, Option, Some, None, refl, sym, ap, subst, ◌∙◌}
+use Rattle.std.proofs.Common.{◌≡◌, ℕ, zero, suc, true, false, List, [], ◌∷◌, ◌++◌, Option, Some, None, refl, sym, ap, subst, ◌∙◌}
 use Rattle.dura_value.specs.declared.data.Value.{Value}
-use Rattle.dura_value.specs.Ids.{Id, orchestration, entity, client, id_eq}
+use Rattle.dura_value.specs.Ids.{Id, client}
 use Rattle.dura_value.specs.Messages.{Reply, to_nobody, to_task, to_request, Answer, Spot, entity_at, Body, start, raise, query, wait, result, operate, lock, granted, release, Message}
 use Rattle.flow_syntax.specs.Syntax.{Block, Flows, class_of}
 use Rattle.flow_syntax.specs.Machine.{Section, outside, acquiring, inside}
 use Rattle.flow_syntax.specs.Entity.{Entity, Delivered, takes, answering, operated, operation_of, lock_goes_on}
 use Rattle.flow_syntax.specs.Entity.{deliver as deliver_to}
-use Rattle.dura_model.specs.World.{World, Orchestration, at_id, at_link}
+use Rattle.dura_model.specs.World.{World, at_id, at_link}
 use Rattle.dura_model.specs.Steps.{is_instance, entity_of, answered, to_client}
 use Rattle.dura_model.specs.Legal.{holder_of}
-use Rattle.section_laws.proofs.MessageKinds.{Kind, kind_of, is_lock, is_grant, is_release, is_other}
+use Rattle.section_laws.proofs.MessageKinds.{kind_of, is_other}
 use Rattle.section_laws.proofs.Counts.{case_id}
 use Rattle.section_laws.proofs.Does.{Plain}
-use Rattle.section_laws.proofs.Effects.{section_of, over_of}
-use Rattle.section_laws.proofs.Grants.{not_both, lock_free, entity_there, taken, grant_pushed}
+use Rattle.section_laws.proofs.Effects.{section_of}
+use Rattle.section_laws.proofs.Grants.{not_both, lock_free, taken, grant_pushed}
 use Rattle.section_laws.proofs.Instances.{Placed, pushed}
-use Rattle.section_laws.proofs.Keeps.{Fits, Invariant, Keeps, With, holders, lock_place, lock_sound, lock_comes, release_comes, grant_comes, other_tally, some_same}
+use Rattle.section_laws.proofs.Keeps.{Fits, Invariant, Keeps, With, holders, lock_place, lock_sound, lock_comes, release_comes, grant_comes, other_tally}
 use Rattle.section_laws.proofs.Moves.{lock_pushed, lock_popped}
 use Rattle.section_laws.proofs.Releases.{release_popped}
-use Rattle.section_laws.proofs.Tallies.{Place, quiet, locking, granting, first, is_entity, IsSender, SoundLock, Tally, Shifts, shifts_one, shifts_then, other_pushed}
+use Rattle.section_laws.proofs.Tallies.{Place, quiet, locking, granting, first, is_entity, SoundLock, Tally, Shifts, shifts_one, shifts_then, other_pushed}
 
 -- messages that have nothing to do with sections
 pub plain_pushed : (id : Id) (messages : List Message) (places : Id → Place) (links : Id → Id → List Message) (holders : Id → Option Id) → Plain id messages → Tally places links holders → Tally places (pushed links messages) holders
@@ -99,7 +99,7 @@ module _ (flows : Flows) (w : World) (invariant : Keeps w) (from to : Id) (messa
       record {
         places = places;
         tally = plain_pushed to d.sent places popped (holders (with_entity d.entity)) plainly.plain
-          (same_holders places popped (holders w.entities) (holders (with_entity d.entity)) (case_id to (λ b. holders (with_entity d.entity) b ≡ holders w.entities b) (shift.here ∙ plainly.holder ∙ same) shift.there)
+            (same_holders places popped (holders w.entities) (holders (with_entity d.entity)) (case_id to (λ b. holders (with_entity d.entity) b ≡ holders w.entities b) (shift.here ∙ plainly.holder ∙ same) shift.there)
             (other_tally flows w invariant from to message rest there (ap kind_of is ∙ plain)));
         fits = invariant.fits;
       }
@@ -116,7 +116,7 @@ module _ (flows : Flows) (w : World) (invariant : Keeps w) (from to : Id) (messa
   -- the lock is taken, and the next message is sent: to the next entity, or to the instance
   goes_further : (id : Id) (task : ℕ) (set : List Spot) (index : ℕ) (now : Id → Option Id) (middle : Id → Place) → is_entity to ≡ true → SoundLock id set index from to → middle id ≡ quiet (first (suc index) set) → Tally middle popped now → (next : Option Id)
       → entity_at set (suc index) ≡ next → (place : Place) × (Tally (at_id middle id place) (pushed popped (lock_goes_on to id task set (suc index) next ∷ [])) now)
-        × ((section : Section) → ((other : ℕ) (a b : Id) → Placed section (locking task set other a b)) → ((a : Id) → Placed section (granting task set a)) → Placed section place)
+      × ((section : Section) → ((other : ℕ) (a b : Id) → Placed section (locking task set other a b)) → ((a : Id) → Placed section (granting task set a)) → Placed section place)
   goes_further id task set index now middle is_one sound is tally (Some next) more =
       let place = locking task set (suc index) to next in
       let message : Message = record { from = to; to = next; body = lock id task set (suc index) } in (
@@ -154,10 +154,10 @@ module _ (flows : Flows) (w : World) (invariant : Keeps w) (from to : Id) (messa
         places = at_id two id further.0;
         tally = further.1;
         fits = case_id id (λ other. Fits other (w.orchestrations other) (at_id two id further.0 other))
-          (let fits = invariant.fits id in
-          let on = placed_on (section_of (w.orchestrations id)) task set index from to (places id) place fits.placed in
-          subst (Fits id (w.orchestrations id)) (sym shift.here) (record { sits = fits.sits; placed = further.2 (section_of (w.orchestrations id)) on.0 on.1; settled = fits.settled }))
-          (λ other apart. subst (Fits other (w.orchestrations other)) (sym (shift.there other apart)) (invariant.fits other));
+            (let fits = invariant.fits id in
+            let on = placed_on (section_of (w.orchestrations id)) task set index from to (places id) place fits.placed in
+            subst (Fits id (w.orchestrations id)) (sym shift.here) (record { sits = fits.sits; placed = further.2 (section_of (w.orchestrations id)) on.0 on.1; settled = fits.settled }))
+            (λ other apart. subst (Fits other (w.orchestrations other)) (sym (shift.there other apart)) (invariant.fits other));
       }
 
   pub reaches : (class : List ℕ) (e : Entity) (body : Body) → message.body ≡ body → is_entity to ≡ true → e.holder ≡ holder_of (w.entities to) → takes e.holder from ≡ true

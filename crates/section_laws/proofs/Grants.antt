@@ -7,9 +7,9 @@ use Rattle.dura_model.specs.World.{at_link}
 use Rattle.dura_model.specs.Steps.{is_instance}
 use Rattle.flow_syntax.specs.Entity.{takes}
 use Rattle.section_laws.proofs.MessageKinds.{Kind, kind_of, is_lock, is_grant}
-use Rattle.section_laws.proofs.Counts.{case_id, when_true, when_false, Lock, grants_in, locks_in, releases_in, locks_of, grants_of, releases, behind, behind_one, where_link, count_link}
-use Rattle.section_laws.proofs.Tallies.{Place, quiet, locking, granting, first, held, locks_at, grants_at, is_entity, IsSender, SoundLock, Sound, among, named, Tally, Shifts, where_nothing, count_nothing, Joins, joined, Parts, parted}
-use Rattle.section_laws.proofs.Moves.{nothing_more, nothing_less, none_left, none_from, and_second, not_second, at_each, sound_each, same_held, is_unchanged, is_fewer}
+use Rattle.section_laws.proofs.Counts.{case_id, when_true, when_false, Lock, grants_in, locks_in, releases_in, grants_of, releases, behind, behind_one, where_link, count_link}
+use Rattle.section_laws.proofs.Tallies.{Place, quiet, locking, granting, first, held, locks_at, grants_at, is_entity, IsSender, among, named, Tally, Shifts, count_nothing, joined, parted}
+use Rattle.section_laws.proofs.Moves.{nothing_more, nothing_less, none_left, and_second, not_second, at_each, sound_each, same_held, is_unchanged, is_fewer}
 use Rattle.section_laws.proofs.Sets.{is_rising}
 
 -- ---- an entity takes a lock
@@ -31,8 +31,8 @@ no_holder k a b holder places links holders task set zero message rest there kin
     let held_none : among (held (places k)) b ≡ 0 = ap (λ (p : Place). among (held p) b) is in
     let left : releases (links k b) ≡ releases_in (is_lock k task set zero) + releases rest = ap releases link ∙ ap (λ (kind : Kind). releases_in kind + releases rest) kind in
     let none : releases rest ≡ 0 =
-      sym (ap (λ (locks : List Lock). behind_one locks (releases rest) (behind k rest)) (when_true (id_eq k k) (record { task = task; set = set; index = zero } ∷ []) [] (id_self k)))
-      ∙ sym (ap (λ (kind : Kind). behind_one (locks_in k kind) (releases rest) (behind k rest)) kind) ∙ sym (ap (behind k) link) ∙ tally.order k b in
+    sym (ap (λ (locks : List Lock). behind_one locks (releases rest) (behind k rest)) (when_true (id_eq k k) (record { task = task; set = set; index = zero } ∷ []) [] (id_self k)))
+    ∙ sym (ap (λ (kind : Kind). behind_one (locks_in k kind) (releases rest) (behind k rest)) kind) ∙ sym (ap (behind k) link) ∙ tally.order k b in
     let who : named (holders b) k ≡ 1 = ap (λ (h : Option Id). named h k) named_so ∙ when_true (id_eq holder k) 1 0 (ap (λ (id : Id). id_eq id k) itself ∙ id_self k) in
     omega (arith, count, held_none, left, none, who)
 
@@ -61,34 +61,38 @@ taken k b places later links holders now set index instance there is shift free 
   locks = λ id x y. tally.locks id x y ∙ each (λ id p q. locks_at p x y ≡ locks_at q x y) refl (λ id apart p. refl) id;
   grants = λ x y. tally.grants x y ∙ each (λ id p q. grants_at p x ≡ grants_at q x) refl (λ id apart p. refl) y;
   count = λ x y.
-    let more : among (held (later x)) y ≡ among (held (places x)) y + cond (id_eq k x && id_eq b y) 1 0 =
+      let more : among (held (later x)) y ≡ among (held (places x)) y + cond (id_eq k x && id_eq b y) 1 0 =
       each (λ id p q. among (held q) y ≡ among (held p) y + cond (id_eq k id && id_eq b y) 1 0)
-        (first_more set index b y there ∙ ap (λ (test : Bool). among (first index set) y + cond (test && id_eq b y) 1 0) (sym (id_self k)))
-        (λ id apart p. same (among (held p) y) (cond (id_eq k id && id_eq b y) 1 0) (ap (λ (test : Bool). cond (test && id_eq b y) 1 0) apart))
-        x in
-    let who : named (now y) x ≡ named (holders y) x + cond (id_eq k x && id_eq b y) 1 0 =
+      (first_more set index b y there ∙ ap (λ (test : Bool). among (first index set) y + cond (test && id_eq b y) 1 0) (sym (id_self k)))
+      (λ id apart p. same (among (held p) y) (cond (id_eq k id && id_eq b y) 1 0) (ap (λ (test : Bool). cond (test && id_eq b y) 1 0) apart))
+      x in
+      let who : named (now y) x ≡ named (holders y) x + cond (id_eq k x && id_eq b y) 1 0 =
       case_id b (λ y. named (now y) x ≡ named (holders y) x + cond (id_eq k x && id_eq b y) 1 0)
-        (only_one (named (now b) x) (named (holders b) x) (id_eq k x) (id_eq b b) (id_self b) (ap (λ (h : Option Id). named h x) named_now.here) (ap (λ (h : Option Id). named h x) free))
-        (λ y apart. ap (λ (h : Option Id). named h x) (named_now.there y apart) ∙ same (named (holders y) x) (cond (id_eq k x && id_eq b y) 1 0) (when_false (id_eq k x && id_eq b y) 1 0 (not_second (id_eq k x) (id_eq b y) apart)))
-        y in
-    summed (among (held (later x)) y) (among (held (places x)) y) (releases (links x y)) (cond (id_eq k x && id_eq b y) 1 0) (named (holders y) x) (named (now y) x) more who (tally.count x y);
+      (only_one (named (now b) x) (named (holders b) x) (id_eq k x) (id_eq b b) (id_self b) (ap (λ (h : Option Id). named h x) named_now.here) (ap (λ (h : Option Id). named h x) free))
+      (λ y apart. ap (λ (h : Option Id). named h x) (named_now.there y apart) ∙ same (named (holders y) x) (cond (id_eq k x && id_eq b y) 1 0) (when_false (id_eq k x && id_eq b y) 1 0 (not_second (id_eq k x) (id_eq b y) apart)))
+      y in
+      summed (among (held (later x)) y) (among (held (places x)) y) (releases (links x y)) (cond (id_eq k x && id_eq b y) 1 0) (named (holders y) x) (named (now y) x) more who (tally.count x y);
   order = tally.order;
   sound = sound_each k places later (quiet (first index set)) (quiet (first (suc index) set)) is shift tally.sound tt;
   holder = case_id b (λ y. (id : Id) → now y ≡ Some id → (is_instance id ≡ true) × (is_entity y ≡ true))
-    (λ id named_so. let one : k ≡ id = some_same (sym named_now.here ∙ named_so) in (subst (λ (i : Id). is_instance i ≡ true) one instance, entity_there set index b there))
-    (λ y apart id named_so. tally.holder y id (sym (named_now.there y apart) ∙ named_so));
+      (λ id named_so. let one : k ≡ id = some_same (sym named_now.here ∙ named_so) in (subst (λ (i : Id). is_instance i ≡ true) one instance, entity_there set index b there))
+      (λ y apart id named_so. tally.holder y id (sym (named_now.there y apart) ∙ named_so));
 }
   where
     each : (P : Id → Place → Place → Type 0) → P k (quiet (first index set)) (quiet (first (suc index) set)) → ((id : Id) → id_eq k id ≡ false → (p : Place) → P id p p) → (id : Id) → P id (places id) (later id)
     each = at_each k places later (quiet (first index set)) (quiet (first (suc index) set)) is shift
+
     same : (n more : ℕ) → more ≡ 0 → n ≡ n + more
     same n more none = omega (arith, none)
+
     some_same : {x y : Id} → Some x ≡ Some y → x ≡ y
     some_same is = cc
+
     only_one : (after before : ℕ) (test self : Bool) → self ≡ true → after ≡ cond test 1 0 → before ≡ 0 → after ≡ before + cond (test && self) 1 0
     only_one after before true true is one none = omega (arith, one, none)
     only_one after before false true is one none = omega (arith, one, none)
     only_one after before test false is one none = absurd (cc is)
+
     summed : (one was n more before who : ℕ) → one ≡ was + more → who ≡ before + more → was + n ≡ before → one + n ≡ who
     summed one was n more before who a b c = omega (arith, a, b, c)
 
@@ -100,18 +104,18 @@ pub grant_pushed : (k : Id) (places later : Id → Place) (links : Id → Id →
 grant_pushed k places later links holders task set from message kind is shift instance rising tally =
     joined places later links holders from k message (is_grant task) kind tally (record {
       locks = λ id x y.
-        at_each k places later (quiet set) (granting task set from) is shift (λ id p q. locks_at p x y ++ where_link from k x y [] ≡ locks_at q x y)
+          at_each k places later (quiet set) (granting task set from) is shift (λ id p q. locks_at p x y ++ where_link from k x y [] ≡ locks_at q x y)
           (nothing_more (id_eq from x && id_eq k y) [] [] refl)
           (λ id apart p. nothing_more (id_eq from x && id_eq k y) (locks_at p x y) (locks_at p x y) refl)
           id;
       grants = λ x y.
-        at_each k places later (quiet set) (granting task set from) is shift (λ id p q. grants_at p x ++ where_link from k x id (task ∷ []) ≡ grants_at q x)
+          at_each k places later (quiet set) (granting task set from) is shift (λ id p q. grants_at p x ++ where_link from k x id (task ∷ []) ≡ grants_at q x)
           (ap (λ (test : Bool). cond test (task ∷ []) []) (and_second (id_eq from x) (id_eq k k) (id_self k)))
           (λ id apart p.
-            ap (λ (test : Bool). grants_at p x ++ cond test (task ∷ []) []) (not_second (id_eq from x) (id_eq k id) apart) ∙ nothing_more false (grants_at p x) (grants_at p x) refl)
+          ap (λ (test : Bool). grants_at p x ++ cond test (task ∷ []) []) (not_second (id_eq from x) (id_eq k id) apart) ∙ nothing_more false (grants_at p x) (grants_at p x) refl)
           y;
       count = λ x y.
-        is_unchanged (among (held (places x)) y) (among (held (later x)) y) (count_link from k x y 0) (count_nothing (id_eq from x && id_eq k y)) (same_held k places later (quiet set) (granting task set from) is shift refl x y);
+          is_unchanged (among (held (places x)) y) (among (held (later x)) y) (count_link from k x y 0) (count_nothing (id_eq from x && id_eq k y)) (same_held k places later (quiet set) (granting task set from) is shift refl x y);
       order = inr refl;
       sound = sound_each k places later (quiet set) (granting task set from) is shift tally.sound (instance, rising);
     })
@@ -137,17 +141,17 @@ pub grant_popped : (k : Id) (places later : Id → Place) (links : Id → Id →
 grant_popped k places later links holders task set a message rest there kind is shift tally =
     parted places later links holders holders a k message rest (is_grant task) there kind tally (record {
       locks = λ id x y.
-        at_each k places later (granting task set a) (quiet set) is shift (λ id p q. (rest : List Lock) → locks_at p x y ≡ where_link a k x y [] ++ rest → rest ≡ locks_at q x y)
+          at_each k places later (granting task set a) (quiet set) is shift (λ id p q. (rest : List Lock) → locks_at p x y ≡ where_link a k x y [] ++ rest → rest ≡ locks_at q x y)
           (λ rest has. nothing_less (id_eq a x && id_eq k y) [] [] rest refl has)
           (λ id apart p rest has. nothing_less (id_eq a x && id_eq k y) (locks_at p x y) (locks_at p x y) rest refl has)
           id;
       grants = λ x y.
-        at_each k places later (granting task set a) (quiet set) is shift (λ id p q. (rest : List ℕ) → grants_at p x ≡ where_link a k x id (task ∷ []) ++ rest → rest ≡ grants_at q x)
+          at_each k places later (granting task set a) (quiet set) is shift (λ id p q. (rest : List ℕ) → grants_at p x ≡ where_link a k x id (task ∷ []) ++ rest → rest ≡ grants_at q x)
           (λ rest has. none_left (id_eq a x) task rest (has ∙ ap (λ (test : Bool). cond test (task ∷ []) [] ++ rest) (and_second (id_eq a x) (id_eq k k) (id_self k))))
           (λ id apart p rest has. nothing_less false (grants_at p x) (grants_at p x) rest refl (has ∙ ap (λ (test : Bool). cond test (task ∷ []) [] ++ rest) (not_second (id_eq a x) (id_eq k id) apart)))
           y;
       count = λ x y rest has.
-        is_fewer (among (held (places x)) y) (among (held (later x)) y) (count_link a k x y 0) rest (named (holders y) x) (count_nothing (id_eq a x && id_eq k y)) (same_held k places later (granting task set a) (quiet set) is shift refl x y) has;
+          is_fewer (among (held (places x)) y) (among (held (later x)) y) (count_link a k x y 0) rest (named (holders y) x) (count_nothing (id_eq a x && id_eq k y)) (same_held k places later (granting task set a) (quiet set) is shift refl x y) has;
       sound = sound_each k places later (granting task set a) (quiet set) is shift tally.sound tt;
       holder = tally.holder;
     })

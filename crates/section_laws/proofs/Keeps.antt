@@ -1,30 +1,23 @@
 -- What holds of every world that a legal run reaches.
-use Rattle.std.proofs.Common.{◌≡◌, ◌&&◌, ◌==◌, ℕ, zero, suc, Bool, true, false, cond, List, [], ◌∷◌, ◌++◌, Option, Some, None, refl, sym, ap, subst, ◌∙◌}
-use Rattle.std.specs.Prelude.{nat_le}
-use Rattle.std.specs.Option.{option_and_then}
-use Rattle.activity_table.specs.Table.{may}
-use Rattle.dura_value.specs.declared.outcome.Outcome.{Outcome}
-use Rattle.dura_value.specs.declared.data.Value.{Value}
-use Rattle.dura_value.specs.Ids.{Id, orchestration, entity, client, id_eq}
-use Rattle.dura_value.specs.Messages.{Reply, to_nobody, to_task, to_request, Answer, Spot, entity_at, Body, start, raise, query, wait, result, operate, lock, granted, release, Message}
-use Rattle.dura_value.proofs.Ids.{both_true}
-use Rattle.flow_syntax.specs.Syntax.{Block, Flows, Class, class_of}
-use Rattle.flow_syntax.specs.Machine.{Section, outside, acquiring, inside, Asked, an_activity, a_timer, resulted, fired}
-use Rattle.flow_syntax.specs.Entity.{Entity, Delivered, takes, answering, operated, operation_of, lock_goes_on}
-use Rattle.flow_syntax.specs.Entity.{deliver as deliver_to}
-use Rattle.dura_model.specs.World.{World, Orchestration, Activity, empty, at_id, at_link, at_number}
-use Rattle.dura_model.specs.Deliveries.{Effect, to_instance, goes_on_from, is_over}
-use Rattle.dura_model.specs.Steps.{Label, take, deliver, finish, fire, sent, asked, given_up, stands_as, is_instance, is_client, is_asking, number_in, is_number, is_request, taken, last_of, entity_of, entity_stands, to_entity, answered, to_client, received, delivered, answer_of, finished, timed, step}
-use Rattle.dura_model.specs.Legal.{Legal, after_from, holder_of}
-use Rattle.section_laws.proofs.MessageKinds.{Kind, kind_of, is_lock, is_grant, is_release, is_other}
+use Rattle.std.proofs.Common.{◌≡◌, ℕ, Bool, true, false, cond, List, [], ◌∷◌, ◌++◌, Option, Some, None, refl, sym, ap, subst, ◌∙◌}
+use Rattle.dura_value.specs.Ids.{Id, id_eq}
+use Rattle.dura_value.specs.Messages.{Spot, Body, start, raise, query, wait, result, operate, lock, granted, release, Message}
+use Rattle.flow_syntax.specs.Syntax.{Flows}
+use Rattle.flow_syntax.specs.Machine.{Section, outside, acquiring, inside, Asked, an_activity, a_timer}
+use Rattle.flow_syntax.specs.Entity.{Entity}
+use Rattle.dura_model.specs.World.{World, Orchestration, at_id, at_link, at_number}
+use Rattle.dura_model.specs.Deliveries.{Effect, to_instance, is_over}
+use Rattle.dura_model.specs.Steps.{sent, asked, given_up, stands_as, is_instance}
+use Rattle.dura_model.specs.Legal.{holder_of}
+use Rattle.section_laws.proofs.MessageKinds.{kind_of, is_other}
 use Rattle.section_laws.proofs.Counts.{case_id}
-use Rattle.section_laws.proofs.Does.{Plain, IsSettled}
-use Rattle.section_laws.proofs.Effects.{section_of, over_of, Sits, Behaves, event_behaves, other_behaves, grant_behaves}
-use Rattle.section_laws.proofs.Grants.{not_both, lock_free, entity_there, taken as lock_taken, grant_pushed, grant_found, grant_popped}
+use Rattle.section_laws.proofs.Does.{IsSettled}
+use Rattle.section_laws.proofs.Effects.{section_of, over_of, Sits, Behaves, other_behaves, grant_behaves}
+use Rattle.section_laws.proofs.Grants.{not_both, entity_there, grant_found, grant_popped}
 use Rattle.section_laws.proofs.Instances.{Placed, pushed, does_keeps}
-use Rattle.section_laws.proofs.Moves.{lock_pushed, lock_found, lock_popped}
-use Rattle.section_laws.proofs.Releases.{release_named, release_popped}
-use Rattle.section_laws.proofs.Tallies.{Place, quiet, locking, granting, first, is_entity, IsSender, SoundLock, Sound, Tally, Shifts, shifts_one, shifts_then, other_pushed, other_popped}
+use Rattle.section_laws.proofs.Moves.{lock_found}
+use Rattle.section_laws.proofs.Releases.{release_named}
+use Rattle.section_laws.proofs.Tallies.{Place, quiet, locking, granting, is_entity, SoundLock, Sound, Tally, shifts_one, other_popped}
 
 -- an instance, and the place
 pub record Fits (id : Id) (o : Option Orchestration) (place : Place) : Type 0 where
@@ -55,8 +48,8 @@ pub record With (instances : Id → Option Orchestration) (entities : Id → Opt
 pub keeps_with : (instances : Id → Option Orchestration) (entities : Id → Option Entity) (links : Id → Id → List Message) (w : World) → With instances entities links w → Invariant instances entities links → Keeps w
 keeps_with instances entities links w has invariant =
     subst (λ (i : Id → Option Orchestration). Invariant i w.entities w.links) (sym has.instances_are)
-      (subst (λ (e : Id → Option Entity). Invariant instances e w.links) (sym has.entities_are)
-        (subst (λ (l : Id → Id → List Message). Invariant instances entities l) (sym has.links_are) invariant))
+    (subst (λ (e : Id → Option Entity). Invariant instances e w.links) (sym has.entities_are)
+    (subst (λ (l : Id → Id → List Message). Invariant instances entities l) (sym has.links_are) invariant))
 
 pub sent_with : (w : World) (messages : List Message) → With w.orchestrations w.entities (pushed w.links messages) (sent w messages)
 sent_with w [] = record { instances_are = refl; entities_are = refl; links_are = refl }
@@ -107,8 +100,8 @@ instance_keeps instances entities links places id section over e instance tally 
       places = kept.later;
       tally = kept.tally;
       fits = case_id id (λ other. Fits other (at_id instances id e.instance other) (kept.later other))
-        (subst (λ (o : Option Orchestration). Fits id o (kept.later id)) (sym shift.here) (record { sits = behaves.sits; placed = kept.placed; settled = behaves.settled }))
-        (λ other apart.
+          (subst (λ (o : Option Orchestration). Fits id o (kept.later id)) (sym shift.here) (record { sits = behaves.sits; placed = kept.placed; settled = behaves.settled }))
+          (λ other apart.
           subst (λ (o : Option Orchestration). Fits other o (kept.later other)) (sym (shift.there other apart)) (subst (λ (place : Place). Fits other (instances other) place) (sym (kept.apart other apart)) (fits other apart)));
     }
 
@@ -161,7 +154,7 @@ module _ (flows : Flows) (w : World) (invariant : Keeps w) (from to : Id) (messa
   plain_arrives stamp body is plain instance =
       let fits = invariant.fits to in
       instance_keeps w.orchestrations w.entities popped places to (section_of (w.orchestrations to)) (over_of (w.orchestrations to)) (to_instance flows (w.orchestrations to) from to stamp body) instance (other_tally (ap kind_of is ∙ plain)) fits.placed
-        (λ other apart. invariant.fits other) (other_behaves flows to from (w.orchestrations to) stamp body instance fits.sits fits.settled plain)
+      (λ other apart. invariant.fits other) (other_behaves flows to from (w.orchestrations to) stamp body instance fits.sits fits.settled plain)
 
   grant_arrives : (stamp : ℕ) (task : ℕ) (set : List Spot) (o : Option Orchestration) → message.body ≡ granted task → places to ≡ granting task set from → is_instance to ≡ true → Fits to o (places to)
       → Invariant (at_id w.orchestrations to (to_instance flows o from to stamp (granted task)).instance) w.entities (pushed popped (to_instance flows o from to stamp (granted task)).sent)
@@ -170,9 +163,9 @@ module _ (flows : Flows) (w : World) (invariant : Keeps w) (from to : Id) (messa
       let later = at_id places to (quiet set) in
       let shift = shifts_one to places (quiet set) in
       instance_keeps w.orchestrations w.entities popped later to (inside set) (is_over o.machine.progress) (to_instance flows (Some o) from to stamp (granted task)) instance
-        (grant_popped to places later w.links (holders w.entities) task set from message rest there (ap kind_of is) place shift tally) shift.here
-        (λ other apart. subst (Fits other (w.orchestrations other)) (sym (shift.there other apart)) (invariant.fits other))
-        (grant_behaves flows to from o task set stamp fits.sits (grant_section o.machine.section (places to) task set from place fits.placed))
+      (grant_popped to places later w.links (holders w.entities) task set from message rest there (ap kind_of is) place shift tally) shift.here
+      (λ other apart. subst (Fits other (w.orchestrations other)) (sym (shift.there other apart)) (invariant.fits other))
+      (grant_behaves flows to from o task set stamp fits.sits (grant_section o.machine.section (places to) task set from place fits.placed))
 
   pub arrives : (stamp : ℕ) (body : Body) → message.body ≡ body → is_instance to ≡ true → Arrived stamp body
   arrives stamp (start argument reply) is instance = plain_arrives stamp (start argument reply) is refl instance

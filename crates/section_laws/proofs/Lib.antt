@@ -2,12 +2,14 @@ pub mod Counts
 pub mod Does
 pub mod Effects
 pub mod Entities
+pub mod Found
 pub mod Grants
 pub mod Instances
 pub mod Keeps
 pub mod MessageKinds
 pub mod Moves
 pub mod Order
+pub mod Ordered
 pub mod Programs
 pub mod Releases
 pub mod Runs

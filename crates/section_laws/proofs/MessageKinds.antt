@@ -1,5 +1,5 @@
 -- The four kinds of message that sections see.
-use Rattle.std.proofs.Common.{ℕ, List, Bool, true, false}
+use Rattle.std.proofs.Common.{ℕ, List}
 use Rattle.dura_value.specs.Ids.{Id}
 use Rattle.dura_value.specs.Messages.{Spot, Body, lock, granted, release}
 

@@ -1,16 +1,13 @@
 -- What each lock, grant and release does to the places, the links and the holders.
-use Rattle.std.proofs.Common.{◌≡◌, ◌&&◌, ◌+◌, ◌⊎◌, inl, inr, ℕ, zero, suc, Bool, true, false, cond, List, [], ◌∷◌, ◌++◌, Option, Some, None, refl, sym, ap, subst, ◌∙◌, arith}
+use Rattle.std.proofs.Common.{◌≡◌, ◌&&◌, ◌+◌, inr, ℕ, Bool, true, false, cond, List, [], ◌∷◌, ◌++◌, Option, refl, sym, ap, subst, ◌∙◌, arith}
 use Rattle.std.proofs.lemmas.List.{append-nil}
-use Rattle.dura_value.specs.Ids.{Id, orchestration, entity, client, id_eq}
-use Rattle.dura_value.specs.Messages.{Spot, at_spot, entity_at, Message}
+use Rattle.dura_value.specs.Ids.{Id, id_eq}
+use Rattle.dura_value.specs.Messages.{Spot, Message}
 use Rattle.dura_value.proofs.Ids.{id_self, id_same, both_true}
 use Rattle.dura_model.specs.World.{at_link}
-use Rattle.dura_model.specs.Steps.{is_instance}
-use Rattle.flow_syntax.specs.Entity.{takes}
-use Rattle.section_laws.proofs.MessageKinds.{Kind, kind_of, is_lock, is_grant, is_release, is_other}
-use Rattle.section_laws.proofs.Counts.{case_id, when_true, when_false, Lock, locks_in, grants_in, releases_in, locks_of, grants_of, releases, behind, where_link, count_link}
-use Rattle.section_laws.proofs.Tallies.{Place, quiet, locking, granting, first, held, locks_at, grants_at, is_entity, IsSender, SoundLock, Sound, among, named, Tally, Shifts, where_nothing, count_nothing, Joins, joined, Parts, parted}
-use Rattle.section_laws.proofs.Sets.{is_rising}
+use Rattle.section_laws.proofs.MessageKinds.{Kind, kind_of, is_lock}
+use Rattle.section_laws.proofs.Counts.{case_id, when_true, when_false, Lock, locks_in, locks_of, where_link, count_link}
+use Rattle.section_laws.proofs.Tallies.{Place, quiet, locking, granting, first, held, locks_at, grants_at, SoundLock, Sound, among, named, Tally, Shifts, where_nothing, count_nothing, joined, parted}
 
 -- ---- of lists and tests
 
@@ -49,8 +46,8 @@ module _ (k : Id) (places later : Id → Place) (was place : Place) (is : places
   -- what holds of the place that was and of the new one holds of both at each id
   pub at_each : (P : Id → Place → Place → Type 0) → P k was place → ((id : Id) → id_eq k id ≡ false → (p : Place) → P id p p) → (id : Id) → P id (places id) (later id)
   at_each P here there = case_id k (λ id. P id (places id) (later id))
-    (subst (λ (p : Place). P k p (later k)) (sym is) (subst (P k was) (sym shift.here) here))
-    (λ id apart. subst (P id (places id)) (sym (shift.there id apart)) (there id apart (places id)))
+      (subst (λ (p : Place). P k p (later k)) (sym is) (subst (P k was) (sym shift.here) here))
+      (λ id apart. subst (P id (places id)) (sym (shift.there id apart)) (there id apart (places id)))
 
   pub sound_each : (sound : (id : Id) → Sound id (places id)) → Sound k place → (id : Id) → Sound id (later id)
   sound_each sound here = case_id k (λ id. Sound id (later id)) (subst (Sound k) (sym shift.here) here) (λ id apart. subst (Sound id) (sym (shift.there id apart)) (sound id))
@@ -75,17 +72,17 @@ pub lock_pushed : (k : Id) (places later : Id → Place) (links : Id → Id → 
 lock_pushed k places later links holders task set index from at message kind is shift sound tally =
     joined places later links holders from at message (is_lock k task set index) kind tally (record {
       locks = λ id x y.
-        at_each k places later (quiet (first index set)) (locking task set index from at) is shift (λ id p q. locks_at p x y ++ where_link from at x y (locks_in id (is_lock k task set index)) ≡ locks_at q x y)
+          at_each k places later (quiet (first index set)) (locking task set index from at) is shift (λ id p q. locks_at p x y ++ where_link from at x y (locks_in id (is_lock k task set index)) ≡ locks_at q x y)
           (ap (where_link from at x y) (when_true (id_eq k k) (lock_of task set index ∷ []) [] (id_self k)))
           (λ id apart p. ap (λ (more : List Lock). locks_at p x y ++ where_link from at x y more) (none_from (id_eq k id) (lock_of task set index ∷ []) apart) ∙ nothing_more (id_eq from x && id_eq at y) (locks_at p x y) (locks_at p x y) refl)
           id;
       grants = λ x y.
-        at_each k places later (quiet (first index set)) (locking task set index from at) is shift (λ id p q. grants_at p x ++ where_link from at x id [] ≡ grants_at q x)
+          at_each k places later (quiet (first index set)) (locking task set index from at) is shift (λ id p q. grants_at p x ++ where_link from at x id [] ≡ grants_at q x)
           (nothing_more (id_eq from x && id_eq at k) [] [] refl)
           (λ id apart p. nothing_more (id_eq from x && id_eq at id) (grants_at p x) (grants_at p x) refl)
           y;
       count = λ x y.
-        is_unchanged (among (held (places x)) y) (among (held (later x)) y) (count_link from at x y 0) (count_nothing (id_eq from x && id_eq at y)) (same_held k places later (quiet (first index set)) (locking task set index from at) is shift refl x y);
+          is_unchanged (among (held (places x)) y) (among (held (later x)) y) (count_link from at x y 0) (count_nothing (id_eq from x && id_eq at y)) (same_held k places later (quiet (first index set)) (locking task set index from at) is shift refl x y);
       order = inr refl;
       sound = sound_each k places later (quiet (first index set)) (locking task set index from at) is shift tally.sound sound;
     })
@@ -112,10 +109,10 @@ pub lock_found : (k : Id) (places : Id → Place) (links : Id → Id → List Me
     → kind_of message.body ≡ is_lock k task set index → Tally places links holders → places k ≡ locking task set index a b
 lock_found k places links holders task set index a b message rest there kind tally =
     found_at a b task set index (locks_of k rest) (places k)
-      (ap (λ (more : List Lock). more ++ locks_of k rest) (sym (when_true (id_eq k k) (lock_of task set index ∷ []) [] (id_self k)))
-        ∙ ap (λ (kind : Kind). locks_in k kind ++ locks_of k rest) (sym kind)
-        ∙ ap (locks_of k) (sym there)
-        ∙ tally.locks k a b)
+    (ap (λ (more : List Lock). more ++ locks_of k rest) (sym (when_true (id_eq k k) (lock_of task set index ∷ []) [] (id_self k)))
+    ∙ ap (λ (kind : Kind). locks_in k kind ++ locks_of k rest) (sym kind)
+    ∙ ap (locks_of k) (sym there)
+    ∙ tally.locks k a b)
 
 -- a lock leaves its link
 pub lock_popped : (k : Id) (places later : Id → Place) (links : Id → Id → List Message) (holders : Id → Option Id) (task : ℕ) (set : List Spot) (index : ℕ) (a b : Id) (message : Message) (rest : List Message) → links a b ≡ message ∷ rest
@@ -123,22 +120,22 @@ pub lock_popped : (k : Id) (places later : Id → Place) (links : Id → Id → 
 lock_popped k places later links holders task set index a b message rest there kind is shift tally =
     parted places later links holders holders a b message rest (is_lock k task set index) there kind tally (record {
       locks = λ id x y.
-        at_each k places later (locking task set index a b) (quiet (first index set)) is shift
+          at_each k places later (locking task set index a b) (quiet (first index set)) is shift
           (λ id p q. (rest : List Lock) → locks_at p x y ≡ where_link a b x y (locks_in id (is_lock k task set index)) ++ rest → rest ≡ locks_at q x y)
           (λ rest has.
-            none_left (id_eq a x && id_eq b y) (lock_of task set index) rest
-              (has ∙ ap (λ (more : List Lock). where_link a b x y more ++ rest) (when_true (id_eq k k) (lock_of task set index ∷ []) [] (id_self k))))
+          none_left (id_eq a x && id_eq b y) (lock_of task set index) rest
+          (has ∙ ap (λ (more : List Lock). where_link a b x y more ++ rest) (when_true (id_eq k k) (lock_of task set index ∷ []) [] (id_self k))))
           (λ id apart p rest has.
-            nothing_less (id_eq a x && id_eq b y) (locks_at p x y) (locks_at p x y) rest refl
-              (has ∙ ap (λ (more : List Lock). where_link a b x y more ++ rest) (none_from (id_eq k id) (lock_of task set index ∷ []) apart)))
+          nothing_less (id_eq a x && id_eq b y) (locks_at p x y) (locks_at p x y) rest refl
+          (has ∙ ap (λ (more : List Lock). where_link a b x y more ++ rest) (none_from (id_eq k id) (lock_of task set index ∷ []) apart)))
           id;
       grants = λ x y.
-        at_each k places later (locking task set index a b) (quiet (first index set)) is shift (λ id p q. (rest : List ℕ) → grants_at p x ≡ where_link a b x id [] ++ rest → rest ≡ grants_at q x)
+          at_each k places later (locking task set index a b) (quiet (first index set)) is shift (λ id p q. (rest : List ℕ) → grants_at p x ≡ where_link a b x id [] ++ rest → rest ≡ grants_at q x)
           (λ rest has. nothing_less (id_eq a x && id_eq b k) [] [] rest refl has)
           (λ id apart p rest has. nothing_less (id_eq a x && id_eq b id) (grants_at p x) (grants_at p x) rest refl has)
           y;
       count = λ x y rest has.
-        is_fewer (among (held (places x)) y) (among (held (later x)) y) (count_link a b x y 0) rest (named (holders y) x) (count_nothing (id_eq a x && id_eq b y)) (same_held k places later (locking task set index a b) (quiet (first index set)) is shift refl x y) has;
+          is_fewer (among (held (places x)) y) (among (held (later x)) y) (count_link a b x y 0) rest (named (holders y) x) (count_nothing (id_eq a x && id_eq b y)) (same_held k places later (locking task set index a b) (quiet (first index set)) is shift refl x y) has;
       sound = sound_each k places later (locking task set index a b) (quiet (first index set)) is shift tally.sound tt;
       holder = tally.holder;
     })

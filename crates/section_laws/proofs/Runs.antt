@@ -1,26 +1,26 @@
 -- Each step keeps the invariant, so each legal run does.
-use Rattle.std.proofs.Common.{◌≡◌, ◌&&◌, ◌==◌, ℕ, zero, suc, Bool, true, false, cond, List, [], ◌∷◌, ◌++◌, Option, Some, None, refl, sym, ap, subst, ◌∙◌}
+use Rattle.std.proofs.Common.{◌≡◌, ◌&&◌, ◌==◌, ℕ, Bool, true, false, cond, List, [], ◌∷◌, ◌++◌, Option, Some, None, refl, ap, subst, ◌∙◌}
 use Rattle.std.specs.Prelude.{nat_le}
 use Rattle.std.specs.Option.{option_and_then}
 use Rattle.activity_table.specs.Table.{may}
 use Rattle.dura_value.specs.declared.outcome.Outcome.{Outcome}
 use Rattle.dura_value.specs.Ids.{Id, orchestration, entity, client, id_eq}
-use Rattle.dura_value.specs.Messages.{Reply, to_nobody, to_task, to_request, Body, start, raise, query, wait, result, operate, lock, granted, release, Message}
+use Rattle.dura_value.specs.Messages.{Body, start, raise, query, wait, result, operate, lock, granted, release, Message}
 use Rattle.dura_value.proofs.Ids.{both_true}
-use Rattle.flow_syntax.specs.Syntax.{Flows, class_of}
+use Rattle.flow_syntax.specs.Syntax.{Flows}
 use Rattle.flow_syntax.specs.Machine.{resulted, fired, Event}
-use Rattle.flow_syntax.specs.Entity.{Entity, takes}
+use Rattle.flow_syntax.specs.Entity.{takes}
 use Rattle.flow_syntax.specs.Entity.{deliver as deliver_to}
 use Rattle.dura_model.specs.World.{World, Orchestration, Activity, empty, at_id, at_link, at_number}
-use Rattle.dura_model.specs.Deliveries.{Effect, to_instance, goes_on_from, is_over}
-use Rattle.dura_model.specs.Steps.{Label, take, deliver, finish, fire, sent, stands_as, is_instance, is_client, is_asking, number_in, is_number, is_request, taken, last_of, entity_of, entity_stands, to_entity, to_client, received, delivered, answer_of, finished, timed, step}
-use Rattle.dura_model.specs.Legal.{Legal, after_from, holder_of}
+use Rattle.dura_model.specs.Deliveries.{to_instance, goes_on_from, is_over}
+use Rattle.dura_model.specs.Steps.{Label, take, deliver, finish, fire, sent, stands_as, is_client, is_asking, number_in, is_number, is_request, taken, last_of, entity_of, entity_stands, to_entity, to_client, received, delivered, answer_of, finished, timed, step}
+use Rattle.dura_model.specs.Legal.{Legal, after_from}
 use Rattle.section_laws.proofs.MessageKinds.{kind_of, is_other}
-use Rattle.section_laws.proofs.Effects.{Sits, Behaves, event_behaves, section_of, over_of}
+use Rattle.section_laws.proofs.Effects.{event_behaves}
 use Rattle.section_laws.proofs.Entities.{entity_holder, reaches, client_told, client_with}
-use Rattle.section_laws.proofs.Keeps.{Fits, Invariant, Keeps, With, holders, keeps_with, sent_with, stands_with, guarded, some_same, instance_keeps, arrives}
+use Rattle.section_laws.proofs.Keeps.{Fits, Keeps, With, holders, keeps_with, sent_with, stands_with, guarded, some_same, instance_keeps, arrives}
 use Rattle.section_laws.proofs.Programs.{is_grant}
-use Rattle.section_laws.proofs.Tallies.{Place, quiet, Tally, other_pushed}
+use Rattle.section_laws.proofs.Tallies.{quiet, other_pushed}
 
 -- ---- requests
 
@@ -50,9 +50,9 @@ taken_keeps w who number message None next invariant plain is =
     let v = record w { taken = at_number w.taken who number (Some message) } in
     let has = sent_with v (message ∷ []) in
     subst Keeps (some_same is)
-      (keeps_with w.orchestrations w.entities (at_link w.links message.from message.to (w.links message.from message.to ++ message ∷ [])) (sent v (message ∷ []))
-        (record { instances_are = has.instances_are; entities_are = has.entities_are; links_are = has.links_are })
-        (record { places = invariant.places; tally = other_pushed invariant.places w.links (holders w.entities) message.from message.to message plain invariant.tally; fits = invariant.fits }))
+    (keeps_with w.orchestrations w.entities (at_link w.links message.from message.to (w.links message.from message.to ++ message ∷ [])) (sent v (message ∷ []))
+    (record { instances_are = has.instances_are; entities_are = has.entities_are; links_are = has.links_are })
+    (record { places = invariant.places; tally = other_pushed invariant.places w.links (holders w.entities) message.from message.to message plain invariant.tally; fits = invariant.fits }))
 taken_keeps w who number message (Some other) next invariant plain is = absurd (cc is)
 
 -- ---- events of an instance
@@ -63,8 +63,8 @@ event_keeps w v id o e stamp invariant there same plain =
     let here : v.orchestrations id ≡ Some o = ap (λ (f : Id → Option Orchestration). f id) same.instances_are ∙ there in
     let fits : Fits id (Some o) (kept.places id) = subst (λ (there : Option Orchestration). Fits id there (kept.places id)) here (kept.fits id) in
     keeps_with (at_id v.orchestrations id (goes_on_from o e stamp []).instance) v.entities _ (stands_as v id (goes_on_from o e stamp [])) (stands_with v id (goes_on_from o e stamp []))
-      (instance_keeps v.orchestrations v.entities v.links kept.places id o.machine.section (is_over o.machine.progress) (goes_on_from o e stamp []) fits.sits.2 kept.tally fits.placed (λ other apart. kept.fits other)
-        (event_behaves id o fits.sits fits.settled e stamp plain))
+    (instance_keeps v.orchestrations v.entities v.links kept.places id o.machine.section (is_over o.machine.progress) (goes_on_from o e stamp []) fits.sits.2 kept.tally fits.placed (λ other apart. kept.fits other)
+    (event_behaves id o fits.sits fits.settled e stamp plain))
 
 module _ (flows : Flows) where
   -- ---- deliveries
@@ -80,8 +80,8 @@ module _ (flows : Flows) where
       let lets = both_true (takes e.holder from) (nat_le e.last stamp) guard.0 in
       let has = sent_with (record v { entities = at_id w.entities to (Some d.entity) }) d.sent in
       subst Keeps guard.1
-        (keeps_with w.orchestrations (at_id w.entities to (Some d.entity)) _ (entity_stands v to d) (record { instances_are = has.instances_are; entities_are = has.entities_are; links_are = has.links_are })
-          (reaches flows w invariant from to message rest there class (record e { last = stamp }) message.body refl refl (entity_holder flows class (w.entities to)) lets.0))
+      (keeps_with w.orchestrations (at_id w.entities to (Some d.entity)) _ (entity_stands v to d) (record { instances_are = has.instances_are; entities_are = has.entities_are; links_are = has.links_are })
+      (reaches flows w invariant from to message rest there class (record e { last = stamp }) message.body refl refl (entity_holder flows class (w.entities to)) lets.0))
 
   received_keeps : (w : World) (from to : Id) (stamp : ℕ) (message : Message) (rest : List Message) (next : World) → Keeps w → w.links from to ≡ message ∷ rest
       → received flows (record w { links = at_link w.links from to rest }) from to stamp message.body ≡ Some next → Keeps next
@@ -108,7 +108,7 @@ module _ (flows : Flows) where
       let v = record w { activities = at_number w.activities id task None } in
       let e = goes_on_from o (resulted task (answer_of outcome)) o.machine.last [] in
       subst Keeps (guarded (may activity.name activity.argument outcome) (stands_as v id e) next is).1
-        (event_keeps w v id o (resulted task (answer_of outcome)) o.machine.last invariant there (record { instances_are = refl; entities_are = refl; links_are = refl }) refl)
+      (event_keeps w v id o (resulted task (answer_of outcome)) o.machine.last invariant there (record { instances_are = refl; entities_are = refl; links_are = refl }) refl)
   finished_keeps w id task outcome None activity next invariant there is = absurd (cc is)
   finished_keeps w id task outcome (Some o) None next invariant there is = absurd (cc is)
 
@@ -117,7 +117,7 @@ module _ (flows : Flows) where
       let v = record w { timers = at_number w.timers id task None } in
       let e = goes_on_from o (fired task) stamp [] in
       subst Keeps (guarded (nat_le due stamp && nat_le o.machine.last stamp) (stands_as v id e) next is).1
-        (event_keeps w v id o (fired task) stamp invariant there (record { instances_are = refl; entities_are = refl; links_are = refl }) refl)
+      (event_keeps w v id o (fired task) stamp invariant there (record { instances_are = refl; entities_are = refl; links_are = refl }) refl)
   timed_keeps w id task stamp None due next invariant there is = absurd (cc is)
   timed_keeps w id task stamp (Some o) None next invariant there is = absurd (cc is)
 
@@ -142,9 +142,9 @@ module _ (flows : Flows) where
 
   pub legal_keeps : (run : List Label) (w : World) → Legal flows run w → Keeps w
   legal_keeps run w legal = runs_keep run empty w
-    (record {
-      places = λ id. quiet [];
-      tally = record { locks = λ id a b. refl; grants = λ a id. refl; count = λ id b. refl; order = λ id b. refl; sound = λ id. tt; holder = λ b id is. absurd (cc is) };
-      fits = λ id. record { sits = tt; placed = refl; settled = tt };
-    })
-    legal
+      (record {
+        places = λ id. quiet [];
+        tally = record { locks = λ id a b. refl; grants = λ a id. refl; count = λ id b. refl; order = λ id b. refl; sound = λ id. tt; holder = λ b id is. absurd (cc is) };
+        fits = λ id. record { sits = tt; placed = refl; settled = tt };
+      })
+      legal

@@ -1,6 +1,6 @@
 -- Sets of entities, in order.
 use Rattle.std.proofs.Common.{◌≡◌, ◌&&◌, ◌⊎◌, inl, inr, Bool, true, false, cond, List, [], ◌∷◌, refl}
-use Rattle.std.proofs.lemmas.Bool.{and_parts, and_from, both_ways, cond_both}
+use Rattle.std.proofs.lemmas.Bool.{and_parts, and_from}
 use Rattle.dura_value.specs.Messages.{Spot, spot_before, spot_eq, inserted, set_of}
 use Rattle.section_laws.proofs.Order.{spot_trans, spot_total}
 

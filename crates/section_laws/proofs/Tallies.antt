@@ -1,13 +1,13 @@
 -- Where each instance's one lock or grant is under way and what it has, and that links and holders say the same.
-use Rattle.std.proofs.Common.{◌≡◌, ◌&&◌, ◌+◌, ◌⊎◌, inl, inr, ℕ, zero, suc, Bool, true, false, cond, List, [], ◌∷◌, ◌++◌, Option, Some, None, refl, sym, ap, subst, ◌∙◌, arith}
+use Rattle.std.proofs.Common.{◌≡◌, ◌&&◌, ◌+◌, ◌⊎◌, inl, inr, ℕ, zero, suc, Bool, true, false, cond, List, [], ◌∷◌, ◌++◌, Option, Some, None, refl, sym, ap, ◌∙◌, arith}
 use Rattle.std.proofs.lemmas.List.{append-nil}
-use Rattle.dura_value.specs.Ids.{Id, orchestration, entity, client, id_eq}
+use Rattle.dura_value.specs.Ids.{Id, entity, id_eq}
 use Rattle.dura_value.specs.Messages.{Spot, at_spot, entity_at, Message}
 use Rattle.dura_value.proofs.Ids.{id_self}
 use Rattle.dura_model.specs.World.{at_id, at_link}
 use Rattle.dura_model.specs.Steps.{is_instance}
-use Rattle.section_laws.proofs.MessageKinds.{Kind, kind_of, is_lock, is_grant, is_release, is_other}
-use Rattle.section_laws.proofs.Counts.{case_id, case_link, when_true, when_false, Lock, locks_in, grants_in, releases_in, locks_of, grants_of, releases, behind, where_link, count_link, pushed_one, locks_pushed, grants_pushed, releases_pushed, behind_pushed, locks_popped, grants_popped, releases_popped, behind_popped}
+use Rattle.section_laws.proofs.MessageKinds.{Kind, kind_of, is_other}
+use Rattle.section_laws.proofs.Counts.{when_true, when_false, Lock, locks_in, grants_in, releases_in, locks_of, grants_of, releases, behind, where_link, count_link, pushed_one, locks_pushed, grants_pushed, releases_pushed, behind_pushed, locks_popped, grants_popped, releases_popped, behind_popped}
 use Rattle.section_laws.proofs.Sets.{is_rising}
 
 -- Nothing is under way and it has this; its lock stands in this link; its grant stands in the link from there.
@@ -108,19 +108,19 @@ pub joined : (places later : Id → Place) (links : Id → Id → List Message) 
     → Tally later (at_link links a b (links a b ++ message ∷ [])) holders
 joined places later links holders a b message kind is tally joins = record {
   locks = λ id x y.
-    locks_pushed links a b message id x y
-    ∙ ap (λ (kind : Kind). locks_of id (links x y) ++ where_link a b x y (locks_in id kind)) is
-    ∙ ap (λ (before : List Lock). before ++ where_link a b x y (locks_in id kind)) (tally.locks id x y)
-    ∙ joins.locks id x y;
+      locks_pushed links a b message id x y
+      ∙ ap (λ (kind : Kind). locks_of id (links x y) ++ where_link a b x y (locks_in id kind)) is
+      ∙ ap (λ (before : List Lock). before ++ where_link a b x y (locks_in id kind)) (tally.locks id x y)
+      ∙ joins.locks id x y;
   grants = λ x y.
-    grants_pushed links a b message x y
-    ∙ ap (λ (kind : Kind). grants_of (links x y) ++ where_link a b x y (grants_in kind)) is
-    ∙ ap (λ (before : List ℕ). before ++ where_link a b x y (grants_in kind)) (tally.grants x y)
-    ∙ joins.grants x y;
+      grants_pushed links a b message x y
+      ∙ ap (λ (kind : Kind). grants_of (links x y) ++ where_link a b x y (grants_in kind)) is
+      ∙ ap (λ (before : List ℕ). before ++ where_link a b x y (grants_in kind)) (tally.grants x y)
+      ∙ joins.grants x y;
   count = λ x y.
-    let more : releases (pushed_one links a b message x y) ≡ releases (links x y) + count_link a b x y (releases_in kind) =
+      let more : releases (pushed_one links a b message x y) ≡ releases (links x y) + count_link a b x y (releases_in kind) =
       releases_pushed links a b message x y ∙ ap (λ (kind : Kind). releases (links x y) + count_link a b x y (releases_in kind)) is in
-    summed (among (held (later x)) y) (among (held (places x)) y) (releases (links x y)) (count_link a b x y (releases_in kind)) (releases (pushed_one links a b message x y)) (named (holders y) x) more (joins.count x y) (tally.count x y);
+      summed (among (held (later x)) y) (among (held (places x)) y) (releases (links x y)) (count_link a b x y (releases_in kind)) (releases (pushed_one links a b message x y)) (named (holders y) x) more (joins.count x y) (tally.count x y);
   order = λ id y. behind_pushed links a b message (new joins.order) id y (tally.order id y);
   sound = joins.sound;
   holder = tally.holder;
@@ -128,6 +128,7 @@ joined places later links holders a b message kind is tally joins = record {
   where
     summed : (one was n more now who : ℕ) → now ≡ n + more → was ≡ one + more → was + n ≡ who → one + now ≡ who
     summed one was n more now who a b c = omega (arith, a, b, c)
+
     new : (locks_at (places a) a b ≡ []) ⊎ (releases_in kind ≡ 0) → (locks_of a (links a b) ≡ []) ⊎ (releases_in (kind_of message.body) ≡ 0)
     new (inl none) = inl (tally.locks a a b ∙ none)
     new (inr none) = inr (ap releases_in is ∙ none)
@@ -144,16 +145,16 @@ pub parted : (places later : Id → Place) (links : Id → Id → List Message) 
     → Parts places later holders now kind a b → Tally later (at_link links a b rest) now
 parted places later links holders now a b message rest kind there is tally parts = record {
   locks = λ id x y.
-    parts.locks id x y (locks_of id (at_link links a b rest x y))
+      parts.locks id x y (locks_of id (at_link links a b rest x y))
       (sym (tally.locks id x y) ∙ locks_popped links a b message rest there id x y ∙ ap (λ (kind : Kind). where_link a b x y (locks_in id kind) ++ locks_of id (at_link links a b rest x y)) is);
   grants = λ x y.
-    parts.grants x y (grants_of (at_link links a b rest x y))
+      parts.grants x y (grants_of (at_link links a b rest x y))
       (sym (tally.grants x y) ∙ grants_popped links a b message rest there x y ∙ ap (λ (kind : Kind). where_link a b x y (grants_in kind) ++ grants_of (at_link links a b rest x y)) is);
   count = λ x y.
-    parts.count x y (releases (at_link links a b rest x y))
+      parts.count x y (releases (at_link links a b rest x y))
       (ap (λ (n : ℕ). among (held (places x)) y + n)
-        (sym (releases_popped links a b message rest there x y ∙ ap (λ (kind : Kind). count_link a b x y (releases_in kind) + releases (at_link links a b rest x y)) is))
-        ∙ tally.count x y);
+      (sym (releases_popped links a b message rest there x y ∙ ap (λ (kind : Kind). count_link a b x y (releases_in kind) + releases (at_link links a b rest x y)) is))
+      ∙ tally.count x y);
   order = λ id y. behind_popped links a b message rest there id y (tally.order id y);
   sound = parts.sound;
   holder = parts.holder;
