@@ -1,0 +1,17 @@
+pub mod Counts
+pub mod Does
+pub mod Effects
+pub mod Entities
+pub mod Found
+pub mod Grants
+pub mod Instances
+pub mod Keeps
+pub mod MessageKinds
+pub mod Moves
+pub mod Order
+pub mod Ordered
+pub mod Programs
+pub mod Releases
+pub mod Runs
+pub mod Sets
+pub mod Tallies

@@ -1,0 +1,10 @@
+//! Laws of the sections of legal runs, for all flows.
+//!
+//! - `specs/Causes`: why an entity has a holder.
+//! - `laws` are the laws: no two sections overlap, who waits for an entity holds only smaller ones, nobody waits in a
+//!   circle, and an entity with a holder has a cause.
+#![tactic(auto)]
+
+mod laws;
+
+pub use laws::{held_inside, no_circle, no_lock_left, no_overlap, waits_in_order};
