@@ -43,6 +43,9 @@ pub record Lock : Type 0 where
   pub set : List Spot
   pub index : ℕ
 
+abbrev pub lock_of : ℕ → List Spot → ℕ → Lock
+lock_of task set index = record { task = task; set = set; index = index }
+
 abbrev pub locks_in : Id → Kind → List Lock
 locks_in id (is_lock of task set index) = cond (id_eq of id) (record { task = task; set = set; index = index } ∷ []) []
 locks_in id other = []

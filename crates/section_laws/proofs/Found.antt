@@ -7,7 +7,7 @@ use Rattle.dura_value.specs.Ids.{Id, id_eq}
 use Rattle.dura_value.specs.Messages.{Spot, at_spot, spot_before, entity_at, Body, start, raise, query, wait, result, operate, lock, granted, release, Message}
 use Rattle.dura_value.proofs.Ids.{id_same, id_self}
 use Rattle.section_laws.proofs.MessageKinds.{kind_of}
-use Rattle.section_laws.proofs.Counts.{Lock, locks_in, grants_in, releases_in, locks_of, grants_of, releases, when_true}
+use Rattle.section_laws.proofs.Counts.{lock_of, Lock, locks_in, grants_in, releases_in, locks_of, grants_of, releases, when_true}
 use Rattle.section_laws.proofs.Sets.{is_below, is_rising}
 use Rattle.section_laws.proofs.Tallies.{first, among, named}
 
@@ -85,9 +85,6 @@ grant_stands (message ∷ messages) task rest is = by (grants_in (kind_of messag
     by : (grants : List ℕ) → grants_in (kind_of message.body) ≡ grants → grants ++ grants_of messages ≡ task ∷ rest → (grants_of messages ≡ task ∷ rest → Standing messages (granted task)) → Standing (message ∷ messages) (granted task)
     by [] none is more = standing_later message messages (granted task) (more is)
     by (one ∷ grants) some is more = let same : one ≡ task = cc is in standing_here message messages (granted task) (grant_body message.body task grants (some ∙ ap (λ (t : ℕ). t ∷ grants) same))
-
-abbrev pub lock_of : ℕ → List Spot → ℕ → Lock
-lock_of task set index = record { task = task; set = set; index = index }
 
 lock_body : (id : Id) (body : Body) (task : ℕ) (set : List Spot) (index : ℕ) (rest : List Lock) → locks_in id (kind_of body) ≡ lock_of task set index ∷ rest → body ≡ lock id task set index
 lock_body id (lock of other wanted at) task set index rest is = by (id_eq of id) refl is

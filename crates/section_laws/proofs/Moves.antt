@@ -6,7 +6,7 @@ use Rattle.dura_value.specs.Messages.{Spot, Message}
 use Rattle.dura_value.proofs.Ids.{id_self, id_same, both_true}
 use Rattle.dura_model.specs.World.{at_link}
 use Rattle.section_laws.proofs.MessageKinds.{Kind, kind_of, is_lock}
-use Rattle.section_laws.proofs.Counts.{case_id, when_true, when_false, Lock, locks_in, locks_of, where_link, count_link}
+use Rattle.section_laws.proofs.Counts.{lock_of, case_id, when_true, when_false, Lock, locks_in, locks_of, where_link, count_link}
 use Rattle.section_laws.proofs.Tallies.{Place, quiet, locking, granting, first, held, locks_at, grants_at, SoundLock, Sound, among, named, Tally, Shifts, where_nothing, count_nothing, joined, parted}
 
 -- ---- of lists and tests
@@ -56,9 +56,6 @@ module _ (k : Id) (places later : Id → Place) (was place : Place) (is : places
   same_held same id b = at_each (λ id p q. among (held q) b ≡ among (held p) b) (ap (λ (set : List Spot). among set b) same) (λ id apart p. refl) id
 
 -- ---- locks
-
-abbrev lock_of : ℕ → List Spot → ℕ → Lock
-lock_of task set index = record { task = task; set = set; index = index }
 
 pub is_unchanged : (before after more : ℕ) → more ≡ 0 → after ≡ before → before ≡ after + more
 is_unchanged before after more none is = omega (arith, none, is)

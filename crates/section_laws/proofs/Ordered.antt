@@ -12,9 +12,9 @@ use Rattle.dura_model.specs.Deliveries.{is_over}
 use Rattle.dura_model.specs.Steps.{Label}
 use Rattle.dura_model.specs.Legal.{Legal, Inside, Overlap, holder_of, Releases, Waits, Holds, Blocks, one, more}
 use Rattle.section_laws.specs.Causes.{RunsInside, Because, is_inside, is_acquiring, is_granted, is_leaving}
-use Rattle.section_laws.proofs.Counts.{Lock, releases, locks_of, grants_of, when_true, link_self}
+use Rattle.section_laws.proofs.Counts.{lock_of, Lock, releases, locks_of, grants_of, when_true, link_self}
 use Rattle.section_laws.proofs.Does.{IsSettled}
-use Rattle.section_laws.proofs.Found.{lock_of, release_stands, grant_stands, lock_stands, lock_counted, only_one, none_there, contains_among, among_contains, first_place, first_before, named_one, counts_one}
+use Rattle.section_laws.proofs.Found.{release_stands, grant_stands, lock_stands, lock_counted, only_one, none_there, contains_among, among_contains, first_place, first_before, named_one, counts_one}
 use Rattle.section_laws.proofs.Instances.{Placed}
 use Rattle.section_laws.proofs.Keeps.{Fits, Keeps, holders}
 use Rattle.section_laws.proofs.Order.{spot_trans, spot_not_self}

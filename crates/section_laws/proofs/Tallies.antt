@@ -83,9 +83,6 @@ shifts_one k f x = record { here = when_true (id_eq k k) x (f k) (id_self k); th
 pub shifts_then : {X : Type 0} (k : Id) (f middle later : Id → X) (x y : X) → Shifts k f middle x → Shifts k middle later y → Shifts k f later y
 shifts_then k f middle later x y one two = record { here = two.here; there = λ id apart. two.there id apart ∙ one.there id apart }
 
-pub shifts_none : {X : Type 0} (k : Id) (f : Id → X) (x : X) → f k ≡ x → Shifts k f f x
-shifts_none k f x is = record { here = is; there = λ id apart. refl }
-
 pub where_nothing : {X : Type 0} (test : Bool) → ◌≡◌ {A = List X} (cond test [] []) []
 where_nothing true = refl
 where_nothing false = refl
