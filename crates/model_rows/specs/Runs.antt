@@ -23,8 +23,16 @@ pub mod Queries
 pub mod Spin
 pub mod Sum
 pub mod Tick
+pub mod Trace000
+pub mod Trace002
+pub mod Trace006
 pub mod Trace007
 pub mod Trace023
+pub mod Trace030
 pub mod Trace034
+pub mod Trace038
+pub mod Trace044
 pub mod Trace046
+pub mod Trace050
+pub mod Trace053
 pub mod Transfers

@@ -24,10 +24,18 @@ ghost use Rattle.model_rows.specs.Runs.Queries.{Agrees as QueriesAgrees};
 ghost use Rattle.model_rows.specs.Runs.Spin.{Agrees as SpinAgrees};
 ghost use Rattle.model_rows.specs.Runs.Sum.{Agrees as SumAgrees};
 ghost use Rattle.model_rows.specs.Runs.Tick.{Agrees as TickAgrees};
+ghost use Rattle.model_rows.specs.Runs.Trace000.{Agrees as Trace000Agrees};
+ghost use Rattle.model_rows.specs.Runs.Trace002.{Agrees as Trace002Agrees};
+ghost use Rattle.model_rows.specs.Runs.Trace006.{Agrees as Trace006Agrees};
 ghost use Rattle.model_rows.specs.Runs.Trace007.{Agrees as Trace007Agrees};
 ghost use Rattle.model_rows.specs.Runs.Trace023.{Agrees as Trace023Agrees};
+ghost use Rattle.model_rows.specs.Runs.Trace030.{Agrees as Trace030Agrees};
 ghost use Rattle.model_rows.specs.Runs.Trace034.{Agrees as Trace034Agrees};
+ghost use Rattle.model_rows.specs.Runs.Trace038.{Agrees as Trace038Agrees};
+ghost use Rattle.model_rows.specs.Runs.Trace044.{Agrees as Trace044Agrees};
 ghost use Rattle.model_rows.specs.Runs.Trace046.{Agrees as Trace046Agrees};
+ghost use Rattle.model_rows.specs.Runs.Trace050.{Agrees as Trace050Agrees};
+ghost use Rattle.model_rows.specs.Runs.Trace053.{Agrees as Trace053Agrees};
 ghost use Rattle.model_rows.specs.Runs.Transfers.{Agrees as TransfersAgrees};
 
 pub fn values()
@@ -130,6 +138,18 @@ pub fn tick()
     ensures { TickAgrees }
 {}
 
+pub fn trace_000()
+    ensures { Trace000Agrees }
+{}
+
+pub fn trace_002()
+    ensures { Trace002Agrees }
+{}
+
+pub fn trace_006()
+    ensures { Trace006Agrees }
+{}
+
 pub fn trace_007()
     ensures { Trace007Agrees }
 {}
@@ -138,12 +158,32 @@ pub fn trace_023()
     ensures { Trace023Agrees }
 {}
 
+pub fn trace_030()
+    ensures { Trace030Agrees }
+{}
+
 pub fn trace_034()
     ensures { Trace034Agrees }
 {}
 
+pub fn trace_038()
+    ensures { Trace038Agrees }
+{}
+
+pub fn trace_044()
+    ensures { Trace044Agrees }
+{}
+
 pub fn trace_046()
     ensures { Trace046Agrees }
+{}
+
+pub fn trace_050()
+    ensures { Trace050Agrees }
+{}
+
+pub fn trace_053()
+    ensures { Trace053Agrees }
 {}
 
 pub fn transfers()
