@@ -9,7 +9,7 @@ ghost use Rattle.commit_log.specs.States.{Rests, IsResting};
 ghost use Rattle.commit_log.specs.Outcomes.{RestsAs};
 ghost use Rattle.part_driver.specs.Commit.{IsOutside, LeavesCommit};
 ghost use Rattle.part_driver.specs.Labels.{OthersSame};
-ghost use Rattle.part_items.specs.Items.{payload_bytes};
+ghost use Rattle.sum_items.specs.Items.{payload_bytes};
 
 use crate::commit::commit;
 use crate::trail::Entry;
@@ -17,7 +17,7 @@ use activity_table::Activities;
 use commit_log::Resting;
 use dura_value::{Scalar, Scalars, Value, word};
 use input_reader::{Cause, Input};
-use part_items::payload;
+use sum_items::payload;
 use part_state::Label;
 use site_model::Site;
 use std::alloc::Global;
