@@ -4,4 +4,7 @@ pub mod Ids
 pub mod Items
 pub mod Messages
 pub mod Names
+pub mod Reading
+pub mod Spots
 pub mod Text
+pub mod Views

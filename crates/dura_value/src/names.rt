@@ -11,7 +11,7 @@ use std::marker::Model;
 const MOST_BYTES: usize = 64;
 
 /// A name, which a contract sees as its bytes.
-#[derive(Debug, Drop)]
+#[derive(Clone, Debug, Drop)]
 pub struct Name {
     bytes: Vec<u8>,
 }
@@ -28,7 +28,7 @@ impl Model for Name {
 }
 
 /// A key, which a contract sees as its bytes.
-#[derive(Debug, Drop)]
+#[derive(Clone, Debug, Drop)]
 pub struct Key {
     bytes: Vec<u8>,
 }
