@@ -5,6 +5,5 @@ pub mod Items
 pub mod Messages
 pub mod Names
 pub mod Reading
-pub mod Spots
 pub mod Text
 pub mod Views

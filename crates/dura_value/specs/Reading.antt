@@ -1,6 +1,6 @@
 -- Which bytes are the written form of a name, a key or an id, and how far others begin one.
-use Rattle.std.specs.Prelude.{◌≡◌, ℕ, suc, ◌+◌, ◌==◌, List, [], ◌∷◌, length, min, Bool, Result, Ok, Err, if◌then◌else◌, nat_lt}
-use Rattle.std.specs.List.{prefix_len, before_first, after_first}
+use Rattle.std.specs.Prelude.{◌≡◌, ℕ, suc, ◌+◌, ◌==◌, List, [], ◌∷◌, length, take, drop, min, Bool, Result, Ok, Err, if◌then◌else◌, nat_lt}
+use Rattle.std.specs.List.{prefix_len, position_or_len}
 use Rattle.std.specs.Char.{is_ascii_alphabetic}
 use Rattle.dura_value.specs.declared.faults.ReadError.{ReadError}
 use Rattle.dura_value.specs.declared.faults.ReadError.TheVariants.{Bad, Memory}
@@ -12,11 +12,6 @@ infixl 10 ◌>>=◌
 abbrev pub ◌>>=◌ : {A B : Type 0} → Result A ℕ → (A → Result B ℕ) → Result B ℕ
 (Ok x) >>= f = f x
 (Err offset) >>= f = Err offset
-
--- what was read behind so many bytes
-abbrev pub behind : {A : Type 0} → ℕ → Result A ℕ → Result A ℕ
-behind count (Ok x) = Ok x
-behind count (Err offset) = Err (count + offset)
 
 -- what was answered, seen by a view, is what was read, unless memory ran out
 abbrev pub Fails : {Y : Type 0} → ReadError → Result Y ℕ → Type 0
@@ -36,26 +31,26 @@ name_front (first ∷ rest) = if is_ascii_alphabetic first then min 64 (suc (pre
 abbrev pub key_front : List ℕ → ℕ
 key_front bytes = min 64 (prefix_len stands_in_key bytes)
 
--- a name, or how far the bytes begin one
-abbrev pub name_in : List ℕ → Result (List ℕ) ℕ
-name_in bytes = if is_name bytes then Ok bytes else Err (name_front bytes)
+-- a name that begins at this offset, or how far the bytes begin one
+abbrev pub name_at : ℕ → List ℕ → Result (List ℕ) ℕ
+name_at at bytes = if is_name bytes then Ok bytes else Err (at + name_front bytes)
 
-abbrev pub key_in : List ℕ → Result (List ℕ) ℕ
-key_in bytes = if is_key bytes then Ok bytes else Err (key_front bytes)
+abbrev pub key_at : ℕ → List ℕ → Result (List ℕ) ℕ
+key_at at bytes = if is_key bytes then Ok bytes else Err (at + key_front bytes)
 
 abbrev pub is_slash : ℕ → Bool
 is_slash byte = byte == 47
 
 -- a name, a slash and a key
-unfoldable pub pair_in : List ℕ → Result (List ℕ × List ℕ) ℕ
-pair_in bytes =
-    name_in (before_first is_slash bytes) >>= λ name.
-    if nat_lt (length name) (length bytes) then (behind (suc (length name)) (key_in (after_first is_slash bytes)) >>= λ key. Ok (name, key)) else Err (length name)
+unfoldable pub pair_at : ℕ → List ℕ → Result (List ℕ × List ℕ) ℕ
+pair_at at bytes = let place = position_or_len is_slash bytes in
+    name_at at (take place bytes) >>= λ name.
+    if nat_lt place (length bytes) then (key_at (at + place + 1) (drop (place + 1) bytes) >>= λ key. Ok (name, key)) else Err (at + place)
 
--- what is begun by `#` is a client, what is begun by `@` an entity, and the rest instances of flows
+-- what is begun by `#` is a client, what is begun by `@` an entity, and the rest an instance of a flow
 unfoldable pub id_in : List ℕ → Result Id ℕ
 id_in [] = Err 0
 id_in (first ∷ rest) =
     if first == 35
-    then (behind 1 (name_in rest) >>= λ name. Ok (client name))
-    else (if first == 64 then (behind 1 (pair_in rest) >>= λ pair. Ok (entity pair.0 pair.1)) else (pair_in (first ∷ rest) >>= λ pair. Ok (orchestration pair.0 pair.1)))
+    then (name_at 1 rest >>= λ name. Ok (client name))
+    else (if first == 64 then (pair_at 1 rest >>= λ pair. Ok (entity pair.0 pair.1)) else (pair_at 0 (first ∷ rest) >>= λ pair. Ok (orchestration pair.0 pair.1)))

@@ -1,5 +1,5 @@
 -- The plain data that ids, replies, answers, bodies and messages stand for.
-use Rattle.std.specs.Prelude.{ℕ, List}
+use Rattle.std.specs.Prelude.{List, map}
 use Rattle.dura_value.specs.declared.addresses.Id.{Id}
 use Rattle.dura_value.specs.declared.addresses.Id.TheVariants.{Client, Entity, Flow}
 use Rattle.dura_value.specs.declared.messages.Reply.{Reply}
@@ -9,6 +9,7 @@ use Rattle.dura_value.specs.declared.messages.Answer.TheVariants as answers
 use Rattle.dura_value.specs.declared.messages.Body.{Body}
 use Rattle.dura_value.specs.declared.messages.Body.TheVariants as bodies
 use Rattle.dura_value.specs.declared.messages.Message.{Message}
+use Rattle.dura_value.specs.declared.spots.Spot.{Spot}
 use Rattle.dura_value.specs.Ids as plain
 use Rattle.dura_value.specs.Messages as said
 
@@ -34,6 +35,12 @@ answer_of answers.None = said.is_missing
 answer_of answers.Running = said.is_running
 answer_of (answers.Value value) = said.is_value value
 
+abbrev pub spot_of : Spot → said.Spot
+spot_of spot = record { class = spot.class; key = spot.key }
+
+abbrev pub spots_of : List Spot → List said.Spot
+spots_of = map spot_of
+
 abbrev pub body_of : Body → said.Body
 body_of (bodies.Start argument reply) = said.start argument (reply_of reply)
 body_of (bodies.Raise event value number) = said.raise event value number
@@ -41,7 +48,7 @@ body_of (bodies.Query number) = said.query number
 body_of (bodies.Wait number) = said.wait number
 body_of (bodies.Result reply answer) = said.result (reply_of reply) (answer_of answer)
 body_of (bodies.Op operation argument reply) = said.operate operation argument (reply_of reply)
-body_of (bodies.Lock id task set index) = said.lock (id_of id) task set index
+body_of (bodies.Lock id task set index) = said.lock (id_of id) task (spots_of set) index
 body_of (bodies.Granted task) = said.granted task
 body_of bodies.Release = said.release
 

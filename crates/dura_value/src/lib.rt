@@ -16,11 +16,13 @@ mod laws;
 mod messages;
 mod names;
 mod outcome;
+mod reading;
 mod same_lists;
+mod same_spots;
 mod spots;
 mod text;
 
-pub use addresses::Id;
+pub use addresses::{Id, home};
 pub use data::{Scalar, Scalars, Value};
 pub use digest::{fnv, word};
 pub use faults::ReadError;

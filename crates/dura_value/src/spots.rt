@@ -1,7 +1,6 @@
 //! Entities by their places, and the set that a lock goes through.
 
 ghost use Rattle.std.specs.Prelude.{◌≡◌};
-ghost use Rattle.dura_value.specs.Spots.{spots_of};
 
 use crate::names::{Key, Name};
 use std::marker::Model;
@@ -16,32 +15,31 @@ pub struct Spot {
 }
 
 /// The set of a lock, which a contract sees as the list of its entities.
-#[derive(Debug, Drop)]
+#[derive(Clone, Debug, Drop)]
 pub struct Spots {
     spots: Vec<Spot>,
 }
 
 impl Model for Spots {
     ghost use Rattle.std.specs.Prelude.{List};
-    ghost use Rattle.dura_value.specs.Messages.{Spot};
-    ghost use Rattle.dura_value.specs.Spots.{spots_of};
+    ghost use Rattle.dura_value.specs.declared.spots.Spot.{Spot};
 
     ghost Value = { List Spot };
 
-    ghost view = { λ s. spots_of s.spots.items };
+    ghost view = { λ s. s.spots.items };
 }
 
 impl Spots {
     /// The set of these, in this order.
     pub fn of(spots: Vec<Spot>) -> Spots
-        ensures { result ≡ spots_of spots.items }
+        ensures { result ≡ spots.items }
     {
         Spots { spots }
     }
 
     /// The entities, where they lie.
     pub fn as_slice(&self) -> &[Spot]
-        ensures { spots_of result.now ≡ self.now }
+        ensures { result.now ≡ self.now }
     {
         &self.spots
     }
