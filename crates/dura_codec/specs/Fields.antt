@@ -4,6 +4,7 @@ use Rattle.std.specs.Prelude.{◌≡◌, ℕ, zero, suc, ◌+◌, ◌-◌, ◌<�
 use Rattle.std.specs.Borrow.{Bor}
 use Rattle.std.specs.Int.{Width, w16, w32, w64, byte_len, from_be_bytes}
 use Rattle.dura_value.specs.declared.faults.ReadError.{ReadError}
+use Rattle.dura_value.specs.declared.faults.ReadError.TheVariants as places
 use Rattle.dura_value.specs.Reading.{◌>>=◌, Gives}
 use Rattle.dura_codec.specs.declared.fields.FieldError.{FieldError}
 use Rattle.dura_codec.specs.declared.fields.FieldError.TheVariants.{Bad, Memory}
@@ -33,6 +34,11 @@ StaysWithin bytes (Err (Bad left)) = left ≤ length bytes
 abbrev pub placed : {X : Type 0} → List ℕ → Read X → Read X
 placed bytes (Ok x) = Ok x
 placed bytes (Err left) = Err (length bytes - left)
+
+-- a fault by its offset
+abbrev pub fault_in : List ℕ → FieldError → ReadError
+fault_in bytes (Bad left) = places.Bad (length bytes - left)
+fault_in bytes Memory = places.Memory
 
 -- a thing was read from the front of bytes, or the offset of the fault was given, unless memory ran out
 abbrev pub ReadsAs : {X Y : Type 0} → (X → Y) → (List ℕ → Read Y) → List ℕ → Result (X × Bor (List ℕ)) ReadError → Type 0

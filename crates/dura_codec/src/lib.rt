@@ -8,8 +8,19 @@
 mod fields;
 mod ids;
 mod messages;
+mod reading;
 mod tags;
 mod values;
 mod words;
+mod writing;
 
-pub use fields::FieldError;
+pub use fields::{
+    FieldError, take_count, take_request_number, take_u8, take_u16, take_u32, take_u64,
+};
+pub use ids::{take_id, take_reply};
+pub use messages::{take_answer, take_body, take_message};
+pub use reading::{
+    read_answer, read_id, read_key, read_message, read_name, read_reply, read_value,
+};
+pub use values::{take_scalar, take_value};
+pub use words::{take_key, take_name, take_text};
