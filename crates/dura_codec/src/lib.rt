@@ -24,3 +24,7 @@ pub use reading::{
 };
 pub use values::{take_scalar, take_value};
 pub use words::{take_key, take_name, take_text};
+pub use writing::{
+    write_answer, write_body, write_id, write_key, write_message, write_name, write_reply,
+    write_text, write_value,
+};

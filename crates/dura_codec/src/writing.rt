@@ -3,6 +3,8 @@
 ghost use Rattle.std.specs.Prelude.{◌≡◌, ◌≤◌, ◌++◌, ◌∷◌, OnOk, length};
 ghost use Rattle.std.specs.List.{flat_map};
 ghost use Rattle.dura_value.specs.Views.{id_of, reply_of, answer_of, spot_of, spots_of, body_of, message_of};
+ghost use Rattle.dura_value.specs.Messages.{lock};
+ghost use Rattle.dura_codec.specs.Limits.{most_spots};
 ghost use Rattle.dura_codec.specs.Spelling.{spell_word, spell_text, spell_scalar, spell_value, spell_id, spell_reply, spell_answer, spell_spot, spell_body, spell_message, CanSpell, CanSpellAnswer, CanSpellBody};
 
 use crate::tags::{
@@ -130,4 +132,121 @@ pub fn write_reply(out: &mut Vec<u8>, reply: &Reply) -> Result<(), AllocError>
             out.extend_from_slice(&number.to_be_bytes())
         }
     }
+}
+
+/// An answer.
+pub fn write_answer(out: &mut Vec<u8>, answer: &Answer) -> Result<(), AllocError>
+    requires { CanSpellAnswer (answer_of answer.now) }
+    ensures { OnOk result (out.new.items ≡ out.old.items ++ spell_answer (answer_of answer.now)) }
+{
+    match answer {
+        Answer::Done(value) => {
+            out.push(DONE)?;
+            write_value(out, value)
+        }
+        Answer::Failed(text) => {
+            out.push(FAILED)?;
+            write_text(out, text)
+        }
+        Answer::Started => Ok(out.push(STARTED)?),
+        Answer::Exists => Ok(out.push(EXISTS)?),
+        Answer::Unknown => Ok(out.push(UNKNOWN)?),
+        Answer::Raised => Ok(out.push(RAISED)?),
+        Answer::Ended => Ok(out.push(ENDED)?),
+        Answer::None => Ok(out.push(MISSING)?),
+        Answer::Running => Ok(out.push(RUNNING)?),
+        Answer::Value(value) => {
+            out.push(VALUE)?;
+            write_value(out, value)
+        }
+    }
+}
+
+fn write_spot(out: &mut Vec<u8>, spot: &Spot) -> Result<(), AllocError>
+    ensures { OnOk result (out.new.items ≡ out.old.items ++ spell_spot (spot_of spot.now)) }
+{
+    write_name(out, &spot.class)?;
+    write_key(out, &spot.key)
+}
+
+fn write_spots(out: &mut Vec<u8>, spots: &[Spot]) -> Result<(), AllocError>
+    ensures { OnOk result (out.new.items ≡ out.old.items ++ flat_map spell_spot (spots_of spots.now)) }
+{
+    for spot in spots {
+        write_spot(out, spot)?;
+    }
+    Ok(())
+}
+
+fn write_lock(
+    out: &mut Vec<u8>,
+    id: &Id,
+    task: u32,
+    spots: &[Spot],
+    index: u8,
+) -> Result<(), AllocError>
+    requires { length spots.now ≤ most_spots }
+    ensures { OnOk result (out.new.items ≡ out.old.items ++ spell_body (lock (id_of id.now) task (spots_of spots.now) index)) }
+{
+    out.push(LOCK)?;
+    write_id(out, id)?;
+    out.extend_from_slice(&task.to_be_bytes())?;
+    out.push(spots.len() as u8)?;
+    write_spots(out, spots)?;
+    Ok(out.push(index)?)
+}
+
+/// What a message says.
+pub fn write_body(out: &mut Vec<u8>, body: &Body) -> Result<(), AllocError>
+    requires { CanSpellBody (body_of body.now) }
+    ensures { OnOk result (out.new.items ≡ out.old.items ++ spell_body (body_of body.now)) }
+{
+    match body {
+        Body::Start(argument, reply) => {
+            out.push(START)?;
+            write_value(out, argument)?;
+            write_reply(out, reply)
+        }
+        Body::Raise(event, value, number) => {
+            out.push(RAISE)?;
+            write_name(out, event)?;
+            write_value(out, value)?;
+            out.extend_from_slice(&number.to_be_bytes())
+        }
+        Body::Query(number) => {
+            out.push(QUERY)?;
+            out.extend_from_slice(&number.to_be_bytes())
+        }
+        Body::Wait(number) => {
+            out.push(WAIT)?;
+            out.extend_from_slice(&number.to_be_bytes())
+        }
+        Body::Result(reply, answer) => {
+            out.push(RESULT)?;
+            write_reply(out, reply)?;
+            write_answer(out, answer)
+        }
+        Body::Op(operation, argument, reply) => {
+            out.push(OPERATE)?;
+            write_name(out, operation)?;
+            write_value(out, argument)?;
+            write_reply(out, reply)
+        }
+        Body::Lock(id, task, set, index) => write_lock(out, id, *task, set.as_slice(), *index),
+        Body::Granted(task) => {
+            out.push(GRANTED)?;
+            out.extend_from_slice(&task.to_be_bytes())
+        }
+        Body::Release => Ok(out.push(RELEASE)?),
+    }
+}
+
+/// A message.
+pub fn write_message(out: &mut Vec<u8>, message: &Message) -> Result<(), AllocError>
+    requires { CanSpellBody (body_of message.now.body) }
+    ensures { OnOk result (out.new.items ≡ out.old.items ++ spell_message (message_of message.now)) }
+{
+    write_id(out, &message.from)?;
+    write_id(out, &message.to)?;
+    write_body(out, &message.body)
 }

@@ -1,0 +1,9 @@
+//! Items, entries and frames of a partition's log, as bytes and back.
+#![tactic(auto)]
+
+mod frames;
+mod items;
+mod reading;
+
+pub use frames::{Entry, Frame, Items};
+pub use items::{Item, Packet};
