@@ -5,7 +5,7 @@ use Rattle.dura_value.specs.declared.outcome.Outcome.{Outcome}
 use Rattle.dura_value.specs.declared.outcome.Outcome.TheVariants as outcomes
 use Rattle.dura_value.specs.Items.{Item, took, got, ran, ended, fired, trim, Entry}
 use Rattle.dura_value.specs.Reading.{◌>>=◌}
-use Rattle.dura_codec.specs.Fields.{Read, byte_at, number_at, count_at, several_at}
+use Rattle.dura_codec.specs.Fields.{Read, byte_at, number_at, count_at, several_at, placed}
 use Rattle.dura_codec.specs.Grammar.{id_at, message_at, value_at, text_at}
 use Rattle.dura_codec.specs.Tags as tags
 use Rattle.part_items.specs.Tags.{took_tag, got_tag, ran_tag, done_tag, fired_tag, trim_tag, most_members}
@@ -104,3 +104,7 @@ frame_at bytes = do
   count ← members_at bytes
   entries ← several_at entry_at count.0 count.1
   alone entries
+
+-- the entries of a frame's bytes, or the offset of the fault
+abbrev pub frame_in : List ℕ → Result (List Entry) ℕ
+frame_in bytes = placed bytes (frame_at bytes) >>= λ frame. Ok frame.0

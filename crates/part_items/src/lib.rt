@@ -7,3 +7,4 @@ mod reading;
 
 pub use frames::{Entry, Frame, Items};
 pub use items::{Item, Packet};
+pub use reading::read_frame;

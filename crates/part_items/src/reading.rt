@@ -2,9 +2,9 @@
 
 ghost use Rattle.std.specs.Prelude.{◌≡◌};
 ghost use Rattle.dura_value.specs.Reading.{Gives};
-ghost use Rattle.dura_codec.specs.Fields.{Takes, several_at, placed};
+ghost use Rattle.dura_codec.specs.Fields.{Takes, several_at};
 ghost use Rattle.part_items.specs.Plain.{item_of, items_of, entry_of, entries_of};
-ghost use Rattle.part_items.specs.Grammar.{outcome_at, took_at, got_at, ran_at, done_at, fired_at, trim_at, item_at, members_at, entry_at, frame_at};
+ghost use Rattle.part_items.specs.Grammar.{outcome_at, took_at, got_at, ran_at, done_at, fired_at, trim_at, item_at, members_at, entry_at, frame_at, frame_in};
 
 use crate::frames::{Entry, Frame, Items};
 use crate::items::Item;
@@ -184,4 +184,29 @@ fn take_entries(alloc: Global, count: u16, bytes: &[u8]) -> Result<(Vec<Entry>, 
         rest = after;
     }
     Ok((entries, rest))
+}
+
+#[tactic(auto, unfolding(crate::specs::Grammar::frame_at))]
+fn take_frame(alloc: Global, bytes: &[u8]) -> Result<(Frame, &[u8]), FieldError>
+    ensures { Takes entries_of result (frame_at bytes.now) }
+{
+    let (count, rest) = take_members(bytes)?;
+    let (entries, rest) = take_entries(alloc, count, rest)?;
+    if !rest.is_empty() {
+        return Err(FieldError::Bad { left: rest.len() });
+    }
+    Ok((Frame::of(entries), rest))
+}
+
+/// The frame that these bytes are, all of them.
+pub fn read_frame(alloc: Global, bytes: &[u8]) -> Result<Frame, ReadError>
+    ensures { Gives entries_of result (frame_in bytes.now) }
+{
+    match take_frame(alloc, bytes) {
+        Ok((frame, _)) => Ok(frame),
+        Err(FieldError::Bad { left }) => Err(ReadError::Bad {
+            offset: bytes.len().saturating_sub(left),
+        }),
+        Err(FieldError::Memory) => Err(ReadError::Memory),
+    }
 }
