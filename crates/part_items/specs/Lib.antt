@@ -1,3 +1,4 @@
 pub mod Grammar
 pub mod Plain
+pub mod Spelling
 pub mod Tags

@@ -4,7 +4,10 @@
 mod frames;
 mod items;
 mod reading;
+mod tags;
+mod writing;
 
 pub use frames::{Entry, Frame, Items};
 pub use items::{Item, Packet};
 pub use reading::read_frame;
+pub use writing::write_frame;

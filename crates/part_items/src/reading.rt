@@ -8,29 +8,13 @@ ghost use Rattle.part_items.specs.Grammar.{outcome_at, took_at, got_at, ran_at, 
 
 use crate::frames::{Entry, Frame, Items};
 use crate::items::Item;
+use crate::tags::{DONE, FIRED, GOT, HAS_FAILED, IS_DONE, RAN, TOOK, TRIM};
 use dura_codec::{
     FieldError, take_count, take_id, take_message, take_text, take_u8, take_u16, take_u32,
     take_value,
 };
 use dura_value::{Outcome, ReadError};
 use std::alloc::Global;
-
-const TOOK: u8 = 0x20;
-
-const GOT: u8 = 0x21;
-
-const RAN: u8 = 0x22;
-
-const DONE: u8 = 0x23;
-
-const FIRED: u8 = 0x24;
-
-const TRIM: u8 = 0x25;
-
-/// The tags of answers that are ends.
-const IS_DONE: u8 = 0;
-
-const HAS_FAILED: u8 = 1;
 
 /// The most items of an entry and entries of a frame.
 const MOST_MEMBERS: u16 = 64;
