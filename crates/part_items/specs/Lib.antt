@@ -1,3 +1,4 @@
+pub mod Example
 pub mod Grammar
 pub mod Plain
 pub mod Spelling

@@ -3,6 +3,7 @@
 
 mod frames;
 mod items;
+mod laws;
 mod reading;
 mod tags;
 mod writing;
