@@ -4,4 +4,6 @@ pub mod Ids
 pub mod Items
 pub mod Messages
 pub mod Names
+pub mod Reading
 pub mod Text
+pub mod Views

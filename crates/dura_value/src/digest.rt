@@ -1,8 +1,8 @@
 //! FNV-1a of 64 bits (Fowler, Noll and Vo).
 
-ghost use Rattle.std.specs.Prelude.{◌≡◌, ◌++◌};
+ghost use Rattle.std.specs.Prelude.{◌≡◌, ◌++◌, fold};
 ghost use Rattle.byteorder.specs.Endian.{big_bytes};
-ghost use Rattle.dura_value.specs.Digest.{fnv, fnv_byte};
+ghost use Rattle.dura_value.specs.Digest.{fnv, fnv_basis, fnv_byte};
 
 use byteorder::{BigEndian, ByteOrder};
 
@@ -15,6 +15,24 @@ fn with_byte(hash: u64, byte: u8) -> u64
     ensures { result ≡ fnv_byte hash byte }
 {
     (hash ^ byte as u64).wrapping_mul(PRIME)
+}
+
+/// The digest goes on over bytes.
+pub(crate) fn goes_on(hash: u64, bytes: &[u8]) -> u64
+    ensures { result ≡ fold fnv_byte hash bytes.now }
+{
+    let mut hash = hash;
+    for byte in bytes {
+        hash = with_byte(hash, *byte);
+    }
+    hash
+}
+
+/// The digest of no byte.
+pub(crate) fn begins() -> u64
+    ensures { result ≡ fnv_basis }
+{
+    BASIS
 }
 
 /// The digest of bytes.

@@ -7,15 +7,27 @@
 //! - `laws` has a law of ids.
 #![tactic(auto)]
 
+mod addresses;
+mod compare;
 mod data;
 mod digest;
+mod faults;
 mod laws;
+mod messages;
 mod names;
 mod outcome;
+mod reading;
+mod same_lists;
+mod same_spots;
+mod spots;
 mod text;
 
+pub use addresses::{Id, home};
 pub use data::{Scalar, Scalars, Value};
 pub use digest::{fnv, word};
+pub use faults::ReadError;
+pub use messages::{Answer, Body, Message, Reply, Request};
 pub use names::{Key, Name, is_key, is_name};
 pub use outcome::Outcome;
+pub use spots::{Spot, Spots};
 pub use text::{Text, TextError};

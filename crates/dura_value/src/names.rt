@@ -8,10 +8,10 @@ use std::alloc::{AllocError, Global};
 use std::marker::Model;
 
 /// The most bytes of a name and of a key.
-const MOST_BYTES: usize = 64;
+pub(crate) const MOST_BYTES: usize = 64;
 
 /// A name, which a contract sees as its bytes.
-#[derive(Debug, Drop)]
+#[derive(Clone, Debug, Drop)]
 pub struct Name {
     bytes: Vec<u8>,
 }
@@ -28,7 +28,7 @@ impl Model for Name {
 }
 
 /// A key, which a contract sees as its bytes.
-#[derive(Debug, Drop)]
+#[derive(Clone, Debug, Drop)]
 pub struct Key {
     bytes: Vec<u8>,
 }
@@ -44,7 +44,7 @@ impl Model for Key {
     ghost invariant = { λ k. is_key k.bytes.items ≡ true };
 }
 
-fn goes_on_name(byte: u8) -> bool
+pub(crate) fn goes_on_name(byte: u8) -> bool
     ensures { result ≡ goes_on_name byte }
 {
     byte.is_ascii_alphanumeric() || byte == b'_'
@@ -56,7 +56,7 @@ fn go_on_name(bytes: &[u8]) -> bool
     bytes.iter().all(|byte| goes_on_name(*byte))
 }
 
-fn stands_in_key(byte: u8) -> bool
+pub(crate) fn stands_in_key(byte: u8) -> bool
     ensures { result ≡ stands_in_key byte }
 {
     goes_on_name(byte) || byte == b'-' || byte == b'.'

@@ -11,7 +11,7 @@ use thiserror::Error;
 const MOST_BYTES: usize = 4096;
 
 /// A text, which a contract sees as its bytes.
-#[derive(Debug, Drop)]
+#[derive(Clone, Debug, Drop)]
 pub struct Text {
     bytes: Vec<u8>,
 }

@@ -10,9 +10,9 @@ use Rattle.part_state.specs.declared.state.State.{State}
 use Rattle.part_state.specs.declared.state.Label.{Label}
 use Rattle.part_driver.specs.declared.trail.Entry.{Entry}
 use Rattle.part_state.specs.State.{applied, stamp_of, fresh_state}
-use Rattle.part_items.specs.Items.{LogEntry, one_label, frame_bytes, payload_bytes}
+use Rattle.sum_items.specs.Items.{LogEntry, one_label, frame_bytes, payload_bytes}
 use Rattle.part_log.specs.Log.{IsFew}
-use Rattle.part_items.specs.Replay.{IsTimely, IsEntry, MayFollow, IsNumbered, last_incarnation, applied_all, labels_of, entries_of, Point, Replays}
+use Rattle.sum_items.specs.Replay.{IsTimely, IsEntry, MayFollow, IsNumbered, last_incarnation, applied_all, labels_of, entries_of, Point, Replays}
 use Rattle.part_driver.specs.Labels.{Appends, frames_of}
 use Rattle.part_driver.specs.Labels.Appends.{none, one_more}
 

@@ -14,14 +14,14 @@ use Rattle.part_driver.specs.Labels.Appends.{none as no_entry, one_more as one_e
 use Rattle.sum_model.specs.Entries.{labels_in, Kept}
 use Rattle.std.proofs.Common.{Option, Some, None}
 use Rattle.std.proofs.lemmas.List.Elements.{Contains-append_right, All-map}
-use Rattle.part_items.specs.Items.{LogEntry}
-use Rattle.part_items.specs.Replay.{IsNumbered, last_incarnation}
+use Rattle.sum_items.specs.Items.{LogEntry}
+use Rattle.sum_items.specs.Replay.{IsNumbered, last_incarnation}
 use Rattle.part_state.specs.State.{stamp_of}
 use Rattle.sum_model.specs.Steps.{Label as Step}
 use Rattle.part_state.specs.Meaning.{label_of}
 use Rattle.engine_run.proofs.Held.{labels_kept}
 use Rattle.part_state.specs.Given.{IsGiven}
-use Rattle.part_items.specs.Keeping.{kept_of}
+use Rattle.sum_items.specs.Keeping.{kept_of}
 
 some_one : {X : Type 0} {x y : X} → Some x ≡ Some y → x ≡ y
 some_one is = cc

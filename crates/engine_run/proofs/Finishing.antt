@@ -17,7 +17,7 @@ use Rattle.part_driver.specs.Labels.{Appends, AtMoment, StandsAt}
 use Rattle.part_driver.specs.Labels.Appends.{none, one_more}
 use Rattle.part_driver.specs.Lines.{start_line, wait_line, sum_text}
 use Rattle.part_driver.specs.Recovery.{StartsFrom}
-use Rattle.part_items.specs.Replay.{applied_all}
+use Rattle.sum_items.specs.Replay.{applied_all}
 use Rattle.part_state.specs.State.{IsQuiet, HasAnswer}
 use Rattle.part_driver.specs.Told.{IsFront, said_of, told_of}
 use Rattle.part_driver.specs.Trail.{settled_at, Rises}

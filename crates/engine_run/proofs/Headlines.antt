@@ -14,7 +14,7 @@ use Rattle.part_driver.specs.Commit.{Holds as HasFrames}
 use Rattle.part_state.specs.declared.state.Label.{Label}
 use Rattle.engine_run.specs.Headline.{job_of, kept_by, moment_of, greatest, IsAsked, AreSound, Extends, Holds}
 use Rattle.input_reader.specs.Input.{HasForm}
-use Rattle.part_items.specs.Items.{LogEntry}
+use Rattle.sum_items.specs.Items.{LogEntry}
 use Rattle.part_driver.specs.Labels.{Appends, AsksRightly, Origin, HoldsEntries, HoldsNext, StandsAt, frames_of}
 use Rattle.part_driver.specs.Labels.Appends.{one_more}
 use Rattle.sum_model.specs.Legal.{Legal}
@@ -22,7 +22,7 @@ use Rattle.sum_model.specs.Entries.{Kept, labels_in}
 use Rattle.part_log.specs.Log.{HasEntries}
 use Rattle.part_state.specs.Meaning.{flows_of, label_of, item_of, requests_of, world_of}
 use Rattle.part_log.specs.Log.{header_with}
-use Rattle.part_items.specs.Replay.{labels_of, entries_of}
+use Rattle.sum_items.specs.Replay.{labels_of, entries_of}
 use Rattle.sum_model.specs.Entries.{label_in}
 use Rattle.part_log.specs.Stands.{Stands}
 use Rattle.part_state.specs.State.{stamp_of, fresh_state}
@@ -40,8 +40,8 @@ use Rattle.input_reader.proofs.Named.{flow_named, requests_named}
 use Rattle.input_reader.proofs.Numbers.{flow_low}
 use Rattle.sum_model.proofs.Outcomes.{never_twice, never_overlaps}
 use Rattle.part_log.proofs.Single.{entries_once}
-use Rattle.part_items.specs.Keeping.{kept_of}
-use Rattle.part_items.proofs.Standing.{items_kept}
+use Rattle.sum_items.specs.Keeping.{kept_of}
+use Rattle.sum_items.proofs.Standing.{items_kept}
 use Rattle.engine_run.proofs.Started.{right_labels, greatest_all, moment_same}
 
 -- what holds of each holds of all, by another name

@@ -8,9 +8,9 @@ use Rattle.input_reader.specs.declared.input.Input.{Input}
 use Rattle.part_state.specs.declared.state.State.{State}
 use Rattle.part_driver.specs.declared.trail.Entry.{Entry}
 use Rattle.part_state.specs.State.{fresh_state}
-use Rattle.part_items.specs.Items.{LogEntry}
-use Rattle.part_items.specs.Replay.{labels_of, entries_of, Point, Replays, IsNumbered, MayFollow, last_incarnation}
-use Rattle.part_items.specs.Replay.{IsEntry as IsWhole}
+use Rattle.sum_items.specs.Items.{LogEntry}
+use Rattle.sum_items.specs.Replay.{labels_of, entries_of, Point, Replays, IsNumbered, MayFollow, last_incarnation}
+use Rattle.sum_items.specs.Replay.{IsEntry as IsWhole}
 use Rattle.part_driver.specs.Commit.{Holds}
 use Rattle.part_driver.specs.Labels.{Appends, frames_of}
 use Rattle.part_log.specs.Log.{IsFew, header_with}
@@ -33,8 +33,8 @@ use Rattle.part_state.proofs.Meant.{right_fresh}
 use Rattle.dura_value.specs.Ids.{id_eq}
 use Rattle.part_state.specs.Meaning.{the_client, the_instance}
 use Rattle.std.proofs.Common.{◌&&◌, ◌==◌}
-use Rattle.part_items.specs.Keeping.{kept_of}
-use Rattle.part_items.proofs.Standing.{has_entries, items_kept}
+use Rattle.sum_items.specs.Keeping.{kept_of}
+use Rattle.sum_items.proofs.Standing.{has_entries, items_kept}
 use Rattle.sum_model.proofs.Same.{worlds_same}
 
 some_same : {X : Type 0} {x y : X} → Some x ≡ Some y → x ≡ y

@@ -10,7 +10,7 @@ use Rattle.part_state.specs.declared.state.Label.{Label}
 use Rattle.part_state.specs.declared.state.Label.TheVariants.{Take, ToInstance, ToClient, Finish}
 use Rattle.part_driver.specs.declared.trail.Entry.{Entry}
 use Rattle.part_state.specs.State.{applied}
-use Rattle.part_items.specs.Replay.{applied_all}
+use Rattle.sum_items.specs.Replay.{applied_all}
 use Rattle.part_driver.specs.Labels.{Appends}
 use Rattle.part_driver.specs.Labels.Appends.{none, one_more}
 use Rattle.sum_model.specs.World.{World, empty}

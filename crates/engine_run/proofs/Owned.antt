@@ -13,7 +13,7 @@ use Rattle.part_state.specs.declared.state.Label.{Label}
 use Rattle.part_state.specs.declared.state.Label.TheVariants.{Take, ToInstance, ToClient, Finish}
 use Rattle.part_state.specs.State.{applied, fresh_state}
 use Rattle.engine_run.specs.Headline.{IsOfFile, IsOwnLog, job_of}
-use Rattle.part_items.specs.Items.{LogEntry, frame_bytes}
+use Rattle.sum_items.specs.Items.{LogEntry, frame_bytes}
 use Rattle.sum_model.specs.Legal.{Legal}
 use Rattle.sum_model.specs.Legal.Legal.{begins, goes_on}
 use Rattle.sum_model.specs.Entries.{Kept, items_of, labels_in}
@@ -21,8 +21,8 @@ use Rattle.part_log.specs.Log.{IsFew, IsEntry, IsNumbered, IsLog, HasEntries, fr
 use Rattle.part_state.specs.Meaning.{flows_of, label_of, item_of, requests_of, world_of, IsOwn}
 use Rattle.part_log.specs.Log.{header_with}
 use Rattle.part_driver.specs.Recovery.{Readable}
-use Rattle.part_items.specs.Replay.{applied_all, labels_of, entries_of, Point, Replays, IsTimely, MayFollow, last_incarnation}
-use Rattle.part_items.specs.Replay.{IsEntry as IsWhole, IsNumbered as IsPlaced}
+use Rattle.sum_items.specs.Replay.{applied_all, labels_of, entries_of, Point, Replays, IsTimely, MayFollow, last_incarnation}
+use Rattle.sum_items.specs.Replay.{IsEntry as IsWhole, IsNumbered as IsPlaced}
 use Rattle.sum_model.specs.Requests.{Request}
 use Rattle.sum_model.specs.Entries.{Item, took, ran, ended, label_in}
 use Rattle.part_log.specs.Spelling.{Fits}
@@ -40,8 +40,8 @@ use Rattle.engine_run.proofs.Legally.{mapped}
 use Rattle.part_state.specs.Given.{IsRight}
 use Rattle.part_state.proofs.Meant.{does, right_after, right_fresh}
 use Rattle.engine_run.proofs.Restful.{one_of_two}
-use Rattle.part_items.specs.Keeping.{kept_of}
-use Rattle.part_items.proofs.Standing.{frames_kept, all_kept, has_entries}
+use Rattle.sum_items.specs.Keeping.{kept_of}
+use Rattle.sum_items.proofs.Standing.{frames_kept, all_kept, has_entries}
 
 all_left : {X : Type 0} (P : X → Type 0) (xs ys : List X) → All P (xs ++ ys) → All P xs
 all_left P [] ys all = All-nil P

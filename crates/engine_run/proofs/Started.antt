@@ -12,7 +12,7 @@ use Rattle.part_state.specs.declared.state.State.{State}
 use Rattle.part_state.specs.declared.state.Label.{Label}
 use Rattle.part_state.specs.declared.state.Label.TheVariants.{Take, ToInstance, ToClient, Finish}
 use Rattle.part_state.specs.State.{applied, stamp_of, fresh_state, took_start, took_wait, began, asked, arrived, answered, told_wait, ended, is_there, is_pending, inbox, outbox}
-use Rattle.part_items.specs.Replay.{applied_all}
+use Rattle.sum_items.specs.Replay.{applied_all}
 use Rattle.part_state.specs.Meaning.{label_of}
 use Rattle.engine_run.specs.Headline.{moment_of, greatest}
 use Rattle.engine_run.proofs.Legally.{first_one}

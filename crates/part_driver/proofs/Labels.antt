@@ -20,7 +20,7 @@ use Rattle.part_driver.specs.declared.trail.Entry.{Entry}
 use Rattle.part_driver.specs.declared.told.Told.{Told}
 use Rattle.part_driver.specs.declared.told.Told.TheVariants.{Nothing, Start, Both}
 use Rattle.part_state.specs.State.{applied, stamp_of}
-use Rattle.part_items.specs.Items.{payload_bytes}
+use Rattle.sum_items.specs.Items.{payload_bytes}
 use Rattle.part_driver.specs.Lines.{start_line, wait_line}
 use Rattle.part_driver.specs.Commit.{Holds, WroteGate, LeavesCommit}
 use Rattle.part_driver.specs.Told.{said_of, is_start_told, TellsRightly, IsFront, LeavesFiles}

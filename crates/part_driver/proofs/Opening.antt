@@ -12,7 +12,7 @@ use Rattle.part_driver.specs.Commit.{Holds}
 use Rattle.input_reader.specs.declared.cause.Cause.{Cause}
 use Rattle.input_reader.specs.declared.cause.Cause.TheVariants.{Damaged}
 use Rattle.part_driver.specs.declared.recovered.Recovered.{Recovered}
-use Rattle.part_items.specs.Replay.{Point, Replays}
+use Rattle.sum_items.specs.Replay.{Point, Replays}
 use Rattle.part_log.specs.Log.{header_with}
 use Rattle.part_driver.specs.Recovery.{Readable, Recovers, LeavesOpening}
 

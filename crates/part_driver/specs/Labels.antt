@@ -11,7 +11,7 @@ use Rattle.part_state.specs.declared.state.State.{State}
 use Rattle.part_state.specs.declared.state.Label.TheVariants.{Take}
 use Rattle.part_driver.specs.declared.trail.Entry.{Entry}
 use Rattle.part_state.specs.State.{applied, stamp_of}
-use Rattle.part_items.specs.Items.{payload_bytes}
+use Rattle.sum_items.specs.Items.{payload_bytes}
 use Rattle.part_driver.specs.Lines.{start_line}
 use Rattle.part_driver.specs.Commit.{Holds, WroteGate}
 use Rattle.part_driver.specs.Told.{IsFront, TellsAt}

@@ -11,7 +11,7 @@ use Rattle.part_state.specs.declared.state.State.{State}
 use Rattle.part_state.specs.State.{fresh_state}
 use Rattle.part_driver.specs.Commit.{Holds}
 use Rattle.part_log.specs.Log.{header_with}
-use Rattle.part_items.specs.Replay.{Point, Replays}
+use Rattle.sum_items.specs.Replay.{Point, Replays}
 
 -- a log that holds something is read, or refused as a whole
 abbrev pub IsRefused : Cause → Type 0

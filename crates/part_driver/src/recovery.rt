@@ -6,17 +6,17 @@ ghost use Rattle.site_model.specs.Calls.{HasRisen};
 ghost use Rattle.site_model.specs.Moments.{Always, LeavesOnly};
 ghost use Rattle.commit_log.specs.States.{Rests, EndsAt, IsResting, IsFormatting};
 ghost use Rattle.part_state.specs.State.{fresh_state};
-ghost use Rattle.part_items.specs.Replay.{Point, Replays};
+ghost use Rattle.sum_items.specs.Replay.{Point, Replays};
 ghost use Rattle.part_driver.specs.Recovery.{IsRefused, IsOpening, Recovers, LeavesOpening, Follows, StartsFrom, next_incarnation};
 ghost use Rattle.part_log.specs.Log.{header_with};
 
 use crate::recovered::Recovered;
 use commit_log::{Header, OpenError, Opened, Resting, read_log};
 use input_reader::{Cause, Input, ReadError};
-use part_items::replay_all;
 use part_state::State;
 use site_model::Site;
 use std::alloc::Global;
+use sum_items::replay_all;
 
 /// The file of the partition's log.
 const LOG: u32 = 16;

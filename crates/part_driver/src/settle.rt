@@ -9,7 +9,7 @@ ghost use Rattle.commit_log.specs.States.{Rests, IsResting};
 ghost use Rattle.commit_log.specs.Outcomes.{RestsAs};
 ghost use Rattle.part_driver.specs.Commit.{IsOutside, LeavesCommit};
 ghost use Rattle.part_driver.specs.Labels.{OthersSame};
-ghost use Rattle.part_items.specs.Items.{payload_bytes};
+ghost use Rattle.sum_items.specs.Items.{payload_bytes};
 
 use crate::commit::commit;
 use crate::trail::Entry;
@@ -17,10 +17,10 @@ use activity_table::Activities;
 use commit_log::Resting;
 use dura_value::{Scalar, Scalars, Value, word};
 use input_reader::{Cause, Input};
-use part_items::payload;
 use part_state::Label;
 use site_model::Site;
 use std::alloc::Global;
+use sum_items::payload;
 
 /// Runs the activity. By its contract it gives the sum of the flow's two numbers, or memory runs out.
 fn run_add<A: Activities>(alloc: Global, acts: &A, input: &Input) -> Result<(), Cause>

@@ -1,6 +1,2 @@
-pub mod Behind
-pub mod Bounded
-pub mod Logged
-pub mod Standing
-pub mod Unique
-pub mod Walked
+pub mod Each
+pub mod Rows

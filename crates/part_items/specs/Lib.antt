@@ -1,4 +1,5 @@
-pub mod Items
-pub mod Keeping
-pub mod Replay
-pub mod Replayed
+pub mod Example
+pub mod Grammar
+pub mod Plain
+pub mod Spelling
+pub mod Tags

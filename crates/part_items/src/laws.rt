@@ -1,15 +1,14 @@
-//! A law of what a log that was read stands for. It is said of the definitions alone: the function does nothing.
+//! Rows by computation. They are said of the definitions alone: the function does nothing.
 
-ghost use Rattle.std.specs.Prelude.{◌≡◌, ℕ, List, map};
-ghost use Rattle.commit_log.specs.Segment.{segment, reading_of};
-ghost use Rattle.input_reader.specs.declared.input.Input.{Input};
-ghost use Rattle.part_items.specs.Keeping.{kept_of};
-ghost use Rattle.part_items.specs.Replay.{Point, Replays, entries_of};
-ghost use Rattle.part_log.specs.Log.{HasEntries, header_with};
-ghost use Rattle.part_state.specs.Given.{IsGiven};
+ghost use Rattle.std.specs.Prelude.{◌≡◌, Ok, Err, take};
+ghost use Rattle.part_items.specs.Grammar.{frame_in};
+ghost use Rattle.part_items.specs.Spelling.{spell_frame};
+ghost use Rattle.part_items.specs.Example.{example_bytes, example_entries};
 
-/// A log whose frames replay keeps just their entries.
-pub fn replayed_logs_keep()
-    ensures { (input : Input) → IsGiven input → (bytes : List ℕ) (payloads : List (List ℕ)) (gate : ℕ) (p : Point) → reading_of bytes ≡ segment (header_with input.digest) payloads gate
-        → (replays : Replays input payloads p) → HasEntries input.digest bytes (map (kept_of input) (entries_of replays.log)) }
+/// The example is read and spelled; without its last byte it can't be read from its last number on.
+#[tactic(auto, using(crate::proofs::Rows::is_read, crate::proofs::Rows::is_cut, crate::proofs::Rows::is_spelled))]
+pub fn frame_is_read()
+    ensures read { frame_in example_bytes ≡ Ok example_entries }
+    ensures cut { frame_in (take 37 example_bytes) ≡ Err 34 }
+    ensures spelled { spell_frame example_entries ≡ example_bytes }
 {}

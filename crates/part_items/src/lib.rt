@@ -1,12 +1,14 @@
-//! Labels as the bytes of a log: `items` writes them, and `replay` reads them back and applies them. `replayed` is how far
-//! a log was read.
+//! Items, entries and frames of a partition's log, as bytes and back.
 #![tactic(auto)]
 
+mod frames;
 mod items;
 mod laws;
-mod replay;
-mod replayed;
+mod reading;
+mod tags;
+mod writing;
 
-pub use items::payload;
-pub use replay::replay_all;
-pub use replayed::Replay;
+pub use frames::{Entry, Frame, Items};
+pub use items::{Item, Packet};
+pub use reading::read_frame;
+pub use writing::write_frame;

@@ -9,7 +9,7 @@ use Rattle.part_state.specs.declared.state.Label.TheVariants.{Take}
 use Rattle.part_driver.specs.declared.trail.Entry.{Entry}
 use Rattle.part_driver.specs.Trail.{Rises}
 use Rattle.part_driver.specs.Commit.{LeavesCommit}
-use Rattle.part_items.specs.Items.{payload_bytes}
+use Rattle.sum_items.specs.Items.{payload_bytes}
 use Rattle.part_driver.specs.Labels.{Appends, AtMoment, frames_of, origin_of}
 use Rattle.part_driver.proofs.Labels.{came_first, came_next, entry_of, settles_next, resting, kept_first, while_saying, kept_said, while_settling, kept_settled}
 use Rattle.part_driver.proofs.Moments.{rises_higher}

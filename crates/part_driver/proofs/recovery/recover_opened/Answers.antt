@@ -1,8 +1,8 @@
 use Rattle.std.proofs.Common.{◌≡◌, Err, ℕ, List, refl, sym, subst, rules}
 use Rattle.input_reader.specs.declared.error.ReadError.TheVariants.{Refused}
-use Rattle.part_items.specs.Replay.{Replays}
-use Rattle.part_items.specs.Replayed.{point_of}
-use Rattle.part_items.proofs.Bounded.{log_short}
+use Rattle.sum_items.specs.Replay.{Replays}
+use Rattle.sum_items.specs.Replayed.{point_of}
+use Rattle.sum_items.proofs.Bounded.{log_short}
 use Rattle.part_driver.proofs.recovery.recover_opened.Goals as goal
 
 pub returns-in-Err-Refused-clause-damaged : goal.returns-in-Err-Refused-clause-damaged

@@ -1,6 +1,6 @@
 use Rattle.std.proofs.Common.{ℕ, List, [], ◌∷◌, ◌++◌, subst, ◌∙◌}
 use Rattle.commit_log.specs.Outcomes.{RestsAs}
-use Rattle.part_items.specs.Items.{payload_bytes}
+use Rattle.sum_items.specs.Items.{payload_bytes}
 use Rattle.part_driver.proofs.Commits.{not_yet, same_payload}
 use Rattle.part_driver.proofs.Others.{none_yet, commits_one}
 use Rattle.part_driver.proofs.settle.settle_label.Goals as goal

@@ -1,0 +1,39 @@
+-- Reading one thing behind the other, as a loop does.
+use Rattle.std.proofs.Common.{◌≡◌, ℕ, suc, ◌-◌, ◌+◌, ◌≤◌, ◌<◌, List, [], ◌∷◌, ◌++◌, Result, Ok, Err, refl, sym, ap, ◌∙◌, append_assoc, arith}
+use Rattle.std.proofs.lemmas.List.{append-nil}
+use Rattle.dura_value.specs.Reading.{◌>>=◌}
+use Rattle.dura_codec.specs.declared.fields.FieldError.{FieldError}
+use Rattle.dura_codec.specs.declared.fields.FieldError.TheVariants.{Bad, Memory}
+use Rattle.dura_codec.specs.Fields.{Read, Stops, several_at}
+
+-- what was read before, and what is still read
+abbrev pub with_front : {X : Type 0} → List X → Read (List X) → Read (List X)
+with_front front read = read >>= λ x. Ok (front ++ x.0, x.1)
+
+regroup : {X : Type 0} (front : List X) (n : X) (read : Read (List X)) → with_front front (read >>= λ x. Ok (n ∷ x.0, x.1)) ≡ with_front (front ++ n ∷ []) read
+regroup {X} front n (Ok x) = ap (λ (ns : List X). Ok (ns, x.1)) (simp append_assoc)
+regroup front n (Err f) = refl
+
+pub goes_on : {X : Type 0} (read : List ℕ → Read X) (front : List X) (count i : ℕ) (bytes : List ℕ) (n : X) (after : List ℕ) (total : Read (List X)) → i < count → read bytes ≡ Ok (n, after)
+    → with_front front (several_at read (count - i) bytes) ≡ total → with_front (front ++ n ∷ []) (several_at read (count - (i + 1)) after) ≡ total
+unfolding several_at
+goes_on read front count i bytes n after total lt h so_far =
+    let k : count - i ≡ suc (count - (i + 1)) = omega arith in
+    let one : with_front front (several_at read (count - i) bytes) ≡ with_front (front ++ n ∷ []) (several_at read (count - (i + 1)) after) = rw (k, h) (regroup front n (several_at read (count - (i + 1)) after)) in
+    sym one ∙ so_far
+
+pub ends : {X : Type 0} (read : List ℕ → Read X) (e : FieldError) (front : List X) (count i : ℕ) (bytes : List ℕ) (total : Read (List X)) → i < count → Stops e (read bytes)
+    → with_front front (several_at read (count - i) bytes) ≡ total → Stops e total
+unfolding several_at
+ends read Memory front count i bytes total lt h so_far = tt
+ends read (Bad left) front count i bytes total lt h so_far =
+    let k : count - i ≡ suc (count - (i + 1)) = omega arith in
+    let one : with_front front (several_at read (count - i) bytes) ≡ Err left = rw (k, h) refl in
+    sym so_far ∙ one
+
+pub is_done : {X : Type 0} (read : List ℕ → Read X) (front : List X) (count i : ℕ) (bytes : List ℕ) (total : Read (List X)) → count ≤ i → with_front front (several_at read (count - i) bytes) ≡ total → total ≡ Ok (front, bytes)
+unfolding several_at
+is_done {X} read front count i bytes total le so_far =
+    let k : count - i ≡ 0 = omega arith in
+    let one : with_front front (several_at read (count - i) bytes) ≡ Ok (front, bytes) = rw k (ap (λ (ns : List X). Ok (ns, bytes)) (append-nil front)) in
+    sym so_far ∙ one

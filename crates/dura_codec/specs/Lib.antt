@@ -1,0 +1,5 @@
+pub mod Fields
+pub mod Grammar
+pub mod Limits
+pub mod Spelling
+pub mod Tags

@@ -1,0 +1,115 @@
+//! Values from the front of bytes.
+
+ghost use Rattle.std.specs.Prelude.{◌≡◌, ◌≤◌, length};
+ghost use Rattle.dura_codec.specs.Fields.{Takes, StaysWithin, several_at};
+ghost use Rattle.dura_codec.specs.Grammar.{scalar_at, scalars_at, value_at, value_of, value_front};
+
+use crate::fields::{FieldError, take_u8, take_u16, take_u64};
+use crate::tags::{FALSE, INT, LIST, NULL, TEXT, TRUE};
+use crate::words::take_text;
+use dura_value::{Scalar, Scalars, Value};
+use std::alloc::Global;
+
+/// The most scalars of a list.
+const MOST_SCALARS: u16 = 1024;
+
+/// The most bytes of a list's scalars: a value has 65,536 with the tag and the count.
+const MOST_SCALARS_BYTES: usize = 65_533;
+
+/// A scalar.
+#[tactic(auto, unfolding(crate::specs::Grammar::scalar_at))]
+pub fn take_scalar(alloc: Global, bytes: &[u8]) -> Result<(Scalar, &[u8]), FieldError>
+    ensures takes { Takes (λ x. x) result (scalar_at bytes.now) }
+    ensures within { StaysWithin bytes.now result }
+{
+    let (tag, rest) = take_u8(bytes)?;
+    match tag {
+        NULL => Ok((Scalar::Null, rest)),
+        FALSE => Ok((Scalar::False, rest)),
+        TRUE => Ok((Scalar::True, rest)),
+        INT => {
+            let (number, rest) = take_u64(rest)?;
+            Ok((Scalar::Int(number.cast_signed()), rest))
+        }
+        TEXT => {
+            let (text, rest) = take_text(alloc, rest)?;
+            Ok((Scalar::Text(text), rest))
+        }
+        _ => Err(FieldError::Bad { left: bytes.len() }),
+    }
+}
+
+/// So many scalars, one behind the other.
+fn take_several(alloc: Global, count: u16, bytes: &[u8]) -> Result<(Vec<Scalar>, &[u8]), FieldError>
+    ensures takes { Takes (λ v. v.items) result (several_at scalar_at count bytes.now) }
+    ensures within { StaysWithin bytes.now result }
+{
+    let mut scalars = Vec::new(alloc);
+    let mut rest = bytes;
+    for _ in 0..count {
+        let (scalar, after) = take_scalar(alloc, rest)?;
+        scalars.push(scalar)?;
+        rest = after;
+    }
+    Ok((scalars, rest))
+}
+
+/// The bytes that the scalars of a list may take.
+fn front_of(bytes: &[u8]) -> &[u8]
+    ensures front { result.now ≡ value_front bytes.now }
+    ensures short { length result.now ≤ length bytes.now }
+{
+    if bytes.len() < MOST_SCALARS_BYTES {
+        bytes
+    } else {
+        &bytes[..MOST_SCALARS_BYTES]
+    }
+}
+
+/// The count and the scalars of a list, in no more bytes than a value has.
+#[tactic(auto, unfolding(crate::specs::Grammar::scalars_at))]
+fn take_scalars(alloc: Global, bytes: &[u8]) -> Result<(Scalars, &[u8]), FieldError>
+    ensures { Takes (λ x. x) result (scalars_at bytes.now) }
+{
+    let (count, rest) = take_u16(bytes)?;
+    if count > MOST_SCALARS {
+        return Err(FieldError::Bad { left: bytes.len() });
+    }
+    let front = front_of(rest);
+    match take_several(alloc, count, front) {
+        Ok((scalars, left)) => {
+            let used = front.len().saturating_sub(left.len());
+            Ok((Scalars::of(scalars), &rest[used..]))
+        }
+        Err(FieldError::Bad { left }) => Err(FieldError::Bad {
+            left: left + (rest.len() - front.len()),
+        }),
+        Err(FieldError::Memory) => Err(FieldError::Memory),
+    }
+}
+
+fn value_of(scalar: Scalar) -> Value
+    ensures { result ≡ value_of scalar }
+{
+    match scalar {
+        Scalar::Null => Value::Null,
+        Scalar::False => Value::False,
+        Scalar::True => Value::True,
+        Scalar::Int(n) => Value::Int(n),
+        Scalar::Text(text) => Value::Text(text),
+    }
+}
+
+/// A value: a scalar or a list.
+#[tactic(auto, unfolding(crate::specs::Grammar::value_at))]
+pub fn take_value(alloc: Global, bytes: &[u8]) -> Result<(Value, &[u8]), FieldError>
+    ensures { Takes (λ x. x) result (value_at bytes.now) }
+{
+    let (tag, rest) = take_u8(bytes)?;
+    if tag == LIST {
+        let (scalars, behind) = take_scalars(alloc, rest)?;
+        return Ok((Value::List(scalars), behind));
+    }
+    let (scalar, behind) = take_scalar(alloc, bytes)?;
+    Ok((value_of(scalar), behind))
+}

@@ -1,0 +1,79 @@
+//! Entries, and frames of them.
+
+ghost use Rattle.std.specs.Prelude.{◌≡◌};
+
+use crate::items::Item;
+use std::marker::Model;
+
+/// The items of an entry, which a contract sees as a list.
+#[derive(Debug, Drop)]
+pub struct Items {
+    items: Vec<Item>,
+}
+
+impl Model for Items {
+    ghost use Rattle.std.specs.Prelude.{List};
+    ghost use Rattle.part_items.specs.declared.items.Item.{Item};
+
+    ghost Value = { List Item };
+
+    ghost view = { λ s. s.items.items };
+}
+
+impl Items {
+    /// A list of these.
+    pub fn of(items: Vec<Item>) -> Items
+        ensures { result ≡ items.items }
+    {
+        Items { items }
+    }
+
+    /// The items, where they lie.
+    pub fn as_slice(&self) -> &[Item]
+        ensures { result.now ≡ self.now }
+    {
+        &self.items
+    }
+}
+
+/// An entry: its place in the log, the life of the partition that made it, and its items.
+#[derive(Debug, Drop)]
+pub struct Entry {
+    /// Its place in the log.
+    pub position: u64,
+    /// The life of the partition that made it.
+    pub incarnation: u64,
+    /// What it keeps.
+    pub items: Items,
+}
+
+/// What is written at once: a contract sees it as the list of its entries.
+#[derive(Debug, Drop)]
+pub struct Frame {
+    entries: Vec<Entry>,
+}
+
+impl Model for Frame {
+    ghost use Rattle.std.specs.Prelude.{List};
+    ghost use Rattle.part_items.specs.declared.frames.Entry.{Entry};
+
+    ghost Value = { List Entry };
+
+    ghost view = { λ f. f.entries.items };
+}
+
+impl Frame {
+    /// A frame of these.
+    pub fn of(entries: Vec<Entry>) -> Frame
+        ensures { result ≡ entries.items }
+    {
+        Frame { entries }
+    }
+
+    /// The entries, where they lie.
+    pub fn entries(&self) -> &[Entry]
+        ensures { result.now ≡ self.now }
+    {
+        &self.entries
+    }
+}

@@ -1,0 +1,145 @@
+//! Items, entries and frames to the end of bytes.
+
+ghost use Rattle.std.specs.Prelude.{◌≡◌, ◌++◌, OnOk};
+ghost use Rattle.std.specs.List.{All, flat_map};
+ghost use Rattle.std.specs.Int.{w16, w32, w64, to_be_bytes};
+ghost use Rattle.part_items.specs.Plain.{item_of, items_of, entry_of, entries_of};
+ghost use Rattle.part_items.specs.Spelling.{spell_item, spell_three, spell_heading, spell_entry, spell_frame, CanSpellItem, CanSpellEntry, CanSpellFrame};
+
+use crate::frames::{Entry, Frame};
+use crate::items::Item;
+use crate::tags::{DONE, FIRED, GOT, HAS_FAILED, IS_DONE, RAN, TOOK, TRIM};
+use dura_codec::{write_id, write_message, write_text, write_value};
+use dura_value::Outcome;
+use std::alloc::AllocError;
+
+fn write_u64(out: &mut Vec<u8>, number: u64) -> Result<(), AllocError>
+    ensures { OnOk result (out.new.items ≡ out.old.items ++ to_be_bytes w64 number) }
+{
+    out.extend_from_slice(&number.to_be_bytes())
+}
+
+fn write_u32(out: &mut Vec<u8>, number: u32) -> Result<(), AllocError>
+    ensures { OnOk result (out.new.items ≡ out.old.items ++ to_be_bytes w32 number) }
+{
+    out.extend_from_slice(&number.to_be_bytes())
+}
+
+fn write_count(out: &mut Vec<u8>, count: u16) -> Result<(), AllocError>
+    ensures { OnOk result (out.new.items ≡ out.old.items ++ to_be_bytes w16 count) }
+{
+    out.extend_from_slice(&count.to_be_bytes())
+}
+
+#[tactic(auto, unfolding(crate::specs::Spelling::spell_three))]
+fn write_three(out: &mut Vec<u8>, a: u64, b: u64, c: u64) -> Result<(), AllocError>
+    ensures { OnOk result (out.new.items ≡ out.old.items ++ spell_three a b c) }
+{
+    write_u64(out, a)?;
+    write_u64(out, b)?;
+    write_u64(out, c)
+}
+
+#[tactic(auto, unfolding(crate::specs::Spelling::spell_heading))]
+fn write_heading(
+    out: &mut Vec<u8>,
+    position: u64,
+    incarnation: u64,
+    count: u16,
+) -> Result<(), AllocError>
+    ensures { OnOk result (out.new.items ≡ out.old.items ++ spell_heading position incarnation count) }
+{
+    write_u64(out, position)?;
+    write_u64(out, incarnation)?;
+    write_count(out, count)
+}
+
+fn write_item(out: &mut Vec<u8>, item: &Item) -> Result<(), AllocError>
+    requires { CanSpellItem (item_of item.now) }
+    ensures { OnOk result (out.new.items ≡ out.old.items ++ spell_item (item_of item.now)) }
+{
+    match item {
+        Item::Took(message) => {
+            out.push(TOOK)?;
+            write_message(out, message)
+        }
+        Item::Got(src, inc, pos, seq, message) => {
+            out.push(GOT)?;
+            write_u32(out, *src)?;
+            write_three(out, *inc, *pos, *seq)?;
+            write_message(out, message)
+        }
+        Item::Ran(from, to, stamp) => {
+            out.push(RAN)?;
+            write_id(out, from)?;
+            write_id(out, to)?;
+            write_u64(out, *stamp)
+        }
+        Item::Done(id, task, outcome) => {
+            out.push(DONE)?;
+            write_id(out, id)?;
+            write_u32(out, *task)?;
+            match outcome {
+                Outcome::Done(value) => {
+                    out.push(IS_DONE)?;
+                    write_value(out, value)
+                }
+                Outcome::Failed(text) => {
+                    out.push(HAS_FAILED)?;
+                    write_text(out, text)
+                }
+            }
+        }
+        Item::Fired(id, task, stamp) => {
+            out.push(FIRED)?;
+            write_id(out, id)?;
+            write_u32(out, *task)?;
+            write_u64(out, *stamp)
+        }
+        Item::Trim(dst, upto, inc, pos) => {
+            out.push(TRIM)?;
+            write_u32(out, *dst)?;
+            write_three(out, *upto, *inc, *pos)
+        }
+    }
+}
+
+fn write_items(out: &mut Vec<u8>, items: &[Item]) -> Result<(), AllocError>
+    requires { All CanSpellItem (items_of items.now) }
+    ensures { OnOk result (out.new.items ≡ out.old.items ++ flat_map spell_item (items_of items.now)) }
+{
+    for item in items {
+        write_item(out, item)?;
+    }
+    Ok(())
+}
+
+#[tactic(auto, unfolding(crate::specs::Spelling::spell_entry))]
+fn write_entry(out: &mut Vec<u8>, entry: &Entry) -> Result<(), AllocError>
+    requires { CanSpellEntry (entry_of entry.now) }
+    ensures { OnOk result (out.new.items ≡ out.old.items ++ spell_entry (entry_of entry.now)) }
+{
+    let items = entry.items.as_slice();
+    write_heading(out, entry.position, entry.incarnation, items.len() as u16)?;
+    write_items(out, items)
+}
+
+fn write_entries(out: &mut Vec<u8>, entries: &[Entry]) -> Result<(), AllocError>
+    requires { All CanSpellEntry (entries_of entries.now) }
+    ensures { OnOk result (out.new.items ≡ out.old.items ++ flat_map spell_entry (entries_of entries.now)) }
+{
+    for entry in entries {
+        write_entry(out, entry)?;
+    }
+    Ok(())
+}
+
+/// Appends a frame of at most 64 entries of at most 64 items.
+pub fn write_frame(out: &mut Vec<u8>, frame: &Frame) -> Result<(), AllocError>
+    requires { CanSpellFrame (entries_of frame.now) }
+    ensures { OnOk result (out.new.items ≡ out.old.items ++ spell_frame (entries_of frame.now)) }
+{
+    let entries = frame.entries();
+    write_count(out, entries.len() as u16)?;
+    write_entries(out, entries)
+}
