@@ -2,8 +2,7 @@
 // written, the status alone tells the cause.
 use commit_log::read_log;
 use input_reader::{Cause, read_input};
-use site_calls::{Fault, FaultPlace, FileName};
-use site_host::Reason;
+use site_calls::{Fault, FaultPlace, FileName, Reason};
 use site_model::Site;
 use std::{fmt, fs};
 

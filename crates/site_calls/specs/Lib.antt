@@ -2,5 +2,6 @@ pub mod Events
 pub mod FileNumbers
 pub mod Known
 pub mod Laws
+pub mod Notes
 pub mod Runs
 pub mod Site

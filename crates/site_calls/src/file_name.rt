@@ -1,5 +1,5 @@
 // The files of a site by number, and their names.
-ghost use Rattle.std.specs.Prelude.{◌≡◌, ◌↔◌, ◌%◌, IsSome, IfSome};
+ghost use Rattle.std.specs.Prelude.{◌≡◌, ◌↔◌, ◌%◌, nat_lt, IsSome, IfSome};
 ghost use Rattle.site_calls.specs.FileNumbers.{IsFileNumber, number_of, place_of};
 
 use std::fmt;
@@ -43,6 +43,13 @@ impl FileName {
             16..=143 => Some(FileName::Part((number - 16) / 4, kind_of(number))),
             _ => None,
         }
+    }
+
+    /// Whether this is a file that a run reads and never writes.
+    pub fn is_input(self) -> bool
+        ensures { result ≡ nat_lt (number_of self) 16 }
+    {
+        !matches!(self, FileName::Part(..))
     }
 }
 

@@ -7,6 +7,7 @@
 //! - `file_name`: which numbers are files, and their names.
 //! - `site`: the site. What it does at each call stands in `reading`, `writing`, `syncing` and `printing`, over calls
 //!   alone, and `known` is what it knows of its history.
+//! - `record`: the list of calls of an implementation, and `reason`: why a call failed, beside the system's error.
 //! - `laws`: what follows from the definitions.
 #![tactic(auto)]
 
@@ -17,6 +18,8 @@ mod known;
 mod laws;
 mod printing;
 mod reading;
+mod reason;
+mod record;
 mod site;
 mod syncing;
 mod writing;
@@ -29,4 +32,6 @@ pub use laws::{
     a_sync_counts_where_names_are_safe, a_wrong_answer_is_seen, an_honest_answer_exists,
     honest_answers_tell, the_past_stays,
 };
+pub use reason::Reason;
+pub use record::Record;
 pub use site::CalledSite;

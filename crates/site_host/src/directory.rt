@@ -1,8 +1,7 @@
 // A directory that is held for the run, and its files, each opened once and kept open.
 ghost use Rattle.std.specs.Prelude.{◌≤◌, length, IfOk};
 
-use crate::reason::Reason;
-use site_calls::FileName;
+use site_calls::{FileName, Reason};
 use std::alloc::{AllocError, Global};
 use std::fmt::Display;
 use std::fs::{File, OpenOptions, TryLockError};
@@ -71,10 +70,8 @@ impl<R> Directory<R> {
     /// The file with this number, which was found or made.
     pub(crate) fn file(&self, number: u32) -> io::Result<&OpenFile> {
         let name = name_of(number)?;
-        match self.files.iter().find(|file| file.name == name) {
-            Some(file) => Ok(file),
-            None => Err(io::Error::from(ErrorKind::NotFound)),
-        }
+        let found = self.files.iter().find(|file| file.name == name);
+        found.ok_or(io::Error::from(ErrorKind::NotFound))
     }
 
     /// Writes some of the bytes, and says how many.
@@ -96,10 +93,10 @@ impl<R> Directory<R> {
     }
 
     pub(crate) fn sync_names(&self) -> io::Result<()> {
-        match &self.folder {
-            Some(folder) => folder.sync_all(),
-            None => Err(io::Error::from(ErrorKind::NotFound)),
-        }
+        let folder = self.folder.as_ref();
+        folder
+            .ok_or(io::Error::from(ErrorKind::NotFound))?
+            .sync_all()
     }
 
     // Makes safe what a file that was there holds, and its name: an earlier run may have crashed and left them in the
@@ -153,7 +150,7 @@ impl<R: Files<File = File>> Directory<R> {
     /// Makes a file that isn't there. An input is never made.
     pub(crate) fn make(&mut self, number: u32) -> io::Result<()> {
         let name = name_of(number)?;
-        if is_input(name) {
+        if name.is_input() {
             return Err(io::Error::from(ErrorKind::PermissionDenied));
         }
         if !self.open_folder()? {
@@ -238,10 +235,6 @@ fn name_of(number: u32) -> io::Result<FileName> {
     FileName::from_number(number).ok_or(io::Error::from(ErrorKind::InvalidInput))
 }
 
-fn is_input(name: FileName) -> bool {
-    !matches!(name, FileName::Part(..))
-}
-
 // Opens an input for reading alone. Another file is opened so too where it can't be written, and each write then gives
 // the error that was given here.
 fn open_named(
@@ -249,7 +242,7 @@ fn open_named(
     path: &str,
     name: FileName,
 ) -> io::Result<(File, Option<io::Error>)> {
-    let opened = if is_input(name) {
+    let opened = if name.is_input() {
         Err(io::Error::from(ErrorKind::PermissionDenied))
     } else {
         OpenOptions::new().read(true).write(true).open(rt, path)

@@ -4,8 +4,5 @@
 
 mod directory;
 mod host;
-mod reason;
-mod record;
 
 pub use host::Host;
-pub use reason::Reason;

@@ -15,12 +15,12 @@ use denote.Signature.{plain}
 use denote.Slice.{ShrSlice, shr_slice_vals, shr_slice_Tells}
 use denote.Steps.{opens, closes}
 use denote.Triple.Walked.{Stays, says, stay_ref, stay_none_slice, Goes-ref, Goes-none_slice, ends_at}
-use Rattle.site_host.specs.declared.record.Record.{Record}
-use Rattle.site_host.specs.Notes.{event_of}
-use Rattle.site_host.specs.contracts.record.Record.{the_row as R}
-use Rattle.site_host.specs.contracts.record.Record.note as f
-use Rattle.site_host.proofs.record.Record.note.Statement.{statement}
-use Rattle.site_host.proofs.record.Record.note.Code as code
+use Rattle.site_calls.specs.declared.record.Record.{Record}
+use Rattle.site_calls.specs.Notes.{event_of}
+use Rattle.site_calls.specs.contracts.record.Record.{the_row as R}
+use Rattle.site_calls.specs.contracts.record.Record.note as f
+use Rattle.site_calls.proofs.record.Record.note.Statement.{statement}
+use Rattle.site_calls.proofs.record.Record.note.Code as code
 
 -- the record is a reference that is there at the end, and of the two slices nothing is
 abbrev stayed : Stays f.ended.signature.params f.ended.kept

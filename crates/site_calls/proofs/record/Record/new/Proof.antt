@@ -10,11 +10,11 @@ use denote.Shadow.{pure_i}
 use denote.Steps.{nothing}
 use denote.Triple.Entry.{on_entry}
 use denote.Triple.Walked.{says, ends_at}
-use Rattle.site_host.specs.declared.record.Record.{Record}
-use Rattle.site_host.specs.contracts.record.Record.{the_row as R}
-use Rattle.site_host.specs.contracts.record.Record.new as f
-use Rattle.site_host.proofs.record.Record.new.Statement.{statement}
-use Rattle.site_host.proofs.record.Record.new.Code as code
+use Rattle.site_calls.specs.declared.record.Record.{Record}
+use Rattle.site_calls.specs.contracts.record.Record.{the_row as R}
+use Rattle.site_calls.specs.contracts.record.Record.new as f
+use Rattle.site_calls.proofs.record.Record.new.Statement.{statement}
+use Rattle.site_calls.proofs.record.Record.new.Code as code
 
 -- as the machine has it: a struct with the marker, which has no field
 abbrev stored : Val

@@ -1,5 +1,5 @@
 // What the system's error doesn't say.
-use site_calls::FileName;
+use crate::file_name::FileName;
 use std::fmt;
 
 /// Why a call failed, where the system's error alone doesn't tell it.
