@@ -1,8 +1,8 @@
 // What no clause says: which bytes the disk gives, which names the files have, what is refused, and when a fault is
 // counted.
 use crate::checks::{check_bytes, check_same};
-use site_calls::{CalledSite, FileName, Unknown};
-use site_host::{Host, Reason};
+use site_calls::{CalledSite, FileName, Reason, Unknown};
+use site_host::Host;
 use site_model::Site;
 use std::alloc::Global;
 use std::process::Abort;
