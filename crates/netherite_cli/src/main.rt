@@ -10,8 +10,6 @@ ghost use Rattle.input_reader.specs.Refusal.{status_of};
 
 mod call;
 mod hints;
-#[cfg(test)]
-mod tests;
 
 use activity_table::Table;
 use call::{CallError, read_call};

@@ -1,4 +1,4 @@
-//! Tests of the sites: in memory, over recorded calls, and over a real directory.
+//! Tests of the sites, in memory, over recorded calls and over a real directory, and of the machine's clock.
 //!
 //! - `ledger`: whether answers agree with the calls before them, as code. It is no test, since `specs/` names its types.
 //! - `scripted`: calls on a file in memory, for the tests of the site over calls.
@@ -12,6 +12,8 @@ pub use ledger::{Entry, FILE, Ledger, Replayed, Writing};
 mod called_tests;
 #[cfg(test)]
 mod checks;
+#[cfg(test)]
+mod clock_tests;
 #[cfg(test)]
 mod file_tests;
 #[cfg(test)]

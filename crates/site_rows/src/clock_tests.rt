@@ -1,5 +1,5 @@
 // What no clause says: that the clock gives moments at all, in milliseconds, and that a wait gives up.
-use crate::WallClock;
+use wall_clock::WallClock;
 use site_model::{Clock, LAST_MOMENT};
 use std::process::Abort;
 use std::time::Duration;
