@@ -1,5 +1,5 @@
 -- The activities that are shipped, and which outcomes each may give.
-use Rattle.std.specs.Prelude.{ℕ, ℤ, pos, negsuc, Bool, true, false, ◌+ℤ◌, ◌^◌, ◌++◌, ◌&&◌, ◌==◌, List, [], ◌∷◌, codes, length, nat_lt, nat_le, if◌then◌else◌, Option, Some, None}
+use Rattle.std.specs.Prelude.{ℕ, ℤ, pos, negsuc, Bool, true, false, ◌^◌, ◌%◌, ◌++◌, ◌&&◌, ◌==◌, List, [], ◌∷◌, codes, length, nat_lt, nat_le, if◌then◌else◌, Option, Some, None}
 use Rattle.std.specs.Str.{bytes_eq}
 use Rattle.dura_value.specs.declared.data.Scalar.{Scalar}
 use Rattle.dura_value.specs.declared.data.Scalar.TheVariants as scalars
@@ -76,6 +76,14 @@ outcome_eq a b = false
 abbrev pub is_drawn : Outcome → Bool
 is_drawn (Done (values.Int (pos n))) = nat_lt n (2 ^ 63)
 is_drawn other = false
+
+-- what is drawn of a word of 64 bits: its highest bit is cleared
+abbrev pub drawn : ℕ → Outcome
+drawn word = Done (values.Int (pos (word % 2 ^ 63)))
+
+-- what a shipped activity of this name gives with this argument and this word
+abbrev pub shipped : List ℕ → Value → ℕ → Outcome
+shipped name argument word = if bytes_eq name (codes "draw") then drawn word else given name argument
 
 -- whether an activity of this name with this argument may give this outcome
 abbrev pub may : List ℕ → Value → Outcome → Bool

@@ -1,6 +1,8 @@
-//! The activities that an engine can run, and those that are shipped. `specs/Activities` says what each may give.
+//! The activities that an engine can run, and those that are shipped. `specs/Table` says what each may give.
 #![tactic(auto)]
 
-mod activities;
+mod sum_activities;
+mod table;
 
-pub use activities::{Activities, Table};
+pub use sum_activities::{SumActivities, SumTable};
+pub use table::{Activities, Table, outcome_of};

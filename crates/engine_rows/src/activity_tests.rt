@@ -4,7 +4,7 @@ ghost use Rattle.std.specs.Prelude.{IfOk};
 ghost use Rattle.activity_table.specs.Activities.{May};
 
 use crate::run_tests::{SUM, check_end, check_tape, command, sum_site};
-use activity_table::{Activities, Table};
+use activity_table::{SumActivities, SumTable};
 use dura_value::{Outcome, Scalar, Value};
 use engine_run::{Ended, run_alone};
 use input_reader::Cause;
@@ -34,7 +34,7 @@ fn raise(count: &Cell<u64>) {
     count.set(count.get().saturating_add(1));
 }
 
-impl Activities for Counted {
+impl SumActivities for Counted {
     fn run(
         &self,
         alloc: Global,
@@ -50,7 +50,7 @@ impl Activities for Counted {
             self.fails.set(self.fails.get().saturating_sub(1));
             return Err(AllocError);
         }
-        Table.run(alloc, name, argument, word)
+        SumTable.run(alloc, name, argument, word)
     }
 }
 

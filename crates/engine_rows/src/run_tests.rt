@@ -1,6 +1,6 @@
 //! Whole runs, on sites in memory.
 
-use activity_table::Table;
+use activity_table::SumTable;
 use dura_value::Text;
 use engine_run::{Ended, run, run_alone};
 use input_reader::{Cause, FlowFault, FlowPath, Kind, PlanPlace};
@@ -64,7 +64,7 @@ pub(crate) fn command(rt: &impl Abort, alloc: Global) -> Vec<Text> {
 fn run_words(rt: &impl Abort, alloc: Global, words: &[&str], site: MemorySite) -> Run {
     let words = texts(rt, alloc, words);
     let clock = TickClock::new(0, Vec::new(alloc));
-    run_alone(alloc, &words, site, clock, &Table)
+    run_alone(alloc, &words, site, clock, &SumTable)
 }
 
 /// A run of the command.
@@ -174,7 +174,7 @@ fn the_top_call(rt: HostRuntime) {
     let words = texts(&rt, alloc, &COMMAND);
     let site = sum_site(&rt, alloc, &[]);
     let clock = TickClock::new(0, Vec::new(alloc));
-    let ended = run(&rt, alloc, &words, site, clock, &Table);
+    let ended = run(&rt, alloc, &words, site, clock, &SumTable);
     check_sum(&rt, alloc, &ended);
 }
 

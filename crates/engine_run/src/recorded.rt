@@ -17,7 +17,7 @@ ghost use Rattle.engine_run.specs.Words.{run_words};
 
 use crate::ended::Ended;
 use crate::top::run;
-use activity_table::Activities;
+use activity_table::SumActivities;
 use dura_value::Text;
 use input_reader::Cause;
 use site_calls::{CalledSite, Calls, Start};
@@ -35,7 +35,7 @@ pub fn run_recorded<
     C: Calls + Send,
     S: Start + Send,
     K: Clock + Send,
-    A: Activities + Sync,
+    A: SumActivities + Sync,
 >(
     rt: &R,
     alloc: Global,

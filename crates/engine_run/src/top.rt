@@ -14,7 +14,7 @@ ghost use Rattle.engine_run.specs.Words.{run_words};
 
 use crate::ended::Ended;
 use crate::words::is_run_command;
-use activity_table::Activities;
+use activity_table::SumActivities;
 use dura_value::Text;
 use input_reader::{Cause, read_input};
 use part_driver::{Entry, Trail, drive, recover};
@@ -24,7 +24,7 @@ use std::sync::Wait;
 use std::thread::Threads;
 
 /// Reads the input, recovers, and drives the labels, in this order.
-fn perform<V: Site, A: Activities>(
+fn perform<V: Site, A: SumActivities>(
     alloc: Global,
     site: &mut V,
     acts: &A,
@@ -60,7 +60,7 @@ fn perform<V: Site, A: Activities>(
 }
 
 /// `run` without threads. It returns for every input.
-pub fn run_alone<V: Site, C: Clock, A: Activities>(
+pub fn run_alone<V: Site, C: Clock, A: SumActivities>(
     alloc: Global,
     words: &[Text],
     site: V,
@@ -106,7 +106,7 @@ pub fn run_alone<V: Site, C: Clock, A: Activities>(
 ///
 /// A refusal is the first of these: the words, then files 0, 1 and 2 in this order, each one's length before its bytes,
 /// then file 16.
-pub fn run<R: Threads + Wait + Sync, V: Site + Send, C: Clock + Send, A: Activities + Sync>(
+pub fn run<R: Threads + Wait + Sync, V: Site + Send, C: Clock + Send, A: SumActivities + Sync>(
     rt: &R,
     alloc: Global,
     words: &[Text],

@@ -11,7 +11,7 @@ ghost use Rattle.input_reader.specs.Refusal.{status_of};
 mod call;
 mod hints;
 
-use activity_table::Table;
+use activity_table::SumTable;
 use call::{CallError, read_call};
 use engine_run::run_recorded;
 use hints::{hint_cause, hint_command};
@@ -45,7 +45,7 @@ fn serve<T: Threads + Wait + Sync, S: Start + Send>(
     };
     let site = CalledSite::new(host, start);
     let clock = WallClock::new(rt);
-    let ended = run_recorded(threads, alloc, &call.words, site, clock, &Table);
+    let ended = run_recorded(threads, alloc, &call.words, site, clock, &SumTable);
     let fault = ended.site.fault();
     let reason = ended.site.calls().reason();
     let status = end(&rt, ended.cause);

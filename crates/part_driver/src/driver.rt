@@ -16,7 +16,7 @@ use crate::recovered::Recovered;
 use crate::settle::settle_label;
 use crate::told::{Told, say_due};
 use crate::trail::Entry;
-use activity_table::Activities;
+use activity_table::SumActivities;
 use input_reader::{Cause, Input};
 use site_model::Site;
 use std::alloc::Global;
@@ -26,7 +26,7 @@ const PARTITION: u32 = 0;
 
 /// Says what is due and commits the next label, again and again, until no label is left. Each label is settled before
 /// the next, and each answer is said after the commit of what it answers.
-pub fn drive<V: Site, A: Activities>(
+pub fn drive<V: Site, A: SumActivities>(
     alloc: Global,
     site: &mut V,
     acts: &A,

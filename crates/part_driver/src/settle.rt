@@ -13,7 +13,7 @@ ghost use Rattle.sum_items.specs.Items.{payload_bytes};
 
 use crate::commit::commit;
 use crate::trail::Entry;
-use activity_table::Activities;
+use activity_table::SumActivities;
 use commit_log::Resting;
 use dura_value::{Scalar, Scalars, Value, word};
 use input_reader::{Cause, Input};
@@ -23,7 +23,7 @@ use std::alloc::Global;
 use sum_items::payload;
 
 /// Runs the activity. By its contract it gives the sum of the flow's two numbers, or memory runs out.
-fn run_add<A: Activities>(alloc: Global, acts: &A, input: &Input) -> Result<(), Cause>
+fn run_add<A: SumActivities>(alloc: Global, acts: &A, input: &Input) -> Result<(), Cause>
     ensures { IfErr result (λ cause. cause ≡ Cause.Memory) }
 {
     let left = Scalar::Int(input.flow.left as i64);
@@ -51,7 +51,7 @@ fn entry_payload(alloc: Global, input: &Input, entry: Entry) -> Result<Vec<u8>, 
 }
 
 /// Commits a label in a frame of its own, and puts its entry on the trail. For the activity's end it is run first.
-pub(crate) fn settle_label<V: Site, A: Activities>(
+pub(crate) fn settle_label<V: Site, A: SumActivities>(
     alloc: Global,
     site: &mut V,
     acts: &A,

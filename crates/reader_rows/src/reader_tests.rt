@@ -1,6 +1,6 @@
 //! What is read, and what is refused.
 
-use activity_table::{Activities, Table};
+use activity_table::{SumActivities, SumTable};
 use dura_value::{Key, Name, Outcome, Scalar, Scalars, Text, TextError, Value};
 use input_reader::{Flow, ReadError, Requests, read_flow, read_requests};
 use std::alloc::Global;
@@ -61,7 +61,7 @@ fn copies(rt: HostRuntime) {
 
 /// Whether a run of the activity fails with this fault.
 fn fails(alloc: Global, word: &str, argument: &Value, fault: &str) -> bool {
-    match Table.run(alloc, word, argument, 0) {
+    match SumTable.run(alloc, word, argument, 0) {
         Ok(Outcome::Failed(text)) => text.as_str() == fault,
         _ => false,
     }
@@ -83,7 +83,7 @@ fn check_pair(rt: &impl Abort, alloc: Global, word: &str, left: i64, right: Scal
 fn sum_activity(rt: HostRuntime) {
     let alloc = rt.alloc();
     let pair = pair(&rt, alloc, 7, Scalar::Int(-2));
-    let sum = Table.run(alloc, "add", &pair, 0);
+    let sum = SumTable.run(alloc, "add", &pair, 0);
     assert!(rt; matches!(sum, Ok(Outcome::Done(Value::Int(5)))));
 }
 

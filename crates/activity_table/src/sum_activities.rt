@@ -1,4 +1,4 @@
-//! Activities: plain steps with outside effects.
+//! The activities of the first path: `add` alone.
 
 ghost use Rattle.std.specs.Prelude.{◌≡◌, ◌≤◌, length, IfOk};
 ghost use Rattle.activity_table.specs.Activities.{May, sum_of, added};
@@ -6,8 +6,8 @@ ghost use Rattle.activity_table.specs.Activities.{May, sum_of, added};
 use dura_value::{Outcome, Scalar, Text, Value};
 use std::alloc::{AllocError, Global};
 
-/// The activities that an engine can run.
-pub trait Activities {
+/// The activities that the engine of the first path can run.
+pub trait SumActivities {
     /// Runs an activity. `word` is different for each run, for those that want chance. An activity may be run more
     /// than once; its completion is recorded once. Err is want of memory, and then nothing is recorded.
     fn run(
@@ -20,12 +20,12 @@ pub trait Activities {
         ensures { IfOk result (May name.now argument.now) };
 }
 
-/// The activities that are shipped: `add` gives the sum of a list of two integers, or fails with `overflow`; with
+/// The activities of the first path: `add` gives the sum of a list of two integers, or fails with `overflow`; with
 /// another argument it fails with `type`. Another name fails with `unknown`.
 #[derive(Clone, Copy, Debug)]
-pub struct Table;
+pub struct SumTable;
 
-impl Activities for Table {
+impl SumActivities for SumTable {
     fn run(
         &self,
         alloc: Global,
@@ -40,7 +40,7 @@ impl Activities for Table {
     }
 }
 
-fn failed(alloc: Global, fault: &str) -> Result<Outcome, AllocError>
+pub(crate) fn failed(alloc: Global, fault: &str) -> Result<Outcome, AllocError>
     requires { length fault.now ≤ 4096 }
     ensures { IfOk result (λ outcome. outcome ≡ Outcome.Failed fault.now) }
 {
@@ -50,7 +50,7 @@ fn failed(alloc: Global, fault: &str) -> Result<Outcome, AllocError>
     }
 }
 
-fn added(alloc: Global, argument: &Value) -> Result<Outcome, AllocError>
+pub(crate) fn added(alloc: Global, argument: &Value) -> Result<Outcome, AllocError>
     ensures { IfOk result (λ outcome. outcome ≡ added argument.now) }
 {
     match argument {
