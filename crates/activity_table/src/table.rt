@@ -66,7 +66,7 @@ fn failing(alloc: Global, argument: &Value) -> Result<Outcome, AllocError>
     ensures { IfOk result (λ outcome. outcome ≡ failing argument.now) }
 {
     match argument {
-        Value::Text(text) => Ok(Outcome::Failed(text.clone(alloc)?)),
+        Value::Text(text) => Ok(Outcome::Failed(text.clone()?)),
         _ => failed(alloc, "type"),
     }
 }
