@@ -1,0 +1,11 @@
+//! Maps by ids, which contracts see as functions.
+//!
+//! - `id_map`: one thing for each id.
+//! - `number_map`: one thing for each id and number.
+#![tactic(auto)]
+
+mod id_map;
+mod number_map;
+
+pub use id_map::IdMap;
+pub use number_map::NumberMap;
