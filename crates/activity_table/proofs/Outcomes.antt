@@ -8,7 +8,8 @@ use Rattle.dura_value.specs.declared.data.Value.{Value}
 use Rattle.dura_value.specs.declared.data.Value.TheVariants as values
 use Rattle.dura_value.specs.declared.outcome.Outcome.{Outcome}
 use Rattle.dura_value.specs.declared.outcome.Outcome.TheVariants.{Done, Failed}
-use Rattle.activity_table.specs.Table.{int_eq, scalar_eq, scalars_eq, value_eq, outcome_eq, is_drawn, drawn, given, shipped, may}
+use Rattle.dura_value.specs.Values.{int_eq, scalar_eq, scalars_eq, value_eq}
+use Rattle.activity_table.specs.Table.{outcome_eq, is_drawn, drawn, given, shipped, may}
 
 bytes_same : (xs : List ℕ) → bytes_eq xs xs ≡ true
 bytes_same xs = (bytes_eq-Decides xs xs).1 refl

@@ -1,10 +1,11 @@
 -- The activities that are shipped, and which outcomes each may give.
-use Rattle.std.specs.Prelude.{ℕ, ℤ, pos, negsuc, Bool, true, false, ◌^◌, ◌%◌, ◌++◌, ◌&&◌, ◌==◌, List, [], ◌∷◌, codes, length, nat_lt, nat_le, if◌then◌else◌, Option, Some, None}
+use Rattle.std.specs.Prelude.{ℕ, pos, Bool, false, ◌^◌, ◌%◌, ◌++◌, List, [], ◌∷◌, codes, length, nat_lt, nat_le, if◌then◌else◌, Option, Some, None}
 use Rattle.std.specs.Str.{bytes_eq}
 use Rattle.dura_value.specs.declared.data.Scalar.{Scalar}
 use Rattle.dura_value.specs.declared.data.Scalar.TheVariants as scalars
 use Rattle.dura_value.specs.declared.data.Value.{Value}
 use Rattle.dura_value.specs.declared.data.Value.TheVariants as values
+use Rattle.dura_value.specs.Values.{value_eq}
 use Rattle.dura_value.specs.declared.outcome.Outcome.{Outcome}
 use Rattle.dura_value.specs.declared.outcome.Outcome.TheVariants.{Done, Failed}
 use Rattle.activity_table.specs.Activities.{added}
@@ -39,33 +40,6 @@ given name argument =
     else (if bytes_eq name (codes "concat") then concatenated argument
     else (if bytes_eq name (codes "fail") then failing argument
     else Failed (codes "unknown"))))
-
-abbrev pub int_eq : ℤ → ℤ → Bool
-int_eq (pos a) (pos b) = a == b
-int_eq (negsuc a) (negsuc b) = a == b
-int_eq a b = false
-
-abbrev pub scalar_eq : Scalar → Scalar → Bool
-scalar_eq scalars.Null scalars.Null = true
-scalar_eq scalars.False scalars.False = true
-scalar_eq scalars.True scalars.True = true
-scalar_eq (scalars.Int a) (scalars.Int b) = int_eq a b
-scalar_eq (scalars.Text a) (scalars.Text b) = bytes_eq a b
-scalar_eq a b = false
-
-abbrev pub scalars_eq : List Scalar → List Scalar → Bool
-scalars_eq [] [] = true
-scalars_eq (one ∷ more) (other ∷ others) = scalar_eq one other && scalars_eq more others
-scalars_eq a b = false
-
-abbrev pub value_eq : Value → Value → Bool
-value_eq values.Null values.Null = true
-value_eq values.False values.False = true
-value_eq values.True values.True = true
-value_eq (values.Int a) (values.Int b) = int_eq a b
-value_eq (values.Text a) (values.Text b) = bytes_eq a b
-value_eq (values.List a) (values.List b) = scalars_eq a b
-value_eq a b = false
 
 abbrev pub outcome_eq : Outcome → Outcome → Bool
 outcome_eq (Done a) (Done b) = value_eq a b

@@ -7,4 +7,5 @@ pub mod Messages
 pub mod Names
 pub mod Reading
 pub mod Text
+pub mod Values
 pub mod Views

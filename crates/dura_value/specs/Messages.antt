@@ -73,3 +73,14 @@ pub record Message : Type 0 where
   pub from : Id
   pub to : Id
   pub body : Body
+
+-- the answer to a client's request
+pub record Answered : Type 0 where
+  pub client : Id
+  pub number : ℕ
+  pub answer : Answer
+
+-- what a step makes for the outside: messages, and answers to requests of clients, each in the order in which they were made
+pub record Outputs : Type 0 where
+  pub sent : List Message
+  pub answered : List Answered

@@ -9,6 +9,8 @@ use Rattle.dura_value.specs.declared.messages.Answer.TheVariants as answers
 use Rattle.dura_value.specs.declared.messages.Body.{Body}
 use Rattle.dura_value.specs.declared.messages.Body.TheVariants as bodies
 use Rattle.dura_value.specs.declared.messages.Message.{Message}
+use Rattle.dura_value.specs.declared.outputs.Answered.{Answered}
+use Rattle.dura_value.specs.declared.outputs.Outputs.{Outputs}
 use Rattle.dura_value.specs.declared.spots.Spot.{Spot}
 use Rattle.dura_value.specs.Ids as plain
 use Rattle.dura_value.specs.Messages as said
@@ -54,3 +56,12 @@ body_of bodies.Release = said.release
 
 abbrev pub message_of : Message → said.Message
 message_of message = record { from = id_of message.from; to = id_of message.to; body = body_of message.body }
+
+abbrev pub messages_of : List Message → List said.Message
+messages_of = map message_of
+
+abbrev pub answered_of : Answered → said.Answered
+answered_of one = record { client = plain.client one.client; number = one.number; answer = answer_of one.answer }
+
+abbrev pub outputs_of : Outputs → said.Outputs
+outputs_of made = record { sent = messages_of made.messages; answered = map answered_of made.answers }

@@ -2,7 +2,8 @@
 //! partition each of them lives in.
 //!
 //! - `text` is a bounded text, `data` the values that flows compute with, and `names` short words.
-//! - `outcome` is what an activity or an instance came to.
+//! - `messages` is what instances, entities and clients say, `outputs` what a step makes of it, and `outcome` what an activity or
+//!   an instance came to.
 //! - `digest` is a digest of 64 bits.
 //! - `limits` has the limits of the format, which `specs/Limits` states.
 #![tactic(auto)]
@@ -16,6 +17,7 @@ mod limits;
 mod messages;
 mod names;
 mod outcome;
+mod outputs;
 mod reading;
 mod same_lists;
 mod same_spots;
@@ -24,7 +26,7 @@ mod text;
 
 pub use addresses::{Id, home};
 pub use data::{Scalar, Scalars, Value};
-pub use digest::{fnv, word};
+pub use digest::fnv;
 pub use faults::ReadError;
 pub use limits::{
     MOST_SCALARS, MOST_SCALARS_BYTES, MOST_SPOTS, MOST_TEXT_BYTES, MOST_VALUE_BYTES,
@@ -33,5 +35,6 @@ pub use limits::{
 pub use messages::{Answer, Body, Message, Reply, Request};
 pub use names::{Key, Name, is_key, is_name};
 pub use outcome::Outcome;
+pub use outputs::{Answered, Answers, Messages, Outputs};
 pub use spots::{Spot, Spots};
 pub use text::{Text, TextError};

@@ -9,7 +9,7 @@ use Rattle.dura_value.specs.declared.data.Scalar.{Scalar}
 use Rattle.dura_value.specs.declared.data.Scalar.TheVariants as scalars
 use Rattle.dura_value.specs.declared.data.Value.{Value}
 use Rattle.dura_value.specs.declared.data.Value.TheVariants as values
-use Rattle.activity_table.specs.Table.{value_eq}
+use Rattle.dura_value.specs.Values.{value_eq}
 use Rattle.flow_syntax.specs.Syntax.{Expression, scalar, variable, list, unary, binary, Expressions, no_parts, part, Unary, not_of, length_of, text_of, Binary, add, sub, mul, div, rem, equal, less, both, either, join, at, push}
 
 -- something, or the text of a fault

@@ -13,9 +13,9 @@ ghost use Rattle.sum_items.specs.Items.{payload_bytes};
 
 use crate::commit::commit;
 use crate::trail::Entry;
-use activity_table::SumActivities;
+use activity_table::{SumActivities, word};
 use commit_log::Resting;
-use dura_value::{Scalar, Scalars, Value, word};
+use dura_value::{Scalar, Scalars, Value};
 use input_reader::{Cause, Input};
 use part_state::Label;
 use site_model::Site;
