@@ -1,0 +1,5 @@
+pub mod Ids
+pub mod Items
+pub mod Messages
+pub mod Rows
+pub mod Values
