@@ -2,26 +2,18 @@
 use Rattle.std.proofs.Common.{◌≡◌, ℕ, suc, ◌+◌, ◌<◌, ◌≤◌, ◌^◌, List, [], ◌∷◌, ◌++◌, length, Bool, true, false, if◌then◌else◌, Result, Ok, Err, refl, sym, ap, ◌∙◌, append_assoc, arith}
 use Rattle.std.specs.Int.{w32, w64, to_be_bytes}
 use Rattle.dura_value.specs.declared.outcome.Outcome.{Outcome}
-use Rattle.dura_value.specs.declared.outcome.Outcome.TheVariants as outcomes
 use Rattle.dura_value.specs.Ids.{Id}
 use Rattle.dura_value.specs.Messages.{Message}
 use Rattle.dura_value.specs.Items.{Identity, Item, took, got, ran, ended, fired, trim}
 use Rattle.dura_value.specs.Reading.{◌>>=◌}
 use Rattle.dura_codec.specs.Fields.{Read, byte_at, number_at, count_at}
-use Rattle.dura_codec.specs.Spelling.{spell_id, spell_message}
-use Rattle.part_items.specs.Grammar.{outcome_at, took_at, got_at, ran_at, done_at, fired_at, trim_at, item_at}
-use Rattle.part_items.specs.Spelling.{spell_outcome, spell_three, spell_item}
+use Rattle.dura_codec.specs.Spelling.{spell_id, spell_outcome, spell_message}
+use Rattle.part_items.specs.Grammar.{took_at, got_at, ran_at, done_at, fired_at, trim_at, item_at}
+use Rattle.part_items.specs.Spelling.{spell_three, spell_item}
 use Rattle.codec_laws.proofs.Numbers.{number_again_4, count_again}
-use Rattle.codec_laws.proofs.Words.{text_again}
-use Rattle.codec_laws.proofs.Values.{value_again}
 use Rattle.codec_laws.proofs.Ids.{id_again}
-use Rattle.codec_laws.proofs.Messages.{message_again, regroup, two, three}
-use Rattle.codec_laws.specs.ItemFits.{FitsOutcome, FitsIdentity, FitsItem}
-
-pub outcome_again : (outcome : Outcome) (rest : List ℕ) → FitsOutcome outcome → outcome_at (spell_outcome outcome ++ rest) ≡ Ok (outcome, rest)
-unfolding outcome_at
-outcome_again (outcomes.Done value) rest fits = rw (value_again value rest fits) refl
-outcome_again (outcomes.Failed text) rest fits = rw (text_again text rest fits) refl
+use Rattle.codec_laws.proofs.Messages.{outcome_again, message_again, regroup, two, three}
+use Rattle.codec_laws.specs.ItemFits.{FitsIdentity, FitsItem}
 
 took_again : (message : Message) (rest : List ℕ) → FitsItem (took message) → took_at (spell_message message ++ rest) ≡ Ok (took message, rest)
 unfolding took_at

@@ -4,12 +4,14 @@ use Rattle.std.specs.Int.{w32, to_be_bytes}
 use Rattle.std.specs.List.{flat_map}
 use Rattle.dura_value.specs.Ids.{Id}
 use Rattle.dura_value.specs.declared.data.Value.{Value}
+use Rattle.dura_value.specs.declared.outcome.Outcome.{Outcome}
+use Rattle.dura_value.specs.declared.outcome.Outcome.TheVariants as outcomes
 use Rattle.dura_value.specs.Messages.{Reply, Answer, is_done, has_failed, was_started, was_there, is_unknown, was_raised, has_ended, is_missing, is_running, is_value, Spot, Body, start, raise, query, wait, result, operate, lock, granted, release, Message}
 use Rattle.dura_value.specs.Reading.{◌>>=◌}
 use Rattle.dura_codec.specs.Fields.{Read, byte_at, number_at, several_at}
-use Rattle.dura_codec.specs.Grammar.{answer_at, spot_at, spot_count_at, lock_at, start_at, raise_at, query_at, wait_at, result_at, operate_at, granted_at, body_at, message_at}
-use Rattle.dura_codec.specs.Spelling.{spell_word, spell_id, spell_reply, spell_value, spell_answer, spell_spot, spell_body, spell_message}
-use Rattle.codec_laws.specs.Fits.{FitsAnswer, FitsSpot, FitsLock, FitsBody, FitsMessage}
+use Rattle.dura_codec.specs.Grammar.{answer_at, outcome_at, spot_at, spot_count_at, lock_at, start_at, raise_at, query_at, wait_at, result_at, operate_at, granted_at, body_at, message_at}
+use Rattle.dura_codec.specs.Spelling.{spell_word, spell_id, spell_reply, spell_value, spell_answer, spell_outcome, spell_spot, spell_body, spell_message}
+use Rattle.codec_laws.specs.Fits.{FitsAnswer, FitsOutcome, FitsSpot, FitsLock, FitsBody, FitsMessage}
 use Rattle.codec_laws.proofs.Numbers.{is_within, number_again_4, request_again}
 use Rattle.codec_laws.proofs.Words.{name_again, key_again, text_again}
 use Rattle.codec_laws.proofs.Values.{several_again, value_again}
@@ -27,6 +29,11 @@ answer_again has_ended rest fits = refl
 answer_again is_missing rest fits = refl
 answer_again is_running rest fits = refl
 answer_again (is_value value) rest fits = rw (value_again value rest fits) refl
+
+pub outcome_again : (outcome : Outcome) (rest : List ℕ) → FitsOutcome outcome → outcome_at (spell_outcome outcome ++ rest) ≡ Ok (outcome, rest)
+unfolding outcome_at
+outcome_again (outcomes.Done value) rest fits = rw (value_again value rest fits) refl
+outcome_again (outcomes.Failed text) rest fits = rw (text_again text rest fits) refl
 
 pub spot_again : (spot : Spot) (rest : List ℕ) → FitsSpot spot → spot_at (spell_spot spot ++ rest) ≡ Ok (spot, rest)
 unfolding spot_at

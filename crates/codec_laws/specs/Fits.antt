@@ -6,11 +6,13 @@ use Rattle.dura_value.specs.declared.data.Scalar.{Scalar}
 use Rattle.dura_value.specs.declared.data.Scalar.TheVariants as scalars
 use Rattle.dura_value.specs.declared.data.Value.{Value}
 use Rattle.dura_value.specs.declared.data.Value.TheVariants as values
+use Rattle.dura_value.specs.declared.outcome.Outcome.{Outcome}
+use Rattle.dura_value.specs.declared.outcome.Outcome.TheVariants as outcomes
 use Rattle.dura_value.specs.Ids.{Id, orchestration, entity, client}
 use Rattle.dura_value.specs.Messages.{Reply, to_nobody, to_task, to_request, Answer, is_done, has_failed, is_value, Spot, Body, start, raise, query, wait, result, operate, lock, granted, Message}
+use Rattle.dura_value.specs.Limits.{most_scalars, most_scalars_bytes, most_spots, number_limit}
 use Rattle.dura_value.specs.Names.{is_name, is_key}
 use Rattle.dura_value.specs.Text.{IsText}
-use Rattle.dura_codec.specs.Limits.{most_scalars, most_scalars_bytes, most_spots, number_limit}
 use Rattle.dura_codec.specs.Spelling.{spell_scalar}
 
 abbrev pub FitsScalar : Scalar → Type 0
@@ -63,6 +65,10 @@ FitsAnswer (is_done value) = FitsValue value
 FitsAnswer (has_failed text) = IsText text
 FitsAnswer (is_value value) = FitsValue value
 FitsAnswer other = Unit {0}
+
+abbrev pub FitsOutcome : Outcome → Type 0
+FitsOutcome (outcomes.Done value) = FitsValue value
+FitsOutcome (outcomes.Failed text) = IsText text
 
 abbrev pub FitsSpot : Spot → Type 0
 FitsSpot spot = FitsPair spot.class spot.key

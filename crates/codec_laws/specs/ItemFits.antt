@@ -1,16 +1,9 @@
 -- Which items, entries and frames are within the limits of the format.
 use Rattle.std.specs.Prelude.{ℕ, ◌<◌, ◌≤◌, List, length}
 use Rattle.std.specs.List.{All}
-use Rattle.dura_value.specs.declared.outcome.Outcome.{Outcome}
-use Rattle.dura_value.specs.declared.outcome.Outcome.TheVariants as outcomes
-use Rattle.dura_value.specs.Text.{IsText}
 use Rattle.dura_value.specs.Items.{Identity, Item, took, got, ran, ended, fired, trim, Entry}
 use Rattle.part_items.specs.Tags.{most_members}
-use Rattle.codec_laws.specs.Fits.{FitsNumber, FitsCount, FitsValue, FitsId, FitsMessage}
-
-abbrev pub FitsOutcome : Outcome → Type 0
-FitsOutcome (outcomes.Done value) = FitsValue value
-FitsOutcome (outcomes.Failed text) = IsText text
+use Rattle.codec_laws.specs.Fits.{FitsNumber, FitsCount, FitsId, FitsOutcome, FitsMessage}
 
 -- another partition's entry
 pub record FitsIdentity (identity : Identity) : Type 0 where

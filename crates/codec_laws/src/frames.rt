@@ -2,16 +2,14 @@
 //! alone: the functions do nothing.
 
 ghost use Rattle.std.specs.Prelude.{◌≡◌, ℕ, ◌∷◌, ◌++◌, List, Ok, Err, length};
-ghost use Rattle.dura_value.specs.declared.outcome.Outcome.{Outcome};
 ghost use Rattle.dura_value.specs.Items.{Item, Entry};
-ghost use Rattle.part_items.specs.Grammar.{outcome_at, item_at, entry_at, frame_in};
-ghost use Rattle.part_items.specs.Spelling.{spell_outcome, spell_item, spell_entry, spell_frame};
-ghost use Rattle.codec_laws.specs.ItemFits.{FitsOutcome, FitsItem, FitsEntry, FitsFrame};
+ghost use Rattle.part_items.specs.Grammar.{item_at, entry_at, frame_in};
+ghost use Rattle.part_items.specs.Spelling.{spell_item, spell_entry, spell_frame};
+ghost use Rattle.codec_laws.specs.ItemFits.{FitsItem, FitsEntry, FitsFrame};
 
-/// An item is read again, whatever follows, and so are an outcome and an entry.
-#[tactic(auto, using(crate::proofs::ItemLemmas::outcome_again, crate::proofs::ItemLemmas::item_again, crate::proofs::EntryLemmas::entry_again))]
+/// An item is read again, whatever follows, and so is an entry.
+#[tactic(auto, using(crate::proofs::ItemLemmas::item_again, crate::proofs::EntryLemmas::entry_again))]
 pub fn items_again()
-    ensures outcome { (outcome : Outcome) (rest : List ℕ) → FitsOutcome outcome → outcome_at (spell_outcome outcome ++ rest) ≡ Ok (outcome, rest) }
     ensures item { (item : Item) (rest : List ℕ) → FitsItem item → item_at (spell_item item ++ rest) ≡ Ok (item, rest) }
     ensures entry { (entry : Entry) (rest : List ℕ) → FitsEntry entry → entry_at (spell_entry entry ++ rest) ≡ Ok (entry, rest) }
 {}
