@@ -1,3 +1,4 @@
+pub mod Frames
 pub mod Ids
 pub mod Items
 pub mod Messages

@@ -1,14 +1,16 @@
 //! The tables.
 
+ghost use Rattle.std.specs.Prelude.{◌≡◌, Ok};
 ghost use Rattle.dura_codec.specs.Grammar.{value_at, id_at, reply_at, answer_at, body_at, message_at};
 ghost use Rattle.dura_codec.specs.Spelling.{spell_value, spell_id, spell_reply, spell_answer, spell_body, spell_message};
-ghost use Rattle.part_items.specs.Grammar.{item_at};
-ghost use Rattle.part_items.specs.Spelling.{spell_item};
+ghost use Rattle.part_items.specs.Grammar.{item_at, frame_at, frame_in};
+ghost use Rattle.part_items.specs.Spelling.{spell_item, spell_frame};
 ghost use Rattle.codec_rows.specs.Rows.{Reads, Spells, Faults};
 ghost use Rattle.codec_rows.specs.Values.{value_rows, value_faults};
 ghost use Rattle.codec_rows.specs.Ids.{id_rows, id_faults, reply_rows, reply_faults};
 ghost use Rattle.codec_rows.specs.Messages.{answer_rows, answer_faults, body_rows, body_faults, message_rows, message_faults};
 ghost use Rattle.codec_rows.specs.Items.{item_rows, item_faults};
+ghost use Rattle.codec_rows.specs.Frames.{example_bytes, example_entries, frame_faults};
 
 /// Values of each kind.
 pub fn values()
@@ -57,4 +59,11 @@ pub fn items()
     ensures read { Reads item_at item_rows }
     ensures spelled { Spells spell_item item_rows }
     ensures faults { Faults item_at item_faults }
+{}
+
+/// The frame of one item.
+pub fn frames()
+    ensures read { frame_in example_bytes ≡ Ok example_entries }
+    ensures spelled { spell_frame example_entries ≡ example_bytes }
+    ensures faults { Faults frame_at frame_faults }
 {}
