@@ -5,10 +5,10 @@ use Rattle.std.specs.Borrow.{Bor}
 use Rattle.std.specs.Int.{Width, w16, w32, w64, byte_len, from_be_bytes}
 use Rattle.dura_value.specs.declared.faults.ReadError.{ReadError}
 use Rattle.dura_value.specs.declared.faults.ReadError.TheVariants as places
+use Rattle.dura_value.specs.Limits.{number_limit}
 use Rattle.dura_value.specs.Reading.{◌>>=◌, Gives}
 use Rattle.dura_codec.specs.declared.fields.FieldError.{FieldError}
 use Rattle.dura_codec.specs.declared.fields.FieldError.TheVariants.{Bad, Memory}
-use Rattle.dura_codec.specs.Limits.{number_limit}
 
 -- a thing and the bytes behind it
 abbrev pub Read : Type 0 → Type 0

@@ -6,12 +6,14 @@ use Rattle.dura_value.specs.declared.data.Scalar.{Scalar}
 use Rattle.dura_value.specs.declared.data.Scalar.TheVariants as scalars
 use Rattle.dura_value.specs.declared.data.Value.{Value}
 use Rattle.dura_value.specs.declared.data.Value.TheVariants as values
+use Rattle.dura_value.specs.declared.outcome.Outcome.{Outcome}
+use Rattle.dura_value.specs.declared.outcome.Outcome.TheVariants as outcomes
 use Rattle.dura_value.specs.Ids.{Id, orchestration, entity, client}
+use Rattle.dura_value.specs.Limits.{most_word_bytes, most_text_bytes, most_scalars, most_scalars_bytes, most_spots}
 use Rattle.dura_value.specs.Messages.{Reply, to_nobody, to_task, to_request, Answer, is_done, has_failed, was_started, was_there, is_unknown, was_raised, has_ended, is_missing, is_running, is_value, Spot, Body, start, raise, query, wait, result, operate, lock, granted, release, Message}
 use Rattle.dura_value.specs.Names.{is_name, is_key}
 use Rattle.dura_value.specs.Reading.{◌>>=◌}
 use Rattle.dura_codec.specs.Fields.{Read, byte_at, number_at, request_number_at, run_at, several_at}
-use Rattle.dura_codec.specs.Limits.{most_word_bytes, most_text_bytes, most_scalars, most_scalars_bytes, most_spots}
 use Rattle.dura_codec.specs.Tags.{null_tag, false_tag, true_tag, int_tag, text_tag, list_tag, flow_tag, entity_tag, client_tag, nobody_tag, task_tag, request_tag, done_tag, failed_tag, started_tag, exists_tag, unknown_tag, raised_tag, ended_tag, missing_tag, running_tag, value_tag, start_tag, raise_tag, query_tag, wait_tag, result_tag, operate_tag, lock_tag, granted_tag, release_tag}
 
 -- the length of a name or key: 1 to 64
@@ -134,6 +136,16 @@ answer_at bytes =
     else if tag.0 == value_tag
     then (value_at tag.1 >>= λ value. Ok (is_value value.0, value.1))
     else word_or_fault bytes tag.1 (word_of tag.0)
+
+-- an answer that is an end: done or failed
+unfoldable pub outcome_at : List ℕ → Read Outcome
+outcome_at bytes =
+    byte_at bytes >>= λ tag.
+    if tag.0 == done_tag
+    then (value_at tag.1 >>= λ value. Ok (outcomes.Done value.0, value.1))
+    else if tag.0 == failed_tag
+    then (text_at tag.1 >>= λ text. Ok (outcomes.Failed text.0, text.1))
+    else Err (length bytes)
 
 unfoldable pub spot_at : List ℕ → Read Spot
 spot_at bytes = do

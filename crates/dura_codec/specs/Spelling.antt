@@ -6,9 +6,11 @@ use Rattle.dura_value.specs.declared.data.Scalar.{Scalar}
 use Rattle.dura_value.specs.declared.data.Scalar.TheVariants as scalars
 use Rattle.dura_value.specs.declared.data.Value.{Value}
 use Rattle.dura_value.specs.declared.data.Value.TheVariants as values
+use Rattle.dura_value.specs.declared.outcome.Outcome.{Outcome}
+use Rattle.dura_value.specs.declared.outcome.Outcome.TheVariants as outcomes
 use Rattle.dura_value.specs.Ids.{Id, orchestration, entity, client}
+use Rattle.dura_value.specs.Limits.{most_scalars, most_spots}
 use Rattle.dura_value.specs.Messages.{Reply, to_nobody, to_task, to_request, Answer, is_done, has_failed, was_started, was_there, is_unknown, was_raised, has_ended, is_missing, is_running, is_value, Spot, Body, start, raise, query, wait, result, operate, lock, granted, release, Message}
-use Rattle.dura_codec.specs.Limits.{most_scalars, most_spots}
 use Rattle.dura_codec.specs.Tags.{null_tag, false_tag, true_tag, int_tag, text_tag, list_tag, flow_tag, entity_tag, client_tag, nobody_tag, task_tag, request_tag, done_tag, failed_tag, started_tag, exists_tag, unknown_tag, raised_tag, ended_tag, missing_tag, running_tag, value_tag, start_tag, raise_tag, query_tag, wait_tag, result_tag, operate_tag, lock_tag, granted_tag, release_tag}
 
 -- a name or a key behind its length
@@ -56,6 +58,11 @@ spell_answer is_missing = missing_tag ∷ []
 spell_answer is_running = running_tag ∷ []
 spell_answer (is_value value) = value_tag ∷ spell_value value
 
+-- what an activity came to is spelled as the answer is
+abbrev pub spell_outcome : Outcome → List ℕ
+spell_outcome (outcomes.Done value) = done_tag ∷ spell_value value
+spell_outcome (outcomes.Failed text) = failed_tag ∷ spell_text text
+
 abbrev pub spell_spot : Spot → List ℕ
 spell_spot spot = spell_word spot.class ++ spell_word spot.key
 
@@ -84,6 +91,10 @@ abbrev pub CanSpellAnswer : Answer → Type 0
 CanSpellAnswer (is_done value) = CanSpell value
 CanSpellAnswer (is_value value) = CanSpell value
 CanSpellAnswer other = Unit {0}
+
+abbrev pub CanSpellOutcome : Outcome → Type 0
+CanSpellOutcome (outcomes.Done value) = CanSpell value
+CanSpellOutcome (outcomes.Failed text) = Unit {0}
 
 -- a lock's set has at most 16 entities
 abbrev pub CanSpellBody : Body → Type 0

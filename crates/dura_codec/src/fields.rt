@@ -5,10 +5,8 @@ ghost use Rattle.std.specs.Int.{w16, w32, w64};
 ghost use Rattle.dura_codec.specs.Fields.{Takes, StaysWithin, byte_at, number_at, count_at, request_number_at};
 ghost use Rattle.dura_codec.specs.declared.fields.FieldError.TheVariants.{Memory};
 
+use dura_value::NUMBER_LIMIT;
 use std::alloc::{AllocError, AllocFailed};
-
-/// Numbers of 64 bits are below this.
-const NUMBER_LIMIT: u64 = 1 << 63;
 
 /// Why a reader stopped.
 #[derive(Debug, Drop)]

@@ -4,7 +4,7 @@ ghost use Rattle.dura_value.specs.Views.{answer_of, spot_of, spots_of, body_of, 
 ghost use Rattle.std.specs.Prelude.{◌≡◌, Option, map};
 ghost use Rattle.std.specs.Option.{option_map};
 ghost use Rattle.dura_codec.specs.Fields.{Takes, several_at};
-ghost use Rattle.dura_codec.specs.Grammar.{answer_at, word_of, spot_at, spot_count_at, lock_at, start_at, raise_at, query_at, wait_at, result_at, operate_at, granted_at, body_at, message_at};
+ghost use Rattle.dura_codec.specs.Grammar.{answer_at, word_of, outcome_at, spot_at, spot_count_at, lock_at, start_at, raise_at, query_at, wait_at, result_at, operate_at, granted_at, body_at, message_at};
 
 use crate::fields::{FieldError, take_request_number, take_u8, take_u32};
 use crate::ids::{take_id, take_reply};
@@ -14,11 +14,8 @@ use crate::tags::{
 };
 use crate::values::take_value;
 use crate::words::{take_key, take_name, take_text};
-use dura_value::{Answer, Body, Message, Spot, Spots};
+use dura_value::{Answer, Body, MOST_SPOTS, Message, Outcome, Spot, Spots};
 use std::alloc::Global;
-
-/// The most entities of a lock's set.
-const MOST_SPOTS: u8 = 16;
 
 /// An answer that is a word.
 fn word_of(tag: u8) -> Option<Answer>
@@ -62,6 +59,25 @@ pub fn take_answer(alloc: Global, bytes: &[u8]) -> Result<(Answer, &[u8]), Field
     }
 }
 
+/// What an activity came to: an answer that is an end.
+#[tactic(auto, unfolding(crate::specs::Grammar::outcome_at))]
+pub fn take_outcome(alloc: Global, bytes: &[u8]) -> Result<(Outcome, &[u8]), FieldError>
+    ensures { Takes (λ x. x) result (outcome_at bytes.now) }
+{
+    let (tag, rest) = take_u8(bytes)?;
+    match tag {
+        DONE => {
+            let (value, rest) = take_value(alloc, rest)?;
+            Ok((Outcome::Done(value), rest))
+        }
+        FAILED => {
+            let (text, rest) = take_text(alloc, rest)?;
+            Ok((Outcome::Failed(text), rest))
+        }
+        _ => Err(FieldError::Bad { left: bytes.len() }),
+    }
+}
+
 /// An entity's class and key.
 #[tactic(auto, unfolding(crate::specs::Grammar::spot_at))]
 fn take_spot(alloc: Global, bytes: &[u8]) -> Result<(Spot, &[u8]), FieldError>
@@ -92,7 +108,7 @@ fn take_spot_count(bytes: &[u8]) -> Result<(u8, &[u8]), FieldError>
     ensures { Takes (λ n. n) result (spot_count_at bytes.now) }
 {
     let (count, rest) = take_u8(bytes)?;
-    if count > MOST_SPOTS {
+    if count as usize > MOST_SPOTS {
         return Err(FieldError::Bad { left: bytes.len() });
     }
     Ok((count, rest))

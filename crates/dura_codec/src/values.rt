@@ -7,14 +7,8 @@ ghost use Rattle.dura_codec.specs.Grammar.{scalar_at, scalars_at, value_at, valu
 use crate::fields::{FieldError, take_u8, take_u16, take_u64};
 use crate::tags::{FALSE, INT, LIST, NULL, TEXT, TRUE};
 use crate::words::take_text;
-use dura_value::{Scalar, Scalars, Value};
+use dura_value::{MOST_SCALARS, MOST_SCALARS_BYTES, Scalar, Scalars, Value};
 use std::alloc::Global;
-
-/// The most scalars of a list.
-const MOST_SCALARS: u16 = 1024;
-
-/// The most bytes of a list's scalars: a value has 65,536 with the tag and the count.
-const MOST_SCALARS_BYTES: usize = 65_533;
 
 /// A scalar.
 #[tactic(auto, unfolding(crate::specs::Grammar::scalar_at))]
@@ -72,7 +66,7 @@ fn take_scalars(alloc: Global, bytes: &[u8]) -> Result<(Scalars, &[u8]), FieldEr
     ensures { Takes (λ x. x) result (scalars_at bytes.now) }
 {
     let (count, rest) = take_u16(bytes)?;
-    if count > MOST_SCALARS {
+    if count as usize > MOST_SCALARS {
         return Err(FieldError::Bad { left: bytes.len() });
     }
     let front = front_of(rest);

@@ -4,21 +4,18 @@ ghost use Rattle.dura_codec.specs.Fields.{Takes, StaysWithin};
 ghost use Rattle.dura_codec.specs.Grammar.{word_size_at, name_at, key_at, text_at};
 
 use crate::fields::{FieldError, take_u8, take_u16};
-use dura_value::{Key, Name, Text, TextError, is_key, is_name};
+use dura_value::{
+    Key, MOST_TEXT_BYTES, MOST_WORD_BYTES, Name, Text, TextError, is_key, is_name,
+};
 use std::alloc::Global;
-
-/// The most bytes of a name and of a key.
-const MOST_WORD_BYTES: u8 = 64;
-
-/// The most bytes of a text.
-const MOST_TEXT_BYTES: usize = 4096;
 
 /// The length of a name or key: 1 to 64.
 #[tactic(auto, unfolding(crate::specs::Grammar::word_size_at))]
-fn take_word_size(bytes: &[u8]) -> Result<(u8, &[u8]), FieldError>
+fn take_word_size(bytes: &[u8]) -> Result<(usize, &[u8]), FieldError>
     ensures { Takes (λ x. x) result (word_size_at bytes.now) }
 {
     let (size, rest) = take_u8(bytes)?;
+    let size = size as usize;
     if size == 0 || size > MOST_WORD_BYTES {
         return Err(FieldError::Bad { left: bytes.len() });
     }
@@ -31,7 +28,6 @@ pub fn take_name(alloc: Global, bytes: &[u8]) -> Result<(Name, &[u8]), FieldErro
     ensures { Takes (λ x. x) result (name_at bytes.now) }
 {
     let (size, rest) = take_word_size(bytes)?;
-    let size = size as usize;
     if rest.len() < size {
         return Err(FieldError::Bad { left: rest.len() });
     }
@@ -49,7 +45,6 @@ pub fn take_key(alloc: Global, bytes: &[u8]) -> Result<(Key, &[u8]), FieldError>
     ensures { Takes (λ x. x) result (key_at bytes.now) }
 {
     let (size, rest) = take_word_size(bytes)?;
-    let size = size as usize;
     if rest.len() < size {
         return Err(FieldError::Bad { left: rest.len() });
     }

@@ -3,16 +3,17 @@
 ghost use Rattle.std.specs.Prelude.{◌≡◌, ◌≤◌, ◌++◌, ◌∷◌, OnOk, length};
 ghost use Rattle.std.specs.List.{flat_map};
 ghost use Rattle.dura_value.specs.Views.{id_of, reply_of, answer_of, spot_of, spots_of, body_of, message_of};
+ghost use Rattle.dura_value.specs.Limits.{most_spots};
 ghost use Rattle.dura_value.specs.Messages.{lock};
-ghost use Rattle.dura_codec.specs.Limits.{most_spots};
-ghost use Rattle.dura_codec.specs.Spelling.{spell_word, spell_text, spell_scalar, spell_value, spell_id, spell_reply, spell_answer, spell_spot, spell_body, spell_message, CanSpell, CanSpellAnswer, CanSpellBody};
+ghost use Rattle.dura_codec.specs.Spelling.{spell_word, spell_text, spell_scalar, spell_value, spell_id, spell_reply, spell_answer, spell_outcome, spell_spot, spell_body, spell_message, CanSpell, CanSpellAnswer, CanSpellOutcome, CanSpellBody};
 
+use crate::numbers::{write_u16, write_u32, write_u64};
 use crate::tags::{
     CLIENT, DONE, ENDED, ENTITY, EXISTS, FAILED, FALSE, FLOW, GRANTED, INT, LIST, LOCK, MISSING,
     NOBODY, NULL, OPERATE, QUERY, RAISE, RAISED, RELEASE, REQUEST, RESULT, RUNNING, START, STARTED,
     TASK, TEXT, TRUE, UNKNOWN, VALUE, WAIT,
 };
-use dura_value::{Answer, Body, Id, Key, Message, Name, Reply, Scalar, Spot, Text, Value};
+use dura_value::{Answer, Body, Id, Key, Message, Name, Outcome, Reply, Scalar, Spot, Text, Value};
 use std::alloc::AllocError;
 
 /// A name behind its length.
@@ -38,7 +39,7 @@ pub fn write_text(out: &mut Vec<u8>, text: &Text) -> Result<(), AllocError>
     ensures { OnOk result (out.new.items ≡ out.old.items ++ spell_text text.now) }
 {
     let bytes = text.as_bytes();
-    out.extend_from_slice(&(bytes.len() as u16).to_be_bytes())?;
+    write_u16(out, bytes.len() as u16)?;
     out.extend_from_slice(bytes)
 }
 
@@ -51,7 +52,7 @@ fn write_scalar(out: &mut Vec<u8>, scalar: &Scalar) -> Result<(), AllocError>
         Scalar::True => Ok(out.push(TRUE)?),
         Scalar::Int(n) => {
             out.push(INT)?;
-            out.extend_from_slice(&n.to_be_bytes())
+            write_u64(out, n.cast_unsigned())
         }
         Scalar::Text(text) => {
             out.push(TEXT)?;
@@ -80,7 +81,7 @@ pub fn write_value(out: &mut Vec<u8>, value: &Value) -> Result<(), AllocError>
         Value::True => Ok(out.push(TRUE)?),
         Value::Int(n) => {
             out.push(INT)?;
-            out.extend_from_slice(&n.to_be_bytes())
+            write_u64(out, n.cast_unsigned())
         }
         Value::Text(text) => {
             out.push(TEXT)?;
@@ -89,7 +90,7 @@ pub fn write_value(out: &mut Vec<u8>, value: &Value) -> Result<(), AllocError>
         Value::List(scalars) => {
             let scalars = scalars.as_slice();
             out.push(LIST)?;
-            out.extend_from_slice(&(scalars.len() as u16).to_be_bytes())?;
+            write_u16(out, scalars.len() as u16)?;
             write_scalars(out, scalars)
         }
     }
@@ -125,11 +126,11 @@ pub fn write_reply(out: &mut Vec<u8>, reply: &Reply) -> Result<(), AllocError>
         Reply::None => Ok(out.push(NOBODY)?),
         Reply::Task(number) => {
             out.push(TASK)?;
-            out.extend_from_slice(&number.to_be_bytes())
+            write_u32(out, *number)
         }
         Reply::Request(number) => {
             out.push(REQUEST)?;
-            out.extend_from_slice(&number.to_be_bytes())
+            write_u32(out, *number)
         }
     }
 }
@@ -162,6 +163,23 @@ pub fn write_answer(out: &mut Vec<u8>, answer: &Answer) -> Result<(), AllocError
     }
 }
 
+/// What an activity came to.
+pub fn write_outcome(out: &mut Vec<u8>, outcome: &Outcome) -> Result<(), AllocError>
+    requires { CanSpellOutcome outcome.now }
+    ensures { OnOk result (out.new.items ≡ out.old.items ++ spell_outcome outcome.now) }
+{
+    match outcome {
+        Outcome::Done(value) => {
+            out.push(DONE)?;
+            write_value(out, value)
+        }
+        Outcome::Failed(text) => {
+            out.push(FAILED)?;
+            write_text(out, text)
+        }
+    }
+}
+
 fn write_spot(out: &mut Vec<u8>, spot: &Spot) -> Result<(), AllocError>
     ensures { OnOk result (out.new.items ≡ out.old.items ++ spell_spot (spot_of spot.now)) }
 {
@@ -190,7 +208,7 @@ fn write_lock(
 {
     out.push(LOCK)?;
     write_id(out, id)?;
-    out.extend_from_slice(&task.to_be_bytes())?;
+    write_u32(out, task)?;
     out.push(spots.len() as u8)?;
     write_spots(out, spots)?;
     Ok(out.push(index)?)
@@ -211,15 +229,15 @@ pub fn write_body(out: &mut Vec<u8>, body: &Body) -> Result<(), AllocError>
             out.push(RAISE)?;
             write_name(out, event)?;
             write_value(out, value)?;
-            out.extend_from_slice(&number.to_be_bytes())
+            write_u32(out, *number)
         }
         Body::Query(number) => {
             out.push(QUERY)?;
-            out.extend_from_slice(&number.to_be_bytes())
+            write_u32(out, *number)
         }
         Body::Wait(number) => {
             out.push(WAIT)?;
-            out.extend_from_slice(&number.to_be_bytes())
+            write_u32(out, *number)
         }
         Body::Result(reply, answer) => {
             out.push(RESULT)?;
@@ -235,7 +253,7 @@ pub fn write_body(out: &mut Vec<u8>, body: &Body) -> Result<(), AllocError>
         Body::Lock(id, task, set, index) => write_lock(out, id, *task, set.as_slice(), *index),
         Body::Granted(task) => {
             out.push(GRANTED)?;
-            out.extend_from_slice(&task.to_be_bytes())
+            write_u32(out, *task)
         }
         Body::Release => Ok(out.push(RELEASE)?),
     }

@@ -1,24 +1,11 @@
 -- What the bytes of items, entries and frames read as.
 use Rattle.std.specs.Prelude.{ℕ, ◌==◌, ◌&&◌, List, [], ◌∷◌, length, Result, Ok, Err, nat_lt, nat_le, if◌then◌else◌}
 use Rattle.std.specs.Int.{w16, w32}
-use Rattle.dura_value.specs.declared.outcome.Outcome.{Outcome}
-use Rattle.dura_value.specs.declared.outcome.Outcome.TheVariants as outcomes
 use Rattle.dura_value.specs.Items.{Item, took, got, ran, ended, fired, trim, Entry}
 use Rattle.dura_value.specs.Reading.{◌>>=◌}
 use Rattle.dura_codec.specs.Fields.{Read, byte_at, number_at, count_at, several_at, placed}
-use Rattle.dura_codec.specs.Grammar.{id_at, message_at, value_at, text_at}
-use Rattle.dura_codec.specs.Tags as tags
+use Rattle.dura_codec.specs.Grammar.{id_at, message_at, outcome_at}
 use Rattle.part_items.specs.Tags.{took_tag, got_tag, ran_tag, done_tag, fired_tag, trim_tag, most_members}
-
--- an answer that is an end: done or failed
-unfoldable pub outcome_at : List ℕ → Read Outcome
-outcome_at bytes =
-    byte_at bytes >>= λ tag.
-    if tag.0 == tags.done_tag
-    then (value_at tag.1 >>= λ value. Ok (outcomes.Done value.0, value.1))
-    else if tag.0 == tags.failed_tag
-    then (text_at tag.1 >>= λ text. Ok (outcomes.Failed text.0, text.1))
-    else Err (length bytes)
 
 unfoldable pub took_at : List ℕ → Read Item
 took_at bytes = do

@@ -1,4 +1,3 @@
-pub mod Example
 pub mod Grammar
 pub mod Plain
 pub mod Spelling

@@ -2,16 +2,9 @@
 use Rattle.std.specs.Prelude.{◌≤◌, List, [], ◌∷◌, ◌++◌, length, ℕ}
 use Rattle.std.specs.List.{All, flat_map}
 use Rattle.std.specs.Int.{w16, w32, w64, to_be_bytes}
-use Rattle.dura_value.specs.declared.outcome.Outcome.{Outcome}
-use Rattle.dura_value.specs.declared.outcome.Outcome.TheVariants as outcomes
 use Rattle.dura_value.specs.Items.{Item, took, got, ran, ended, fired, trim, Entry}
-use Rattle.dura_codec.specs.Tags as tags
-use Rattle.dura_codec.specs.Spelling.{spell_id, spell_message, spell_value, spell_text, CanSpell, CanSpellBody}
+use Rattle.dura_codec.specs.Spelling.{spell_id, spell_message, spell_outcome, CanSpellOutcome, CanSpellBody}
 use Rattle.part_items.specs.Tags.{took_tag, got_tag, ran_tag, done_tag, fired_tag, trim_tag, most_members}
-
-abbrev pub spell_outcome : Outcome → List ℕ
-spell_outcome (outcomes.Done value) = tags.done_tag ∷ spell_value value
-spell_outcome (outcomes.Failed text) = tags.failed_tag ∷ spell_text text
 
 -- three numbers of 64 bits
 unfoldable pub spell_three : (a b c : ℕ) → List ℕ
@@ -41,7 +34,7 @@ spell_frame entries = to_be_bytes w16 (length entries) ++ flat_map spell_entry e
 abbrev pub CanSpellItem : Item → Type 0
 CanSpellItem (took message) = CanSpellBody message.body
 CanSpellItem (got source number message) = CanSpellBody message.body
-CanSpellItem (ended id task (outcomes.Done value)) = CanSpell value
+CanSpellItem (ended id task outcome) = CanSpellOutcome outcome
 CanSpellItem other = Unit {0}
 
 -- an entry has at most 64 items

@@ -3,7 +3,6 @@
 
 mod frames;
 mod items;
-mod laws;
 mod reading;
 mod tags;
 mod writing;

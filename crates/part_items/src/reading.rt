@@ -4,38 +4,16 @@ ghost use Rattle.std.specs.Prelude.{◌≡◌};
 ghost use Rattle.dura_value.specs.Reading.{Gives};
 ghost use Rattle.dura_codec.specs.Fields.{Takes, several_at};
 ghost use Rattle.part_items.specs.Plain.{item_of, items_of, entry_of, entries_of};
-ghost use Rattle.part_items.specs.Grammar.{outcome_at, took_at, got_at, ran_at, done_at, fired_at, trim_at, item_at, members_at, entry_at, frame_at, frame_in};
+ghost use Rattle.part_items.specs.Grammar.{took_at, got_at, ran_at, done_at, fired_at, trim_at, item_at, members_at, entry_at, frame_at, frame_in};
 
 use crate::frames::{Entry, Frame, Items};
 use crate::items::Item;
-use crate::tags::{DONE, FIRED, GOT, HAS_FAILED, IS_DONE, RAN, TOOK, TRIM};
+use crate::tags::{DONE, FIRED, GOT, MOST_MEMBERS, RAN, TOOK, TRIM};
 use dura_codec::{
-    FieldError, take_count, take_id, take_message, take_text, take_u8, take_u16, take_u32,
-    take_value,
+    FieldError, take_count, take_id, take_message, take_outcome, take_u8, take_u16, take_u32,
 };
-use dura_value::{Outcome, ReadError};
+use dura_value::ReadError;
 use std::alloc::Global;
-
-/// The most items of an entry and entries of a frame.
-const MOST_MEMBERS: u16 = 64;
-
-#[tactic(auto, unfolding(crate::specs::Grammar::outcome_at))]
-fn take_outcome(alloc: Global, bytes: &[u8]) -> Result<(Outcome, &[u8]), FieldError>
-    ensures { Takes (λ x. x) result (outcome_at bytes.now) }
-{
-    let (tag, rest) = take_u8(bytes)?;
-    match tag {
-        IS_DONE => {
-            let (value, rest) = take_value(alloc, rest)?;
-            Ok((Outcome::Done(value), rest))
-        }
-        HAS_FAILED => {
-            let (text, rest) = take_text(alloc, rest)?;
-            Ok((Outcome::Failed(text), rest))
-        }
-        _ => Err(FieldError::Bad { left: bytes.len() }),
-    }
-}
 
 #[tactic(auto, unfolding(crate::specs::Grammar::took_at))]
 fn take_took(alloc: Global, bytes: &[u8]) -> Result<(Item, &[u8]), FieldError>

@@ -1,4 +1,4 @@
-//! The byte that each kind of item begins with.
+//! The byte that each kind of item begins with, and how many items and entries there are.
 
 pub(crate) const TOOK: u8 = 0x20;
 
@@ -12,7 +12,5 @@ pub(crate) const FIRED: u8 = 0x24;
 
 pub(crate) const TRIM: u8 = 0x25;
 
-/// The tags of answers that are ends.
-pub(crate) const IS_DONE: u8 = 0;
-
-pub(crate) const HAS_FAILED: u8 = 1;
+/// The most items of an entry and entries of a frame.
+pub(crate) const MOST_MEMBERS: u16 = 64;

@@ -2,34 +2,14 @@
 
 ghost use Rattle.std.specs.Prelude.{◌≡◌, ◌++◌, OnOk};
 ghost use Rattle.std.specs.List.{All, flat_map};
-ghost use Rattle.std.specs.Int.{w16, w32, w64, to_be_bytes};
 ghost use Rattle.part_items.specs.Plain.{item_of, items_of, entry_of, entries_of};
 ghost use Rattle.part_items.specs.Spelling.{spell_item, spell_three, spell_heading, spell_entry, spell_frame, CanSpellItem, CanSpellEntry, CanSpellFrame};
 
 use crate::frames::{Entry, Frame};
 use crate::items::Item;
-use crate::tags::{DONE, FIRED, GOT, HAS_FAILED, IS_DONE, RAN, TOOK, TRIM};
-use dura_codec::{write_id, write_message, write_text, write_value};
-use dura_value::Outcome;
+use crate::tags::{DONE, FIRED, GOT, RAN, TOOK, TRIM};
+use dura_codec::{write_id, write_message, write_outcome, write_u16, write_u32, write_u64};
 use std::alloc::AllocError;
-
-fn write_u64(out: &mut Vec<u8>, number: u64) -> Result<(), AllocError>
-    ensures { OnOk result (out.new.items ≡ out.old.items ++ to_be_bytes w64 number) }
-{
-    out.extend_from_slice(&number.to_be_bytes())
-}
-
-fn write_u32(out: &mut Vec<u8>, number: u32) -> Result<(), AllocError>
-    ensures { OnOk result (out.new.items ≡ out.old.items ++ to_be_bytes w32 number) }
-{
-    out.extend_from_slice(&number.to_be_bytes())
-}
-
-fn write_count(out: &mut Vec<u8>, count: u16) -> Result<(), AllocError>
-    ensures { OnOk result (out.new.items ≡ out.old.items ++ to_be_bytes w16 count) }
-{
-    out.extend_from_slice(&count.to_be_bytes())
-}
 
 #[tactic(auto, unfolding(crate::specs::Spelling::spell_three))]
 fn write_three(out: &mut Vec<u8>, a: u64, b: u64, c: u64) -> Result<(), AllocError>
@@ -51,7 +31,7 @@ fn write_heading(
 {
     write_u64(out, position)?;
     write_u64(out, incarnation)?;
-    write_count(out, count)
+    write_u16(out, count)
 }
 
 fn write_item(out: &mut Vec<u8>, item: &Item) -> Result<(), AllocError>
@@ -79,16 +59,7 @@ fn write_item(out: &mut Vec<u8>, item: &Item) -> Result<(), AllocError>
             out.push(DONE)?;
             write_id(out, id)?;
             write_u32(out, *task)?;
-            match outcome {
-                Outcome::Done(value) => {
-                    out.push(IS_DONE)?;
-                    write_value(out, value)
-                }
-                Outcome::Failed(text) => {
-                    out.push(HAS_FAILED)?;
-                    write_text(out, text)
-                }
-            }
+            write_outcome(out, outcome)
         }
         Item::Fired(id, task, stamp) => {
             out.push(FIRED)?;
@@ -140,6 +111,6 @@ pub fn write_frame(out: &mut Vec<u8>, frame: &Frame) -> Result<(), AllocError>
     ensures { OnOk result (out.new.items ≡ out.old.items ++ spell_frame (entries_of frame.now)) }
 {
     let entries = frame.entries();
-    write_count(out, entries.len() as u16)?;
+    write_u16(out, entries.len() as u16)?;
     write_entries(out, entries)
 }

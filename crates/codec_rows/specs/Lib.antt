@@ -1,0 +1,6 @@
+pub mod Frames
+pub mod Ids
+pub mod Items
+pub mod Messages
+pub mod Rows
+pub mod Values

@@ -1,0 +1,24 @@
+//! Numbers to the end of bytes, the high byte first.
+
+ghost use Rattle.std.specs.Prelude.{◌≡◌, ◌++◌, OnOk};
+ghost use Rattle.std.specs.Int.{w16, w32, w64, to_be_bytes};
+
+use std::alloc::AllocError;
+
+pub fn write_u16(out: &mut Vec<u8>, number: u16) -> Result<(), AllocError>
+    ensures { OnOk result (out.new.items ≡ out.old.items ++ to_be_bytes w16 number) }
+{
+    out.extend_from_slice(&number.to_be_bytes())
+}
+
+pub fn write_u32(out: &mut Vec<u8>, number: u32) -> Result<(), AllocError>
+    ensures { OnOk result (out.new.items ≡ out.old.items ++ to_be_bytes w32 number) }
+{
+    out.extend_from_slice(&number.to_be_bytes())
+}
+
+pub fn write_u64(out: &mut Vec<u8>, number: u64) -> Result<(), AllocError>
+    ensures { OnOk result (out.new.items ≡ out.old.items ++ to_be_bytes w64 number) }
+{
+    out.extend_from_slice(&number.to_be_bytes())
+}
