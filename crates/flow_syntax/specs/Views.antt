@@ -91,8 +91,11 @@ abbrev pub named_by : {X Y : Type 0} → (X → Y) → List (List ℕ × X) → 
 named_by view [] = []
 named_by view (entry ∷ entries) = record { name = entry.0; it = view entry.1 } ∷ named_by view entries
 
+abbrev pub body_in : Vec Stmt Global → plain.Block
+body_in body = block_of body.items
+
 abbrev pub bodies_of : Bodies → List (plain.Named plain.Block)
-bodies_of bodies = named_by (λ (body : Vec Stmt Global). block_of body.items) bodies.entries
+bodies_of bodies = named_by body_in bodies.entries
 
 abbrev pub class_of : Class → plain.Class
 class_of class = record { init = class.init; operations = bodies_of class.operations }
