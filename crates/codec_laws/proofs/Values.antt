@@ -10,7 +10,8 @@ use Rattle.dura_value.specs.declared.data.Value.{Value}
 use Rattle.dura_value.specs.declared.data.Value.TheVariants as values
 use Rattle.dura_value.specs.Reading.{◌>>=◌}
 use Rattle.dura_codec.specs.Fields.{Read, byte_at, number_at, several_at}
-use Rattle.dura_codec.specs.Grammar.{scalar_at, scalars_at, value_front, of_front, value_at, value_of}
+use Rattle.dura_value.specs.Values.{value_of}
+use Rattle.dura_codec.specs.Grammar.{scalar_at, scalars_at, value_front, of_front, value_at}
 use Rattle.dura_codec.specs.Spelling.{spell_scalar, spell_value}
 use Rattle.codec_laws.specs.Fits.{FitsScalar, FitsList, FitsValue}
 use Rattle.codec_laws.proofs.Numbers.{is_within, behind, number_again_2, number_again_8}

@@ -13,6 +13,7 @@ use Rattle.dura_value.specs.Limits.{most_word_bytes, most_text_bytes, most_scala
 use Rattle.dura_value.specs.Messages.{Reply, to_nobody, to_task, to_request, Answer, is_done, has_failed, was_started, was_there, is_unknown, was_raised, has_ended, is_missing, is_running, is_value, Spot, Body, start, raise, query, wait, result, operate, lock, granted, release, Message}
 use Rattle.dura_value.specs.Names.{is_name, is_key}
 use Rattle.dura_value.specs.Reading.{◌>>=◌}
+use Rattle.dura_value.specs.Values.{value_of}
 use Rattle.dura_codec.specs.Fields.{Read, byte_at, number_at, request_number_at, run_at, several_at}
 use Rattle.dura_codec.specs.Tags.{null_tag, false_tag, true_tag, int_tag, text_tag, list_tag, flow_tag, entity_tag, client_tag, nobody_tag, task_tag, request_tag, done_tag, failed_tag, started_tag, exists_tag, unknown_tag, raised_tag, ended_tag, missing_tag, running_tag, value_tag, start_tag, raise_tag, query_tag, wait_tag, result_tag, operate_tag, lock_tag, granted_tag, release_tag}
 
@@ -51,14 +52,6 @@ scalar_at bytes =
     else if tag.0 == text_tag
     then (text_at tag.1 >>= λ text. Ok (scalars.Text text.0, text.1))
     else Err (length bytes)
-
--- a scalar is a value
-abbrev pub value_of : Scalar → Value
-value_of scalars.Null = values.Null
-value_of scalars.False = values.False
-value_of scalars.True = values.True
-value_of (scalars.Int n) = values.Int n
-value_of (scalars.Text text) = values.Text text
 
 -- the bytes that the scalars of a list may take: a value has at most 65,536
 unfoldable pub value_front : List ℕ → List ℕ

@@ -2,7 +2,8 @@
 
 ghost use Rattle.std.specs.Prelude.{◌≡◌, ◌≤◌, length};
 ghost use Rattle.dura_codec.specs.Fields.{Takes, StaysWithin, several_at};
-ghost use Rattle.dura_codec.specs.Grammar.{scalar_at, scalars_at, value_at, value_of, value_front};
+ghost use Rattle.dura_value.specs.Values.{value_of};
+ghost use Rattle.dura_codec.specs.Grammar.{scalar_at, scalars_at, value_at, value_front};
 
 use crate::fields::{FieldError, take_u8, take_u16, take_u64};
 use crate::tags::{FALSE, INT, LIST, NULL, TEXT, TRUE};

@@ -1,5 +1,5 @@
 -- What an expression gives, or the text of its fault.
-use Rattle.std.specs.Prelude.{ℕ, zero, suc, ◌+◌, ◌^◌, ◌&&◌, ◌==◌, List, [], ◌∷◌, ◌++◌, length, codes, Bool, true, false, not, nat_eq, nat_lt, nat_le, if◌then◌else◌, Option, Some, None, Result, Ok, Err, ℤ, pos, negsuc, ◌+ℤ◌, ◌-ℤ◌, ◌*ℤ◌, int_lt, int_div, int_rem}
+use Rattle.std.specs.Prelude.{ℕ, zero, suc, ◌+◌, ◌&&◌, ◌==◌, List, [], ◌∷◌, ◌++◌, length, codes, Bool, true, false, not, nat_lt, nat_le, if◌then◌else◌, Result, Ok, Err, ℤ, pos, negsuc, ◌+ℤ◌, ◌-ℤ◌, ◌*ℤ◌, int_lt, int_div, int_rem}
 use Rattle.std.specs.Str.{bytes_eq}
 use Rattle.std.specs.Fmt.{decimal}
 use Rattle.dura_value.specs.Bytes.{bytes_before}
@@ -9,7 +9,7 @@ use Rattle.dura_value.specs.declared.data.Scalar.{Scalar}
 use Rattle.dura_value.specs.declared.data.Scalar.TheVariants as scalars
 use Rattle.dura_value.specs.declared.data.Value.{Value}
 use Rattle.dura_value.specs.declared.data.Value.TheVariants as values
-use Rattle.dura_value.specs.Values.{value_eq}
+use Rattle.dura_value.specs.Values.{value_eq, value_of, scalars_size}
 use Rattle.flow_syntax.specs.Syntax.{Expression, scalar, variable, list, unary, binary, Expressions, no_parts, part, Unary, not_of, length_of, text_of, Binary, add, sub, mul, div, rem, equal, less, both, either, join, at, push}
 
 -- something, or the text of a fault
@@ -42,16 +42,6 @@ set_in (set ∷ variables) name value = if bytes_eq set.0 name then (name, value
 
 -- ---- limits
 
--- how many bytes a scalar takes in the log
-abbrev pub scalar_size : Scalar → ℕ
-scalar_size (scalars.Int n) = 9
-scalar_size (scalars.Text text) = 3 + length text
-scalar_size other = 1
-
-abbrev pub scalars_size : List Scalar → ℕ
-scalars_size [] = 0
-scalars_size (s ∷ scalars) = scalar_size s + scalars_size scalars
-
 -- 64 bits with a sign
 abbrev pub fits : ℤ → Bool
 fits (pos n) = nat_lt n number_limit
@@ -68,13 +58,6 @@ abbrev pub list_of : List Scalar → Result Value (List ℕ)
 list_of parts = if nat_le (length parts) most_scalars && nat_le (3 + scalars_size parts) most_value_bytes then Ok (values.List parts) else Err (codes "size")
 
 -- ---- kinds
-
-abbrev pub value_of : Scalar → Value
-value_of scalars.Null = values.Null
-value_of scalars.False = values.False
-value_of scalars.True = values.True
-value_of (scalars.Int n) = values.Int n
-value_of (scalars.Text bytes) = values.Text bytes
 
 abbrev pub truth : Bool → Value
 truth true = values.True

@@ -1,5 +1,5 @@
 -- What flows and classes are written in.
-use Rattle.std.specs.Prelude.{ℕ, List, [], ◌∷◌, ◌++◌, if◌then◌else◌, Option, Some, None}
+use Rattle.std.specs.Prelude.{ℕ, List, [], ◌∷◌, if◌then◌else◌, Option, Some, None}
 use Rattle.std.specs.Str.{bytes_eq}
 use Rattle.dura_value.specs.Bytes.{bytes_before}
 use Rattle.dura_value.specs.declared.data.Scalar.{Scalar}
