@@ -21,10 +21,12 @@ after_heading : (entry : Entry) (rest : List ℕ) → FitsEntry entry
     → entry_at (to_be_bytes w64 entry.position ++ (to_be_bytes w64 entry.incarnation ++ (to_be_bytes w16 (length entry.items) ++ (flat_map spell_item entry.items ++ rest)))) ≡ Ok (entry, rest)
 unfolding entry_at
 after_heading entry rest fits =
-    rw (count_again entry.position (to_be_bytes w64 entry.incarnation ++ (to_be_bytes w16 (length entry.items) ++ (flat_map spell_item entry.items ++ rest))) fits.position_fits,
+    rw (
+      count_again entry.position (to_be_bytes w64 entry.incarnation ++ (to_be_bytes w16 (length entry.items) ++ (flat_map spell_item entry.items ++ rest))) fits.position_fits,
       count_again entry.incarnation (to_be_bytes w16 (length entry.items) ++ (flat_map spell_item entry.items ++ rest)) fits.incarnation_fits,
       members_again (length entry.items) (flat_map spell_item entry.items ++ rest) fits.some fits.few,
-      several_again item_at spell_item FitsItem item_again entry.items rest fits.each) refl
+      several_again item_at spell_item FitsItem item_again entry.items rest fits.each,
+    ) refl
 
 pub entry_again : (entry : Entry) (rest : List ℕ) → FitsEntry entry → entry_at (spell_entry entry ++ rest) ≡ Ok (entry, rest)
 unfolding spell_entry spell_heading

@@ -23,11 +23,13 @@ got_again : (source : Identity) (number : ℕ) (message : Message) (rest : List 
     → got_at (to_be_bytes w32 source.partition ++ (to_be_bytes w64 source.incarnation ++ (to_be_bytes w64 source.position ++ (to_be_bytes w64 number ++ (spell_message message ++ rest))))) ≡ Ok (got source number message, rest)
 unfolding got_at
 got_again source number message rest fits =
-    rw (number_again_4 source.partition (to_be_bytes w64 source.incarnation ++ (to_be_bytes w64 source.position ++ (to_be_bytes w64 number ++ (spell_message message ++ rest)))) fits.0.partition_fits,
+    rw (
+      number_again_4 source.partition (to_be_bytes w64 source.incarnation ++ (to_be_bytes w64 source.position ++ (to_be_bytes w64 number ++ (spell_message message ++ rest)))) fits.0.partition_fits,
       count_again source.incarnation (to_be_bytes w64 source.position ++ (to_be_bytes w64 number ++ (spell_message message ++ rest))) fits.0.incarnation_fits,
       count_again source.position (to_be_bytes w64 number ++ (spell_message message ++ rest)) fits.0.position_fits,
       count_again number (spell_message message ++ rest) fits.1,
-      message_again message rest fits.2) refl
+      message_again message rest fits.2,
+    ) refl
 
 ran_again : (from to : Id) (stamp : ℕ) (rest : List ℕ) → FitsItem (ran from to stamp) → ran_at (spell_id from ++ (spell_id to ++ (to_be_bytes w64 stamp ++ rest))) ≡ Ok (ran from to stamp, rest)
 unfolding ran_at
@@ -48,10 +50,12 @@ trim_again : (reader : Identity) (number : ℕ) (rest : List ℕ) → FitsItem (
     → trim_at (to_be_bytes w32 reader.partition ++ (to_be_bytes w64 number ++ (to_be_bytes w64 reader.incarnation ++ (to_be_bytes w64 reader.position ++ rest)))) ≡ Ok (trim reader number, rest)
 unfolding trim_at
 trim_again reader number rest fits =
-    rw (number_again_4 reader.partition (to_be_bytes w64 number ++ (to_be_bytes w64 reader.incarnation ++ (to_be_bytes w64 reader.position ++ rest))) fits.0.partition_fits,
+    rw (
+      number_again_4 reader.partition (to_be_bytes w64 number ++ (to_be_bytes w64 reader.incarnation ++ (to_be_bytes w64 reader.position ++ rest))) fits.0.partition_fits,
       count_again number (to_be_bytes w64 reader.incarnation ++ (to_be_bytes w64 reader.position ++ rest)) fits.1,
       count_again reader.incarnation (to_be_bytes w64 reader.position ++ rest) fits.0.incarnation_fits,
-      count_again reader.position rest fits.0.position_fits) refl
+      count_again reader.position rest fits.0.position_fits,
+    ) refl
 
 -- three numbers, and what follows
 then_three : (a b c : ℕ) (rest : List ℕ) → spell_three a b c ++ rest ≡ to_be_bytes w64 a ++ (to_be_bytes w64 b ++ (to_be_bytes w64 c ++ rest))

@@ -48,10 +48,12 @@ lock_again : (id : Id) (task : ℕ) (set : List Spot) (index : ℕ) (rest : List
     → lock_at (spell_id id ++ (to_be_bytes w32 task ++ (length set ∷ (flat_map spell_spot set ++ (index ∷ rest))))) ≡ Ok (lock id task set index, rest)
 unfolding lock_at
 lock_again id task set index rest fits =
-    rw (id_again id (to_be_bytes w32 task ++ (length set ∷ (flat_map spell_spot set ++ (index ∷ rest)))) fits.id_fits,
+    rw (
+      id_again id (to_be_bytes w32 task ++ (length set ∷ (flat_map spell_spot set ++ (index ∷ rest)))) fits.id_fits,
       number_again_4 task (length set ∷ (flat_map spell_spot set ++ (index ∷ rest))) fits.task_fits,
       count_again (length set) (flat_map spell_spot set ++ (index ∷ rest)) fits.few,
-      several_again spot_at spell_spot FitsSpot spot_again set (index ∷ rest) fits.each) refl
+      several_again spot_at spell_spot FitsSpot spot_again set (index ∷ rest) fits.each,
+    ) refl
 
 start_again : (argument : Value) (reply : Reply) (rest : List ℕ) → FitsBody (start argument reply) → start_at (spell_value argument ++ (spell_reply reply ++ rest)) ≡ Ok (start argument reply, rest)
 unfolding start_at
@@ -61,9 +63,11 @@ raise_again : (event : List ℕ) (value : Value) (number : ℕ) (rest : List ℕ
     → raise_at (spell_word event ++ (spell_value value ++ (to_be_bytes w32 number ++ rest))) ≡ Ok (raise event value number, rest)
 unfolding raise_at
 raise_again event value number rest fits =
-    rw (name_again event (spell_value value ++ (to_be_bytes w32 number ++ rest)) fits.0,
+    rw (
+      name_again event (spell_value value ++ (to_be_bytes w32 number ++ rest)) fits.0,
       value_again value (to_be_bytes w32 number ++ rest) fits.1,
-      request_again number rest fits.2.some fits.2.fits) refl
+      request_again number rest fits.2.some fits.2.fits,
+    ) refl
 
 result_again : (reply : Reply) (answer : Answer) (rest : List ℕ) → FitsBody (result reply answer) → result_at (spell_reply reply ++ (spell_answer answer ++ rest)) ≡ Ok (result reply answer, rest)
 unfolding result_at
@@ -73,9 +77,11 @@ operate_again : (operation : List ℕ) (argument : Value) (reply : Reply) (rest 
     → operate_at (spell_word operation ++ (spell_value argument ++ (spell_reply reply ++ rest))) ≡ Ok (operate operation argument reply, rest)
 unfolding operate_at
 operate_again operation argument reply rest fits =
-    rw (name_again operation (spell_value argument ++ (spell_reply reply ++ rest)) fits.0,
+    rw (
+      name_again operation (spell_value argument ++ (spell_reply reply ++ rest)) fits.0,
       value_again argument (spell_reply reply ++ rest) fits.1,
-      reply_again reply rest fits.2) refl
+      reply_again reply rest fits.2,
+    ) refl
 
 query_again : (number : ℕ) (rest : List ℕ) → FitsBody (query number) → query_at (to_be_bytes w32 number ++ rest) ≡ Ok (query number, rest)
 unfolding query_at
@@ -156,6 +162,8 @@ body_again release rest fits = release_tagged rest
 pub message_again : (message : Message) (rest : List ℕ) → FitsMessage message → message_at (spell_message message ++ rest) ≡ Ok (message, rest)
 unfolding message_at
 message_again message rest fits =
-    simp append_assoc (rw (id_again message.from (spell_id message.to ++ (spell_body message.body ++ rest)) fits.from_fits,
+    simp append_assoc (rw (
+      id_again message.from (spell_id message.to ++ (spell_body message.body ++ rest)) fits.from_fits,
       id_again message.to (spell_body message.body ++ rest) fits.to_fits,
-      body_again message.body rest fits.body_fits) refl)
+      body_again message.body rest fits.body_fits,
+    ) refl)

@@ -55,7 +55,7 @@ front_again : (most : ℕ) (parts : List Scalar) (rest : List ℕ) → length (f
 front_again most parts rest short each =
     let is : most ≡ length (flat_map spell_scalar parts) + (most - length (flat_map spell_scalar parts)) = omega arith in
     let front : take most (flat_map spell_scalar parts ++ rest) ≡ flat_map spell_scalar parts ++ take (most - length (flat_map spell_scalar parts)) rest =
-        ap (λ (n : ℕ). take n (flat_map spell_scalar parts ++ rest)) is ∙ take-append-add (flat_map spell_scalar parts) rest (most - length (flat_map spell_scalar parts)) in
+    ap (λ (n : ℕ). take n (flat_map spell_scalar parts ++ rest)) is ∙ take-append-add (flat_map spell_scalar parts) rest (most - length (flat_map spell_scalar parts)) in
     rw front (front_read (flat_map spell_scalar parts) (take (most - length (flat_map spell_scalar parts)) rest) rest parts _ (several_again scalar_at spell_scalar FitsScalar scalar_again parts (take (most - length (flat_map spell_scalar parts)) rest) each))
 
 pub scalars_again : (parts : List Scalar) (rest : List ℕ) → FitsList parts → scalars_at (to_be_bytes w16 (length parts) ++ (flat_map spell_scalar parts ++ rest)) ≡ Ok (parts, rest)

@@ -66,7 +66,7 @@ pub number_changes : {X : Type 0} (m n : BTreeMap Id (BTreeMap ℕ X)) (k : Id) 
     → held n ≡ at_number (held m) (id_of k) number w
 number_changes m n k inner number w updates changed = λ i id q. (ap (λ f. numbered f q) (updates.0 (key_of id))
     ∙ numbered_at (get id_cmp m (key_of id)) (get id_cmp m k) inner number q w (is_at (id_cmp k) (key_of id)) (plain.id_eq (id_of k) id) (is_key k id) (key_found m k id)
-        (changed q ∙ ap (λ (b : Bool). cond b w (numbered (get id_cmp m k) q)) (number_same number q))) i
+    (changed q ∙ ap (λ (b : Bool). cond b w (numbered (get id_cmp m k) q)) (number_same number q))) i
 
 -- what was lent for a key and changed at one number
 pub number_written : {X : Type 0} (m n : BTreeMap Id (BTreeMap ℕ X)) (k : Id) (was now : BTreeMap ℕ X) (number : ℕ) (w : Option X)

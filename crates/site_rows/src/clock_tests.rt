@@ -1,9 +1,9 @@
 // What no clause says: that the clock gives moments at all, in milliseconds, and that a wait gives up.
-use wall_clock::WallClock;
 use site_model::{Clock, LAST_MOMENT};
 use std::process::Abort;
 use std::time::Duration;
 use std::{io, rt};
+use wall_clock::WallClock;
 
 // A clock that stands still.
 #[derive(Drop)]
