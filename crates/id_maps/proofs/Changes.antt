@@ -19,12 +19,12 @@ use Rattle.id_maps.specs.Maps.{at_id, at_number, cleared, numbered}
 pair_same : (a b c d : List ℕ) → is_eq (ordering_then (slice_cmp nat_cmp a b) (slice_cmp nat_cmp c d)) ≡ bytes_eq a b && bytes_eq c d
 pair_same a b c d = sym (both_tied (bytes_eq a b) (bytes_eq c d) (slice_cmp nat_cmp a b) (slice_cmp nat_cmp c d) (sym (is_eq-slice_cmp a b)) (sym (is_eq-slice_cmp c d)))
 
-key_again : (k : Id) → key_of (id_of k) ≡ k
+pub key_again : (k : Id) → key_of (id_of k) ≡ k
 key_again (Client name) = refl
 key_again (Entity class key) = refl
 key_again (Flow flow key) = refl
 
-number_same : (a b : ℕ) → is_at (nat_cmp a) b ≡ (a == b)
+pub number_same : (a b : ℕ) → is_at (nat_cmp a) b ≡ (a == b)
 number_same a b = sym (unsigned_ties a b)
 
 pub is_key : (k : Id) (id : plain.Id) → is_at (id_cmp k) (key_of id) ≡ plain.id_eq (id_of k) id

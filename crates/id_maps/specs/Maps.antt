@@ -1,6 +1,6 @@
 -- What maps by ids hold, as functions.
 use Rattle.std.specs.Prelude.{ℕ, ◌==◌, ◌&&◌, Option, Some, None, if◌then◌else◌}
-use Rattle.std.specs.BTreeMap.{BTreeMap, get}
+use Rattle.std.specs.BTreeMap.{BTreeMap, get, btree_map_len}
 use Rattle.std.specs.Ordering.{nat_cmp}
 use Rattle.dura_value.specs.Ids.{Id, id_eq}
 use Rattle.id_maps.specs.declared.id_map.IdMap.{IdMap}
@@ -27,6 +27,15 @@ numbered (Some numbers) number = get nat_cmp numbers number
 -- what is kept for an id and a number
 abbrev pub by_number : {X : Type 0} → NumberMap X → Id → ℕ → Option X
 by_number map id number = numbered (get id_cmp map.entries (key_of id)) number
+
+-- how many numbers something is kept for
+abbrev pub counted : {X : Type 0} → Option (BTreeMap ℕ X) → ℕ
+counted None = 0
+counted (Some numbers) = btree_map_len numbers
+
+-- how many numbers of an id something is kept for
+abbrev pub count_of : {X : Type 0} → NumberMap X → Id → ℕ
+count_of map id = counted (get id_cmp map.entries (key_of id))
 
 -- no number has anything
 abbrev pub no_number : {X : Type 0} → Id → ℕ → Option X

@@ -1,8 +1,8 @@
 //! What is kept for each id and number.
 
-ghost use Rattle.std.specs.Prelude.{◌≡◌, Some, None, OnOk, OnErr, option_map};
+ghost use Rattle.std.specs.Prelude.{◌≡◌, ◌+◌, ℕ, Some, None, is_some, IsSome, IfSome, IfNone, OnOk, option_map, if◌then◌else◌};
 ghost use Rattle.dura_value.specs.Views.{id_of};
-ghost use Rattle.id_maps.specs.Maps.{by_number, no_number, at_number, cleared};
+ghost use Rattle.id_maps.specs.Maps.{by_number, count_of, no_number, at_number, cleared};
 
 use dura_value::Id;
 use std::alloc::{AllocError, Global};
@@ -31,6 +31,15 @@ impl<V> NumberMap<V> {
         self.entries.get(id)?.get(&number)
     }
 
+    /// The least number of this id that something is kept for.
+    pub fn first_of(&self, id: &Id) -> Option<u32>
+        ensures there { IfSome result (λ number. IsSome (by_number self.now (id_of id.now) number)) }
+        ensures none { IfNone result ((number : ℕ) → by_number self.now (id_of id.now) number ≡ None) }
+    {
+        let (number, _) = self.entries.get(id)?.first_key_value()?;
+        Some(*number)
+    }
+
     /// Keeps this for the id and the number, in place of what was kept for both. After an Err the map is only dropped.
     pub fn put(&mut self, alloc: Global, id: Id, number: u32, value: V) -> Result<(), AllocError>
     where
@@ -54,6 +63,7 @@ impl<V> NumberMap<V> {
     pub fn take(&mut self, id: &Id, number: u32) -> Option<V>
         ensures value { result ≡ by_number self.old (id_of id.now) number }
         ensures taken { by_number self.new ≡ at_number (by_number self.old) (id_of id.now) number None }
+        ensures count { count_of self.new (id_of id.now) + (if is_some result then 1 else 0) ≡ count_of self.old (id_of id.now) }
     {
         self.entries.get_mut(id)?.remove(&number)
     }
