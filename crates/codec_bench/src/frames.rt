@@ -74,11 +74,7 @@ fn make_item(alloc: Global, number: u32, size: usize) -> Result<Item, ReadError>
         3 => Ok(Item::Ran(make_flow(alloc)?, make_entity(alloc)?, stamp)),
         4 => {
             let text = make_text(alloc, size)?;
-            Ok(Item::Done(
-                make_flow(alloc)?,
-                number,
-                Outcome::Done(Value::Text(text)),
-            ))
+            Ok(Item::Done(make_flow(alloc)?, number, Outcome::Done(Value::Text(text))))
         }
         _ => Ok(Item::Fired(make_flow(alloc)?, number, stamp)),
     }

@@ -29,7 +29,6 @@ enum Kind {
     Make,
     Write,
     Read,
-    JsonMake,
     JsonWrite,
     JsonRead,
 }
@@ -39,7 +38,6 @@ fn kind_of(word: &str) -> Result<Kind> {
         "make" => Ok(Kind::Make),
         "write" => Ok(Kind::Write),
         "read" => Ok(Kind::Read),
-        "json-make" => Ok(Kind::JsonMake),
         "json-write" => Ok(Kind::JsonWrite),
         "json-read" => Ok(Kind::JsonRead),
         _ => bail!("no such kind"),
@@ -91,7 +89,7 @@ fn read_often(alloc: Global, call: &Call) -> Result<()> {
 }
 
 fn json_write_often(alloc: Global, call: &Call) -> Result<()> {
-    let value = make_json(alloc, call.size)?;
+    let value = Value::from_str(alloc, make_json(alloc, call.size)?.as_str())?;
     for _ in 0..call.times {
         let text = value.to_string(alloc)?;
         if text.is_empty() {
@@ -102,8 +100,7 @@ fn json_write_often(alloc: Global, call: &Call) -> Result<()> {
 }
 
 fn json_read_often(alloc: Global, call: &Call) -> Result<()> {
-    let value = make_json(alloc, call.size)?;
-    let text = value.to_string(alloc)?;
+    let text = make_json(alloc, call.size)?;
     for _ in 0..call.times {
         let read = Value::from_str(alloc, text.as_str())?;
         if read.is_null() {
@@ -128,9 +125,6 @@ fn main(rt: HostRuntime) -> Result<()> {
         }
         Kind::Write => write_often(alloc, &call)?,
         Kind::Read => read_often(alloc, &call)?,
-        Kind::JsonMake => {
-            let _value = make_json(alloc, call.size)?;
-        }
         Kind::JsonWrite => json_write_often(alloc, &call)?,
         Kind::JsonRead => json_read_often(alloc, &call)?,
     }

@@ -1,42 +1,65 @@
-//! The same frame as JSON.
+//! The same frame as JSON, but for its numbers, which are all alike.
 
-use serde_json::{Value, json};
+ghost use Rattle.std.specs.Prelude.{◌≤◌};
+
 use std::alloc::{AllocError, Global};
 
-fn make_text(alloc: Global, size: usize) -> Result<String, AllocError> {
-    let mut text = String::new(alloc);
-    for _ in 0..size {
-        text.push('a')?;
+/// The six kinds of item, each in two parts: its text, if it has one, stands between them.
+const ITEMS: [(&str, &str); 6] = [
+    (
+        r#"{"took":{"from":"c0","to":["Work","w1"],"start":[2048,-2],"reply":2048}}"#,
+        "",
+    ),
+    (
+        r#"{"took":{"from":"c0","to":["Work","w1"],"raise":"go","value":""#,
+        r#"","n":2048}}"#,
+    ),
+    (
+        r#"{"got":[1,2,3,2048,{"from":["Work","w1"],"to":["Pot","p0"],"op":"put","arg":""#,
+        r#"","reply":2048}]}"#,
+    ),
+    (r#"{"ran":[["Work","w1"],["Pot","p0"],2048]}"#, ""),
+    (r#"{"done":[["Work","w1"],2048,{"done":""#, r#""}]}"#),
+    (r#"{"fired":[["Work","w1"],2048,2048]}"#, ""),
+];
+
+fn push_item(text: &mut String, number: usize, long: &str) -> Result<(), AllocError> {
+    let (front, back) = ITEMS[number % 6];
+    text.push_str(front)?;
+    if !back.is_empty() {
+        text.push_str(long)?;
+        text.push_str(back)?;
     }
-    Ok(text)
+    Ok(())
 }
 
-fn make_item(alloc: Global, number: u32, size: usize) -> Result<Value, AllocError> {
-    let text = make_text(alloc, size)?;
-    let text = text.as_str();
-    match number % 6 {
-        0 => json!(in alloc; {"took": {"from": "#c0", "to": "Work/w1", "start": [number, -2], "request": number}}),
-        1 => json!(in alloc; {"took": {"from": "#c0", "to": "Work/w1", "raise": "go", "value": text, "n": number}}),
-        2 => json!(in alloc; {"got": {"src": 1, "inc": 2, "pos": 3, "seq": number, "from": "Work/w1", "to": "@Pot/p0", "op": "put", "arg": text, "task": number}}),
-        3 => json!(in alloc; {"ran": {"from": "Work/w1", "to": "@Pot/p0", "stamp": number}}),
-        4 => json!(in alloc; {"done": {"id": "Work/w1", "task": number, "done": text}}),
-        _ => json!(in alloc; {"fired": {"id": "Work/w1", "task": number, "stamp": number}}),
+fn push_entry(text: &mut String, position: usize, long: &str) -> Result<(), AllocError>
+    requires { position ≤ 63 }
+{
+    text.push_str(r#"{"position":32,"incarnation":1,"items":["#)?;
+    for index in 0..64usize {
+        if index > 0 {
+            text.push(',')?;
+        }
+        push_item(text, 64 * position + index + 1, long)?;
     }
-}
-
-fn make_entry(alloc: Global, position: u32, size: usize) -> Result<Value, AllocError> {
-    let mut items = Vec::new(alloc);
-    for index in 0..64u32 {
-        items.push(make_item(alloc, index, size)?)?;
-    }
-    json!(in alloc; {"position": position, "incarnation": 1, "items": (Value::Array(items))})
+    text.push_str("]}")
 }
 
 /// The frame, with texts of so many bytes.
-pub fn make_json(alloc: Global, size: usize) -> Result<Value, AllocError> {
-    let mut entries = Vec::new(alloc);
-    for position in 0..64u32 {
-        entries.push(make_entry(alloc, position, size)?)?;
+pub fn make_json(alloc: Global, size: usize) -> Result<String, AllocError> {
+    let mut long = String::new(alloc);
+    for _ in 0..size {
+        long.push('a')?;
     }
-    Ok(Value::Array(entries))
+    let mut text = String::new(alloc);
+    text.push('[')?;
+    for position in 0..64usize {
+        if position > 0 {
+            text.push(',')?;
+        }
+        push_entry(&mut text, position, long.as_str())?;
+    }
+    text.push(']')?;
+    Ok(text)
 }
