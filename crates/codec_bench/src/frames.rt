@@ -1,0 +1,116 @@
+//! A frame of 64 entries of 64 items, of six kinds by turns.
+
+ghost use Rattle.std.specs.Prelude.{◌≡◌, ◌≤◌, IfOk, length};
+ghost use Rattle.std.specs.List.{All};
+ghost use Rattle.dura_value.specs.Views.{message_of};
+ghost use Rattle.dura_codec.specs.Spelling.{CanSpellBody};
+ghost use Rattle.part_items.specs.Plain.{item_of, items_of, entry_of, entries_of};
+ghost use Rattle.part_items.specs.Spelling.{CanSpellItem, CanSpellEntry, CanSpellFrame};
+
+use dura_value::{
+    Body, Id, Key, Message, Name, Outcome, ReadError, Reply, Scalar, Scalars, Text, Value,
+};
+use part_items::{Entry, Frame, Item, Items};
+use std::alloc::{AllocError, Global};
+
+fn make_text(alloc: Global, size: usize) -> Result<Text, ReadError> {
+    let bytes = vec![in alloc; b'a'; size]?;
+    Text::read(alloc, &bytes).map_err(|_| ReadError::Memory)
+}
+
+fn make_flow(alloc: Global) -> Result<Id, AllocError> {
+    Ok(Id::Flow(Name::of(alloc, b"Work")?, Key::of(alloc, b"w1")?))
+}
+
+fn make_entity(alloc: Global) -> Result<Id, AllocError> {
+    Ok(Id::Entity(Name::of(alloc, b"Pot")?, Key::of(alloc, b"p0")?))
+}
+
+fn make_start(alloc: Global, number: u32) -> Result<Message, ReadError>
+    ensures { IfOk result (λ m. CanSpellBody (message_of m).body) }
+{
+    let pair = Scalars::pair(alloc, Scalar::Int(number as i64), Scalar::Int(-2))?;
+    Ok(Message {
+        from: Id::Client(Name::of(alloc, b"c0")?),
+        to: make_flow(alloc)?,
+        body: Body::Start(Value::List(pair), Reply::Request(number)),
+    })
+}
+
+fn make_raise(alloc: Global, number: u32, size: usize) -> Result<Message, ReadError>
+    ensures { IfOk result (λ m. CanSpellBody (message_of m).body) }
+{
+    let text = make_text(alloc, size)?;
+    Ok(Message {
+        from: Id::Client(Name::of(alloc, b"c0")?),
+        to: make_flow(alloc)?,
+        body: Body::Raise(Name::of(alloc, b"go")?, Value::Text(text), number),
+    })
+}
+
+fn make_operate(alloc: Global, number: u32, size: usize) -> Result<Message, ReadError>
+    ensures { IfOk result (λ m. CanSpellBody (message_of m).body) }
+{
+    let text = make_text(alloc, size)?;
+    Ok(Message {
+        from: make_flow(alloc)?,
+        to: make_entity(alloc)?,
+        body: Body::Op(
+            Name::of(alloc, b"put")?,
+            Value::Text(text),
+            Reply::Task(number),
+        ),
+    })
+}
+
+fn make_item(alloc: Global, number: u32, size: usize) -> Result<Item, ReadError>
+    ensures { IfOk result (λ i. CanSpellItem (item_of i)) }
+{
+    let stamp = number as u64;
+    match number % 6 {
+        0 => Ok(Item::Took(make_start(alloc, number)?)),
+        1 => Ok(Item::Took(make_raise(alloc, number, size)?)),
+        2 => Ok(Item::Got(1, 2, 3, stamp, make_operate(alloc, number, size)?)),
+        3 => Ok(Item::Ran(make_flow(alloc)?, make_entity(alloc)?, stamp)),
+        4 => {
+            let text = make_text(alloc, size)?;
+            Ok(Item::Done(make_flow(alloc)?, number, Outcome::Done(Value::Text(text))))
+        }
+        _ => Ok(Item::Fired(make_flow(alloc)?, number, stamp)),
+    }
+}
+
+fn make_items(alloc: Global, first: u32, size: usize) -> Result<Vec<Item>, ReadError>
+    requires { first ≤ 4096 }
+    ensures few { IfOk result (λ v. length v.items ≤ 64) }
+    ensures each { IfOk result (λ v. All CanSpellItem (items_of v.items)) }
+{
+    let mut items = Vec::new(alloc);
+    for index in 0..64u32 {
+        items.push(make_item(alloc, first + index + 1, size)?)?;
+    }
+    Ok(items)
+}
+
+fn make_entry(alloc: Global, position: u32, size: usize) -> Result<Entry, ReadError>
+    requires { position ≤ 63 }
+    ensures { IfOk result (λ e. CanSpellEntry (entry_of e)) }
+{
+    let items = make_items(alloc, 64 * position, size)?;
+    Ok(Entry {
+        position: position as u64,
+        incarnation: 1,
+        items: Items::of(items),
+    })
+}
+
+/// The frame, with texts of so many bytes.
+pub fn make_frame(alloc: Global, size: usize) -> Result<Frame, ReadError>
+    ensures { IfOk result (λ f. CanSpellFrame (entries_of f)) }
+{
+    let mut entries = Vec::new(alloc);
+    for position in 0..64u32 {
+        entries.push(make_entry(alloc, position, size)?)?;
+    }
+    Ok(Frame::of(entries))
+}

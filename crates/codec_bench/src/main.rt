@@ -1,0 +1,133 @@
+//! Writes and reads one large frame, as bytes and as JSON. Whoever holds a watch tells it what, how often, and how long the texts
+//! are: `codec_bench read 100 24`. With no words it does each once. It says `ok`.
+//!
+//! - `frames` makes the frame, `texts` the same as JSON.
+#![tactic(auto)]
+
+mod frames;
+mod texts;
+
+use anyhow::{Result, bail};
+use frames::make_frame;
+use part_items::{read_frame, write_frame};
+use serde_json::Value;
+use std::alloc::Global;
+use std::env;
+use texts::make_json;
+
+/// What is done, how often, and how many bytes the texts have.
+#[derive(Drop)]
+struct Call {
+    kind: Kind,
+    times: u32,
+    size: usize,
+}
+
+#[derive(Clone, Copy)]
+enum Kind {
+    All,
+    Make,
+    Write,
+    Read,
+    JsonWrite,
+    JsonRead,
+}
+
+fn kind_of(word: &str) -> Result<Kind> {
+    match word {
+        "make" => Ok(Kind::Make),
+        "write" => Ok(Kind::Write),
+        "read" => Ok(Kind::Read),
+        "json-write" => Ok(Kind::JsonWrite),
+        "json-read" => Ok(Kind::JsonRead),
+        _ => bail!("no such kind"),
+    }
+}
+
+fn read_call(rt: &HostRuntime) -> Result<Call> {
+    let mut words = env::args(rt)?.skip(1);
+    let mut call = Call {
+        kind: Kind::All,
+        times: 1,
+        size: 24,
+    };
+    if let Some(word) = words.next() {
+        call.kind = kind_of(word.as_str())?;
+    }
+    if let Some(word) = words.next() {
+        call.times = word.parse::<u32>()?;
+    }
+    if let Some(word) = words.next() {
+        call.size = word.parse::<usize>()?;
+    }
+    Ok(call)
+}
+
+fn write_often(alloc: Global, call: &Call) -> Result<()> {
+    let frame = make_frame(alloc, call.size)?;
+    for _ in 0..call.times {
+        let mut bytes = Vec::new(alloc);
+        write_frame(&mut bytes, &frame)?;
+        if bytes.is_empty() {
+            bail!("nothing was written");
+        }
+    }
+    Ok(())
+}
+
+fn read_often(alloc: Global, call: &Call) -> Result<()> {
+    let frame = make_frame(alloc, call.size)?;
+    let mut bytes = Vec::new(alloc);
+    write_frame(&mut bytes, &frame)?;
+    for _ in 0..call.times {
+        let read = read_frame(alloc, &bytes)?;
+        if read.entries().len() < 64 {
+            bail!("too little was read");
+        }
+    }
+    Ok(())
+}
+
+fn json_write_often(alloc: Global, call: &Call) -> Result<()> {
+    let value = Value::from_str(alloc, make_json(alloc, call.size)?.as_str())?;
+    for _ in 0..call.times {
+        let text = value.to_string(alloc)?;
+        if text.is_empty() {
+            bail!("nothing was written");
+        }
+    }
+    Ok(())
+}
+
+fn json_read_often(alloc: Global, call: &Call) -> Result<()> {
+    let text = make_json(alloc, call.size)?;
+    for _ in 0..call.times {
+        let read = Value::from_str(alloc, text.as_str())?;
+        if read.is_null() {
+            bail!("too little was read");
+        }
+    }
+    Ok(())
+}
+
+fn main(rt: HostRuntime) -> Result<()> {
+    let alloc = rt.alloc();
+    let call = read_call(&rt)?;
+    match call.kind {
+        Kind::All => {
+            write_often(alloc, &call)?;
+            read_often(alloc, &call)?;
+            json_write_often(alloc, &call)?;
+            json_read_often(alloc, &call)?;
+        }
+        Kind::Make => {
+            let _frame = make_frame(alloc, call.size)?;
+        }
+        Kind::Write => write_often(alloc, &call)?,
+        Kind::Read => read_often(alloc, &call)?,
+        Kind::JsonWrite => json_write_often(alloc, &call)?,
+        Kind::JsonRead => json_read_often(alloc, &call)?,
+    }
+    println!(rt; "ok")?;
+    Ok(())
+}
