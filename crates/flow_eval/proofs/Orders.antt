@@ -1,5 +1,5 @@
 -- The order and the equality of values.
-use Rattle.std.proofs.Common.{◌≡◌, ◌==◌, ◌&&◌, ◌∙◌, ℕ, List, [], ◌∷◌, Bool, true, false, ℤ, pos, negsuc, refl, ap, sym, arith}
+use Rattle.std.proofs.Common.{◌≡◌, ◌&&◌, ◌∙◌, ℕ, List, [], ◌∷◌, ℤ, pos, negsuc, refl, ap, sym, arith}
 use Rattle.std.proofs.lemmas.Bool.Decides.{nat_tests}
 use Rattle.std.specs.Ordering.{nat_cmp, is_lt, int_eq}
 use Rattle.std.specs.Cmp.Lexicographic.{slice_cmp, pointwise}

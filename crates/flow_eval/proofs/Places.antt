@@ -1,5 +1,5 @@
 -- Variables by their places.
-use Rattle.std.proofs.Common.{◌≡◌, ◌<◌, ◌+◌, ◌∙◌, ℕ, suc, List, [], ◌∷◌, ◌++◌, length, get_or, Bool, true, false, not, cond, nat_lt, if◌then◌else◌, Option, Some, None, Result, Ok, Err, codes, position, refl, ap, sym, subst, arith}
+use Rattle.std.proofs.Common.{◌≡◌, ◌<◌, ◌+◌, ℕ, suc, List, [], ◌∷◌, ◌++◌, length, get_or, Bool, true, false, not, cond, nat_lt, if◌then◌else◌, Some, None, Ok, Err, codes, position, refl, ap, arith}
 use Rattle.std.proofs.Math.ListN.{set}
 use Rattle.std.proofs.lemmas.Bool.{ltb-true, lt-ltb}
 use Rattle.std.specs.List.{position_or_len}

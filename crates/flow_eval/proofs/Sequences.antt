@@ -1,5 +1,5 @@
 -- What the rest of several parts adds to what the first ones gave.
-use Rattle.std.proofs.Common.{List, ◌++◌, ℕ, Result, Ok, Err}
+use Rattle.std.proofs.Common.{List, ◌++◌, ℕ, Result, Ok}
 use Rattle.flow_syntax.specs.Eval.{◌>>=◌}
 
 -- the rest behind what is done

@@ -1,8 +1,7 @@
 -- Which bytes are a text.
-use Rattle.std.proofs.Common.{◌≡◌, ◌<◌, ◌≤◌, ◌+◌, ℕ, List, ◌++◌, ◌^◌, length, take, true, FitsSigned, w64, ℤ, pos, negsuc, refl, subst, sym, arith}
+use Rattle.std.proofs.Common.{◌≡◌, ◌<◌, ◌≤◌, ◌+◌, ℕ, List, ◌++◌, ◌^◌, length, true, FitsSigned, w64, ℤ, pos, negsuc, refl, subst, sym, arith}
 use Rattle.std.specs.Str.{is_utf8, IsUtf8, IsValidUpTo}
 use Rattle.std.specs.Fmt.{signed_decimal}
-use Rattle.std.proofs.lemmas.Int.{ints}
 use Rattle.std.specs.Int.Signed.{mag}
 use Rattle.std.proofs.Math.Seq.{take-length}
 use Rattle.std.proofs.lemmas.Fmt.{IsAscii-signed, length_signed_le}

@@ -1,6 +1,6 @@
 //! The variables of an instance or an operation.
 
-ghost use Rattle.std.specs.Prelude.{◌≡◌, [], Ok, Err, codes, OnOk, OnErr, MatchOption, position};
+ghost use Rattle.std.specs.Prelude.{◌≡◌, [], Ok, Err, codes, OnOk, OnErr, IfSome, IfNone, position};
 ghost use Rattle.std.specs.Str.{bytes_eq};
 ghost use Rattle.flow_syntax.specs.Eval.{value_in, set_in};
 
@@ -42,7 +42,8 @@ impl Variables {
 
     /// The value of a variable.
     pub fn get(&self, name: &Name) -> Option<&Value>
-        ensures { MatchOption result (value_in self.now name.now ≡ Err (codes "unset")) (λ value. value_in self.now name.now ≡ Ok value.now) }
+        ensures set { IfSome result (λ value. value_in self.now name.now ≡ Ok value.now) }
+        ensures unset { IfNone result (value_in self.now name.now ≡ Err (codes "unset")) }
     {
         match self.place_of(name) {
             Some(place) => Some(&self.set[place].1),

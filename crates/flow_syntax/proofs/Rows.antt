@@ -1,7 +1,7 @@
 -- The parts and statements of a vector, as the list of them.
 use Rattle.std.proofs.Common.{◌≡◌, refl, ap}
-use Rattle.flow_syntax.specs.declared.syntax.Expr.{Expr, Row_of-Expr, end_of-Expr, more_of-Expr, items-the_row-Expr}
-use Rattle.flow_syntax.specs.declared.syntax.Stmt.{Stmt, Row_of-Stmt, end_of-Stmt, more_of-Stmt, items-the_row-Stmt}
+use Rattle.flow_syntax.specs.declared.syntax.Expr.{Row_of-Expr, end_of-Expr, more_of-Expr, items-the_row-Expr}
+use Rattle.flow_syntax.specs.declared.syntax.Stmt.{Row_of-Stmt, end_of-Stmt, more_of-Stmt, items-the_row-Stmt}
 use Rattle.flow_syntax.specs.Syntax.{part, first_then}
 use Rattle.flow_syntax.specs.Views.{expression_of, parts_in, parts_of, statement_of, block_in, block_of}
 

@@ -1,5 +1,5 @@
 -- How far a walk comes over several lists of statements.
-use Rattle.std.proofs.Common.{◌≡◌, ◌+◌, ◌-◌, ◌^◌, ◌<◌, ◌≤◌, ◌&&◌, length, get_or, drop, ◌∙◌, ℕ, suc, List, [], ◌∷◌, ◌++◌, min, Bool, true, false, if◌then◌else◌, Option, Some, None, option_map, Result, Ok, Err, map, refl, ap, sym, arith}
+use Rattle.std.proofs.Common.{◌≡◌, ◌+◌, ◌<◌, ◌≤◌, ◌&&◌, length, get_or, drop, ◌∙◌, ℕ, suc, List, [], ◌∷◌, ◌++◌, min, Bool, true, false, if◌then◌else◌, Option, Some, None, option_map, Ok, Err, map, refl, ap, sym, arith}
 use Rattle.std.proofs.lemmas.List.{drop_more}
 use Rattle.std.specs.List.{list_all}
 use Rattle.std.specs.Map.{values_of}

@@ -1,8 +1,8 @@
 -- Which files are well formed, and where one that isn't breaks a rule first.
-use Rattle.std.specs.Prelude.{ℕ, suc, ◌+◌, ◌&&◌, List, [], ◌∷◌, ◌++◌, length, Bool, true, false, not, nat_le, is_some, if◌then◌else◌, Option, Some, None}
+use Rattle.std.specs.Prelude.{ℕ, suc, ◌&&◌, List, [], ◌∷◌, ◌++◌, length, Bool, true, false, nat_le, is_some, if◌then◌else◌, Option, Some, None}
 use Rattle.std.specs.List.{list_all}
 use Rattle.dura_value.specs.Limits.{most_spots}
-use Rattle.flow_syntax.specs.Syntax.{Statement, let_be, spawn, call, subflow, ask, timer, event, await, await_all, await_any, signal, lock_in, if_then, while, try, return, fail, Block, nothing, first_then, Named, Class, Flows, Locked, look_up, body_of, class_of}
+use Rattle.flow_syntax.specs.Syntax.{Statement, let_be, subflow, ask, signal, lock_in, if_then, while, try, return, fail, Block, nothing, first_then, Named, Class, Flows, Locked, look_up, body_of, class_of}
 
 -- a statement, and whether it stands in an operation
 pub record Placed : Type 0 where

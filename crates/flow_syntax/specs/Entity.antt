@@ -1,12 +1,12 @@
 -- One entity: what a message makes of it.
-use Rattle.std.specs.Prelude.{ℕ, suc, ◌&&◌, List, [], ◌∷◌, codes, Bool, true, false, if◌then◌else◌, Option, Some, None, Result, Ok, Err}
+use Rattle.std.specs.Prelude.{ℕ, suc, List, [], ◌∷◌, codes, Bool, true, Option, Some, None, Result, Ok, Err}
 use Rattle.dura_value.specs.declared.data.Value.{Value}
 use Rattle.dura_value.specs.declared.data.Value.TheVariants as values
 use Rattle.dura_value.specs.Ids.{Id, id_eq}
-use Rattle.dura_value.specs.Messages.{Reply, to_nobody, to_task, to_request, Answer, is_done, has_failed, is_missing, is_value, Spot, at_spot, entity_at, Body, query, result, operate, lock, granted, release, Message}
+use Rattle.dura_value.specs.Messages.{Reply, to_nobody, to_request, Answer, is_done, has_failed, is_missing, is_value, Spot, entity_at, Body, query, result, operate, lock, granted, release, Message}
 use Rattle.flow_syntax.specs.Syntax.{Block, Class, Flows, class_of, look_up}
-use Rattle.flow_syntax.specs.Eval.{Variables, value_in, ◌>>=◌}
-use Rattle.flow_syntax.specs.Machine.{Machine, Progress, unborn, running, done, failed, new_machine, todo, go, most_steps, Resumed}
+use Rattle.flow_syntax.specs.Eval.{Variables, value_in}
+use Rattle.flow_syntax.specs.Machine.{Machine, Progress, running, done, failed, new_machine, todo, go, most_steps}
 
 -- an entity: its value, who holds it, and its last moment
 pub record Entity : Type 0 where

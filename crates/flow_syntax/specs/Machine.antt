@@ -1,5 +1,5 @@
 -- The machine that runs one instance of a flow. It is resumed by each event that reaches it.
-use Rattle.std.specs.Prelude.{ℕ, zero, suc, ◌+◌, ◌^◌, ◌==◌, ◌&&◌, ◌||◌, List, [], ◌∷◌, ◌++◌, length, codes, Bool, true, false, not, nat_lt, nat_le, if◌then◌else◌, Option, Some, None, Result, Ok, Err, pos, negsuc, ℤ}
+use Rattle.std.specs.Prelude.{ℕ, zero, suc, ◌+◌, ◌==◌, ◌&&◌, ◌||◌, List, [], ◌∷◌, ◌++◌, length, codes, Bool, true, false, not, nat_lt, nat_le, if◌then◌else◌, Option, Some, None, Result, Ok, Err, pos, negsuc, ℤ}
 use Rattle.std.specs.Str.{bytes_eq}
 use Rattle.dura_value.specs.declared.outcome.Outcome.{Outcome}
 use Rattle.dura_value.specs.declared.outcome.Outcome.TheVariants as outcomes
@@ -7,7 +7,7 @@ use Rattle.dura_value.specs.declared.data.Scalar.{Scalar}
 use Rattle.dura_value.specs.declared.data.Scalar.TheVariants as scalars
 use Rattle.dura_value.specs.declared.data.Value.{Value}
 use Rattle.dura_value.specs.declared.data.Value.TheVariants as values
-use Rattle.dura_value.specs.Ids.{Id, orchestration, id_eq}
+use Rattle.dura_value.specs.Ids.{Id, orchestration}
 use Rattle.dura_value.specs.Limits.{number_limit}
 use Rattle.dura_value.specs.Messages.{Reply, to_nobody, to_task, Answer, is_done, has_failed, Spot, at_spot, spot_eq, set_of, entity_at, Body, start, result, operate, lock, release, Message}
 use Rattle.flow_syntax.specs.Syntax.{Expression, scalar, Statement, let_be, spawn, call, subflow, ask, timer, event, await, await_all, await_any, signal, lock_in, if_then, while, try, return, fail, Block, nothing, first_then, Locked}

@@ -29,6 +29,13 @@ abbrev pub keeps : plain.Flows → Rule → Placed → Bool
 keeps file Shape placed = has_shape placed
 keeps file Names placed = has_names file placed
 
+-- how far a walk comes over the statements of a file
+abbrev pub walk : plain.Flows → Rule → ℕ → List Placed → Result ℕ ℕ
+walk file rule number placed = walked (keeps file rule) number placed
+
+abbrev pub placed_in : Bool → plain.Statement → Placed
+placed_in inside statement = record { statement = statement; in_operation = inside }
+
 -- the statements of several bodies
 abbrev pub in_bodies : Bool → List (Vec Stmt Global) → List Placed
 in_bodies inside [] = []

@@ -5,7 +5,7 @@ ghost use Rattle.std.specs.List.{list_all};
 ghost use Rattle.flow_syntax.specs.Check.{check, may_operate, has_count, has_shape, has_operation, knows, statements, within, in_blocks, all_statements};
 ghost use Rattle.flow_syntax.specs.Syntax.{class_of as class_in};
 ghost use Rattle.flow_syntax.specs.Views.{statement_of, block_of, bodies_of, flows_of};
-ghost use Rattle.flow_syntax.specs.Walk.{walked, keeps, verdict_of, in_64_bits};
+ghost use Rattle.flow_syntax.specs.Walk.{walk, keeps, placed_in, verdict_of, in_64_bits};
 
 use crate::flows::Flows;
 use crate::syntax::{Locked, Stmt};
@@ -59,7 +59,7 @@ fn has_count(statement: &Stmt) -> bool
 }
 
 fn has_shape(statement: &Stmt, in_operation: bool) -> bool
-    ensures { result ≡ has_shape (record { statement = statement_of statement.now; in_operation = in_operation }) }
+    ensures { result ≡ has_shape (placed_in in_operation (statement_of statement.now)) }
 {
     has_count(statement) && (!in_operation || may_operate(statement))
 }
@@ -115,7 +115,7 @@ impl Flows {
     }
 
     fn keeps(&self, rule: Rule, in_operation: bool, statement: &Stmt) -> bool
-        ensures { result ≡ keeps (flows_of self.now) rule (record { statement = statement_of statement.now; in_operation = in_operation }) }
+        ensures { result ≡ keeps (flows_of self.now) rule (placed_in in_operation (statement_of statement.now)) }
     {
         match rule {
             Rule::Shape => has_shape(statement, in_operation),
@@ -132,7 +132,7 @@ impl Flows {
         block: &[Stmt],
         number: u64,
     ) -> Result<u64, u64>
-        ensures { result ≡ walked (keeps (flows_of self.now) rule) number (statements in_operation (block_of block.now)) }
+        ensures { result ≡ walk (flows_of self.now) rule number (statements in_operation (block_of block.now)) }
     {
         let mut next = number;
         for statement in block {
@@ -156,7 +156,7 @@ impl Flows {
         statement: &Stmt,
         number: u64,
     ) -> Result<u64, u64>
-        ensures { result ≡ walked (keeps (flows_of self.now) rule) number (within in_operation (statement_of statement.now)) }
+        ensures { result ≡ walk (flows_of self.now) rule number (within in_operation (statement_of statement.now)) }
     {
         match statement {
             Stmt::Lock(_, body) => self.walk_block(rule, in_operation, body, number),
@@ -182,7 +182,7 @@ impl Flows {
         bodies: &BTreeMap<Name, Vec<Stmt>>,
         number: u64,
     ) -> Result<u64, u64>
-        ensures { result ≡ walked (keeps (flows_of self.now) rule) number (in_blocks in_operation (bodies_of bodies.now)) }
+        ensures { result ≡ walk (flows_of self.now) rule number (in_blocks in_operation (bodies_of bodies.now)) }
     {
         let mut next = number;
         for body in bodies.values() {
@@ -197,7 +197,7 @@ impl Flows {
     /// The same of all statements of the file.
     #[tactic(auto, using(crate::proofs::Walks::in_operations_of_values, crate::proofs::Walks::behind, crate::proofs::Walks::broken))]
     fn walk(&self, rule: Rule) -> Result<u64, u64>
-        ensures { result ≡ walked (keeps (flows_of self.now) rule) 0 (all_statements (flows_of self.now)) }
+        ensures { result ≡ walk (flows_of self.now) rule 0 (all_statements (flows_of self.now)) }
     {
         let mut next = self.walk_bodies(rule, false, &self.flows, 0)?;
         for class in self.classes.values() {

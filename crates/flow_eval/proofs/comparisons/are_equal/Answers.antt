@@ -1,4 +1,4 @@
-use Rattle.std.proofs.Common.{◌≡◌, ◌∙◌}
+use Rattle.std.proofs.Common.{◌∙◌}
 use Rattle.flow_eval.proofs.Orders.{value_eq_is}
 use Rattle.flow_eval.proofs.comparisons.are_equal.Goals as goal
 
