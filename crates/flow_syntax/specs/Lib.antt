@@ -4,3 +4,4 @@ pub mod Eval
 pub mod Machine
 pub mod Syntax
 pub mod Views
+pub mod Walk

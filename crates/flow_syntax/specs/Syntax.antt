@@ -96,6 +96,16 @@ pub record Flows : Type 0 where
   pub flows : List (Named Block)
   pub classes : List (Named Class)
 
+-- a class with an operation more, and a file with a flow or a class more
+abbrev pub with_operation : Class → List ℕ → Block → Class
+with_operation class name body = record class { operations = put_in class.operations name body }
+
+abbrev pub with_flow : Flows → List ℕ → Block → Flows
+with_flow file name body = record file { flows = put_in file.flows name body }
+
+abbrev pub with_class : Flows → List ℕ → Class → Flows
+with_class file name class = record file { classes = put_in file.classes name class }
+
 abbrev pub body_of : Flows → List ℕ → Option Block
 body_of file name = look_up file.flows name
 

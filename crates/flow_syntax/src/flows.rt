@@ -1,7 +1,7 @@
 //! A file of flows and classes.
 
 ghost use Rattle.std.specs.Prelude.{◌≡◌, [], OnOk, OnErr, option_map, IfSome};
-ghost use Rattle.flow_syntax.specs.Syntax.{body_of, class_of as class_in, look_up, put_in};
+ghost use Rattle.flow_syntax.specs.Syntax.{body_of, class_of as class_in, look_up, with_operation, with_flow, with_class};
 ghost use Rattle.flow_syntax.specs.Views.{block_of, class_of, flows_of};
 
 use crate::syntax::Stmt;
@@ -40,7 +40,7 @@ impl Class {
 
     /// An operation, in the place of one of the same name.
     pub fn add_operation(&mut self, name: Name, body: Vec<Stmt>) -> Result<(), AllocError>
-        ensures ok { OnOk result (class_of self.new ≡ record (class_of self.old) { operations = put_in (class_of self.old).operations name (block_of body.items) }) }
+        ensures ok { OnOk result (class_of self.new ≡ with_operation (class_of self.old) name (block_of body.items)) }
         ensures err { OnErr result (class_of self.new ≡ class_of self.old) }
     {
         self.operations.insert(name, body)?;
@@ -49,7 +49,7 @@ impl Class {
 
     /// The body of an operation.
     pub fn operation(&self, name: &Name) -> Option<&[Stmt]>
-        ensures { option_map (λ body. block_of body.now) result ≡ look_up (class_of self.now).operations name.now }
+        ensures { option_map (λ b. block_of b.now) result ≡ look_up (class_of self.now).operations name.now }
     {
         match self.operations.get(name) {
             Some(body) => Some(body),
@@ -71,7 +71,7 @@ impl Flows {
 
     /// A flow, in the place of one of the same name.
     pub fn add_flow(&mut self, name: Name, body: Vec<Stmt>) -> Result<(), AllocError>
-        ensures ok { OnOk result (flows_of self.new ≡ record (flows_of self.old) { flows = put_in (flows_of self.old).flows name (block_of body.items) }) }
+        ensures ok { OnOk result (flows_of self.new ≡ with_flow (flows_of self.old) name (block_of body.items)) }
         ensures err { OnErr result (flows_of self.new ≡ flows_of self.old) }
     {
         self.flows.insert(name, body)?;
@@ -80,7 +80,7 @@ impl Flows {
 
     /// A class, in the place of one of the same name.
     pub fn add_class(&mut self, name: Name, class: Class) -> Result<(), AllocError>
-        ensures ok { OnOk result (flows_of self.new ≡ record (flows_of self.old) { classes = put_in (flows_of self.old).classes name (class_of class) }) }
+        ensures ok { OnOk result (flows_of self.new ≡ with_class (flows_of self.old) name (class_of class)) }
         ensures err { OnErr result (flows_of self.new ≡ flows_of self.old) }
     {
         self.classes.insert(name, class)?;
@@ -99,7 +99,7 @@ impl Flows {
 
     /// A class.
     pub fn class_of(&self, name: &Name) -> Option<&Class>
-        ensures { option_map (λ class. class_of class.now) result ≡ class_in (flows_of self.now) name.now }
+        ensures { option_map (λ c. class_of c.now) result ≡ class_in (flows_of self.now) name.now }
     {
         self.classes.get(name)
     }

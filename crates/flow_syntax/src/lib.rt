@@ -5,9 +5,11 @@
 //! - `specs/Views`: the plain data that this crate's types stand for.
 #![tactic(auto)]
 
+mod check;
 mod flows;
 mod makes;
 mod syntax;
 
+pub use check::CheckError;
 pub use flows::{Class, Flows};
 pub use syntax::{BinaryOp, Expr, Locked, Stmt, UnaryOp};

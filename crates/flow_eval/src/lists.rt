@@ -1,0 +1,95 @@
+//! Lists of scalars and their limits.
+
+ghost use Rattle.std.specs.Prelude.{◌≡◌, ◌≤◌, [], ◌∷◌, ◌++◌, length, IfOk};
+ghost use Rattle.dura_value.specs.Limits.{most_scalars};
+ghost use Rattle.dura_value.specs.Values.{scalar_size, scalars_size};
+ghost use Rattle.flow_syntax.specs.Eval.{list_of, scalar_at, part_at};
+ghost use Rattle.flow_eval.specs.Gives.{Gives};
+
+use crate::fault::{EvalError, Fault};
+use crate::kinds::value_of;
+use dura_value::{MOST_SCALARS, MOST_SCALARS_BYTES, Scalar, Scalars, Value};
+use std::alloc::{AllocError, Global};
+
+/// How many bytes a scalar takes in the log.
+fn scalar_size(scalar: &Scalar) -> usize
+    ensures size { result ≡ scalar_size scalar.now }
+    ensures short { result ≤ 4099 }
+{
+    match scalar {
+        Scalar::Int(_) => 9,
+        Scalar::Text(text) => 3 + text.as_bytes().len(),
+        _ => 1,
+    }
+}
+
+fn scalars_size(scalars: &[Scalar]) -> usize
+    requires { length scalars.now ≤ most_scalars }
+    ensures { result ≡ scalars_size scalars.now }
+{
+    let mut size = 0;
+    for scalar in scalars {
+        size += scalar_size(scalar);
+    }
+    size
+}
+
+/// A list of these, unless it is past a limit.
+pub fn list_of(parts: Vec<Scalar>) -> Result<Value, EvalError>
+    ensures { Gives (λ value. value) result (list_of parts.items) }
+{
+    if parts.len() > MOST_SCALARS || scalars_size(&parts) > MOST_SCALARS_BYTES {
+        return Err(EvalError::Thrown(Fault::Size));
+    }
+    Ok(Value::List(Scalars::of(parts)))
+}
+
+/// A copy.
+#[tactic(auto, using(crate::proofs::Copies::same_scalar))]
+pub(crate) fn copy_of(scalar: &Scalar) -> Result<Scalar, AllocError>
+    ensures { IfOk result (λ copy. copy ≡ scalar.now) }
+{
+    scalar.clone()
+}
+
+/// Copies of these, with room for one more.
+#[tactic(auto, using(crate::proofs::Parts::one_copied))]
+fn copied(alloc: Global, parts: &[Scalar]) -> Result<Vec<Scalar>, AllocError>
+    ensures { IfOk result (λ copies. copies.items ≡ parts.now) }
+{
+    let mut copies = Vec::with_capacity(alloc, parts.len().saturating_add(1))?;
+    for part in parts {
+        copies.push(copy_of(part)?)?;
+    }
+    Ok(copies)
+}
+
+/// The list with one scalar more.
+pub(crate) fn pushed(alloc: Global, parts: &[Scalar], one: Scalar) -> Result<Value, EvalError>
+    ensures { Gives (λ value. value) result (list_of (parts.now ++ one ∷ [])) }
+{
+    let mut copies = copied(alloc, parts)?;
+    copies.push(one)?;
+    list_of(copies)
+}
+
+#[tactic(auto, using(crate::proofs::Parts::scalar_there, crate::proofs::Parts::no_scalar))]
+fn scalar_at(parts: &[Scalar], index: usize) -> Result<Value, EvalError>
+    ensures { Gives (λ value. value) result (scalar_at parts.now index) }
+{
+    if index < parts.len() {
+        Ok(value_of(copy_of(&parts[index])?))
+    } else {
+        Err(EvalError::Thrown(Fault::Range))
+    }
+}
+
+/// The scalar at a place.
+pub(crate) fn part_at(parts: &[Scalar], index: i64) -> Result<Value, EvalError>
+    ensures { Gives (λ value. value) result (part_at parts.now index) }
+{
+    match usize::try_from(index) {
+        Ok(index) => scalar_at(parts, index),
+        Err(_) => Err(EvalError::Thrown(Fault::Range)),
+    }
+}
