@@ -1,0 +1,21 @@
+//! What an instance of a flow waits for: its tasks, its section and the events that are kept for it.
+//!
+//! - `tasks`: activities, started flows, asked entities, timers, events and grants, each with its result once it arrived.
+//! - `handles`: values that name tasks.
+//! - `sets`: the set of entities that a lock goes through.
+//! - `sections`: the section that an instance is in, and what may be done there.
+//! - `raised`: events that no handle waited for yet.
+//! - `specs/Views`: the plain data that these stand for.
+#![tactic(auto)]
+
+mod handles;
+mod raised;
+mod sections;
+mod sets;
+mod tasks;
+
+pub use handles::HandleFault;
+pub use raised::{KeptEvents, Raised};
+pub use sections::Section;
+pub use sets::{is_among, set_of};
+pub use tasks::{Arrival, Kind, Task, Tasks};

@@ -1,0 +1,61 @@
+//! Events that no handle waited for yet.
+
+ghost use Rattle.std.specs.Prelude.{◌≡◌, ◌++◌, ◌∷◌, [], OnOk, map};
+ghost use Rattle.flow_syntax.specs.Machine.{kept_value, without_kept};
+ghost use Rattle.flow_tasks.specs.Views.{raised_of};
+
+use dura_value::{Name, Value};
+use std::alloc::{AllocError, Global};
+use std::marker::Model;
+
+/// An event that was raised.
+#[derive(Debug, Drop)]
+pub struct Raised {
+    /// Its name.
+    pub name: Name,
+    /// Its value.
+    pub value: Value,
+}
+
+/// The events that are kept, the oldest first, which a contract sees as a list.
+#[derive(Debug, Drop)]
+pub struct KeptEvents {
+    events: Vec<Raised>,
+}
+
+impl Model for KeptEvents {
+    ghost use Rattle.std.specs.Prelude.{List};
+    ghost use Rattle.flow_tasks.specs.declared.raised.Raised.{Raised};
+
+    ghost Value = { List Raised };
+
+    ghost view = { λ k. k.events.items };
+}
+
+impl KeptEvents {
+    /// None.
+    pub fn new(alloc: Global) -> KeptEvents
+        ensures { result ≡ [] }
+    {
+        KeptEvents {
+            events: Vec::new(alloc),
+        }
+    }
+
+    /// An event is kept.
+    pub fn push(&mut self, name: Name, value: Value) -> Result<(), AllocError>
+        ensures { OnOk result (map raised_of self.new ≡ map raised_of self.old ++ record { name = name; value = value } ∷ []) }
+    {
+        self.events.push(Raised { name, value })?;
+        Ok(())
+    }
+
+    /// Takes out the oldest event of a name.
+    pub fn take(&mut self, name: &Name) -> Option<Value>
+        ensures value { result ≡ kept_value name.now (map raised_of self.old) }
+        ensures taken { map raised_of self.new ≡ without_kept name.now (map raised_of self.old) }
+    {
+        let place = self.events.iter().position(|event| event.name == *name)?;
+        Some(self.events.remove(place).value)
+    }
+}
