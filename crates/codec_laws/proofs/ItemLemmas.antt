@@ -1,19 +1,17 @@
 -- Items are read again.
-use Rattle.std.proofs.Common.{◌≡◌, ℕ, suc, ◌+◌, ◌<◌, ◌≤◌, ◌^◌, List, [], ◌∷◌, ◌++◌, length, Bool, true, false, if◌then◌else◌, Result, Ok, Err, refl, sym, ap, ◌∙◌, append_assoc, arith}
+use Rattle.std.proofs.Common.{◌≡◌, ℕ, List, ◌∷◌, ◌++◌, Ok, refl, ap, ◌∙◌}
 use Rattle.std.specs.Int.{w32, w64, to_be_bytes}
 use Rattle.dura_value.specs.declared.outcome.Outcome.{Outcome}
 use Rattle.dura_value.specs.Ids.{Id}
 use Rattle.dura_value.specs.Messages.{Message}
 use Rattle.dura_value.specs.Items.{Identity, Item, took, got, ran, ended, fired, trim}
-use Rattle.dura_value.specs.Reading.{◌>>=◌}
-use Rattle.dura_codec.specs.Fields.{Read, byte_at, number_at, count_at}
 use Rattle.dura_codec.specs.Spelling.{spell_id, spell_outcome, spell_message}
 use Rattle.part_items.specs.Grammar.{took_at, got_at, ran_at, done_at, fired_at, trim_at, item_at}
 use Rattle.part_items.specs.Spelling.{spell_three, spell_item}
 use Rattle.codec_laws.proofs.Numbers.{number_again_4, count_again}
 use Rattle.codec_laws.proofs.Ids.{id_again}
 use Rattle.codec_laws.proofs.Messages.{outcome_again, message_again, regroup, two, three}
-use Rattle.codec_laws.specs.ItemFits.{FitsIdentity, FitsItem}
+use Rattle.codec_laws.specs.ItemFits.{FitsItem}
 
 took_again : (message : Message) (rest : List ℕ) → FitsItem (took message) → took_at (spell_message message ++ rest) ≡ Ok (took message, rest)
 unfolding took_at
@@ -23,11 +21,13 @@ got_again : (source : Identity) (number : ℕ) (message : Message) (rest : List 
     → got_at (to_be_bytes w32 source.partition ++ (to_be_bytes w64 source.incarnation ++ (to_be_bytes w64 source.position ++ (to_be_bytes w64 number ++ (spell_message message ++ rest))))) ≡ Ok (got source number message, rest)
 unfolding got_at
 got_again source number message rest fits =
-    rw (number_again_4 source.partition (to_be_bytes w64 source.incarnation ++ (to_be_bytes w64 source.position ++ (to_be_bytes w64 number ++ (spell_message message ++ rest)))) fits.0.partition_fits,
+    rw (
+      number_again_4 source.partition (to_be_bytes w64 source.incarnation ++ (to_be_bytes w64 source.position ++ (to_be_bytes w64 number ++ (spell_message message ++ rest)))) fits.0.partition_fits,
       count_again source.incarnation (to_be_bytes w64 source.position ++ (to_be_bytes w64 number ++ (spell_message message ++ rest))) fits.0.incarnation_fits,
       count_again source.position (to_be_bytes w64 number ++ (spell_message message ++ rest)) fits.0.position_fits,
       count_again number (spell_message message ++ rest) fits.1,
-      message_again message rest fits.2) refl
+      message_again message rest fits.2,
+    ) refl
 
 ran_again : (from to : Id) (stamp : ℕ) (rest : List ℕ) → FitsItem (ran from to stamp) → ran_at (spell_id from ++ (spell_id to ++ (to_be_bytes w64 stamp ++ rest))) ≡ Ok (ran from to stamp, rest)
 unfolding ran_at
@@ -48,10 +48,12 @@ trim_again : (reader : Identity) (number : ℕ) (rest : List ℕ) → FitsItem (
     → trim_at (to_be_bytes w32 reader.partition ++ (to_be_bytes w64 number ++ (to_be_bytes w64 reader.incarnation ++ (to_be_bytes w64 reader.position ++ rest)))) ≡ Ok (trim reader number, rest)
 unfolding trim_at
 trim_again reader number rest fits =
-    rw (number_again_4 reader.partition (to_be_bytes w64 number ++ (to_be_bytes w64 reader.incarnation ++ (to_be_bytes w64 reader.position ++ rest))) fits.0.partition_fits,
+    rw (
+      number_again_4 reader.partition (to_be_bytes w64 number ++ (to_be_bytes w64 reader.incarnation ++ (to_be_bytes w64 reader.position ++ rest))) fits.0.partition_fits,
       count_again number (to_be_bytes w64 reader.incarnation ++ (to_be_bytes w64 reader.position ++ rest)) fits.1,
       count_again reader.incarnation (to_be_bytes w64 reader.position ++ rest) fits.0.incarnation_fits,
-      count_again reader.position rest fits.0.position_fits) refl
+      count_again reader.position rest fits.0.position_fits,
+    ) refl
 
 -- three numbers, and what follows
 then_three : (a b c : ℕ) (rest : List ℕ) → spell_three a b c ++ rest ≡ to_be_bytes w64 a ++ (to_be_bytes w64 b ++ (to_be_bytes w64 c ++ rest))

@@ -1,5 +1,5 @@
 -- Messages are read again, and their parts.
-use Rattle.std.proofs.Common.{◌≡◌, ℕ, suc, ◌+◌, ◌<◌, ◌≤◌, ◌^◌, List, [], ◌∷◌, ◌++◌, length, Bool, true, false, nat_le, if◌then◌else◌, Result, Ok, Err, refl, sym, ap, ◌∙◌, append_assoc, arith}
+use Rattle.std.proofs.Common.{◌≡◌, ℕ, ◌≤◌, List, [], ◌∷◌, ◌++◌, length, Ok, refl, ap, ◌∙◌, append_assoc}
 use Rattle.std.specs.Int.{w32, to_be_bytes}
 use Rattle.std.specs.List.{flat_map}
 use Rattle.dura_value.specs.Ids.{Id}
@@ -7,8 +7,6 @@ use Rattle.dura_value.specs.declared.data.Value.{Value}
 use Rattle.dura_value.specs.declared.outcome.Outcome.{Outcome}
 use Rattle.dura_value.specs.declared.outcome.Outcome.TheVariants as outcomes
 use Rattle.dura_value.specs.Messages.{Reply, Answer, is_done, has_failed, was_started, was_there, is_unknown, was_raised, has_ended, is_missing, is_running, is_value, Spot, Body, start, raise, query, wait, result, operate, lock, granted, release, Message}
-use Rattle.dura_value.specs.Reading.{◌>>=◌}
-use Rattle.dura_codec.specs.Fields.{Read, byte_at, number_at, several_at}
 use Rattle.dura_codec.specs.Grammar.{answer_at, outcome_at, spot_at, spot_count_at, lock_at, start_at, raise_at, query_at, wait_at, result_at, operate_at, granted_at, body_at, message_at}
 use Rattle.dura_codec.specs.Spelling.{spell_word, spell_id, spell_reply, spell_value, spell_answer, spell_outcome, spell_spot, spell_body, spell_message}
 use Rattle.codec_laws.specs.Fits.{FitsAnswer, FitsOutcome, FitsSpot, FitsLock, FitsBody, FitsMessage}
@@ -48,10 +46,12 @@ lock_again : (id : Id) (task : ℕ) (set : List Spot) (index : ℕ) (rest : List
     → lock_at (spell_id id ++ (to_be_bytes w32 task ++ (length set ∷ (flat_map spell_spot set ++ (index ∷ rest))))) ≡ Ok (lock id task set index, rest)
 unfolding lock_at
 lock_again id task set index rest fits =
-    rw (id_again id (to_be_bytes w32 task ++ (length set ∷ (flat_map spell_spot set ++ (index ∷ rest)))) fits.id_fits,
+    rw (
+      id_again id (to_be_bytes w32 task ++ (length set ∷ (flat_map spell_spot set ++ (index ∷ rest)))) fits.id_fits,
       number_again_4 task (length set ∷ (flat_map spell_spot set ++ (index ∷ rest))) fits.task_fits,
       count_again (length set) (flat_map spell_spot set ++ (index ∷ rest)) fits.few,
-      several_again spot_at spell_spot FitsSpot spot_again set (index ∷ rest) fits.each) refl
+      several_again spot_at spell_spot FitsSpot spot_again set (index ∷ rest) fits.each,
+    ) refl
 
 start_again : (argument : Value) (reply : Reply) (rest : List ℕ) → FitsBody (start argument reply) → start_at (spell_value argument ++ (spell_reply reply ++ rest)) ≡ Ok (start argument reply, rest)
 unfolding start_at
@@ -61,9 +61,11 @@ raise_again : (event : List ℕ) (value : Value) (number : ℕ) (rest : List ℕ
     → raise_at (spell_word event ++ (spell_value value ++ (to_be_bytes w32 number ++ rest))) ≡ Ok (raise event value number, rest)
 unfolding raise_at
 raise_again event value number rest fits =
-    rw (name_again event (spell_value value ++ (to_be_bytes w32 number ++ rest)) fits.0,
+    rw (
+      name_again event (spell_value value ++ (to_be_bytes w32 number ++ rest)) fits.0,
       value_again value (to_be_bytes w32 number ++ rest) fits.1,
-      request_again number rest fits.2.some fits.2.fits) refl
+      request_again number rest fits.2.some fits.2.fits,
+    ) refl
 
 result_again : (reply : Reply) (answer : Answer) (rest : List ℕ) → FitsBody (result reply answer) → result_at (spell_reply reply ++ (spell_answer answer ++ rest)) ≡ Ok (result reply answer, rest)
 unfolding result_at
@@ -73,9 +75,11 @@ operate_again : (operation : List ℕ) (argument : Value) (reply : Reply) (rest 
     → operate_at (spell_word operation ++ (spell_value argument ++ (spell_reply reply ++ rest))) ≡ Ok (operate operation argument reply, rest)
 unfolding operate_at
 operate_again operation argument reply rest fits =
-    rw (name_again operation (spell_value argument ++ (spell_reply reply ++ rest)) fits.0,
+    rw (
+      name_again operation (spell_value argument ++ (spell_reply reply ++ rest)) fits.0,
       value_again argument (spell_reply reply ++ rest) fits.1,
-      reply_again reply rest fits.2) refl
+      reply_again reply rest fits.2,
+    ) refl
 
 query_again : (number : ℕ) (rest : List ℕ) → FitsBody (query number) → query_at (to_be_bytes w32 number ++ rest) ≡ Ok (query number, rest)
 unfolding query_at
@@ -156,6 +160,8 @@ body_again release rest fits = release_tagged rest
 pub message_again : (message : Message) (rest : List ℕ) → FitsMessage message → message_at (spell_message message ++ rest) ≡ Ok (message, rest)
 unfolding message_at
 message_again message rest fits =
-    simp append_assoc (rw (id_again message.from (spell_id message.to ++ (spell_body message.body ++ rest)) fits.from_fits,
+    simp append_assoc (rw (
+      id_again message.from (spell_id message.to ++ (spell_body message.body ++ rest)) fits.from_fits,
       id_again message.to (spell_body message.body ++ rest) fits.to_fits,
-      body_again message.body rest fits.body_fits) refl)
+      body_again message.body rest fits.body_fits,
+    ) refl)

@@ -1,9 +1,8 @@
 -- What was read as an item, an entry or a frame is spelled by the bytes that it was read from.
-use Rattle.std.proofs.Common.{◌≡◌, ℕ, List, [], ◌∷◌, ◌++◌, length, Bool, true, false, ◌==◌, if◌then◌else◌, Result, Ok, Err, refl, sym, ap, ◌∙◌, inl, inr, append_assoc, append-nil}
+use Rattle.std.proofs.Common.{◌≡◌, ℕ, List, [], ◌∷◌, ◌++◌, length, ◌==◌, Ok, Err, refl, sym, ap, ◌∙◌, inl, inr, append-nil}
 use Rattle.std.specs.Int.{w16, w32, w64, to_be_bytes}
 use Rattle.std.specs.List.{flat_map}
-use Rattle.dura_value.specs.Items.{Identity, Item, took, got, ran, ended, fired, trim, Entry}
-use Rattle.dura_value.specs.Reading.{◌>>=◌}
+use Rattle.dura_value.specs.Items.{Item, took, got, ran, ended, fired, trim, Entry}
 use Rattle.dura_codec.specs.Fields.{Read, byte_at, number_at, count_at, several_at, placed}
 use Rattle.dura_codec.specs.Grammar.{id_at, message_at, outcome_at}
 use Rattle.dura_codec.specs.Spelling.{spell_id, spell_outcome, spell_message}
@@ -51,8 +50,8 @@ got_only rest read all h =
     let numbers : Three s.0.1 a.0 b.0 c.0 = three_only s.0.1 a.0 b.0 c.0 (rest_are rest (to_be_bytes w32 s.0.0) s.0.1 first all) a.1 b.1 c.1 in
     let t = step (message_at c.0.1) _ read c.2 in
     spelled_item (got (record { partition = s.0.0; incarnation = a.0.0; position = b.0.0 }) c.0.0 t.0.0, t.0.1) read
-      (join_3 0x21 rest (to_be_bytes w32 s.0.0) s.0.1 (spell_three a.0.0 b.0.0 c.0.0) c.0.1 (spell_message t.0.0) t.0.1 first numbers.is (message_only c.0.1 t.0 numbers.are t.1))
-      (ok_is (got (record { partition = s.0.0; incarnation = a.0.0; position = b.0.0 }) c.0.0 t.0.0, t.0.1) read t.2)
+    (join_3 0x21 rest (to_be_bytes w32 s.0.0) s.0.1 (spell_three a.0.0 b.0.0 c.0.0) c.0.1 (spell_message t.0.0) t.0.1 first numbers.is (message_only c.0.1 t.0 numbers.are t.1))
+    (ok_is (got (record { partition = s.0.0; incarnation = a.0.0; position = b.0.0 }) c.0.0 t.0.0, t.0.1) read t.2)
 
 ran_only : (rest : List ℕ) (read : Item × List ℕ) → AreBytes rest → ran_at rest ≡ Ok read → 0x22 ∷ rest ≡ spell_item read.0 ++ read.1
 unfolding ran_at
@@ -64,8 +63,8 @@ ran_only rest read all h =
     let second : s.0.1 ≡ spell_id t.0.0 ++ t.0.1 = id_only s.0.1 t.0 after t.1 in
     let u = step (count_at t.0.1) _ read t.2 in
     spelled_item (ran s.0.0 t.0.0 u.0.0, u.0.1) read
-      (join_3 0x22 rest (spell_id s.0.0) s.0.1 (spell_id t.0.0) t.0.1 (to_be_bytes w64 u.0.0) u.0.1 first second (count_only t.0.1 u.0 (rest_are s.0.1 (spell_id t.0.0) t.0.1 second after) u.1))
-      (ok_is (ran s.0.0 t.0.0 u.0.0, u.0.1) read u.2)
+    (join_3 0x22 rest (spell_id s.0.0) s.0.1 (spell_id t.0.0) t.0.1 (to_be_bytes w64 u.0.0) u.0.1 first second (count_only t.0.1 u.0 (rest_are s.0.1 (spell_id t.0.0) t.0.1 second after) u.1))
+    (ok_is (ran s.0.0 t.0.0 u.0.0, u.0.1) read u.2)
 
 done_only : (rest : List ℕ) (read : Item × List ℕ) → AreBytes rest → done_at rest ≡ Ok read → 0x23 ∷ rest ≡ spell_item read.0 ++ read.1
 unfolding done_at
@@ -77,8 +76,8 @@ done_only rest read all h =
     let second : s.0.1 ≡ to_be_bytes w32 t.0.0 ++ t.0.1 = number_only_4 s.0.1 t.0 after t.1 in
     let u = step (outcome_at t.0.1) _ read t.2 in
     spelled_item (ended s.0.0 t.0.0 u.0.0, u.0.1) read
-      (join_3 0x23 rest (spell_id s.0.0) s.0.1 (to_be_bytes w32 t.0.0) t.0.1 (spell_outcome u.0.0) u.0.1 first second (outcome_only t.0.1 u.0 (rest_are s.0.1 (to_be_bytes w32 t.0.0) t.0.1 second after) u.1))
-      (ok_is (ended s.0.0 t.0.0 u.0.0, u.0.1) read u.2)
+    (join_3 0x23 rest (spell_id s.0.0) s.0.1 (to_be_bytes w32 t.0.0) t.0.1 (spell_outcome u.0.0) u.0.1 first second (outcome_only t.0.1 u.0 (rest_are s.0.1 (to_be_bytes w32 t.0.0) t.0.1 second after) u.1))
+    (ok_is (ended s.0.0 t.0.0 u.0.0, u.0.1) read u.2)
 
 fired_only : (rest : List ℕ) (read : Item × List ℕ) → AreBytes rest → fired_at rest ≡ Ok read → 0x24 ∷ rest ≡ spell_item read.0 ++ read.1
 unfolding fired_at
@@ -90,8 +89,8 @@ fired_only rest read all h =
     let second : s.0.1 ≡ to_be_bytes w32 t.0.0 ++ t.0.1 = number_only_4 s.0.1 t.0 after t.1 in
     let u = step (count_at t.0.1) _ read t.2 in
     spelled_item (fired s.0.0 t.0.0 u.0.0, u.0.1) read
-      (join_3 0x24 rest (spell_id s.0.0) s.0.1 (to_be_bytes w32 t.0.0) t.0.1 (to_be_bytes w64 u.0.0) u.0.1 first second (count_only t.0.1 u.0 (rest_are s.0.1 (to_be_bytes w32 t.0.0) t.0.1 second after) u.1))
-      (ok_is (fired s.0.0 t.0.0 u.0.0, u.0.1) read u.2)
+    (join_3 0x24 rest (spell_id s.0.0) s.0.1 (to_be_bytes w32 t.0.0) t.0.1 (to_be_bytes w64 u.0.0) u.0.1 first second (count_only t.0.1 u.0 (rest_are s.0.1 (to_be_bytes w32 t.0.0) t.0.1 second after) u.1))
+    (ok_is (fired s.0.0 t.0.0 u.0.0, u.0.1) read u.2)
 
 trim_only : (rest : List ℕ) (read : Item × List ℕ) → AreBytes rest → trim_at rest ≡ Ok read → 0x25 ∷ rest ≡ spell_item read.0 ++ read.1
 unfolding trim_at
@@ -103,8 +102,8 @@ trim_only rest read all h =
     let c = step (count_at b.0.1) _ read b.2 in
     let numbers : Three s.0.1 a.0 b.0 c.0 = three_only s.0.1 a.0 b.0 c.0 (rest_are rest (to_be_bytes w32 s.0.0) s.0.1 first all) a.1 b.1 c.1 in
     spelled_item (trim (record { partition = s.0.0; incarnation = b.0.0; position = c.0.0 }) a.0.0, c.0.1) read
-      (join_2 0x25 rest (to_be_bytes w32 s.0.0) s.0.1 (spell_three a.0.0 b.0.0 c.0.0) c.0.1 first numbers.is)
-      (ok_is (trim (record { partition = s.0.0; incarnation = b.0.0; position = c.0.0 }) a.0.0, c.0.1) read c.2)
+    (join_2 0x25 rest (to_be_bytes w32 s.0.0) s.0.1 (spell_three a.0.0 b.0.0 c.0.0) c.0.1 first numbers.is)
+    (ok_is (trim (record { partition = s.0.0; incarnation = b.0.0; position = c.0.0 }) a.0.0, c.0.1) read c.2)
 
 pub item_only : (bytes : List ℕ) (read : Item × List ℕ) → AreBytes bytes → item_at bytes ≡ Ok read → bytes ≡ spell_item read.0 ++ read.1
 unfolding item_at
@@ -123,8 +122,8 @@ item_only bytes read all h =
             | inr p ↦ elim (either (s.0.0 == 0x24) _ _ read p.1) [
               | inl p ↦ tagged bytes s.0.1 s.0.0 0x24 is p.0 ∙ fired_only s.0.1 read rest p.1
               | inr p ↦
-                let q = passed (s.0.0 == 0x25) _ _ read p.1 in
-                tagged bytes s.0.1 s.0.0 0x25 is q.0 ∙ trim_only s.0.1 read rest q.1
+                  let q = passed (s.0.0 == 0x25) _ _ read p.1 in
+                  tagged bytes s.0.1 s.0.0 0x25 is q.0 ∙ trim_only s.0.1 read rest q.1
             ]
           ]
         ]
@@ -153,7 +152,7 @@ entry_only bytes read all h =
     let items = several_only item_at spell_item item_only u.0.0 u.0.1 v.0 (rest_are t.0.1 (to_be_bytes w16 u.0.0) u.0.1 count behind) v.1 in
     let third : t.0.1 ≡ to_be_bytes w16 (length v.0.0) ++ u.0.1 = count ∙ ap (λ (n : ℕ). to_be_bytes w16 n ++ u.0.1) (sym items.1) in
     let heading : bytes ≡ ((to_be_bytes w64 s.0.0 ++ to_be_bytes w64 t.0.0) ++ to_be_bytes w16 (length v.0.0)) ++ u.0.1 =
-        chain_2 bytes (to_be_bytes w64 s.0.0 ++ to_be_bytes w64 t.0.0) t.0.1 (to_be_bytes w16 (length v.0.0)) u.0.1 (chain_2 bytes (to_be_bytes w64 s.0.0) s.0.1 (to_be_bytes w64 t.0.0) t.0.1 first second) third in
+    chain_2 bytes (to_be_bytes w64 s.0.0 ++ to_be_bytes w64 t.0.0) t.0.1 (to_be_bytes w16 (length v.0.0)) u.0.1 (chain_2 bytes (to_be_bytes w64 s.0.0) s.0.1 (to_be_bytes w64 t.0.0) t.0.1 first second) third in
     chain_2 bytes ((to_be_bytes w64 s.0.0 ++ to_be_bytes w64 t.0.0) ++ to_be_bytes w16 (length v.0.0)) u.0.1 (flat_map spell_item v.0.0) v.0.1 heading items.0
     ∙ ap (λ (q : Entry × List ℕ). spell_entry q.0 ++ q.1) (ok_is (record { position = s.0.0; incarnation = t.0.0; items = v.0.0 }, v.0.1) read v.2)
 

@@ -1,5 +1,5 @@
 -- What was read as an id, a body or a message is spelled by the bytes that it was read from.
-use Rattle.std.proofs.Common.{◌≡◌, ℕ, List, [], ◌∷◌, ◌++◌, length, Bool, true, false, ◌==◌, if◌then◌else◌, Option, Some, None, Result, Ok, Err, refl, sym, ap, ◌∙◌, inl, inr, ◌⊎◌, append_assoc}
+use Rattle.std.proofs.Common.{◌≡◌, ℕ, List, [], ◌∷◌, ◌++◌, length, Bool, true, false, ◌==◌, if◌then◌else◌, Option, Ok, refl, sym, ap, ◌∙◌, inl, inr, ◌⊎◌, append_assoc}
 use Rattle.std.specs.Int.{w32, to_be_bytes}
 use Rattle.std.specs.List.{flat_map}
 use Rattle.dura_value.specs.declared.outcome.Outcome.{Outcome}
@@ -7,7 +7,7 @@ use Rattle.dura_value.specs.declared.outcome.Outcome.TheVariants as outcomes
 use Rattle.dura_value.specs.Ids.{Id, orchestration, entity, client}
 use Rattle.dura_value.specs.Messages.{Reply, to_nobody, to_task, to_request, Answer, is_done, has_failed, was_started, was_there, is_unknown, was_raised, has_ended, is_missing, is_running, is_value, Spot, Body, start, raise, query, wait, result, operate, lock, granted, release, Message}
 use Rattle.dura_value.specs.Reading.{◌>>=◌}
-use Rattle.dura_codec.specs.Fields.{Read, byte_at, number_at, request_number_at, several_at}
+use Rattle.dura_codec.specs.Fields.{byte_at, number_at, request_number_at, several_at}
 use Rattle.dura_codec.specs.Grammar.{name_at, key_at, text_at, value_at, id_at, reply_at, word_of, word_or_fault, answer_at, outcome_at, spot_at, spot_count_at, lock_at, start_at, raise_at, query_at, wait_at, result_at, operate_at, granted_at, body_at, message_at}
 use Rattle.dura_codec.specs.Spelling.{spell_word, spell_text, spell_value, spell_id, spell_reply, spell_answer, spell_outcome, spell_spot, spell_body, spell_message}
 use Rattle.codec_laws.specs.Fits.{AreBytes}
@@ -44,8 +44,8 @@ id_only bytes read all h =
       | inr p ↦ elim (either (s.0.0 == 2) _ _ read p.1) [
         | inl q ↦ tagged bytes s.0.1 s.0.0 2 is q.0 ∙ entity_only s.0.1 read q.1
         | inr q ↦
-          let r = passed (s.0.0 == 3) _ _ read q.1 in
-          tagged bytes s.0.1 s.0.0 3 is r.0 ∙ client_only s.0.1 read r.1
+            let r = passed (s.0.0 == 3) _ _ read q.1 in
+            tagged bytes s.0.1 s.0.0 3 is r.0 ∙ client_only s.0.1 read r.1
       ]
     ]
 
@@ -73,8 +73,8 @@ reply_only bytes read all h =
       | inr p ↦ elim (either (s.0.0 == 1) _ _ read p.1) [
         | inl q ↦ tagged bytes s.0.1 s.0.0 1 is q.0 ∙ task_only s.0.1 read rest q.1
         | inr q ↦
-          let r = passed (s.0.0 == 2) _ _ read q.1 in
-          tagged bytes s.0.1 s.0.0 2 is r.0 ∙ asked_only s.0.1 read rest r.1
+            let r = passed (s.0.0 == 2) _ _ read q.1 in
+            tagged bytes s.0.1 s.0.0 2 is r.0 ∙ asked_only s.0.1 read rest r.1
       ]
     ]
 
@@ -119,16 +119,16 @@ answer_only bytes read all h =
     let rest : AreBytes s.0.1 = rest_are bytes (s.0.0 ∷ []) s.0.1 is all in
     elim (either (s.0.0 == 0) _ _ read s.2) [
       | inl p ↦
-        let t = step (value_at s.0.1) _ read p.1 in
-        tagged bytes s.0.1 s.0.0 0 is p.0 ∙ spelled_answer (is_done t.0.0, t.0.1) read (join_1 0 s.0.1 (spell_value t.0.0) t.0.1 (value_only s.0.1 t.0 rest t.1)) (ok_is _ read t.2)
+          let t = step (value_at s.0.1) _ read p.1 in
+          tagged bytes s.0.1 s.0.0 0 is p.0 ∙ spelled_answer (is_done t.0.0, t.0.1) read (join_1 0 s.0.1 (spell_value t.0.0) t.0.1 (value_only s.0.1 t.0 rest t.1)) (ok_is _ read t.2)
       | inr p ↦ elim (either (s.0.0 == 1) _ _ read p.1) [
         | inl p ↦
-          let t = step (text_at s.0.1) _ read p.1 in
-          tagged bytes s.0.1 s.0.0 1 is p.0 ∙ spelled_answer (has_failed t.0.0, t.0.1) read (join_1 1 s.0.1 (spell_text t.0.0) t.0.1 (text_only s.0.1 t.0 rest t.1)) (ok_is _ read t.2)
+            let t = step (text_at s.0.1) _ read p.1 in
+            tagged bytes s.0.1 s.0.0 1 is p.0 ∙ spelled_answer (has_failed t.0.0, t.0.1) read (join_1 1 s.0.1 (spell_text t.0.0) t.0.1 (text_only s.0.1 t.0 rest t.1)) (ok_is _ read t.2)
         | inr p ↦ elim (either (s.0.0 == 9) _ _ read p.1) [
           | inl p ↦
-            let t = step (value_at s.0.1) _ read p.1 in
-            tagged bytes s.0.1 s.0.0 9 is p.0 ∙ spelled_answer (is_value t.0.0, t.0.1) read (join_1 9 s.0.1 (spell_value t.0.0) t.0.1 (value_only s.0.1 t.0 rest t.1)) (ok_is _ read t.2)
+              let t = step (value_at s.0.1) _ read p.1 in
+              tagged bytes s.0.1 s.0.0 9 is p.0 ∙ spelled_answer (is_value t.0.0, t.0.1) read (join_1 9 s.0.1 (spell_value t.0.0) t.0.1 (value_only s.0.1 t.0 rest t.1)) (ok_is _ read t.2)
           | inr p ↦ answer_word_only bytes s.0.1 s.0.0 read is p.1
         ]
       ]
@@ -145,12 +145,12 @@ outcome_only bytes read all h =
     let rest : AreBytes s.0.1 = rest_are bytes (s.0.0 ∷ []) s.0.1 is all in
     elim (either (s.0.0 == 0) _ _ read s.2) [
       | inl p ↦
-        let t = step (value_at s.0.1) _ read p.1 in
-        tagged bytes s.0.1 s.0.0 0 is p.0 ∙ spelled_outcome (outcomes.Done t.0.0, t.0.1) read (join_1 0 s.0.1 (spell_value t.0.0) t.0.1 (value_only s.0.1 t.0 rest t.1)) (ok_is _ read t.2)
+          let t = step (value_at s.0.1) _ read p.1 in
+          tagged bytes s.0.1 s.0.0 0 is p.0 ∙ spelled_outcome (outcomes.Done t.0.0, t.0.1) read (join_1 0 s.0.1 (spell_value t.0.0) t.0.1 (value_only s.0.1 t.0 rest t.1)) (ok_is _ read t.2)
       | inr p ↦
-        let q = passed (s.0.0 == 1) _ _ read p.1 in
-        let t = step (text_at s.0.1) _ read q.1 in
-        tagged bytes s.0.1 s.0.0 1 is q.0 ∙ spelled_outcome (outcomes.Failed t.0.0, t.0.1) read (join_1 1 s.0.1 (spell_text t.0.0) t.0.1 (text_only s.0.1 t.0 rest t.1)) (ok_is _ read t.2)
+          let q = passed (s.0.0 == 1) _ _ read p.1 in
+          let t = step (text_at s.0.1) _ read q.1 in
+          tagged bytes s.0.1 s.0.0 1 is q.0 ∙ spelled_outcome (outcomes.Failed t.0.0, t.0.1) read (join_1 1 s.0.1 (spell_text t.0.0) t.0.1 (text_only s.0.1 t.0 rest t.1)) (ok_is _ read t.2)
     ]
 
 -- parts one behind the other
@@ -240,7 +240,7 @@ lock_only rest read all h =
     let third : t.0.1 ≡ (length v.0.0 ∷ flat_map spell_spot v.0.0) ++ v.0.1 = count ∙ (ap (λ (n : ℕ). n ∷ u.0.1) (sym set.1) ∙ ap (λ (bs : List ℕ). length v.0.0 ∷ bs) set.0) in
     let w = step (byte_at v.0.1) _ read v.2 in
     spelled_body (lock s.0.0 t.0.0 v.0.0 w.0.0, w.0.1) read
-      (join_4 0x16 rest (spell_id s.0.0) s.0.1 (to_be_bytes w32 t.0.0) t.0.1 (length v.0.0 ∷ flat_map spell_spot v.0.0) v.0.1 (w.0.0 ∷ []) w.0.1 first second third (byte_only v.0.1 w.0 w.1)) (ok_is (lock s.0.0 t.0.0 v.0.0 w.0.0, w.0.1) read w.2)
+    (join_4 0x16 rest (spell_id s.0.0) s.0.1 (to_be_bytes w32 t.0.0) t.0.1 (length v.0.0 ∷ flat_map spell_spot v.0.0) v.0.1 (w.0.0 ∷ []) w.0.1 first second third (byte_only v.0.1 w.0 w.1)) (ok_is (lock s.0.0 t.0.0 v.0.0 w.0.0, w.0.1) read w.2)
 
 granted_only : (rest : List ℕ) (read : Body × List ℕ) → AreBytes rest → granted_at rest ≡ Ok read → 0x17 ∷ rest ≡ spell_body read.0 ++ read.1
 unfolding granted_at
@@ -271,8 +271,8 @@ body_only bytes read all h =
                   | inr p ↦ elim (either (s.0.0 == 0x17) _ _ read p.1) [
                     | inl p ↦ tagged bytes s.0.1 s.0.0 0x17 is p.0 ∙ granted_only s.0.1 read rest p.1
                     | inr p ↦
-                      let q = passed (s.0.0 == 0x18) _ _ read p.1 in
-                      spelled_body (release, s.0.1) read (tagged bytes s.0.1 s.0.0 0x18 is q.0) (ok_is _ read q.1)
+                        let q = passed (s.0.0 == 0x18) _ _ read p.1 in
+                        spelled_body (release, s.0.1) read (tagged bytes s.0.1 s.0.0 0x18 is q.0) (ok_is _ read q.1)
                   ]
                 ]
               ]

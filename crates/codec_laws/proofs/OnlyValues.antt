@@ -1,5 +1,5 @@
 -- What was read as a word, a text or a value is spelled by the bytes that it was read from.
-use Rattle.std.proofs.Common.{◌≡◌, ℕ, suc, ◌+◌, ◌-◌, ◌<◌, ◌≤◌, List, [], ◌∷◌, ◌++◌, length, take, drop, min, Bool, true, false, ◌&&◌, ◌==◌, nat_lt, nat_le, if◌then◌else◌, Result, Ok, Err, refl, sym, ap, ◌∙◌, inl, inr, length-append, length-take, take-append-drop, append_assoc, arith}
+use Rattle.std.proofs.Common.{◌≡◌, ℕ, ◌+◌, ◌-◌, ◌<◌, List, [], ◌∷◌, ◌++◌, length, take, drop, Bool, ◌==◌, nat_le, Ok, Err, refl, sym, ap, ◌∙◌, inl, inr, length-append, take-append-drop, append_assoc, arith}
 use Rattle.std.proofs.lemmas.List.Elements.{All-take}
 use Rattle.std.specs.Int.{w16, w64, to_be_bytes, cast_unsigned, cast_signed}
 use Rattle.std.specs.List.{flat_map}
@@ -9,14 +9,13 @@ use Rattle.std.proofs.Math.Seq.{drop-append_seam}
 use Rattle.dura_value.specs.declared.data.Scalar.{Scalar}
 use Rattle.dura_value.specs.declared.data.Scalar.TheVariants as scalars
 use Rattle.dura_value.specs.declared.data.Value.{Value}
-use Rattle.dura_value.specs.declared.data.Value.TheVariants as values
 use Rattle.dura_value.specs.Names.{is_name, is_key}
 use Rattle.dura_value.specs.Reading.{◌>>=◌}
 use Rattle.dura_codec.specs.Fields.{Read, byte_at, number_at, run_at, several_at}
 use Rattle.dura_codec.specs.Grammar.{word_size_at, name_at, key_at, text_at, scalar_at, scalars_at, value_front, of_front, value_at, value_of}
 use Rattle.dura_codec.specs.Spelling.{spell_word, spell_text, spell_scalar, spell_value}
 use Rattle.codec_laws.specs.Fits.{AreBytes}
-use Rattle.codec_laws.proofs.Steps.{ok_is, step, passed, failed, either, rest_are, byte_only, number_only_2, number_only_8, number_bound_8, run_only, several_only, tagged, join_1, join_2}
+use Rattle.codec_laws.proofs.Steps.{ok_is, step, passed, either, rest_are, byte_only, number_only_2, number_only_8, number_bound_8, run_only, several_only, tagged, join_1, join_2}
 
 size_only : (bytes : List ℕ) (read : ℕ × List ℕ) → word_size_at bytes ≡ Ok read → bytes ≡ read.0 ∷ read.1
 unfolding word_size_at
@@ -58,7 +57,7 @@ int_only rest read all h =
     let t = step (number_at w64 rest) _ read h in
     let back : cast_unsigned w64 (cast_signed w64 t.0.0) ≡ t.0.0 = of_z-to_z w64 t.0.0 (number_bound_8 rest t.0 all t.1) in
     let spelled : 3 ∷ rest ≡ spell_scalar (scalars.Int (cast_signed w64 t.0.0)) ++ t.0.1 =
-        join_1 3 rest (to_be_bytes w64 t.0.0) t.0.1 (number_only_8 rest t.0 all t.1) ∙ ap (λ (n : ℕ). (3 ∷ to_be_bytes w64 n) ++ t.0.1) (sym back) in
+    join_1 3 rest (to_be_bytes w64 t.0.0) t.0.1 (number_only_8 rest t.0 all t.1) ∙ ap (λ (n : ℕ). (3 ∷ to_be_bytes w64 n) ++ t.0.1) (sym back) in
     spelled ∙ ap (λ (q : Scalars). spell_scalar q.0 ++ q.1) (ok_is _ read t.2)
 
 text_scalar_only : (rest : List ℕ) (read : Scalars) → AreBytes rest → (text_at rest >>= λ text. Ok (scalars.Text text.0, text.1)) ≡ Ok read → 4 ∷ rest ≡ spell_scalar read.0 ++ read.1
@@ -81,8 +80,8 @@ scalar_only bytes read all h =
           | inr r ↦ elim (either (s.0.0 == 3) _ _ read r.1) [
             | inl t ↦ tagged bytes s.0.1 s.0.0 3 is t.0 ∙ int_only s.0.1 read rest t.1
             | inr t ↦
-              let u = passed (s.0.0 == 4) _ _ read t.1 in
-              tagged bytes s.0.1 s.0.0 4 is u.0 ∙ text_scalar_only s.0.1 read rest u.1
+                let u = passed (s.0.0 == 4) _ _ read t.1 in
+                tagged bytes s.0.1 s.0.0 4 is u.0 ∙ text_scalar_only s.0.1 read rest u.1
           ]
         ]
       ]
@@ -100,11 +99,11 @@ front_only most bytes count read all h =
     let f = front_ok bytes (take most bytes) (several_at scalar_at count (take most bytes)) read h in
     let r = several_only scalar_at spell_scalar scalar_only count (take most bytes) f.0 all f.1 in
     let whole : bytes ≡ flat_map spell_scalar f.0.0 ++ (f.0.1 ++ drop most bytes) =
-        sym (take-append-drop most bytes) ∙ (ap (λ (front : List ℕ). front ++ drop most bytes) r.0 ∙ append_assoc (flat_map spell_scalar f.0.0) f.0.1 (drop most bytes)) in
+    sym (take-append-drop most bytes) ∙ (ap (λ (front : List ℕ). front ++ drop most bytes) r.0 ∙ append_assoc (flat_map spell_scalar f.0.0) f.0.1 (drop most bytes)) in
     let sizes : length (take most bytes) ≡ length (flat_map spell_scalar f.0.0) + length f.0.1 = ap (λ (front : List ℕ). length front) r.0 ∙ length-append (flat_map spell_scalar f.0.0) f.0.1 in
     let used : length (take most bytes) - length f.0.1 ≡ length (flat_map spell_scalar f.0.0) = omega (arith, sizes) in
     let behind : drop (length (take most bytes) - length f.0.1) bytes ≡ f.0.1 ++ drop most bytes =
-        ap (λ (n : ℕ). drop n bytes) used ∙ (ap (λ (bs : List ℕ). drop (length (flat_map spell_scalar f.0.0)) bs) whole ∙ drop-append_seam (flat_map spell_scalar f.0.0) (f.0.1 ++ drop most bytes)) in
+    ap (λ (n : ℕ). drop n bytes) used ∙ (ap (λ (bs : List ℕ). drop (length (flat_map spell_scalar f.0.0)) bs) whole ∙ drop-append_seam (flat_map spell_scalar f.0.0) (f.0.1 ++ drop most bytes)) in
     (whole ∙ (ap (λ (rest : List ℕ). flat_map spell_scalar f.0.0 ++ rest) (sym behind) ∙ ap (λ (q : List Scalar × List ℕ). flat_map spell_scalar q.0 ++ q.1) f.2), sym (ap (λ (q : List Scalar × List ℕ). length q.0) f.2) ∙ r.1)
 
 scalars_only : (bytes : List ℕ) (read : List Scalar × List ℕ) → AreBytes bytes → scalars_at bytes ≡ Ok read → bytes ≡ to_be_bytes w16 (length read.0) ++ (flat_map spell_scalar read.0 ++ read.1)
@@ -133,11 +132,11 @@ value_only bytes read all h =
     let rest : AreBytes s.0.1 = rest_are bytes (s.0.0 ∷ []) s.0.1 is all in
     elim (either (s.0.0 == 5) _ _ read s.2) [
       | inl p ↦
-        let t = step (scalars_at s.0.1) _ read p.1 in
-        tagged bytes s.0.1 s.0.0 5 is p.0
-        ∙ (join_2 5 s.0.1 (to_be_bytes w16 (length t.0.0)) (flat_map spell_scalar t.0.0 ++ t.0.1) (flat_map spell_scalar t.0.0) t.0.1 (scalars_only s.0.1 t.0 rest t.1) refl
-        ∙ ap (λ (q : Value × List ℕ). spell_value q.0 ++ q.1) (ok_is _ read t.2))
+          let t = step (scalars_at s.0.1) _ read p.1 in
+          tagged bytes s.0.1 s.0.0 5 is p.0
+          ∙ (join_2 5 s.0.1 (to_be_bytes w16 (length t.0.0)) (flat_map spell_scalar t.0.0 ++ t.0.1) (flat_map spell_scalar t.0.0) t.0.1 (scalars_only s.0.1 t.0 rest t.1) refl
+          ∙ ap (λ (q : Value × List ℕ). spell_value q.0 ++ q.1) (ok_is _ read t.2))
       | inr p ↦
-        let t = step (scalar_at bytes) _ read p.1 in
-        scalar_only bytes t.0 all t.1 ∙ (ap (λ (front : List ℕ). front ++ t.0.1) (sym (same_spelling t.0.0)) ∙ ap (λ (q : Value × List ℕ). spell_value q.0 ++ q.1) (ok_is _ read t.2))
+          let t = step (scalar_at bytes) _ read p.1 in
+          scalar_only bytes t.0 all t.1 ∙ (ap (λ (front : List ℕ). front ++ t.0.1) (sym (same_spelling t.0.0)) ∙ ap (λ (q : Value × List ℕ). spell_value q.0 ++ q.1) (ok_is _ read t.2))
     ]

@@ -1,19 +1,18 @@
 -- Values are read again.
-use Rattle.std.proofs.Common.{◌≡◌, ℕ, suc, ◌+◌, ◌-◌, ◌<◌, ◌≤◌, ◌^◌, List, [], ◌∷◌, ◌++◌, length, take, drop, Bool, true, false, nat_lt, nat_le, if◌then◌else◌, Result, Ok, Err, refl, sym, ap, ◌∙◌, append_assoc, length-append, arith, All, to_z-of_z, ℤ, FitsSigned}
+use Rattle.std.proofs.Common.{◌≡◌, ℕ, suc, ◌+◌, ◌-◌, ◌≤◌, List, [], ◌∷◌, ◌++◌, length, take, Ok, refl, ap, ◌∙◌, append_assoc, length-append, arith, All, to_z-of_z, ℤ, FitsSigned}
 use mir.Facts.{Fits-of_z}
-use Rattle.std.specs.Int.{w16, w64, to_be_bytes, cast_unsigned, cast_signed}
+use Rattle.std.specs.Int.{w16, w64, to_be_bytes, cast_unsigned}
 use Rattle.std.specs.List.{flat_map}
 use Rattle.std.proofs.Math.Seq.{take-append-add, drop-append_seam}
 use Rattle.dura_value.specs.declared.data.Scalar.{Scalar}
 use Rattle.dura_value.specs.declared.data.Scalar.TheVariants as scalars
 use Rattle.dura_value.specs.declared.data.Value.{Value}
 use Rattle.dura_value.specs.declared.data.Value.TheVariants as values
-use Rattle.dura_value.specs.Reading.{◌>>=◌}
-use Rattle.dura_codec.specs.Fields.{Read, byte_at, number_at, several_at}
-use Rattle.dura_codec.specs.Grammar.{scalar_at, scalars_at, value_front, of_front, value_at, value_of}
+use Rattle.dura_codec.specs.Fields.{Read, number_at, several_at}
+use Rattle.dura_codec.specs.Grammar.{scalar_at, scalars_at, value_front, of_front, value_at}
 use Rattle.dura_codec.specs.Spelling.{spell_scalar, spell_value}
 use Rattle.codec_laws.specs.Fits.{FitsScalar, FitsList, FitsValue}
-use Rattle.codec_laws.proofs.Numbers.{is_within, behind, number_again_2, number_again_8}
+use Rattle.codec_laws.proofs.Numbers.{is_within, number_again_2, number_again_8}
 use Rattle.codec_laws.proofs.Words.{text_again}
 
 -- what holds of each holds of those behind the first
@@ -54,7 +53,7 @@ front_again : (most : ℕ) (parts : List Scalar) (rest : List ℕ) → length (f
 front_again most parts rest short each =
     let is : most ≡ length (flat_map spell_scalar parts) + (most - length (flat_map spell_scalar parts)) = omega arith in
     let front : take most (flat_map spell_scalar parts ++ rest) ≡ flat_map spell_scalar parts ++ take (most - length (flat_map spell_scalar parts)) rest =
-        ap (λ (n : ℕ). take n (flat_map spell_scalar parts ++ rest)) is ∙ take-append-add (flat_map spell_scalar parts) rest (most - length (flat_map spell_scalar parts)) in
+    ap (λ (n : ℕ). take n (flat_map spell_scalar parts ++ rest)) is ∙ take-append-add (flat_map spell_scalar parts) rest (most - length (flat_map spell_scalar parts)) in
     rw front (front_read (flat_map spell_scalar parts) (take (most - length (flat_map spell_scalar parts)) rest) rest parts _ (several_again scalar_at spell_scalar FitsScalar scalar_again parts (take (most - length (flat_map spell_scalar parts)) rest) each))
 
 pub scalars_again : (parts : List Scalar) (rest : List ℕ) → FitsList parts → scalars_at (to_be_bytes w16 (length parts) ++ (flat_map spell_scalar parts ++ rest)) ≡ Ok (parts, rest)

@@ -2,7 +2,7 @@
 use Rattle.std.specs.Prelude.{ℕ, List, [], ◌∷◌, codes}
 use Rattle.dura_value.specs.declared.data.Value.TheVariants as values
 use Rattle.dura_value.specs.declared.outcome.Outcome.TheVariants as outcomes
-use Rattle.dura_value.specs.Ids.{orchestration, client}
+use Rattle.dura_value.specs.Ids.{client}
 use Rattle.dura_value.specs.Messages.{query, release}
 use Rattle.dura_value.specs.Items.{Item, took, got, ran, ended, fired, trim}
 
@@ -12,8 +12,10 @@ use Rattle.dura_value.specs.Items.{Item, took, got, ran, ended, fired, trim}
 abbrev pub item_rows : List (List ℕ × Item)
 item_rows =
     (0x20 ∷ 3 ∷ 1 ∷ 0x61 ∷ 3 ∷ 1 ∷ 0x62 ∷ 0x12 ∷ 0 ∷ 0 ∷ 0 ∷ 1 ∷ [], took (record { from = client (codes "a"); to = client (codes "b"); body = query 1 }))
-    ∷ (0x21 ∷ 0 ∷ 0 ∷ 0 ∷ 1 ∷ 0 ∷ 0 ∷ 0 ∷ 0 ∷ 0 ∷ 0 ∷ 0 ∷ 2 ∷ 0 ∷ 0 ∷ 0 ∷ 0 ∷ 0 ∷ 0 ∷ 0 ∷ 3 ∷ 0 ∷ 0 ∷ 0 ∷ 0 ∷ 0 ∷ 0 ∷ 0 ∷ 4 ∷ 3 ∷ 1 ∷ 0x61 ∷ 3 ∷ 1 ∷ 0x62 ∷ 0x18 ∷ [],
-      got (record { partition = 1; incarnation = 2; position = 3 }) 4 (record { from = client (codes "a"); to = client (codes "b"); body = release }))
+    ∷ (
+      0x21 ∷ 0 ∷ 0 ∷ 0 ∷ 1 ∷ 0 ∷ 0 ∷ 0 ∷ 0 ∷ 0 ∷ 0 ∷ 0 ∷ 2 ∷ 0 ∷ 0 ∷ 0 ∷ 0 ∷ 0 ∷ 0 ∷ 0 ∷ 3 ∷ 0 ∷ 0 ∷ 0 ∷ 0 ∷ 0 ∷ 0 ∷ 0 ∷ 4 ∷ 3 ∷ 1 ∷ 0x61 ∷ 3 ∷ 1 ∷ 0x62 ∷ 0x18 ∷ [],
+      got (record { partition = 1; incarnation = 2; position = 3 }) 4 (record { from = client (codes "a"); to = client (codes "b"); body = release }),
+    )
     ∷ (0x22 ∷ 3 ∷ 1 ∷ 0x61 ∷ 3 ∷ 1 ∷ 0x62 ∷ 0 ∷ 0 ∷ 0 ∷ 0 ∷ 0 ∷ 0 ∷ 0 ∷ 5 ∷ [], ran (client (codes "a")) (client (codes "b")) 5)
     ∷ (0x23 ∷ 3 ∷ 1 ∷ 0x61 ∷ 0 ∷ 0 ∷ 0 ∷ 6 ∷ 0 ∷ 0 ∷ [], ended (client (codes "a")) 6 (outcomes.Done values.Null))
     ∷ (0x23 ∷ 3 ∷ 1 ∷ 0x61 ∷ 0 ∷ 0 ∷ 0 ∷ 6 ∷ 1 ∷ 0 ∷ 2 ∷ 0x6E ∷ 0x6F ∷ [], ended (client (codes "a")) 6 (outcomes.Failed (codes "no")))

@@ -37,8 +37,10 @@ body_rows =
     ∷ (0x13 ∷ 0 ∷ 0 ∷ 0 ∷ 1 ∷ [], wait 1)
     ∷ (0x14 ∷ 1 ∷ 0 ∷ 0 ∷ 0 ∷ 0 ∷ 0 ∷ 0 ∷ [], result (to_task 0) (is_done values.Null))
     ∷ (0x15 ∷ 3 ∷ 0x70 ∷ 0x75 ∷ 0x74 ∷ 0 ∷ 0 ∷ [], operate (codes "put") values.Null to_nobody)
-    ∷ (0x16 ∷ 1 ∷ 3 ∷ 0x53 ∷ 0x75 ∷ 0x6D ∷ 1 ∷ 0x78 ∷ 0 ∷ 0 ∷ 0 ∷ 2 ∷ 2 ∷ 3 ∷ 0x50 ∷ 0x6F ∷ 0x74 ∷ 1 ∷ 0x30 ∷ 3 ∷ 0x50 ∷ 0x6F ∷ 0x74 ∷ 1 ∷ 0x31 ∷ 1 ∷ [],
-      lock (orchestration (codes "Sum") (codes "x")) 2 (record { class = codes "Pot"; key = codes "0" } ∷ record { class = codes "Pot"; key = codes "1" } ∷ []) 1)
+    ∷ (
+      0x16 ∷ 1 ∷ 3 ∷ 0x53 ∷ 0x75 ∷ 0x6D ∷ 1 ∷ 0x78 ∷ 0 ∷ 0 ∷ 0 ∷ 2 ∷ 2 ∷ 3 ∷ 0x50 ∷ 0x6F ∷ 0x74 ∷ 1 ∷ 0x30 ∷ 3 ∷ 0x50 ∷ 0x6F ∷ 0x74 ∷ 1 ∷ 0x31 ∷ 1 ∷ [],
+      lock (orchestration (codes "Sum") (codes "x")) 2 (record { class = codes "Pot"; key = codes "0" } ∷ record { class = codes "Pot"; key = codes "1" } ∷ []) 1,
+    )
     ∷ (0x17 ∷ 0 ∷ 0 ∷ 0 ∷ 2 ∷ [], granted 2)
     ∷ (0x18 ∷ [], release)
     ∷ []
@@ -64,9 +66,10 @@ body_faults =
 
 -- client a starts Sum/x with null for its request 1
 abbrev pub message_rows : List (List ℕ × Message)
-message_rows =
-    (3 ∷ 1 ∷ 0x61 ∷ 1 ∷ 3 ∷ 0x53 ∷ 0x75 ∷ 0x6D ∷ 1 ∷ 0x78 ∷ 0x10 ∷ 0 ∷ 2 ∷ 0 ∷ 0 ∷ 0 ∷ 1 ∷ [],
-      record { from = client (codes "a"); to = orchestration (codes "Sum") (codes "x"); body = start values.Null (to_request 1) })
+message_rows = (
+  3 ∷ 1 ∷ 0x61 ∷ 1 ∷ 3 ∷ 0x53 ∷ 0x75 ∷ 0x6D ∷ 1 ∷ 0x78 ∷ 0x10 ∷ 0 ∷ 2 ∷ 0 ∷ 0 ∷ 0 ∷ 1 ∷ [],
+  record { from = client (codes "a"); to = orchestration (codes "Sum") (codes "x"); body = start values.Null (to_request 1) },
+)
     ∷ []
 
 -- a receiver of no kind; a body of no kind
