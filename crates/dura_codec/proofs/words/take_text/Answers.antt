@@ -1,4 +1,4 @@
-use Rattle.std.proofs.Common.{◌≡◌, rules, arith, false}
+use Rattle.std.proofs.Common.{◌≡◌, arith, false}
 use Rattle.std.specs.Str.{is_utf8}
 use Rattle.std.proofs.lemmas.Grind.{common_steps}
 use Rattle.dura_codec.specs.Fields.{run_at}
