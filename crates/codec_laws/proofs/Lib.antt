@@ -10,3 +10,4 @@ pub mod Prefixes
 pub mod Steps
 pub mod Values
 pub mod Words
+pub mod Writable
