@@ -1,10 +1,10 @@
 -- Entries are read again, and frames.
-use Rattle.std.proofs.Common.{◌≡◌, ℕ, suc, ◌+◌, ◌-◌, ◌<◌, ◌≤◌, ◌^◌, List, [], ◌∷◌, ◌++◌, length, Bool, true, false, ◌&&◌, nat_lt, nat_le, if◌then◌else◌, Result, Ok, Err, refl, sym, ap, ◌∙◌, append_assoc, append-nil, length-append, arith}
+use Rattle.std.proofs.Common.{◌≡◌, ℕ, ◌-◌, ◌<◌, ◌≤◌, List, [], ◌∷◌, ◌++◌, length, Ok, Err, refl, sym, ap, ◌∙◌, append_assoc, append-nil, length-append, arith}
 use Rattle.std.specs.Int.{w16, w64, to_be_bytes}
 use Rattle.std.specs.List.{flat_map}
 use Rattle.dura_value.specs.Items.{Item, Entry}
 use Rattle.dura_value.specs.Reading.{◌>>=◌}
-use Rattle.dura_codec.specs.Fields.{Read, number_at, count_at, several_at, placed}
+use Rattle.dura_codec.specs.Fields.{Read, several_at}
 use Rattle.part_items.specs.Grammar.{item_at, members_at, entry_at, alone, frame_at, frame_in}
 use Rattle.part_items.specs.Spelling.{spell_item, spell_heading, spell_entry, spell_frame}
 use Rattle.codec_laws.proofs.Numbers.{is_below, is_within, number_again_2, count_again}

@@ -1,12 +1,9 @@
 -- Ids are read again, and who is answered.
-use Rattle.std.proofs.Common.{◌≡◌, ℕ, suc, ◌+◌, ◌<◌, ◌≤◌, ◌^◌, List, [], ◌∷◌, ◌++◌, length, Bool, true, false, nat_lt, if◌then◌else◌, Result, Ok, Err, refl, sym, ap, ◌∙◌, append_assoc, arith}
-use Rattle.std.specs.Int.{w32, to_be_bytes}
+use Rattle.std.proofs.Common.{◌≡◌, ℕ, List, ◌∷◌, ◌++◌, true, Ok, refl, ap, ◌∙◌, append_assoc}
 use Rattle.dura_value.specs.Ids.{Id, orchestration, entity, client}
 use Rattle.dura_value.specs.Names.{is_name}
 use Rattle.dura_value.specs.Messages.{Reply, to_nobody, to_task, to_request}
-use Rattle.dura_value.specs.Reading.{◌>>=◌}
-use Rattle.dura_codec.specs.Fields.{Read, byte_at, number_at, request_number_at}
-use Rattle.dura_codec.specs.Grammar.{name_at, key_at, id_at, reply_at}
+use Rattle.dura_codec.specs.Grammar.{id_at, reply_at}
 use Rattle.dura_codec.specs.Spelling.{spell_word, spell_id, spell_reply}
 use Rattle.codec_laws.specs.Fits.{FitsPair, FitsId, FitsReply}
 use Rattle.codec_laws.proofs.Numbers.{number_again_4, request_again}

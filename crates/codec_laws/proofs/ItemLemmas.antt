@@ -1,19 +1,17 @@
 -- Items are read again.
-use Rattle.std.proofs.Common.{◌≡◌, ℕ, suc, ◌+◌, ◌<◌, ◌≤◌, ◌^◌, List, [], ◌∷◌, ◌++◌, length, Bool, true, false, if◌then◌else◌, Result, Ok, Err, refl, sym, ap, ◌∙◌, append_assoc, arith}
+use Rattle.std.proofs.Common.{◌≡◌, ℕ, List, ◌∷◌, ◌++◌, Ok, refl, ap, ◌∙◌}
 use Rattle.std.specs.Int.{w32, w64, to_be_bytes}
 use Rattle.dura_value.specs.declared.outcome.Outcome.{Outcome}
 use Rattle.dura_value.specs.Ids.{Id}
 use Rattle.dura_value.specs.Messages.{Message}
 use Rattle.dura_value.specs.Items.{Identity, Item, took, got, ran, ended, fired, trim}
-use Rattle.dura_value.specs.Reading.{◌>>=◌}
-use Rattle.dura_codec.specs.Fields.{Read, byte_at, number_at, count_at}
 use Rattle.dura_codec.specs.Spelling.{spell_id, spell_outcome, spell_message}
 use Rattle.part_items.specs.Grammar.{took_at, got_at, ran_at, done_at, fired_at, trim_at, item_at}
 use Rattle.part_items.specs.Spelling.{spell_three, spell_item}
 use Rattle.codec_laws.proofs.Numbers.{number_again_4, count_again}
 use Rattle.codec_laws.proofs.Ids.{id_again}
 use Rattle.codec_laws.proofs.Messages.{outcome_again, message_again, regroup, two, three}
-use Rattle.codec_laws.specs.ItemFits.{FitsIdentity, FitsItem}
+use Rattle.codec_laws.specs.ItemFits.{FitsItem}
 
 took_again : (message : Message) (rest : List ℕ) → FitsItem (took message) → took_at (spell_message message ++ rest) ≡ Ok (took message, rest)
 unfolding took_at

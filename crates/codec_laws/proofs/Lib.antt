@@ -3,6 +3,11 @@ pub mod Ids
 pub mod ItemLemmas
 pub mod Messages
 pub mod Numbers
+pub mod OnlyItems
+pub mod OnlyMessages
+pub mod OnlyValues
 pub mod Prefixes
+pub mod Steps
 pub mod Values
 pub mod Words
+pub mod Writable

@@ -1,11 +1,10 @@
 -- Numbers are read again.
-use Rattle.std.proofs.Common.{◌≡◌, ℕ, suc, ◌+◌, ◌-◌, ◌<◌, ◌≤◌, ◌^◌, List, [], ◌∷◌, ◌++◌, length, take, drop, Bool, true, false, nat_lt, nat_le, if◌then◌else◌, Result, Ok, Err, refl, sym, ap, ◌∙◌, length-append, arith}
+use Rattle.std.proofs.Common.{◌≡◌, ℕ, ◌<◌, ◌≤◌, ◌^◌, List, ◌++◌, length, take, drop, true, false, nat_lt, nat_le, Ok, refl, ap, ◌∙◌, length-append, arith}
 use Rattle.std.specs.Int.{Width, w16, w32, w64, byte_len, to_be_bytes, from_be_bytes}
 use Rattle.std.proofs.lemmas.Nat.{from_be_bytes-to_be_bytes_2, from_be_bytes-to_be_bytes_4, from_be_bytes-to_be_bytes_8}
 use Rattle.std.proofs.lemmas.Bool.Decides.{nat_tests}
 use Rattle.std.proofs.Math.Seq.{take-append_seam, drop-append_seam}
-use Rattle.dura_value.specs.Reading.{◌>>=◌}
-use Rattle.dura_codec.specs.Fields.{Read, number_at, count_at, request_number_at}
+use Rattle.dura_codec.specs.Fields.{number_at, count_at, request_number_at}
 
 -- a test that is passed
 pub not_below : (n m : ℕ) → m ≤ n → nat_lt n m ≡ false

@@ -1,20 +1,24 @@
 -- Values are read again.
-use Rattle.std.proofs.Common.{◌≡◌, ℕ, suc, ◌+◌, ◌-◌, ◌<◌, ◌≤◌, ◌^◌, List, [], ◌∷◌, ◌++◌, length, take, drop, Bool, true, false, nat_lt, nat_le, if◌then◌else◌, Result, Ok, Err, refl, sym, ap, ◌∙◌, append_assoc, length-append, arith, All, to_z-of_z, ℤ, FitsSigned}
+use Rattle.std.proofs.Common.{◌≡◌, ℕ, suc, ◌+◌, ◌-◌, ◌≤◌, List, [], ◌∷◌, ◌++◌, length, take, Ok, refl, ap, ◌∙◌, append_assoc, length-append, arith, All, to_z-of_z, ℤ, FitsSigned}
 use mir.Facts.{Fits-of_z}
-use Rattle.std.specs.Int.{w16, w64, to_be_bytes, cast_unsigned, cast_signed}
+use Rattle.std.specs.Int.{w16, w64, to_be_bytes, cast_unsigned}
 use Rattle.std.specs.List.{flat_map}
 use Rattle.std.proofs.Math.Seq.{take-append-add, drop-append_seam}
 use Rattle.dura_value.specs.declared.data.Scalar.{Scalar}
 use Rattle.dura_value.specs.declared.data.Scalar.TheVariants as scalars
 use Rattle.dura_value.specs.declared.data.Value.{Value}
 use Rattle.dura_value.specs.declared.data.Value.TheVariants as values
+<<<<<<< HEAD
 use Rattle.dura_value.specs.Reading.{◌>>=◌}
 use Rattle.dura_codec.specs.Fields.{Read, byte_at, number_at, several_at}
 use Rattle.dura_value.specs.Values.{value_of}
+=======
+use Rattle.dura_codec.specs.Fields.{Read, number_at, several_at}
+>>>>>>> 1f70649f390d615b86f826ad1b67a992185df9a4
 use Rattle.dura_codec.specs.Grammar.{scalar_at, scalars_at, value_front, of_front, value_at}
 use Rattle.dura_codec.specs.Spelling.{spell_scalar, spell_value}
 use Rattle.codec_laws.specs.Fits.{FitsScalar, FitsList, FitsValue}
-use Rattle.codec_laws.proofs.Numbers.{is_within, behind, number_again_2, number_again_8}
+use Rattle.codec_laws.proofs.Numbers.{is_within, number_again_2, number_again_8}
 use Rattle.codec_laws.proofs.Words.{text_again}
 
 -- what holds of each holds of those behind the first

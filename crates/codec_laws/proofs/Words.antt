@@ -1,13 +1,9 @@
 -- Names, keys and texts are read again.
-use Rattle.std.proofs.Common.{◌≡◌, ℕ, suc, ◌+◌, ◌-◌, ◌<◌, ◌≤◌, ◌^◌, List, [], ◌∷◌, ◌++◌, length, take, drop, Bool, true, false, ◌&&◌, nat_lt, nat_le, if◌then◌else◌, Result, Ok, Err, refl, sym, ap, ◌∙◌, arith, leb-true, append_assoc}
-use Rattle.std.specs.Int.{w16, to_be_bytes}
-use Rattle.std.specs.List.{list_all}
-use Rattle.std.specs.Char.{is_ascii_alphabetic}
+use Rattle.std.proofs.Common.{◌≡◌, ℕ, ◌<◌, ◌≤◌, List, [], ◌∷◌, ◌++◌, length, Bool, true, false, ◌&&◌, Ok, refl, arith, leb-true}
 use Rattle.std.specs.Str.{is_utf8}
-use Rattle.dura_value.specs.Reading.{◌>>=◌}
-use Rattle.dura_value.specs.Names.{is_name, is_key, goes_on_name, stands_in_key}
+use Rattle.dura_value.specs.Names.{is_name, is_key}
 use Rattle.dura_value.specs.Text.{IsText}
-use Rattle.dura_codec.specs.Fields.{Read, byte_at, number_at, run_at}
+use Rattle.dura_codec.specs.Fields.{run_at}
 use Rattle.dura_codec.specs.Grammar.{word_size_at, name_at, key_at, text_at}
 use Rattle.dura_codec.specs.Spelling.{spell_word, spell_text}
 use Rattle.codec_laws.proofs.Numbers.{is_below, is_within, enough, taken, behind, number_again_2}

@@ -15,6 +15,10 @@ use Rattle.dura_value.specs.Names.{is_name, is_key}
 use Rattle.dura_value.specs.Text.{IsText}
 use Rattle.dura_codec.specs.Spelling.{spell_scalar}
 
+-- numbers that are bytes
+abbrev pub AreBytes : List ℕ → Type 0
+AreBytes bytes = All (λ byte. byte < 256) bytes
+
 abbrev pub FitsScalar : Scalar → Type 0
 FitsScalar (scalars.Int n) = FitsSigned w64 n
 FitsScalar (scalars.Text text) = IsText text

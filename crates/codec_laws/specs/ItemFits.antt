@@ -1,5 +1,5 @@
 -- Which items, entries and frames are within the limits of the format.
-use Rattle.std.specs.Prelude.{ℕ, ◌<◌, ◌≤◌, List, length}
+use Rattle.std.specs.Prelude.{◌<◌, ◌≤◌, List, length}
 use Rattle.std.specs.List.{All}
 use Rattle.dura_value.specs.Items.{Identity, Item, took, got, ran, ended, fired, trim, Entry}
 use Rattle.part_items.specs.Tags.{most_members}

@@ -2,7 +2,7 @@
 use Rattle.std.specs.Prelude.{ℕ, List, [], ◌∷◌, codes}
 use Rattle.dura_value.specs.declared.data.Value.TheVariants as values
 use Rattle.dura_value.specs.declared.outcome.Outcome.TheVariants as outcomes
-use Rattle.dura_value.specs.Ids.{orchestration, client}
+use Rattle.dura_value.specs.Ids.{client}
 use Rattle.dura_value.specs.Messages.{query, release}
 use Rattle.dura_value.specs.Items.{Item, took, got, ran, ended, fired, trim}
 

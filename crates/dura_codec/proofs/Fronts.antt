@@ -1,5 +1,5 @@
 -- The bytes that a list may take.
-use Rattle.std.proofs.Common.{◌≡◌, ◌≤◌, ◌<◌, ℕ, List, length, take, sym, refl, arith}
+use Rattle.std.proofs.Common.{◌≡◌, ◌≤◌, ◌<◌, ℕ, List, length, take, sym, arith}
 use Rattle.std.proofs.lemmas.List.{take_all, length-take}
 use Rattle.dura_codec.specs.Grammar.{value_front}
 

@@ -1,5 +1,5 @@
 -- Bytes of which only a front is UTF-8.
-use Rattle.std.proofs.Common.{◌≡◌, ℕ, List, Bool, true, false, length, subst, sym, inl, inr, arith}
+use Rattle.std.proofs.Common.{◌≡◌, ℕ, List, false, length, subst, sym, inl, inr, arith}
 use Rattle.std.specs.Str.{IsUtf8, is_utf8, IsValidUpTo}
 use Rattle.dura_value.specs.declared.text.TextError.{TextError}
 use Rattle.dura_value.specs.declared.text.TextError.TheVariants.{TooLong, NotUtf8, Memory}

@@ -1,5 +1,5 @@
 -- What bytes read as. A fault is told by how many bytes are left from its field on.
-use Rattle.std.specs.Prelude.{ℕ, suc, ◌+◌, ◌-◌, ◌==◌, ◌&&◌, List, [], ◌∷◌, length, take, drop, Result, Ok, Err, Option, Some, None, nat_lt, nat_le, if◌then◌else◌}
+use Rattle.std.specs.Prelude.{ℕ, ◌+◌, ◌-◌, ◌==◌, ◌&&◌, List, length, take, drop, Ok, Err, Option, Some, None, nat_lt, nat_le, if◌then◌else◌}
 use Rattle.std.specs.Int.{w16, w32, w64, cast_signed}
 use Rattle.std.specs.Str.{is_utf8}
 use Rattle.dura_value.specs.declared.data.Scalar.{Scalar}

@@ -1,5 +1,5 @@
 -- How items, entries and frames are spelled.
-use Rattle.std.specs.Prelude.{◌≤◌, List, [], ◌∷◌, ◌++◌, length, ℕ}
+use Rattle.std.specs.Prelude.{◌≤◌, List, ◌∷◌, ◌++◌, length, ℕ}
 use Rattle.std.specs.List.{All, flat_map}
 use Rattle.std.specs.Int.{w16, w32, w64, to_be_bytes}
 use Rattle.dura_value.specs.Items.{Item, took, got, ran, ended, fired, trim, Entry}

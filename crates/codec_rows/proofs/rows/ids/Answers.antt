@@ -1,4 +1,4 @@
-use Rattle.std.proofs.Common.{◌≡◌, refl}
+use Rattle.std.proofs.Common.{refl}
 use Rattle.dura_codec.specs.Fields.{run_at}
 use Rattle.dura_codec.specs.Grammar.{word_size_at, name_at, key_at, id_at}
 use Rattle.codec_rows.proofs.rows.ids.Goals as goal

@@ -1,4 +1,4 @@
-use Rattle.std.proofs.Common.{◌≡◌, refl}
+use Rattle.std.proofs.Common.{refl}
 use Rattle.dura_codec.specs.Fields.{request_number_at}
 use Rattle.dura_codec.specs.Grammar.{reply_at}
 use Rattle.codec_rows.proofs.rows.replies.Goals as goal
