@@ -8,13 +8,8 @@ use Rattle.dura_value.specs.declared.data.Scalar.{Scalar}
 use Rattle.dura_value.specs.declared.data.Scalar.TheVariants as scalars
 use Rattle.dura_value.specs.declared.data.Value.{Value}
 use Rattle.dura_value.specs.declared.data.Value.TheVariants as values
-<<<<<<< HEAD
-use Rattle.dura_value.specs.Reading.{◌>>=◌}
-use Rattle.dura_codec.specs.Fields.{Read, byte_at, number_at, several_at}
 use Rattle.dura_value.specs.Values.{value_of}
-=======
 use Rattle.dura_codec.specs.Fields.{Read, number_at, several_at}
->>>>>>> 1f70649f390d615b86f826ad1b67a992185df9a4
 use Rattle.dura_codec.specs.Grammar.{scalar_at, scalars_at, value_front, of_front, value_at}
 use Rattle.dura_codec.specs.Spelling.{spell_scalar, spell_value}
 use Rattle.codec_laws.specs.Fits.{FitsScalar, FitsList, FitsValue}

@@ -28,7 +28,7 @@ fn check_order<R: Abort>(rt: &R, site: &Scripted<R>, wanted: &[CallKind]) {
     assert!(rt; site.calls().order() == wanted);
 }
 
-fn check_read<R: Abort>(rt: &R, site: &mut Scripted<R>, at: u64, wanted: &[u8]) {
+fn check_read(rt: &impl Abort, site: &mut impl Site, at: u64, wanted: &[u8]) {
     let mut out = [b'.'; 16];
     let count = site.read(FILE, at, &mut out).expect(rt, "a read");
     check_bytes(rt, &out[..count], wanted);
@@ -112,7 +112,7 @@ fn a_file_that_is_absent_is_safe_as_it_is(rt: HostRuntime) {
 }
 
 /// Which of a write, a length, a read, a sync and a line failed, as a letter each.
-fn failures<R: Abort>(site: &mut Scripted<R>) -> [u8; 5] {
+fn failures(site: &mut impl Site) -> [u8; 5] {
     let mut failed = [b'.'; 5];
     if site.write(FILE, 0, b"ab").is_err() {
         failed[0] = b'w';

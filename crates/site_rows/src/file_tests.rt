@@ -45,11 +45,11 @@ fn open(rt: &impl Abort, host: &HostRuntime, path: &str) -> Disk {
     CalledSite::new(calls, Unknown)
 }
 
-fn check_length(rt: &impl Abort, site: &mut Disk, file: u32, wanted: u64) {
+fn check_length(rt: &impl Abort, site: &mut impl Site, file: u32, wanted: u64) {
     check_same(rt, site.length(file).expect(rt, "a length"), wanted);
 }
 
-fn check_read(rt: &impl Abort, site: &mut Disk, file: u32, at: u64, wanted: &[u8]) {
+fn check_read(rt: &impl Abort, site: &mut impl Site, file: u32, at: u64, wanted: &[u8]) {
     let mut out = [0u8; 8];
     let count = site.read(file, at, &mut out).expect(rt, "a read");
     check_bytes(rt, &out[..count], wanted);
@@ -62,7 +62,7 @@ fn check_absent(rt: &impl Abort, host: &HostRuntime, path: &str, name: &str) {
 }
 
 /// A file that isn't there reads nothing, and none of this makes it.
-fn check_none(rt: &impl Abort, host: &HostRuntime, site: &mut Disk, path: &str) {
+fn check_none(rt: &impl Abort, host: &HostRuntime, site: &mut impl Site, path: &str) {
     check_length(rt, site, 17, 0);
     check_read(rt, site, 17, 0, b"");
     site.sync(17).expect(rt, "a sync");
@@ -70,13 +70,13 @@ fn check_none(rt: &impl Abort, host: &HostRuntime, site: &mut Disk, path: &str) 
 }
 
 /// Writes inside a file.
-fn overwrite(rt: &impl Abort, site: &mut Disk, file: u32, at: u64, bytes: &[u8]) {
+fn overwrite(rt: &impl Abort, site: &mut impl Site, file: u32, at: u64, bytes: &[u8]) {
     let length = site.length(file).expect(rt, "a length");
     assert!(rt; at <= length);
     site.write(file, at, bytes).expect(rt, "a write");
 }
 
-fn write_and_say(rt: &impl Abort, site: &mut Disk) {
+fn write_and_say(rt: &impl Abort, site: &mut impl Site) {
     site.write(17, 0, b"netherite").expect(rt, "a write");
     overwrite(rt, site, 17, 6, b"ra");
     check_length(rt, site, 17, 9);
@@ -85,7 +85,7 @@ fn write_and_say(rt: &impl Abort, site: &mut Disk) {
     site.say(b"kept\n").expect(rt, "a line");
 }
 
-fn check_kept(rt: &impl Abort, site: &mut Disk) {
+fn check_kept(rt: &impl Abort, site: &mut impl Site) {
     check_read(rt, site, 17, 2, b"therrae");
     check_read(rt, site, 17, 9, b"");
     check_read(rt, site, 17, 100, b"");
@@ -122,7 +122,7 @@ fn check_text(rt: &impl Abort, host: &HostRuntime, file: &str, wanted: &str) {
 fn check_name(
     rt: &impl Abort,
     host: &HostRuntime,
-    site: &mut Disk,
+    site: &mut impl Site,
     path: &str,
     number: u32,
     name: &str,
@@ -159,7 +159,7 @@ fn put_inputs(rt: &impl Abort, host: &HostRuntime, path: &str) {
     put_file(rt, host, path, "plan.json", "plan");
 }
 
-fn check_inputs(rt: &impl Abort, site: &mut Disk) {
+fn check_inputs(rt: &impl Abort, site: &mut impl Site) {
     check_read(rt, site, 0, 0, b"flows");
     check_read(rt, site, 1, 0, b"requests");
     check_read(rt, site, 2, 0, b"plan");
@@ -167,7 +167,7 @@ fn check_inputs(rt: &impl Abort, site: &mut Disk) {
 }
 
 /// No input is written or made.
-fn check_read_only(rt: &impl Abort, site: &mut Disk) {
+fn check_read_only(rt: &impl Abort, site: &mut impl Site) {
     site.write(0, 0, b"x").expect_err(rt, "a fault");
     site.write(1, 0, b"x").expect_err(rt, "a fault");
     site.write(2, 0, b"x").expect_err(rt, "a fault");
@@ -268,7 +268,7 @@ fn makes_no_directory(rt: HostRuntime) {
     remove(&rt, &rt, path.as_str());
 }
 
-fn check_nameless(rt: &impl Abort, site: &mut Disk, number: u32) {
+fn check_nameless(rt: &impl Abort, site: &mut impl Site, number: u32) {
     site.length(number).expect_err(rt, "a fault");
     site.read(number, 0, &mut [0; 8]).expect_err(rt, "a fault");
     site.write(number, 0, b"x").expect_err(rt, "a fault");
@@ -288,7 +288,7 @@ fn check_other_kind(rt: &impl Abort, host: &HostRuntime, site: &mut Disk, path: 
 }
 
 /// The directory itself is gone.
-fn check_gone(rt: &impl Abort, site: &mut Disk) {
+fn check_gone(rt: &impl Abort, site: &mut impl Site) {
     check_length(rt, site, 16, 0);
     site.write(16, 0, b"x").expect_err(rt, "a fault");
 }
