@@ -1,0 +1,4 @@
+pub mod Ids
+pub mod Counted
+pub mod Lines
+pub mod Texts

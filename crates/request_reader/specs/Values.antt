@@ -1,0 +1,74 @@
+-- The values that JSON stands for: null, truth values, integers of 64 bits, texts, and lists of these.
+use Rattle.std.specs.Prelude.{ℕ, ◌+◌, ◌&&◌, List, [], ◌∷◌, length, Bool, true, false, nat_le, Option, Some, None, option_map}
+use Rattle.std.specs.Option.{option_map_or}
+use Rattle.std.specs.Str.{is_utf8}
+use Rattle.serde_json.specs.Data.{Data, null, boolean, number, string, array, object, Items, no_items, item}
+use Rattle.serde_json.specs.Find.{get, as_array, as_i64}
+use Rattle.dura_value.specs.declared.data.Scalar.{Scalar}
+use Rattle.dura_value.specs.declared.data.Scalar.TheVariants as scalars
+use Rattle.dura_value.specs.declared.data.Value.{Value}
+use Rattle.dura_value.specs.declared.data.Value.TheVariants as values
+use Rattle.request_reader.specs.Json.{count_items}
+use Rattle.request_reader.specs.Reading.{◌>>=◌, guard, where_it}
+
+-- the most bytes of a text
+abbrev pub most_text_bytes : ℕ
+most_text_bytes = 4096
+
+-- the most scalars of a list
+abbrev pub most_scalars : ℕ
+most_scalars = 1024
+
+-- the most bytes of a list's scalars where they are written
+abbrev pub most_scalars_bytes : ℕ
+most_scalars_bytes = 65_533
+
+-- UTF-8 of not too many bytes
+abbrev pub is_text : List ℕ → Bool
+is_text bytes = is_utf8 bytes && nat_le (length bytes) most_text_bytes
+
+-- a number is an integer of 64 bits
+abbrev pub scalar_in : Data → Option Scalar
+scalar_in null = Some scalars.Null
+scalar_in (boolean false) = Some scalars.False
+scalar_in (boolean true) = Some scalars.True
+scalar_in (number n) = option_map scalars.Int (as_i64 n)
+scalar_in (string bytes) = option_map scalars.Text (where_it is_text bytes)
+scalar_in (array parts) = None
+scalar_in (object members) = None
+
+abbrev pub scalars_in : Items → Option (List Scalar)
+scalars_in no_items = Some []
+scalars_in (item d ds) = scalar_in d >>= λ s. scalars_in ds >>= λ ss. Some (s ∷ ss)
+
+-- how many bytes a scalar takes where it is written
+abbrev pub scalar_size : Scalar → ℕ
+scalar_size scalars.Null = 1
+scalar_size scalars.False = 1
+scalar_size scalars.True = 1
+scalar_size (scalars.Int n) = 9
+scalar_size (scalars.Text text) = 3 + length text
+
+abbrev pub scalars_size : List Scalar → ℕ
+scalars_size [] = 0
+scalars_size (s ∷ ss) = scalar_size s + scalars_size ss
+
+-- a list of not too many scalars, which isn't too long
+abbrev pub list_in : Items → Option (List Scalar)
+list_in parts = guard (nat_le (count_items parts) most_scalars) (scalars_in parts >>= where_it (λ ss. nat_le (scalars_size ss) most_scalars_bytes))
+
+-- a scalar as a value
+abbrev pub value_of : Scalar → Value
+value_of scalars.Null = values.Null
+value_of scalars.False = values.False
+value_of scalars.True = values.True
+value_of (scalars.Int n) = values.Int n
+value_of (scalars.Text bytes) = values.Text bytes
+
+-- an array is a list; all else stands for a scalar
+abbrev pub value_in : Data → Option Value
+value_in d = option_map_or (λ parts. option_map values.List (list_in parts)) (as_array d) (option_map value_of (scalar_in d))
+
+-- the value under this key, null where there is none
+abbrev pub value_at : List ℕ → Data → Option Value
+value_at key d = option_map_or value_in (get key d) (Some values.Null)
