@@ -1,9 +1,9 @@
 -- Which bytes are a text.
-use Rattle.std.proofs.Common.{◌≡◌, ℕ, ◌<◌, ◌≤◌, List, length, take, true, false, Bool, Some, None, refl, arith, subst}
+use Rattle.std.proofs.Common.{◌≡◌, ℕ, ◌<◌, ◌≤◌, List, length, true, false, Bool, Some, None, refl, arith}
 use Rattle.std.specs.Prelude.{nat_le, ◌&&◌}
 use Rattle.std.specs.Str.{is_utf8, IsUtf8, IsValidUpTo}
 use Rattle.std.proofs.lemmas.Bool.Decides.{nat_tests}
-use Rattle.std.proofs.lemmas.List.{take_all}
+use Rattle.std.proofs.Math.Seq.{take-length}
 use Rattle.dura_value.specs.Text.{IsText}
 use Rattle.request_reader.specs.Reading.{where_it}
 use Rattle.request_reader.specs.Values.{is_text, most_text_bytes}
@@ -25,4 +25,4 @@ pub long_fails : (bs : List ℕ) → most_text_bytes < length bs → where_it is
 long_fails bs long = rw (above (length bs) most_text_bytes long, false_right (is_utf8 bs)) refl
 
 pub invalid_fails : (bs : List ℕ) (at : ℕ) → IsValidUpTo bs at → IsUtf8 bs → where_it is_text bs ≡ None
-invalid_fails bs at up utf8 = absurd (up.longest (length bs) up.short ?)
+invalid_fails bs at up utf8 = absurd (up.longest (length bs) up.short (rw (take-length bs) utf8))

@@ -1,5 +1,5 @@
 -- The request that a line is.
-use Rattle.std.specs.Prelude.{ℕ, ◌+◌, ◌^◌, ◌&&◌, List, codes, Bool, true, false, not, nat_le, nat_lt, if◌then◌else◌, is_some, Option, Some, None}
+use Rattle.std.specs.Prelude.{ℕ, ◌+◌, ◌^◌, ◌&&◌, List, codes, Bool, true, false, nat_le, nat_lt, if◌then◌else◌, is_some, Option, Some}
 use Rattle.serde_json.specs.Data.{Data}
 use Rattle.serde_json.specs.Find.{get, as_number, as_u64}
 use Rattle.dura_value.specs.Ids.{Id, orchestration, entity, client}

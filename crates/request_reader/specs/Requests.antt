@@ -1,6 +1,7 @@
 -- The requests of a file, or the first line that is wrong.
-use Rattle.std.specs.Prelude.{◌≡◌, ℕ, ◌+◌, ◌==◌, ◌&&◌, ◌||◌, List, [], ◌∷◌, ◌++◌, Bool, false, true, nat_lt, if◌then◌else◌, fold, Option, Some, None, Result, Ok, Err}
+use Rattle.std.specs.Prelude.{◌≡◌, ℕ, ◌+◌, ◌==◌, ◌&&◌, ◌||◌, List, [], ◌∷◌, ◌++◌, Bool, false, true, nat_lt, if◌then◌else◌, fold, Result, Ok, Err}
 use Rattle.std.specs.List.{list_all, find, slice_split}
+use Rattle.std.specs.Option.{option_map_or}
 use Rattle.std.specs.Str.{bytes_eq}
 use Rattle.dura_value.specs.declared.data.Value.{Value}
 use Rattle.dura_value.specs.contracts.data.ValuePartialEq.TheImpl as values
@@ -55,13 +56,17 @@ is_by name number r = bytes_eq r.client name && r.number == number
 abbrev pub latest : List ℕ → List Request → ℕ
 latest name requests = fold (λ n r. if bytes_eq r.client name then r.number else n) 0 requests
 
--- A number that was used is passed over where the request is the same; a number that wasn't has to be above the client's others.
+-- a request whose number wasn't used: the number has to be above the client's others
+abbrev pub with_new : ℕ → List Request → Request → Result (List Request) Fault
+with_new line requests r = if nat_lt (latest r.client requests) r.number then Ok (requests ++ r ∷ []) else Err (bad_line line)
+
+-- a request whose number an earlier one has: it is passed over where it is the same
+abbrev pub with_used : List Request → Request → Request → Result (List Request) Fault
+with_used requests earlier r = if request_eq earlier r then Ok requests else Err (clash r.client r.number)
+
+-- the request of the line with this number, behind those of the lines before
 abbrev pub with_request : ℕ → List Request → Request → Result (List Request) Fault
-with_request line requests r = after (find (is_by r.client r.number) requests)
-  where
-    after : Option Request → Result (List Request) Fault
-    after (Some earlier) = if request_eq earlier r then Ok requests else Err (clash r.client r.number)
-    after None = if nat_lt (latest r.client requests) r.number then Ok (requests ++ r ∷ []) else Err (bad_line line)
+with_request line requests r = option_map_or (λ earlier. with_used requests earlier r) (find (is_by r.client r.number) requests) (with_new line requests r)
 
 -- spaces, tabs and carriage returns alone
 abbrev pub is_blank : List ℕ → Bool
@@ -69,11 +74,7 @@ is_blank line = list_all (λ byte. byte == 32 || byte == 9 || byte == 13) line
 
 -- the line of this number is passed over, or is a request
 abbrev pub after_line : ℕ → List Request → List ℕ → Result (List Request) Fault
-after_line number requests line = if is_blank line then Ok requests else after (request_on line)
-  where
-    after : Option Request → Result (List Request) Fault
-    after (Some r) = with_request number requests r
-    after None = Err (bad_line number)
+after_line number requests line = if is_blank line then Ok requests else option_map_or (with_request number requests) (request_on line) (Err (bad_line number))
 
 -- the lines from this number on
 abbrev pub after_lines : ℕ → List Request → List (List ℕ) → Result (List Request) Fault

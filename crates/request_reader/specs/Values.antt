@@ -34,8 +34,8 @@ scalar_in (boolean false) = Some scalars.False
 scalar_in (boolean true) = Some scalars.True
 scalar_in (number n) = option_map scalars.Int (as_i64 n)
 scalar_in (string bytes) = option_map scalars.Text (where_it is_text bytes)
-scalar_in (array parts) = None
-scalar_in (object members) = None
+scalar_in (array _) = None
+scalar_in (object _) = None
 
 abbrev pub scalars_in : Items → Option (List Scalar)
 scalars_in no_items = Some []

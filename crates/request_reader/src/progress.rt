@@ -63,7 +63,7 @@ impl Progress {
         ensures pushed { OnOk result (seen self.new ≡ seen self.old ++ request_of request ∷ []) }
         ensures stands { OnOk result (Stands self.new) }
     {
-        let place = self.requests.len();
+        let place = self.requests.as_slice().len();
         let client = request.client.clone(alloc)?;
         self.latest.insert(client, request.number)?;
         let client = request.client.clone(alloc)?;

@@ -1,17 +1,17 @@
 //! The requests of a file.
 
-ghost use Rattle.std.specs.Prelude.{◌≡◌, ◌^◌, ◌<◌, [], ◌∷◌, length, map, IfOk, MatchOption};
-ghost use Rattle.std.specs.List.{position};
+ghost use Rattle.std.specs.Prelude.{◌≡◌, ◌^◌, ◌<◌, [], ◌∷◌, length, map, None, IfOk, MatchOption, option_map};
+ghost use Rattle.std.specs.List.{find, position};
 ghost use Rattle.dura_value.specs.Views.{id_of, body_of};
 ghost use Rattle.dura_value.specs.Ids.{id_eq};
 ghost use Rattle.request_reader.specs.Line.{request_of};
 ghost use Rattle.request_reader.specs.Progress.{seen, Stands};
-ghost use Rattle.request_reader.specs.Requests.{Answers, body_eq, request_eq, with_request, is_blank, after_line, after_lines, is_line_feed, lines_of, requests_in};
+ghost use Rattle.request_reader.specs.Requests.{Answers, body_eq, request_eq, is_by, with_new, with_request, is_blank, after_line, after_lines, is_line_feed, lines_of, requests_in};
 
 use crate::error::{ReadError, RequestsError};
 use crate::line::request_on;
 use crate::progress::Progress;
-use dura_value::{Body, Id, Request};
+use dura_value::{Body, Id, Name, Request};
 use std::alloc::Global;
 
 #[tactic(auto, using(crate::proofs::Ids::derived_id_eq))]
@@ -42,11 +42,43 @@ fn is_same(a: &Request, b: &Request) -> bool
     is_same_id(&a.message.to, &b.message.to) && is_same_body(&a.message.body, &b.message.body)
 }
 
-/// The request of the line with this number comes behind what was read.
-fn with_request(
+/// The request of the line with this number, which no earlier line has, comes behind those of the lines before.
+fn with_new(
     alloc: Global,
     line: u64,
     mut progress: Progress,
+    request: Request,
+) -> Result<Progress, RequestsError>
+    requires stands { Stands progress }
+    requires unused { find (is_by request.client request.number) (seen progress) ≡ None }
+    ensures read { Answers seen result (with_new line (seen progress) (request_of request)) }
+    ensures stands { IfOk result Stands }
+{
+    if progress.latest_of(&request.client) < request.number {
+        progress.push(alloc, request)?;
+        Ok(progress)
+    } else {
+        Err(RequestsError::BadLine { line })
+    }
+}
+
+/// Whether the request was made by an earlier line, or is another one than that with its number.
+fn is_made(progress: &Progress, pair: &(Name, u32), request: &Request) -> Option<bool>
+    requires stands { Stands progress.now }
+    ensures { result ≡ option_map (λ r. request_eq r (request_of request.now)) (find (is_by pair.now.0 pair.now.1) (seen progress.now)) }
+{
+    match progress.earlier(pair) {
+        Some(earlier) => Some(is_same(earlier, request)),
+        None => None,
+    }
+}
+
+/// The request of the line with this number comes behind those of the lines before.
+#[tactic(auto, using(crate::proofs::Used::used_same, crate::proofs::Used::used_other, crate::proofs::Used::unused, crate::proofs::Used::unused_new))]
+fn with_request(
+    alloc: Global,
+    line: u64,
+    progress: Progress,
     request: Request,
 ) -> Result<Progress, RequestsError>
     requires { Stands progress }
@@ -54,20 +86,14 @@ fn with_request(
     ensures stands { IfOk result Stands }
 {
     let pair = (request.client.clone(alloc)?, request.number);
-    if let Some(earlier) = progress.earlier(&pair) {
-        if is_same(earlier, &request) {
-            return Ok(progress);
-        }
-        return Err(RequestsError::Clash {
+    match is_made(&progress, &pair, &request) {
+        Some(true) => Ok(progress),
+        Some(false) => Err(RequestsError::Clash {
             client: request.client,
             number: request.number,
-        });
+        }),
+        None => with_new(alloc, line, progress, request),
     }
-    if progress.latest_of(&request.client) >= request.number {
-        return Err(RequestsError::BadLine { line });
-    }
-    progress.push(alloc, request)?;
-    Ok(progress)
 }
 
 fn is_blank(line: &[u8]) -> bool

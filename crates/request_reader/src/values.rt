@@ -54,6 +54,7 @@ fn scalar_in(alloc: Global, value: &Json) -> Result<Scalar, ReadError>
     }
 }
 
+#[tactic(auto, using(crate::proofs::Scalars::goes_on, crate::proofs::Scalars::ends))]
 fn scalars_in(alloc: Global, parts: &[Json]) -> Result<Vec<Scalar>, ReadError>
     ensures { Gives (λ scalars. scalars.items) result (scalars_in (items_view parts.now)) }
 {
@@ -82,6 +83,7 @@ fn scalar_size(scalar: &Scalar) -> usize
 }
 
 /// Whether scalars are few enough bytes for a list.
+#[tactic(auto, using(crate::proofs::Scalars::counted, crate::proofs::Scalars::too_many))]
 fn are_short(scalars: &[Scalar]) -> bool
     ensures { result ≡ nat_le (scalars_size scalars.now) most_scalars_bytes }
 {

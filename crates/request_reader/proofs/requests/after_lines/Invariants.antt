@@ -1,5 +1,5 @@
 -- What is still to come leads on to what all lines come to.
-use Rattle.std.proofs.Common.{◌≡◌, ◌≤◌, ◌+◌, ℕ, length}
+use Rattle.std.proofs.Common.{◌≡◌, ◌≤◌, ◌+◌, length}
 use Rattle.request_reader.specs.Requests.{lines_of, after_lines, requests_in}
 use Rattle.request_reader.specs.Progress.{seen, Stands}
 use Rattle.request_reader.proofs.requests.after_lines.Given as goal

@@ -1,0 +1,7 @@
+-- What was counted and what is left make the limit.
+use Rattle.std.proofs.Common.{◌≡◌, ◌+◌, drop}
+use Rattle.request_reader.specs.Values.{scalars_size, most_scalars_bytes}
+use Rattle.request_reader.proofs.values.are_short.Given as goal
+
+abbrev pub invariant-loop-scalar : goal.invariant-loop-scalar
+invariant-loop-scalar l = scalars_size l.scalars + l.left ≡ most_scalars_bytes + scalars_size (drop l.scalar-index l.scalars)
