@@ -1,3 +1,4 @@
 pub mod Homes
 pub mod Ids
 pub mod Texts
+pub mod Words

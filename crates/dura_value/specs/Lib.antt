@@ -2,6 +2,7 @@ pub mod Bytes
 pub mod Digest
 pub mod Ids
 pub mod Items
+pub mod Limits
 pub mod Messages
 pub mod Names
 pub mod Reading

@@ -1,5 +1,5 @@
 -- What instances, entities and clients say to one another.
-use Rattle.std.specs.Prelude.{ℕ, ◌&&◌, ◌||◌, List, [], ◌∷◌, Bool, false, if◌then◌else◌, Option, Some, None, suc, zero}
+use Rattle.std.specs.Prelude.{ℕ, ◌&&◌, ◌||◌, List, [], ◌∷◌, Bool, if◌then◌else◌, Option, Some, None, suc, zero}
 use Rattle.std.specs.Str.{bytes_eq}
 use Rattle.dura_value.specs.declared.data.Value.{Value}
 use Rattle.dura_value.specs.Bytes.{bytes_before}

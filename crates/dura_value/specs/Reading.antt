@@ -5,6 +5,7 @@ use Rattle.std.specs.Char.{is_ascii_alphabetic}
 use Rattle.dura_value.specs.declared.faults.ReadError.{ReadError}
 use Rattle.dura_value.specs.declared.faults.ReadError.TheVariants.{Bad, Memory}
 use Rattle.dura_value.specs.Ids.{Id, orchestration, entity, client}
+use Rattle.dura_value.specs.Limits.{most_word_bytes}
 use Rattle.dura_value.specs.Names.{is_name, is_key, goes_on_name, stands_in_key}
 
 -- a step of reading goes on with what was read, or ends with the offset of the fault
@@ -25,11 +26,11 @@ Gives view (Err error) read = Fails error read
 -- how many of the first bytes begin a name
 abbrev pub name_front : List ℕ → ℕ
 name_front [] = 0
-name_front (first ∷ rest) = if is_ascii_alphabetic first then min 64 (suc (prefix_len goes_on_name rest)) else 0
+name_front (first ∷ rest) = if is_ascii_alphabetic first then min most_word_bytes (suc (prefix_len goes_on_name rest)) else 0
 
 -- how many of the first bytes begin a key
 abbrev pub key_front : List ℕ → ℕ
-key_front bytes = min 64 (prefix_len stands_in_key bytes)
+key_front bytes = min most_word_bytes (prefix_len stands_in_key bytes)
 
 -- a name that begins at this offset, or how far the bytes begin one
 abbrev pub name_at : ℕ → List ℕ → Result (List ℕ) ℕ

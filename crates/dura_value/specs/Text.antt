@@ -3,10 +3,7 @@ use Rattle.std.specs.Prelude.{◌≡◌, ℕ, ◌<◌, ◌≤◌, List, length, 
 use Rattle.std.specs.Str.{is_utf8, IsValidUpTo}
 use Rattle.dura_value.specs.declared.text.TextError.{TextError}
 use Rattle.dura_value.specs.declared.text.TextError.TheVariants.{TooLong, NotUtf8, Memory}
-
--- the most bytes of a text
-abbrev pub most_text_bytes : ℕ
-most_text_bytes = 4096
+use Rattle.dura_value.specs.Limits.{most_text_bytes}
 
 -- UTF-8, and not too long
 abbrev pub IsText : List ℕ → Type 0

@@ -4,7 +4,7 @@ ghost use Rattle.std.specs.Prelude.{◌≡◌, ◌<◌, ◌++◌, OnOk};
 ghost use Rattle.dura_value.specs.Ids.{written, home};
 ghost use Rattle.dura_value.specs.Views.{id_of};
 
-use crate::digest::{begins, goes_on};
+use crate::digest::{BASIS, goes_on};
 use crate::names::{Key, Name};
 use std::alloc::AllocError;
 
@@ -34,13 +34,13 @@ pub fn home(id: &Id, partitions: u32) -> u32
     ensures { result ≡ home partitions (id_of id.now) }
 {
     let digest = match id {
-        Id::Client(name) => goes_on(goes_on(begins(), &[OF_CLIENT]), name.as_bytes()),
+        Id::Client(name) => goes_on(goes_on(BASIS, &[OF_CLIENT]), name.as_bytes()),
         Id::Entity(class, key) => {
-            let class = goes_on(goes_on(begins(), &[OF_ENTITY]), class.as_bytes());
+            let class = goes_on(goes_on(BASIS, &[OF_ENTITY]), class.as_bytes());
             goes_on(goes_on(class, &[BETWEEN]), key.as_bytes())
         }
         Id::Flow(flow, key) => {
-            let flow = goes_on(begins(), flow.as_bytes());
+            let flow = goes_on(BASIS, flow.as_bytes());
             goes_on(goes_on(flow, &[BETWEEN]), key.as_bytes())
         }
     };

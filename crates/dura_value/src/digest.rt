@@ -2,12 +2,12 @@
 
 ghost use Rattle.std.specs.Prelude.{◌≡◌, ◌++◌, fold};
 ghost use Rattle.byteorder.specs.Endian.{big_bytes};
-ghost use Rattle.dura_value.specs.Digest.{fnv, fnv_basis, fnv_byte};
+ghost use Rattle.dura_value.specs.Digest.{fnv, fnv_byte};
 
 use byteorder::{BigEndian, ByteOrder};
 
-/// Of no byte.
-const BASIS: u64 = 0xcbf2_9ce4_8422_2325;
+/// The digest of no byte.
+pub(crate) const BASIS: u64 = 0xcbf2_9ce4_8422_2325;
 
 const PRIME: u64 = 0x100_0000_01b3;
 
@@ -28,22 +28,11 @@ pub(crate) fn goes_on(hash: u64, bytes: &[u8]) -> u64
     hash
 }
 
-/// The digest of no byte.
-pub(crate) fn begins() -> u64
-    ensures { result ≡ fnv_basis }
-{
-    BASIS
-}
-
 /// The digest of bytes.
 pub fn fnv(bytes: &[u8]) -> u64
     ensures { result ≡ fnv bytes.now }
 {
-    let mut hash = BASIS;
-    for byte in bytes {
-        hash = with_byte(hash, *byte);
-    }
-    hash
+    goes_on(BASIS, bytes)
 }
 
 /// The word that a run of an activity is given: the digest of the seed, the node and the number of the run on it.

@@ -4,7 +4,7 @@
 //! - `text` is a bounded text, `data` the values that flows compute with, and `names` short words.
 //! - `outcome` is what an activity or an instance came to.
 //! - `digest` is a digest of 64 bits.
-//! - `laws` has a law of ids.
+//! - `limits` has the limits of the format, which `specs/Limits` states.
 #![tactic(auto)]
 
 mod addresses;
@@ -12,7 +12,7 @@ mod compare;
 mod data;
 mod digest;
 mod faults;
-mod laws;
+mod limits;
 mod messages;
 mod names;
 mod outcome;
@@ -26,6 +26,10 @@ pub use addresses::{Id, home};
 pub use data::{Scalar, Scalars, Value};
 pub use digest::{fnv, word};
 pub use faults::ReadError;
+pub use limits::{
+    MOST_SCALARS, MOST_SCALARS_BYTES, MOST_SPOTS, MOST_TEXT_BYTES, MOST_VALUE_BYTES,
+    MOST_WORD_BYTES, NUMBER_LIMIT,
+};
 pub use messages::{Answer, Body, Message, Reply, Request};
 pub use names::{Key, Name, is_key, is_name};
 pub use outcome::Outcome;

@@ -1,14 +1,13 @@
 //! Names and keys: short words over few bytes.
 
 ghost use Rattle.std.specs.Prelude.{◌≡◌, ◌≤◌, length, true, IfOk};
-ghost use Rattle.std.specs.List.{list_all};
+ghost use Rattle.std.specs.List.{list_all, prefix_len};
+ghost use Rattle.dura_value.specs.Limits.{most_word_bytes};
 ghost use Rattle.dura_value.specs.Names.{is_name, is_key, goes_on_name, stands_in_key};
 
+use crate::limits::MOST_WORD_BYTES;
 use std::alloc::{AllocError, Global};
 use std::marker::Model;
-
-/// The most bytes of a name and of a key.
-pub(crate) const MOST_BYTES: usize = 64;
 
 /// A name, which a contract sees as its bytes.
 #[derive(Clone, Debug, Drop)]
@@ -44,35 +43,54 @@ impl Model for Key {
     ghost invariant = { λ k. is_key k.bytes.items ≡ true };
 }
 
-pub(crate) fn goes_on_name(byte: u8) -> bool
+fn goes_on_name(byte: u8) -> bool
     ensures { result ≡ goes_on_name byte }
 {
     byte.is_ascii_alphanumeric() || byte == b'_'
 }
 
-fn go_on_name(bytes: &[u8]) -> bool
-    ensures { result ≡ list_all goes_on_name bytes.now }
-{
-    bytes.iter().all(|byte| goes_on_name(*byte))
-}
-
-pub(crate) fn stands_in_key(byte: u8) -> bool
+fn stands_in_key(byte: u8) -> bool
     ensures { result ≡ stands_in_key byte }
 {
     goes_on_name(byte) || byte == b'-' || byte == b'.'
 }
 
-fn stand_in_key(bytes: &[u8]) -> bool
-    ensures { result ≡ list_all stands_in_key bytes.now }
+/// How many of the first bytes go on a name.
+pub(crate) fn count_in_name(bytes: &[u8]) -> usize
+    ensures { result ≡ prefix_len goes_on_name bytes.now }
 {
-    bytes.iter().all(|byte| stands_in_key(*byte))
+    for (index, byte) in bytes.iter().enumerate() {
+        if !goes_on_name(*byte) {
+            return index;
+        }
+    }
+    bytes.len()
+}
+
+#[tactic(auto, using(crate::proofs::Words::prefix_whole))]
+fn go_on_name(bytes: &[u8]) -> bool
+    ensures { result ≡ list_all goes_on_name bytes.now }
+{
+    count_in_name(bytes) == bytes.len()
+}
+
+/// How many of the first bytes may stand in a key.
+pub(crate) fn count_in_key(bytes: &[u8]) -> usize
+    ensures { result ≡ prefix_len stands_in_key bytes.now }
+{
+    for (index, byte) in bytes.iter().enumerate() {
+        if !stands_in_key(*byte) {
+            return index;
+        }
+    }
+    bytes.len()
 }
 
 /// Whether the bytes are a name: 1 to 64 of them, a letter, then letters, digits and `_`.
 pub fn is_name(bytes: &[u8]) -> bool
     ensures { result ≡ is_name bytes.now }
 {
-    if bytes.len() > MOST_BYTES {
+    if bytes.len() > MOST_WORD_BYTES {
         return false;
     }
     match bytes {
@@ -88,13 +106,14 @@ pub fn is_name(bytes: &[u8]) -> bool
 }
 
 /// Whether the bytes are a key: 1 to 64 letters, digits, `_`, `-` and `.`.
+#[tactic(auto, using(crate::proofs::Words::prefix_whole))]
 pub fn is_key(bytes: &[u8]) -> bool
     ensures { result ≡ is_key bytes.now }
 {
-    if bytes.is_empty() || bytes.len() > MOST_BYTES {
+    if bytes.is_empty() || bytes.len() > MOST_WORD_BYTES {
         return false;
     }
-    stand_in_key(bytes)
+    count_in_key(bytes) == bytes.len()
 }
 
 impl Name {
@@ -111,17 +130,9 @@ impl Name {
     pub fn as_bytes(&self) -> &[u8]
         ensures same { result.now ≡ self.now }
         ensures name { is_name self.now ≡ true }
-        ensures short { length self.now ≤ 64 }
+        ensures short { length self.now ≤ most_word_bytes }
     {
         self.bytes.as_slice()
-    }
-
-    /// A copy with memory of its own.
-    pub fn clone(&self, alloc: Global) -> Result<Name, AllocError>
-        ensures { IfOk result (λ n. n ≡ self.now) }
-    {
-        let bytes = Vec::from_slice(alloc, self.bytes.as_slice())?;
-        Ok(Name { bytes })
     }
 }
 
@@ -139,16 +150,8 @@ impl Key {
     pub fn as_bytes(&self) -> &[u8]
         ensures same { result.now ≡ self.now }
         ensures key { is_key self.now ≡ true }
-        ensures short { length self.now ≤ 64 }
+        ensures short { length self.now ≤ most_word_bytes }
     {
         self.bytes.as_slice()
-    }
-
-    /// A copy with memory of its own.
-    pub fn clone(&self, alloc: Global) -> Result<Key, AllocError>
-        ensures { IfOk result (λ k. k ≡ self.now) }
-    {
-        let bytes = Vec::from_slice(alloc, self.bytes.as_slice())?;
-        Ok(Key { bytes })
     }
 }

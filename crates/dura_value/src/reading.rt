@@ -1,37 +1,15 @@
 //! Names, keys and ids from their written forms.
 
 ghost use Rattle.std.specs.Prelude.{◌≡◌, ◌+◌, ◌^◌, ◌<◌, ◌≤◌, length};
-ghost use Rattle.std.specs.List.{prefix_len, position_or_len};
-ghost use Rattle.dura_value.specs.Names.{goes_on_name, stands_in_key};
+ghost use Rattle.std.specs.List.{position_or_len};
 ghost use Rattle.dura_value.specs.Reading.{Gives, name_at, key_at, pair_at, id_in, name_front, key_front, is_slash};
 ghost use Rattle.dura_value.specs.Views.{id_of};
 
 use crate::addresses::{BETWEEN, Id, OF_CLIENT, OF_ENTITY};
 use crate::faults::ReadError;
-use crate::names::{Key, MOST_BYTES, Name, goes_on_name, is_key, is_name, stands_in_key};
+use crate::limits::MOST_WORD_BYTES;
+use crate::names::{Key, Name, count_in_key, count_in_name, is_key, is_name};
 use std::alloc::Global;
-
-fn count_in_name(bytes: &[u8]) -> usize
-    ensures { result ≡ prefix_len goes_on_name bytes.now }
-{
-    for (index, byte) in bytes.iter().enumerate() {
-        if !goes_on_name(*byte) {
-            return index;
-        }
-    }
-    bytes.len()
-}
-
-fn count_in_key(bytes: &[u8]) -> usize
-    ensures { result ≡ prefix_len stands_in_key bytes.now }
-{
-    for (index, byte) in bytes.iter().enumerate() {
-        if !stands_in_key(*byte) {
-            return index;
-        }
-    }
-    bytes.len()
-}
 
 fn count_to_slash(bytes: &[u8]) -> usize
     ensures place { result ≡ position_or_len is_slash bytes.now }
@@ -54,10 +32,10 @@ fn name_front(bytes: &[u8]) -> usize
         [first, rest @ ..] => {
             if first.is_ascii_alphabetic() {
                 let count = count_in_name(rest);
-                if count < MOST_BYTES {
+                if count < MOST_WORD_BYTES {
                     count + 1
                 } else {
-                    MOST_BYTES
+                    MOST_WORD_BYTES
                 }
             } else {
                 0
@@ -71,10 +49,10 @@ fn key_front(bytes: &[u8]) -> usize
     ensures { result ≡ key_front bytes.now }
 {
     let count = count_in_key(bytes);
-    if count < MOST_BYTES {
+    if count < MOST_WORD_BYTES {
         count
     } else {
-        MOST_BYTES
+        MOST_WORD_BYTES
     }
 }
 

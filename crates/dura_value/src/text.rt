@@ -3,12 +3,10 @@
 ghost use Rattle.std.specs.Prelude.{◌≡◌, IfOk, IfErr};
 ghost use Rattle.dura_value.specs.Text.{IsText, Explains};
 
-use std::alloc::{AllocError, Global};
+use crate::limits::MOST_TEXT_BYTES;
+use std::alloc::Global;
 use std::marker::Model;
 use thiserror::Error;
-
-/// The most bytes of a text.
-const MOST_BYTES: usize = 4096;
 
 /// A text, which a contract sees as its bytes.
 #[derive(Clone, Debug, Drop)]
@@ -19,12 +17,13 @@ pub struct Text {
 impl Model for Text {
     ghost use Rattle.std.specs.Prelude.{◌≡◌, ◌≤◌, ℕ, List, length, true};
     ghost use Rattle.std.specs.Str.{is_utf8};
+    ghost use Rattle.dura_value.specs.Limits.{most_text_bytes};
 
     ghost Value = { List ℕ };
 
     ghost view = { λ t. t.bytes.items };
 
-    ghost invariant = { λ t. (is_utf8 t.bytes.items ≡ true) × (length t.bytes.items ≤ 4096) };
+    ghost invariant = { λ t. (is_utf8 t.bytes.items ≡ true) × (length t.bytes.items ≤ most_text_bytes) };
 }
 
 /// Why bytes gave no text.
@@ -48,7 +47,7 @@ impl Text {
         ensures text { IfOk result (λ t. (t ≡ bytes.now) × IsText bytes.now) }
         ensures fault { IfErr result (Explains bytes.now) }
     {
-        if bytes.len() > MOST_BYTES {
+        if bytes.len() > MOST_TEXT_BYTES {
             return Err(TextError::TooLong {
                 length: bytes.len(),
             });
@@ -78,13 +77,5 @@ impl Text {
         ensures { result.now ≡ self.now }
     {
         unsafe { str::from_utf8_unchecked(self.bytes.as_slice()) }
-    }
-
-    /// A copy with memory of its own.
-    pub fn clone(&self, alloc: Global) -> Result<Text, AllocError>
-        ensures { IfOk result (λ t. t ≡ self.now) }
-    {
-        let bytes = Vec::from_slice(alloc, self.bytes.as_slice())?;
-        Ok(Text { bytes })
     }
 }

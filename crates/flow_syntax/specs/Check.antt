@@ -1,6 +1,7 @@
 -- Which files are well formed, and where one that isn't breaks a rule first.
 use Rattle.std.specs.Prelude.{ℕ, suc, ◌+◌, ◌&&◌, List, [], ◌∷◌, ◌++◌, length, Bool, true, false, not, nat_le, is_some, if◌then◌else◌, Option, Some, None}
 use Rattle.std.specs.List.{list_all}
+use Rattle.dura_value.specs.Limits.{most_spots}
 use Rattle.flow_syntax.specs.Syntax.{Statement, let_be, spawn, call, subflow, ask, timer, event, await, await_all, await_any, signal, lock_in, if_then, while, try, return, fail, Block, nothing, first_then, Named, Class, Flows, Locked, look_up, body_of, class_of}
 
 -- a statement, and whether it stands in an operation
@@ -45,7 +46,7 @@ may_operate other = false
 
 -- a lock names 1 to 16 entities
 abbrev pub has_count : Statement → Bool
-has_count (lock_in entities body) = nat_le 1 (length entities) && nat_le (length entities) 16
+has_count (lock_in entities body) = nat_le 1 (length entities) && nat_le (length entities) most_spots
 has_count other = true
 
 abbrev pub has_shape : Placed → Bool

@@ -3,6 +3,7 @@ use Rattle.std.specs.Prelude.{ℕ, zero, suc, ◌+◌, ◌^◌, ◌&&◌, ◌==�
 use Rattle.std.specs.Str.{bytes_eq}
 use Rattle.std.specs.Fmt.{decimal}
 use Rattle.dura_value.specs.Bytes.{bytes_before}
+use Rattle.dura_value.specs.Limits.{most_text_bytes, most_scalars, most_value_bytes, number_limit}
 use Rattle.dura_value.specs.Names.{is_key}
 use Rattle.dura_value.specs.declared.data.Scalar.{Scalar}
 use Rattle.dura_value.specs.declared.data.Scalar.TheVariants as scalars
@@ -41,15 +42,6 @@ set_in (set ∷ variables) name value = if bytes_eq set.0 name then (name, value
 
 -- ---- limits
 
-abbrev pub most_text_bytes : ℕ
-most_text_bytes = 4096
-
-abbrev pub most_scalars : ℕ
-most_scalars = 1024
-
-abbrev pub most_value_bytes : ℕ
-most_value_bytes = 65_536
-
 -- how many bytes a scalar takes in the log
 abbrev pub scalar_size : Scalar → ℕ
 scalar_size (scalars.Int n) = 9
@@ -62,8 +54,8 @@ scalars_size (s ∷ scalars) = scalar_size s + scalars_size scalars
 
 -- 64 bits with a sign
 abbrev pub fits : ℤ → Bool
-fits (pos n) = nat_lt n (2 ^ 63)
-fits (negsuc n) = nat_lt n (2 ^ 63)
+fits (pos n) = nat_lt n number_limit
+fits (negsuc n) = nat_lt n number_limit
 
 abbrev pub integer : ℤ → Result Value (List ℕ)
 integer n = if fits n then Ok (values.Int n) else Err (codes "overflow")

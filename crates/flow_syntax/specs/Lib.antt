@@ -3,3 +3,4 @@ pub mod Entity
 pub mod Eval
 pub mod Machine
 pub mod Syntax
+pub mod Views

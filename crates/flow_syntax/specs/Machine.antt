@@ -8,6 +8,7 @@ use Rattle.dura_value.specs.declared.data.Scalar.TheVariants as scalars
 use Rattle.dura_value.specs.declared.data.Value.{Value}
 use Rattle.dura_value.specs.declared.data.Value.TheVariants as values
 use Rattle.dura_value.specs.Ids.{Id, orchestration, id_eq}
+use Rattle.dura_value.specs.Limits.{number_limit}
 use Rattle.dura_value.specs.Messages.{Reply, to_nobody, to_task, Answer, is_done, has_failed, Spot, at_spot, spot_eq, set_of, entity_at, Body, start, result, operate, lock, release, Message}
 use Rattle.flow_syntax.specs.Syntax.{Expression, scalar, Statement, let_be, spawn, call, subflow, ask, timer, event, await, await_all, await_any, signal, lock_in, if_then, while, try, return, fail, Block, nothing, first_then, Locked}
 use Rattle.flow_syntax.specs.Eval.{◌>>=◌, wrong_type, Variables, set_in, eval, to_integer, to_truth, to_text, to_key, to_list, to_scalars, list_of}
@@ -340,7 +341,7 @@ signals m spot operation argument = record { machine = m; sent = says m (at_spot
 
 -- moments are below this
 abbrev pub end_of_time : ℕ
-end_of_time = 2 ^ 63
+end_of_time = number_limit
 
 abbrev pub is_due_in_time : Machine → (variable : List ℕ) → ℕ → Resumed
 is_due_in_time m variable due =

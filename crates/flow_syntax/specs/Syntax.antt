@@ -1,6 +1,7 @@
 -- What flows and classes are written in.
 use Rattle.std.specs.Prelude.{ℕ, List, [], ◌∷◌, ◌++◌, if◌then◌else◌, Option, Some, None}
 use Rattle.std.specs.Str.{bytes_eq}
+use Rattle.dura_value.specs.Bytes.{bytes_before}
 use Rattle.dura_value.specs.declared.data.Scalar.{Scalar}
 use Rattle.dura_value.specs.declared.data.Value.{Value}
 
@@ -76,6 +77,14 @@ pub record Named (X : Type 0) : Type 0 where
 abbrev pub look_up : {X : Type 0} → List (Named X) → List ℕ → Option X
 look_up [] name = None
 look_up (one ∷ more) name = if bytes_eq one.name name then Some one.it else look_up more name
+
+-- something goes under a name, in its place in the order of bytes, or in the place of what was under it
+abbrev pub put_in : {X : Type 0} → List (Named X) → List ℕ → X → List (Named X)
+put_in [] name it = record { name = name; it = it } ∷ []
+put_in (one ∷ more) name it =
+    if bytes_before name one.name
+    then record { name = name; it = it } ∷ one ∷ more
+    else (if bytes_eq name one.name then record { name = one.name; it = it } ∷ more else one ∷ put_in more name it)
 
 -- a class: the value that its entities begin with, and its operations
 pub record Class : Type 0 where

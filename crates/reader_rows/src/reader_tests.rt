@@ -15,7 +15,7 @@ const WAIT: &str = r#"{"client":"a","n":2,"wait":"Sum/x"}"#;
 /// A text of these bytes and its copy have so many.
 fn check_text(rt: &impl Abort, alloc: Global, bytes: &[u8], length: usize) {
     let text = Text::read(alloc, bytes).expect(rt, "a text");
-    let copy = text.clone(alloc).expect(rt, "memory");
+    let copy = text.clone().expect(rt, "memory");
     assert!(rt; text.as_str().len() == length);
     assert!(rt; copy.as_bytes().len() == length);
 }
@@ -43,13 +43,13 @@ fn text_form(rt: HostRuntime) {
 
 fn check_name(rt: &impl Abort, alloc: Global) {
     let name = Name::of(alloc, b"Sum_1").expect(rt, "memory");
-    let copy = name.clone(alloc).expect(rt, "memory");
+    let copy = name.clone().expect(rt, "memory");
     assert!(rt; copy.as_bytes() == name.as_bytes());
 }
 
 fn check_key(rt: &impl Abort, alloc: Global) {
     let key = Key::of(alloc, b"1.x-y_z").expect(rt, "memory");
-    let copy = key.clone(alloc).expect(rt, "memory");
+    let copy = key.clone().expect(rt, "memory");
     assert!(rt; copy.as_bytes() == key.as_bytes());
 }
 
