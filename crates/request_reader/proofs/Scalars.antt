@@ -8,7 +8,8 @@ use Rattle.serde_json.specs.View.{view, items_view}
 use Rattle.serde_json.specs.declared.value.Value.{Value as Json}
 use Rattle.dura_value.specs.declared.data.Scalar.{Scalar}
 use Rattle.request_reader.specs.Reading.{◌>>=◌}
-use Rattle.request_reader.specs.Values.{scalar_in, scalars_in, scalar_size, scalars_size, most_scalars_bytes}
+use Rattle.request_reader.specs.Values.{scalar_in, scalars_in, scalar_size, scalars_size}
+use Rattle.dura_value.specs.Limits.{most_scalars_bytes}
 
 -- the parts that are still to be read, behind those that were
 abbrev pub with_rest : List Scalar → Items → Option (List Scalar)

@@ -6,7 +6,8 @@ use Rattle.std.proofs.lemmas.Bool.Decides.{nat_tests}
 use Rattle.std.proofs.Math.Seq.{take-length}
 use Rattle.dura_value.specs.Text.{IsText}
 use Rattle.request_reader.specs.Reading.{where_it}
-use Rattle.request_reader.specs.Values.{is_text, most_text_bytes}
+use Rattle.request_reader.specs.Values.{is_text}
+use Rattle.dura_value.specs.Limits.{most_text_bytes}
 
 at_most : (n m : ℕ) → n ≤ m → nat_le n m ≡ true
 at_most n m h = grind (arith, nat_tests)

@@ -8,20 +8,9 @@ use Rattle.dura_value.specs.declared.data.Scalar.{Scalar}
 use Rattle.dura_value.specs.declared.data.Scalar.TheVariants as scalars
 use Rattle.dura_value.specs.declared.data.Value.{Value}
 use Rattle.dura_value.specs.declared.data.Value.TheVariants as values
+use Rattle.dura_value.specs.Limits.{most_text_bytes, most_scalars, most_scalars_bytes}
 use Rattle.request_reader.specs.Json.{count_items}
 use Rattle.request_reader.specs.Reading.{◌>>=◌, guard, where_it}
-
--- the most bytes of a text
-abbrev pub most_text_bytes : ℕ
-most_text_bytes = 4096
-
--- the most scalars of a list
-abbrev pub most_scalars : ℕ
-most_scalars = 1024
-
--- the most bytes of a list's scalars where they are written
-abbrev pub most_scalars_bytes : ℕ
-most_scalars_bytes = 65_533
 
 -- UTF-8 of not too many bytes
 abbrev pub is_text : List ℕ → Bool

@@ -127,7 +127,7 @@ fn request_in(alloc: Global, value: &Value) -> Result<Request, ReadError>
         return Err(ReadError::Refused);
     };
     let (to, body) = sent_in(alloc, number, value)?;
-    let from = Id::Client(client.clone(alloc)?);
+    let from = Id::Client(client.clone()?);
     Ok(Request {
         client,
         number,

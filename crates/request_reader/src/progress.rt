@@ -1,6 +1,6 @@
 //! What was read so far.
 
-ghost use Rattle.std.specs.Prelude.{◌≡◌, [], ◌∷◌, ◌++◌, None, OnOk, option_map};
+ghost use Rattle.std.specs.Prelude.{◌≡◌, [], ◌∷◌, ◌++◌, None, IfOk, OnOk, option_map};
 ghost use Rattle.std.specs.List.{find};
 ghost use Rattle.request_reader.specs.Line.{request_of};
 ghost use Rattle.request_reader.specs.Progress.{seen, Stands};
@@ -19,6 +19,13 @@ pub(crate) struct Progress {
     pub(crate) places: BTreeMap<(Name, u32), usize>,
     /// The number of each client's latest request.
     pub(crate) latest: BTreeMap<Name, u32>,
+}
+
+/// A copy with memory of its own.
+pub(crate) fn copy_of(name: &Name) -> Result<Name, AllocError>
+    ensures { IfOk result (λ n. n ≡ name.now) }
+{
+    name.clone()
 }
 
 impl Progress {
@@ -57,16 +64,16 @@ impl Progress {
     }
 
     /// The request goes behind the others.
-    pub(crate) fn push(&mut self, alloc: Global, request: Request) -> Result<(), AllocError>
+    pub(crate) fn push(&mut self, request: Request) -> Result<(), AllocError>
         requires stands { Stands self.old }
         requires unused { find (is_by request.client request.number) (seen self.old) ≡ None }
         ensures pushed { OnOk result (seen self.new ≡ seen self.old ++ request_of request ∷ []) }
         ensures stands { OnOk result (Stands self.new) }
     {
         let place = self.requests.as_slice().len();
-        let client = request.client.clone(alloc)?;
+        let client = copy_of(&request.client)?;
         self.latest.insert(client, request.number)?;
-        let client = request.client.clone(alloc)?;
+        let client = copy_of(&request.client)?;
         self.places.insert((client, request.number), place)?;
         self.requests.push(request)?;
         Ok(())

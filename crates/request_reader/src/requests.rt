@@ -10,7 +10,7 @@ ghost use Rattle.request_reader.specs.Requests.{Answers, body_eq, request_eq, is
 
 use crate::error::{ReadError, RequestsError};
 use crate::line::request_on;
-use crate::progress::Progress;
+use crate::progress::{Progress, copy_of};
 use dura_value::{Body, Id, Name, Request};
 use std::alloc::Global;
 
@@ -43,19 +43,14 @@ fn is_same(a: &Request, b: &Request) -> bool
 }
 
 /// The request of the line with this number, which no earlier line has, comes behind those of the lines before.
-fn with_new(
-    alloc: Global,
-    line: u64,
-    mut progress: Progress,
-    request: Request,
-) -> Result<Progress, RequestsError>
+fn with_new(line: u64, mut progress: Progress, request: Request) -> Result<Progress, RequestsError>
     requires stands { Stands progress }
     requires unused { find (is_by request.client request.number) (seen progress) ≡ None }
     ensures read { Answers seen result (with_new line (seen progress) (request_of request)) }
     ensures stands { IfOk result Stands }
 {
     if progress.latest_of(&request.client) < request.number {
-        progress.push(alloc, request)?;
+        progress.push(request)?;
         Ok(progress)
     } else {
         Err(RequestsError::BadLine { line })
@@ -75,24 +70,19 @@ fn is_made(progress: &Progress, pair: &(Name, u32), request: &Request) -> Option
 
 /// The request of the line with this number comes behind those of the lines before.
 #[tactic(auto, using(crate::proofs::Used::used_same, crate::proofs::Used::used_other, crate::proofs::Used::unused, crate::proofs::Used::unused_new))]
-fn with_request(
-    alloc: Global,
-    line: u64,
-    progress: Progress,
-    request: Request,
-) -> Result<Progress, RequestsError>
+fn with_request(line: u64, progress: Progress, request: Request) -> Result<Progress, RequestsError>
     requires { Stands progress }
     ensures read { Answers seen result (with_request line (seen progress) (request_of request)) }
     ensures stands { IfOk result Stands }
 {
-    let pair = (request.client.clone(alloc)?, request.number);
+    let pair = (copy_of(&request.client)?, request.number);
     match is_made(&progress, &pair, &request) {
         Some(true) => Ok(progress),
         Some(false) => Err(RequestsError::Clash {
             client: request.client,
             number: request.number,
         }),
-        None => with_new(alloc, line, progress, request),
+        None => with_new(line, progress, request),
     }
 }
 
@@ -117,7 +107,7 @@ fn after_line(
         return Ok(progress);
     }
     match request_on(alloc, line) {
-        Ok(request) => with_request(alloc, number, progress, request),
+        Ok(request) => with_request(number, progress, request),
         Err(ReadError::Refused) => Err(RequestsError::BadLine { line: number }),
         Err(ReadError::Memory) => Err(RequestsError::Memory),
     }

@@ -4,18 +4,13 @@ ghost use Rattle.std.specs.Prelude.{◌≡◌, ◌≤◌, length, nat_le, option
 ghost use Rattle.std.specs.Str.{IsUtf8};
 ghost use Rattle.serde_json.specs.View.{view, items_view};
 ghost use Rattle.request_reader.specs.Reading.{Gives, where_it};
-ghost use Rattle.request_reader.specs.Values.{is_text, scalar_in, scalars_in, scalar_size, scalars_size, list_in, value_of, value_in, value_at, most_scalars, most_scalars_bytes};
+ghost use Rattle.dura_value.specs.Limits.{most_scalars_bytes};
+ghost use Rattle.request_reader.specs.Values.{is_text, scalar_in, scalars_in, scalar_size, scalars_size, list_in, value_of, value_in, value_at};
 
 use crate::error::ReadError;
-use dura_value::{Scalar, Scalars, Text, TextError, Value};
+use dura_value::{MOST_SCALARS, MOST_SCALARS_BYTES, Scalar, Scalars, Text, TextError, Value};
 use serde_json::Value as Json;
 use std::alloc::Global;
-
-/// The most scalars of a list.
-const MOST_SCALARS: usize = 1024;
-
-/// The most bytes of a list's scalars where they are written.
-const MOST_SCALARS_BYTES: usize = 65_533;
 
 #[tactic(auto, using(crate::proofs::Texts::text_passes, crate::proofs::Texts::long_fails, crate::proofs::Texts::invalid_fails))]
 fn text_in(alloc: Global, text: &str) -> Result<Text, ReadError>

@@ -1,6 +1,7 @@
 -- What was counted and what is left make the limit.
 use Rattle.std.proofs.Common.{◌≡◌, ◌+◌, drop}
-use Rattle.request_reader.specs.Values.{scalars_size, most_scalars_bytes}
+use Rattle.request_reader.specs.Values.{scalars_size}
+use Rattle.dura_value.specs.Limits.{most_scalars_bytes}
 use Rattle.request_reader.proofs.values.are_short.Given as goal
 
 abbrev pub invariant-loop-scalar : goal.invariant-loop-scalar

@@ -17,11 +17,13 @@ returns-clause-stands c =
     let items : c.push.new.self.items ≡ old ++ c.args.request ∷ [] = c.in_ok-push.ensures.items in
     let more : map request_of c.push.new.self.items ≡ rs ++ r ∷ [] = ap (map request_of) items ∙ map-append request_of old (c.args.request ∷ []) in
     let place : length c.as_slice-place.result.now ≡ length rs = ap length c.as_slice-place.ensures.value ∙ sym (length-map old request_of) in
+    let named : c.in_ok-client-2.client ≡ r.client = c.in_ok-client-2.ensures in
+    let also : c.in_ok-client.client ≡ r.client = c.in_ok-client.ensures in
     record {
       places = λ name n.
           let test = is_eq (ordering_then (slice_cmp nat_cmp c.in_ok-client-2.client name) (nat_cmp c.args.request.number n)) in
-          rw more (places_after rs r name n _ _ test (rw c.in_ok-client-2.ensures (same_pair r.client name r.number n)) (rw (← place) (c.in_ok-insert-2.ensures.updates.0 (name, n))) (c.requires.stands.places name n) c.requires.unused);
+          rw more (places_after rs r name n _ _ test (rw named (same_pair r.client name r.number n)) (rw (← place) (c.in_ok-insert-2.ensures.updates.0 (name, n))) (c.requires.stands.places name n) c.requires.unused);
       numbers = λ name.
           let test = is_eq (slice_cmp nat_cmp c.in_ok-client.client name) in
-          rw more (numbers_after rs r name _ _ test (rw c.in_ok-client.ensures (is_eq-slice_cmp r.client name)) (c.in_ok-insert.ensures.updates.0 name) (c.requires.stands.numbers name));
+          rw more (numbers_after rs r name _ _ test (rw also (is_eq-slice_cmp r.client name)) (c.in_ok-insert.ensures.updates.0 name) (c.requires.stands.numbers name));
     }
