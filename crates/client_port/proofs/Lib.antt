@@ -1,2 +1,3 @@
 pub mod Dues
-pub mod Queues
+pub mod Changes
+pub mod Said

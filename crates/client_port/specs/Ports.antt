@@ -1,5 +1,5 @@
 -- What clients have asked, what may be sent next, and what was said.
-use Rattle.std.specs.Prelude.{ℕ, ◌+◌, List, [], ◌∷◌, ◌++◌, fold, Bool, if◌then◌else◌, Option, Some, None}
+use Rattle.std.specs.Prelude.{ℕ, ◌+◌, List, [], ◌∷◌, ◌++◌, fold, length, nat_lt, Bool, if◌then◌else◌, Option, Some, None}
 use Rattle.std.specs.List.{filter_map, list_any, slice_get}
 use Rattle.std.specs.Str.{bytes_eq}
 use Rattle.answer_lines.specs.Lines.{line_of}
@@ -50,9 +50,9 @@ abbrev pub due_of : List ℕ → List Queue → Option Request
 due_of name [] = None
 due_of name (q ∷ qs) = if is_of name q then first_due q else due_of name qs
 
--- one more was said
+-- one more was said, where there is one
 abbrev pub with_said : Queue → Queue
-with_said q = record q { said = q.said + 1 }
+with_said q = if nat_lt q.said (length q.requests) then record q { said = q.said + 1 } else q
 
 -- the line of an answer to a request, where there is an answer
 abbrev pub lines_for : Option Request → Option Answer → List (List ℕ)
@@ -60,7 +60,7 @@ lines_for (Some r) (Some answer) = line_of r.client r.number answer ∷ []
 lines_for (Some r) None = []
 lines_for None answer = []
 
--- the client's next request was answered, or counts as said with no answer
+-- The client's next request was answered, or counts as said with no answer. With no next request nothing changes.
 abbrev pub after_said : List ℕ → Option Answer → Ports → Ports
 after_said name answer p = record {
   queues = at_client with_said name p.queues;

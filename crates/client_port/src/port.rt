@@ -1,11 +1,12 @@
 //! What is due, and what was said.
 
-ghost use Rattle.std.specs.Prelude.{◌≡◌, [], map, option_map, IfOk, OnOk, OnErr, IsSome};
-ghost use Rattle.client_port.specs.Ports.{all_due, due_of, after_said, queues_of};
+ghost use Rattle.std.specs.Prelude.{◌≡◌, [], ◌++◌, map, option_map, option_to_list, IfOk, OnOk, OnErr};
+ghost use Rattle.client_port.specs.Ports.{all_due, after_said, first_due, lines_for, queues_of};
+ghost use Rattle.client_port.specs.Views.{lines_of, queue_of};
 ghost use Rattle.dura_value.specs.Views.{answer_of};
 ghost use Rattle.request_reader.specs.Line.{request_of};
 
-use crate::queues::{Queue, place_of, queues_of};
+use crate::queues::{Queue, all_due, count_said, first_due, place_of, queues_of};
 use answer_lines::answer_line;
 use dura_value::{Answer, Name, Request};
 use std::alloc::{AllocError, Global};
@@ -16,6 +17,39 @@ use std::marker::Model;
 pub struct Port {
     queues: Vec<Queue>,
     lines: Vec<Vec<u8>>,
+}
+
+/// The line of an answer to the queue's next request, where there are both.
+fn line_for(
+    alloc: Global,
+    queue: &Queue,
+    answer: Option<&Answer>,
+) -> Result<Option<Vec<u8>>, AllocError>
+    ensures { IfOk result (λ line. option_to_list (option_map (λ l. l.items) line)
+        ≡ lines_for (first_due (queue_of queue.now)) (option_map (λ a. answer_of a.now) answer.entry)) }
+{
+    match first_due(queue) {
+        Some(request) => match answer {
+            Some(answer) => Ok(Some(answer_line(alloc, &request.client, request.number, answer)?)),
+            None => Ok(None),
+        },
+        None => Ok(None),
+    }
+}
+
+/// A line comes behind the others.
+#[tactic(auto, using(crate::proofs::Said::line_pushed, crate::proofs::Said::no_line))]
+fn push_line(lines: &mut Vec<Vec<u8>>, line: Option<Vec<u8>>) -> Result<(), AllocError>
+    ensures ok { OnOk result (lines_of lines.new.items ≡ lines_of lines.old.items ++ option_to_list (option_map (λ l. l.items) line)) }
+    ensures err { OnErr result (lines_of lines.new.items ≡ lines_of lines.old.items) }
+{
+    match line {
+        Some(line) => {
+            lines.push(line)?;
+            Ok(())
+        }
+        None => Ok(()),
+    }
 }
 
 impl Model for Port {
@@ -41,17 +75,30 @@ impl Port {
     }
 
     /// Each client's first request that wasn't said.
-    #[tactic(auto, using(crate::proofs::Dues::taken, crate::proofs::Dues::passed))]
     pub fn due(&self, alloc: Global) -> Result<Vec<&Request>, AllocError>
         ensures { IfOk result (λ due. map (λ r. request_of r.now) due.items ≡ all_due self.now.queues) }
     {
-        let mut due = Vec::new(alloc);
-        for queue in &self.queues {
-            if let Some(request) = queue.requests.get(queue.said) {
-                due.push(request)?;
-            }
-        }
-        Ok(due)
+        all_due(alloc, &self.queues)
+    }
+
+    /// The client's next request was answered, or counts as said with no answer. An Err leaves the port as it was.
+    #[tactic(auto, using(crate::proofs::Said::said_there, crate::proofs::Said::said_nowhere))]
+    pub fn said(
+        &mut self,
+        alloc: Global,
+        client: &Name,
+        answer: Option<&Answer>,
+    ) -> Result<(), AllocError>
+        ensures ok { OnOk result (self.new ≡ after_said client.now (option_map (λ a. answer_of a.now) answer.entry) self.old) }
+        ensures err { OnErr result (self.new ≡ self.old) }
+    {
+        let Some(place) = place_of(&self.queues, client) else {
+            return Ok(());
+        };
+        let line = line_for(alloc, &self.queues[place], answer)?;
+        push_line(&mut self.lines, line)?;
+        count_said(&mut self.queues[place]);
+        Ok(())
     }
 
     /// The lines that were said, in order.

@@ -1,8 +1,8 @@
 //! Each client's requests.
 
-ghost use Rattle.std.specs.Prelude.{◌≡◌, ◌<◌, [], ◌∷◌, length, map, IfOk, OnOk, IfSome};
+ghost use Rattle.std.specs.Prelude.{◌≡◌, ◌<◌, [], ◌∷◌, length, map, option_map, IfOk, OnOk, IfSome};
 ghost use Rattle.std.specs.List.{position_from};
-ghost use Rattle.client_port.specs.Ports.{is_of, with_request, queues_of};
+ghost use Rattle.client_port.specs.Ports.{all_due, first_due, is_of, queues_of, with_request, with_said};
 ghost use Rattle.client_port.specs.Views.{queue_of};
 ghost use Rattle.request_reader.specs.Line.{request_of};
 
@@ -20,8 +20,40 @@ pub(crate) struct Queue {
     pub(crate) said: usize,
 }
 
+/// The first request that wasn't said.
+#[tactic(auto, using(crate::proofs::Dues::got))]
+pub(crate) fn first_due(queue: &Queue) -> Option<&Request>
+    ensures { option_map (λ r. request_of r.now) result ≡ first_due (queue_of queue.now) }
+{
+    queue.requests.get(queue.said)
+}
+
+/// The first request of each client that wasn't said.
+#[tactic(auto, using(crate::proofs::Dues::taken, crate::proofs::Dues::passed))]
+pub(crate) fn all_due(alloc: Global, queues: &[Queue]) -> Result<Vec<&Request>, AllocError>
+    ensures { IfOk result (λ due. map (λ r. request_of r.now) due.items ≡ all_due (map queue_of queues.now)) }
+{
+    let mut due = Vec::new(alloc);
+    for queue in queues {
+        if let Some(request) = first_due(queue) {
+            due.push(request)?;
+        }
+    }
+    Ok(due)
+}
+
+/// One more was said, where there is one.
+#[tactic(auto, using(crate::proofs::Dues::counted, crate::proofs::Dues::all_said))]
+pub(crate) fn count_said(queue: &mut Queue)
+    ensures { queue_of queue.new ≡ with_said (queue_of queue.old) }
+{
+    if queue.said < queue.requests.as_slice().len() {
+        queue.said += 1;
+    }
+}
+
 /// The place of the client's queue.
-#[tactic(auto, using(crate::proofs::Queues::before, crate::proofs::Queues::nowhere))]
+#[tactic(auto, using(crate::proofs::Changes::before, crate::proofs::Changes::nowhere))]
 pub(crate) fn place_of(queues: &[Queue], client: &Name) -> Option<usize>
     ensures place { result ≡ position_from (is_of client.now) 0 (map queue_of queues.now) }
     ensures within { IfSome result (λ i. i < length queues.now) }
@@ -55,7 +87,7 @@ fn queue_with(alloc: Global, client: Name, request: Request) -> Result<Queue, Al
 }
 
 /// The request comes behind its client's others.
-#[tactic(auto, using(crate::proofs::Queues::joined, crate::proofs::Queues::opened))]
+#[tactic(auto, using(crate::proofs::Changes::joined, crate::proofs::Changes::opened))]
 fn add_request(alloc: Global, queues: &mut Vec<Queue>, request: Request) -> Result<(), AllocError>
     ensures { OnOk result (map queue_of queues.new.items ≡ with_request (map queue_of queues.old.items) (request_of request)) }
 {
@@ -75,7 +107,7 @@ fn add_request(alloc: Global, queues: &mut Vec<Queue>, request: Request) -> Resu
 }
 
 /// The requests of a file by client.
-#[tactic(auto, using(crate::proofs::Queues::one_more))]
+#[tactic(auto, using(crate::proofs::Changes::one_more))]
 pub(crate) fn queues_of(alloc: Global, requests: Vec<Request>) -> Result<Vec<Queue>, AllocError>
     ensures { IfOk result (λ queues. map queue_of queues.items ≡ queues_of (map request_of requests.items)) }
 {

@@ -4,7 +4,7 @@ use Rattle.std.specs.Prelude.{map}
 use Rattle.client_port.specs.Ports.{all_due}
 use Rattle.client_port.specs.Views.{queue_of}
 use Rattle.client_port.proofs.Dues.{with_rest}
-use Rattle.client_port.proofs.port.Port.due.Given as goal
+use Rattle.client_port.proofs.queues.all_due.Given as goal
 
 abbrev pub invariant-loop-queue : goal.invariant-loop-queue
-invariant-loop-queue l = with_rest l.due.items (drop l.queue-index l.self.queues.items) ≡ all_due (map queue_of l.self.queues.items)
+invariant-loop-queue l = with_rest l.due.items (drop l.queue-index l.queues) ≡ all_due (map queue_of l.queues)

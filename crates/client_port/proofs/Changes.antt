@@ -1,5 +1,5 @@
 -- Where a client's queue stands, and what a change of it makes of all.
-use Rattle.std.proofs.Common.{◌≡◌, ℕ, suc, ◌+◌, ◌-◌, ◌<◌, ◌≤◌, List, [], ◌∷◌, ◌++◌, length, get_or, take, drop, true, false, Bool, cond, Option, Some, None, refl, ap, sym, ◌∙◌, arith, add-one, zero-add}
+use Rattle.std.proofs.Common.{◌≡◌, ℕ, suc, ◌+◌, ◌-◌, ◌<◌, ◌≤◌, List, [], ◌∷◌, ◌++◌, length, get_or, drop, true, false, Bool, cond, Option, Some, None, refl, ap, sym, ◌∙◌, arith, add-one}
 use Rattle.std.specs.Prelude.{map, fold, ◌||◌}
 use Rattle.std.specs.List.{position_from, list_any}
 use Rattle.std.specs.Str.{bytes_eq}
@@ -7,16 +7,21 @@ use Rattle.std.proofs.Math.ListN.{set}
 use Rattle.std.proofs.Math.Seq.{drop-cons}
 use Rattle.std.proofs.lemmas.List.{map-append}
 use Rattle.std.proofs.lemmas.List.Sums.{fold-append}
+use Rattle.std.specs.declared.alloc.Global.{Global}
+use Rattle.std.specs.declared.vec.Vec.{Vec}
 use Rattle.dura_value.specs.declared.messages.Request.{Request as OwnRequest}
 use Rattle.request_reader.specs.Line.{Request, request_of}
-use Rattle.client_port.specs.Ports.{Queue, is_of, at_client, with_last, with_request}
+use Rattle.client_port.specs.Ports.{Queue, is_of, at_client, due_of, first_due, with_last, with_request}
 use Rattle.client_port.specs.Views.{queue_of}
 use Rattle.client_port.specs.declared.queues.Queue.{Queue as OwnQueue}
 
 -- ---- the search of a queue
 
+next : (qs : List OwnQueue) (i : ℕ) (q : OwnQueue) → i < length qs → q ≡ get_or qs i q → drop i qs ≡ q ∷ drop (i + 1) qs
+next qs i q lt at = rw (add-one, drop-cons qs i q lt, ← at) refl
+
 from_drop : (name : List ℕ) (qs : List OwnQueue) (i : ℕ) (q : OwnQueue) → i < length qs → q ≡ get_or qs i q → position_from (is_of name) i (map queue_of (drop i qs)) ≡ cond (bytes_eq q.client name) (Some i) (position_from (is_of name) (i + 1) (map queue_of (drop (i + 1) qs)))
-from_drop name qs i q lt at = rw (add-one, drop-cons qs i q lt, ← at) refl
+from_drop name qs i q lt at = rw (next qs i q lt at) refl
 
 pub before : (name : List ℕ) (qs : List OwnQueue) (i : ℕ) (q : OwnQueue) → i < length qs → q ≡ get_or qs i q → position_from (is_of name) i (map queue_of (drop i qs)) ≡ position_from (is_of name) 0 (map queue_of qs) → bytes_eq q.client name ≡ true → position_from (is_of name) 0 (map queue_of qs) ≡ Some i
 before name qs i q lt at so is = sym so ∙ from_drop name qs i q lt at ∙ rw is refl
@@ -77,9 +82,45 @@ somewhere_any p k i (x ∷ xs) at = some_by (p x) (list_any p xs) k i (position_
 pub joined : (r : Request) (i : ℕ) (xs : List OwnQueue) (x y : OwnQueue) → Some i ≡ position_from (is_of r.client) 0 (map queue_of xs) → x ≡ get_or xs i x → queue_of y ≡ with_last r (queue_of x) → map queue_of (set xs i y) ≡ with_request (map queue_of xs) r
 joined r i xs x y at is same = changed (with_last r) r.client i xs x y at is same ∙ rw (somewhere_any (is_of r.client) 0 i (map queue_of xs) (sym at)) refl
 
+pub joined_at : (r : OwnRequest) (i : ℕ) (xs : List OwnQueue) (x : OwnQueue) (requests : Vec OwnRequest Global) → Some i ≡ position_from (is_of r.client) 0 (map queue_of xs) → x ≡ get_or xs i x → requests.items ≡ x.requests.items ++ r ∷ [] → map queue_of (set xs i (record { client = x.client; requests = requests; said = x.said })) ≡ with_request (map queue_of xs) (request_of r)
+joined_at r i xs x requests at is more = joined (request_of r) i xs x (record { client = x.client; requests = requests; said = x.said }) at is (rw (more, map-append request_of x.requests.items (r ∷ [])) refl)
+
 pub opened : (r : Request) (xs : List OwnQueue) (y : OwnQueue) → None ≡ position_from (is_of r.client) 0 (map queue_of xs) → queue_of y ≡ record { client = r.client; requests = r ∷ []; said = 0 } → map queue_of (xs ++ y ∷ []) ≡ with_request (map queue_of xs) r
 opened r xs y at same = map-append queue_of xs (y ∷ []) ∙ rw (same, nowhere_any (is_of r.client) 0 (map queue_of xs) (sym at)) refl
 
 -- a request more was taken up
 pub one_more : (qs more : List OwnQueue) (rs : List OwnRequest) (r : OwnRequest) → map queue_of qs ≡ fold with_request [] (map request_of rs) → map queue_of more ≡ with_request (map queue_of qs) (request_of r) → map queue_of more ≡ fold with_request [] (map request_of (rs ++ r ∷ []))
 one_more qs more rs r before same = same ∙ sym (rw (map-append request_of rs (r ∷ []), fold-append with_request [] (map request_of rs) (request_of r ∷ []), ← before) refl)
+
+-- ---- what is due
+
+same_by : {X Y : Type 0} (b : Bool) (k : X) (o : Option X) (first rest it : Y) → (o ≡ None → rest ≡ it) → cond b (Some k) o ≡ None → cond b first rest ≡ it
+same_by true k o first rest it h is = absurd (cc is)
+same_by false k o first rest it h is = h is
+
+pub unchanged : (f : Queue → Queue) (name : List ℕ) (k : ℕ) (qs : List Queue) → position_from (is_of name) k qs ≡ None → at_client f name qs ≡ qs
+unchanged f name k [] at = refl
+unchanged f name k (q ∷ qs) at = same_by (is_of name q) k (position_from (is_of name) (k + 1) qs) (f q ∷ qs) (q ∷ at_client f name qs) (q ∷ qs) (λ is. ap (λ rest. q ∷ rest) (unchanged f name (k + 1) qs is)) at
+
+pub undue : (name : List ℕ) (k : ℕ) (qs : List Queue) → position_from (is_of name) k qs ≡ None → due_of name qs ≡ None
+undue name k [] at = refl
+undue name k (q ∷ qs) at = same_by (is_of name q) k (position_from (is_of name) (k + 1) qs) (first_due q) (due_of name qs) None (undue name (k + 1) qs) at
+
+due_by : (name : List ℕ) (h x : OwnQueue) (xs : List OwnQueue) (k i : ℕ) (b : Bool) → cond b (Some k) (position_from (is_of name) (k + 1) (map queue_of xs)) ≡ Some i → x ≡ get_or (h ∷ xs) (i - k) x
+    → (position_from (is_of name) (k + 1) (map queue_of xs) ≡ Some i → x ≡ get_or xs (i - (k + 1)) x → due_of name (map queue_of xs) ≡ first_due (queue_of x))
+    → cond b (first_due (queue_of h)) (due_of name (map queue_of xs)) ≡ first_due (queue_of x)
+due_by name h x xs k i true at is rest =
+    let first : i - k ≡ 0 = (let equal : k ≡ i = cc in omega arith) in
+    let head : x ≡ h = rw first at is in
+    rw head refl
+due_by name h x xs k i false at is rest =
+    let above : k + 1 ≤ i = at_low (is_of name) (k + 1) i (map queue_of xs) at in
+    let further : i - k ≡ suc (i - (k + 1)) = omega arith in
+    rest at (rw further at is)
+
+due_from : (name : List ℕ) (k i : ℕ) (xs : List OwnQueue) (x : OwnQueue) → position_from (is_of name) k (map queue_of xs) ≡ Some i → x ≡ get_or xs (i - k) x → due_of name (map queue_of xs) ≡ first_due (queue_of x)
+due_from name k i [] x at is = absurd (cc at)
+due_from name k i (h ∷ xs) x at is = due_by name h x xs k i (bytes_eq h.client name) at is (λ found item. due_from name (k + 1) i xs x found item)
+
+pub due_at : (name : List ℕ) (i : ℕ) (xs : List OwnQueue) (x : OwnQueue) → Some i ≡ position_from (is_of name) 0 (map queue_of xs) → x ≡ get_or xs i x → due_of name (map queue_of xs) ≡ first_due (queue_of x)
+due_at name i xs x at is = let first : i ≡ i - 0 = omega arith in due_from name 0 i xs x (sym at) (rw first at is)
