@@ -1,5 +1,5 @@
 -- All scalars were written.
-use Rattle.std.proofs.Common.{◌≡◌, ◌∙◌, ap, arith}
+use Rattle.std.proofs.Common.{◌∙◌, ap, arith}
 use Rattle.serde_json.proofs.Views.{view-Array}
 use Rattle.serde_json.specs.Data.{array}
 use Rattle.answer_lines.proofs.Parts.{whole}

@@ -1,5 +1,4 @@
 -- No value has a float.
-use Rattle.std.proofs.Common.{◌≡◌}
 use Rattle.answer_lines.proofs.Floats.{written}
 use Rattle.answer_lines.proofs.json.value_text.Goals as goal
 
