@@ -1,7 +1,6 @@
 -- Paths are kept from the inside out.
-use Rattle.std.proofs.Common.{◌≡◌, ℕ, ◌+◌, ◌<◌, ◌≤◌, List, [], ◌∷◌, ◌++◌, length, get_or, drop, refl, sym, ap, ◌∙◌, add-one, append_assoc}
+use Rattle.std.proofs.Common.{◌≡◌, ℕ, ◌+◌, ◌<◌, List, [], ◌∷◌, ◌++◌, length, get_or, drop, refl, sym, ◌∙◌, add-one}
 use Rattle.std.specs.Prelude.{map, reverse}
-use Rattle.std.specs.List.{concat}
 use Rattle.std.proofs.Math.Seq.{drop-cons, drop-length}
 use Rattle.std.proofs.lemmas.List.{append-nil, map-append, reverse-append}
 use Rattle.std.proofs.lemmas.List.Folds.{concat-append}

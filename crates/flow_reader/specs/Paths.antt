@@ -1,5 +1,4 @@
 -- The plain data that steps stand for, and what the parts of the reader answer.
-use Rattle.std.specs.Prelude.{ℕ}
 use Rattle.flow_reader.specs.Faults as plain
 use Rattle.flow_reader.specs.declared.faults.Step.{Step}
 use Rattle.flow_reader.specs.declared.faults.Step.TheVariants.{Word, Name, Part}

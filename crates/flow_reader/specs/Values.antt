@@ -1,8 +1,9 @@
 -- The values and names that JSON stands for, or the first part that stands for none.
 use Rattle.std.specs.Prelude.{ℕ, ◌+◌, ◌&&◌, List, [], ◌∷◌, length, Bool, true, false, nat_le, Result, Ok, option_map}
+use Rattle.std.specs.Option.{option_map_or}
 use Rattle.std.specs.Str.{is_utf8}
 use Rattle.serde_json.specs.Data.{Data, null, boolean, number, string, array, object, Items, no_items, item}
-use Rattle.serde_json.specs.Find.{as_i64}
+use Rattle.serde_json.specs.Find.{as_array, as_i64}
 use Rattle.dura_value.specs.declared.data.Scalar.{Scalar}
 use Rattle.dura_value.specs.declared.data.Scalar.TheVariants as scalars
 use Rattle.dura_value.specs.declared.data.Value.{Value}
@@ -60,6 +61,9 @@ value_of (scalars.Int n) = values.Int n
 value_of (scalars.Text bytes) = values.Text bytes
 
 -- an array's count is looked at first, then its parts, then their bytes
+abbrev pub list_in : Items → Result (List Scalar) Path
+list_in ds = where_fits (nat_le (count ds) most_scalars) (scalars_from 0 ds >>= λ ss. where_fits (nat_le (scalars_size ss) most_scalars_bytes) (Ok ss))
+
+-- an array is a list; all else stands for a scalar
 abbrev pub value_in : Data → Result Value Path
-value_in (array ds) = where_fits (nat_le (count ds) most_scalars) (scalars_from 0 ds >>= λ ss. where_fits (nat_le (scalars_size ss) most_scalars_bytes) (Ok (values.List ss)))
-value_in d = scalar_in d >>= λ s. Ok (value_of s)
+value_in d = option_map_or (λ ds. list_in ds >>= λ ss. Ok (values.List ss)) (as_array d) (scalar_in d >>= λ s. Ok (value_of s))
