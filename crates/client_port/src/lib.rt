@@ -1,0 +1,9 @@
+//! What clients may send next, and what was said to them.
+//!
+//! - `queues` has each client's requests, and `port` what is due and what was said.
+#![tactic(auto)]
+
+mod port;
+mod queues;
+
+pub use port::Port;

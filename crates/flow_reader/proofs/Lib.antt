@@ -1,0 +1,4 @@
+pub mod Grammar
+pub mod Scalars
+pub mod Texts
+pub mod Trails

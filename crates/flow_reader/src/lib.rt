@@ -1,0 +1,14 @@
+//! The flows file: what its grammar is. `specs/Files` says which flows the bytes give, or why they are refused and where.
+//!
+//! - `faults` is where a file is refused, and `values` reads values and names.
+//! - `expressions` reads the words of operations.
+//! - `rows` has worked rows of the grammar.
+#![tactic(auto)]
+
+mod expressions;
+mod faults;
+mod rows;
+mod values;
+
+pub use faults::{Path, Step};
+pub use rows::{files, names, no_json, statements};

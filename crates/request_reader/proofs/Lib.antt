@@ -1,0 +1,7 @@
+pub mod Counted
+pub mod Ids
+pub mod Lines
+pub mod Places
+pub mod Scalars
+pub mod Texts
+pub mod Used

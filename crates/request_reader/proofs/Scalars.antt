@@ -1,0 +1,43 @@
+-- Reading the parts of a list one after another, and how many bytes they take.
+use Rattle.std.proofs.Common.{◌≡◌, ℕ, ◌+◌, ◌<◌, List, [], ◌∷◌, ◌++◌, length, drop, get_or, false, Option, Some, None, refl, sym, ◌∙◌, arith, append_assoc, add-one}
+use Rattle.std.proofs.Math.Seq.{drop-cons}
+use Rattle.std.specs.Prelude.{nat_le}
+use Rattle.std.proofs.lemmas.Bool.Decides.{nat_tests}
+use Rattle.serde_json.specs.Data.{Items, item}
+use Rattle.serde_json.specs.View.{view, items_view}
+use Rattle.serde_json.specs.declared.value.Value.{Value as Json}
+use Rattle.dura_value.specs.declared.data.Scalar.{Scalar}
+use Rattle.request_reader.specs.Reading.{◌>>=◌}
+use Rattle.dura_value.specs.Values.{scalar_size, scalars_size}
+use Rattle.request_reader.specs.Values.{scalar_in, scalars_in}
+use Rattle.dura_value.specs.Limits.{most_scalars_bytes}
+
+-- the parts that are still to be read, behind those that were
+abbrev pub with_rest : List Scalar → Items → Option (List Scalar)
+with_rest done ds = scalars_in ds >>= λ ss. Some (done ++ ss)
+
+with_first : (done : List Scalar) (s : Scalar) (rest : Option (List Scalar)) → (rest >>= (λ ss. Some (s ∷ ss)) >>= λ ss. Some (done ++ ss)) ≡ (rest >>= λ ss. Some ((done ++ s ∷ []) ++ ss))
+with_first done s None = refl
+with_first done s (Some ss) = rw append_assoc refl
+
+items_from : (vs : List Json) (i : ℕ) (v : Json) → i < length vs → v ≡ get_or vs i v → items_view (drop i vs) ≡ item (view v) (items_view (drop (i + 1) vs))
+items_from vs i v lt at = rw (add-one, drop-cons vs i v lt, ← at) refl
+
+-- a part was read
+pub goes_on : (whole : Option (List Scalar)) (done : List Scalar) (vs : List Json) (i : ℕ) (v : Json) (s : Scalar) → i < length vs → v ≡ get_or vs i v → with_rest done (items_view (drop i vs)) ≡ whole → scalar_in (view v) ≡ Some s → with_rest (done ++ s ∷ []) (items_view (drop (i + 1) vs)) ≡ whole
+goes_on whole done vs i v s lt at before is = sym (with_first done s (scalars_in (items_view (drop (i + 1) vs)))) ∙ sym (rw (items_from vs i v lt at, is) refl) ∙ before
+
+-- a part is no scalar
+pub ends : (whole : Option (List Scalar)) (done : List Scalar) (vs : List Json) (i : ℕ) (v : Json) → i < length vs → v ≡ get_or vs i v → with_rest done (items_view (drop i vs)) ≡ whole → scalar_in (view v) ≡ None → whole ≡ None
+ends whole done vs i v lt at before is = sym before ∙ rw (items_from vs i v lt at, is) refl
+
+sizes_from : (ss : List Scalar) (i : ℕ) (s : Scalar) → i < length ss → s ≡ get_or ss i s → scalars_size (drop i ss) ≡ scalar_size s + scalars_size (drop (i + 1) ss)
+sizes_from ss i s lt at = rw (add-one, drop-cons ss i s lt, ← at) refl
+
+-- a scalar that still fits was counted
+pub counted : (ss : List Scalar) (i left after : ℕ) (s : Scalar) → i < length ss → s ≡ get_or ss i s → scalars_size ss + left ≡ most_scalars_bytes + scalars_size (drop i ss) → after + scalar_size s ≡ left → scalars_size ss + after ≡ most_scalars_bytes + scalars_size (drop (i + 1) ss)
+counted ss i left after s lt at before is = omega (arith, sizes_from ss i s lt at)
+
+-- a scalar doesn't fit any more
+pub too_many : (ss : List Scalar) (i left : ℕ) (s : Scalar) → i < length ss → s ≡ get_or ss i s → scalars_size ss + left ≡ most_scalars_bytes + scalars_size (drop i ss) → left < scalar_size s → nat_le (scalars_size ss) most_scalars_bytes ≡ false
+too_many ss i left s lt at before is = let above : most_scalars_bytes < scalars_size ss = omega (arith, sizes_from ss i s lt at) in grind (arith, nat_tests)

@@ -1,0 +1,144 @@
+//! The request of a line.
+
+ghost use Rattle.std.specs.Prelude.{◌≡◌};
+ghost use Rattle.serde_json.specs.View.{view};
+ghost use Rattle.dura_value.specs.Views.{id_of, body_of};
+ghost use Rattle.request_reader.specs.Json.{id_at};
+ghost use Rattle.request_reader.specs.Reading.{Gives, where_it, ◌>>=◌ as bind};
+ghost use Rattle.request_reader.specs.Line.{is_instance, has_state, number_in, start_in, wait_in, raise_in, query_in, sent_in, request_in, request_on, request_of};
+
+use crate::error::ReadError;
+use crate::json;
+use crate::values::value_at;
+use dura_value::{Body, Id, Message, Name, Reply, Request};
+use serde_json::Value;
+use std::alloc::Global;
+
+fn is_instance(id: &Id) -> bool
+    ensures { result ≡ is_instance (id_of id.now) }
+{
+    match id {
+        Id::Flow(_, _) => true,
+        Id::Entity(_, _) => false,
+        Id::Client(_) => false,
+    }
+}
+
+fn has_state(id: &Id) -> bool
+    ensures { result ≡ has_state (id_of id.now) }
+{
+    match id {
+        Id::Flow(_, _) => true,
+        Id::Entity(_, _) => true,
+        Id::Client(_) => false,
+    }
+}
+
+fn instance_at(alloc: Global, value: &Value, key: &str) -> Result<Id, ReadError>
+    ensures { Gives id_of result (bind (id_at key.now (view value.now)) (where_it is_instance)) }
+{
+    let id = json::id_at(alloc, value, key)?;
+    if is_instance(&id) {
+        Ok(id)
+    } else {
+        Err(ReadError::Refused)
+    }
+}
+
+/// The request's number.
+fn number_in(value: &Value) -> Option<u32>
+    ensures { result ≡ number_in (view value.now) }
+{
+    match value.get("n") {
+        Some(number) => match number.as_u64() {
+            Some(number) if number >= 1 && number <= u32::MAX as u64 => Some(number as u32),
+            _ => None,
+        },
+        None => None,
+    }
+}
+
+fn start_in(alloc: Global, number: u32, value: &Value) -> Result<(Id, Body), ReadError>
+    ensures { Gives (λ sent. (id_of sent.0, body_of sent.1)) result (start_in number (view value.now)) }
+{
+    if !json::has_members(value, 3 + json::one_if_at(value, "arg")) {
+        return Err(ReadError::Refused);
+    }
+    let to = instance_at(alloc, value, "start")?;
+    let argument = value_at(alloc, value, "arg")?;
+    Ok((to, Body::Start(argument, Reply::Request(number))))
+}
+
+fn wait_in(alloc: Global, number: u32, value: &Value) -> Result<(Id, Body), ReadError>
+    ensures { Gives (λ sent. (id_of sent.0, body_of sent.1)) result (wait_in number (view value.now)) }
+{
+    if !json::has_members(value, 3) {
+        return Err(ReadError::Refused);
+    }
+    let to = instance_at(alloc, value, "wait")?;
+    Ok((to, Body::Wait(number)))
+}
+
+fn raise_in(alloc: Global, number: u32, value: &Value) -> Result<(Id, Body), ReadError>
+    ensures { Gives (λ sent. (id_of sent.0, body_of sent.1)) result (raise_in number (view value.now)) }
+{
+    if !json::has_members(value, 4 + json::one_if_at(value, "value")) {
+        return Err(ReadError::Refused);
+    }
+    let to = instance_at(alloc, value, "raise")?;
+    let event = json::name_at(alloc, value, "event")?;
+    let value = value_at(alloc, value, "value")?;
+    Ok((to, Body::Raise(event, value, number)))
+}
+
+fn query_in(alloc: Global, number: u32, value: &Value) -> Result<(Id, Body), ReadError>
+    ensures { Gives (λ sent. (id_of sent.0, body_of sent.1)) result (query_in number (view value.now)) }
+{
+    if !json::has_members(value, 3) {
+        return Err(ReadError::Refused);
+    }
+    let to = json::id_at(alloc, value, "query")?;
+    if has_state(&to) {
+        Ok((to, Body::Query(number)))
+    } else {
+        Err(ReadError::Refused)
+    }
+}
+
+fn sent_in(alloc: Global, number: u32, value: &Value) -> Result<(Id, Body), ReadError>
+    ensures { Gives (λ sent. (id_of sent.0, body_of sent.1)) result (sent_in number (view value.now)) }
+{
+    if value.get("start").is_some() {
+        start_in(alloc, number, value)
+    } else if value.get("wait").is_some() {
+        wait_in(alloc, number, value)
+    } else if value.get("raise").is_some() {
+        raise_in(alloc, number, value)
+    } else {
+        query_in(alloc, number, value)
+    }
+}
+
+fn request_in(alloc: Global, value: &Value) -> Result<Request, ReadError>
+    ensures { Gives request_of result (request_in (view value.now)) }
+{
+    let client = json::name_at(alloc, value, "client")?;
+    let Some(number) = number_in(value) else {
+        return Err(ReadError::Refused);
+    };
+    let (to, body) = sent_in(alloc, number, value)?;
+    let from = Id::Client(client.clone()?);
+    Ok(Request {
+        client,
+        number,
+        message: Message { from, to, body },
+    })
+}
+
+/// The request of a line.
+pub(crate) fn request_on(alloc: Global, line: &[u8]) -> Result<Request, ReadError>
+    ensures { Gives request_of result (request_on line.now) }
+{
+    let value = json::data_of(alloc, line)?;
+    request_in(alloc, &value)
+}
