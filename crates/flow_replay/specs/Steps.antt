@@ -1,0 +1,20 @@
+-- What a step of a machine changes, and what it makes.
+use Rattle.std.specs.Prelude.{◌≡◌, List, ◌++◌, map, Bool, true, false}
+use Rattle.dura_value.specs.Views.{messages_of}
+use Rattle.flow_syntax.specs.Machine as plain
+use Rattle.flow_replay.specs.declared.machine.Machine.{Machine}
+use Rattle.flow_replay.specs.declared.made.Made.{Made}
+use Rattle.flow_replay.specs.Views.{machine_of, asked_of}
+
+-- A machine has become the one of this result, and what it made stands behind what was made before.
+pub record Makes (was now : Made) (m : Machine) (r : plain.Resumed) : Type 0 where
+  pub machine : machine_of m ≡ r.machine
+  pub sent : messages_of now.messages.items ≡ messages_of was.messages.items ++ r.sent
+  pub asked : map asked_of now.asked.items ≡ map asked_of was.asked.items ++ r.asked
+
+-- It went on to the next step, or stayed.
+abbrev pub Moves : Bool → Made → Made → Machine → plain.Next → Type 0
+Moves true was now m (plain.goes r) = Makes was now m r
+Moves false was now m (plain.stays r) = Makes was now m r
+Moves true was now m (plain.stays r) = ⊥
+Moves false was now m (plain.goes r) = ⊥

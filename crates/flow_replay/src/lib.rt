@@ -1,0 +1,19 @@
+//! The machine that runs one instance of a flow, and the machine that a history makes.
+//!
+//! - `machine`: what a machine is. It lends the statements of its flow, and copies none.
+//! - `made`: what a machine sends and asks for.
+//! - `ends`: how it leaves a section, faults and ends.
+//! - `statements`, `calls`, `awaits`: the step of each statement.
+//! - `going`: step after step, until it blocks or ends.
+//! - `events`: what reaches it. `replay`: the machine of a history.
+//! - `specs/Views`: the plain data that these stand for.
+#![tactic(auto)]
+
+mod ends;
+mod events;
+mod machine;
+mod made;
+
+pub use events::{Event, Past};
+pub use machine::{Machine, Progress, Todo};
+pub use made::{Asked, Made};
