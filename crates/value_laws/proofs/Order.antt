@@ -1,11 +1,11 @@
 -- The order of ids and that of their written forms.
-use Rattle.std.proofs.Common.{◌≡◌, ◌==◌, ◌&&◌, ◌||◌, ◌∙◌, ◌<◌, ◌≤◌, ℕ, nat_lt, nat_le, List, [], ◌∷◌, ◌++◌, length, Bool, true, false, if◌then◌else◌, refl, ap, sym, arith}
+use Rattle.std.proofs.Common.{◌≡◌, ◌&&◌, ◌∙◌, ◌<◌, ◌≤◌, ℕ, nat_le, List, [], ◌∷◌, ◌++◌, length, true, refl, ap, sym, arith}
 use Rattle.std.specs.declared.cmp.Ordering.{Ordering}
 use Rattle.std.specs.declared.cmp.Ordering.TheVariants.{Less, Equal, Greater}
 use Rattle.std.specs.Ordering.{nat_cmp, ordering_then}
 use Rattle.std.specs.Cmp.Lexicographic.{slice_cmp}
 use Rattle.std.specs.List.{list_all}
-use Rattle.std.specs.Char.{is_ascii_alphabetic, is_ascii_alphanumeric}
+use Rattle.std.specs.Char.{is_ascii_alphabetic}
 use Rattle.std.proofs.lemmas.Bool.{lt-ltb}
 use Rattle.std.proofs.lemmas.Bool.Decides.{nat_tests}
 use Rattle.dura_value.specs.declared.addresses.Id.{Id}
@@ -24,7 +24,7 @@ less_by a b h = rw (lt-ltb a b h)
 greater_by : (a b : ℕ) → b < a → nat_cmp a b ≡ Greater
 greater_by a b h = grind (arith, nat_tests)
 
-above_slash : (byte : ℕ) → goes_on_name byte ≡ true → 47 < byte
+pub above_slash : (byte : ℕ) → goes_on_name byte ≡ true → 47 < byte
 above_slash byte is = grind (arith, nat_tests)
 
 above_marks : (byte : ℕ) → is_ascii_alphabetic byte ≡ true → 64 < byte
@@ -49,7 +49,7 @@ by_parts (a ∷ x) (b ∷ y) k l first second =
 letters_go_on : (byte : ℕ) → is_ascii_alphabetic byte ≡ true → goes_on_name byte ≡ true
 letters_go_on byte is = grind (arith, nat_tests)
 
-name_goes_on : (x : List ℕ) → is_name x ≡ true → list_all goes_on_name x ≡ true
+pub name_goes_on : (x : List ℕ) → is_name x ≡ true → list_all goes_on_name x ≡ true
 name_goes_on [] is = absurd (cc is)
 name_goes_on (a ∷ x) is =
     let parts = both_true (nat_le (length (a ∷ x)) most_word_bytes) (is_ascii_alphabetic a && list_all goes_on_name x) is in

@@ -1,11 +1,13 @@
 //! Laws of ids. They are said of the definitions alone: the functions do nothing.
 
-ghost use Rattle.std.specs.Prelude.{◌≡◌, true};
+ghost use Rattle.std.specs.Prelude.{◌≡◌, ℕ, List, true, Err};
 ghost use Rattle.std.specs.Ordering.{nat_cmp};
 ghost use Rattle.std.specs.Cmp.Lexicographic.{slice_cmp};
 ghost use Rattle.dura_value.specs.declared.addresses.Id.{Id as Given};
 ghost use Rattle.dura_value.specs.Ids.{Id, id_eq, written};
+ghost use Rattle.dura_value.specs.Reading.{name_at, key_at, id_in};
 ghost use Rattle.dura_value.specs.Views.{id_of};
+ghost use Rattle.value_laws.specs.Begins.{IsName, IsKey, IsWritten, StopsAt};
 ghost use Rattle.value_laws.specs.Forms.{has_form};
 
 /// Ids that are compared as the same are the same, and each is the same as itself.
@@ -20,4 +22,12 @@ pub fn ids_are_compared()
 pub fn ids_are_in_order()
     ensures { (a b : Given) → has_form (id_of a) ≡ true → has_form (id_of b) ≡ true
         → ⟦<dura_value::Id as Ord>⟧.cmp a b ≡ slice_cmp nat_cmp (written (id_of a)) (written (id_of b)) }
+{}
+
+/// The offset of a fault of reading a name, a key or an id is the length of the longest prefix that begins one.
+#[tactic(auto, using(crate::proofs::IdFronts::name_fault, crate::proofs::IdFronts::key_fault, crate::proofs::IdFronts::id_fault))]
+pub fn faults_are_where_prefixes_end()
+    ensures names { (bytes : List ℕ) (n : ℕ) → name_at 0 bytes ≡ Err n → StopsAt IsName bytes n }
+    ensures keys { (bytes : List ℕ) (n : ℕ) → key_at 0 bytes ≡ Err n → StopsAt IsKey bytes n }
+    ensures ids { (bytes : List ℕ) (n : ℕ) → id_in bytes ≡ Err n → StopsAt IsWritten bytes n }
 {}
