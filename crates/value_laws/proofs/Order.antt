@@ -27,7 +27,7 @@ greater_by a b h = grind (arith, nat_tests)
 pub above_slash : (byte : ℕ) → goes_on_name byte ≡ true → 47 < byte
 above_slash byte is = grind (arith, nat_tests)
 
-above_marks : (byte : ℕ) → is_ascii_alphabetic byte ≡ true → 64 < byte
+pub above_marks : (byte : ℕ) → is_ascii_alphabetic byte ≡ true → 64 < byte
 above_marks byte is = grind (arith, nat_tests)
 
 then_then : (a b c : Ordering) → ordering_then a (ordering_then b c) ≡ ordering_then (ordering_then a b) c

@@ -54,7 +54,7 @@ names_have_none (a ∷ x) all =
     let above : 47 < a = above_slash a parts.0 in
     and_true (no_slash a) (list_all no_slash x) (grind (arith, nat_tests)) (names_have_none x parts.1)
 
-name_has_none : (x : List ℕ) → is_name x ≡ true → list_all no_slash x ≡ true
+pub name_has_none : (x : List ℕ) → is_name x ≡ true → list_all no_slash x ≡ true
 name_has_none x is = names_have_none x (name_goes_on x is)
 
 slash_true : (a : ℕ) → not (is_slash a) ≡ false → a ≡ 47
@@ -73,7 +73,7 @@ slash_next (suc n) (x ∷ xs) is more =
       | false ↦ λ h. absurd (omega arith)
     ]) is
 
-parts_of : (n : ℕ) (xs : List ℕ) → n ≡ place_in xs → n < length xs → xs ≡ take n xs ++ 47 ∷ drop (suc n) xs
+pub parts_of : (n : ℕ) (xs : List ℕ) → n ≡ place_in xs → n < length xs → xs ≡ take n xs ++ 47 ∷ drop (suc n) xs
 parts_of n [] is more = absurd (omega arith)
 parts_of zero (x ∷ xs) is more =
     (elim (no_slash x) as (λ b. no_slash x ≡ b → 0 ≡ cond b (1 + prefix_len no_slash xs) 0 → x ∷ xs ≡ 47 ∷ drop 0 xs) [

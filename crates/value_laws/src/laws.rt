@@ -1,6 +1,6 @@
 //! Laws of ids. They are said of the definitions alone: the functions do nothing.
 
-ghost use Rattle.std.specs.Prelude.{◌≡◌, ℕ, List, true, Err};
+ghost use Rattle.std.specs.Prelude.{◌≡◌, ℕ, List, true, Ok, Err};
 ghost use Rattle.std.specs.Ordering.{nat_cmp};
 ghost use Rattle.std.specs.Cmp.Lexicographic.{slice_cmp};
 ghost use Rattle.dura_value.specs.declared.addresses.Id.{Id as Given};
@@ -30,4 +30,10 @@ pub fn faults_are_where_prefixes_end()
     ensures names { (bytes : List ℕ) (n : ℕ) → name_at 0 bytes ≡ Err n → StopsAt IsName bytes n }
     ensures keys { (bytes : List ℕ) (n : ℕ) → key_at 0 bytes ≡ Err n → StopsAt IsKey bytes n }
     ensures ids { (bytes : List ℕ) (n : ℕ) → id_in bytes ≡ Err n → StopsAt IsWritten bytes n }
+{}
+
+/// An id is read where its written form stands, and nothing else is read.
+pub fn ids_are_read_back()
+    ensures written { (id : Id) → has_form id ≡ true → id_in (written id) ≡ Ok id }
+    ensures read { (bytes : List ℕ) (id : Id) → id_in bytes ≡ Ok id → (has_form id ≡ true) × (written id ≡ bytes) }
 {}
