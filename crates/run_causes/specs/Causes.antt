@@ -1,5 +1,5 @@
 -- The exit status of a cause, and its line on standard error behind the program's name.
-use Rattle.std.specs.Prelude.{ℕ, zero, suc, ◌+◌, ◌-◌, ◌/◌, ◌%◌, List, [], ◌∷◌, ◌++◌, codes, nat_lt, if◌then◌else◌}
+use Rattle.std.specs.Prelude.{ℕ, zero, suc, ◌+◌, ◌-◌, ◌/◌, ◌%◌, List, [], ◌∷◌, ◌++◌, codes, nat_lt, Bool, true, false, if◌then◌else◌}
 use Rattle.std.specs.Fmt.{decimal}
 use Rattle.flow_reader.specs.Faults.{path_text}
 use Rattle.run_causes.specs.declared.cause.Cause.{Cause}
@@ -30,6 +30,15 @@ status_of (OtherFlows found given) = 10
 status_of Memory = 11
 status_of (Full partition length) = 12
 status_of (Spent partition number) = 12
+
+-- files that stand for no run
+abbrev pub is_damage : Cause → Bool
+is_damage (Damaged file offset) = true
+is_damage (Illegal partition position) = true
+is_damage (Unclosed partition position src seq) = true
+is_damage (OtherShape found asked) = true
+is_damage (OtherFlows found given) = true
+is_damage other = false
 
 -- a blank and a number
 abbrev pub numbered : ℕ → List ℕ
@@ -72,7 +81,7 @@ line_of (Damaged file offset) = codes "damaged" ++ numbered file ++ numbered off
 line_of (Illegal partition position) = codes "illegal" ++ numbered partition ++ numbered position
 line_of (Unclosed partition position src seq) = codes "unclosed" ++ numbered partition ++ numbered position ++ numbered src ++ numbered seq
 line_of (OtherShape found asked) = codes "partitions" ++ numbered found ++ numbered asked
-line_of (OtherFlows found given) = codes "digest" ++ 32 ∷ hex_digits 16 found ++ 32 ∷ hex_digits 16 given
+line_of (OtherFlows found given) = codes "digest " ++ hex_digits 16 found ++ codes " " ++ hex_digits 16 given
 line_of Memory = codes "memory"
 line_of (Full partition length) = codes "full" ++ numbered partition ++ numbered length
 line_of (Spent partition number) = codes "spent" ++ numbered partition ++ numbered number

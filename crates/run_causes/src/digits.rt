@@ -17,7 +17,8 @@ fn digit_of(number: u8) -> u8
     }
 }
 
-/// Appends the last digits of a number, as many as there are.
+/// Appends the last digits of a number, as many as there are to be.
+#[cycle(write_last)]
 fn write_last(out: &mut Vec<u8>, count: u32, number: u64) -> Result<(), AllocError>
     ensures { OnOk result (out.new.items ≡ out.old.items ++ hex_digits count number) }
 {

@@ -1,8 +1,7 @@
 //! The lines of causes.
 
-ghost use Rattle.std.specs.Prelude.{◌≡◌, ◌++◌, IfOk, OnOk, codes, [], ◌∷◌};
-ghost use Rattle.std.specs.Fmt.{decimal};
-ghost use Rattle.run_causes.specs.Causes.{line_of, numbered, flows_text, plan_text};
+ghost use Rattle.std.specs.Prelude.{◌≡◌, ◌++◌, ◌∷◌, IfOk, OnOk, true};
+ghost use Rattle.run_causes.specs.Causes.{status_of, is_damage, line_of, numbered, flows_text, plan_text};
 
 use crate::cause::{Cause, FlowsFault, PlanPlace};
 use crate::digits::write_hex;
@@ -138,14 +137,63 @@ fn write_damage(alloc: Global, out: &mut Vec<u8>, cause: &Cause) -> Result<(), A
         }
         Cause::OtherShape { found, asked } => {
             write_word(out, "partitions")?;
-            write_two(alloc, out, *found as u64, *asked as u64)
+            write_two(alloc, out, *found as u64, *asked as u64)?;
+            Ok(())
         }
         Cause::OtherFlows { found, given } => {
             write_word(out, "digest ")?;
             write_hex(out, *found)?;
             write_word(out, " ")?;
-            write_hex(out, *given)
+            write_hex(out, *given)?;
+            Ok(())
         }
         _ => Ok(()),
+    }
+}
+
+/// Appends the line of any cause.
+fn write_line(alloc: Global, out: &mut Vec<u8>, cause: &Cause) -> Result<(), AllocError>
+    ensures { OnOk result (out.new.items ≡ out.old.items ++ line_of cause.now) }
+{
+    match cause {
+        Cause::Done => Ok(()),
+        Cause::Usage => write_word(out, "usage"),
+        Cause::Waiting { client, number } => {
+            write_word(out, "waiting")?;
+            write_pair(alloc, out, client, *number)
+        }
+        Cause::Long { labels } => {
+            write_word(out, "long")?;
+            write_number(alloc, out, *labels)
+        }
+        Cause::SiteFault => write_word(out, "site fault"),
+        Cause::SayFault => write_word(out, "say fault"),
+        Cause::ClockFault => write_word(out, "clock fault"),
+        Cause::Memory => write_word(out, "memory"),
+        Cause::Full { partition, length } => {
+            write_word(out, "full")?;
+            write_two(alloc, out, *partition as u64, *length)
+        }
+        Cause::Spent { partition, number } => {
+            write_word(out, "spent")?;
+            write_two(alloc, out, *partition as u64, *number)
+        }
+        Cause::Damaged { .. }
+        | Cause::Illegal { .. }
+        | Cause::Unclosed { .. }
+        | Cause::OtherShape { .. }
+        | Cause::OtherFlows { .. } => write_damage(alloc, out, cause),
+        _ => write_refusal(alloc, out, cause),
+    }
+}
+
+impl Cause {
+    /// Its line on standard error, behind the program's name; nothing of a run that is done.
+    pub fn line(&self, alloc: Global) -> Result<Vec<u8>, AllocError>
+        ensures { IfOk result (λ line. line.items ≡ line_of self.now) }
+    {
+        let mut line = Vec::new(alloc);
+        write_line(alloc, &mut line, self)?;
+        Ok(line)
     }
 }
