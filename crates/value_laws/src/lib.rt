@@ -1,4 +1,5 @@
-//! Laws of values and ids: how ids are compared, and how far bytes begin one.
+//! Laws of ids: how they are compared, that their written forms are read back, that their order is that of their written
+//! forms, and that the offset of a fault is where the longest prefix ends that begins one.
 #![tactic(auto)]
 
 mod laws;

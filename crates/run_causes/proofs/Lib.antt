@@ -1,0 +1,2 @@
+pub mod LastDigit
+pub mod Parts
