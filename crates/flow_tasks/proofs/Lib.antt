@@ -1,0 +1,4 @@
+pub mod Copies
+pub mod Inserts
+pub mod Kept
+pub mod Places

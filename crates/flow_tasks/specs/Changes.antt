@@ -1,6 +1,5 @@
 -- What the arrival of a result changes in the tasks.
 use Rattle.std.specs.Prelude.{ℕ, List, Bool, false, if◌then◌else◌, Option, Some, None}
-use Rattle.dura_value.specs.declared.outcome.Outcome.{Outcome}
 use Rattle.flow_syntax.specs.Machine.{Task, Arrival, is_open, task_at, with_arrival}
 
 -- a task that is there and has no result yet

@@ -1,10 +1,11 @@
 -- The plain data that tasks, sections and kept events stand for.
-use Rattle.std.specs.Prelude.{ℕ, List, map, Option, option_map}
+use Rattle.std.specs.Prelude.{List, map, option_map}
 use Rattle.dura_value.specs.Views.{spot_of, spots_of}
 use Rattle.flow_tasks.specs.declared.tasks.Kind.{Kind}
 use Rattle.flow_tasks.specs.declared.tasks.Kind.TheVariants as kinds
 use Rattle.flow_tasks.specs.declared.tasks.Arrival.{Arrival}
 use Rattle.flow_tasks.specs.declared.tasks.Task.{Task}
+use Rattle.flow_tasks.specs.declared.tasks.Candidate.{Candidate}
 use Rattle.flow_tasks.specs.declared.sections.Section.{Section}
 use Rattle.flow_tasks.specs.declared.sections.Section.TheVariants as sections
 use Rattle.flow_tasks.specs.declared.raised.Raised.{Raised}
@@ -26,6 +27,9 @@ task_of task = record { kind = kind_of task.kind; arrival = option_map arrival_o
 
 abbrev pub tasks_of : List Task → List plain.Task
 tasks_of = map task_of
+
+abbrev pub candidate_of : Candidate → plain.Candidate
+candidate_of best = record { place = best.place; order = best.order }
 
 abbrev pub section_of : Section → plain.Section
 section_of sections.Outside = plain.outside

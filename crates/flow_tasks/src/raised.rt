@@ -1,6 +1,7 @@
 //! Events that no handle waited for yet.
 
-ghost use Rattle.std.specs.Prelude.{◌≡◌, ◌++◌, ◌∷◌, [], OnOk, map};
+ghost use Rattle.std.specs.Prelude.{◌≡◌, ◌++◌, ◌∷◌, [], OnOk, OnErr, map, position};
+ghost use Rattle.std.specs.Str.{bytes_eq};
 ghost use Rattle.flow_syntax.specs.Machine.{kept_value, without_kept};
 ghost use Rattle.flow_tasks.specs.Views.{raised_of};
 
@@ -44,10 +45,18 @@ impl KeptEvents {
 
     /// An event is kept.
     pub fn push(&mut self, name: Name, value: Value) -> Result<(), AllocError>
-        ensures { OnOk result (map raised_of self.new ≡ map raised_of self.old ++ record { name = name; value = value } ∷ []) }
+        ensures ok { OnOk result (map raised_of self.new ≡ map raised_of self.old ++ record { name = name; value = value } ∷ []) }
+        ensures err { OnErr result (self.new ≡ self.old) }
     {
         self.events.push(Raised { name, value })?;
         Ok(())
+    }
+
+    /// Where the oldest event of a name is.
+    fn place_of(&self, name: &Name) -> Option<usize>
+        ensures { result ≡ position (λ one. bytes_eq one.name name.now) self.now }
+    {
+        self.events.iter().position(|event| event.name == *name)
     }
 
     /// Takes out the oldest event of a name.
@@ -55,7 +64,9 @@ impl KeptEvents {
         ensures value { result ≡ kept_value name.now (map raised_of self.old) }
         ensures taken { map raised_of self.new ≡ without_kept name.now (map raised_of self.old) }
     {
-        let place = self.events.iter().position(|event| event.name == *name)?;
-        Some(self.events.remove(place).value)
+        match self.place_of(name) {
+            Some(place) => Some(self.events.remove(place).value),
+            None => None,
+        }
     }
 }

@@ -1,9 +1,9 @@
 //! The tasks of an instance.
 
-ghost use Rattle.std.specs.Prelude.{◌≡◌, ◌&&◌, ◌++◌, ◌∷◌, [], length, Some, None, IfOk, OnOk, option_map};
+ghost use Rattle.std.specs.Prelude.{◌≡◌, ◌<◌, ◌&&◌, IsTrue, ◌++◌, ◌∷◌, [], length, Some, None, IfOk, OnOk, OnErr, option_map};
 ghost use Rattle.dura_value.specs.Views.{spot_of};
-ghost use Rattle.flow_syntax.specs.Machine.{task_at, arrival_of as arrival_at, all_arrived, first_arrived, has_open_call, has_open_ask, oldest_listener, is_call, is_open, asks_spot, listens_for};
-ghost use Rattle.flow_tasks.specs.Views.{kind_of, arrival_of, task_of, tasks_of};
+ghost use Rattle.flow_syntax.specs.Machine.{task_at, arrival_of as arrival_at, all_arrived, first_arrived, has_open_call, has_open_ask, oldest_listener, sooner, is_call, is_open, asks_spot, listens_for};
+ghost use Rattle.flow_tasks.specs.Views.{kind_of, arrival_of, task_of, tasks_of, candidate_of};
 ghost use Rattle.flow_tasks.specs.Changes.{can_arrive, tasks_with};
 
 use crate::sets::are_same;
@@ -44,6 +44,15 @@ pub struct Task {
     pub kind: Kind,
     /// Its result.
     pub arrival: Option<Arrival>,
+}
+
+impl Task {
+    /// Its result arrives.
+    fn settle(&mut self, outcome: Outcome, order: u64)
+        ensures { task_of self.new ≡ record (task_of self.old) { arrival = Some (record { outcome = outcome; order = order }) } }
+    {
+        self.arrival = Some(Arrival { outcome, order });
+    }
 }
 
 /// The tasks of an instance by number, which a contract sees as a list.
@@ -87,7 +96,8 @@ impl Tasks {
 
     /// A new task, whose number is the next one.
     pub fn push(&mut self, kind: Kind) -> Result<(), AllocError>
-        ensures { OnOk result (tasks_of self.new ≡ tasks_of self.old ++ record { kind = kind_of kind; arrival = None } ∷ []) }
+        ensures ok { OnOk result (tasks_of self.new ≡ tasks_of self.old ++ record { kind = kind_of kind; arrival = None } ∷ []) }
+        ensures err { OnErr result (self.new ≡ self.old) }
     {
         self.tasks.push(Task {
             kind,
@@ -100,7 +110,21 @@ impl Tasks {
     pub fn arrival(&self, number: usize) -> Option<&Arrival>
         ensures { option_map (λ a. arrival_of a.now) result ≡ arrival_at (task_at (tasks_of self.now) number) }
     {
-        self.tasks.get(number)?.arrival.as_ref()
+        match self.tasks.get(number) {
+            Some(task) => task.arrival.as_ref(),
+            None => None,
+        }
+    }
+
+    /// Whether a task is there and has no result yet.
+    fn can_arrive(&self, number: usize) -> bool
+        ensures result { result ≡ can_arrive (task_at (tasks_of self.now) number) }
+        ensures within { IsTrue result → number < length self.now }
+    {
+        match self.tasks.get(number) {
+            Some(task) => task.arrival.is_none(),
+            None => false,
+        }
     }
 
     /// The result of a task arrives, if the task is there and has none yet.
@@ -108,16 +132,11 @@ impl Tasks {
         ensures arrives { result ≡ can_arrive (task_at (tasks_of self.old) number) }
         ensures tasks { tasks_of self.new ≡ tasks_with (tasks_of self.old) number (record { outcome = outcome; order = order }) }
     {
-        match self.tasks.get_mut(number) {
-            Some(task) => {
-                let arrives = task.arrival.is_none();
-                if arrives {
-                    task.arrival = Some(Arrival { outcome, order });
-                }
-                arrives
-            }
-            None => false,
+        let arrives = self.can_arrive(number);
+        if arrives {
+            self.tasks[number].settle(outcome, order);
         }
+        arrives
     }
 
     /// The results of these tasks, once all are there.
@@ -131,7 +150,7 @@ impl Tasks {
         let mut outcomes = Vec::new(alloc);
         for handle in handles {
             match self.arrival(*handle) {
-                Some(arrival) => outcomes.push(arrival.outcome.clone()?)?,
+                Some(arrival) => outcomes.push(copy_of(&arrival.outcome)?)?,
                 None => return Ok(None),
             }
         }
@@ -142,24 +161,30 @@ impl Tasks {
     pub fn first_arrived(&self, handles: &[usize]) -> Option<usize>
         ensures { result ≡ option_map (λ c. c.place) (first_arrived (tasks_of self.now) 0 handles.now) }
     {
-        let mut best: Option<(usize, u64)> = None;
-        for place in (0..handles.len()).rev() {
-            if let Some(arrival) = self.arrival(handles[place]) {
-                match best {
-                    Some((_, order)) if arrival.order > order => {}
-                    _ => best = Some((place, arrival.order)),
-                }
+        let mut best: Option<Candidate> = None;
+        let mut left = handles.len();
+        while left > 0 {
+            left -= 1;
+            if let Some(arrival) = self.arrival(handles[left]) {
+                best = Some(sooner(left, arrival, best));
             }
         }
-        let (place, _) = best?;
-        Some(place)
+        match best {
+            Some(best) => Some(best.place),
+            None => None,
+        }
     }
 
     /// Whether an ask or a started flow has no result yet.
     pub fn has_open_call(&self) -> bool
         ensures { result ≡ has_open_call (tasks_of self.now) }
     {
-        self.tasks.iter().any(is_open_call)
+        for task in &self.tasks {
+            if is_open_call(task) {
+                return true;
+            }
+        }
+        false
     }
 
     /// Whether an ask of this entity has no result yet.
@@ -185,6 +210,35 @@ impl Tasks {
         }
         None
     }
+}
+
+/// The place of a result, and when it came.
+#[derive(Clone, Copy, Debug, Drop)]
+struct Candidate {
+    place: usize,
+    order: u64,
+}
+
+/// Of two results with their places the one that came first, the earlier place where they came at once.
+fn sooner(place: usize, arrival: &Arrival, best: Option<Candidate>) -> Candidate
+    ensures { Some (candidate_of result) ≡ sooner place (Some (arrival_of arrival.now)) (option_map candidate_of best) }
+{
+    let here = Candidate {
+        place,
+        order: arrival.order,
+    };
+    match best {
+        Some(best) => { if here.order <= best.order { here } else { best } }
+        None => here,
+    }
+}
+
+/// A copy.
+#[tactic(auto, using(crate::proofs::Copies::same_outcome))]
+fn copy_of(outcome: &Outcome) -> Result<Outcome, AllocError>
+    ensures { IfOk result (λ copy. copy ≡ outcome.now) }
+{
+    outcome.clone()
 }
 
 fn is_open_call(task: &Task) -> bool
