@@ -1,5 +1,6 @@
 -- What a step of a machine changes, and what it makes.
-use Rattle.std.specs.Prelude.{◌≡◌, List, ◌++◌, map, Bool, true, false}
+use Rattle.std.specs.Prelude.{◌≡◌, List, ◌++◌, map, Bool, true, false, Option, Some, None}
+use Rattle.dura_value.specs.Messages.{Answer, is_done, has_failed}
 use Rattle.dura_value.specs.Views.{messages_of}
 use Rattle.flow_syntax.specs.Machine as plain
 use Rattle.flow_replay.specs.declared.machine.Machine.{Machine}
@@ -18,3 +19,9 @@ Moves true was now m (plain.goes r) = Makes was now m r
 Moves false was now m (plain.stays r) = Makes was now m r
 Moves true was now m (plain.stays r) = ⊥
 Moves false was now m (plain.goes r) = ⊥
+
+-- what a task that waits for an end is told of it
+abbrev pub outcome_told : plain.Progress → Option Answer
+outcome_told (plain.done value) = Some (is_done value)
+outcome_told (plain.failed text) = Some (has_failed text)
+outcome_told other = None

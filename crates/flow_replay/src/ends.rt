@@ -1,28 +1,33 @@
 //! How a machine leaves its section, how it faults, and how it ends.
 
-ghost use Rattle.std.specs.Prelude.{OnOk, IfOk, ◌≡◌, map};
-ghost use Rattle.dura_value.specs.Views.{id_of, spots_of, messages_of};
-ghost use Rattle.flow_syntax.specs.Machine.{leaving, releasing, telling, ended, thrown};
-ghost use Rattle.flow_replay.specs.Views.{machine_of, progress_of};
-ghost use Rattle.flow_replay.specs.Steps.{Makes};
+ghost use Rattle.std.specs.Prelude.{◌≡◌, ◌++◌, IfOk, OnOk, map, option_map};
+ghost use Rattle.dura_value.specs.Messages.{at_spot};
+ghost use Rattle.dura_value.specs.Views.{id_of, spot_of, spots_of, answer_of, messages_of};
+ghost use Rattle.flow_syntax.specs.Machine.{leaving, releasing, telling, ended};
+ghost use Rattle.flow_replay.specs.Views.{machine_of, progress_of, asked_of};
+ghost use Rattle.flow_replay.specs.Steps.{Makes, outcome_told};
 
-use crate::machine::{Machine, Progress, Todo, copy_of};
+use crate::machine::{Machine, Progress, copy_of, key_of, name_of, text_of, value_of};
 use crate::made::Made;
-use dura_value::{Answer, Body, Id, Message, Reply, Spot, Text, Value};
+use dura_value::{Answer, Body, Id, Message, Reply, Spot};
 use flow_tasks::Section;
-use std::alloc::{AllocError, Global};
-use std::mem;
+use std::alloc::AllocError;
+
+/// The id of an entity.
+fn entity_of(spot: &Spot) -> Result<Id, AllocError>
+    ensures { IfOk result (λ id. id_of id ≡ at_spot (spot_of spot.now)) }
+{
+    Ok(Id::Entity(name_of(&spot.class)?, key_of(&spot.key)?))
+}
 
 /// Releases each of these entities.
-fn release_all(made: &mut Made, id: &Id, set: &[Spot]) -> Result<(), AllocError>
-    ensures { OnOk result (messages_of made.new.messages.items ≡ messages_of made.old.messages.items ++ releasing (id_of id.now) (spots_of set.now)) }
-    ensures { made.new.asked ≡ made.old.asked }
+fn release_all(messages: &mut Vec<Message>, id: &Id, set: &[Spot]) -> Result<(), AllocError>
+    ensures { OnOk result (messages_of messages.new.items ≡ messages_of messages.old.items ++ releasing (id_of id.now) (spots_of set.now)) }
 {
     for spot in set {
-        let to = Id::Entity(spot.class.clone()?, spot.key.clone()?);
-        made.messages.push(Message {
+        messages.push(Message {
             from: copy_of(id)?,
-            to,
+            to: entity_of(spot)?,
             body: Body::Release,
         })?;
     }
@@ -35,9 +40,47 @@ impl<'f> Machine<'f> {
         ensures { OnOk result (Makes made.old made.new self.new (leaving (machine_of self.old) (machine_of self.old).section)) }
     {
         if let Section::Inside(set) = &self.section {
-            release_all(made, &self.id, set.as_slice())?;
+            release_all(&mut made.messages, &self.id, set.as_slice())?;
             self.section = Section::Outside;
         }
+        Ok(())
+    }
+
+    /// The answer to whoever waits for its end, where a task does.
+    fn ending(&self, progress: &Progress) -> Result<Option<Answer>, AllocError>
+        ensures { IfOk result (λ answer. option_map answer_of answer ≡ outcome_told (progress_of progress.now)) }
+    {
+        match progress {
+            Progress::Done(value) => Ok(Some(Answer::Done(value_of(value)?))),
+            Progress::Failed(text) => Ok(Some(Answer::Failed(text_of(text)?))),
+            Progress::Unborn | Progress::Running => Ok(None),
+        }
+    }
+
+    /// Tells the instance that waits for this one's end.
+    fn tell(&self, messages: &mut Vec<Message>, progress: &Progress) -> Result<(), AllocError>
+        ensures { OnOk result (messages_of messages.new.items ≡ messages_of messages.old.items ++ telling (machine_of self.now) (machine_of self.now).reply (progress_of progress.now)) }
+    {
+        if let Reply::Task(number) = self.reply {
+            if let Some(answer) = self.ending(progress)? {
+                messages.push(Message {
+                    from: copy_of(&self.id)?,
+                    to: copy_of(&self.starter)?,
+                    body: Body::Result(Reply::Task(number), answer),
+                })?;
+            }
+        }
+        Ok(())
+    }
+
+    /// Ends: it leaves its section, and then its starter is told.
+    pub(crate) fn end(&mut self, made: &mut Made, progress: Progress) -> Result<(), AllocError>
+        ensures { OnOk result (Makes made.old made.new self.new (ended (machine_of self.old) (progress_of progress))) }
+    {
+        self.leave(made)?;
+        self.tell(&mut made.messages, &progress)?;
+        self.rest.clear();
+        self.progress = progress;
         Ok(())
     }
 }

@@ -5,7 +5,7 @@ ghost use Rattle.dura_value.specs.Views.{id_of};
 ghost use Rattle.flow_syntax.specs.Machine.{new_machine};
 ghost use Rattle.flow_replay.specs.Views.{machine_of, body_of};
 
-use dura_value::{Id, Name, Reply, Text, Value};
+use dura_value::{Id, Key, Name, Reply, Text, Value};
 use flow_eval::Variables;
 use flow_syntax::Stmt;
 use flow_tasks::{KeptEvents, Section, Tasks};
@@ -73,7 +73,7 @@ pub struct Machine<'f> {
 impl<'f> Machine<'f> {
     /// The machine of an instance before its first event.
     pub fn new(alloc: Global, id: &Id, body: Option<&'f [Stmt]>) -> Result<Machine<'f>, AllocError>
-        ensures { IfOk result (λ m. machine_of m ≡ new_machine (id_of id.now) (option_map body_of body)) }
+        ensures { IfOk result (λ m. machine_of m ≡ new_machine (id_of id.now) (option_map body_of body.entry)) }
     {
         Ok(Machine {
             id: copy_of(id)?,
@@ -98,4 +98,32 @@ pub(crate) fn copy_of(id: &Id) -> Result<Id, AllocError>
     ensures { IfOk result (λ copy. copy ≡ id.now) }
 {
     id.clone()
+}
+
+/// A copy of a name.
+pub(crate) fn name_of(name: &Name) -> Result<Name, AllocError>
+    ensures { IfOk result (λ copy. copy ≡ name.now) }
+{
+    name.clone()
+}
+
+/// A copy of a key.
+pub(crate) fn key_of(key: &Key) -> Result<Key, AllocError>
+    ensures { IfOk result (λ copy. copy ≡ key.now) }
+{
+    key.clone()
+}
+
+/// A copy of a text.
+pub(crate) fn text_of(text: &Text) -> Result<Text, AllocError>
+    ensures { IfOk result (λ copy. copy ≡ text.now) }
+{
+    text.clone()
+}
+
+/// A copy of a value.
+pub(crate) fn value_of(value: &Value) -> Result<Value, AllocError>
+    ensures { IfOk result (λ copy. copy ≡ value.now) }
+{
+    value.clone()
 }
