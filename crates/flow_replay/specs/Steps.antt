@@ -25,3 +25,9 @@ abbrev pub outcome_told : plain.Progress → Option Answer
 outcome_told (plain.done value) = Some (is_done value)
 outcome_told (plain.failed text) = Some (has_failed text)
 outcome_told other = None
+
+-- What was made by now, and then what more is made, is all that is made from the start.
+pub record Leads (start now : Made) (more total : plain.Resumed) : Type 0 where
+  pub machine : more.machine ≡ total.machine
+  pub sent : messages_of now.messages.items ++ more.sent ≡ messages_of start.messages.items ++ total.sent
+  pub asked : map asked_of now.asked.items ++ more.asked ≡ map asked_of start.asked.items ++ total.asked

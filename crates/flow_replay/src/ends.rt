@@ -37,7 +37,8 @@ fn release_all(messages: &mut Vec<Message>, id: &Id, set: &[Spot]) -> Result<(),
 impl<'f> Machine<'f> {
     /// Leaves the section that it is inside of, with a release to each entity.
     pub(crate) fn leave(&mut self, made: &mut Made) -> Result<(), AllocError>
-        ensures { OnOk result (Makes made.old made.new self.new (leaving (machine_of self.old) (machine_of self.old).section)) }
+        ensures makes { OnOk result (Makes made.old made.new self.new (leaving (machine_of self.old) (machine_of self.old).section)) }
+        ensures rest { self.new.rest.items ≡ self.old.rest.items }
     {
         if let Section::Inside(set) = &self.section {
             release_all(&mut made.messages, &self.id, set.as_slice())?;

@@ -11,6 +11,7 @@
 
 mod ends;
 mod events;
+mod faults;
 mod machine;
 mod made;
 

@@ -1,0 +1,43 @@
+use Rattle.std.proofs.Common.{◌∙◌, ◌++◌, ◌∷◌, [], ap, sym, subst}
+use Rattle.std.specs.Option.{option_to_list}
+use Rattle.dura_value.specs.declared.data.Value.TheVariants as values
+use Rattle.flow_syntax.specs.Eval.{set_in}
+use Rattle.flow_syntax.specs.Machine.{only, leaving, thrown, throws}
+use Rattle.flow_replay.specs.Views.{machine_of, rest_of, todos_of}
+use Rattle.flow_replay.specs.Steps.{Leads}
+use Rattle.flow_replay.proofs.Leading.{leads_to, leads_on}
+use Rattle.flow_replay.proofs.Thrown.{with_rest, passed, passes, caught, unlocked}
+use Rattle.flow_replay.proofs.machine.Machine.throw.Goals as goal
+
+pub loop-todo-preserved : goal.loop-todo-preserved
+loop-todo-preserved c =
+    let m = machine_of c.loop-todo.self in
+    let f = c.args.fault.now in
+    let is = c.pop.ensures.items ∙ ap (λ o. c.pop.new.self.items ++ option_to_list o) c.in-Some.is in
+    subst (λ r. Leads c.args.made.now c.loop-todo.made r (throws (machine_of c.args.self.now) f)) (passed m f c.loop-todo.self.rest.items c.pop.new.self.items c.in-Some.todo is (passes m f c.in-Some.todo c.in_default-todo.not-Unlock c.in_default-todo.not-EndTry)) c.loop-todo.invariant
+
+pub returns-in-EndTry : goal.returns-in-EndTry
+returns-in-EndTry c =
+    let m = machine_of c.loop-todo.self in
+    let f = c.args.fault.now in
+    let is = c.pop.ensures.items ∙ ap (λ o. c.pop.new.self.items ++ option_to_list o) c.in-Some.is ∙ ap (λ t. c.pop.new.self.items ++ t ∷ []) c.in-EndTry.is in
+    let name = c.in_ok-name_of-in-EndTry.ensures in
+    let text = c.in_ok-text_of-in-EndTry.ensures in
+    let set = c.in_ok-set-in-EndTry.ensures.ok ∙ ap (λ n. set_in m.variables n (values.Text c.in_ok-text_of-in-EndTry.field-0)) name ∙ ap (λ t. set_in m.variables c.in-EndTry.variable.now (values.Text t)) text in
+    let after = c.push.new.self.items in
+    let caught_it = caught m f c.loop-todo.self.rest.items c.pop.new.self.items after c.in-EndTry.variable c.in-EndTry.handler is c.in_ok-push-in-EndTry.ensures.items in
+    leads_to c.args.made.now c.loop-todo.made _ (thrown m f (rest_of c.loop-todo.self.rest.items)) (throws (machine_of c.args.self.now) f)
+    (caught_it ∙ ap (λ vs. only (record m { variables = vs; rest = rest_of after })) (sym set)) c.loop-todo.invariant
+
+pub loop-todo-preserved-in_ok-leave-in-Unlock : goal.loop-todo-preserved-in_ok-leave-in-Unlock
+loop-todo-preserved-in_ok-leave-in-Unlock c =
+    let m = machine_of c.loop-todo.self in
+    let f = c.args.fault.now in
+    let less = c.pop.new.self.items in
+    let now = machine_of c.leave.new.self in
+    let total = throws (machine_of c.args.self.now) f in
+    let is = c.pop.ensures.items ∙ ap (λ o. less ++ option_to_list o) c.in-Some.is ∙ ap (λ t. less ++ t ∷ []) c.in-Unlock.is in
+    let makes = c.in_ok-leave-in-Unlock.ensures.makes in
+    let leads = leads_on c.args.made.now c.loop-todo.made c.leave.new.made c.leave.new.self (thrown m f (rest_of c.loop-todo.self.rest.items)) (leaving (with_rest m (rest_of less)) m.section) (thrown now f (rest_of less)) total
+    (unlocked m now f c.loop-todo.self.rest.items less is makes.machine) makes c.loop-todo.invariant in
+    subst (λ ts. Leads c.args.made.now c.leave.new.made (thrown now f (rest_of ts)) total) (sym c.leave.ensures.rest) leads
