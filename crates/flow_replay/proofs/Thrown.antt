@@ -10,6 +10,7 @@ use Rattle.flow_replay.specs.declared.machine.Todo.{Todo as OwnTodo}
 use Rattle.flow_replay.specs.declared.machine.Todo.TheVariants as todos_own
 use Rattle.flow_syntax.specs.declared.syntax.Stmt.{Stmt}
 use Rattle.std.specs.Borrow.{Bor}
+use Rattle.flow_replay.specs.Steps.{with_rest}
 use Rattle.flow_replay.specs.Views.{body_of, todos_of, rest_of}
 
 -- a body is passed over
@@ -21,10 +22,6 @@ over_body m fault (first_then statement more) rest = over_body m fault more rest
 pub rest_last : (rest : List OwnTodo) (one : OwnTodo) → rest_of (rest ++ one ∷ []) ≡ todos_of one ++ rest_of rest
 rest_last [] one = sym (append-nil (todos_of one))
 rest_last (first ∷ rest) one = ap (λ (ts : List Todo). ts ++ todos_of first) (rest_last rest one) ∙ append_assoc (todos_of one) (rest_of rest) (todos_of first)
-
--- a machine with another rest
-abbrev pub with_rest : Machine → List Todo → Machine
-with_rest m rest = record m { rest = rest }
 
 telling_rest : (m : Machine) (rest : List Todo) (reply : Reply) (progress : Progress) → telling (with_rest m rest) reply progress ≡ telling m reply progress
 telling_rest m rest to_nobody progress = refl

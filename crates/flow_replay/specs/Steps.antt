@@ -3,6 +3,9 @@ use Rattle.std.specs.Prelude.{◌≡◌, List, ◌++◌, map, Bool, true, false,
 use Rattle.dura_value.specs.Messages.{Answer, is_done, has_failed}
 use Rattle.dura_value.specs.Views.{messages_of}
 use Rattle.flow_syntax.specs.Machine as plain
+use Rattle.flow_eval.specs.declared.fault.EvalError.{EvalError}
+use Rattle.flow_eval.specs.declared.fault.EvalError.TheVariants.{Thrown, Memory}
+use Rattle.flow_eval.specs.Faults.{fault_text}
 use Rattle.flow_replay.specs.declared.machine.Machine.{Machine}
 use Rattle.flow_replay.specs.declared.made.Made.{Made}
 use Rattle.flow_replay.specs.Views.{machine_of, asked_of}
@@ -31,3 +34,16 @@ pub record Leads (start now : Made) (more total : plain.Resumed) : Type 0 where
   pub machine : more.machine ≡ total.machine
   pub sent : messages_of now.messages.items ++ more.sent ≡ messages_of start.messages.items ++ total.sent
   pub asked : map asked_of now.asked.items ++ more.asked ≡ map asked_of start.asked.items ++ total.asked
+
+-- It went on.
+abbrev pub Goes : Made → Made → Machine → plain.Next → Type 0
+Goes was now m next = Moves true was now m next
+
+-- An error of an expression is thrown; want of memory ends the call.
+abbrev pub Throws : Made → Made → Machine → plain.Machine → EvalError → Type 0
+Throws was now m old (Thrown fault) = Makes was now m (plain.throws old (fault_text fault))
+Throws was now m old Memory = ⊥
+
+-- a machine with another rest
+abbrev pub with_rest : plain.Machine → List plain.Todo → plain.Machine
+with_rest m rest = record m { rest = rest }

@@ -1,14 +1,15 @@
 //! How a machine faults.
 
-ghost use Rattle.std.specs.Prelude.{OnOk};
+ghost use Rattle.std.specs.Prelude.{◌≤◌, length, OnOk};
 ghost use Rattle.flow_syntax.specs.Machine.{throws};
 ghost use Rattle.flow_replay.specs.Views.{machine_of};
-ghost use Rattle.flow_replay.specs.Steps.{Makes};
+ghost use Rattle.flow_replay.specs.Steps.{Makes, Throws};
 
 use crate::machine::{Machine, Progress, Todo, name_of, text_of};
 use crate::made::Made;
 use dura_value::{Text, Value};
-use std::alloc::AllocError;
+use flow_eval::EvalError;
+use std::alloc::{AllocError, Global};
 
 impl<'f> Machine<'f> {
     /// A fault drops what is still to run up to and with the end of the nearest try, whose handler goes on; an end of a section
@@ -30,5 +31,37 @@ impl<'f> Machine<'f> {
         }
         self.end(made, Progress::Failed(text_of(fault)?))?;
         Ok(())
+    }
+
+    /// Throws a fault by its text.
+    pub(crate) fn throw_word(
+        &mut self,
+        alloc: Global,
+        made: &mut Made,
+        word: &str,
+    ) -> Result<(), AllocError>
+        requires { length word.now ≤ 4096 }
+        ensures { OnOk result (Makes made.old made.new self.new (throws (machine_of self.old) word.now)) }
+    {
+        match Text::read(alloc, word.as_bytes()) {
+            Ok(text) => self.throw(made, &text),
+            // a short word is a text
+            Err(_) => Err(AllocError),
+        }
+    }
+
+    /// Throws the fault of an expression.
+    pub(crate) fn throw_error(
+        &mut self,
+        alloc: Global,
+        made: &mut Made,
+        error: EvalError,
+    ) -> Result<(), AllocError>
+        ensures { OnOk result (Throws made.old made.new self.new (machine_of self.old) error) }
+    {
+        match error {
+            EvalError::Thrown(fault) => self.throw_word(alloc, made, fault.as_str()),
+            EvalError::Memory => Err(AllocError),
+        }
     }
 }

@@ -14,6 +14,7 @@ mod events;
 mod faults;
 mod machine;
 mod made;
+mod statements;
 
 pub use events::{Event, Past};
 pub use machine::{Machine, Progress, Todo};

@@ -1,9 +1,10 @@
 //! The machine of an instance.
 
-ghost use Rattle.std.specs.Prelude.{◌≡◌, IfOk, option_map};
+ghost use Rattle.std.specs.Prelude.{◌≡◌, ◌++◌, IfOk, OnOk, option_map};
 ghost use Rattle.dura_value.specs.Views.{id_of};
 ghost use Rattle.flow_syntax.specs.Machine.{new_machine};
-ghost use Rattle.flow_replay.specs.Views.{machine_of, body_of};
+ghost use Rattle.flow_replay.specs.Views.{machine_of, body_of, todos_of};
+ghost use Rattle.flow_replay.specs.Steps.{with_rest};
 
 use dura_value::{Id, Key, Name, Reply, Text, Value};
 use flow_eval::Variables;
@@ -90,6 +91,15 @@ impl<'f> Machine<'f> {
             events: 0,
             progress: Progress::Unborn,
         })
+    }
+
+    /// This is to run before all else.
+    #[tactic(auto, using(crate::proofs::Thrown::rest_last))]
+    pub(crate) fn plan(&mut self, todo: Todo<'f>) -> Result<(), AllocError>
+        ensures { OnOk result (machine_of self.new ≡ with_rest (machine_of self.old) (todos_of todo.entry ++ (machine_of self.old).rest)) }
+    {
+        self.rest.push(todo)?;
+        Ok(())
     }
 }
 
