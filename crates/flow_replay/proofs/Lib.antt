@@ -1,3 +1,4 @@
+pub mod Counts
 pub mod Leading
 pub mod Releases
 pub mod Thrown

@@ -1,0 +1,128 @@
+//! The steps of statements that ask for something: activities, instances, entities, timers and events.
+
+ghost use Rattle.std.specs.Prelude.{◌≡◌, ◌∷◌, [], OnOk, IfOk, length};
+ghost use Rattle.dura_value.specs.Views.{id_of, spot_of, body_of};
+ghost use Rattle.flow_syntax.specs.Eval.{eval};
+ghost use Rattle.flow_syntax.specs.Views.{expression_of};
+ghost use Rattle.flow_syntax.specs.Machine.{having, by_rule, scheduled, calls, starts, asks, signals, with_task, with_handle, may_start, may_ask, may_signal, says};
+ghost use Rattle.flow_eval.specs.Gives.{Gives};
+ghost use Rattle.flow_tasks.specs.Views.{kind_of};
+ghost use Rattle.flow_replay.specs.Values.{pair_in};
+ghost use Rattle.flow_replay.specs.Views.{machine_of};
+ghost use Rattle.flow_replay.specs.Steps.{Makes, Goes};
+
+use crate::machine::{Machine, Todo, copy_of, name_of, value_of};
+use crate::made::{Asked, Made};
+use dura_value::{Body, Id, Key, Message, Name, Reply, Spot, Value};
+use flow_eval::{EvalError, to_key};
+use flow_syntax::Expr;
+use flow_tasks::Kind;
+use std::alloc::{AllocError, Global};
+
+impl<'f> Machine<'f> {
+    /// The number of the next task. More than have a number have no room.
+    #[tactic(auto, using(crate::proofs::Counts::tasks_counted))]
+    fn next_task(&self) -> Result<u32, AllocError>
+        ensures { IfOk result (λ number. number ≡ length (machine_of self.now).tasks) }
+    {
+        match u32::try_from(self.tasks.len()) {
+            Ok(number) => Ok(number),
+            Err(_) => Err(AllocError),
+        }
+    }
+
+    /// A variable is the handle of the next task.
+    fn handle(&mut self, variable: &Name) -> Result<u32, AllocError>
+        ensures number { IfOk result (λ number. number ≡ length (machine_of self.old).tasks) }
+        ensures handle { OnOk result (machine_of self.new ≡ with_handle (machine_of self.old) variable.now) }
+    {
+        let number = self.next_task()?;
+        self.variables
+            .set(name_of(variable)?, Value::Int(number as i64))?;
+        Ok(number)
+    }
+
+    /// A new task.
+    fn add_task(&mut self, kind: Kind) -> Result<(), AllocError>
+        ensures { OnOk result (machine_of self.new ≡ with_task (machine_of self.old) (kind_of kind)) }
+    {
+        self.tasks.push(kind)?;
+        Ok(())
+    }
+
+    fn schedule(
+        &mut self,
+        made: &mut Made,
+        activity: &Name,
+        argument: Value,
+    ) -> Result<(), AllocError>
+        ensures { OnOk result (Makes made.old made.new self.new (scheduled (machine_of self.old) activity.now argument)) }
+    {
+        let number = self.next_task()?;
+        let asked = Asked::Activity(number, name_of(activity)?, value_of(&argument)?);
+        self.add_task(Kind::Activity(name_of(activity)?, argument))?;
+        made.asked.push(asked)?;
+        Ok(())
+    }
+
+    pub(crate) fn step_spawn(
+        &mut self,
+        alloc: Global,
+        made: &mut Made,
+        variable: &Name,
+        activity: &Name,
+        argument: &Expr,
+    ) -> Result<(), AllocError>
+        ensures { OnOk result (Goes made.old made.new self.new (having (machine_of self.old) (eval (machine_of self.old).variables (expression_of argument.now)) (scheduled (with_handle (machine_of self.old) variable.now) activity.now))) }
+    {
+        match self.value(alloc, argument) {
+            Ok(value) => {
+                self.handle(variable)?;
+                self.schedule(made, activity, value)
+            }
+            Err(error) => self.throw_error(alloc, made, error),
+        }
+    }
+
+    pub(crate) fn step_call(
+        &mut self,
+        alloc: Global,
+        made: &mut Made,
+        variable: &'f Name,
+        activity: &Name,
+        argument: &Expr,
+    ) -> Result<(), AllocError>
+        ensures { OnOk result (Goes made.old made.new self.new (having (machine_of self.old) (eval (machine_of self.old).variables (expression_of argument.now)) (calls (machine_of self.old) variable.now activity.now))) }
+    {
+        match self.value(alloc, argument) {
+            Ok(value) => {
+                let number = self.next_task()?;
+                self.plan(Todo::Await(variable, number as usize))?;
+                self.schedule(made, activity, value)
+            }
+            Err(error) => self.throw_error(alloc, made, error),
+        }
+    }
+
+    /// A key, and then an argument.
+    fn pair(&self, alloc: Global, key: &Expr, argument: &Expr) -> Result<(Key, Value), EvalError>
+        ensures { Gives (λ p. (p.0, p.1)) result (pair_in (machine_of self.now).variables (expression_of key.now) (expression_of argument.now)) }
+    {
+        let key = self.value(alloc, key)?;
+        let key = to_key(alloc, &key)?;
+        let argument = self.value(alloc, argument)?;
+        Ok((key, argument))
+    }
+
+    /// Sends a message of its own.
+    fn send(&self, made: &mut Made, to: Id, body: Body) -> Result<(), AllocError>
+        ensures { OnOk result (Makes made.old made.new self.now (record { machine = machine_of self.now; sent = says (machine_of self.now) (id_of to) (body_of body) ∷ []; asked = [] })) }
+    {
+        made.messages.push(Message {
+            from: copy_of(&self.id)?,
+            to,
+            body,
+        })?;
+        Ok(())
+    }
+}
