@@ -1,5 +1,5 @@
 -- What statements look at.
-use Rattle.std.specs.Prelude.{ℕ, List, Bool, Result, Ok}
+use Rattle.std.specs.Prelude.{ℕ, ℤ, List, Bool, Result, Ok}
 use Rattle.dura_value.specs.declared.data.Value.{Value}
 use Rattle.flow_syntax.specs.Syntax.{Expression}
 use Rattle.flow_syntax.specs.Eval.{◌>>=◌, Variables, eval, to_truth, to_text, to_key, to_integer}
@@ -15,3 +15,7 @@ text_in variables text = eval variables text >>= to_text
 -- a key, and then an argument
 abbrev pub pair_in : Variables → (key argument : Expression) → Result (List ℕ × Value) (List ℕ)
 pair_in variables key argument = (eval variables key >>= to_key) >>= λ k. eval variables argument >>= λ a. Ok (k, a)
+
+-- an integer
+abbrev pub integer_in : Variables → Expression → Result ℤ (List ℕ)
+integer_in variables e = eval variables e >>= to_integer

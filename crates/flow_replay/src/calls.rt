@@ -4,13 +4,14 @@ ghost use Rattle.std.specs.Prelude.{◌≡◌, ◌∷◌, [], OnOk, IfOk, length
 ghost use Rattle.dura_value.specs.Views.{id_of, spot_of, body_of};
 ghost use Rattle.flow_syntax.specs.Eval.{eval};
 ghost use Rattle.flow_syntax.specs.Views.{expression_of};
-ghost use Rattle.flow_syntax.specs.Machine.{having, by_rule, scheduled, calls, starts, asks, signals, with_task, with_handle, may_start, may_ask, may_signal, says};
+ghost use Rattle.flow_syntax.specs.Machine.{having, by_rule, scheduled, calls, starts, asks, signals, with_task, with_handle, may_start, may_ask, may_signal, says, spot_of as spot_at};
 ghost use Rattle.flow_eval.specs.Gives.{Gives};
 ghost use Rattle.flow_tasks.specs.Views.{kind_of};
 ghost use Rattle.flow_replay.specs.Values.{pair_in};
 ghost use Rattle.flow_replay.specs.Views.{machine_of};
 ghost use Rattle.flow_replay.specs.Steps.{Makes, Goes};
 
+use crate::ends::entity_of;
 use crate::machine::{Machine, Todo, copy_of, name_of, value_of};
 use crate::made::{Asked, Made};
 use dura_value::{Body, Id, Key, Message, Name, Reply, Spot, Value};
@@ -32,7 +33,7 @@ impl<'f> Machine<'f> {
     }
 
     /// A variable is the handle of the next task.
-    fn handle(&mut self, variable: &Name) -> Result<u32, AllocError>
+    pub(crate) fn handle(&mut self, variable: &Name) -> Result<u32, AllocError>
         ensures number { IfOk result (λ number. number ≡ length (machine_of self.old).tasks) }
         ensures handle { OnOk result (machine_of self.new ≡ with_handle (machine_of self.old) variable.now) }
     {
@@ -43,7 +44,7 @@ impl<'f> Machine<'f> {
     }
 
     /// A new task.
-    fn add_task(&mut self, kind: Kind) -> Result<(), AllocError>
+    pub(crate) fn add_task(&mut self, kind: Kind) -> Result<(), AllocError>
         ensures { OnOk result (machine_of self.new ≡ with_task (machine_of self.old) (kind_of kind)) }
     {
         self.tasks.push(kind)?;
@@ -124,5 +125,128 @@ impl<'f> Machine<'f> {
             body,
         })?;
         Ok(())
+    }
+
+    fn start(
+        &mut self,
+        made: &mut Made,
+        variable: &Name,
+        flow: &Name,
+        pair: (Key, Value),
+    ) -> Result<(), AllocError>
+        ensures { OnOk result (Makes made.old made.new self.new (starts (machine_of self.old) variable.now flow.now pair.0 pair.1)) }
+    {
+        let (key, argument) = pair;
+        let number = self.handle(variable)?;
+        let to = Id::Flow(name_of(flow)?, key);
+        self.send(made, to, Body::Start(argument, Reply::Task(number)))?;
+        self.add_task(Kind::Flow)
+    }
+
+    pub(crate) fn step_sub(
+        &mut self,
+        alloc: Global,
+        made: &mut Made,
+        variable: &Name,
+        flow: &Name,
+        key: &Expr,
+        argument: &Expr,
+    ) -> Result<(), AllocError>
+        ensures { OnOk result (Goes made.old made.new self.new (having (machine_of self.old) (pair_in (machine_of self.old).variables (expression_of key.now) (expression_of argument.now))
+            (λ p. by_rule (machine_of self.old) (may_start (machine_of self.old).section) (starts (machine_of self.old) variable.now flow.now p.0 p.1)))) }
+    {
+        match self.pair(alloc, key, argument) {
+            Ok(pair) => {
+                if self.section.may_start() {
+                    self.start(made, variable, flow, pair)
+                } else {
+                    self.throw_word(alloc, made, "lockrule")
+                }
+            }
+            Err(error) => self.throw_error(alloc, made, error),
+        }
+    }
+
+    fn ask(
+        &mut self,
+        made: &mut Made,
+        variable: &Name,
+        spot: Spot,
+        operation: &Name,
+        argument: Value,
+    ) -> Result<(), AllocError>
+        ensures { OnOk result (Makes made.old made.new self.new (asks (machine_of self.old) variable.now (spot_of spot) operation.now argument)) }
+    {
+        let number = self.handle(variable)?;
+        let to = entity_of(&spot)?;
+        let body = Body::Op(name_of(operation)?, argument, Reply::Task(number));
+        self.send(made, to, body)?;
+        self.add_task(Kind::Entity(spot))
+    }
+
+    pub(crate) fn step_ask(
+        &mut self,
+        alloc: Global,
+        made: &mut Made,
+        variable: &Name,
+        class: &Name,
+        key: &Expr,
+        operation: &Name,
+        argument: &Expr,
+    ) -> Result<(), AllocError>
+        ensures { OnOk result (Goes made.old made.new self.new (having (machine_of self.old) (pair_in (machine_of self.old).variables (expression_of key.now) (expression_of argument.now))
+            (λ p. by_rule (machine_of self.old) (may_ask (machine_of self.old).section (spot_at class.now p.0) (machine_of self.old).tasks) (asks (machine_of self.old) variable.now (spot_at class.now p.0) operation.now p.1)))) }
+    {
+        match self.pair(alloc, key, argument) {
+            Ok((key, argument)) => {
+                let class = name_of(class)?;
+                let spot = Spot { class, key };
+                if self.section.may_ask(&spot, &self.tasks) {
+                    self.ask(made, variable, spot, operation, argument)
+                } else {
+                    self.throw_word(alloc, made, "lockrule")
+                }
+            }
+            Err(error) => self.throw_error(alloc, made, error),
+        }
+    }
+
+    fn signal(
+        &mut self,
+        made: &mut Made,
+        spot: &Spot,
+        operation: &Name,
+        argument: Value,
+    ) -> Result<(), AllocError>
+        ensures { OnOk result (Makes made.old made.new self.new (signals (machine_of self.old) (spot_of spot.now) operation.now argument)) }
+    {
+        let body = Body::Op(name_of(operation)?, argument, Reply::None);
+        self.send(made, entity_of(spot)?, body)
+    }
+
+    pub(crate) fn step_signal(
+        &mut self,
+        alloc: Global,
+        made: &mut Made,
+        class: &Name,
+        key: &Expr,
+        operation: &Name,
+        argument: &Expr,
+    ) -> Result<(), AllocError>
+        ensures { OnOk result (Goes made.old made.new self.new (having (machine_of self.old) (pair_in (machine_of self.old).variables (expression_of key.now) (expression_of argument.now))
+            (λ p. by_rule (machine_of self.old) (may_signal (machine_of self.old).section (spot_at class.now p.0)) (signals (machine_of self.old) (spot_at class.now p.0) operation.now p.1)))) }
+    {
+        match self.pair(alloc, key, argument) {
+            Ok((key, argument)) => {
+                let class = name_of(class)?;
+                let spot = Spot { class, key };
+                if self.section.may_signal(&spot) {
+                    self.signal(made, &spot, operation, argument)
+                } else {
+                    self.throw_word(alloc, made, "lockrule")
+                }
+            }
+            Err(error) => self.throw_error(alloc, made, error),
+        }
     }
 }

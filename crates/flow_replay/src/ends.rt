@@ -14,7 +14,7 @@ use flow_tasks::Section;
 use std::alloc::AllocError;
 
 /// The id of an entity.
-fn entity_of(spot: &Spot) -> Result<Id, AllocError>
+pub(crate) fn entity_of(spot: &Spot) -> Result<Id, AllocError>
     ensures { IfOk result (λ id. id_of id ≡ at_spot (spot_of spot.now)) }
 {
     Ok(Id::Entity(name_of(&spot.class)?, key_of(&spot.key)?))

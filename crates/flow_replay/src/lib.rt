@@ -16,6 +16,7 @@ mod faults;
 mod machine;
 mod made;
 mod statements;
+mod timers;
 
 pub use events::{Event, Past};
 pub use machine::{Machine, Progress, Todo};
