@@ -1,11 +1,13 @@
 -- What a step of a machine changes, and what it makes.
-use Rattle.std.specs.Prelude.{◌≡◌, List, ◌++◌, map, Bool, true, false, Option, Some, None}
+use Rattle.std.specs.Prelude.{◌≡◌, List, ◌++◌, map, codes, Bool, true, false, Option, Some, None}
 use Rattle.dura_value.specs.Messages.{Answer, is_done, has_failed}
 use Rattle.dura_value.specs.Views.{messages_of}
 use Rattle.flow_syntax.specs.Machine as plain
 use Rattle.flow_eval.specs.declared.fault.EvalError.{EvalError}
 use Rattle.flow_eval.specs.declared.fault.EvalError.TheVariants.{Thrown, Memory}
 use Rattle.flow_eval.specs.Faults.{fault_text}
+use Rattle.flow_tasks.specs.declared.handles.HandleFault.{HandleFault}
+use Rattle.flow_tasks.specs.declared.handles.HandleFault.TheVariants as handles
 use Rattle.flow_replay.specs.declared.machine.Machine.{Machine}
 use Rattle.flow_replay.specs.declared.made.Made.{Made}
 use Rattle.flow_replay.specs.Views.{machine_of, asked_of}
@@ -47,3 +49,9 @@ Throws was now m old Memory = ⊥
 -- a machine with another rest
 abbrev pub with_rest : plain.Machine → List plain.Todo → plain.Machine
 with_rest m rest = record m { rest = rest }
+
+-- A value that names no task is thrown.
+abbrev pub ThrowsHandle : Made → Made → Machine → plain.Machine → HandleFault → Type 0
+ThrowsHandle was now m old handles.Handle = Makes was now m (plain.throws old (codes "handle"))
+ThrowsHandle was now m old handles.Type = Makes was now m (plain.throws old (codes "type"))
+ThrowsHandle was now m old handles.Memory = ⊥

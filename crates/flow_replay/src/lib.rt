@@ -9,6 +9,7 @@
 //! - `specs/Views`: the plain data that these stand for.
 #![tactic(auto)]
 
+mod awaits;
 mod calls;
 mod ends;
 mod events;

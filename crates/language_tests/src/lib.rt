@@ -1,9 +1,15 @@
-//! Tests of values, expressions and flows: what no clause says, and each public call once.
+//! Tests of values, expressions, flows, activities, tasks and timers: what no clause says, and each public call once.
 #![tactic(auto)]
 
+#[cfg(test)]
+mod activity_tests;
 #[cfg(test)]
 mod eval_tests;
 #[cfg(test)]
 mod flow_tests;
+#[cfg(test)]
+mod task_tests;
+#[cfg(test)]
+mod timer_tests;
 #[cfg(test)]
 mod value_tests;
