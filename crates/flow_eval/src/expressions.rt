@@ -26,7 +26,7 @@ fn value_in(variables: &Variables, name: &Name) -> Result<Value, EvalError>
 }
 
 /// The scalars that values are.
-fn to_scalars(alloc: Global, values: Vec<Value>) -> Result<Vec<Scalar>, EvalError>
+pub fn to_scalars(alloc: Global, values: Vec<Value>) -> Result<Vec<Scalar>, EvalError>
     ensures { Gives (λ scalars. scalars.items) result (to_scalars values.items) }
 {
     let mut scalars = Vec::with_capacity(alloc, values.len())?;

@@ -13,7 +13,7 @@ mod operations;
 mod texts;
 mod variables;
 
-pub use expressions::eval;
+pub use expressions::{eval, to_scalars};
 pub use fault::{EvalError, Fault};
 pub use kinds::{to_integer, to_key, to_list, to_scalar, to_text, to_truth, truth, value_of};
 pub use lists::list_of;

@@ -1,4 +1,5 @@
 pub mod Counts
 pub mod Leading
+pub mod NoneKept
 pub mod Releases
 pub mod Thrown

@@ -55,3 +55,12 @@ abbrev pub ThrowsHandle : Made → Made → Machine → plain.Machine → Handle
 ThrowsHandle was now m old handles.Handle = Makes was now m (plain.throws old (codes "handle"))
 ThrowsHandle was now m old handles.Type = Makes was now m (plain.throws old (codes "type"))
 ThrowsHandle was now m old handles.Memory = ⊥
+
+-- a machine with other events that are kept
+abbrev pub with_events : plain.Machine → List plain.Raised → plain.Machine
+with_events m kept = record m { kept = kept }
+
+-- It went on, whatever it was with the statement still before it; or it waits, and nothing has changed.
+abbrev pub Waits : Bool → Made → Made → Machine → plain.Machine → (plain.Machine → plain.Next) → Type 0
+Waits true before now m old next = (was : plain.Machine) → Moves true before now m (next was)
+Waits false before now m old next = (machine_of m ≡ old) × (now ≡ before) × ((was : plain.Machine) → next was ≡ plain.stays (plain.only was))

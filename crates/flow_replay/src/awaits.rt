@@ -1,16 +1,16 @@
 //! The steps of statements that wait.
 
-ghost use Rattle.std.specs.Prelude.{◌≡◌, OnOk, IfOk, Ok, Err, codes, option_map};
-ghost use Rattle.flow_syntax.specs.Syntax.{Statement};
+ghost use Rattle.std.specs.Prelude.{◌≡◌, OnOk, IfSome, IfNone, IfOk, Ok, Err, codes, option_map};
+ghost use Rattle.flow_syntax.specs.Syntax.{await};
 ghost use Rattle.flow_syntax.specs.Views.{expression_of};
-ghost use Rattle.flow_syntax.specs.Machine.{having, listens, to_handle, to_handles, waits_for, awaited, awaited_all, awaited_any, arrival_of as arrival_at, task_at, all_arrived, first_arrived, all_values, gets, arrived};
+ghost use Rattle.flow_syntax.specs.Machine.{having, listens, to_handle, to_handles, waits_for, awaited, awaited_all, awaited_any, arrival_of as arrival_at, task_at, statement_step, all_arrived, first_arrived, all_values, gets, arrived, kept_value, without_kept};
 ghost use Rattle.flow_eval.specs.Gives.{Gives};
 ghost use Rattle.flow_tasks.specs.Views.{arrival_of};
 ghost use Rattle.flow_tasks.specs.Handles.{Names};
 ghost use Rattle.flow_replay.specs.Views.{machine_of};
-ghost use Rattle.flow_replay.specs.Steps.{Makes, Goes, ThrowsHandle};
+ghost use Rattle.flow_replay.specs.Steps.{Makes, Waits, ThrowsHandle, with_events};
 
-use crate::machine::{Machine, name_of, value_of};
+use crate::machine::{Machine, name_of, text_of, value_of};
 use crate::made::Made;
 use dura_value::{Name, Outcome, Scalar, Text, Value};
 use flow_eval::{EvalError, list_of, to_scalar};
@@ -32,12 +32,22 @@ impl<'f> Machine<'f> {
         Ok(())
     }
 
+    /// Takes out the oldest event of a name that is kept.
+    #[tactic(auto, using(crate::proofs::NoneKept::none_kept))]
+    fn take_kept(&mut self, name: &Name) -> Option<Value>
+        ensures value { result ≡ kept_value name.now (machine_of self.old).kept }
+        ensures some { IfSome result (λ _. machine_of self.new ≡ with_events (machine_of self.old) (without_kept name.now (machine_of self.old).kept)) }
+        ensures none { IfNone result (machine_of self.new ≡ machine_of self.old) }
+    {
+        self.kept.take(name)
+    }
+
     pub(crate) fn step_event(&mut self, variable: &Name, name: &Name) -> Result<(), AllocError>
         ensures { OnOk result (machine_of self.new ≡ (listens (machine_of self.old) variable.now name.now).machine) }
     {
         let number = self.handle(variable)?;
         self.add_task(Kind::Event(name_of(name)?))?;
-        match self.kept.take(name) {
+        match self.take_kept(name) {
             Some(value) => self.arrive(number as usize, Outcome::Done(value)),
             None => Ok(()),
         }
@@ -72,5 +82,72 @@ impl<'f> Machine<'f> {
             Outcome::Done(value) => self.set(variable, value_of(value)?),
             Outcome::Failed(text) => self.throw(made, text),
         }
+    }
+
+    /// Waits for this task's result, and says whether it was there.
+    fn await_task(
+        &mut self,
+        made: &mut Made,
+        variable: &Name,
+        number: usize,
+    ) -> Result<bool, AllocError>
+        ensures { IfOk result (λ went. Waits went made.old made.new self.new (machine_of self.old) (λ was. awaited was (machine_of self.old) variable.now (arrival_at (task_at (machine_of self.old).tasks number)))) }
+    {
+        let outcome = match self.tasks.arrival(number) {
+            Some(arrival) => outcome_of(&arrival.outcome)?,
+            None => return Ok(false),
+        };
+        self.get(made, variable, &outcome)?;
+        Ok(true)
+    }
+
+    /// Waits for the task that a value names.
+    pub(crate) fn await_value(
+        &mut self,
+        alloc: Global,
+        made: &mut Made,
+        variable: &Name,
+        value: &Value,
+    ) -> Result<bool, AllocError>
+        ensures { IfOk result (λ went. Waits went made.old made.new self.new (machine_of self.old) (λ was. waits_for (machine_of self.old) (to_handle (machine_of self.old).tasks value.now) (λ n. awaited was (machine_of self.old) variable.now (arrival_at (task_at (machine_of self.old).tasks n))))) }
+    {
+        match self.tasks.handle(value) {
+            Ok(number) => self.await_task(made, variable, number),
+            Err(fault) => {
+                self.throw_handle(alloc, made, fault)?;
+                Ok(true)
+            }
+        }
+    }
+
+    pub(crate) fn step_await(
+        &mut self,
+        alloc: Global,
+        made: &mut Made,
+        variable: &Name,
+        handle: &Expr,
+    ) -> Result<bool, AllocError>
+        ensures { IfOk result (λ went. Waits went made.old made.new self.new (machine_of self.old) (λ was. statement_step was (machine_of self.old) (await variable.now (expression_of handle.now)))) }
+    {
+        match self.value(alloc, handle) {
+            Ok(value) => {
+                let went = self.await_value(alloc, made, variable, &value)?;
+                Ok(went)
+            }
+            Err(error) => {
+                self.throw_error(alloc, made, error)?;
+                Ok(true)
+            }
+        }
+    }
+}
+
+/// A copy of an outcome.
+fn outcome_of(outcome: &Outcome) -> Result<Outcome, AllocError>
+    ensures { IfOk result (λ copy. copy ≡ outcome.now) }
+{
+    match outcome {
+        Outcome::Done(value) => Ok(Outcome::Done(value_of(value)?)),
+        Outcome::Failed(text) => Ok(Outcome::Failed(text_of(text)?)),
     }
 }

@@ -98,7 +98,7 @@ impl<'f> Machine<'f> {
         match self.value(alloc, argument) {
             Ok(value) => {
                 let number = self.next_task()?;
-                self.plan(Todo::Await(variable, number as usize))?;
+                self.plan(Todo::Await(variable, number))?;
                 self.schedule(made, activity, value)
             }
             Err(error) => self.throw_error(alloc, made, error),

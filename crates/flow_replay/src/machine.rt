@@ -18,7 +18,7 @@ pub enum Todo<'f> {
     /// These statements, the first of which is next.
     Body(&'f [Stmt]),
     /// The wait of a call for its task, whose result sets the variable.
-    Await(&'f Name, usize),
+    Await(&'f Name, u32),
     /// The wait for a lock's grant.
     WaitLock,
     /// The end of a section's body.
