@@ -1,8 +1,10 @@
 -- What statements look at.
-use Rattle.std.specs.Prelude.{ℕ, ℤ, List, Bool, Result, Ok}
+use Rattle.std.specs.Prelude.{◌≡◌, ℕ, ℤ, List, Bool, Result, Ok, Err}
+use Rattle.std.specs.declared.vec.Vec.{Vec}
+use Rattle.std.specs.declared.alloc.Global.{Global}
 use Rattle.dura_value.specs.declared.data.Value.{Value}
 use Rattle.flow_syntax.specs.Syntax.{Expression}
-use Rattle.flow_syntax.specs.Eval.{◌>>=◌, Variables, eval, to_truth, to_text, to_key, to_integer}
+use Rattle.flow_syntax.specs.Eval.{◌>>=◌, Variables, eval, to_truth, to_text, to_key, to_integer, to_scalars, list_of}
 
 -- a truth value that an expression gives
 abbrev pub truth_in : Variables → Expression → Result Bool (List ℕ)
@@ -19,3 +21,12 @@ pair_in variables key argument = (eval variables key >>= to_key) >>= λ k. eval 
 -- an integer
 abbrev pub integer_in : Variables → Expression → Result ℤ (List ℕ)
 integer_in variables e = eval variables e >>= to_integer
+
+-- the list of values
+abbrev pub list_given : List Value → Result Value (List ℕ)
+list_given given = to_scalars given >>= list_of
+
+-- the values of results, or the first failure among them
+abbrev pub Collects : Result (List Value) (List ℕ) → Result (Vec Value Global) (List ℕ) → Type 0
+Collects wanted (Ok values) = wanted ≡ Ok values.items
+Collects wanted (Err text) = wanted ≡ Err text

@@ -16,6 +16,7 @@ mod events;
 mod faults;
 mod machine;
 mod made;
+mod several;
 mod statements;
 mod timers;
 
