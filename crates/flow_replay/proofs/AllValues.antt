@@ -8,15 +8,15 @@ use Rattle.flow_syntax.specs.Eval.{◌>>=◌}
 use Rattle.flow_syntax.specs.Machine.{all_values}
 
 -- these values before those that follow, unless there is a failure
-abbrev pub behind : List Value → Result (List Value) (List ℕ) → Result (List Value) (List ℕ)
+abbrev pub behind : {X : Type 0} → List X → Result (List X) (List ℕ) → Result (List X) (List ℕ)
 behind values (Ok more) = Ok (values ++ more)
 behind values (Err text) = Err text
 
-regroup : (values : List Value) (value : Value) (given : Result (List Value) (List ℕ)) → behind (values ++ value ∷ []) given ≡ behind values (given >>= λ rest. Ok (value ∷ rest))
+pub regroup : {X : Type 0} (values : List X) (value : X) (given : Result (List X) (List ℕ)) → behind (values ++ value ∷ []) given ≡ behind values (given >>= λ rest. Ok (value ∷ rest))
 regroup values value (Ok more) = ap Ok (append_assoc values (value ∷ []) more)
 regroup values value (Err text) = refl
 
-pub nothing_behind : (given : Result (List Value) (List ℕ)) → behind [] given ≡ given
+pub nothing_behind : {X : Type 0} (given : Result (List X) (List ℕ)) → behind [] given ≡ given
 nothing_behind (Ok more) = refl
 nothing_behind (Err text) = refl
 

@@ -1,3 +1,4 @@
+pub mod AllSpots
 pub mod AllValues
 pub mod Counts
 pub mod Leading

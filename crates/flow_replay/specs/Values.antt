@@ -3,7 +3,9 @@ use Rattle.std.specs.Prelude.{◌≡◌, ℕ, ℤ, List, Bool, Result, Ok, Err}
 use Rattle.std.specs.declared.vec.Vec.{Vec}
 use Rattle.std.specs.declared.alloc.Global.{Global}
 use Rattle.dura_value.specs.declared.data.Value.{Value}
-use Rattle.flow_syntax.specs.Syntax.{Expression}
+use Rattle.dura_value.specs.Messages.{Spot}
+use Rattle.flow_syntax.specs.Syntax.{Expression, Locked}
+use Rattle.flow_syntax.specs.Machine.{Task, to_handles, spot_of}
 use Rattle.flow_syntax.specs.Eval.{◌>>=◌, Variables, eval, to_truth, to_text, to_key, to_integer, to_scalars, list_of}
 
 -- a truth value that an expression gives
@@ -30,3 +32,11 @@ list_given given = to_scalars given >>= list_of
 abbrev pub Collects : Result (List Value) (List ℕ) → Result (Vec Value Global) (List ℕ) → Type 0
 Collects wanted (Ok values) = wanted ≡ Ok values.items
 Collects wanted (Err text) = wanted ≡ Err text
+
+-- tasks by their numbers
+abbrev pub handles_in : Variables → List Task → Expression → Result (List ℕ) (List ℕ)
+handles_in variables tasks handles = eval variables handles >>= to_handles tasks
+
+-- an entity that is to be locked
+abbrev pub spot_in : Variables → Locked → Result Spot (List ℕ)
+spot_in variables one = (eval variables one.key >>= to_key) >>= λ key. Ok (spot_of one.class key)

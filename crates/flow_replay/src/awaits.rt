@@ -54,7 +54,7 @@ impl<'f> Machine<'f> {
     }
 
     /// Throws why a value names no task.
-    fn throw_handle(
+    pub(crate) fn throw_handle(
         &mut self,
         alloc: Global,
         made: &mut Made,

@@ -23,7 +23,7 @@ use std::alloc::{AllocError, Global};
 impl<'f> Machine<'f> {
     /// The number of the next task. More than have a number have no room.
     #[tactic(auto, using(crate::proofs::Counts::tasks_counted))]
-    fn next_task(&self) -> Result<u32, AllocError>
+    pub(crate) fn next_task(&self) -> Result<u32, AllocError>
         ensures { IfOk result (λ number. number ≡ length (machine_of self.now).tasks) }
     {
         match u32::try_from(self.tasks.len()) {
@@ -116,7 +116,7 @@ impl<'f> Machine<'f> {
     }
 
     /// Sends a message of its own.
-    fn send(&self, made: &mut Made, to: Id, body: Body) -> Result<(), AllocError>
+    pub(crate) fn send(&self, made: &mut Made, to: Id, body: Body) -> Result<(), AllocError>
         ensures { OnOk result (Makes made.old made.new self.now (record { machine = machine_of self.now; sent = says (machine_of self.now) (id_of to) (body_of body) ∷ []; asked = [] })) }
     {
         made.messages.push(Message {

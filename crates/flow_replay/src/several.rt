@@ -5,7 +5,8 @@ ghost use Rattle.flow_syntax.specs.Views.{expression_of};
 ghost use Rattle.flow_syntax.specs.Syntax.{await_all, await_any};
 ghost use Rattle.flow_syntax.specs.Machine.{statement_step, waits_for, awaited_all, awaited_any, all_arrived, first_arrived, all_values};
 ghost use Rattle.flow_eval.specs.Gives.{Gives};
-ghost use Rattle.flow_replay.specs.Values.{list_given, Collects};
+ghost use Rattle.flow_replay.specs.Values.{list_given, Collects, handles_in};
+ghost use Rattle.flow_replay.specs.Awaits.{NamesTasks, ThrowsAwait};
 ghost use Rattle.flow_replay.specs.Views.{machine_of};
 ghost use Rattle.flow_replay.specs.Steps.{Makes, Goes, Waits};
 
@@ -14,6 +15,7 @@ use crate::made::Made;
 use dura_value::{Name, Outcome, Text, Value};
 use flow_eval::{EvalError, list_of, to_scalars};
 use flow_syntax::Expr;
+use flow_tasks::HandleFault;
 use std::alloc::{AllocError, Global};
 
 /// The values of results, or the first failure in their order.
@@ -103,4 +105,84 @@ impl<'f> Machine<'f> {
             Err(_) => Err(AllocError),
         }
     }
+
+    pub(crate) fn step_all(
+        &mut self,
+        alloc: Global,
+        made: &mut Made,
+        variable: &Name,
+        handles: &Expr,
+    ) -> Result<bool, AllocError>
+        ensures { IfOk result (λ went. Waits went made.old made.new self.new (machine_of self.old) (λ was. statement_step was (machine_of self.old) (await_all variable.now (expression_of handles.now)))) }
+    {
+        match self.handles_in(alloc, handles) {
+            Ok(handles) => {
+                let went = self.await_tasks(alloc, made, variable, &handles)?;
+                Ok(went)
+            }
+            Err(fault) => {
+                self.throw_await(alloc, made, fault)?;
+                Ok(true)
+            }
+        }
+    }
+
+    pub(crate) fn step_any(
+        &mut self,
+        alloc: Global,
+        made: &mut Made,
+        variable: &Name,
+        handles: &Expr,
+    ) -> Result<bool, AllocError>
+        ensures { IfOk result (λ went. Waits went made.old made.new self.new (machine_of self.old) (λ was. statement_step was (machine_of self.old) (await_any variable.now (expression_of handles.now)))) }
+    {
+        match self.handles_in(alloc, handles) {
+            Ok(handles) => {
+                let went = self.await_first(alloc, made, variable, &handles)?;
+                Ok(went)
+            }
+            Err(fault) => {
+                self.throw_await(alloc, made, fault)?;
+                Ok(true)
+            }
+        }
+    }
+
+    /// The tasks that an expression names.
+    fn handles_in(&self, alloc: Global, handles: &Expr) -> Result<Vec<usize>, AwaitError>
+        ensures { NamesTasks (λ ns. ns.items) result (handles_in (machine_of self.now).variables (machine_of self.now).tasks (expression_of handles.now)) }
+    {
+        let value = match self.value(alloc, handles) {
+            Ok(value) => value,
+            Err(error) => return Err(AwaitError::Eval(error)),
+        };
+        match self.tasks.handles(alloc, &value) {
+            Ok(handles) => Ok(handles),
+            Err(fault) => Err(AwaitError::Handle(fault)),
+        }
+    }
+
+    /// Throws why an expression names no tasks.
+    fn throw_await(
+        &mut self,
+        alloc: Global,
+        made: &mut Made,
+        error: AwaitError,
+    ) -> Result<(), AllocError>
+        ensures { OnOk result (ThrowsAwait made.old made.new self.new (machine_of self.old) error) }
+    {
+        match error {
+            AwaitError::Eval(error) => self.throw_error(alloc, made, error),
+            AwaitError::Handle(fault) => self.throw_handle(alloc, made, fault),
+        }
+    }
+}
+
+/// Why an expression names no tasks.
+#[derive(Debug, Drop)]
+pub(crate) enum AwaitError {
+    /// It gave no value.
+    Eval(EvalError),
+    /// Its value names none.
+    Handle(HandleFault),
 }
