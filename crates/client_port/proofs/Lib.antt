@@ -1,3 +1,4 @@
+pub mod Clients
 pub mod Dues
 pub mod Changes
 pub mod Said

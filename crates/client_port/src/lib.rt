@@ -3,6 +3,7 @@
 //! - `queues` has each client's requests, and `port` what is due and what was said.
 #![tactic(auto)]
 
+mod laws;
 mod port;
 mod queues;
 
