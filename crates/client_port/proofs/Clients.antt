@@ -1,7 +1,7 @@
 -- The queues of a file are those of its clients.
 use Rattle.std.proofs.Common.{◌≡◌, ℕ, List, [], ◌∷◌, ◌++◌, true, false, Bool, cond, refl, ap, sym, ◌∙◌, append_assoc, true≢false}
-use Rattle.std.specs.Prelude.{map, fold, ◌||◌}
-use Rattle.std.specs.List.{AllByRecursion, IsDistinct, filter, list_any}
+use Rattle.std.specs.Prelude.{map, ◌||◌}
+use Rattle.std.specs.List.{AllByRecursion, IsDistinct, list_any}
 use Rattle.std.specs.Cmp.Lexicographic.{nat_list_eq_equiv}
 use Rattle.std.specs.Str.{bytes_eq}
 use Rattle.std.proofs.lemmas.List.{map-append, append-nil}
@@ -11,7 +11,7 @@ use Rattle.std.proofs.lemmas.Map.Keys.{IsDistinct-head, IsDistinct-tail, IsDisti
 use Rattle.std.proofs.lemmas.Slice.Eq.{bytes_eq-Decides}
 use Rattle.request_reader.specs.Line.{Request}
 use Rattle.client_port.specs.Clients.{clients_of, queue_for, requests_of, with_client}
-use Rattle.client_port.specs.Ports.{Queue, at_client, is_of, queues_of, with_last, with_request}
+use Rattle.client_port.specs.Ports.{at_client, is_of, queues_of, with_last, with_request}
 
 -- ---- names
 

@@ -1,4 +1,5 @@
 pub mod Clients
-pub mod Dues
 pub mod Changes
+pub mod Dues
 pub mod Said
+pub mod Stays
