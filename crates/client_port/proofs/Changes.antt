@@ -1,10 +1,9 @@
 -- Where a client's queue stands, and what a change of it makes of all.
-use Rattle.std.proofs.Common.{◌≡◌, ℕ, suc, ◌+◌, ◌-◌, ◌<◌, ◌≤◌, List, [], ◌∷◌, ◌++◌, length, get_or, drop, true, false, Bool, cond, Option, Some, None, refl, ap, sym, ◌∙◌, arith, add-one}
+use Rattle.std.proofs.Common.{◌≡◌, ℕ, suc, ◌+◌, ◌-◌, ◌≤◌, List, [], ◌∷◌, ◌++◌, get_or, true, false, Bool, cond, Option, Some, None, refl, ap, sym, ◌∙◌, arith}
 use Rattle.std.specs.Prelude.{map, fold, ◌||◌}
 use Rattle.std.specs.List.{position_from, list_any}
 use Rattle.std.specs.Str.{bytes_eq}
 use Rattle.std.proofs.Math.ListN.{set}
-use Rattle.std.proofs.Math.Seq.{drop-cons}
 use Rattle.std.proofs.lemmas.List.{map-append}
 use Rattle.std.proofs.lemmas.List.Sums.{fold-append}
 use Rattle.std.specs.declared.alloc.Global.{Global}
@@ -14,20 +13,6 @@ use Rattle.request_reader.specs.Line.{Request, request_of}
 use Rattle.client_port.specs.Ports.{Queue, is_of, at_client, due_of, first_due, with_last, with_request}
 use Rattle.client_port.specs.Views.{queue_of}
 use Rattle.client_port.specs.declared.queues.Queue.{Queue as OwnQueue}
-
--- ---- the search of a queue
-
-next : (qs : List OwnQueue) (i : ℕ) (q : OwnQueue) → i < length qs → q ≡ get_or qs i q → drop i qs ≡ q ∷ drop (i + 1) qs
-next qs i q lt at = rw (add-one, drop-cons qs i q lt, ← at) refl
-
-from_drop : (name : List ℕ) (qs : List OwnQueue) (i : ℕ) (q : OwnQueue) → i < length qs → q ≡ get_or qs i q → position_from (is_of name) i (map queue_of (drop i qs)) ≡ cond (bytes_eq q.client name) (Some i) (position_from (is_of name) (i + 1) (map queue_of (drop (i + 1) qs)))
-from_drop name qs i q lt at = rw (next qs i q lt at) refl
-
-pub before : (name : List ℕ) (qs : List OwnQueue) (i : ℕ) (q : OwnQueue) → i < length qs → q ≡ get_or qs i q → position_from (is_of name) i (map queue_of (drop i qs)) ≡ position_from (is_of name) 0 (map queue_of qs) → bytes_eq q.client name ≡ true → position_from (is_of name) 0 (map queue_of qs) ≡ Some i
-before name qs i q lt at so is = sym so ∙ from_drop name qs i q lt at ∙ rw is refl
-
-pub nowhere : (name : List ℕ) (qs : List OwnQueue) (i : ℕ) (q : OwnQueue) → i < length qs → q ≡ get_or qs i q → position_from (is_of name) i (map queue_of (drop i qs)) ≡ position_from (is_of name) 0 (map queue_of qs) → bytes_eq q.client name ≡ false → position_from (is_of name) (i + 1) (map queue_of (drop (i + 1) qs)) ≡ position_from (is_of name) 0 (map queue_of qs)
-nowhere name qs i q lt at so is = sym (from_drop name qs i q lt at ∙ rw is refl) ∙ so
 
 -- ---- a change
 
@@ -71,11 +56,11 @@ some_by : {X : Type 0} (b c : Bool) (k i : X) (o : Option X) → (o ≡ Some i �
 some_by true c k i o rest is = refl
 some_by false c k i o rest is = rest is
 
-nowhere_any : {X : Type 0} (p : X → Bool) (k : ℕ) (xs : List X) → position_from p k xs ≡ None → list_any p xs ≡ false
+pub nowhere_any : {X : Type 0} (p : X → Bool) (k : ℕ) (xs : List X) → position_from p k xs ≡ None → list_any p xs ≡ false
 nowhere_any p k [] at = refl
 nowhere_any p k (x ∷ xs) at = none_by (p x) (list_any p xs) k (position_from p (k + 1) xs) (nowhere_any p (k + 1) xs) at
 
-somewhere_any : {X : Type 0} (p : X → Bool) (k i : ℕ) (xs : List X) → position_from p k xs ≡ Some i → list_any p xs ≡ true
+pub somewhere_any : {X : Type 0} (p : X → Bool) (k i : ℕ) (xs : List X) → position_from p k xs ≡ Some i → list_any p xs ≡ true
 somewhere_any p k i [] at = absurd (cc at)
 somewhere_any p k i (x ∷ xs) at = some_by (p x) (list_any p xs) k i (position_from p (k + 1) xs) (somewhere_any p (k + 1) i xs) at
 

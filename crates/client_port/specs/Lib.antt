@@ -1,2 +1,4 @@
+pub mod Clients
+pub mod Places
 pub mod Ports
 pub mod Views

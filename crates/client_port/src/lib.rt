@@ -1,8 +1,10 @@
 //! What clients may send next, and what was said to them.
 //!
-//! - `queues` has each client's requests, and `port` what is due and what was said.
+//! - `queues` has each client's requests, and `laws` says that a queue has just these.
+//! - `port` is what is due and what was said.
 #![tactic(auto)]
 
+mod laws;
 mod port;
 mod queues;
 

@@ -6,7 +6,7 @@ ghost use Rattle.client_port.specs.Views.{lines_of, queue_of};
 ghost use Rattle.dura_value.specs.Views.{answer_of};
 ghost use Rattle.request_reader.specs.Line.{request_of};
 
-use crate::queues::{Queue, all_due, count_said, first_due, place_of, queues_of};
+use crate::queues::{Queue, Queues, all_due, first_due, queues_of};
 use answer_lines::answer_line;
 use dura_value::{Answer, Name, Request};
 use std::alloc::{AllocError, Global};
@@ -15,7 +15,7 @@ use std::marker::Model;
 /// What clients may send next, and what was said to them. A contract sees each client's queue, and the lines.
 #[derive(Drop)]
 pub struct Port {
-    queues: Vec<Queue>,
+    queues: Queues,
     lines: Vec<Vec<u8>>,
 }
 
@@ -53,13 +53,15 @@ fn push_line(lines: &mut Vec<Vec<u8>>, line: Option<Vec<u8>>) -> Result<(), Allo
 }
 
 impl Model for Port {
-    ghost use Rattle.std.specs.Prelude.{map};
+    ghost use Rattle.client_port.specs.Places.{all_of, Stands};
     ghost use Rattle.client_port.specs.Ports.{Ports};
-    ghost use Rattle.client_port.specs.Views.{queue_of, lines_of};
+    ghost use Rattle.client_port.specs.Views.{lines_of};
 
     ghost Value = { Ports };
 
-    ghost view = { λ p. record { queues = map queue_of p.queues.items; lines = lines_of p.lines.items } };
+    ghost view = { λ p. record { queues = all_of p.queues; lines = lines_of p.lines.items } };
+
+    ghost invariant = { λ p. Stands p.queues };
 }
 
 impl Port {
@@ -78,7 +80,7 @@ impl Port {
     pub fn due(&self, alloc: Global) -> Result<Vec<&Request>, AllocError>
         ensures { IfOk result (λ due. map (λ r. request_of r.now) due.items ≡ all_due self.now.queues) }
     {
-        all_due(alloc, &self.queues)
+        all_due(alloc, &self.queues.all)
     }
 
     /// The client's next request was answered, or counts as said with no answer. An Err leaves the port as it was.
@@ -92,12 +94,12 @@ impl Port {
         ensures ok { OnOk result (self.new ≡ after_said client.now (option_map (λ a. answer_of a.now) answer.entry) self.old) }
         ensures err { OnErr result (self.new ≡ self.old) }
     {
-        let Some(place) = place_of(&self.queues, client) else {
+        let Some(place) = self.queues.place_of(client) else {
             return Ok(());
         };
-        let line = line_for(alloc, &self.queues[place], answer)?;
+        let line = line_for(alloc, &self.queues.all[place], answer)?;
         push_line(&mut self.lines, line)?;
-        count_said(&mut self.queues[place]);
+        self.queues.count_said(client, place);
         Ok(())
     }
 

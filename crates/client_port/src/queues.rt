@@ -1,13 +1,15 @@
 //! Each client's requests.
 
-ghost use Rattle.std.specs.Prelude.{◌≡◌, ◌<◌, [], ◌∷◌, length, map, option_map, IfOk, OnOk, IfSome};
+ghost use Rattle.std.specs.Prelude.{◌≡◌, ◌<◌, [], ◌∷◌, length, map, option_map, Some, None, IfOk, OnOk, IfSome};
 ghost use Rattle.std.specs.List.{position_from};
-ghost use Rattle.client_port.specs.Ports.{all_due, first_due, is_of, queues_of, with_request, with_said};
+ghost use Rattle.client_port.specs.Places.{all_of, Stands};
+ghost use Rattle.client_port.specs.Ports.{all_due, at_client, first_due, is_of, queues_of, with_request, with_said};
 ghost use Rattle.client_port.specs.Views.{queue_of};
 ghost use Rattle.request_reader.specs.Line.{request_of};
 
 use dura_value::{Name, Request};
 use std::alloc::{AllocError, Global};
+use std::collections::BTreeMap;
 
 /// A client's requests in their order.
 #[derive(Drop)]
@@ -18,6 +20,15 @@ pub(crate) struct Queue {
     pub(crate) requests: Vec<Request>,
     /// How many of the first were said.
     pub(crate) said: usize,
+}
+
+/// The queues of a file, and what finds a client's.
+#[derive(Drop)]
+pub(crate) struct Queues {
+    /// The queues in the order of their clients' first requests.
+    pub(crate) all: Vec<Queue>,
+    /// The place of each client's.
+    pub(crate) places: BTreeMap<Name, usize>,
 }
 
 /// The first request that wasn't said.
@@ -44,26 +55,12 @@ pub(crate) fn all_due(alloc: Global, queues: &[Queue]) -> Result<Vec<&Request>, 
 
 /// One more was said, where there is one.
 #[tactic(auto, using(crate::proofs::Dues::counted, crate::proofs::Dues::all_said))]
-pub(crate) fn count_said(queue: &mut Queue)
+fn count_said(queue: &mut Queue)
     ensures { queue_of queue.new ≡ with_said (queue_of queue.old) }
 {
     if queue.said < queue.requests.as_slice().len() {
         queue.said += 1;
     }
-}
-
-/// The place of the client's queue.
-#[tactic(auto, using(crate::proofs::Changes::before, crate::proofs::Changes::nowhere))]
-pub(crate) fn place_of(queues: &[Queue], client: &Name) -> Option<usize>
-    ensures place { result ≡ position_from (is_of client.now) 0 (map queue_of queues.now) }
-    ensures within { IfSome result (λ i. i < length queues.now) }
-{
-    for (index, queue) in queues.iter().enumerate() {
-        if queue.client.as_bytes() == client.as_bytes() {
-            return Some(index);
-        }
-    }
-    None
 }
 
 /// A copy with memory of its own.
@@ -86,34 +83,94 @@ fn queue_with(alloc: Global, client: Name, request: Request) -> Result<Queue, Al
     })
 }
 
-/// The request comes behind its client's others.
-#[tactic(auto, using(crate::proofs::Changes::joined, crate::proofs::Changes::opened))]
-fn add_request(alloc: Global, queues: &mut Vec<Queue>, request: Request) -> Result<(), AllocError>
-    ensures { OnOk result (map queue_of queues.new.items ≡ with_request (map queue_of queues.old.items) (request_of request)) }
-{
-    match place_of(queues, &request.client) {
-        Some(place) => {
-            let queue = &mut queues[place];
-            queue.requests.push(request)?;
-            Ok(())
+impl Queues {
+    /// There is no queue.
+    fn new(alloc: Global) -> Queues
+        ensures nothing { all_of result ≡ [] }
+        ensures stands { Stands result }
+    {
+        Queues {
+            all: Vec::new(alloc),
+            places: BTreeMap::new(alloc),
         }
-        None => {
-            let client = copy_of(&request.client)?;
-            let queue = queue_with(alloc, client, request)?;
-            queues.push(queue)?;
-            Ok(())
+    }
+
+    /// The place of the client's queue.
+    #[tactic(auto, using(crate::proofs::Stays::within))]
+    pub(crate) fn place_of(&self, client: &Name) -> Option<usize>
+        requires { Stands self.now }
+        ensures place { result ≡ position_from (is_of client.now) 0 (all_of self.now) }
+        ensures within { IfSome result (λ i. i < length self.now.all.items) }
+    {
+        match self.places.get(client) {
+            Some(place) => Some(*place),
+            None => None,
         }
+    }
+
+    /// The request comes behind its client's others.
+    fn join(&mut self, place: usize, request: Request) -> Result<(), AllocError>
+        requires stands { Stands self.old }
+        requires there { Some place ≡ position_from (is_of request.client) 0 (all_of self.old) }
+        requires within { place < length self.old.all.items }
+        ensures joined { OnOk result (all_of self.new ≡ with_request (all_of self.old) (request_of request)) }
+        ensures stands { OnOk result (Stands self.new) }
+    {
+        let queue = &mut self.all[place];
+        queue.requests.push(request)?;
+        Ok(())
+    }
+
+    /// The client's first request opens its queue.
+    #[tactic(auto, using(crate::proofs::Changes::opened))]
+    fn open(&mut self, alloc: Global, request: Request) -> Result<(), AllocError>
+        requires stands { Stands self.old }
+        requires new { None ≡ position_from (is_of request.client) 0 (all_of self.old) }
+        ensures opened { OnOk result (all_of self.new ≡ with_request (all_of self.old) (request_of request)) }
+        ensures stands { OnOk result (Stands self.new) }
+    {
+        let place = self.all.as_slice().len();
+        let client = copy_of(&request.client)?;
+        self.places.insert(client, place)?;
+        let client = copy_of(&request.client)?;
+        let queue = queue_with(alloc, client, request)?;
+        self.all.push(queue)?;
+        Ok(())
+    }
+
+    /// The request goes to its client's queue.
+    fn add(&mut self, alloc: Global, request: Request) -> Result<(), AllocError>
+        requires { Stands self.old }
+        ensures added { OnOk result (all_of self.new ≡ with_request (all_of self.old) (request_of request)) }
+        ensures stands { OnOk result (Stands self.new) }
+    {
+        match self.place_of(&request.client) {
+            Some(place) => self.join(place, request),
+            None => self.open(alloc, request),
+        }
+    }
+
+    /// One more of the client's was said, where there is one.
+    pub(crate) fn count_said(&mut self, client: &Name, place: usize)
+        requires stands { Stands self.old }
+        requires there { Some place ≡ position_from (is_of client.now) 0 (all_of self.old) }
+        requires within { place < length self.old.all.items }
+        ensures counted { all_of self.new ≡ at_client with_said client.now (all_of self.old) }
+        ensures stands { Stands self.new }
+    {
+        count_said(&mut self.all[place]);
     }
 }
 
 /// The requests of a file by client.
 #[tactic(auto, using(crate::proofs::Changes::one_more))]
-pub(crate) fn queues_of(alloc: Global, requests: Vec<Request>) -> Result<Vec<Queue>, AllocError>
-    ensures { IfOk result (λ queues. map queue_of queues.items ≡ queues_of (map request_of requests.items)) }
+pub(crate) fn queues_of(alloc: Global, requests: Vec<Request>) -> Result<Queues, AllocError>
+    ensures queues { IfOk result (λ queues. all_of queues ≡ queues_of (map request_of requests.items)) }
+    ensures stands { IfOk result Stands }
 {
-    let mut queues = Vec::new(alloc);
+    let mut queues = Queues::new(alloc);
     for request in requests {
-        add_request(alloc, &mut queues, request)?;
+        queues.add(alloc, request)?;
     }
     Ok(queues)
 }

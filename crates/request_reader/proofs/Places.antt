@@ -57,12 +57,12 @@ behind_by : {X : Type 0} (x : X) (b : Bool) (o before after : Option X) → o �
 behind_by x true o before after is = refl
 behind_by x false o before after is = is
 
-place_behind : {X : Type 0} (p : X → Bool) (k : ℕ) (xs : List X) (x : X) → position_from p k (xs ++ x ∷ []) ≡ option_or (position_from p k xs) (cond (p x) (Some (k + length xs)) None)
+pub place_behind : {X : Type 0} (p : X → Bool) (k : ℕ) (xs : List X) (x : X) → position_from p k (xs ++ x ∷ []) ≡ option_or (position_from p k xs) (cond (p x) (Some (k + length xs)) None)
 place_behind p k [] x = rw add-zero refl
 place_behind p k (y ∷ ys) x = let longer : k + length (y ∷ ys) ≡ k + 1 + length ys = omega arith in
     behind_by k (p y) (position_from p (k + 1) (ys ++ x ∷ [])) (position_from p (k + 1) ys) (cond (p x) (Some (k + length (y ∷ ys))) None) (rw longer (place_behind p (k + 1) ys x))
 
-or_none : {X : Type 0} (o : Option X) → option_or o None ≡ o
+pub or_none : {X : Type 0} (o : Option X) → option_or o None ≡ o
 or_none (Some x) = refl
 or_none None = refl
 
