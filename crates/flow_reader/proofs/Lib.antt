@@ -1,4 +1,5 @@
 pub mod Grammar
+pub mod Parts
 pub mod Scalars
 pub mod Texts
 pub mod Trails
