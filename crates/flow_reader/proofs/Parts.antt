@@ -98,7 +98,7 @@ no_operation (x ∷ y ∷ []) two three = absurd (two refl)
 no_operation (x ∷ y ∷ z ∷ []) two three = absurd (three refl)
 no_operation (x ∷ y ∷ z ∷ w ∷ vs) two three = refl
 
-ends_then : {X Y : Type 0} (read : Result X Path) (then : X → Result Y Path) (error : PartError) → Fails error read → Fails error (read >>= then)
+pub ends_then : {X Y : Type 0} (read : Result X Path) (then : X → Result Y Path) (error : PartError) → Fails error read → Fails error (read >>= then)
 ends_then read then (Misshapen path) fails = rw fails refl
 ends_then read then Memory fails = tt
 

@@ -8,7 +8,9 @@
 mod expressions;
 mod faults;
 mod rows;
+mod simple;
 mod values;
+mod words;
 
 pub use faults::{Path, Step};
 pub use rows::{files, names, no_json, statements};
