@@ -51,7 +51,7 @@ with_first : (done : List Expr) (e : Expr) (rest : Result Expressions Path) → 
 with_first done e (Err path) = refl
 with_first done e (Ok es) = rw (one_behind done e es) refl
 
-items_from : (vs : List Json) (i : ℕ) (v : Json) → i < length vs → v ≡ get_or vs i v → items_view (drop i vs) ≡ item (view v) (items_view (drop (i + 1) vs))
+pub items_from : (vs : List Json) (i : ℕ) (v : Json) → i < length vs → v ≡ get_or vs i v → items_view (drop i vs) ≡ item (view v) (items_view (drop (i + 1) vs))
 items_from vs i v lt at = rw (add-one, drop-cons vs i v lt, ← at) refl
 
 -- nothing was read yet

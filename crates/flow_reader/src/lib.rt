@@ -5,6 +5,7 @@
 //! - `rows` has worked rows of the grammar.
 #![tactic(auto)]
 
+mod bodies;
 mod expressions;
 mod faults;
 mod rows;

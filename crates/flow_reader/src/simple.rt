@@ -31,7 +31,7 @@ fn one_part(parts: &[Json]) -> Option<&Json>
 }
 
 #[tactic(auto, using(crate::proofs::Counts::two_there, crate::proofs::Counts::two_not_there))]
-fn two_parts(parts: &[Json]) -> Option<(&Json, &Json)>
+pub(crate) fn two_parts(parts: &[Json]) -> Option<(&Json, &Json)>
     ensures { option_map (λ p. (view p.0.now, view p.1.now)) result ≡ two_parts (items_view parts.now) }
 {
     if parts.len() == 2 {
