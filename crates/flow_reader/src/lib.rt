@@ -6,6 +6,7 @@
 #![tactic(auto)]
 
 mod bodies;
+mod classes;
 mod expressions;
 mod faults;
 mod rows;
