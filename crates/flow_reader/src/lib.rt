@@ -9,6 +9,7 @@ mod bodies;
 mod classes;
 mod expressions;
 mod faults;
+mod file;
 mod rows;
 mod simple;
 mod values;
