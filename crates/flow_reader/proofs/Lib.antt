@@ -1,6 +1,7 @@
 pub mod Blocks
 pub mod Counts
 pub mod Grammar
+pub mod Known
 pub mod Members
 pub mod Pairs
 pub mod Parts

@@ -10,6 +10,7 @@ mod classes;
 mod expressions;
 mod faults;
 mod file;
+mod lookups;
 mod rows;
 mod simple;
 mod values;
