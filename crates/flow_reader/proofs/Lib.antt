@@ -1,4 +1,5 @@
 pub mod Blocks
+pub mod Bytes
 pub mod Counts
 pub mod Grammar
 pub mod Known
