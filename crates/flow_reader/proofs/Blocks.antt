@@ -1,12 +1,11 @@
 -- Reading the statements of a body one after another, and a statement by its word.
-use Rattle.std.proofs.Common.{◌≡◌, ℕ, ◌+◌, ◌<◌, ◌≤◌, List, [], ◌∷◌, ◌++◌, length, drop, get_or, map, Bool, Option, Some, None, Result, Ok, Err, refl, sym, ◌∙◌, ap, arith, add-one, append_assoc}
-use Rattle.std.proofs.Math.Seq.{drop-cons}
-use Rattle.std.proofs.lemmas.List.{drop_all, append-nil, map-append}
-use Rattle.serde_json.specs.Data.{Data, array, Items, item, no_items}
+use Rattle.std.proofs.Common.{◌≡◌, ℕ, ◌+◌, ◌<◌, ◌≤◌, List, [], ◌∷◌, ◌++◌, length, drop, get_or, Bool, Some, None, Result, Ok, Err, refl, sym, ◌∙◌, ap, arith}
+use Rattle.std.proofs.lemmas.List.{drop_all}
+use Rattle.serde_json.specs.Data.{array, Items, item, no_items}
 use Rattle.serde_json.specs.View.{view, items_view}
 use Rattle.serde_json.specs.declared.value.Value.{Value as Json}
 use Rattle.flow_reader.specs.Answers.{Fails, IsUnder}
-use Rattle.flow_reader.specs.Faults.{Path, Step, at, misshapen, to_part, ◌>>=◌}
+use Rattle.flow_reader.specs.Faults.{Path, at, misshapen, to_part, ◌>>=◌}
 use Rattle.flow_reader.specs.Expressions.{expression_in}
 use Rattle.flow_reader.specs.Values.{name_in}
 use Rattle.flow_reader.specs.declared.faults.PartError.{PartError}
@@ -17,7 +16,7 @@ use Rattle.flow_syntax.specs.Syntax.{Block, Expression, nothing, first_then}
 use Rattle.flow_syntax.specs.Views.{statement_of, block_of}
 use Rattle.flow_reader.specs.declared.words.Word.{Word}
 use Rattle.flow_reader.specs.declared.words.Word.TheVariants as words
-use Rattle.flow_reader.specs.Statements.{body_in, of_word, simple_in, statement_in, statements_from, word_in}
+use Rattle.flow_reader.specs.Statements.{body_in, of_word, statement_in, statements_from, word_in}
 
 -- statements, and behind them further ones
 abbrev pub before_block : List Stmt → Block → Block

@@ -1,5 +1,5 @@
 -- Which arrays have just so many parts.
-use Rattle.std.proofs.Common.{◌≡◌, ◌+◌, ℕ, ◌<◌, ◌≤◌, List, [], ◌∷◌, length, get_or, Some, None, refl, arith}
+use Rattle.std.proofs.Common.{◌≡◌, List, [], ◌∷◌, length, get_or, Some, None, refl, arith}
 use Rattle.serde_json.specs.View.{view, items_view}
 use Rattle.serde_json.specs.declared.value.Value.{Value as Json}
 use Rattle.flow_reader.specs.Statements.{one_part, two_parts, three_parts, four_parts, five_parts}
@@ -73,4 +73,3 @@ five_not_there (x0 ∷ x1 ∷ x2 ∷ []) other = refl
 five_not_there (x0 ∷ x1 ∷ x2 ∷ x3 ∷ []) other = refl
 five_not_there (x0 ∷ x1 ∷ x2 ∷ x3 ∷ x4 ∷ []) other = absurd (other refl)
 five_not_there (x0 ∷ x1 ∷ x2 ∷ x3 ∷ x4 ∷ x5 ∷ vs) other = refl
-

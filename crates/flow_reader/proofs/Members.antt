@@ -1,18 +1,18 @@
 -- Reading the members of an object one after another.
-use Rattle.std.proofs.Common.{◌≡◌, ℕ, ◌&&◌, List, [], ◌∷◌, Bool, true, false, Result, Ok, Err, String, Global, string_bytes, refl, sym, ◌∙◌, ap}
+use Rattle.std.proofs.Common.{◌≡◌, ℕ, ◌&&◌, List, ◌∷◌, Bool, true, false, Result, Ok, string_bytes, refl, sym, ◌∙◌, ap}
 use Rattle.std.specs.Ordering.{nat_cmp}
 use Rattle.std.specs.Cmp.Lexicographic.{slice_cmp}
 use Rattle.std.specs.BTreeMap.{insert_entry}
 use Rattle.flow_syntax.specs.Views.{named_by}
 use Rattle.flow_syntax.proofs.Maps.{put_into}
-use Rattle.serde_json.specs.Data.{Data, Members, member, no_members}
+use Rattle.serde_json.specs.Data.{Data}
 use Rattle.serde_json.specs.View.{view, members_view}
 use Rattle.serde_json.proofs.Views.{Entry}
 use Rattle.dura_value.specs.Names.{is_name}
 use Rattle.flow_syntax.specs.Syntax.{Named, put_in}
 use Rattle.flow_reader.specs.Answers.{Fails}
 use Rattle.flow_reader.specs.Classes.{have_names, named_after}
-use Rattle.flow_reader.specs.Faults.{Path, at, to_key, ◌>>=◌}
+use Rattle.flow_reader.specs.Faults.{Path, at, to_key}
 use Rattle.flow_reader.specs.declared.faults.PartError.{PartError}
 use Rattle.flow_reader.proofs.Parts.{ends_then}
 

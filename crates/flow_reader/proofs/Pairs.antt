@@ -1,12 +1,11 @@
 -- Reading the pairs of a lock one after another.
-use Rattle.std.proofs.Common.{◌≡◌, ℕ, ◌+◌, ◌<◌, ◌≤◌, List, [], ◌∷◌, ◌++◌, length, drop, get_or, map, Bool, Option, Some, None, Result, Ok, Err, refl, sym, ◌∙◌, ap, arith, add-one, append_assoc}
-use Rattle.std.proofs.Math.Seq.{drop-cons}
-use Rattle.std.proofs.lemmas.List.{drop_all, append-nil, map-append}
+use Rattle.std.proofs.Common.{◌≡◌, ℕ, ◌+◌, ◌<◌, ◌≤◌, List, [], ◌∷◌, ◌++◌, length, drop, get_or, map, Some, None, Result, Ok, Err, refl, sym, ◌∙◌, ap}
+use Rattle.std.proofs.lemmas.List.{drop_all, append-nil}
 use Rattle.serde_json.specs.Data.{Data, array, Items, item, no_items}
 use Rattle.serde_json.specs.View.{view, items_view}
 use Rattle.serde_json.specs.declared.value.Value.{Value as Json}
 use Rattle.flow_reader.specs.Answers.{Fails, IsUnder}
-use Rattle.flow_reader.specs.Faults.{Path, Step, at, misshapen, to_part, ◌>>=◌}
+use Rattle.flow_reader.specs.Faults.{Path, at, misshapen, to_part, ◌>>=◌}
 use Rattle.flow_reader.specs.Expressions.{expression_in}
 use Rattle.flow_reader.specs.Values.{name_in}
 use Rattle.flow_reader.specs.declared.faults.PartError.{PartError}

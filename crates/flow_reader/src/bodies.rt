@@ -270,4 +270,3 @@ fn try_in(alloc: Global, inside: bool, items: &Vec<Json>) -> Result<Stmt, PartEr
     let handler = body_at(alloc, inside, handler, 3)?;
     Ok(Stmt::catch(body, variable, handler))
 }
-

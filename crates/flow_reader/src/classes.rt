@@ -33,7 +33,12 @@ pub(crate) fn have_names(members: &Map<String, Json>) -> bool
 
 /// The body under a name.
 #[tactic(auto, using(crate::proofs::Parts::fails_under))]
-fn body_under(alloc: Global, inside: bool, name: &Name, value: &Json) -> Result<Vec<Stmt>, PartError>
+fn body_under(
+    alloc: Global,
+    inside: bool,
+    name: &Name,
+    value: &Json,
+) -> Result<Vec<Stmt>, PartError>
     ensures { Gives (λ body. block_of body.items) result (at (to_key name.now) (body_in inside (view value.now))) }
 {
     match body_in(alloc, inside, value) {
@@ -178,7 +183,10 @@ fn class_under(alloc: Global, name: &Name, value: &Json) -> Result<Class, PartEr
 
 /// The classes of an object whose keys are names.
 #[tactic(auto, using(crate::proofs::Members::put, crate::proofs::Members::ends, crate::proofs::Members::first_is_name, crate::proofs::Members::rest_are_names))]
-fn classes_from(alloc: Global, members: &Map<String, Json>) -> Result<BTreeMap<Name, Class>, PartError>
+fn classes_from(
+    alloc: Global,
+    members: &Map<String, Json>,
+) -> Result<BTreeMap<Name, Class>, PartError>
     requires { have_names (members_view members.now.entries) ≡ true }
     ensures { Gives (λ classes. named_by class_of classes.entries) result (named_after class_in [] (members_view members.now.entries)) }
 {

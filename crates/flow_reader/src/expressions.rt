@@ -237,11 +237,7 @@ fn binary_of(alloc: Global, items: &Vec<Json>) -> Result<Expr, PartError>
         Some(operation) => {
             let first = part_at(alloc, first, 1)?;
             let second = part_at(alloc, second, 2)?;
-            Ok(Expr::Binary(
-                operation,
-                Box::new(alloc, first)?,
-                Box::new(alloc, second)?,
-            ))
+            Ok(Expr::Binary(operation, Box::new(alloc, first)?, Box::new(alloc, second)?))
         }
         None => Err(misshapen(alloc)),
     }

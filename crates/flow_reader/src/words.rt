@@ -87,12 +87,6 @@ pub(crate) fn word_in(inside: bool, value: &Json) -> Option<Word>
 {
     match inner_word(value) {
         Some(word) => Some(word),
-        None => {
-            if inside {
-                None
-            } else {
-                flow_word(value)
-            }
-        }
+        None => { if inside { None } else { flow_word(value) } }
     }
 }

@@ -1,8 +1,8 @@
 -- The members that are still to be read lead on to all of them, and their keys are names.
 use Rattle.std.proofs.Common.{◌≡◌, [], true}
 use Rattle.serde_json.specs.View.{members_view}
-use Rattle.flow_syntax.specs.Views.{bodies_of, class_of, named_by}
-use Rattle.flow_reader.specs.Classes.{class_in, have_names, named_after}
+use Rattle.flow_syntax.specs.Views.{bodies_of}
+use Rattle.flow_reader.specs.Classes.{have_names, named_after}
 use Rattle.flow_reader.specs.Statements.{body_in}
 use Rattle.flow_reader.proofs.classes.bodies_from.Given as goal
 

@@ -1,9 +1,8 @@
 -- The members that are still to be read lead on to all of them, and their keys are names.
 use Rattle.std.proofs.Common.{◌≡◌, [], true}
 use Rattle.serde_json.specs.View.{members_view}
-use Rattle.flow_syntax.specs.Views.{bodies_of, class_of, named_by}
+use Rattle.flow_syntax.specs.Views.{class_of, named_by}
 use Rattle.flow_reader.specs.Classes.{class_in, have_names, named_after}
-use Rattle.flow_reader.specs.Statements.{body_in}
 use Rattle.flow_reader.proofs.classes.classes_from.Given as goal
 
 abbrev pub invariant-loop-key : goal.invariant-loop-key

@@ -1,7 +1,7 @@
 -- The statements that are left lead on to all of them.
-use Rattle.std.proofs.Common.{◌≡◌, drop, map}
-use Rattle.flow_syntax.specs.Views.{block_of, body_in, flows_of, locked_of, named_by}
-use Rattle.flow_reader.specs.Names.{known_block, known_flows, known_pairs}
+use Rattle.std.proofs.Common.{◌≡◌, drop}
+use Rattle.flow_syntax.specs.Views.{block_of, flows_of}
+use Rattle.flow_reader.specs.Names.{known_block}
 use Rattle.flow_reader.proofs.lookups.+names.Given as goal
 
 abbrev pub invariant-known_block-loop-index : goal.invariant-known_block-loop-index

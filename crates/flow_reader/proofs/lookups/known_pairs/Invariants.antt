@@ -1,7 +1,7 @@
 -- The pairs that are left lead on to all of them.
 use Rattle.std.proofs.Common.{◌≡◌, drop, map}
-use Rattle.flow_syntax.specs.Views.{block_of, body_in, flows_of, locked_of, named_by}
-use Rattle.flow_reader.specs.Names.{known_block, known_flows, known_pairs}
+use Rattle.flow_syntax.specs.Views.{flows_of, locked_of}
+use Rattle.flow_reader.specs.Names.{known_pairs}
 use Rattle.flow_reader.proofs.lookups.known_pairs.Given as goal
 
 abbrev pub invariant-loop-index : goal.invariant-loop-index
