@@ -1,9 +1,9 @@
 -- Bodies by names, and classes.
-use Rattle.std.specs.Prelude.{List, [], ◌∷◌, ◌&&◌, codes, Bool, true, Result, Ok}
+use Rattle.std.specs.Prelude.{List, [], ◌&&◌, codes, Bool, true, Result, Ok}
 use Rattle.std.specs.Str.{bytes_eq}
 use Rattle.serde_json.specs.Data.{Data, object, Members, no_members, member}
 use Rattle.dura_value.specs.Names.{is_name}
-use Rattle.flow_syntax.specs.Syntax.{Named, Class}
+use Rattle.flow_syntax.specs.Syntax.{Named, Class, put_in}
 use Rattle.flow_reader.specs.Faults.{Path, to_key, at, misshapen, where_fits, ◌>>=◌}
 use Rattle.flow_reader.specs.Statements.{body_in}
 use Rattle.flow_reader.specs.Values.{value_in}
@@ -13,14 +13,14 @@ abbrev pub have_names : Members → Bool
 have_names no_members = true
 have_names (member key d rest) = is_name key && have_names rest
 
--- what each member stands for, in the order of the keys
-abbrev pub named_from : {X : Type 0} → (Data → Result X Path) → Members → Result (List (Named X)) Path
-named_from read no_members = Ok []
-named_from read (member key d rest) = at (to_key key) (read d) >>= λ it. named_from read rest >>= λ more. Ok (record { name = key; it = it } ∷ more)
+-- what each member stands for goes under its key, beside what is there
+abbrev pub named_after : {X : Type 0} → (Data → Result X Path) → List (Named X) → Members → Result (List (Named X)) Path
+named_after read done no_members = Ok done
+named_after read done (member key d rest) = at (to_key key) (read d) >>= λ it. named_after read (put_in done key it) rest
 
 -- an object whose keys are names
 abbrev pub named_in : {X : Type 0} → (Data → Result X Path) → Data → Result (List (Named X)) Path
-named_in read (object members) = where_fits (have_names members) (named_from read members)
+named_in read (object members) = where_fits (have_names members) (named_after read [] members)
 named_in read _ = misshapen
 
 -- a class: its members are `init` and `ops`, no more and no less

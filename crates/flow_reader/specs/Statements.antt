@@ -2,56 +2,38 @@
 use Rattle.std.specs.Prelude.{ℕ, ◌+◌, ◌&&◌, List, [], ◌∷◌, codes, Bool, true, false, nat_le, if◌then◌else◌, Option, Some, None, Result, Ok}
 use Rattle.serde_json.specs.Data.{Data, array, Items, no_items, item}
 use Rattle.dura_value.specs.Limits.{most_spots}
-use Rattle.flow_syntax.specs.Syntax.{Statement, let_be, spawn, call, subflow, ask, timer, event, await, await_all, await_any, signal, lock_in, if_then, while, try, return, fail, Block, nothing, first_then, Locked}
+use Rattle.flow_syntax.specs.Syntax.{Statement, let_be, spawn, call, subflow, ask, timer, event, await, await_all, await_any, signal, lock_in, if_then, while, try, return, fail, Block, nothing, first_then, Locked, Expression}
+use Rattle.flow_reader.specs.declared.words.Word.{Word}
+use Rattle.flow_reader.specs.declared.words.Word.TheVariants as words
 use Rattle.flow_reader.specs.Expressions.{expression_in, is_word, given}
 use Rattle.flow_reader.specs.Faults.{Path, to_part, at, misshapen, where_fits, ◌>>=◌}
 use Rattle.flow_reader.specs.Values.{name_in, count}
 
--- the words of statements
-pub data Word : Type 0 where
-  let_word : Word
-  spawn_word : Word
-  call_word : Word
-  sub_word : Word
-  ask_word : Word
-  timer_word : Word
-  event_word : Word
-  await_word : Word
-  all_word : Word
-  any_word : Word
-  signal_word : Word
-  lock_word : Word
-  if_word : Word
-  while_word : Word
-  try_word : Word
-  return_word : Word
-  fail_word : Word
-
 -- the words that may stand in an operation
 abbrev pub inner_word : Data → Option Word
 inner_word d =
-    if is_word (codes "let") d then Some let_word
-    else (if is_word (codes "if") d then Some if_word
-    else (if is_word (codes "while") d then Some while_word
-    else (if is_word (codes "try") d then Some try_word
-    else (if is_word (codes "return") d then Some return_word
-    else (if is_word (codes "fail") d then Some fail_word
+    if is_word (codes "let") d then Some words.Let
+    else (if is_word (codes "if") d then Some words.If
+    else (if is_word (codes "while") d then Some words.While
+    else (if is_word (codes "try") d then Some words.Try
+    else (if is_word (codes "return") d then Some words.Return
+    else (if is_word (codes "fail") d then Some words.Fail
     else None)))))
 
 -- those that may stand in a flow alone
 abbrev pub flow_word : Data → Option Word
 flow_word d =
-    if is_word (codes "spawn") d then Some spawn_word
-    else (if is_word (codes "call") d then Some call_word
-    else (if is_word (codes "sub") d then Some sub_word
-    else (if is_word (codes "ask") d then Some ask_word
-    else (if is_word (codes "timer") d then Some timer_word
-    else (if is_word (codes "event") d then Some event_word
-    else (if is_word (codes "await") d then Some await_word
-    else (if is_word (codes "all") d then Some all_word
-    else (if is_word (codes "any") d then Some any_word
-    else (if is_word (codes "signal") d then Some signal_word
-    else (if is_word (codes "lock") d then Some lock_word
+    if is_word (codes "spawn") d then Some words.Spawn
+    else (if is_word (codes "call") d then Some words.Call
+    else (if is_word (codes "sub") d then Some words.Sub
+    else (if is_word (codes "ask") d then Some words.Ask
+    else (if is_word (codes "timer") d then Some words.Timer
+    else (if is_word (codes "event") d then Some words.Event
+    else (if is_word (codes "await") d then Some words.Await
+    else (if is_word (codes "all") d then Some words.All
+    else (if is_word (codes "any") d then Some words.Any
+    else (if is_word (codes "signal") d then Some words.Signal
+    else (if is_word (codes "lock") d then Some words.Lock
     else None))))))))))
 
 abbrev pub either_word : Option Word → Option Word → Option Word
@@ -77,6 +59,68 @@ abbrev pub pairs_in : Data → Result (List Locked) Path
 pairs_in (array ds) = where_fits (nat_le 1 (count ds) && nat_le (count ds) most_spots) (pairs_from 0 ds)
 pairs_in _ = misshapen
 
+-- the parts, where they are just so many
+abbrev pub one_part : Items → Option Data
+one_part (item a no_items) = Some a
+one_part _ = None
+
+abbrev pub two_parts : Items → Option (Data × Data)
+two_parts (item a (item b no_items)) = Some (a, b)
+two_parts _ = None
+
+abbrev pub three_parts : Items → Option (Data × Data × Data)
+three_parts (item a (item b (item c no_items))) = Some (a, b, c)
+three_parts _ = None
+
+abbrev pub four_parts : Items → Option (Data × Data × Data × Data)
+four_parts (item a (item b (item c (item d no_items)))) = Some (a, b, c, d)
+four_parts _ = None
+
+abbrev pub five_parts : Items → Option (Data × Data × Data × Data × Data)
+five_parts (item a (item b (item c (item d (item e no_items))))) = Some (a, b, c, d, e)
+five_parts _ = None
+
+-- the only part, an expression
+abbrev pub only_value : Items → Result Expression Path
+only_value parts = given (one_part parts) (λ e. at (to_part 1) (expression_in e))
+
+-- a variable and an expression
+abbrev pub variable_and_value : Items → Result (List ℕ × Expression) Path
+variable_and_value parts = given (two_parts parts) (λ p. at (to_part 1) (name_in p.0) >>= λ x. at (to_part 2) (expression_in p.1) >>= λ e. Ok (x, e))
+
+-- a variable, an activity and its argument
+abbrev pub activity_in : Items → Result (List ℕ × List ℕ × Expression) Path
+activity_in parts = given (three_parts parts) (λ p. at (to_part 1) (name_in p.0) >>= λ x. at (to_part 2) (name_in p.1) >>= λ a. at (to_part 3) (expression_in p.2) >>= λ e. Ok (x, a, e))
+
+abbrev pub event_in : Items → Result Statement Path
+event_in parts = given (two_parts parts) (λ p. at (to_part 1) (name_in p.0) >>= λ x. at (to_part 2) (name_in p.1) >>= λ name. Ok (event x name))
+
+abbrev pub sub_in : Items → Result Statement Path
+sub_in parts = given (four_parts parts) (λ p. at (to_part 1) (name_in p.0) >>= λ x. at (to_part 2) (name_in p.1) >>= λ flow. at (to_part 3) (expression_in p.2) >>= λ key. at (to_part 4) (expression_in p.3) >>= λ argument. Ok (subflow x flow key argument))
+
+abbrev pub ask_in : Items → Result Statement Path
+ask_in parts = given (five_parts parts) (λ p. at (to_part 1) (name_in p.0) >>= λ x. at (to_part 2) (name_in p.1) >>= λ class. at (to_part 3) (expression_in p.2) >>= λ key. at (to_part 4) (name_in p.3) >>= λ operation. at (to_part 5) (expression_in p.4) >>= λ argument. Ok (ask x class key operation argument))
+
+abbrev pub signal_in : Items → Result Statement Path
+signal_in parts = given (four_parts parts) (λ p. at (to_part 1) (name_in p.0) >>= λ class. at (to_part 2) (expression_in p.1) >>= λ key. at (to_part 3) (name_in p.2) >>= λ operation. at (to_part 4) (expression_in p.3) >>= λ argument. Ok (signal class key operation argument))
+
+-- a statement with none in it, of a word and its parts
+abbrev pub simple_in : Word → Items → Result Statement Path
+simple_in words.Let parts = variable_and_value parts >>= λ p. Ok (let_be p.0 p.1)
+simple_in words.Spawn parts = activity_in parts >>= λ p. Ok (spawn p.0 p.1 p.2)
+simple_in words.Call parts = activity_in parts >>= λ p. Ok (call p.0 p.1 p.2)
+simple_in words.Sub parts = sub_in parts
+simple_in words.Ask parts = ask_in parts
+simple_in words.Timer parts = variable_and_value parts >>= λ p. Ok (timer p.0 p.1)
+simple_in words.Event parts = event_in parts
+simple_in words.Await parts = variable_and_value parts >>= λ p. Ok (await p.0 p.1)
+simple_in words.All parts = variable_and_value parts >>= λ p. Ok (await_all p.0 p.1)
+simple_in words.Any parts = variable_and_value parts >>= λ p. Ok (await_any p.0 p.1)
+simple_in words.Signal parts = signal_in parts
+simple_in words.Return parts = only_value parts >>= λ e. Ok (return e)
+simple_in words.Fail parts = only_value parts >>= λ e. Ok (fail e)
+simple_in _ parts = misshapen
+
 abbrev mutual
   -- a statement, in an operation or a flow
   pub statement_in : Bool → Data → Result Statement Path
@@ -85,24 +129,11 @@ abbrev mutual
 
   -- the statement of a word and its parts
   pub of_word : Bool → Word → Items → Result Statement Path
-  of_word inside let_word (item x (item e no_items)) = at (to_part 1) (name_in x) >>= λ variable. at (to_part 2) (expression_in e) >>= λ value. Ok (let_be variable value)
-  of_word inside spawn_word (item x (item a (item e no_items))) = at (to_part 1) (name_in x) >>= λ variable. at (to_part 2) (name_in a) >>= λ activity. at (to_part 3) (expression_in e) >>= λ argument. Ok (spawn variable activity argument)
-  of_word inside call_word (item x (item a (item e no_items))) = at (to_part 1) (name_in x) >>= λ variable. at (to_part 2) (name_in a) >>= λ activity. at (to_part 3) (expression_in e) >>= λ argument. Ok (call variable activity argument)
-  of_word inside sub_word (item x (item f (item k (item e no_items)))) = at (to_part 1) (name_in x) >>= λ variable. at (to_part 2) (name_in f) >>= λ flow. at (to_part 3) (expression_in k) >>= λ key. at (to_part 4) (expression_in e) >>= λ argument. Ok (subflow variable flow key argument)
-  of_word inside ask_word (item x (item c (item k (item o (item e no_items))))) = at (to_part 1) (name_in x) >>= λ variable. at (to_part 2) (name_in c) >>= λ class. at (to_part 3) (expression_in k) >>= λ key. at (to_part 4) (name_in o) >>= λ operation. at (to_part 5) (expression_in e) >>= λ argument. Ok (ask variable class key operation argument)
-  of_word inside timer_word (item x (item e no_items)) = at (to_part 1) (name_in x) >>= λ variable. at (to_part 2) (expression_in e) >>= λ delay. Ok (timer variable delay)
-  of_word inside event_word (item x (item n no_items)) = at (to_part 1) (name_in x) >>= λ variable. at (to_part 2) (name_in n) >>= λ name. Ok (event variable name)
-  of_word inside await_word (item x (item e no_items)) = at (to_part 1) (name_in x) >>= λ variable. at (to_part 2) (expression_in e) >>= λ handle. Ok (await variable handle)
-  of_word inside all_word (item x (item e no_items)) = at (to_part 1) (name_in x) >>= λ variable. at (to_part 2) (expression_in e) >>= λ handles. Ok (await_all variable handles)
-  of_word inside any_word (item x (item e no_items)) = at (to_part 1) (name_in x) >>= λ variable. at (to_part 2) (expression_in e) >>= λ handles. Ok (await_any variable handles)
-  of_word inside signal_word (item c (item k (item o (item e no_items)))) = at (to_part 1) (name_in c) >>= λ class. at (to_part 2) (expression_in k) >>= λ key. at (to_part 3) (name_in o) >>= λ operation. at (to_part 4) (expression_in e) >>= λ argument. Ok (signal class key operation argument)
-  of_word inside lock_word (item ps (item s no_items)) = at (to_part 1) (pairs_in ps) >>= λ entities. at (to_part 2) (body_in inside s) >>= λ body. Ok (lock_in entities body)
-  of_word inside if_word (item e (item s (item t no_items))) = at (to_part 1) (expression_in e) >>= λ test. at (to_part 2) (body_in inside s) >>= λ yes_body. at (to_part 3) (body_in inside t) >>= λ no_body. Ok (if_then test yes_body no_body)
-  of_word inside while_word (item e (item s no_items)) = at (to_part 1) (expression_in e) >>= λ test. at (to_part 2) (body_in inside s) >>= λ body. Ok (while test body)
-  of_word inside try_word (item s (item x (item t no_items))) = at (to_part 1) (body_in inside s) >>= λ body. at (to_part 2) (name_in x) >>= λ variable. at (to_part 3) (body_in inside t) >>= λ handler. Ok (try body variable handler)
-  of_word inside return_word (item e no_items) = at (to_part 1) (expression_in e) >>= λ value. Ok (return value)
-  of_word inside fail_word (item e no_items) = at (to_part 1) (expression_in e) >>= λ text. Ok (fail text)
-  of_word inside word parts = misshapen
+  of_word inside words.Lock (item ps (item s no_items)) = at (to_part 1) (pairs_in ps) >>= λ entities. at (to_part 2) (body_in inside s) >>= λ body. Ok (lock_in entities body)
+  of_word inside words.If (item e (item s (item t no_items))) = at (to_part 1) (expression_in e) >>= λ test. at (to_part 2) (body_in inside s) >>= λ yes_body. at (to_part 3) (body_in inside t) >>= λ no_body. Ok (if_then test yes_body no_body)
+  of_word inside words.While (item e (item s no_items)) = at (to_part 1) (expression_in e) >>= λ test. at (to_part 2) (body_in inside s) >>= λ body. Ok (while test body)
+  of_word inside words.Try (item s (item x (item t no_items))) = at (to_part 1) (body_in inside s) >>= λ body. at (to_part 2) (name_in x) >>= λ variable. at (to_part 3) (body_in inside t) >>= λ handler. Ok (try body variable handler)
+  of_word inside word parts = simple_in word parts
 
   -- an array of statements
   pub body_in : Bool → Data → Result Block Path

@@ -16,7 +16,7 @@ use serde_json::Value as Json;
 use std::alloc::Global;
 
 /// This value isn't of the shape wanted.
-fn misshapen(alloc: Global) -> PartError
+pub(crate) fn misshapen(alloc: Global) -> PartError
     ensures { result ≡ PartError.Misshapen [] }
 {
     PartError::Misshapen(Path::here(alloc))

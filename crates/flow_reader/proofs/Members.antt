@@ -1,0 +1,50 @@
+-- Reading the members of an object one after another.
+use Rattle.std.proofs.Common.{◌≡◌, ℕ, ◌&&◌, List, ◌∷◌, Bool, true, false, Result, Ok, string_bytes, refl, sym, ◌∙◌, ap}
+use Rattle.std.specs.Ordering.{nat_cmp}
+use Rattle.std.specs.Cmp.Lexicographic.{slice_cmp}
+use Rattle.std.specs.BTreeMap.{insert_entry}
+use Rattle.flow_syntax.specs.Views.{named_by}
+use Rattle.flow_syntax.proofs.Maps.{put_into}
+use Rattle.serde_json.specs.Data.{Data}
+use Rattle.serde_json.specs.View.{view, members_view}
+use Rattle.serde_json.proofs.Views.{Entry}
+use Rattle.dura_value.specs.Names.{is_name}
+use Rattle.flow_syntax.specs.Syntax.{Named, put_in}
+use Rattle.flow_reader.specs.Answers.{Fails}
+use Rattle.flow_reader.specs.Classes.{have_names, named_after}
+use Rattle.flow_reader.specs.Faults.{Path, at, to_key}
+use Rattle.flow_reader.specs.declared.faults.PartError.{PartError}
+use Rattle.flow_reader.proofs.Parts.{ends_then}
+
+left_is : (a b : Bool) → a && b ≡ true → a ≡ true
+left_is true b h = refl
+left_is false b h = h
+
+right_is : (a b : Bool) → a && b ≡ true → b ≡ true
+right_is true b h = h
+right_is false b h = absurd (cc h)
+
+-- the first key is a name, and so are those behind it
+pub first_is_name : (es rest : List Entry) (e : Entry) → es ≡ e ∷ rest → have_names (members_view es) ≡ true → is_name (string_bytes e.0) ≡ true
+first_is_name es rest e is names = left_is (is_name (string_bytes e.0)) (have_names (members_view rest)) (ap (λ (l : List Entry). have_names (members_view l)) (sym is) ∙ names)
+
+pub rest_are_names : (es rest : List Entry) (e : Entry) → es ≡ e ∷ rest → have_names (members_view es) ≡ true → have_names (members_view rest) ≡ true
+rest_are_names es rest e is names = right_is (is_name (string_bytes e.0)) (have_names (members_view rest)) (ap (λ (l : List Entry). have_names (members_view l)) (sym is) ∙ names)
+
+-- a member was read
+pub goes_on : {X : Type 0} (read : Data → Result X Path) (whole : Result (List (Named X)) Path) (done : List (Named X)) (es rest : List Entry) (e : Entry) (it : X) → es ≡ e ∷ rest → named_after read done (members_view es) ≡ whole → at (to_key (string_bytes e.0)) (read (view e.1)) ≡ Ok it → named_after read (put_in done (string_bytes e.0) it) (members_view rest) ≡ whole
+goes_on read whole done es rest e it is before here =
+    let first : named_after read done (members_view (e ∷ rest)) ≡ whole = ap (λ (l : List Entry). named_after read done (members_view l)) (sym is) ∙ before in
+    rw here at first
+
+-- a member was read, and went into a map
+pub put : {X Y : Type 0} (read : Data → Result Y Path) (show : X → Y) (whole : Result (List (Named Y)) Path) (before new : List (List ℕ × X)) (es rest : List Entry) (e : Entry) (name : List ℕ) (it : X) → es ≡ e ∷ rest → name ≡ string_bytes e.0 → new ≡ insert_entry (slice_cmp nat_cmp) before name it → named_after read (named_by show before) (members_view es) ≡ whole → at (to_key name) (read (view e.1)) ≡ Ok (show it) → named_after read (named_by show new) (members_view rest) ≡ whole
+put read show whole before new es rest e name it is named inserted so_far here =
+    let behind : named_by show new ≡ put_in (named_by show before) name (show it) = put_into show before new name it inserted in
+    rw (behind, named) (goes_on read whole (named_by show before) es rest e (show it) is so_far (rw named at here))
+
+-- a member has a fault
+pub ends : {X : Type 0} (read : Data → Result X Path) (whole : Result (List (Named X)) Path) (done : List (Named X)) (es rest : List Entry) (e : Entry) (name : List ℕ) (error : PartError) → es ≡ e ∷ rest → name ≡ string_bytes e.0 → named_after read done (members_view es) ≡ whole → Fails error (at (to_key name) (read (view e.1))) → Fails error whole
+ends read whole done es rest e name error is named before fails =
+    let first : named_after read done (members_view (e ∷ rest)) ≡ whole = ap (λ (l : List Entry). named_after read done (members_view l)) (sym is) ∙ before in
+    rw (← first) (ends_then _ _ error (rw named at fails))

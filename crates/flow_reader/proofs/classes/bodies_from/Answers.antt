@@ -1,0 +1,28 @@
+-- One member more was read and went into the map.
+use Rattle.std.proofs.Common.{◌≡◌, [], Ok, string_bytes, rules}
+use Rattle.serde_json.specs.View.{view, members_view}
+use Rattle.serde_json.proofs.Views.{Entry}
+use Rattle.flow_syntax.specs.Views.{body_in}
+use Rattle.flow_reader.specs.Faults.{at, to_key}
+use Rattle.flow_reader.specs.Classes.{named_after}
+use Rattle.flow_reader.specs.Statements.{body_in as read_body}
+use Rattle.flow_reader.proofs.Members.{put, rest_are_names}
+use Rattle.flow_reader.proofs.classes.bodies_from.Goals as goal
+
+pub loop-key-preserved-in_ok-insert-in-Ok : goal.loop-key-preserved-in_ok-insert-in-Ok
+loop-key-preserved-in_ok-insert-in-Ok c =
+    let e : Entry = (c.in-Some.key.now, c.in-Some.value.now) in
+    let named : c.in_ok-name.name ≡ string_bytes e.0 = search rules in
+    let here : at (to_key c.in_ok-name.name) ((read_body c.args.inside) (view e.1)) ≡ Ok (body_in c.in-Ok.body) = search rules in (
+      put (read_body c.args.inside) body_in (named_after (read_body c.args.inside) [] (members_view c.args.members.now.entries)) c.loop-key.bodies.entries c.insert.new.self.entries c.loop-key.key-iterator c.next.new.self e c.in_ok-name.name c.in-Ok.body c.in-Some.ensures.steps named c.in_ok-insert-in-Ok.ensures.entries c.loop-key.invariant.0 here,
+      rest_are_names c.loop-key.key-iterator c.next.new.self e c.in-Some.ensures.steps c.loop-key.invariant.1,
+    )
+
+pub loop-key-preserved : goal.loop-key-preserved
+loop-key-preserved c =
+    let e : Entry = (c.in-Some.key.now, c.in-Some.value.now) in
+    let named : c.in_ok-name.name ≡ string_bytes e.0 = search rules in
+    let here : at (to_key c.in_ok-name.name) ((read_body c.args.inside) (view e.1)) ≡ Ok (body_in c.in-Ok.body) = search rules in (
+      put (read_body c.args.inside) body_in (named_after (read_body c.args.inside) [] (members_view c.args.members.now.entries)) c.loop-key.bodies.entries c.insert.new.self.entries c.loop-key.key-iterator c.next.new.self e c.in_ok-name.name c.in-Ok.body c.in-Some.ensures.steps named c.in_ok-insert-in-Ok.ensures.entries c.loop-key.invariant.0 here,
+      rest_are_names c.loop-key.key-iterator c.next.new.self e c.in-Some.ensures.steps c.loop-key.invariant.1,
+    )

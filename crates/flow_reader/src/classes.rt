@@ -1,0 +1,229 @@
+//! Bodies by names, and classes.
+
+ghost use Rattle.std.specs.Prelude.{◌≡◌, [], codes, true};
+ghost use Rattle.serde_json.specs.Data.{member, no_members, object};
+ghost use Rattle.serde_json.specs.View.{members_view, view};
+ghost use Rattle.flow_reader.specs.Answers.{Gives};
+ghost use Rattle.flow_reader.specs.Classes.{class_in, have_names, named_after, named_in};
+ghost use Rattle.flow_reader.specs.Faults.{at, to_key};
+ghost use Rattle.flow_reader.specs.Statements.{body_in};
+ghost use Rattle.flow_reader.specs.Values.{value_in};
+ghost use Rattle.flow_syntax.specs.Views.{block_of, bodies_of, class_of, named_by};
+
+use crate::bodies::body_in;
+use crate::faults::{PartError, Step, under};
+use crate::values::{misshapen, value_in};
+use dura_value::{Name, Value, is_name};
+use flow_syntax::{Class, Stmt};
+use serde_json::{Map, Value as Json};
+use std::alloc::Global;
+use std::collections::BTreeMap;
+
+/// Whether all keys are names.
+pub(crate) fn have_names(members: &Map<String, Json>) -> bool
+    ensures { result ≡ have_names (members_view members.now.entries) }
+{
+    for (key, _) in members.iter() {
+        if !is_name(key.as_str().as_bytes()) {
+            return false;
+        }
+    }
+    true
+}
+
+/// The body under a name.
+#[tactic(auto, using(crate::proofs::Parts::fails_under))]
+fn body_under(
+    alloc: Global,
+    inside: bool,
+    name: &Name,
+    value: &Json,
+) -> Result<Vec<Stmt>, PartError>
+    ensures { Gives (λ body. block_of body.items) result (at (to_key name.now) (body_in inside (view value.now))) }
+{
+    match body_in(alloc, inside, value) {
+        Ok(body) => Ok(body),
+        Err(error) => Err(under(error, Step::Name(name.clone()?))),
+    }
+}
+
+/// The bodies of an object whose keys are names.
+#[tactic(auto, using(crate::proofs::Members::put, crate::proofs::Members::ends, crate::proofs::Members::first_is_name, crate::proofs::Members::rest_are_names))]
+fn bodies_from(
+    alloc: Global,
+    inside: bool,
+    members: &Map<String, Json>,
+) -> Result<BTreeMap<Name, Vec<Stmt>>, PartError>
+    requires { have_names (members_view members.now.entries) ≡ true }
+    ensures { Gives bodies_of result (named_after (body_in inside) [] (members_view members.now.entries)) }
+{
+    let mut bodies = BTreeMap::new(alloc);
+    for (key, value) in members.iter() {
+        let name = Name::of(alloc, key.as_str().as_bytes())?;
+        match body_under(alloc, inside, &name, value) {
+            Ok(body) => bodies.insert(name, body)?,
+            Err(error) => return Err(error),
+        };
+    }
+    Ok(bodies)
+}
+
+fn bodies_of_members(
+    alloc: Global,
+    inside: bool,
+    members: &Map<String, Json>,
+) -> Result<BTreeMap<Name, Vec<Stmt>>, PartError>
+    ensures { Gives bodies_of result (named_in (body_in inside) (object (members_view members.now.entries))) }
+{
+    if have_names(members) {
+        bodies_from(alloc, inside, members)
+    } else {
+        Err(misshapen(alloc))
+    }
+}
+
+/// An object of bodies by names.
+pub(crate) fn bodies_in(
+    alloc: Global,
+    inside: bool,
+    value: &Json,
+) -> Result<BTreeMap<Name, Vec<Stmt>>, PartError>
+    ensures { Gives bodies_of result (named_in (body_in inside) (view value.now)) }
+{
+    match value {
+        Json::Object(members) => bodies_of_members(alloc, inside, members),
+        Json::Null => Err(misshapen(alloc)),
+        Json::Bool(_) => Err(misshapen(alloc)),
+        Json::Number(_) => Err(misshapen(alloc)),
+        Json::String(_) => Err(misshapen(alloc)),
+        Json::Array(_) => Err(misshapen(alloc)),
+    }
+}
+
+#[tactic(auto, using(crate::proofs::Parts::fails_under))]
+fn init_at(alloc: Global, value: &Json) -> Result<Value, PartError>
+    ensures { Gives (λ v. v) result (at (to_key (codes "init")) (value_in (view value.now))) }
+{
+    match value_in(alloc, value) {
+        Ok(init) => Ok(init),
+        Err(error) => Err(under(error, Step::Word("init"))),
+    }
+}
+
+#[tactic(auto, using(crate::proofs::Parts::fails_under))]
+fn operations_at(alloc: Global, value: &Json) -> Result<BTreeMap<Name, Vec<Stmt>>, PartError>
+    ensures { Gives bodies_of result (at (to_key (codes "ops")) (named_in (body_in true) (view value.now))) }
+{
+    match bodies_in(alloc, true, value) {
+        Ok(operations) => Ok(operations),
+        Err(error) => Err(under(error, Step::Word("ops"))),
+    }
+}
+
+/// A class of two members.
+#[tactic(auto, using(crate::proofs::Parts::ends_then))]
+fn class_of_two(
+    alloc: Global,
+    first: &str,
+    init: &Json,
+    second: &str,
+    operations: &Json,
+) -> Result<Class, PartError>
+    ensures { Gives class_of result (class_in (object (member first.now (view init.now) (member second.now (view operations.now) no_members)))) }
+{
+    if first == "init" && second == "ops" {
+        let init = init_at(alloc, init)?;
+        let operations = operations_at(alloc, operations)?;
+        Ok(Class { init, operations })
+    } else {
+        Err(misshapen(alloc))
+    }
+}
+
+fn class_of_members(alloc: Global, members: &Map<String, Json>) -> Result<Class, PartError>
+    ensures { Gives class_of result (class_in (object (members_view members.now.entries))) }
+{
+    let mut entries = members.iter();
+    match entries.next() {
+        Some((first, init)) => match entries.next() {
+            Some((second, operations)) => match entries.next() {
+                Some(_) => Err(misshapen(alloc)),
+                None => class_of_two(alloc, first.as_str(), init, second.as_str(), operations),
+            },
+            None => Err(misshapen(alloc)),
+        },
+        None => Err(misshapen(alloc)),
+    }
+}
+
+/// A class: its members are `init` and `ops`, no more and no less.
+fn class_in(alloc: Global, value: &Json) -> Result<Class, PartError>
+    ensures { Gives class_of result (class_in (view value.now)) }
+{
+    match value {
+        Json::Object(members) => class_of_members(alloc, members),
+        Json::Null => Err(misshapen(alloc)),
+        Json::Bool(_) => Err(misshapen(alloc)),
+        Json::Number(_) => Err(misshapen(alloc)),
+        Json::String(_) => Err(misshapen(alloc)),
+        Json::Array(_) => Err(misshapen(alloc)),
+    }
+}
+
+/// The class under a name.
+#[tactic(auto, using(crate::proofs::Parts::fails_under))]
+fn class_under(alloc: Global, name: &Name, value: &Json) -> Result<Class, PartError>
+    ensures { Gives class_of result (at (to_key name.now) (class_in (view value.now))) }
+{
+    match class_in(alloc, value) {
+        Ok(class) => Ok(class),
+        Err(error) => Err(under(error, Step::Name(name.clone()?))),
+    }
+}
+
+/// The classes of an object whose keys are names.
+#[tactic(auto, using(crate::proofs::Members::put, crate::proofs::Members::ends, crate::proofs::Members::first_is_name, crate::proofs::Members::rest_are_names))]
+fn classes_from(
+    alloc: Global,
+    members: &Map<String, Json>,
+) -> Result<BTreeMap<Name, Class>, PartError>
+    requires { have_names (members_view members.now.entries) ≡ true }
+    ensures { Gives (λ classes. named_by class_of classes.entries) result (named_after class_in [] (members_view members.now.entries)) }
+{
+    let mut classes = BTreeMap::new(alloc);
+    for (key, value) in members.iter() {
+        let name = Name::of(alloc, key.as_str().as_bytes())?;
+        match class_under(alloc, &name, value) {
+            Ok(class) => classes.insert(name, class)?,
+            Err(error) => return Err(error),
+        };
+    }
+    Ok(classes)
+}
+
+fn classes_of_members(
+    alloc: Global,
+    members: &Map<String, Json>,
+) -> Result<BTreeMap<Name, Class>, PartError>
+    ensures { Gives (λ classes. named_by class_of classes.entries) result (named_in class_in (object (members_view members.now.entries))) }
+{
+    if have_names(members) {
+        classes_from(alloc, members)
+    } else {
+        Err(misshapen(alloc))
+    }
+}
+
+/// An object of classes by names.
+pub(crate) fn classes_in(alloc: Global, value: &Json) -> Result<BTreeMap<Name, Class>, PartError>
+    ensures { Gives (λ classes. named_by class_of classes.entries) result (named_in class_in (view value.now)) }
+{
+    match value {
+        Json::Object(members) => classes_of_members(alloc, members),
+        Json::Null => Err(misshapen(alloc)),
+        Json::Bool(_) => Err(misshapen(alloc)),
+        Json::Number(_) => Err(misshapen(alloc)),
+        Json::String(_) => Err(misshapen(alloc)),
+        Json::Array(_) => Err(misshapen(alloc)),
+    }
+}

@@ -1,0 +1,105 @@
+//! The shape of a whole file.
+
+ghost use Rattle.std.specs.Prelude.{◌≡◌};
+ghost use Rattle.serde_json.specs.Data.{member, no_members, object};
+ghost use Rattle.serde_json.specs.View.{members_view, view};
+ghost use Rattle.flow_reader.specs.Answers.{Gives};
+ghost use Rattle.flow_reader.specs.Files.{bodies_in, classes_in, file_in};
+ghost use Rattle.flow_syntax.specs.Views.{bodies_of, class_of, flows_of, named_by};
+
+use crate::classes::{bodies_in, classes_in};
+use crate::faults::{PartError, Step, under};
+use crate::values::misshapen;
+use dura_value::Name;
+use flow_syntax::{Class, Flows, Stmt};
+use serde_json::{Map, Value as Json};
+use std::alloc::Global;
+use std::collections::BTreeMap;
+
+#[tactic(auto, using(crate::proofs::Parts::fails_under))]
+fn classes_at(alloc: Global, value: &Json) -> Result<BTreeMap<Name, Class>, PartError>
+    ensures { Gives (λ classes. named_by class_of classes.entries) result (classes_in (view value.now)) }
+{
+    match classes_in(alloc, value) {
+        Ok(classes) => Ok(classes),
+        Err(error) => Err(under(error, Step::Word("classes"))),
+    }
+}
+
+#[tactic(auto, using(crate::proofs::Parts::fails_under))]
+fn flows_at(alloc: Global, value: &Json) -> Result<BTreeMap<Name, Vec<Stmt>>, PartError>
+    ensures { Gives bodies_of result (bodies_in (view value.now)) }
+{
+    match bodies_in(alloc, false, value) {
+        Ok(flows) => Ok(flows),
+        Err(error) => Err(under(error, Step::Word("flows"))),
+    }
+}
+
+/// A file of one member.
+#[tactic(auto, using(crate::proofs::Parts::ends_then))]
+fn of_one(alloc: Global, key: &str, value: &Json) -> Result<Flows, PartError>
+    ensures { Gives flows_of result (file_in (object (member key.now (view value.now) no_members))) }
+{
+    if key == "classes" {
+        let classes = classes_at(alloc, value)?;
+        let flows = BTreeMap::new(alloc);
+        Ok(Flows { flows, classes })
+    } else if key == "flows" {
+        let flows = flows_at(alloc, value)?;
+        let classes = BTreeMap::new(alloc);
+        Ok(Flows { flows, classes })
+    } else {
+        Err(misshapen(alloc))
+    }
+}
+
+/// A file of two members.
+#[tactic(auto, using(crate::proofs::Parts::ends_then))]
+fn of_two(
+    alloc: Global,
+    first: &str,
+    classes: &Json,
+    second: &str,
+    flows: &Json,
+) -> Result<Flows, PartError>
+    ensures { Gives flows_of result (file_in (object (member first.now (view classes.now) (member second.now (view flows.now) no_members)))) }
+{
+    if first == "classes" && second == "flows" {
+        let classes = classes_at(alloc, classes)?;
+        let flows = flows_at(alloc, flows)?;
+        Ok(Flows { flows, classes })
+    } else {
+        Err(misshapen(alloc))
+    }
+}
+
+fn of_members(alloc: Global, members: &Map<String, Json>) -> Result<Flows, PartError>
+    ensures { Gives flows_of result (file_in (object (members_view members.now.entries))) }
+{
+    let mut entries = members.iter();
+    match entries.next() {
+        Some((first, classes)) => match entries.next() {
+            Some((second, flows)) => match entries.next() {
+                Some(_) => Err(misshapen(alloc)),
+                None => of_two(alloc, first.as_str(), classes, second.as_str(), flows),
+            },
+            None => of_one(alloc, first.as_str(), classes),
+        },
+        None => Ok(Flows::new(alloc)),
+    }
+}
+
+/// An object with no members but `classes` and `flows`.
+pub(crate) fn file_in(alloc: Global, value: &Json) -> Result<Flows, PartError>
+    ensures { Gives flows_of result (file_in (view value.now)) }
+{
+    match value {
+        Json::Object(members) => of_members(alloc, members),
+        Json::Null => Err(misshapen(alloc)),
+        Json::Bool(_) => Err(misshapen(alloc)),
+        Json::Number(_) => Err(misshapen(alloc)),
+        Json::String(_) => Err(misshapen(alloc)),
+        Json::Array(_) => Err(misshapen(alloc)),
+    }
+}

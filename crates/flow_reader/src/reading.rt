@@ -1,0 +1,68 @@
+//! The flows of a file, or why it is refused.
+
+ghost use Rattle.serde_json.specs.View.{view};
+ghost use Rattle.flow_reader.specs.Answers.{Reads};
+ghost use Rattle.flow_reader.specs.Files.{file_in, flows_in, shape_checked};
+
+use crate::faults::{PartError, Path};
+use crate::file::file_in;
+use crate::lookups::known_file;
+use flow_syntax::Flows;
+use serde_json::Value as Json;
+use std::alloc::Global;
+use thiserror::Error;
+
+/// Why a file of flows is refused.
+#[derive(Debug, Drop, Error)]
+pub enum FlowsError {
+    /// The bytes are no JSON.
+    #[error("no JSON")]
+    NotJson,
+    /// A value isn't of the shape wanted, the first that is looked at.
+    #[error("a value isn't of the shape wanted")]
+    BadShape {
+        /// The value.
+        path: Path,
+    },
+    /// Every shape is right, and a name stands for nothing, the first that is looked up.
+    #[error("a name stands for nothing")]
+    UnknownName {
+        /// The name.
+        path: Path,
+    },
+    /// Memory ran out.
+    #[error("out of memory")]
+    Memory,
+}
+
+/// The flows that JSON stands for: all shapes are looked at, and then all names.
+fn flows_of(alloc: Global, value: &Json) -> Result<Flows, FlowsError>
+    ensures { Reads result (shape_checked (file_in (view value.now))) }
+{
+    match file_in(alloc, value) {
+        Ok(file) => match known_file(alloc, &file) {
+            Ok(()) => Ok(file),
+            Err(PartError::Misshapen(path)) => Err(FlowsError::UnknownName { path }),
+            Err(PartError::Memory) => Err(FlowsError::Memory),
+        },
+        Err(PartError::Misshapen(path)) => Err(FlowsError::BadShape { path }),
+        Err(PartError::Memory) => Err(FlowsError::Memory),
+    }
+}
+
+/// The flows of a file.
+#[tactic(auto, using(crate::proofs::Bytes::some_data, crate::proofs::Bytes::no_data))]
+pub fn read_flows(alloc: Global, bytes: &[u8]) -> Result<Flows, FlowsError>
+    ensures { Reads result (flows_in bytes.now) }
+{
+    match Json::from_slice(alloc, bytes) {
+        Ok(value) => flows_of(alloc, &value),
+        Err(error) => {
+            if error.is_memory() {
+                Err(FlowsError::Memory)
+            } else {
+                Err(FlowsError::NotJson)
+            }
+        }
+    }
+}

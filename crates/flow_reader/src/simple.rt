@@ -1,0 +1,303 @@
+//! Statements with none in them.
+
+ghost use Rattle.std.specs.Prelude.{◌≡◌, option_map};
+ghost use Rattle.serde_json.specs.View.{items_view, view};
+ghost use Rattle.flow_reader.specs.Answers.{Gives};
+ghost use Rattle.flow_reader.specs.Expressions.{expression_in};
+ghost use Rattle.flow_reader.specs.Faults.{at, to_part};
+ghost use Rattle.flow_reader.specs.Statements.{activity_in, ask_in, event_in, five_parts, four_parts, one_part, only_value, signal_in, simple_in, sub_in, three_parts, two_parts, variable_and_value};
+ghost use Rattle.flow_reader.specs.Values.{name_in};
+ghost use Rattle.flow_reader.specs.declared.words.Word.TheVariants as words;
+ghost use Rattle.flow_syntax.specs.Views.{expression_of, statement_of};
+
+use crate::expressions::expression_in;
+use crate::faults::{PartError, Step, under};
+use crate::values::{misshapen, name_in};
+use crate::words::Word;
+use dura_value::Name;
+use flow_syntax::{Expr, Stmt};
+use serde_json::Value as Json;
+use std::alloc::Global;
+
+#[tactic(auto, using(crate::proofs::Counts::one_there, crate::proofs::Counts::one_not_there))]
+fn one_part(parts: &[Json]) -> Option<&Json>
+    ensures { option_map (λ p. view p.now) result ≡ one_part (items_view parts.now) }
+{
+    if parts.len() == 1 {
+        Some(&parts[0])
+    } else {
+        None
+    }
+}
+
+#[tactic(auto, using(crate::proofs::Counts::two_there, crate::proofs::Counts::two_not_there))]
+pub(crate) fn two_parts(parts: &[Json]) -> Option<(&Json, &Json)>
+    ensures { option_map (λ p. (view p.0.now, view p.1.now)) result ≡ two_parts (items_view parts.now) }
+{
+    if parts.len() == 2 {
+        Some((&parts[0], &parts[1]))
+    } else {
+        None
+    }
+}
+
+#[tactic(auto, using(crate::proofs::Counts::three_there, crate::proofs::Counts::three_not_there))]
+fn three_parts(parts: &[Json]) -> Option<(&Json, &Json, &Json)>
+    ensures { option_map (λ p. (view p.0.now, view p.1.now, view p.2.now)) result ≡ three_parts (items_view parts.now) }
+{
+    if parts.len() == 3 {
+        Some((&parts[0], &parts[1], &parts[2]))
+    } else {
+        None
+    }
+}
+
+#[tactic(auto, using(crate::proofs::Counts::four_there, crate::proofs::Counts::four_not_there))]
+fn four_parts(parts: &[Json]) -> Option<(&Json, &Json, &Json, &Json)>
+    ensures { option_map (λ p. (view p.0.now, view p.1.now, view p.2.now, view p.3.now)) result ≡ four_parts (items_view parts.now) }
+{
+    if parts.len() == 4 {
+        Some((&parts[0], &parts[1], &parts[2], &parts[3]))
+    } else {
+        None
+    }
+}
+
+#[tactic(auto, using(crate::proofs::Counts::five_there, crate::proofs::Counts::five_not_there))]
+fn five_parts(parts: &[Json]) -> Option<(&Json, &Json, &Json, &Json, &Json)>
+    ensures { option_map (λ p. (view p.0.now, view p.1.now, view p.2.now, view p.3.now, view p.4.now)) result ≡ five_parts (items_view parts.now) }
+{
+    if parts.len() == 5 {
+        Some((&parts[0], &parts[1], &parts[2], &parts[3], &parts[4]))
+    } else {
+        None
+    }
+}
+
+/// The name at a place of a statement.
+#[tactic(auto, using(crate::proofs::Parts::fails_under))]
+pub(crate) fn name_at(alloc: Global, value: &Json, index: usize) -> Result<Name, PartError>
+    ensures { Gives (λ name. name) result (at (to_part index) (name_in (view value.now))) }
+{
+    match name_in(alloc, value) {
+        Ok(name) => Ok(name),
+        Err(error) => Err(under(error, Step::Part(index))),
+    }
+}
+
+/// The expression at a place of a statement.
+#[tactic(auto, using(crate::proofs::Parts::fails_under))]
+pub(crate) fn expression_at(alloc: Global, value: &Json, index: usize) -> Result<Expr, PartError>
+    ensures { Gives expression_of result (at (to_part index) (expression_in (view value.now))) }
+{
+    match expression_in(alloc, value) {
+        Ok(expression) => Ok(expression),
+        Err(error) => Err(under(error, Step::Part(index))),
+    }
+}
+
+/// The only part, an expression.
+#[tactic(auto, using(crate::proofs::Parts::ends_then))]
+fn only_value(alloc: Global, parts: &[Json]) -> Result<Expr, PartError>
+    ensures { Gives expression_of result (only_value (items_view parts.now)) }
+{
+    match one_part(parts) {
+        Some(value) => {
+            let value = expression_at(alloc, value, 1)?;
+            Ok(value)
+        }
+        None => Err(misshapen(alloc)),
+    }
+}
+
+/// A variable and an expression.
+#[tactic(auto, using(crate::proofs::Parts::ends_then))]
+fn variable_and_value(alloc: Global, parts: &[Json]) -> Result<(Name, Expr), PartError>
+    ensures { Gives (λ p. (p.0, expression_of p.1)) result (variable_and_value (items_view parts.now)) }
+{
+    match two_parts(parts) {
+        Some((variable, value)) => {
+            let variable = name_at(alloc, variable, 1)?;
+            let value = expression_at(alloc, value, 2)?;
+            Ok((variable, value))
+        }
+        None => Err(misshapen(alloc)),
+    }
+}
+
+/// A variable, an activity and its argument.
+#[tactic(auto, using(crate::proofs::Parts::ends_then))]
+fn activity_in(alloc: Global, parts: &[Json]) -> Result<(Name, Name, Expr), PartError>
+    ensures { Gives (λ p. (p.0, p.1, expression_of p.2)) result (activity_in (items_view parts.now)) }
+{
+    match three_parts(parts) {
+        Some((variable, activity, argument)) => {
+            let variable = name_at(alloc, variable, 1)?;
+            let activity = name_at(alloc, activity, 2)?;
+            let argument = expression_at(alloc, argument, 3)?;
+            Ok((variable, activity, argument))
+        }
+        None => Err(misshapen(alloc)),
+    }
+}
+
+/// The next event of a name.
+#[tactic(auto, using(crate::proofs::Parts::ends_then))]
+fn event_in(alloc: Global, parts: &[Json]) -> Result<Stmt, PartError>
+    ensures { Gives statement_of result (event_in (items_view parts.now)) }
+{
+    match two_parts(parts) {
+        Some((variable, name)) => {
+            let variable = name_at(alloc, variable, 1)?;
+            let name = name_at(alloc, name, 2)?;
+            Ok(Stmt::Event(variable, name))
+        }
+        None => Err(misshapen(alloc)),
+    }
+}
+
+/// The start of an instance.
+#[tactic(auto, using(crate::proofs::Parts::ends_then))]
+fn sub_in(alloc: Global, parts: &[Json]) -> Result<Stmt, PartError>
+    ensures { Gives statement_of result (sub_in (items_view parts.now)) }
+{
+    match four_parts(parts) {
+        Some((variable, flow, key, argument)) => {
+            let variable = name_at(alloc, variable, 1)?;
+            let flow = name_at(alloc, flow, 2)?;
+            let key = expression_at(alloc, key, 3)?;
+            let argument = expression_at(alloc, argument, 4)?;
+            Ok(Stmt::Sub(variable, flow, key, argument))
+        }
+        None => Err(misshapen(alloc)),
+    }
+}
+
+/// A question to an entity.
+#[tactic(auto, using(crate::proofs::Parts::ends_then))]
+fn ask_in(alloc: Global, parts: &[Json]) -> Result<Stmt, PartError>
+    ensures { Gives statement_of result (ask_in (items_view parts.now)) }
+{
+    match five_parts(parts) {
+        Some((variable, class, key, operation, argument)) => {
+            let variable = name_at(alloc, variable, 1)?;
+            let class = name_at(alloc, class, 2)?;
+            let key = expression_at(alloc, key, 3)?;
+            let operation = name_at(alloc, operation, 4)?;
+            let argument = expression_at(alloc, argument, 5)?;
+            Ok(Stmt::Ask(variable, class, key, operation, argument))
+        }
+        None => Err(misshapen(alloc)),
+    }
+}
+
+/// An operation that nobody waits for.
+#[tactic(auto, using(crate::proofs::Parts::ends_then))]
+fn signal_in(alloc: Global, parts: &[Json]) -> Result<Stmt, PartError>
+    ensures { Gives statement_of result (signal_in (items_view parts.now)) }
+{
+    match four_parts(parts) {
+        Some((class, key, operation, argument)) => {
+            let class = name_at(alloc, class, 1)?;
+            let key = expression_at(alloc, key, 2)?;
+            let operation = name_at(alloc, operation, 3)?;
+            let argument = expression_at(alloc, argument, 4)?;
+            Ok(Stmt::Signal(class, key, operation, argument))
+        }
+        None => Err(misshapen(alloc)),
+    }
+}
+
+#[tactic(auto, using(crate::proofs::Parts::ends_then))]
+fn let_in(alloc: Global, parts: &[Json]) -> Result<Stmt, PartError>
+    ensures { Gives statement_of result (simple_in words.Let (items_view parts.now)) }
+{
+    let (variable, value) = variable_and_value(alloc, parts)?;
+    Ok(Stmt::Let(variable, value))
+}
+
+#[tactic(auto, using(crate::proofs::Parts::ends_then))]
+fn spawn_in(alloc: Global, parts: &[Json]) -> Result<Stmt, PartError>
+    ensures { Gives statement_of result (simple_in words.Spawn (items_view parts.now)) }
+{
+    let (variable, activity, argument) = activity_in(alloc, parts)?;
+    Ok(Stmt::Spawn(variable, activity, argument))
+}
+
+#[tactic(auto, using(crate::proofs::Parts::ends_then))]
+fn call_in(alloc: Global, parts: &[Json]) -> Result<Stmt, PartError>
+    ensures { Gives statement_of result (simple_in words.Call (items_view parts.now)) }
+{
+    let (variable, activity, argument) = activity_in(alloc, parts)?;
+    Ok(Stmt::Call(variable, activity, argument))
+}
+
+#[tactic(auto, using(crate::proofs::Parts::ends_then))]
+fn timer_in(alloc: Global, parts: &[Json]) -> Result<Stmt, PartError>
+    ensures { Gives statement_of result (simple_in words.Timer (items_view parts.now)) }
+{
+    let (variable, delay) = variable_and_value(alloc, parts)?;
+    Ok(Stmt::Timer(variable, delay))
+}
+
+#[tactic(auto, using(crate::proofs::Parts::ends_then))]
+fn await_in(alloc: Global, parts: &[Json]) -> Result<Stmt, PartError>
+    ensures { Gives statement_of result (simple_in words.Await (items_view parts.now)) }
+{
+    let (variable, handle) = variable_and_value(alloc, parts)?;
+    Ok(Stmt::Await(variable, handle))
+}
+
+#[tactic(auto, using(crate::proofs::Parts::ends_then))]
+fn all_in(alloc: Global, parts: &[Json]) -> Result<Stmt, PartError>
+    ensures { Gives statement_of result (simple_in words.All (items_view parts.now)) }
+{
+    let (variable, handles) = variable_and_value(alloc, parts)?;
+    Ok(Stmt::All(variable, handles))
+}
+
+#[tactic(auto, using(crate::proofs::Parts::ends_then))]
+fn any_in(alloc: Global, parts: &[Json]) -> Result<Stmt, PartError>
+    ensures { Gives statement_of result (simple_in words.Any (items_view parts.now)) }
+{
+    let (variable, handles) = variable_and_value(alloc, parts)?;
+    Ok(Stmt::Any(variable, handles))
+}
+
+#[tactic(auto, using(crate::proofs::Parts::ends_then))]
+fn return_in(alloc: Global, parts: &[Json]) -> Result<Stmt, PartError>
+    ensures { Gives statement_of result (simple_in words.Return (items_view parts.now)) }
+{
+    let value = only_value(alloc, parts)?;
+    Ok(Stmt::Return(value))
+}
+
+#[tactic(auto, using(crate::proofs::Parts::ends_then))]
+fn fail_in(alloc: Global, parts: &[Json]) -> Result<Stmt, PartError>
+    ensures { Gives statement_of result (simple_in words.Fail (items_view parts.now)) }
+{
+    let text = only_value(alloc, parts)?;
+    Ok(Stmt::Fail(text))
+}
+
+/// A statement with none in it, of a word and the parts behind it.
+pub(crate) fn simple_in(alloc: Global, word: Word, parts: &[Json]) -> Result<Stmt, PartError>
+    ensures { Gives statement_of result (simple_in word (items_view parts.now)) }
+{
+    match word {
+        Word::Let => let_in(alloc, parts),
+        Word::Spawn => spawn_in(alloc, parts),
+        Word::Call => call_in(alloc, parts),
+        Word::Sub => sub_in(alloc, parts),
+        Word::Ask => ask_in(alloc, parts),
+        Word::Timer => timer_in(alloc, parts),
+        Word::Event => event_in(alloc, parts),
+        Word::Await => await_in(alloc, parts),
+        Word::All => all_in(alloc, parts),
+        Word::Any => any_in(alloc, parts),
+        Word::Signal => signal_in(alloc, parts),
+        Word::Return => return_in(alloc, parts),
+        Word::Fail => fail_in(alloc, parts),
+        Word::Lock | Word::If | Word::While | Word::Try => Err(misshapen(alloc)),
+    }
+}
