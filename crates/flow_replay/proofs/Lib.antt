@@ -4,4 +4,5 @@ pub mod Counts
 pub mod Leading
 pub mod NoneKept
 pub mod Releases
+pub mod Taken
 pub mod Thrown

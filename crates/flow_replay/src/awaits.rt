@@ -85,7 +85,7 @@ impl<'f> Machine<'f> {
     }
 
     /// Waits for this task's result, and says whether it was there.
-    fn await_task(
+    pub(crate) fn await_task(
         &mut self,
         made: &mut Made,
         variable: &Name,

@@ -14,6 +14,7 @@ mod calls;
 mod ends;
 mod events;
 mod faults;
+mod going;
 mod locks;
 mod machine;
 mod made;
