@@ -4,5 +4,6 @@ pub mod Counts
 pub mod Leading
 pub mod NoneKept
 pub mod Releases
+pub mod Steps
 pub mod Taken
 pub mod Thrown

@@ -1,19 +1,20 @@
 -- What is taken out of what is to run.
-use Rattle.std.proofs.Common.{◌≡◌, ◌<◌, ◌∙◌, ◌++◌, ◌-◌, ℕ, zero, suc, List, [], ◌∷◌, length, take, drop, map, Some, Bool, true, false, refl, ap, sym, subst, append_assoc, arith}
+use Rattle.std.proofs.Common.{◌≡◌, ◌<◌, ◌∙◌, ◌++◌, ◌-◌, ℕ, zero, suc, List, [], ◌∷◌, length, take, drop, map, codes, Some, Result, Ok, Err, IfOk, Bool, true, false, refl, ap, sym, subst, append_assoc, arith}
 use Rattle.std.proofs.lemmas.List.{append-nil}
 use Rattle.dura_value.specs.Views.{messages_of}
 use Rattle.std.specs.List.{slice_get}
 use Rattle.std.specs.Borrow.{Bor}
 use Rattle.flow_syntax.specs.declared.syntax.Stmt.{Stmt}
+use Rattle.flow_syntax.specs.Syntax.{Statement}
 use Rattle.flow_syntax.specs.Views.{block_of}
-use Rattle.flow_syntax.specs.Machine.{Machine, Todo, Next, run, wait_lock, unlock, end_try, todo, running_step}
+use Rattle.flow_syntax.specs.Machine.{Machine, Todo, Next, stays, goes, only, ended, failed, run, wait_lock, unlock, end_try, todo, running_step}
 use Rattle.flow_replay.specs.declared.machine.Todo.{Todo as OwnTodo}
 use Rattle.flow_replay.specs.declared.machine.Todo.TheVariants as own
 use Rattle.flow_replay.specs.declared.machine.Machine.{Machine as OwnMachine}
 use Rattle.flow_replay.specs.declared.made.Made.{Made}
 use Rattle.flow_replay.specs.Views.{machine_of, todos_of, asked_of}
 use Rattle.flow_replay.specs.Steps.{with_rest, Moves, Waits}
-use Rattle.flow_replay.specs.Moving.{Taken, todo_step}
+use Rattle.flow_replay.specs.Moving.{Taken, todo_step, stopped, IsGoing, Blocks}
 
 -- what is no body is one thing
 pub single : (one : OwnTodo) → ((body : Bor (List Stmt)) → one ≡ own.Body body → ⊥) → length (todos_of one) ≡ 1
@@ -61,7 +62,7 @@ went_on true was now m before old one is taken waits = subst (λ (next : Next). 
 went_on false was now m before old one is taken waits = absurd (cc is)
 
 -- what is put back makes the machine what it was
-put_back : (m before old : Machine) (one : OwnTodo) → Taken before old one → m ≡ with_rest old (todos_of one ++ old.rest) → m ≡ before
+pub put_back : (m before old : Machine) (one : OwnTodo) → Taken before old one → m ≡ with_rest old (todos_of one ++ old.rest) → m ≡ before
 put_back m before old one taken is = is ∙ ap (with_rest old) (sym taken.rest) ∙ ap (λ (o : Machine). with_rest o before.rest) taken.other
 
 pub blocked : (went : Bool) (was now : Made) (m after : OwnMachine) (before old : Machine) (one : OwnTodo) → went ≡ false → Taken before old one → Waits went was now m old (λ w. todo_step w old (todos_of one))
@@ -74,3 +75,21 @@ blocked false was now m after before old one is taken waits back =
         sent = ap (λ (d : Made). messages_of d.messages.items) waits.1 ∙ sym (append-nil (messages_of was.messages.items));
         asked = ap (λ (d : Made). map asked_of d.asked.items) waits.1 ∙ sym (append-nil (map asked_of was.asked.items));
     })
+
+-- what holds whatever variable is set holds of one statement
+pub of_variable : {E : Type 0} (given : Result Bool E) (P : Statement → Bool → Type 0) (f : List ℕ → Statement) (x : List ℕ) (s : Statement) → s ≡ f x → IfOk given (λ b. (v : List ℕ) → P (f v) b) → IfOk given (P s)
+of_variable (Ok b) P f x s is all = subst (λ (t : Statement). P t b) (sym is) (all x)
+of_variable (Err e) P f x s is all = tt
+
+-- a machine that has taken all its steps, and what comes next
+short : (m : Machine) (next : Next) → IsGoing next → stopped m next ≡ ended m (failed (codes "budget"))
+short m (goes r) going = refl
+short m (stays r) going = absurd going
+
+pub stops_there : (blocks : Bool) (before old : Machine) (one : OwnTodo) → blocks ≡ true → Taken before old one → Blocks blocks (λ w. todo_step w old (todos_of one)) → stopped before (running_step before before.rest) ≡ only before
+stops_there true before old one is taken blocks = ap (stopped before) (step_is before old one taken ∙ blocks before)
+stops_there false before old one is taken blocks = absurd (cc is)
+
+pub stops_short : (blocks : Bool) (before old : Machine) (one : OwnTodo) → blocks ≡ false → Taken before old one → Blocks blocks (λ w. todo_step w old (todos_of one)) → stopped before (running_step before before.rest) ≡ ended before (failed (codes "budget"))
+stops_short false before old one is taken blocks = ap (stopped before) (step_is before old one taken) ∙ short before (todo_step before old (todos_of one)) (blocks before)
+stops_short true before old one is taken blocks = absurd (cc is)

@@ -1,7 +1,8 @@
 -- Step after step.
-use Rattle.std.specs.Prelude.{◌≡◌, ℕ, List, [], ◌∷◌, ◌++◌, length, Bool, true, false, Option, Some, None}
+use Rattle.std.specs.Prelude.{◌≡◌, ℕ, List, [], ◌∷◌, ◌++◌, length, codes, Bool, true, false, Option, Some, None}
 use Rattle.flow_syntax.specs.declared.syntax.Stmt.{Stmt}
 use Rattle.flow_syntax.specs.Views.{block_of}
+use Rattle.flow_syntax.specs.Syntax.{Expression, await, await_all, await_any}
 use Rattle.flow_syntax.specs.Machine as plain
 use Rattle.flow_replay.specs.declared.machine.Todo.{Todo}
 use Rattle.flow_replay.specs.Views.{todos_of}
@@ -49,3 +50,18 @@ IsGoing (plain.stays r) = ⊥
 abbrev pub Blocks : Bool → (plain.Machine → plain.Next) → Type 0
 Blocks true next = (was : plain.Machine) → next was ≡ plain.stays (plain.only was)
 Blocks false next = (was : plain.Machine) → IsGoing (next was)
+
+-- whether these wait, whatever variable they set
+abbrev pub AwaitBlocks : Bool → plain.Machine → Expression → Type 0
+AwaitBlocks blocks m handle = (variable : List ℕ) → Blocks blocks (λ was. plain.statement_step was m (await variable handle))
+
+abbrev pub AllBlocks : Bool → plain.Machine → Expression → Type 0
+AllBlocks blocks m handles = (variable : List ℕ) → Blocks blocks (λ was. plain.statement_step was m (await_all variable handles))
+
+abbrev pub AnyBlocks : Bool → plain.Machine → Expression → Type 0
+AnyBlocks blocks m handles = (variable : List ℕ) → Blocks blocks (λ was. plain.statement_step was m (await_any variable handles))
+
+-- A machine that has taken all its steps stays where it would stay anyway, and else ends as failed.
+abbrev pub stopped : plain.Machine → plain.Next → plain.Resumed
+stopped m (plain.stays r) = r
+stopped m (plain.goes r) = plain.ended m (plain.failed (codes "budget"))

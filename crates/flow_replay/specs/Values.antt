@@ -5,7 +5,7 @@ use Rattle.std.specs.declared.alloc.Global.{Global}
 use Rattle.dura_value.specs.declared.data.Value.{Value}
 use Rattle.dura_value.specs.Messages.{Spot}
 use Rattle.flow_syntax.specs.Syntax.{Expression, Locked}
-use Rattle.flow_syntax.specs.Machine.{Task, to_handles, spot_of}
+use Rattle.flow_syntax.specs.Machine.{Task, to_handle, to_handles, spot_of}
 use Rattle.flow_syntax.specs.Eval.{◌>>=◌, Variables, eval, to_truth, to_text, to_key, to_integer, to_scalars, list_of}
 
 -- a truth value that an expression gives
@@ -32,6 +32,10 @@ list_given given = to_scalars given >>= list_of
 abbrev pub Collects : Result (List Value) (List ℕ) → Result (Vec Value Global) (List ℕ) → Type 0
 Collects wanted (Ok values) = wanted ≡ Ok values.items
 Collects wanted (Err text) = wanted ≡ Err text
+
+-- a task by its number
+abbrev pub handle_in : Variables → List Task → Expression → Result ℕ (List ℕ)
+handle_in variables tasks handle = eval variables handle >>= to_handle tasks
 
 -- tasks by their numbers
 abbrev pub handles_in : Variables → List Task → Expression → Result (List ℕ) (List ℕ)

@@ -4,9 +4,9 @@ ghost use Rattle.std.specs.Prelude.{◌≡◌, ◌∷◌, [], pos, length, ◌<�
 ghost use Rattle.dura_value.specs.declared.data.Scalar.TheVariants.{Int};
 ghost use Rattle.flow_syntax.specs.Syntax.{await, scalar};
 ghost use Rattle.flow_syntax.specs.Views.{statement_of};
-ghost use Rattle.flow_syntax.specs.Machine.{statement_step, running_step, next_of};
+ghost use Rattle.flow_syntax.specs.Machine.{statement_step, running_step, next_of, go, most_steps};
 ghost use Rattle.flow_replay.specs.Views.{machine_of, todos_of};
-ghost use Rattle.flow_replay.specs.Steps.{Moves, Waits};
+ghost use Rattle.flow_replay.specs.Steps.{Makes, Moves, Waits};
 ghost use Rattle.flow_replay.specs.Moving.{Pops, Splits, Takes, todo_step};
 
 use crate::machine::{Machine, Progress, Todo};
@@ -40,7 +40,7 @@ impl<'f> Machine<'f> {
     }
 
     /// Takes out what is next to run. Of a body it is the first statement by itself.
-    fn take_next(&mut self) -> Result<Option<Todo<'f>>, AllocError>
+    pub(crate) fn take_next(&mut self) -> Result<Option<Todo<'f>>, AllocError>
         ensures { IfOk result (λ next. Takes (machine_of self.old) (machine_of self.new) next) }
     {
         while let Some(todo) = self.pop() {
@@ -161,4 +161,21 @@ impl<'f> Machine<'f> {
             _ => Ok(false),
         }
     }
+
+    /// Steps until it blocks or ends. One that would take more than it may ends as failed.
+    pub(crate) fn go(&mut self, alloc: Global, made: &mut Made) -> Result<(), AllocError>
+        ensures { OnOk result (Makes made.old made.new self.new (go most_steps (machine_of self.old))) }
+    {
+        for _ in 0..MOST_STEPS {
+            let went = self.step(alloc, made)?;
+            if !went {
+                return Ok(());
+            }
+        }
+        self.stop(alloc, made)?;
+        Ok(())
+    }
 }
+
+/// The most steps from one event to the next.
+const MOST_STEPS: u32 = 10_000;

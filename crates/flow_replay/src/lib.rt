@@ -10,6 +10,7 @@
 #![tactic(auto)]
 
 mod awaits;
+mod blocked;
 mod calls;
 mod ends;
 mod events;

@@ -5,7 +5,7 @@ ghost use Rattle.flow_syntax.specs.Views.{expression_of};
 ghost use Rattle.flow_syntax.specs.Syntax.{await_all, await_any};
 ghost use Rattle.flow_syntax.specs.Machine.{statement_step, waits_for, awaited_all, awaited_any, all_arrived, first_arrived, all_values};
 ghost use Rattle.flow_eval.specs.Gives.{Gives};
-ghost use Rattle.flow_replay.specs.Values.{list_given, Collects, handles_in};
+ghost use Rattle.flow_replay.specs.Values.{list_given, Collects, handle_in, handles_in};
 ghost use Rattle.flow_replay.specs.Awaits.{NamesTasks, ThrowsAwait};
 ghost use Rattle.flow_replay.specs.Views.{machine_of};
 ghost use Rattle.flow_replay.specs.Steps.{Makes, Goes, Waits};
@@ -148,8 +148,22 @@ impl<'f> Machine<'f> {
         }
     }
 
+    /// The task that an expression names.
+    pub(crate) fn handle_in(&self, alloc: Global, handle: &Expr) -> Result<usize, AwaitError>
+        ensures { NamesTasks (λ n. n) result (handle_in (machine_of self.now).variables (machine_of self.now).tasks (expression_of handle.now)) }
+    {
+        let value = match self.value(alloc, handle) {
+            Ok(value) => value,
+            Err(error) => return Err(AwaitError::Eval(error)),
+        };
+        match self.tasks.handle(&value) {
+            Ok(number) => Ok(number),
+            Err(fault) => Err(AwaitError::Handle(fault)),
+        }
+    }
+
     /// The tasks that an expression names.
-    fn handles_in(&self, alloc: Global, handles: &Expr) -> Result<Vec<usize>, AwaitError>
+    pub(crate) fn handles_in(&self, alloc: Global, handles: &Expr) -> Result<Vec<usize>, AwaitError>
         ensures { NamesTasks (λ ns. ns.items) result (handles_in (machine_of self.now).variables (machine_of self.now).tasks (expression_of handles.now)) }
     {
         let value = match self.value(alloc, handles) {
