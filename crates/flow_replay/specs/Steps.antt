@@ -18,6 +18,12 @@ pub record Makes (was now : Made) (m : Machine) (r : plain.Resumed) : Type 0 whe
   pub sent : messages_of now.messages.items ≡ messages_of was.messages.items ++ r.sent
   pub asked : map asked_of now.asked.items ≡ map asked_of was.asked.items ++ r.asked
 
+-- A machine has become the one of this result, and this is all that it made.
+pub record Resumes (made : Made) (m : Machine) (r : plain.Resumed) : Type 0 where
+  pub machine : machine_of m ≡ r.machine
+  pub sent : messages_of made.messages.items ≡ r.sent
+  pub asked : map asked_of made.asked.items ≡ r.asked
+
 -- It went on to the next step, or stayed.
 abbrev pub Moves : Bool → Made → Made → Machine → plain.Next → Type 0
 Moves true was now m (plain.goes r) = Makes was now m r

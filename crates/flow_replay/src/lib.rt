@@ -19,6 +19,7 @@ mod going;
 mod locks;
 mod machine;
 mod made;
+mod resume;
 mod several;
 mod statements;
 mod timers;

@@ -20,7 +20,7 @@ use flow_tasks::{Kind, Section, set_of};
 use std::alloc::{AllocError, Global};
 
 /// A copy of a set.
-fn spots_copy(spots: &Spots) -> Result<Spots, AllocError>
+pub(crate) fn spots_copy(spots: &Spots) -> Result<Spots, AllocError>
     ensures { IfOk result (λ copy. copy ≡ spots.now) }
 {
     spots.clone()
