@@ -1,7 +1,9 @@
 -- What a step of a machine changes, and what it makes.
-use Rattle.std.specs.Prelude.{◌≡◌, List, ◌++◌, map, codes, Bool, true, false, Option, Some, None}
+use Rattle.std.specs.Prelude.{◌≡◌, List, [], ◌∷◌, ◌++◌, map, codes, Bool, true, false, Option, Some, None}
 use Rattle.dura_value.specs.Messages.{Answer, is_done, has_failed}
 use Rattle.dura_value.specs.Views.{messages_of}
+use Rattle.dura_value.specs.declared.data.Value.{Value}
+use Rattle.flow_syntax.specs.Syntax.{Block}
 use Rattle.flow_syntax.specs.Machine as plain
 use Rattle.flow_eval.specs.declared.fault.EvalError.{EvalError}
 use Rattle.flow_eval.specs.declared.fault.EvalError.TheVariants.{Thrown, Memory}
@@ -70,3 +72,7 @@ with_events m kept = record m { kept = kept }
 abbrev pub Waits : Bool → Made → Made → Machine → plain.Machine → (plain.Machine → plain.Next) → Type 0
 Waits true before now m old next = (was : plain.Machine) → Moves true before now m (next was)
 Waits false before now m old next = (machine_of m ≡ old) × (now ≡ before) × ((was : plain.Machine) → next was ≡ plain.stays (plain.only was))
+
+-- a machine that has its argument, and the statements of its flow before it
+abbrev pub begun : plain.Machine → Value → Block → plain.Machine
+begun m argument body = record m { variables = (codes "arg", argument) ∷ []; rest = plain.todo body; progress = plain.running }

@@ -137,3 +137,14 @@ pub(crate) fn value_of(value: &Value) -> Result<Value, AllocError>
 {
     value.clone()
 }
+
+/// A copy of a reply.
+pub(crate) fn reply_of(reply: &Reply) -> Reply
+    ensures { result ≡ reply.now }
+{
+    match reply {
+        Reply::None => Reply::None,
+        Reply::Task(number) => Reply::Task(*number),
+        Reply::Request(number) => Reply::Request(*number),
+    }
+}

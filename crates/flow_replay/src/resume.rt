@@ -4,14 +4,16 @@ ghost use Rattle.std.specs.Prelude.{◌≡◌, OnOk, IfOk};
 ghost use Rattle.dura_value.specs.Views.{answer_of};
 ghost use Rattle.flow_syntax.specs.Machine.{with_answer, outcome_of, heard, oldest_listener, granted_in, recorded, granted_late, goes_on, begins, resumed_by, resume};
 ghost use Rattle.flow_replay.specs.Views.{machine_of, event_of};
-ghost use Rattle.flow_replay.specs.Steps.{Makes, Resumes};
+ghost use Rattle.flow_replay.specs.Steps.{Makes, Resumes, begun};
+ghost use Rattle.flow_syntax.specs.Views.{block_of};
 
 use crate::events::Event;
 use crate::locks::spots_copy;
-use crate::machine::{Machine, Progress, Todo};
+use crate::machine::{Machine, Progress, Todo, copy_of, name_of, reply_of, text_of, value_of};
 use crate::made::Made;
-use dura_value::{Answer, Id, Name, Outcome, Reply, Value};
+use dura_value::{Answer, Name, Outcome, Value};
 use flow_eval::Variables;
+use flow_syntax::Stmt;
 use flow_tasks::Section;
 use std::alloc::{AllocError, Global};
 
@@ -20,23 +22,23 @@ const MOST_EVENTS: u32 = 10_000;
 
 impl<'f> Machine<'f> {
     /// The result of a task arrives, where the answer is one.
-    fn answer(&mut self, task: u32, answer: Answer) -> Result<(), AllocError>
-        ensures { OnOk result (machine_of self.new ≡ with_answer (machine_of self.old) task (outcome_of (answer_of answer))) }
+    fn answer(&mut self, task: u32, answer: &Answer) -> Result<(), AllocError>
+        ensures { OnOk result (machine_of self.new ≡ with_answer (machine_of self.old) task (outcome_of (answer_of answer.now))) }
     {
         match answer {
-            Answer::Done(value) => self.arrive(task as usize, Outcome::Done(value)),
-            Answer::Failed(text) => self.arrive(task as usize, Outcome::Failed(text)),
+            Answer::Done(value) => self.arrive(task as usize, Outcome::Done(value_of(value)?)),
+            Answer::Failed(text) => self.arrive(task as usize, Outcome::Failed(text_of(text)?)),
             _ => Ok(()),
         }
     }
 
     /// An event reaches the oldest handle of its name that waits, or is kept.
-    fn hear(&mut self, name: Name, value: Value) -> Result<(), AllocError>
-        ensures { OnOk result (machine_of self.new ≡ heard (machine_of self.old) name value (oldest_listener name (machine_of self.old).tasks)) }
+    fn hear(&mut self, name: &Name, value: &Value) -> Result<(), AllocError>
+        ensures { OnOk result (machine_of self.new ≡ heard (machine_of self.old) name.now value.now (oldest_listener name.now (machine_of self.old).tasks)) }
     {
-        match self.tasks.oldest_listener(&name) {
-            Some(number) => self.arrive(number, Outcome::Done(value)),
-            None => self.kept.push(name, value),
+        match self.tasks.oldest_listener(name) {
+            Some(number) => self.arrive(number, Outcome::Done(value_of(value)?)),
+            None => self.kept.push(name_of(name)?, value_of(value)?),
         }
     }
 
@@ -54,15 +56,15 @@ impl<'f> Machine<'f> {
     }
 
     /// What an event changes in a machine that runs.
-    fn record(&mut self, event: Event) -> Result<(), AllocError>
-        ensures { OnOk result (machine_of self.new ≡ recorded (machine_of self.old) (event_of event)) }
+    fn record(&mut self, event: &Event) -> Result<(), AllocError>
+        ensures { OnOk result (machine_of self.new ≡ recorded (machine_of self.old) (event_of event.now)) }
     {
         match event {
             Event::Started(_, _, _) => Ok(()),
-            Event::Resulted(task, answer) => self.answer(task, answer),
+            Event::Resulted(task, answer) => self.answer(*task, answer),
             Event::Raised(name, value) => self.hear(name, value),
-            Event::Fired(task) => self.arrive(task as usize, Outcome::Done(Value::Null)),
-            Event::Granted(task) => self.grant(task),
+            Event::Fired(task) => self.arrive(*task as usize, Outcome::Done(Value::Null)),
+            Event::Granted(task) => self.grant(*task),
         }
     }
 
@@ -87,5 +89,70 @@ impl<'f> Machine<'f> {
         } else {
             self.fail(alloc, made, "history")
         }
+    }
+
+    /// Its first statements are those of its flow, and it has its argument.
+    fn begin_with(
+        &mut self,
+        alloc: Global,
+        argument: &Value,
+        body: &'f [Stmt],
+    ) -> Result<(), AllocError>
+        ensures { OnOk result (machine_of self.new ≡ begun (machine_of self.old) argument.now (block_of body.now)) }
+    {
+        let mut variables = Variables::new(alloc);
+        variables.set(Name::of(alloc, b"arg")?, value_of(argument)?)?;
+        self.variables = variables;
+        self.rest.clear();
+        self.rest.push(Todo::Body(body))?;
+        self.progress = Progress::Running;
+        Ok(())
+    }
+
+    /// It begins with its argument, where its flow is known.
+    fn begin(&mut self, alloc: Global, made: &mut Made, event: &Event) -> Result<(), AllocError>
+        ensures { OnOk result (Makes made.old made.new self.new (begins (machine_of self.old) (event_of event.now) (machine_of self.old).body)) }
+    {
+        let Event::Started(sender, argument, reply) = event else {
+            return self.fail(alloc, made, "unknown");
+        };
+        self.starter = copy_of(sender)?;
+        self.reply = reply_of(reply);
+        match self.body {
+            Some(body) => {
+                self.begin_with(alloc, argument, body)?;
+                self.go_on(alloc, made)
+            }
+            None => self.fail(alloc, made, "unknown"),
+        }
+    }
+
+    /// An event at its last moment, and what it makes of it.
+    fn take(&mut self, alloc: Global, made: &mut Made, event: &Event) -> Result<(), AllocError>
+        ensures { OnOk result (Makes made.old made.new self.new (resumed_by (machine_of self.old) (event_of event.now) (machine_of self.old).progress)) }
+    {
+        match self.progress {
+            Progress::Unborn => self.begin(alloc, made, event),
+            Progress::Running => {
+                self.record(event)?;
+                self.go_on(alloc, made)
+            }
+            _ => self.grant_late(made, event),
+        }
+    }
+
+    /// An event at this moment, and what the machine makes of it.
+    pub fn advance(
+        &mut self,
+        alloc: Global,
+        event: &Event,
+        stamp: u64,
+    ) -> Result<Made, AllocError>
+        ensures { IfOk result (λ made. Resumes made self.new (resume (machine_of self.old) (event_of event.now) stamp)) }
+    {
+        let mut made = Made::new(alloc);
+        self.last = stamp;
+        self.take(alloc, &mut made, event)?;
+        Ok(made)
     }
 }
