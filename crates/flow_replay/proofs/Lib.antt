@@ -4,6 +4,7 @@ pub mod Counts
 pub mod Leading
 pub mod NoneKept
 pub mod Releases
+pub mod Replayed
 pub mod Steps
 pub mod Taken
 pub mod Thrown

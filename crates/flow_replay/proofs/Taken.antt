@@ -71,9 +71,9 @@ blocked true was now m after before old one is taken waits back = absurd (cc is)
 blocked false was now m after before old one is taken waits back =
     subst (λ (next : Next). Moves false was now after next) (sym (step_is before old one taken ∙ waits.2 before))
     (record {
-        machine = put_back (machine_of after) before old one taken (back ∙ ap (λ (o : Machine). with_rest o (todos_of one ++ o.rest)) waits.0);
-        sent = ap (λ (d : Made). messages_of d.messages.items) waits.1 ∙ sym (append-nil (messages_of was.messages.items));
-        asked = ap (λ (d : Made). map asked_of d.asked.items) waits.1 ∙ sym (append-nil (map asked_of was.asked.items));
+      machine = put_back (machine_of after) before old one taken (back ∙ ap (λ (o : Machine). with_rest o (todos_of one ++ o.rest)) waits.0);
+      sent = ap (λ (d : Made). messages_of d.messages.items) waits.1 ∙ sym (append-nil (messages_of was.messages.items));
+      asked = ap (λ (d : Made). map asked_of d.asked.items) waits.1 ∙ sym (append-nil (map asked_of was.asked.items));
     })
 
 -- what holds whatever variable is set holds of one statement

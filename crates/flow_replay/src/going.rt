@@ -72,7 +72,9 @@ impl<'f> Machine<'f> {
             Stmt::Spawn(x, name, value) => self.step_spawn(alloc, made, x, name, value)?,
             Stmt::Call(x, name, value) => self.step_call(alloc, made, x, name, value)?,
             Stmt::Sub(x, name, key, value) => self.step_sub(alloc, made, x, name, key, value)?,
-            Stmt::Ask(x, class, key, name, value) => self.step_ask(alloc, made, x, class, key, name, value)?,
+            Stmt::Ask(x, class, key, name, value) => self.step_ask(
+                alloc, made, x, class, key, name, value,
+            )?,
             Stmt::Timer(x, delay) => self.step_timer(alloc, made, x, delay)?,
             Stmt::Event(x, name) => self.step_event(x, name)?,
             Stmt::Await(x, handle) => {
@@ -81,7 +83,9 @@ impl<'f> Machine<'f> {
             }
             Stmt::All(x, handles) => return self.step_all(alloc, made, x, handles),
             Stmt::Any(x, handles) => return self.step_any(alloc, made, x, handles),
-            Stmt::Signal(class, key, name, value) => self.step_signal(alloc, made, class, key, name, value)?,
+            Stmt::Signal(class, key, name, value) => self.step_signal(
+                alloc, made, class, key, name, value,
+            )?,
             Stmt::Lock(spots, body) => self.step_lock(alloc, made, spots, body)?,
             Stmt::If(test, yes, no) => self.step_if(alloc, made, test, yes, no)?,
             Stmt::While(test, body) => self.step_while(alloc, made, test, body, one)?,

@@ -4,8 +4,8 @@
 //! - `made`: what a machine sends and asks for.
 //! - `ends`: how it leaves a section, faults and ends.
 //! - `statements`, `calls`, `awaits`: the step of each statement.
-//! - `going`: step after step, until it blocks or ends.
-//! - `events`: what reaches it. `replay`: the machine of a history.
+//! - `going`: step after step, until it blocks or ends. `blocked`: whether there is a further step.
+//! - `events`: what reaches it. `resume`: what it makes of that. `histories`: the machine of a history.
 //! - `specs/Views`: the plain data that these stand for.
 #![tactic(auto)]
 
@@ -16,6 +16,7 @@ mod ends;
 mod events;
 mod faults;
 mod going;
+mod histories;
 mod locks;
 mod machine;
 mod made;
@@ -25,5 +26,6 @@ mod statements;
 mod timers;
 
 pub use events::{Event, Past};
+pub use histories::replay;
 pub use machine::{Machine, Progress, Todo};
 pub use made::{Asked, Made};

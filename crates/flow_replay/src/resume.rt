@@ -142,12 +142,7 @@ impl<'f> Machine<'f> {
     }
 
     /// An event at this moment, and what the machine makes of it.
-    pub fn advance(
-        &mut self,
-        alloc: Global,
-        event: &Event,
-        stamp: u64,
-    ) -> Result<Made, AllocError>
+    pub fn advance(&mut self, alloc: Global, event: &Event, stamp: u64) -> Result<Made, AllocError>
         ensures { IfOk result (λ made. Resumes made self.new (resume (machine_of self.old) (event_of event.now) stamp)) }
     {
         let mut made = Made::new(alloc);

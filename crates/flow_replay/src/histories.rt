@@ -1,0 +1,29 @@
+//! The machine that a history makes.
+
+ghost use Rattle.std.specs.Prelude.{◌≡◌, IfOk, map, option_map};
+ghost use Rattle.dura_value.specs.Views.{id_of};
+ghost use Rattle.flow_syntax.specs.Machine.{new_machine, replayed};
+ghost use Rattle.flow_replay.specs.Views.{machine_of, body_of, past_of};
+
+use crate::events::Past;
+use crate::machine::Machine;
+use dura_value::Id;
+use flow_syntax::Stmt;
+use std::alloc::{AllocError, Global};
+
+/// The machine of an instance whose flow has this body, where it is known, after the events of a history.
+#[tactic(auto, using(crate::proofs::Replayed::one_more))]
+pub fn replay<'f>(
+    alloc: Global,
+    id: &Id,
+    body: Option<&'f [Stmt]>,
+    history: &[Past],
+) -> Result<Machine<'f>, AllocError>
+    ensures { IfOk result (λ m. machine_of m ≡ replayed (new_machine (id_of id.now) (option_map body_of body.entry)) (map past_of history.now)) }
+{
+    let mut machine = Machine::new(alloc, id, body)?;
+    for past in history {
+        machine.advance(alloc, &past.event, past.stamp)?;
+    }
+    Ok(machine)
+}
