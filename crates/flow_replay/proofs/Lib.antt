@@ -5,6 +5,7 @@ pub mod Leading
 pub mod NoneKept
 pub mod Releases
 pub mod Replayed
+pub mod SameIds
 pub mod Steps
 pub mod Taken
 pub mod Thrown

@@ -1,4 +1,5 @@
 pub mod Awaits
+pub mod Entities
 pub mod Moving
 pub mod Steps
 pub mod Values

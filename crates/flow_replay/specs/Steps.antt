@@ -2,7 +2,7 @@
 use Rattle.std.specs.Prelude.{◌≡◌, List, [], ◌∷◌, ◌++◌, map, codes, Bool, true, false, Option, Some, None}
 use Rattle.dura_value.specs.Messages.{Answer, is_done, has_failed}
 use Rattle.dura_value.specs.Views.{messages_of}
-use Rattle.dura_value.specs.declared.data.Value.{Value}
+use Rattle.flow_syntax.specs.Eval.{Variables}
 use Rattle.flow_syntax.specs.Syntax.{Block}
 use Rattle.flow_syntax.specs.Machine as plain
 use Rattle.flow_eval.specs.declared.fault.EvalError.{EvalError}
@@ -73,6 +73,6 @@ abbrev pub Waits : Bool → Made → Made → Machine → plain.Machine → (pla
 Waits true before now m old next = (was : plain.Machine) → Moves true before now m (next was)
 Waits false before now m old next = (machine_of m ≡ old) × (now ≡ before) × ((was : plain.Machine) → next was ≡ plain.stays (plain.only was))
 
--- a machine that has its argument, and the statements of its flow before it
-abbrev pub begun : plain.Machine → Value → Block → plain.Machine
-begun m argument body = record m { variables = (codes "arg", argument) ∷ []; rest = plain.todo body; progress = plain.running }
+-- a machine that has these variables, and the statements of a body before it
+abbrev pub begun : plain.Machine → Variables → Block → plain.Machine
+begun m variables body = record m { variables = variables; rest = plain.todo body; progress = plain.running }

@@ -6,6 +6,7 @@
 //! - `statements`, `calls`, `awaits`: the step of each statement.
 //! - `going`: step after step, until it blocks or ends. `blocked`: whether there is a further step.
 //! - `events`: what reaches it. `resume`: what it makes of that. `histories`: the machine of a history.
+//! - `entities`: entities, and what a message makes of one.
 //! - `specs/Views`: the plain data that these stand for.
 #![tactic(auto)]
 
@@ -13,6 +14,7 @@ mod awaits;
 mod blocked;
 mod calls;
 mod ends;
+mod entities;
 mod events;
 mod faults;
 mod going;
@@ -25,6 +27,7 @@ mod several;
 mod statements;
 mod timers;
 
+pub use entities::Entity;
 pub use events::{Event, Past};
 pub use histories::replay;
 pub use machine::{Machine, Progress, Todo};

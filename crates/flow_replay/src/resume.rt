@@ -1,6 +1,6 @@
 //! What an event makes of a machine.
 
-ghost use Rattle.std.specs.Prelude.{◌≡◌, OnOk, IfOk};
+ghost use Rattle.std.specs.Prelude.{◌≡◌, ◌∷◌, [], codes, OnOk, IfOk};
 ghost use Rattle.dura_value.specs.Views.{answer_of};
 ghost use Rattle.flow_syntax.specs.Machine.{with_answer, outcome_of, heard, oldest_listener, granted_in, recorded, granted_late, goes_on, begins, resumed_by, resume};
 ghost use Rattle.flow_replay.specs.Views.{machine_of, event_of};
@@ -19,6 +19,15 @@ use std::alloc::{AllocError, Global};
 
 /// The most events of one instance.
 const MOST_EVENTS: u32 = 10_000;
+
+/// The variables that a flow begins with.
+fn with_argument(alloc: Global, argument: &Value) -> Result<Variables, AllocError>
+    ensures { IfOk result (λ set. set ≡ (codes "arg", argument.now) ∷ []) }
+{
+    let mut variables = Variables::new(alloc);
+    variables.set(Name::of(alloc, b"arg")?, value_of(argument)?)?;
+    Ok(variables)
+}
 
 impl<'f> Machine<'f> {
     /// The result of a task arrives, where the answer is one.
@@ -91,17 +100,14 @@ impl<'f> Machine<'f> {
         }
     }
 
-    /// Its first statements are those of its flow, and it has its argument.
-    fn begin_with(
+    /// Its first statements are those of a body, with these variables.
+    pub(crate) fn run_body(
         &mut self,
-        alloc: Global,
-        argument: &Value,
+        variables: Variables,
         body: &'f [Stmt],
     ) -> Result<(), AllocError>
-        ensures { OnOk result (machine_of self.new ≡ begun (machine_of self.old) argument.now (block_of body.now)) }
+        ensures { OnOk result (machine_of self.new ≡ begun (machine_of self.old) variables (block_of body.now)) }
     {
-        let mut variables = Variables::new(alloc);
-        variables.set(Name::of(alloc, b"arg")?, value_of(argument)?)?;
         self.variables = variables;
         self.rest.clear();
         self.rest.push(Todo::Body(body))?;
@@ -120,7 +126,7 @@ impl<'f> Machine<'f> {
         self.reply = reply_of(reply);
         match self.body {
             Some(body) => {
-                self.begin_with(alloc, argument, body)?;
+                self.run_body(with_argument(alloc, argument)?, body)?;
                 self.go_on(alloc, made)
             }
             None => self.fail(alloc, made, "unknown"),
