@@ -3,6 +3,7 @@ pub mod AllValues
 pub mod Counts
 pub mod Leading
 pub mod NoneKept
+pub mod Places
 pub mod Releases
 pub mod Replayed
 pub mod SameIds

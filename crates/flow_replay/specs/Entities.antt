@@ -1,7 +1,8 @@
 -- What entities stand for, and what a message makes of one.
 use Rattle.std.specs.Prelude.{◌≡◌, List, option_map}
 use Rattle.dura_value.specs.Ids.{Id}
-use Rattle.dura_value.specs.Views.{id_of, messages_of}
+use Rattle.dura_value.specs.Views.{id_of, answer_of, messages_of}
+use Rattle.dura_value.specs.declared.messages.Answer.{Answer}
 use Rattle.dura_value.specs.declared.messages.Message.{Message}
 use Rattle.dura_value.specs.declared.data.Value.{Value}
 use Rattle.flow_syntax.specs.Syntax.{Block}
@@ -13,14 +14,15 @@ abbrev pub entity_of : Entity → plain.Entity
 entity_of e = record { value = e.value; holder = option_map id_of e.holder; last = e.last }
 
 -- An entity has become the one of this delivery, and this is all that it sent.
-pub record Delivers (sent : List Message) (e : Entity) (d : plain.Delivered) : Type 0 where
+pub record Delivers (made : List Message) (e : Entity) (d : plain.Delivered) : Type 0 where
   pub entity : entity_of e ≡ d.entity
-  pub sent : messages_of sent ≡ d.sent
+  pub sent : messages_of made ≡ d.sent
 
 -- the machine that ran an operation's body
-abbrev pub body_run : Id → Value → Value → Block → Machine
+unfoldable pub body_run : Id → Value → Value → Block → Machine
 body_run id value argument body = (go most_steps (plain.body_begun id value argument body)).machine
 
--- an entity whose value is what the end of an operation's body makes of it
-abbrev pub kept_from : plain.Entity → Machine → plain.Entity
-kept_from e end = record e { value = plain.new_value e.value end.variables end.progress }
+-- An entity has become what the end of an operation's body makes of it, and the answer is that of this end.
+pub record Finishes (answer : Answer) (e : Entity) (was : plain.Entity) (end : Machine) : Type 0 where
+  pub entity : entity_of e ≡ record was { value = plain.new_value was.value end.variables end.progress }
+  pub answer_is : answer_of answer ≡ plain.body_answer end.progress

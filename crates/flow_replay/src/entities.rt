@@ -1,19 +1,19 @@
 //! What a message makes of an entity.
 
-ghost use Rattle.std.specs.Prelude.{◌≡◌, ◌∷◌, [], Some, None, suc, length, codes, option_map, IfOk, OnOk};
-ghost use Rattle.dura_value.specs.Messages.{entity_at, has_failed, to_request};
-ghost use Rattle.dura_value.specs.Views.{id_of, reply_of, answer_of, message_of, messages_of, spots_of};
+ghost use Rattle.std.specs.Prelude.{◌≡◌, ◌∷◌, [], Some, None, suc, ◌≤◌, length, codes, if◌then◌else◌, option_map, IfOk, OnOk};
+ghost use Rattle.dura_value.specs.Messages.{entity_at, at_spot, is_value, is_missing, to_request};
+ghost use Rattle.dura_value.specs.Views.{id_of, reply_of, answer_of, message_of, messages_of, spot_of, spots_of};
 ghost use Rattle.flow_syntax.specs.Syntax.{class_of as class_in};
 ghost use Rattle.flow_syntax.specs.Views.{block_of, flows_of, class_of};
-ghost use Rattle.flow_syntax.specs.Entity.{takes, answering, operated, operation_of, body_begun, body_answer, value_answer, lock_goes_on, deliver};
+ghost use Rattle.flow_syntax.specs.Entity.{takes, answering, operated, operation_of, body_begun, body_answer, new_value, value_answer, lock_goes_on, deliver};
 ghost use Rattle.flow_replay.specs.Views.{machine_of, progress_of, body_of};
-ghost use Rattle.flow_replay.specs.Entities.{entity_of, Delivers, body_run, kept_from};
+ghost use Rattle.flow_replay.specs.Entities.{entity_of, Delivers, Finishes, body_run};
 
-use crate::ends::entity_of as entity_at;
+use crate::ends::entity_of as id_at;
 use crate::machine::{Machine, Progress, copy_of, reply_of, text_of, value_of};
 use crate::made::Made;
 use crate::locks::spots_copy;
-use dura_value::{Answer, Body, Id, Message, Name, Reply, Spots, Text, Value};
+use dura_value::{Answer, Body, Id, Message, Name, Reply, Spot, Spots, Text, Value};
 use flow_eval::Variables;
 use flow_syntax::{Class, Flows, Stmt};
 use std::alloc::{AllocError, Global};
@@ -55,6 +55,7 @@ fn begin_operation<'f>(
 }
 
 /// The machine that ran an operation's body.
+#[tactic(auto, unfolding(crate::specs::Entities::body_run))]
 fn run_operation<'f>(
     alloc: Global,
     at: &Id,
@@ -114,24 +115,40 @@ fn answer_reply(
     Ok(sent)
 }
 
-/// The message that takes a lock on to the next entity of its set, or, behind the last one, tells the instance that it has
-/// all.
+/// The message that takes a lock to this place of its set. A place that has no number has no room.
+fn lock_at(
+    at: &Id,
+    next: &Spot,
+    id: &Id,
+    task: u32,
+    set: &Spots,
+    place: usize,
+) -> Result<Message, AllocError>
+    ensures { IfOk result (λ message. message_of message ≡ lock_goes_on (id_of at.now) (id_of id.now) task (spots_of set.now) place (Some (at_spot (spot_of next.now)))) }
+{
+    let Ok(place) = u8::try_from(place) else {
+        return Err(AllocError);
+    };
+    Ok(Message {
+        from: copy_of(at)?,
+        to: id_at(next)?,
+        body: Body::Lock(copy_of(id)?, task, spots_copy(set)?, place),
+    })
+}
+
+/// The message that takes a lock on to this place of its set, or, behind the last one, tells the instance that it has all.
+#[tactic(auto, using(crate::proofs::Places::there, crate::proofs::Places::behind_all))]
 fn pass_on(
-    alloc: Global,
     at: &Id,
     id: &Id,
     task: u32,
     set: &Spots,
-    index: u8,
+    place: usize,
 ) -> Result<Message, AllocError>
-    ensures { IfOk result (λ message. message_of message ≡ lock_goes_on (id_of at.now) (id_of id.now) task (spots_of set.now) (suc index) (entity_at (spots_of set.now) (suc index))) }
+    ensures { IfOk result (λ message. message_of message ≡ lock_goes_on (id_of at.now) (id_of id.now) task (spots_of set.now) place (entity_at (spots_of set.now) place)) }
 {
-    match set.as_slice().get(index as usize + 1) {
-        Some(next) => Ok(Message {
-            from: copy_of(at)?,
-            to: entity_at(next)?,
-            body: Body::Lock(copy_of(id)?, task, spots_copy(set)?, index + 1),
-        }),
+    match set.as_slice().get(place) {
+        Some(next) => lock_at(at, next, id, task, set, place),
         None => Ok(Message {
             from: copy_of(at)?,
             to: copy_of(id)?,
@@ -164,7 +181,7 @@ impl Entity {
 
     /// Its value is what the end of an operation's body makes of it: that of `self`, and after a fault what it was.
     fn keep(&mut self, alloc: Global, end: &Machine<'_>) -> Result<(), AllocError>
-        ensures { OnOk result (entity_of self.new ≡ kept_from (entity_of self.old) (machine_of end.now)) }
+        ensures { OnOk result (entity_of self.new ≡ record (entity_of self.old) { value = new_value self.old.value (machine_of end.now).variables (machine_of end.now).progress }) }
     {
         if let Progress::Done(_) = &end.progress {
             if let Some(value) = end.variables.get(&Name::of(alloc, b"self")?) {
@@ -172,5 +189,72 @@ impl Entity {
             }
         }
         Ok(())
+    }
+
+    /// An operation's body has come to its end, which answers.
+    fn finish(&mut self, alloc: Global, end: &Machine<'_>) -> Result<Answer, AllocError>
+        ensures { IfOk result (λ answer. Finishes answer self.new (entity_of self.old) (machine_of end.now)) }
+    {
+        self.keep(alloc, end)?;
+        let answer = end_answer(alloc, &end.progress)?;
+        Ok(answer)
+    }
+
+    /// An operation's body runs, and its end answers.
+    fn run(
+        &mut self,
+        alloc: Global,
+        at: &Id,
+        argument: &Value,
+        body: &[Stmt],
+    ) -> Result<Answer, AllocError>
+        ensures { IfOk result (λ answer. Finishes answer self.new (entity_of self.old) (body_run (id_of at.now) self.old.value argument.now (block_of body.now))) }
+    {
+        let end = run_operation(alloc, at, &self.value, argument, body)?;
+        let answer = self.finish(alloc, &end)?;
+        Ok(answer)
+    }
+
+    /// An operation, where the class has it.
+    #[tactic(auto, unfolding(crate::specs::Entities::body_run))]
+    fn operate(
+        &mut self,
+        alloc: Global,
+        message: &Message,
+        body: Option<&[Stmt]>,
+        argument: &Value,
+        reply: &Reply,
+    ) -> Result<Vec<Message>, AllocError>
+        ensures { IfOk result (λ sent. Delivers sent.items self.new (operated (entity_of self.old) (id_of message.now.from) (id_of message.now.to) argument.now (reply_of reply.now) (option_map body_of body.entry))) }
+    {
+        let answer = match body {
+            Some(body) => self.run(alloc, &message.to, argument, body)?,
+            None => Answer::Failed(short_text(alloc, "unknown")?),
+        };
+        answer_reply(alloc, &message.to, &message.from, reply, answer)
+    }
+
+    /// Its value is asked for by a client's request, where its class is known.
+    fn tell_value(
+        &self,
+        alloc: Global,
+        message: &Message,
+        known: bool,
+        number: u32,
+    ) -> Result<Vec<Message>, AllocError>
+        ensures { IfOk result (λ sent. messages_of sent.items ≡ answering (id_of message.now.to) (id_of message.now.from) (to_request number) (if known then is_value self.now.value else is_missing)) }
+    {
+        let answer = if known {
+            Answer::Value(value_of(&self.value)?)
+        } else {
+            Answer::None
+        };
+        answer_reply(
+            alloc,
+            &message.to,
+            &message.from,
+            &Reply::Request(number),
+            answer,
+        )
     }
 }
