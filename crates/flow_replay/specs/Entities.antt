@@ -5,7 +5,11 @@ use Rattle.dura_value.specs.Views.{id_of, answer_of, messages_of}
 use Rattle.dura_value.specs.declared.messages.Answer.{Answer}
 use Rattle.dura_value.specs.declared.messages.Message.{Message}
 use Rattle.dura_value.specs.declared.data.Value.{Value}
+use Rattle.flow_syntax.specs.Syntax as plain_syntax
 use Rattle.flow_syntax.specs.Syntax.{Block}
+use Rattle.flow_syntax.specs.Views.{class_of}
+use Rattle.flow_syntax.specs.declared.flows.Class.{Class}
+use Rattle.std.specs.Borrow.{Bor}
 use Rattle.flow_syntax.specs.Machine.{Machine, go, most_steps}
 use Rattle.flow_syntax.specs.Entity as plain
 use Rattle.flow_replay.specs.declared.entities.Entity.{Entity}
@@ -26,3 +30,7 @@ body_run id value argument body = (go most_steps (plain.body_begun id value argu
 pub record Finishes (answer : Answer) (e : Entity) (was : plain.Entity) (end : Machine) : Type 0 where
   pub entity : entity_of e ≡ record was { value = plain.new_value was.value end.variables end.progress }
   pub answer_is : answer_of answer ≡ plain.body_answer end.progress
+
+-- a class where it lies
+abbrev pub shown_class : Bor Class → plain_syntax.Class
+shown_class class = class_of class.now

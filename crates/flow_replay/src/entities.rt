@@ -2,17 +2,16 @@
 
 ghost use Rattle.std.specs.Prelude.{◌≡◌, ◌∷◌, [], Some, None, suc, ◌≤◌, length, codes, if◌then◌else◌, option_map, IfOk, OnOk};
 ghost use Rattle.dura_value.specs.Messages.{entity_at, at_spot, is_value, is_missing, to_request};
-ghost use Rattle.dura_value.specs.Views.{id_of, reply_of, answer_of, message_of, messages_of, spot_of, spots_of};
-ghost use Rattle.flow_syntax.specs.Syntax.{class_of as class_in};
-ghost use Rattle.flow_syntax.specs.Views.{block_of, flows_of, class_of};
+ghost use Rattle.dura_value.specs.Views.{id_of, reply_of, answer_of, message_of, body_of as said_of, messages_of, spot_of, spots_of};
+ghost use Rattle.flow_syntax.specs.Views.{block_of, flows_of};
 ghost use Rattle.flow_syntax.specs.Entity.{takes, answering, operated, operation_of, body_begun, body_answer, new_value, value_answer, lock_goes_on, deliver};
 ghost use Rattle.flow_replay.specs.Views.{machine_of, progress_of, body_of};
-ghost use Rattle.flow_replay.specs.Entities.{entity_of, Delivers, Finishes, body_run};
+ghost use Rattle.flow_replay.specs.Entities.{entity_of, Delivers, Finishes, body_run, shown_class};
 
 use crate::ends::entity_of as id_at;
+use crate::locks::spots_copy;
 use crate::machine::{Machine, Progress, copy_of, reply_of, text_of, value_of};
 use crate::made::Made;
-use crate::locks::spots_copy;
 use dura_value::{Answer, Body, Id, Message, Name, Reply, Spot, Spots, Text, Value};
 use flow_eval::Variables;
 use flow_syntax::{Class, Flows, Stmt};
@@ -138,13 +137,7 @@ fn lock_at(
 
 /// The message that takes a lock on to this place of its set, or, behind the last one, tells the instance that it has all.
 #[tactic(auto, using(crate::proofs::Places::there, crate::proofs::Places::behind_all))]
-fn pass_on(
-    at: &Id,
-    id: &Id,
-    task: u32,
-    set: &Spots,
-    place: usize,
-) -> Result<Message, AllocError>
+fn pass_on(at: &Id, id: &Id, task: u32, set: &Spots, place: usize) -> Result<Message, AllocError>
     ensures { IfOk result (λ message. message_of message ≡ lock_goes_on (id_of at.now) (id_of id.now) task (spots_of set.now) place (entity_at (spots_of set.now) place)) }
 {
     match set.as_slice().get(place) {
@@ -159,7 +152,7 @@ fn pass_on(
 
 /// An operation of a class, where both are known.
 fn operation_in<'f>(class: Option<&'f Class>, operation: &Name) -> Option<&'f [Stmt]>
-    ensures { option_map (λ b. block_of b.now) result ≡ operation_of (option_map (λ c. class_of c.now) class.entry) operation.now }
+    ensures { option_map (λ b. block_of b.now) result ≡ operation_of (option_map shown_class class.entry) operation.now }
 {
     match class {
         Some(class) => class.operation(operation),
@@ -256,5 +249,67 @@ impl Entity {
             &Reply::Request(number),
             answer,
         )
+    }
+
+    /// An operation by its name.
+    fn take_operation(
+        &mut self,
+        alloc: Global,
+        class: Option<&Class>,
+        message: &Message,
+        operation: &Name,
+        argument: &Value,
+        reply: &Reply,
+    ) -> Result<Vec<Message>, AllocError>
+        ensures { IfOk result (λ sent. Delivers sent.items self.new (operated (entity_of self.old) (id_of message.now.from) (id_of message.now.to) argument.now (reply_of reply.now) (operation_of (option_map shown_class class.entry) operation.now))) }
+    {
+        let body = operation_in(class, operation);
+        let sent = self.operate(alloc, message, body, argument, reply)?;
+        Ok(sent)
+    }
+
+    /// A lock is taken for the instance of this id, and goes on.
+    fn take_lock(
+        &mut self,
+        alloc: Global,
+        at: &Id,
+        id: &Id,
+        task: u32,
+        set: &Spots,
+        index: u8,
+    ) -> Result<Vec<Message>, AllocError>
+        ensures { IfOk result (λ sent. Delivers sent.items self.new (record { entity = record (entity_of self.old) { holder = Some (id_of id.now) }; sent = lock_goes_on (id_of at.now) (id_of id.now) task (spots_of set.now) (suc index) (entity_at (spots_of set.now) (suc index)) ∷ [] })) }
+    {
+        let mut sent = Vec::new(alloc);
+        sent.push(pass_on(at, id, task, set, index as usize + 1)?)?;
+        self.holder = Some(copy_of(id)?);
+        Ok(sent)
+    }
+
+    /// What a message makes of an entity of this class that takes it: what it sent. What it doesn't know is dropped.
+    pub fn deliver(
+        &mut self,
+        alloc: Global,
+        flows: &Flows,
+        class: &Name,
+        message: &Message,
+    ) -> Result<Vec<Message>, AllocError>
+        ensures { IfOk result (λ sent. Delivers sent.items self.new (deliver (flows_of flows.now) (entity_of self.old) class.now (id_of message.now.from) (id_of message.now.to) (said_of message.now.body))) }
+    {
+        let class = flows.class_of(class);
+        match &message.body {
+            Body::Op(operation, argument, reply) => {
+                self.take_operation(alloc, class, message, operation, argument, reply)
+            }
+            Body::Query(number) => self.tell_value(alloc, message, class.is_some(), *number),
+            Body::Lock(id, task, set, index) => {
+                self.take_lock(alloc, &message.to, id, *task, set, *index)
+            }
+            Body::Release => {
+                self.holder = None;
+                Ok(Vec::new(alloc))
+            }
+            _ => Ok(Vec::new(alloc)),
+        }
     }
 }
