@@ -10,7 +10,7 @@ use Rattle.flow_syntax.specs.Views.{locked_of}
 use Rattle.flow_syntax.specs.Eval.{◌>>=◌, Variables, eval, to_key}
 use Rattle.flow_syntax.specs.Machine.{eval_spots, spot_of}
 use Rattle.flow_replay.specs.Values.{spot_in}
-use Rattle.flow_replay.proofs.AllValues.{behind, regroup}
+use Rattle.flow_messages.proofs.AllValues.{behind, regroup}
 
 -- the first of them, and then the rest
 first_by : (one : Locked) (key : Result (List ℕ) (List ℕ)) (rest : Result (List Spot) (List ℕ)) → (key >>= λ k. rest >>= λ more. Ok (spot_of one.class k ∷ more)) ≡ ((key >>= λ k. Ok (spot_of one.class k)) >>= λ s. rest >>= λ more. Ok (s ∷ more))

@@ -5,8 +5,9 @@ use Rattle.dura_value.specs.Messages.{Message}
 use Rattle.dura_value.specs.Views.{messages_of}
 use Rattle.flow_syntax.specs.Machine.{Machine, Resumed, Asked, only, and_then}
 use Rattle.flow_replay.specs.declared.machine.Machine.{Machine as OwnMachine}
-use Rattle.flow_replay.specs.declared.made.Made.{Made}
-use Rattle.flow_replay.specs.Views.{machine_of, asked_of}
+use Rattle.flow_messages.specs.declared.made.Made.{Made}
+use Rattle.flow_messages.specs.Views.{asked_of}
+use Rattle.flow_replay.specs.Views.{machine_of}
 use Rattle.flow_replay.specs.Steps.{Makes, Leads}
 
 -- nothing more is made

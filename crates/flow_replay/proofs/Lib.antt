@@ -1,12 +1,8 @@
 pub mod AllSpots
-pub mod AllValues
 pub mod Counts
 pub mod Leading
 pub mod NoneKept
-pub mod Places
-pub mod Releases
 pub mod Replayed
-pub mod SameIds
 pub mod Steps
 pub mod Taken
 pub mod Thrown

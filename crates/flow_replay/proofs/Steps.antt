@@ -3,7 +3,7 @@ use Rattle.std.proofs.Common.{◌≡◌, ◌∙◌, ◌++◌, ℕ, zero, suc, Li
 use Rattle.dura_value.specs.Messages.{Message}
 use Rattle.flow_syntax.specs.Machine.{Machine, Asked, Resumed, Next, stays, goes, only, and_then, go, go_on, next_of}
 use Rattle.flow_replay.specs.declared.machine.Machine.{Machine as OwnMachine}
-use Rattle.flow_replay.specs.declared.made.Made.{Made}
+use Rattle.flow_messages.specs.declared.made.Made.{Made}
 use Rattle.flow_replay.specs.Views.{machine_of}
 use Rattle.flow_replay.specs.Steps.{Makes, Moves, Leads}
 use Rattle.flow_replay.specs.Moving.{stopped}

@@ -11,8 +11,9 @@ use Rattle.flow_syntax.specs.Machine.{Machine, Todo, Next, stays, goes, only, en
 use Rattle.flow_replay.specs.declared.machine.Todo.{Todo as OwnTodo}
 use Rattle.flow_replay.specs.declared.machine.Todo.TheVariants as own
 use Rattle.flow_replay.specs.declared.machine.Machine.{Machine as OwnMachine}
-use Rattle.flow_replay.specs.declared.made.Made.{Made}
-use Rattle.flow_replay.specs.Views.{machine_of, todos_of, asked_of}
+use Rattle.flow_messages.specs.declared.made.Made.{Made}
+use Rattle.flow_messages.specs.Views.{asked_of}
+use Rattle.flow_replay.specs.Views.{machine_of, todos_of}
 use Rattle.flow_replay.specs.Steps.{with_rest, Moves, Waits}
 use Rattle.flow_replay.specs.Moving.{Taken, todo_step, stopped, IsGoing, Blocks}
 

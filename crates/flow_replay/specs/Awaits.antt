@@ -4,7 +4,7 @@ use Rattle.flow_syntax.specs.Machine as plain
 use Rattle.flow_eval.specs.Gives.{Fails as EvalFails}
 use Rattle.flow_tasks.specs.Handles.{Fails as HandleFails}
 use Rattle.flow_replay.specs.declared.machine.Machine.{Machine}
-use Rattle.flow_replay.specs.declared.made.Made.{Made}
+use Rattle.flow_messages.specs.declared.made.Made.{Made}
 use Rattle.flow_replay.specs.declared.several.AwaitError.{AwaitError}
 use Rattle.flow_replay.specs.declared.several.AwaitError.TheVariants.{Eval, Handle}
 use Rattle.flow_replay.specs.Steps.{Throws, ThrowsHandle}

@@ -1,7 +1,7 @@
--- What entities stand for, and what a message makes of one.
-use Rattle.std.specs.Prelude.{◌≡◌, List, option_map}
+-- What a message makes of an entity.
+use Rattle.std.specs.Prelude.{◌≡◌, List}
 use Rattle.dura_value.specs.Ids.{Id}
-use Rattle.dura_value.specs.Views.{id_of, answer_of, messages_of}
+use Rattle.dura_value.specs.Views.{answer_of, messages_of}
 use Rattle.dura_value.specs.declared.messages.Answer.{Answer}
 use Rattle.dura_value.specs.declared.messages.Message.{Message}
 use Rattle.dura_value.specs.declared.data.Value.{Value}
@@ -12,10 +12,8 @@ use Rattle.flow_syntax.specs.declared.flows.Class.{Class}
 use Rattle.std.specs.Borrow.{Bor}
 use Rattle.flow_syntax.specs.Machine.{Machine, go, most_steps}
 use Rattle.flow_syntax.specs.Entity as plain
-use Rattle.flow_replay.specs.declared.entities.Entity.{Entity}
-
-abbrev pub entity_of : Entity → plain.Entity
-entity_of e = record { value = e.value; holder = option_map id_of e.holder; last = e.last }
+use Rattle.flow_messages.specs.declared.entities.Entity.{Entity}
+use Rattle.flow_messages.specs.Views.{entity_of}
 
 -- An entity has become the one of this delivery, and this is all that it sent.
 pub record Delivers (made : List Message) (e : Entity) (d : plain.Delivered) : Type 0 where

@@ -11,8 +11,9 @@ use Rattle.flow_eval.specs.Faults.{fault_text}
 use Rattle.flow_tasks.specs.declared.handles.HandleFault.{HandleFault}
 use Rattle.flow_tasks.specs.declared.handles.HandleFault.TheVariants as handles
 use Rattle.flow_replay.specs.declared.machine.Machine.{Machine}
-use Rattle.flow_replay.specs.declared.made.Made.{Made}
-use Rattle.flow_replay.specs.Views.{machine_of, asked_of}
+use Rattle.flow_messages.specs.declared.made.Made.{Made}
+use Rattle.flow_messages.specs.Views.{asked_of}
+use Rattle.flow_replay.specs.Views.{machine_of}
 
 -- A machine has become the one of this result, and what it made stands behind what was made before.
 pub record Makes (was now : Made) (m : Machine) (r : plain.Resumed) : Type 0 where

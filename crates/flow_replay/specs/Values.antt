@@ -28,11 +28,6 @@ integer_in variables e = eval variables e >>= to_integer
 abbrev pub list_given : List Value → Result Value (List ℕ)
 list_given given = to_scalars given >>= list_of
 
--- the values of results, or the first failure among them
-abbrev pub Collects : Result (List Value) (List ℕ) → Result (Vec Value Global) (List ℕ) → Type 0
-Collects wanted (Ok values) = wanted ≡ Ok values.items
-Collects wanted (Err text) = wanted ≡ Err text
-
 -- a task by its number
 abbrev pub handle_in : Variables → List Task → Expression → Result ℕ (List ℕ)
 handle_in variables tasks handle = eval variables handle >>= to_handle tasks

@@ -14,11 +14,6 @@ use Rattle.flow_replay.specs.declared.machine.Todo.TheVariants as todos
 use Rattle.flow_replay.specs.declared.machine.Progress.{Progress}
 use Rattle.flow_replay.specs.declared.machine.Progress.TheVariants as progresses
 use Rattle.flow_replay.specs.declared.machine.Machine.{Machine}
-use Rattle.flow_replay.specs.declared.made.Asked.{Asked}
-use Rattle.flow_replay.specs.declared.made.Asked.TheVariants as asks
-use Rattle.flow_replay.specs.declared.events.Event.{Event}
-use Rattle.flow_replay.specs.declared.events.Event.TheVariants as events
-use Rattle.flow_replay.specs.declared.events.Past.{Past}
 
 abbrev pub body_of : Bor (List Stmt) → Block
 body_of body = block_of body.now
@@ -58,17 +53,3 @@ machine_of m = record {
   events = m.events;
   progress = progress_of m.progress;
 }
-
-abbrev pub asked_of : Asked → plain.Asked
-asked_of (asks.Activity task name argument) = plain.an_activity task name argument
-asked_of (asks.Timer task due) = plain.a_timer task due
-
-abbrev pub event_of : Event → plain.Event
-event_of (events.Started sender argument reply) = plain.started (id_of sender) argument (reply_of reply)
-event_of (events.Resulted task answer) = plain.resulted task (answer_of answer)
-event_of (events.Raised name value) = plain.was_raised name value
-event_of (events.Fired task) = plain.fired task
-event_of (events.Granted task) = plain.was_granted task
-
-abbrev pub past_of : Past → plain.Past
-past_of past = record { event = event_of past.event; stamp = past.stamp }

@@ -1,19 +1,16 @@
 //! The steps of statements that wait.
 
-ghost use Rattle.std.specs.Prelude.{◌≡◌, OnOk, IfSome, IfNone, IfOk, Ok, Err, codes, option_map};
+ghost use Rattle.std.specs.Prelude.{◌≡◌, OnOk, IfSome, IfNone, IfOk, Ok, Err};
 ghost use Rattle.flow_syntax.specs.Syntax.{await};
 ghost use Rattle.flow_syntax.specs.Views.{expression_of};
-ghost use Rattle.flow_syntax.specs.Machine.{having, listens, to_handle, to_handles, waits_for, awaited, awaited_all, awaited_any, arrival_of as arrival_at, task_at, statement_step, all_arrived, first_arrived, all_values, gets, arrived, kept_value, without_kept};
-ghost use Rattle.flow_eval.specs.Gives.{Gives};
+ghost use Rattle.flow_syntax.specs.Machine.{listens, to_handle, waits_for, awaited, arrival_of as arrival_at, task_at, statement_step, gets, arrived, kept_value, without_kept};
 ghost use Rattle.flow_tasks.specs.Views.{arrival_of};
-ghost use Rattle.flow_tasks.specs.Handles.{Names};
 ghost use Rattle.flow_replay.specs.Views.{machine_of};
 ghost use Rattle.flow_replay.specs.Steps.{Makes, Waits, ThrowsHandle, with_events};
 
-use crate::machine::{Machine, name_of, text_of, value_of};
-use crate::made::Made;
-use dura_value::{Name, Outcome, Scalar, Text, Value};
-use flow_eval::{EvalError, list_of, to_scalar};
+use crate::machine::Machine;
+use dura_value::{Name, Outcome, Value};
+use flow_messages::{Event, Made, copy_name, copy_outcome, copy_value};
 use flow_syntax::Expr;
 use flow_tasks::{HandleFault, Kind};
 use std::alloc::{AllocError, Global};
@@ -46,7 +43,7 @@ impl<'f> Machine<'f> {
         ensures { OnOk result (machine_of self.new ≡ (listens (machine_of self.old) variable.now name.now).machine) }
     {
         let number = self.handle(variable)?;
-        self.add_task(Kind::Event(name_of(name)?))?;
+        self.add_task(Kind::Event(copy_name(name)?))?;
         match self.take_kept(name) {
             Some(value) => self.arrive(number as usize, Outcome::Done(value)),
             None => Ok(()),
@@ -79,7 +76,7 @@ impl<'f> Machine<'f> {
         ensures { OnOk result (Makes made.old made.new self.new (gets (machine_of self.old) variable.now outcome.now)) }
     {
         match outcome {
-            Outcome::Done(value) => self.set(variable, value_of(value)?),
+            Outcome::Done(value) => self.set(variable, copy_value(value)?),
             Outcome::Failed(text) => self.throw(made, text),
         }
     }
@@ -94,7 +91,7 @@ impl<'f> Machine<'f> {
         ensures { IfOk result (λ went. Waits went made.old made.new self.new (machine_of self.old) (λ was. awaited was (machine_of self.old) variable.now (arrival_at (task_at (machine_of self.old).tasks number)))) }
     {
         let outcome = match self.tasks.arrival(number) {
-            Some(arrival) => outcome_of(&arrival.outcome)?,
+            Some(arrival) => copy_outcome(&arrival.outcome)?,
             None => return Ok(false),
         };
         self.get(made, variable, &outcome)?;
@@ -139,15 +136,5 @@ impl<'f> Machine<'f> {
                 Ok(true)
             }
         }
-    }
-}
-
-/// A copy of an outcome.
-fn outcome_of(outcome: &Outcome) -> Result<Outcome, AllocError>
-    ensures { IfOk result (λ copy. copy ≡ outcome.now) }
-{
-    match outcome {
-        Outcome::Done(value) => Ok(Outcome::Done(value_of(value)?)),
-        Outcome::Failed(text) => Ok(Outcome::Failed(text_of(text)?)),
     }
 }

@@ -10,10 +10,10 @@ ghost use Rattle.flow_replay.specs.Steps.{Makes};
 ghost use Rattle.flow_replay.specs.Moving.{Blocks, AwaitBlocks, AllBlocks, AnyBlocks, todo_step, stopped};
 
 use crate::machine::{Machine, Progress, Todo};
-use crate::made::Made;
 use crate::several::AwaitError;
 use dura_value::{Text, Value};
 use flow_eval::EvalError;
+use flow_messages::Made;
 use flow_syntax::{Expr, Stmt};
 use flow_tasks::{HandleFault, Section};
 use std::alloc::{AllocError, Global};

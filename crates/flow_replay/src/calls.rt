@@ -11,11 +11,10 @@ ghost use Rattle.flow_replay.specs.Values.{pair_in};
 ghost use Rattle.flow_replay.specs.Views.{machine_of};
 ghost use Rattle.flow_replay.specs.Steps.{Makes, Goes};
 
-use crate::ends::entity_of;
-use crate::machine::{Machine, Todo, copy_of, name_of, value_of};
-use crate::made::{Asked, Made};
+use crate::machine::{Machine, Todo};
 use dura_value::{Body, Id, Key, Message, Name, Reply, Spot, Value};
 use flow_eval::{EvalError, to_key};
+use flow_messages::{Asked, Made, copy_id, copy_name, copy_value, entity_id};
 use flow_syntax::Expr;
 use flow_tasks::Kind;
 use std::alloc::{AllocError, Global};
@@ -39,7 +38,7 @@ impl<'f> Machine<'f> {
     {
         let number = self.next_task()?;
         self.variables
-            .set(name_of(variable)?, Value::Int(number as i64))?;
+            .set(copy_name(variable)?, Value::Int(number as i64))?;
         Ok(number)
     }
 
@@ -60,8 +59,8 @@ impl<'f> Machine<'f> {
         ensures { OnOk result (Makes made.old made.new self.new (scheduled (machine_of self.old) activity.now argument)) }
     {
         let number = self.next_task()?;
-        let asked = Asked::Activity(number, name_of(activity)?, value_of(&argument)?);
-        self.add_task(Kind::Activity(name_of(activity)?, argument))?;
+        let asked = Asked::Activity(number, copy_name(activity)?, copy_value(&argument)?);
+        self.add_task(Kind::Activity(copy_name(activity)?, argument))?;
         made.asked.push(asked)?;
         Ok(())
     }
@@ -120,7 +119,7 @@ impl<'f> Machine<'f> {
         ensures { OnOk result (Makes made.old made.new self.now (record { machine = machine_of self.now; sent = says (machine_of self.now) (id_of to) (body_of body) ∷ []; asked = [] })) }
     {
         made.messages.push(Message {
-            from: copy_of(&self.id)?,
+            from: copy_id(&self.id)?,
             to,
             body,
         })?;
@@ -138,7 +137,7 @@ impl<'f> Machine<'f> {
     {
         let (key, argument) = pair;
         let number = self.handle(variable)?;
-        let to = Id::Flow(name_of(flow)?, key);
+        let to = Id::Flow(copy_name(flow)?, key);
         self.send(made, to, Body::Start(argument, Reply::Task(number)))?;
         self.add_task(Kind::Flow)
     }
@@ -178,8 +177,8 @@ impl<'f> Machine<'f> {
         ensures { OnOk result (Makes made.old made.new self.new (asks (machine_of self.old) variable.now (spot_of spot) operation.now argument)) }
     {
         let number = self.handle(variable)?;
-        let to = entity_of(&spot)?;
-        let body = Body::Op(name_of(operation)?, argument, Reply::Task(number));
+        let to = entity_id(&spot)?;
+        let body = Body::Op(copy_name(operation)?, argument, Reply::Task(number));
         self.send(made, to, body)?;
         self.add_task(Kind::Entity(spot))
     }
@@ -199,7 +198,7 @@ impl<'f> Machine<'f> {
     {
         match self.pair(alloc, key, argument) {
             Ok((key, argument)) => {
-                let class = name_of(class)?;
+                let class = copy_name(class)?;
                 let spot = Spot { class, key };
                 if self.section.may_ask(&spot, &self.tasks) {
                     self.ask(made, variable, spot, operation, argument)
@@ -220,8 +219,8 @@ impl<'f> Machine<'f> {
     ) -> Result<(), AllocError>
         ensures { OnOk result (Makes made.old made.new self.new (signals (machine_of self.old) (spot_of spot.now) operation.now argument)) }
     {
-        let body = Body::Op(name_of(operation)?, argument, Reply::None);
-        self.send(made, entity_of(spot)?, body)
+        let body = Body::Op(copy_name(operation)?, argument, Reply::None);
+        self.send(made, entity_id(spot)?, body)
     }
 
     pub(crate) fn step_signal(
@@ -238,7 +237,7 @@ impl<'f> Machine<'f> {
     {
         match self.pair(alloc, key, argument) {
             Ok((key, argument)) => {
-                let class = name_of(class)?;
+                let class = copy_name(class)?;
                 let spot = Spot { class, key };
                 if self.section.may_signal(&spot) {
                     self.signal(made, &spot, operation, argument)

@@ -1,38 +1,16 @@
 //! How a machine leaves its section, how it faults, and how it ends.
 
-ghost use Rattle.std.specs.Prelude.{◌≡◌, ◌++◌, IfOk, OnOk, map, option_map};
-ghost use Rattle.dura_value.specs.Messages.{at_spot};
-ghost use Rattle.dura_value.specs.Views.{id_of, spot_of, spots_of, answer_of, messages_of};
-ghost use Rattle.flow_syntax.specs.Machine.{leaving, releasing, telling, ended};
-ghost use Rattle.flow_replay.specs.Views.{machine_of, progress_of, asked_of};
+ghost use Rattle.std.specs.Prelude.{◌≡◌, ◌++◌, IfOk, OnOk, option_map};
+ghost use Rattle.dura_value.specs.Views.{answer_of, messages_of};
+ghost use Rattle.flow_syntax.specs.Machine.{leaving, telling, ended};
+ghost use Rattle.flow_replay.specs.Views.{machine_of, progress_of};
 ghost use Rattle.flow_replay.specs.Steps.{Makes, outcome_told};
 
-use crate::machine::{Machine, Progress, copy_of, key_of, name_of, text_of, value_of};
-use crate::made::Made;
-use dura_value::{Answer, Body, Id, Message, Reply, Spot};
+use crate::machine::{Machine, Progress};
+use dura_value::{Answer, Body, Message, Reply};
+use flow_messages::{Made, copy_id, copy_text, copy_value, release_all};
 use flow_tasks::Section;
 use std::alloc::AllocError;
-
-/// The id of an entity.
-pub(crate) fn entity_of(spot: &Spot) -> Result<Id, AllocError>
-    ensures { IfOk result (λ id. id_of id ≡ at_spot (spot_of spot.now)) }
-{
-    Ok(Id::Entity(name_of(&spot.class)?, key_of(&spot.key)?))
-}
-
-/// Releases each of these entities.
-fn release_all(messages: &mut Vec<Message>, id: &Id, set: &[Spot]) -> Result<(), AllocError>
-    ensures { OnOk result (messages_of messages.new.items ≡ messages_of messages.old.items ++ releasing (id_of id.now) (spots_of set.now)) }
-{
-    for spot in set {
-        messages.push(Message {
-            from: copy_of(id)?,
-            to: entity_of(spot)?,
-            body: Body::Release,
-        })?;
-    }
-    Ok(())
-}
 
 impl<'f> Machine<'f> {
     /// Leaves the section that it is inside of, with a release to each entity.
@@ -52,8 +30,8 @@ impl<'f> Machine<'f> {
         ensures { IfOk result (λ answer. option_map answer_of answer ≡ outcome_told (progress_of progress.now)) }
     {
         match progress {
-            Progress::Done(value) => Ok(Some(Answer::Done(value_of(value)?))),
-            Progress::Failed(text) => Ok(Some(Answer::Failed(text_of(text)?))),
+            Progress::Done(value) => Ok(Some(Answer::Done(copy_value(value)?))),
+            Progress::Failed(text) => Ok(Some(Answer::Failed(copy_text(text)?))),
             Progress::Unborn | Progress::Running => Ok(None),
         }
     }
@@ -65,8 +43,8 @@ impl<'f> Machine<'f> {
         if let Reply::Task(number) = self.reply {
             if let Some(answer) = self.ending(progress)? {
                 messages.push(Message {
-                    from: copy_of(&self.id)?,
-                    to: copy_of(&self.starter)?,
+                    from: copy_id(&self.id)?,
+                    to: copy_id(&self.starter)?,
                     body: Body::Result(Reply::Task(number), answer),
                 })?;
             }

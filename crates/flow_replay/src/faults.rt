@@ -5,10 +5,10 @@ ghost use Rattle.flow_syntax.specs.Machine.{throws};
 ghost use Rattle.flow_replay.specs.Views.{machine_of};
 ghost use Rattle.flow_replay.specs.Steps.{Makes, Throws};
 
-use crate::machine::{Machine, Progress, Todo, name_of, text_of};
-use crate::made::Made;
+use crate::machine::{Machine, Progress, Todo};
 use dura_value::{Text, Value};
 use flow_eval::EvalError;
+use flow_messages::{Made, copy_name, copy_text};
 use std::alloc::{AllocError, Global};
 
 impl<'f> Machine<'f> {
@@ -21,7 +21,7 @@ impl<'f> Machine<'f> {
             match todo {
                 Todo::EndTry(variable, handler) => {
                     self.variables
-                        .set(name_of(variable)?, Value::Text(text_of(fault)?))?;
+                        .set(copy_name(variable)?, Value::Text(copy_text(fault)?))?;
                     self.rest.push(Todo::Body(handler))?;
                     return Ok(());
                 }
@@ -29,7 +29,7 @@ impl<'f> Machine<'f> {
                 _ => {}
             }
         }
-        self.end(made, Progress::Failed(text_of(fault)?))?;
+        self.end(made, Progress::Failed(copy_text(fault)?))?;
         Ok(())
     }
 

@@ -10,8 +10,8 @@ ghost use Rattle.flow_replay.specs.Steps.{Makes, Moves, Waits};
 ghost use Rattle.flow_replay.specs.Moving.{Pops, Splits, Takes, todo_step};
 
 use crate::machine::{Machine, Progress, Todo};
-use crate::made::Made;
 use dura_value::{Name, Value};
+use flow_messages::{Event, Made};
 use flow_syntax::Stmt;
 use flow_tasks::Section;
 use std::alloc::{AllocError, Global};

@@ -3,11 +3,12 @@
 ghost use Rattle.std.specs.Prelude.{◌≡◌, IfOk, map, option_map};
 ghost use Rattle.dura_value.specs.Views.{id_of};
 ghost use Rattle.flow_syntax.specs.Machine.{new_machine, replayed};
-ghost use Rattle.flow_replay.specs.Views.{machine_of, body_of, past_of};
+ghost use Rattle.flow_messages.specs.Views.{past_of};
+ghost use Rattle.flow_replay.specs.Views.{machine_of, body_of};
 
-use crate::events::Past;
 use crate::machine::Machine;
 use dura_value::Id;
+use flow_messages::Past;
 use flow_syntax::Stmt;
 use std::alloc::{AllocError, Global};
 

@@ -1,6 +1,6 @@
 //! The step of a lock.
 
-ghost use Rattle.std.specs.Prelude.{◌≡◌, [], OnOk, IfOk, map};
+ghost use Rattle.std.specs.Prelude.{◌≡◌, [], OnOk, map};
 ghost use Rattle.dura_value.specs.Messages.{entity_at, set_of};
 ghost use Rattle.dura_value.specs.Views.{spot_of, spots_of};
 ghost use Rattle.flow_replay.specs.Values.{spot_in};
@@ -10,21 +10,13 @@ ghost use Rattle.flow_eval.specs.Gives.{Gives};
 ghost use Rattle.flow_replay.specs.Views.{machine_of};
 ghost use Rattle.flow_replay.specs.Steps.{Makes, Goes};
 
-use crate::ends::entity_of;
-use crate::machine::{Machine, Todo, copy_of, name_of};
-use crate::made::Made;
+use crate::machine::{Machine, Todo};
 use dura_value::{Body, Spot, Spots};
 use flow_eval::{EvalError, to_key};
+use flow_messages::{Made, copy_id, copy_name, copy_spots, entity_id};
 use flow_syntax::{Locked, Stmt};
 use flow_tasks::{Kind, Section, set_of};
 use std::alloc::{AllocError, Global};
-
-/// A copy of a set.
-pub(crate) fn spots_copy(spots: &Spots) -> Result<Spots, AllocError>
-    ensures { IfOk result (λ copy. copy ≡ spots.now) }
-{
-    spots.clone()
-}
 
 impl<'f> Machine<'f> {
     /// An entity that is to be locked.
@@ -34,12 +26,12 @@ impl<'f> Machine<'f> {
         let key = self.value(alloc, &one.key)?;
         Ok(Spot {
             key: to_key(alloc, &key)?,
-            class: name_of(&one.class)?,
+            class: copy_name(&one.class)?,
         })
     }
 
     /// The entities that are to be locked, in the order in which they are written.
-    #[tactic(auto, using(crate::proofs::AllValues::nothing_behind, crate::proofs::AllSpots::none_left, crate::proofs::AllSpots::one_spot, crate::proofs::AllSpots::one_fault))]
+    #[tactic(auto, using(flow_messages::proofs::AllValues::nothing_behind, crate::proofs::AllSpots::none_left, crate::proofs::AllSpots::one_spot, crate::proofs::AllSpots::one_fault))]
     fn spots(&self, alloc: Global, entities: &[Locked]) -> Result<Vec<Spot>, EvalError>
         ensures { Gives (λ v. spots_of v.items) result (eval_spots (machine_of self.now).variables (map locked_of entities.now)) }
     {
@@ -59,7 +51,7 @@ impl<'f> Machine<'f> {
     {
         let number = self.next_task()?;
         self.ask_for(made, number, &set)?;
-        self.add_task(Kind::Grant(spots_copy(&set)?))?;
+        self.add_task(Kind::Grant(copy_spots(&set)?))?;
         self.section = Section::Acquiring(number, set);
         self.plan(Todo::Unlock)?;
         self.plan(Todo::Body(body))?;
@@ -72,8 +64,8 @@ impl<'f> Machine<'f> {
     {
         match set.as_slice().first() {
             Some(first) => {
-                let body = Body::Lock(copy_of(&self.id)?, number, spots_copy(set)?, 0);
-                self.send(made, entity_of(first)?, body)
+                let body = Body::Lock(copy_id(&self.id)?, number, copy_spots(set)?, 0);
+                self.send(made, entity_id(first)?, body)
             }
             None => Ok(()),
         }

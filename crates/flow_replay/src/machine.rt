@@ -6,8 +6,9 @@ ghost use Rattle.flow_syntax.specs.Machine.{new_machine};
 ghost use Rattle.flow_replay.specs.Views.{machine_of, body_of, todos_of};
 ghost use Rattle.flow_replay.specs.Steps.{with_rest};
 
-use dura_value::{Id, Key, Name, Reply, Text, Value};
+use dura_value::{Id, Name, Reply, Text, Value};
 use flow_eval::Variables;
+use flow_messages::copy_id;
 use flow_syntax::Stmt;
 use flow_tasks::{KeptEvents, Section, Tasks};
 use std::alloc::{AllocError, Global};
@@ -77,9 +78,9 @@ impl<'f> Machine<'f> {
         ensures { IfOk result (λ m. machine_of m ≡ new_machine (id_of id.now) (option_map body_of body.entry)) }
     {
         Ok(Machine {
-            id: copy_of(id)?,
+            id: copy_id(id)?,
             body,
-            starter: copy_of(id)?,
+            starter: copy_id(id)?,
             reply: Reply::None,
             variables: Variables::new(alloc),
             rest: Vec::new(alloc),
@@ -100,51 +101,5 @@ impl<'f> Machine<'f> {
     {
         self.rest.push(todo)?;
         Ok(())
-    }
-}
-
-/// A copy of an id.
-pub(crate) fn copy_of(id: &Id) -> Result<Id, AllocError>
-    ensures { IfOk result (λ copy. copy ≡ id.now) }
-{
-    id.clone()
-}
-
-/// A copy of a name.
-pub(crate) fn name_of(name: &Name) -> Result<Name, AllocError>
-    ensures { IfOk result (λ copy. copy ≡ name.now) }
-{
-    name.clone()
-}
-
-/// A copy of a key.
-pub(crate) fn key_of(key: &Key) -> Result<Key, AllocError>
-    ensures { IfOk result (λ copy. copy ≡ key.now) }
-{
-    key.clone()
-}
-
-/// A copy of a text.
-pub(crate) fn text_of(text: &Text) -> Result<Text, AllocError>
-    ensures { IfOk result (λ copy. copy ≡ text.now) }
-{
-    text.clone()
-}
-
-/// A copy of a value.
-pub(crate) fn value_of(value: &Value) -> Result<Value, AllocError>
-    ensures { IfOk result (λ copy. copy ≡ value.now) }
-{
-    value.clone()
-}
-
-/// A copy of a reply.
-pub(crate) fn reply_of(reply: &Reply) -> Reply
-    ensures { result ≡ reply.now }
-{
-    match reply {
-        Reply::None => Reply::None,
-        Reply::Task(number) => Reply::Task(*number),
-        Reply::Request(number) => Reply::Request(*number),
     }
 }

@@ -3,16 +3,17 @@
 ghost use Rattle.std.specs.Prelude.{◌≡◌, ◌∷◌, [], codes, OnOk, IfOk};
 ghost use Rattle.dura_value.specs.Views.{answer_of};
 ghost use Rattle.flow_syntax.specs.Machine.{with_answer, outcome_of, heard, oldest_listener, granted_in, recorded, granted_late, goes_on, begins, resumed_by, resume};
-ghost use Rattle.flow_replay.specs.Views.{machine_of, event_of};
+ghost use Rattle.flow_messages.specs.Views.{event_of};
+ghost use Rattle.flow_replay.specs.Views.{machine_of};
 ghost use Rattle.flow_replay.specs.Steps.{Makes, Resumes, begun};
 ghost use Rattle.flow_syntax.specs.Views.{block_of};
 
-use crate::events::Event;
-use crate::locks::spots_copy;
-use crate::machine::{Machine, Progress, Todo, copy_of, name_of, reply_of, text_of, value_of};
-use crate::made::Made;
+use crate::machine::{Machine, Progress, Todo};
 use dura_value::{Answer, Name, Outcome, Value};
 use flow_eval::Variables;
+use flow_messages::{
+    Event, Made, copy_id, copy_name, copy_reply, copy_spots, copy_text, copy_value,
+};
 use flow_syntax::Stmt;
 use flow_tasks::Section;
 use std::alloc::{AllocError, Global};
@@ -25,7 +26,7 @@ fn with_argument(alloc: Global, argument: &Value) -> Result<Variables, AllocErro
     ensures { IfOk result (λ set. set ≡ (codes "arg", argument.now) ∷ []) }
 {
     let mut variables = Variables::new(alloc);
-    variables.set(Name::of(alloc, b"arg")?, value_of(argument)?)?;
+    variables.set(Name::of(alloc, b"arg")?, copy_value(argument)?)?;
     Ok(variables)
 }
 
@@ -35,8 +36,8 @@ impl<'f> Machine<'f> {
         ensures { OnOk result (machine_of self.new ≡ with_answer (machine_of self.old) task (outcome_of (answer_of answer.now))) }
     {
         match answer {
-            Answer::Done(value) => self.arrive(task as usize, Outcome::Done(value_of(value)?)),
-            Answer::Failed(text) => self.arrive(task as usize, Outcome::Failed(text_of(text)?)),
+            Answer::Done(value) => self.arrive(task as usize, Outcome::Done(copy_value(value)?)),
+            Answer::Failed(text) => self.arrive(task as usize, Outcome::Failed(copy_text(text)?)),
             _ => Ok(()),
         }
     }
@@ -46,8 +47,8 @@ impl<'f> Machine<'f> {
         ensures { OnOk result (machine_of self.new ≡ heard (machine_of self.old) name.now value.now (oldest_listener name.now (machine_of self.old).tasks)) }
     {
         match self.tasks.oldest_listener(name) {
-            Some(number) => self.arrive(number, Outcome::Done(value_of(value)?)),
-            None => self.kept.push(name_of(name)?, value_of(value)?),
+            Some(number) => self.arrive(number, Outcome::Done(copy_value(value)?)),
+            None => self.kept.push(copy_name(name)?, copy_value(value)?),
         }
     }
 
@@ -56,7 +57,7 @@ impl<'f> Machine<'f> {
         ensures { OnOk result (machine_of self.new ≡ granted_in (machine_of self.old) task (machine_of self.old).section) }
     {
         let set = match &self.section {
-            Section::Acquiring(waited, set) if *waited == task => spots_copy(set)?,
+            Section::Acquiring(waited, set) if *waited == task => copy_spots(set)?,
             _ => return Ok(()),
         };
         self.arrive(task as usize, Outcome::Done(Value::Null))?;
@@ -122,8 +123,8 @@ impl<'f> Machine<'f> {
         let Event::Started(sender, argument, reply) = event else {
             return self.fail(alloc, made, "unknown");
         };
-        self.starter = copy_of(sender)?;
-        self.reply = reply_of(reply);
+        self.starter = copy_id(sender)?;
+        self.reply = copy_reply(reply);
         match self.body {
             Some(body) => {
                 self.run_body(with_argument(alloc, argument)?, body)?;

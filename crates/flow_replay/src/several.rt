@@ -3,35 +3,20 @@
 ghost use Rattle.std.specs.Prelude.{◌≡◌, IfOk, OnOk, Some};
 ghost use Rattle.flow_syntax.specs.Views.{expression_of};
 ghost use Rattle.flow_syntax.specs.Syntax.{await_all, await_any};
-ghost use Rattle.flow_syntax.specs.Machine.{statement_step, waits_for, awaited_all, awaited_any, all_arrived, first_arrived, all_values};
+ghost use Rattle.flow_syntax.specs.Machine.{statement_step, awaited_all, awaited_any, all_arrived, first_arrived, all_values};
 ghost use Rattle.flow_eval.specs.Gives.{Gives};
-ghost use Rattle.flow_replay.specs.Values.{list_given, Collects, handle_in, handles_in};
+ghost use Rattle.flow_replay.specs.Values.{list_given, handle_in, handles_in};
 ghost use Rattle.flow_replay.specs.Awaits.{NamesTasks, ThrowsAwait};
 ghost use Rattle.flow_replay.specs.Views.{machine_of};
-ghost use Rattle.flow_replay.specs.Steps.{Makes, Goes, Waits};
+ghost use Rattle.flow_replay.specs.Steps.{Goes, Waits};
 
-use crate::machine::{Machine, text_of, value_of};
-use crate::made::Made;
-use dura_value::{Name, Outcome, Text, Value};
+use crate::machine::Machine;
+use dura_value::{Name, Outcome, Value};
 use flow_eval::{EvalError, list_of, to_scalars};
+use flow_messages::{Made, all_values};
 use flow_syntax::Expr;
 use flow_tasks::HandleFault;
 use std::alloc::{AllocError, Global};
-
-/// The values of results, or the first failure in their order.
-#[tactic(auto, using(crate::proofs::AllValues::nothing_behind, crate::proofs::AllValues::none_left, crate::proofs::AllValues::one_done, crate::proofs::AllValues::one_failed))]
-fn all_values(alloc: Global, outcomes: &[Outcome]) -> Result<Result<Vec<Value>, Text>, AllocError>
-    ensures { IfOk result (Collects (all_values outcomes.now)) }
-{
-    let mut values = Vec::with_capacity(alloc, outcomes.len())?;
-    for outcome in outcomes {
-        match outcome {
-            Outcome::Done(value) => values.push(value_of(value)?)?,
-            Outcome::Failed(text) => return Ok(Err(text_of(text)?)),
-        }
-    }
-    Ok(Ok(values))
-}
 
 /// The list of values.
 fn list_given(alloc: Global, values: Vec<Value>) -> Result<Value, EvalError>

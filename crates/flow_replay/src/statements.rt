@@ -1,7 +1,6 @@
 //! The steps of statements that compute and branch.
 
-ghost use Rattle.std.specs.Prelude.{◌≡◌, ◌++◌, ◌∷◌, [], OnOk, IfOk, pos, length};
-ghost use Rattle.dura_value.specs.declared.data.Value.TheVariants.{Int};
+ghost use Rattle.std.specs.Prelude.{◌≡◌, ◌++◌, ◌∷◌, [], OnOk};
 ghost use Rattle.flow_syntax.specs.Eval.{eval};
 ghost use Rattle.flow_replay.specs.Values.{truth_in, text_in};
 ghost use Rattle.flow_syntax.specs.Views.{expression_of, block_of};
@@ -9,12 +8,12 @@ ghost use Rattle.flow_syntax.specs.Syntax.{while, first_then, nothing};
 ghost use Rattle.flow_syntax.specs.Machine.{having, sets, branches, loops, ended, done, throws, todo, end_try};
 ghost use Rattle.flow_eval.specs.Gives.{Gives};
 ghost use Rattle.flow_replay.specs.Views.{machine_of};
-ghost use Rattle.flow_replay.specs.Steps.{Makes, Goes, with_rest};
+ghost use Rattle.flow_replay.specs.Steps.{Goes, with_rest};
 
-use crate::machine::{Machine, Progress, Todo, name_of, text_of};
-use crate::made::Made;
+use crate::machine::{Machine, Progress, Todo};
 use dura_value::{Name, Text, Value};
 use flow_eval::{EvalError, eval, to_text, to_truth};
+use flow_messages::{Made, copy_name, copy_text};
 use flow_syntax::{Expr, Stmt};
 use std::alloc::{AllocError, Global};
 
@@ -30,7 +29,7 @@ impl<'f> Machine<'f> {
     pub(crate) fn set(&mut self, variable: &Name, value: Value) -> Result<(), AllocError>
         ensures { OnOk result (machine_of self.new ≡ (sets (machine_of self.old) variable.now value).machine) }
     {
-        self.variables.set(name_of(variable)?, value)
+        self.variables.set(copy_name(variable)?, value)
     }
 
     pub(crate) fn step_let(
@@ -128,7 +127,7 @@ impl<'f> Machine<'f> {
         ensures { Gives (λ t. t) result (text_in (machine_of self.now).variables (expression_of text.now)) }
     {
         let value = self.value(alloc, text)?;
-        Ok(text_of(to_text(&value)?)?)
+        Ok(copy_text(to_text(&value)?)?)
     }
 
     pub(crate) fn step_fail(

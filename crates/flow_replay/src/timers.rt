@@ -2,16 +2,16 @@
 
 ghost use Rattle.std.specs.Prelude.{◌≡◌, OnOk, ◌<◌, ◌^◌};
 ghost use Rattle.flow_syntax.specs.Views.{expression_of};
-ghost use Rattle.flow_syntax.specs.Machine.{having, sets_timer, is_due_in_time, listens};
+ghost use Rattle.flow_syntax.specs.Machine.{having, sets_timer, is_due_in_time};
 ghost use Rattle.flow_eval.specs.Gives.{Gives};
 ghost use Rattle.flow_replay.specs.Values.{integer_in};
 ghost use Rattle.flow_replay.specs.Views.{machine_of};
 ghost use Rattle.flow_replay.specs.Steps.{Makes, Goes};
 
-use crate::machine::{Machine, name_of};
-use crate::made::{Asked, Made};
-use dura_value::{NUMBER_LIMIT, Name, Outcome};
+use crate::machine::Machine;
+use dura_value::{NUMBER_LIMIT, Name};
 use flow_eval::{EvalError, to_integer};
+use flow_messages::{Asked, Made};
 use flow_syntax::Expr;
 use flow_tasks::Kind;
 use std::alloc::{AllocError, Global};

@@ -3,7 +3,7 @@ use Rattle.dura_value.specs.Views.{spots_of}
 use Rattle.flow_syntax.specs.Views.{locked_of}
 use Rattle.flow_syntax.specs.Machine.{eval_spots}
 use Rattle.flow_replay.specs.Views.{machine_of}
-use Rattle.flow_replay.proofs.AllValues.{behind}
+use Rattle.flow_messages.proofs.AllValues.{behind}
 use Rattle.flow_replay.proofs.machine.Machine.spots.Given as goal
 
 -- the entities so far, and those of the rest

@@ -6,7 +6,8 @@ use Rattle.flow_syntax.specs.Syntax.{await, if_then, while, try, lock_in, first_
 use Rattle.flow_syntax.specs.Views.{statement_of, expression_of, block_of, locked_of}
 use Rattle.flow_syntax.specs.Machine.{statement_step}
 use Rattle.flow_syntax.proofs.Rows.{block_in_row}
-use Rattle.flow_replay.specs.Views.{machine_of, asked_of}
+use Rattle.flow_messages.specs.Views.{asked_of}
+use Rattle.flow_replay.specs.Views.{machine_of}
 use Rattle.flow_replay.specs.Steps.{Moves, Waits}
 use Rattle.flow_replay.proofs.machine.Machine.step_statement.Goals as goal
 

@@ -2,7 +2,8 @@ use Rattle.std.proofs.Common.{◌∙◌, codes, map, ap, sym, subst}
 use Rattle.std.proofs.lemmas.List.{append-nil}
 use Rattle.dura_value.specs.Views.{messages_of}
 use Rattle.flow_syntax.specs.Machine.{ended, failed}
-use Rattle.flow_replay.specs.Views.{machine_of, asked_of}
+use Rattle.flow_messages.specs.Views.{asked_of}
+use Rattle.flow_replay.specs.Views.{machine_of}
 use Rattle.flow_replay.specs.Steps.{Makes}
 use Rattle.flow_replay.specs.Moving.{Takes}
 use Rattle.flow_replay.proofs.Taken.{put_back, stops_there, stops_short}

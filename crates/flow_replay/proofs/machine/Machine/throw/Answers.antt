@@ -21,9 +21,9 @@ returns-in-EndTry c =
     let m = machine_of c.loop-todo.self in
     let f = c.args.fault.now in
     let is = c.pop.ensures.items ∙ ap (λ o. c.pop.new.self.items ++ option_to_list o) c.in-Some.is ∙ ap (λ t. c.pop.new.self.items ++ t ∷ []) c.in-EndTry.is in
-    let name = c.in_ok-name_of-in-EndTry.ensures in
-    let text = c.in_ok-text_of-in-EndTry.ensures in
-    let set = c.in_ok-set-in-EndTry.ensures.ok ∙ ap (λ n. set_in m.variables n (values.Text c.in_ok-text_of-in-EndTry.field-0)) name ∙ ap (λ t. set_in m.variables c.in-EndTry.variable.now (values.Text t)) text in
+    let name = c.in_ok-copy_name-in-EndTry.ensures in
+    let text = c.in_ok-copy_text-in-EndTry.ensures in
+    let set = c.in_ok-set-in-EndTry.ensures.ok ∙ ap (λ n. set_in m.variables n (values.Text c.in_ok-copy_text-in-EndTry.field-0)) name ∙ ap (λ t. set_in m.variables c.in-EndTry.variable.now (values.Text t)) text in
     let after = c.push.new.self.items in
     let caught_it = caught m f c.loop-todo.self.rest.items c.pop.new.self.items after c.in-EndTry.variable c.in-EndTry.handler is c.in_ok-push-in-EndTry.ensures.items in
     leads_to c.args.made.now c.loop-todo.made _ (thrown m f (rest_of c.loop-todo.self.rest.items)) (throws (machine_of c.args.self.now) f)

@@ -1,7 +1,7 @@
 use Rattle.std.proofs.Common.{◌≡◌, ◌++◌, drop}
 use Rattle.dura_value.specs.Views.{id_of, spots_of, messages_of}
 use Rattle.flow_syntax.specs.Machine.{releasing}
-use Rattle.flow_replay.proofs.ends.release_all.Given as goal
+use Rattle.flow_messages.proofs.sends.release_all.Given as goal
 
 -- the messages so far, and the releases of the rest
 abbrev pub invariant-loop-spot : goal.invariant-loop-spot

@@ -1,0 +1,4 @@
+pub mod AllValues
+pub mod Places
+pub mod Releases
+pub mod SameIds

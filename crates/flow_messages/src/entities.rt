@@ -1,0 +1,32 @@
+//! Entities.
+
+ghost use Rattle.std.specs.Prelude.{◌≡◌};
+ghost use Rattle.dura_value.specs.Views.{id_of};
+ghost use Rattle.flow_syntax.specs.Entity.{takes};
+ghost use Rattle.flow_messages.specs.Views.{entity_of};
+
+use dura_value::{Id, Value};
+
+/// An entity.
+#[derive(Debug, Drop)]
+pub struct Entity {
+    /// Its value.
+    pub value: Value,
+    /// The instance that holds it.
+    pub holder: Option<Id>,
+    /// Its last moment.
+    pub last: u64,
+}
+
+impl Entity {
+    /// Whether it takes what this sender sends: with a holder it takes only what the holder sends.
+    #[tactic(auto, using(crate::proofs::SameIds::derived_id_eq))]
+    pub fn takes(&self, sender: &Id) -> bool
+        ensures { result ≡ takes (entity_of self.now).holder (id_of sender.now) }
+    {
+        match &self.holder {
+            Some(holder) => *holder == *sender,
+            None => true,
+        }
+    }
+}

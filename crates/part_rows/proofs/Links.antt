@@ -1,0 +1,96 @@
+-- The first message of a link, by its place.
+use Rattle.std.proofs.Common.{◌≡◌, ◌∙◌, ◌<◌, ◌≤◌, ◌+◌, ◌&&◌, ◌++◌, ◌×◌, ℕ, zero, suc, List, [], ◌∷◌, length, take, drop, Bool, true, false, not, Option, Some, None, get_or, nat_lt, refl, ap, sym, subst, cond, arith}
+use Rattle.std.specs.List.{position, position_or_len, remove}
+use Rattle.dura_value.specs.declared.messages.Message.{Message}
+use Rattle.dura_value.specs.Ids.{Id}
+use Rattle.dura_value.specs.Messages as said
+use Rattle.dura_value.specs.Views.{body_of, message_of, messages_of}
+use Rattle.dura_model.specs.Partition.{first_in, without_first}
+use Rattle.part_rows.specs.Queues.{is_of_link}
+
+-- The first message of the link is at this place.
+record Found (ms : List Message) (from to : Id) (place : ℕ) : Type 0 where
+  said : (m : Message) → first_in (messages_of ms) from to ≡ Some (body_of (get_or ms place m).body)
+  gone : without_first (messages_of ms) from to ≡ messages_of (remove ms place)
+
+found_here : (m : Message) (ms : List Message) (from to : Id) → is_of_link from to m ≡ true → Found (m ∷ ms) from to 0
+found_here m ms from to is = record {
+  said = λ d. ap (λ (c : Bool). cond c (Some (body_of m.body)) (first_in (messages_of ms) from to)) is;
+  gone = ap (λ (c : Bool). cond c (messages_of ms) (message_of m ∷ without_first (messages_of ms) from to)) is;
+}
+
+found_later : (m : Message) (ms : List Message) (from to : Id) (place : ℕ) → is_of_link from to m ≡ false → Found ms from to place → Found (m ∷ ms) from to (suc place)
+found_later m ms from to place is found = record {
+  said = λ d. ap (λ (c : Bool). cond c (Some (body_of m.body)) (first_in (messages_of ms) from to)) is ∙ found.said d;
+  gone = ap (λ (c : Bool). cond c (messages_of ms) (message_of m ∷ without_first (messages_of ms) from to)) is ∙ ap (λ (rest : List said.Message). message_of m ∷ rest) found.gone;
+}
+
+abbrev place_in : Id → Id → List Message → ℕ
+place_in from to ms = position_or_len (is_of_link from to) ms
+
+-- where the first of a list is
+abbrev place_by : Bool → ℕ → ℕ
+place_by b later = cond (not b) (suc later) 0
+
+found_by : (b : Bool) (m : Message) (ms : List Message) (from to : Id) → is_of_link from to m ≡ b → (place_in from to ms < length ms → Found ms from to (place_in from to ms))
+    → place_by b (place_in from to ms) < suc (length ms) → Found (m ∷ ms) from to (place_by b (place_in from to ms))
+found_by true m ms from to is more inside = found_here m ms from to is
+found_by false m ms from to is more inside = found_later m ms from to (place_in from to ms) is (more (omega (arith, inside)))
+
+found : (ms : List Message) (from to : Id) → place_in from to ms < length ms → Found ms from to (place_in from to ms)
+found [] from to inside = absurd (let none : 0 < 0 = inside in omega (arith, none))
+found (m ∷ ms) from to inside = found_by (is_of_link from to m) m ms from to refl (found ms from to) inside
+
+-- No message is of the link.
+record Missing (ms : List Message) (from to : Id) : Type 0 where
+  said : first_in (messages_of ms) from to ≡ None
+  gone : without_first (messages_of ms) from to ≡ messages_of ms
+
+missing_by : (b : Bool) (m : Message) (ms : List Message) (from to : Id) → is_of_link from to m ≡ b → (length ms ≤ place_in from to ms → Missing ms from to)
+    → suc (length ms) ≤ place_by b (place_in from to ms) → Missing (m ∷ ms) from to
+missing_by true m ms from to is more past = absurd (let none : suc (length ms) ≤ 0 = past in omega (arith, none))
+missing_by false m ms from to is more past =
+    let rest = more (omega (arith, past)) in
+    record {
+      said = ap (λ (c : Bool). cond c (Some (body_of m.body)) (first_in (messages_of ms) from to)) is ∙ rest.said;
+      gone = ap (λ (c : Bool). cond c (messages_of ms) (message_of m ∷ without_first (messages_of ms) from to)) is ∙ ap (λ (others : List said.Message). message_of m ∷ others) rest.gone;
+    }
+
+missing : (ms : List Message) (from to : Id) → length ms ≤ place_in from to ms → Missing ms from to
+missing [] from to past = record { said = refl; gone = refl }
+missing (m ∷ ms) from to past = missing_by (is_of_link from to m) m ms from to refl (missing ms from to) past
+
+there : (b : Bool) (n place : ℕ) → cond b (Some n) None ≡ Some place → (b ≡ true) × (n ≡ place)
+there true n place is = (refl, cc is)
+there false n place is = absurd (cc is)
+
+not_there : (b : Bool) (n : ℕ) → cond b (Some n) None ≡ None → b ≡ false
+not_there true n is = absurd (cc is)
+not_there false n is = refl
+
+inside_of : (n k : ℕ) → nat_lt n k ≡ true → n < k
+inside_of n k is = omega (arith, is)
+
+past_of : (n k : ℕ) → nat_lt n k ≡ false → k ≤ n
+past_of n k is = omega (arith, is)
+
+pub place_found : (ms : List Message) (from to : Id) (place : ℕ) → Some place ≡ position (is_of_link from to) ms → (place < length ms) × Found ms from to place
+place_found ms from to place is =
+    let both = there (nat_lt (place_in from to ms) (length ms)) (place_in from to ms) place (sym is) in
+    let inside = inside_of (place_in from to ms) (length ms) both.0 in
+    (subst (λ (n : ℕ). n < length ms) both.1 inside, subst (Found ms from to) both.1 (found ms from to inside))
+
+pub place_inside : (ms : List Message) (from to : Id) (place : ℕ) → Some place ≡ position (is_of_link from to) ms → place < length ms
+place_inside ms from to place is = (place_found ms from to place is).0
+
+pub place_said : (ms : List Message) (from to : Id) (place : ℕ) (m : Message) → Some place ≡ position (is_of_link from to) ms → m ≡ get_or ms place m → first_in (messages_of ms) from to ≡ Some (body_of m.body)
+place_said ms from to place m is at = (place_found ms from to place is).1.said m ∙ ap (λ (d : Message). Some (body_of d.body)) (sym at)
+
+pub place_gone : (ms : List Message) (from to : Id) (place : ℕ) → Some place ≡ position (is_of_link from to) ms → without_first (messages_of ms) from to ≡ messages_of (remove ms place)
+place_gone ms from to place is = (place_found ms from to place is).1.gone
+
+pub no_place_said : (ms : List Message) (from to : Id) → None ≡ position (is_of_link from to) ms → first_in (messages_of ms) from to ≡ None
+no_place_said ms from to is = (missing ms from to (past_of (place_in from to ms) (length ms) (not_there (nat_lt (place_in from to ms) (length ms)) (place_in from to ms) (sym is)))).said
+
+pub no_place_gone : (ms : List Message) (from to : Id) → None ≡ position (is_of_link from to) ms → without_first (messages_of ms) from to ≡ messages_of ms
+no_place_gone ms from to is = (missing ms from to (past_of (place_in from to ms) (length ms) (not_there (nat_lt (place_in from to ms) (length ms)) (place_in from to ms) (sym is)))).gone

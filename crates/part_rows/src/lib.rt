@@ -1,0 +1,16 @@
+//! What a partition knows: its clients' requests and their answers, its instances and entities with what they wait for, the
+//! messages on their way here, and the streams from and to other partitions.
+//!
+//! - `rows`: an instance as it is kept, a pending activity.
+//! - `queue`: the messages to receivers here.
+//! - `streams`: what came in from other partitions, and what goes out to them.
+//! - `specs/Views`: the plain data that these stand for.
+#![tactic(auto)]
+
+mod queue;
+mod rows;
+mod streams;
+
+pub use queue::Queue;
+pub use rows::{Activity, Row, Waiting};
+pub use streams::{Identity, Inbox, Inboxes, Outbox, Outboxes, Posted};

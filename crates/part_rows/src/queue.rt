@@ -1,0 +1,76 @@
+//! The messages to receivers of a partition.
+
+ghost use Rattle.std.specs.Prelude.{◌≡◌, ◌++◌, ◌∷◌, [], Some, OnOk, IfSome, IfNone};
+ghost use Rattle.std.specs.List.{position};
+ghost use Rattle.dura_value.specs.Views.{id_of, body_of, messages_of};
+ghost use Rattle.dura_model.specs.Partition.{first_in, without_first};
+ghost use Rattle.part_rows.specs.Queues.{is_of_link, said_in};
+
+use dura_value::{Id, Message};
+use std::alloc::{AllocError, Global};
+use std::collections::VecDeque;
+use std::marker::Model;
+
+/// Messages in the order in which they came, which a contract sees as a list.
+#[derive(Debug, Drop)]
+pub struct Queue {
+    messages: VecDeque<Message>,
+}
+
+impl Model for Queue {
+    ghost use Rattle.std.specs.Prelude.{List};
+    ghost use Rattle.dura_value.specs.declared.messages.Message.{Message};
+
+    ghost Value = { List Message };
+
+    ghost view = { λ q. q.messages.items };
+}
+
+impl Queue {
+    /// No messages.
+    pub fn new(alloc: Global) -> Queue
+        ensures { result ≡ [] }
+    {
+        Queue {
+            messages: VecDeque::new(alloc),
+        }
+    }
+
+    /// A message comes behind all others.
+    pub fn push(&mut self, message: Message) -> Result<(), AllocError>
+        ensures { OnOk result (self.new ≡ self.old ++ message ∷ []) }
+    {
+        self.messages.push_back(message)?;
+        Ok(())
+    }
+
+    /// The message that has waited longest.
+    pub fn front(&self) -> Option<&Message>
+        ensures some { IfSome result (λ message. first_in (messages_of self.now) (id_of message.now.from) (id_of message.now.to) ≡ Some (body_of message.now.body)) }
+        ensures none { IfNone result (self.now ≡ []) }
+    {
+        self.messages.front()
+    }
+
+    /// Where the first message from one to the other is.
+    #[tactic(auto, using(flow_messages::proofs::SameIds::derived_id_eq))]
+    fn place_of(&self, from: &Id, to: &Id) -> Option<usize>
+        ensures { result ≡ position (is_of_link (id_of from.now) (id_of to.now)) self.now }
+    {
+        self.messages
+            .iter()
+            .position(|message| *from == message.from && *to == message.to)
+    }
+
+    /// The first message from one to the other is taken out.
+    #[tactic(auto, using(crate::proofs::Links::place_inside, crate::proofs::Links::place_said, crate::proofs::Links::place_gone, crate::proofs::Links::no_place_said, crate::proofs::Links::no_place_gone))]
+    pub fn take_first(&mut self, from: &Id, to: &Id) -> Option<Message>
+        ensures first { said_in result ≡ first_in (messages_of self.old) (id_of from.now) (id_of to.now) }
+        ensures rest { messages_of self.new ≡ without_first (messages_of self.old) (id_of from.now) (id_of to.now) }
+    {
+        match self.place_of(from, to) {
+            Some(place) => self.messages.remove(place),
+            None => None,
+        }
+    }
+}

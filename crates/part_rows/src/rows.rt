@@ -1,0 +1,33 @@
+//! What is kept of an instance.
+
+use dura_value::{Id, Name, Value};
+use flow_messages::Past;
+
+/// A client's request that waits for the end of an instance.
+#[derive(Debug, Drop)]
+pub struct Waiting {
+    /// The client.
+    pub client: Id,
+    /// The request's number.
+    pub number: u32,
+}
+
+/// An instance as it is kept.
+#[derive(Debug, Drop)]
+pub struct Row {
+    /// Its last moment.
+    pub stamp: u64,
+    /// Its events, the first of which came first.
+    pub history: Vec<Past>,
+    /// Who waits for its end, the longest waiting first.
+    pub waiting: Vec<Waiting>,
+}
+
+/// An activity that is pending.
+#[derive(Debug, Drop)]
+pub struct Activity {
+    /// Its name.
+    pub name: Name,
+    /// Its argument.
+    pub argument: Value,
+}

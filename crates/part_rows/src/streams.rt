@@ -1,0 +1,154 @@
+//! The streams from and to other partitions.
+
+ghost use Rattle.std.specs.Prelude.{◌≡◌, ◌+◌, length, nat_le, if◌then◌else◌, IfSome, OnOk};
+ghost use Rattle.dura_model.specs.Partition.{with_posted, with_inbox, begins_at, with_first};
+ghost use Rattle.part_rows.specs.Views.{identity_of, posted_of, inbox_of, outbox_of, inboxes_of, outboxes_of};
+
+use dura_value::Message;
+use std::alloc::{AllocError, Global};
+use std::collections::{BTreeMap, VecDeque};
+
+/// An entry by its partition, the life of the partition that made it, and its place there.
+#[derive(Clone, Copy, Debug)]
+pub struct Identity {
+    /// The partition.
+    pub partition: u32,
+    /// Its life.
+    pub incarnation: u64,
+    /// The entry's place.
+    pub position: u64,
+}
+
+/// A message to another partition, and the entry that sends it.
+#[derive(Debug, Drop)]
+pub struct Posted {
+    /// The entry.
+    pub entry: Identity,
+    /// The message.
+    pub message: Message,
+}
+
+/// What is left of the stream to another partition.
+#[derive(Debug, Drop)]
+pub struct Outbox {
+    /// The number of its first message.
+    pub first: u64,
+    /// The messages.
+    pub messages: VecDeque<Posted>,
+}
+
+/// How far the stream from another partition was taken in.
+#[derive(Clone, Copy, Debug)]
+pub struct Inbox {
+    /// The number of the next message.
+    pub next: u64,
+    /// The entry that took the last.
+    pub reader: Identity,
+}
+
+/// The streams from other partitions, which a contract sees as a function.
+#[derive(Debug, Drop)]
+pub struct Inboxes {
+    boxes: BTreeMap<u32, Inbox>,
+}
+
+/// The streams to other partitions, which a contract sees as a function.
+#[derive(Debug, Drop)]
+pub struct Outboxes {
+    boxes: BTreeMap<u32, Outbox>,
+}
+
+impl Outbox {
+    /// It begins at a later number; one that it has begun at stays. A number past its end is refused.
+    fn begin_at(&mut self, number: u64) -> bool
+        ensures refused { result ≡ nat_le number (self.old.first + length self.old.messages.items) }
+        ensures begins { outbox_of self.new ≡ (if result then begins_at number (outbox_of self.old) else outbox_of self.old) }
+    {
+        if number <= self.first {
+            return true;
+        }
+        if self.messages.len() as u64 < number - self.first {
+            return false;
+        }
+        self.drop_to(number);
+        true
+    }
+
+    /// It begins at a later number, which is not past its end.
+    fn drop_to(&mut self, number: u64)
+        requires later { self.old.first ≤ number }
+        requires inside { number ≤ self.old.first + length self.old.messages.items }
+        ensures { outbox_of self.new ≡ begins_at number (outbox_of self.old) }
+    {
+        while self.first < number {
+            self.messages.pop_front();
+            self.first += 1;
+        }
+    }
+}
+
+impl Outboxes {
+    /// No stream has begun.
+    pub fn new(alloc: Global) -> Outboxes
+        ensures { outboxes_of result ≡ no_outbox }
+    {
+        Outboxes {
+            boxes: BTreeMap::new(alloc),
+        }
+    }
+
+    /// A message joins the stream to a partition. After an Err the streams are only dropped.
+    pub fn push(&mut self, alloc: Global, target: u32, posted: Posted) -> Result<(), AllocError>
+        ensures { OnOk result (outboxes_of self.new ≡ with_posted (outboxes_of self.old) target (posted_of posted)) }
+    {
+        match self.boxes.get_mut(&target) {
+            Some(outbox) => outbox.messages.push_back(posted)?,
+            None => {
+                let mut messages = VecDeque::new(alloc);
+                messages.push_back(posted)?;
+                self.boxes.insert(target, Outbox { first: 0, messages })?;
+            }
+        }
+        Ok(())
+    }
+
+    /// The stream to a partition begins at a later number; one that it has begun at stays. A number past its end is refused.
+    pub fn begin_at(&mut self, target: u32, number: u64) -> bool
+        ensures refused { result ≡ nat_le number ((outboxes_of self.old target).first + length (outboxes_of self.old target).messages) }
+        ensures begins { outboxes_of self.new ≡ (if result then with_first (outboxes_of self.old) target number else outboxes_of self.old) }
+    {
+        match self.boxes.get_mut(&target) {
+            Some(outbox) => outbox.begin_at(number),
+            None => number == 0,
+        }
+    }
+}
+
+impl Inboxes {
+    /// Nothing came in.
+    pub fn new(alloc: Global) -> Inboxes
+        ensures { inboxes_of result ≡ no_inbox }
+    {
+        Inboxes {
+            boxes: BTreeMap::new(alloc),
+        }
+    }
+
+    /// The number of the next message of the stream from a partition.
+    pub fn next(&self, source: u32) -> u64
+        ensures { result ≡ (inboxes_of self.now source).next }
+    {
+        match self.boxes.get(&source) {
+            Some(inbox) => inbox.next,
+            None => 0,
+        }
+    }
+
+    /// The stream from a partition was taken in as far as this.
+    pub fn put(&mut self, source: u32, inbox: Inbox) -> Result<(), AllocError>
+        ensures { OnOk result (inboxes_of self.new ≡ with_inbox (inboxes_of self.old) source (inbox_of inbox)) }
+    {
+        self.boxes.insert(source, inbox)?;
+        Ok(())
+    }
+}
