@@ -1,5 +1,5 @@
 -- The entities of a lock, one after the other.
-use Rattle.std.proofs.Common.{◌≡◌, ◌<◌, ◌+◌, ◌∙◌, ◌++◌, ℕ, List, [], ◌∷◌, length, get_or, drop, map, Result, Ok, Err, refl, ap, sym, append_assoc}
+use Rattle.std.proofs.Common.{◌≡◌, ◌<◌, ◌+◌, ◌∙◌, ◌++◌, ℕ, List, [], ◌∷◌, length, get_or, drop, map, Result, Ok, Err, refl, ap, sym}
 use Rattle.std.proofs.lemmas.List.{drop_more, append-nil, map-append}
 use Rattle.dura_value.specs.Messages.{Spot}
 use Rattle.dura_value.specs.declared.spots.Spot.{Spot as OwnSpot}

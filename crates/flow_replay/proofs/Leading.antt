@@ -1,9 +1,9 @@
 -- What leads to a result, step by step.
-use Rattle.std.proofs.Common.{◌≡◌, ◌∙◌, ◌++◌, List, [], map, ap, sym, append_assoc}
+use Rattle.std.proofs.Common.{◌≡◌, ◌∙◌, ◌++◌, List, map, ap, sym, append_assoc}
 use Rattle.std.proofs.lemmas.List.{append-nil}
 use Rattle.dura_value.specs.Messages.{Message}
 use Rattle.dura_value.specs.Views.{messages_of}
-use Rattle.flow_syntax.specs.Machine.{Machine, Resumed, Asked, only, and_then}
+use Rattle.flow_syntax.specs.Machine.{Resumed, Asked, only, and_then}
 use Rattle.flow_replay.specs.declared.machine.Machine.{Machine as OwnMachine}
 use Rattle.flow_messages.specs.declared.made.Made.{Made}
 use Rattle.flow_messages.specs.Views.{asked_of}

@@ -1,7 +1,6 @@
 -- Where no event of a name is kept, all stay.
-use Rattle.std.proofs.Common.{◌≡◌, ◌∙◌, ℕ, List, [], ◌∷◌, Bool, true, false, Option, Some, None, refl, ap, cond}
+use Rattle.std.proofs.Common.{◌≡◌, ℕ, List, [], ◌∷◌, Bool, true, false, Some, None, refl, ap, cond}
 use Rattle.std.specs.Str.{bytes_eq}
-use Rattle.dura_value.specs.declared.data.Value.{Value}
 use Rattle.flow_syntax.specs.Machine.{Raised, kept_value, without_kept}
 
 at_first : (b : Bool) (one : Raised) (more : List Raised) (name : List ℕ) → cond b (Some one.value) (kept_value name more) ≡ None → (kept_value name more ≡ None → without_kept name more ≡ more) → cond b more (one ∷ without_kept name more) ≡ one ∷ more

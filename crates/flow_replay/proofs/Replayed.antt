@@ -1,5 +1,5 @@
 -- One event after the other.
-use Rattle.std.proofs.Common.{◌≡◌, ◌<◌, ◌+◌, ◌∙◌, ℕ, List, [], ◌∷◌, length, get_or, drop, map, refl, ap, sym}
+use Rattle.std.proofs.Common.{◌≡◌, ◌<◌, ◌+◌, ◌∙◌, ℕ, List, ◌∷◌, length, get_or, drop, map, ap, sym}
 use Rattle.std.proofs.lemmas.List.{drop_more}
 use Rattle.flow_syntax.specs.Machine.{Machine, resume, replayed}
 use Rattle.flow_messages.specs.declared.events.Past.{Past}

@@ -1,5 +1,5 @@
 -- Step after step.
-use Rattle.std.proofs.Common.{◌≡◌, ◌∙◌, ◌++◌, ℕ, zero, suc, List, [], Bool, true, false, refl, ap, sym, subst, append_assoc}
+use Rattle.std.proofs.Common.{◌≡◌, ◌∙◌, ◌++◌, ℕ, zero, suc, List, Bool, true, false, refl, ap, sym, subst, append_assoc}
 use Rattle.dura_value.specs.Messages.{Message}
 use Rattle.flow_syntax.specs.Machine.{Machine, Asked, Resumed, Next, stays, goes, only, and_then, go, go_on, next_of}
 use Rattle.flow_replay.specs.declared.machine.Machine.{Machine as OwnMachine}

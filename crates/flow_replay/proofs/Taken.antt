@@ -1,5 +1,5 @@
 -- What is taken out of what is to run.
-use Rattle.std.proofs.Common.{◌≡◌, ◌<◌, ◌∙◌, ◌++◌, ◌-◌, ℕ, zero, suc, List, [], ◌∷◌, length, take, drop, map, codes, Some, Result, Ok, Err, IfOk, Bool, true, false, refl, ap, sym, subst, append_assoc, arith}
+use Rattle.std.proofs.Common.{◌≡◌, ◌<◌, ◌∙◌, ◌++◌, ℕ, List, [], ◌∷◌, length, take, drop, map, codes, Some, Result, Ok, Err, IfOk, Bool, true, false, refl, ap, sym, subst, arith}
 use Rattle.std.proofs.lemmas.List.{append-nil}
 use Rattle.dura_value.specs.Views.{messages_of}
 use Rattle.std.specs.List.{slice_get}

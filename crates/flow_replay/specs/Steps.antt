@@ -1,5 +1,5 @@
 -- What a step of a machine changes, and what it makes.
-use Rattle.std.specs.Prelude.{◌≡◌, List, [], ◌∷◌, ◌++◌, map, codes, Bool, true, false, Option, Some, None}
+use Rattle.std.specs.Prelude.{◌≡◌, List, ◌++◌, map, codes, Bool, true, false, Option, Some, None}
 use Rattle.dura_value.specs.Messages.{Answer, is_done, has_failed}
 use Rattle.dura_value.specs.Views.{messages_of}
 use Rattle.flow_syntax.specs.Eval.{Variables}

@@ -1,7 +1,5 @@
 -- What statements look at.
-use Rattle.std.specs.Prelude.{◌≡◌, ℕ, ℤ, List, Bool, Result, Ok, Err}
-use Rattle.std.specs.declared.vec.Vec.{Vec}
-use Rattle.std.specs.declared.alloc.Global.{Global}
+use Rattle.std.specs.Prelude.{ℕ, ℤ, List, Bool, Result, Ok}
 use Rattle.dura_value.specs.declared.data.Value.{Value}
 use Rattle.dura_value.specs.Messages.{Spot}
 use Rattle.flow_syntax.specs.Syntax.{Expression, Locked}

@@ -1,9 +1,8 @@
 -- The plain data that machines, events and what machines make stand for.
-use Rattle.std.specs.Prelude.{ℕ, List, [], ◌∷◌, ◌++◌, map, pos, Option, option_map}
+use Rattle.std.specs.Prelude.{List, [], ◌∷◌, ◌++◌, map, pos, option_map}
 use Rattle.std.specs.Borrow.{Bor}
 use Rattle.dura_value.specs.declared.data.Scalar.TheVariants.{Int}
-use Rattle.dura_value.specs.Views.{id_of, reply_of, answer_of, messages_of}
-use Rattle.dura_value.specs.Messages.{Message}
+use Rattle.dura_value.specs.Views.{id_of, reply_of}
 use Rattle.flow_syntax.specs.declared.syntax.Stmt.{Stmt}
 use Rattle.flow_syntax.specs.Syntax.{Block, scalar, await}
 use Rattle.flow_syntax.specs.Views.{block_of}

@@ -1,9 +1,9 @@
-use Rattle.std.proofs.Common.{IfOk, Result, Bool, Ok, Err, subst, sym, ap}
+use Rattle.std.proofs.Common.{ap}
 use Rattle.flow_syntax.specs.Views.{expression_of, statement_of}
 use Rattle.flow_syntax.specs.Syntax.{await, await_all, await_any}
 use Rattle.flow_syntax.specs.Machine.{statement_step}
 use Rattle.flow_replay.specs.Views.{machine_of}
-use Rattle.flow_replay.specs.Moving.{Blocks, AwaitBlocks, AllBlocks, AnyBlocks}
+use Rattle.flow_replay.specs.Moving.{Blocks}
 use Rattle.flow_replay.proofs.Taken.{of_variable}
 use Rattle.flow_replay.proofs.machine.Machine.blocks.Goals as goal
 

@@ -1,4 +1,4 @@
-use Rattle.std.proofs.Common.{Some, subst}
+use Rattle.std.proofs.Common.{subst}
 use Rattle.flow_replay.specs.Views.{machine_of}
 use Rattle.flow_replay.specs.Moving.{Takes}
 use Rattle.flow_replay.proofs.Taken.{went_on, blocked}

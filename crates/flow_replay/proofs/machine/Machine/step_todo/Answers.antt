@@ -1,11 +1,6 @@
-use Rattle.std.proofs.Common.{◌≡◌, ◌∷◌, ◌∙◌, [], length, pos, ap, sym, subst}
+use Rattle.std.proofs.Common.{◌∙◌, length, ap, sym}
 use Rattle.std.specs.Option.{option_copied}
-use Rattle.dura_value.specs.declared.data.Scalar.TheVariants.{Int}
-use Rattle.flow_syntax.specs.Syntax.{await, scalar}
-use Rattle.flow_syntax.specs.Machine.{run}
-use Rattle.flow_replay.specs.Views.{machine_of, todos_of}
-use Rattle.flow_replay.specs.Steps.{Waits}
-use Rattle.flow_replay.specs.Moving.{todo_step}
+use Rattle.flow_replay.specs.Views.{todos_of}
 use Rattle.flow_replay.proofs.Taken.{alone}
 use Rattle.flow_replay.proofs.machine.Machine.step_todo.Goals as goal
 

@@ -3,7 +3,7 @@ use Rattle.std.specs.Option.{option_to_list}
 use Rattle.dura_value.specs.declared.data.Value.TheVariants as values
 use Rattle.flow_syntax.specs.Eval.{set_in}
 use Rattle.flow_syntax.specs.Machine.{only, leaving, thrown, throws}
-use Rattle.flow_replay.specs.Views.{machine_of, rest_of, todos_of}
+use Rattle.flow_replay.specs.Views.{machine_of, rest_of}
 use Rattle.flow_replay.specs.Steps.{Leads, with_rest}
 use Rattle.flow_replay.proofs.Leading.{leads_to, leads_on}
 use Rattle.flow_replay.proofs.Thrown.{passed, passes, caught, unlocked}
