@@ -1,17 +1,19 @@
 -- The first message of a link, by its place.
-use Rattle.std.proofs.Common.{◌≡◌, ◌∙◌, ◌<◌, ◌≤◌, ◌+◌, ◌&&◌, ◌++◌, ◌×◌, ℕ, zero, suc, List, [], ◌∷◌, length, take, drop, Bool, true, false, not, Option, Some, None, get_or, nat_lt, refl, ap, sym, subst, cond, arith}
+use Rattle.std.proofs.Common.{◌≡◌, ◌∙◌, ◌<◌, ◌≤◌, ◌+◌, ◌&&◌, ◌++◌, ℕ, zero, suc, List, [], ◌∷◌, length, take, drop, Bool, true, false, not, Option, Some, None, get_or, nat_lt, refl, ap, sym, subst, cond, arith}
+use Rattle.std.proofs.lemmas.Bool.{ltb-true, ltb-false}
 use Rattle.std.specs.List.{position, position_or_len, remove}
+use Rattle.dura_value.proofs.Ids.{id_self}
 use Rattle.dura_value.specs.declared.messages.Message.{Message}
-use Rattle.dura_value.specs.Ids.{Id}
+use Rattle.dura_value.specs.Ids.{Id, id_eq}
 use Rattle.dura_value.specs.Messages as said
-use Rattle.dura_value.specs.Views.{body_of, message_of, messages_of}
+use Rattle.dura_value.specs.Views.{id_of, body_of, message_of, messages_of}
 use Rattle.dura_model.specs.Partition.{first_in, without_first}
 use Rattle.part_rows.specs.Queues.{is_of_link}
 
 -- The first message of the link is at this place.
-record Found (ms : List Message) (from to : Id) (place : ℕ) : Type 0 where
-  said : (m : Message) → first_in (messages_of ms) from to ≡ Some (body_of (get_or ms place m).body)
-  gone : without_first (messages_of ms) from to ≡ messages_of (remove ms place)
+pub record Found (ms : List Message) (from to : Id) (place : ℕ) : Type 0 where
+  pub said : (m : Message) → first_in (messages_of ms) from to ≡ Some (body_of (get_or ms place m).body)
+  pub gone : without_first (messages_of ms) from to ≡ messages_of (remove ms place)
 
 found_here : (m : Message) (ms : List Message) (from to : Id) → is_of_link from to m ≡ true → Found (m ∷ ms) from to 0
 found_here m ms from to is = record {
@@ -30,12 +32,16 @@ place_in from to ms = position_or_len (is_of_link from to) ms
 
 -- where the first of a list is
 abbrev place_by : Bool → ℕ → ℕ
-place_by b later = cond (not b) (suc later) 0
+place_by b later = cond (not b) (1 + later) 0
+
+one_more : (n : ℕ) → suc n ≡ 1 + n
+one_more n = omega (arith)
 
 found_by : (b : Bool) (m : Message) (ms : List Message) (from to : Id) → is_of_link from to m ≡ b → (place_in from to ms < length ms → Found ms from to (place_in from to ms))
     → place_by b (place_in from to ms) < suc (length ms) → Found (m ∷ ms) from to (place_by b (place_in from to ms))
 found_by true m ms from to is more inside = found_here m ms from to is
-found_by false m ms from to is more inside = found_later m ms from to (place_in from to ms) is (more (omega (arith, inside)))
+found_by false m ms from to is more inside =
+    subst (Found (m ∷ ms) from to) (one_more (place_in from to ms)) (found_later m ms from to (place_in from to ms) is (more (let less : 1 + place_in from to ms < suc (length ms) = inside in omega (arith, less))))
 
 found : (ms : List Message) (from to : Id) → place_in from to ms < length ms → Found ms from to (place_in from to ms)
 found [] from to inside = absurd (let none : 0 < 0 = inside in omega (arith, none))
@@ -50,7 +56,7 @@ missing_by : (b : Bool) (m : Message) (ms : List Message) (from to : Id) → is_
     → suc (length ms) ≤ place_by b (place_in from to ms) → Missing (m ∷ ms) from to
 missing_by true m ms from to is more past = absurd (let none : suc (length ms) ≤ 0 = past in omega (arith, none))
 missing_by false m ms from to is more past =
-    let rest = more (omega (arith, past)) in
+    let rest = more (let later : suc (length ms) ≤ 1 + place_in from to ms = past in omega (arith, later)) in
     record {
       said = ap (λ (c : Bool). cond c (Some (body_of m.body)) (first_in (messages_of ms) from to)) is ∙ rest.said;
       gone = ap (λ (c : Bool). cond c (messages_of ms) (message_of m ∷ without_first (messages_of ms) from to)) is ∙ ap (λ (others : List said.Message). message_of m ∷ others) rest.gone;
@@ -69,10 +75,10 @@ not_there true n is = absurd (cc is)
 not_there false n is = refl
 
 inside_of : (n k : ℕ) → nat_lt n k ≡ true → n < k
-inside_of n k is = omega (arith, is)
+inside_of n k is = ltb-true n k is
 
 past_of : (n k : ℕ) → nat_lt n k ≡ false → k ≤ n
-past_of n k is = omega (arith, is)
+past_of n k is = ltb-false n k is
 
 pub place_found : (ms : List Message) (from to : Id) (place : ℕ) → Some place ≡ position (is_of_link from to) ms → (place < length ms) × Found ms from to place
 place_found ms from to place is =
@@ -94,3 +100,13 @@ no_place_said ms from to is = (missing ms from to (past_of (place_in from to ms)
 
 pub no_place_gone : (ms : List Message) (from to : Id) → None ≡ position (is_of_link from to) ms → without_first (messages_of ms) from to ≡ messages_of ms
 no_place_gone ms from to is = (missing ms from to (past_of (place_in from to ms) (length ms) (not_there (nat_lt (place_in from to ms) (length ms)) (place_in from to ms) (sym is)))).gone
+
+first_self : (m : Message) (ms : List Message) → first_in (messages_of (m ∷ ms)) (id_of m.from) (id_of m.to) ≡ Some (body_of m.body)
+first_self m ms =
+    ap (λ (c : Bool). cond (c && id_eq (id_of m.to) (id_of m.to)) (Some (body_of m.body)) (first_in (messages_of ms) (id_of m.from) (id_of m.to))) (id_self (id_of m.from))
+    ∙ ap (λ (c : Bool). cond c (Some (body_of m.body)) (first_in (messages_of ms) (id_of m.from) (id_of m.to))) (id_self (id_of m.to))
+
+-- the message that has waited longest is the first of its link
+pub front_said : (ms : List Message) (m : Message) → 0 < length ms → m ≡ get_or ms 0 m → first_in (messages_of ms) (id_of m.from) (id_of m.to) ≡ Some (body_of m.body)
+front_said [] m some is = absurd (let none : 0 < 0 = some in omega (arith, none))
+front_said (first ∷ ms) m some is = ap (λ (one : Message). first_in (messages_of (first ∷ ms)) (id_of one.from) (id_of one.to)) is ∙ first_self first ms ∙ ap (λ (one : Message). Some (body_of one.body)) (sym is)

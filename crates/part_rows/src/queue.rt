@@ -45,6 +45,7 @@ impl Queue {
     }
 
     /// The message that has waited longest.
+    #[tactic(auto, using(crate::proofs::Links::front_said))]
     pub fn front(&self) -> Option<&Message>
         ensures some { IfSome result (λ message. first_in (messages_of self.now) (id_of message.now.from) (id_of message.now.to) ≡ Some (body_of message.now.body)) }
         ensures none { IfNone result (self.now ≡ []) }

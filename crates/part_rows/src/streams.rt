@@ -67,7 +67,7 @@ impl Outbox {
         if number <= self.first {
             return true;
         }
-        if self.messages.len() as u64 < number - self.first {
+        if (self.messages.len() as u64) < number - self.first {
             return false;
         }
         self.drop_to(number);

@@ -1,0 +1,89 @@
+-- A stream that changes changes as a function.
+use Rattle.std.proofs.Common.{◌≡◌, ◌∙◌, ◌<◌, ◌≤◌, ◌+◌, ◌-◌, ◌==◌, ◌++◌, ℕ, zero, suc, List, [], ◌∷◌, length, drop, map, Bool, true, false, Option, Some, None, IsSome, nat_le, eqb-true, refl, ap, sym, subst, cond, arith}
+use Rattle.std.proofs.lemmas.Bool.{leb-true, lt-leb}
+use Rattle.std.proofs.lemmas.List.{map-append}
+use Rattle.std.specs.Ordering.{nat_cmp}
+use Rattle.std.specs.BTreeMap.{BTreeMap, get, UpdatesBy}
+use Rattle.id_maps.proofs.Changes.{number_same}
+use Rattle.dura_model.specs.Partition as plain
+use Rattle.part_rows.specs.declared.streams.Posted.{Posted}
+use Rattle.part_rows.specs.declared.streams.Outbox.{Outbox}
+use Rattle.part_rows.specs.declared.streams.Inbox.{Inbox}
+use Rattle.part_rows.specs.Views.{posted_of, outbox_of, inbox_of, outbox_or_new, inbox_or_new}
+
+inbox_at : (b : Bool) (box : Inbox) (was : Option Inbox) → inbox_or_new (cond b (Some box) was) ≡ cond b (inbox_of box) (inbox_or_new was)
+inbox_at true box was = refl
+inbox_at false box was = refl
+
+pub inbox_changes : (m n : BTreeMap ℕ Inbox) (source : ℕ) (box : Inbox) → UpdatesBy nat_cmp (nat_cmp source) m n (Some box)
+    → (λ (q : ℕ). inbox_or_new (get nat_cmp n q)) ≡ plain.with_inbox (λ (q : ℕ). inbox_or_new (get nat_cmp m q)) source (inbox_of box)
+inbox_changes m n source box updates = λ i q. (ap inbox_or_new (updates.0 q ∙ ap (λ (b : Bool). cond b (Some box) (get nat_cmp m q)) (number_same source q)) ∙ inbox_at (source == q) box (get nat_cmp m q)) i
+
+same_number : (a b : ℕ) → (a == b) ≡ true → a ≡ b
+same_number a b is = eqb-true a b is
+
+-- what a stream becomes
+abbrev Change : Type 0
+Change = plain.Outbox → plain.Outbox
+
+outbox_at : (b : Bool) (box : Outbox) (was mine : Option Outbox) (f : Change) → (b ≡ true → was ≡ mine) → outbox_of box ≡ f (outbox_or_new mine)
+    → outbox_or_new (cond b (Some box) was) ≡ cond b (f (outbox_or_new was)) (outbox_or_new was)
+outbox_at true box was mine f found is = is ∙ ap (λ (o : Option Outbox). f (outbox_or_new o)) (sym (found refl))
+outbox_at false box was mine f found is = refl
+
+box_changes : (m n : BTreeMap ℕ Outbox) (target : ℕ) (box : Outbox) (f : Change) → UpdatesBy nat_cmp (nat_cmp target) m n (Some box) → outbox_of box ≡ f (outbox_or_new (get nat_cmp m target))
+    → (λ (q : ℕ). outbox_or_new (get nat_cmp n q)) ≡ (λ (q : ℕ). cond (target == q) (f (outbox_or_new (get nat_cmp m q))) (outbox_or_new (get nat_cmp m q)))
+box_changes m n target box f updates is = λ i q.
+    (ap outbox_or_new (updates.0 q ∙ ap (λ (b : Bool). cond b (Some box) (get nat_cmp m q)) (number_same target q))
+    ∙ outbox_at (target == q) box (get nat_cmp m q) (get nat_cmp m target) f (λ same. ap (get nat_cmp m) (sym (same_number target q same))) is) i
+
+abbrev behind : Posted → Change
+behind posted box = record box { messages = box.messages ++ posted_of posted ∷ [] }
+
+grown : (was now : Outbox) (posted : Posted) → now.first ≡ was.first → now.messages.items ≡ was.messages.items ++ posted ∷ [] → outbox_of now ≡ behind posted (outbox_of was)
+grown was now posted first items =
+    ap (λ (n : ℕ). record { first = n; messages = map posted_of now.messages.items }) first
+    ∙ ap (λ (ps : List plain.Posted). record { first = was.first; messages = ps }) (ap (map posted_of) items ∙ map-append posted_of was.messages.items (posted ∷ []))
+
+pub posted_written : (m n : BTreeMap ℕ Outbox) (target : ℕ) (was now : Outbox) (posted : Posted) → get nat_cmp m target ≡ Some was → (IsSome (get nat_cmp m target) → UpdatesBy nat_cmp (nat_cmp target) m n (Some now))
+    → now.first ≡ was.first → now.messages.items ≡ was.messages.items ++ posted ∷ []
+    → (λ (q : ℕ). outbox_or_new (get nat_cmp n q)) ≡ plain.with_posted (λ (q : ℕ). outbox_or_new (get nat_cmp m q)) target (posted_of posted)
+posted_written m n target was now posted found writes first items =
+    box_changes m n target now (behind posted) (writes (subst IsSome (sym found) refl)) (grown was now posted first items ∙ ap (λ (o : Option Outbox). behind posted (outbox_or_new o)) (sym found))
+
+pub posted_begun : (m n : BTreeMap ℕ Outbox) (target : ℕ) (now : Outbox) (posted : Posted) → get nat_cmp m target ≡ None → UpdatesBy nat_cmp (nat_cmp target) m n (Some now)
+    → now.first ≡ 0 → now.messages.items ≡ posted ∷ []
+    → (λ (q : ℕ). outbox_or_new (get nat_cmp n q)) ≡ plain.with_posted (λ (q : ℕ). outbox_or_new (get nat_cmp m q)) target (posted_of posted)
+posted_begun m n target now posted absent updates first items =
+    box_changes m n target now (behind posted) updates
+    (ap (λ (k : ℕ). record { first = k; messages = map posted_of now.messages.items }) first
+    ∙ ap (λ (ps : List Posted). record { first = 0; messages = map posted_of ps }) items
+    ∙ ap (λ (o : Option Outbox). behind posted (outbox_or_new o)) (sym absent))
+
+-- ---- where a stream begins
+
+abbrev begins_by : Bool → ℕ → plain.Outbox → plain.Outbox
+begins_by b number box = cond b box (record { first = number; messages = drop (number - box.first) box.messages })
+
+past_it : (number first : ℕ) → first < number → nat_le number first ≡ false
+past_it number first less = lt-leb number first less
+
+one_less : (number first : ℕ) → first < number → number - first ≡ suc (number - (first + 1))
+one_less number first less = omega (arith, less)
+
+at_next : (b : Bool) (number first : ℕ) (rest : List plain.Posted) → nat_le number (first + 1) ≡ b → first < number
+    → record { first = number; messages = drop (number - (first + 1)) rest } ≡ begins_by b number (record { first = first + 1; messages = rest })
+at_next true number first rest is less =
+    let inside = leb-true number (first + 1) is in
+    let same : number ≡ first + 1 = omega (arith, inside, less) in
+    let none : number - (first + 1) ≡ 0 = omega (arith, inside) in
+    ap (λ (k : ℕ). record { first = number; messages = drop k rest }) none ∙ ap (λ (k : ℕ). record { first = k; messages = rest }) same
+at_next false number first rest is less = refl
+
+-- one message less, and the next number
+pub one_gone : (number first : ℕ) (posted : plain.Posted) (rest : List plain.Posted) → first < number
+    → plain.begins_at number (record { first = first; messages = posted ∷ rest }) ≡ plain.begins_at number (record { first = first + 1; messages = rest })
+one_gone number first posted rest less =
+    ap (λ (b : Bool). begins_by b number (record { first = first; messages = posted ∷ rest })) (past_it number first less)
+    ∙ ap (λ (k : ℕ). record { first = number; messages = drop k (posted ∷ rest) }) (one_less number first less)
+    ∙ at_next (nat_le number (first + 1)) number first rest refl less
