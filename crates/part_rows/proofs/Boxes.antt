@@ -1,7 +1,7 @@
 -- A stream that changes changes as a function.
 use Rattle.std.proofs.Common.{◌≡◌, ◌∙◌, ◌<◌, ◌≤◌, ◌+◌, ◌-◌, ◌==◌, ◌++◌, ℕ, zero, suc, List, [], ◌∷◌, length, drop, map, Bool, true, false, Option, Some, None, IsSome, nat_le, eqb-true, refl, ap, sym, subst, cond, arith}
-use Rattle.std.proofs.lemmas.Bool.{leb-true, lt-leb}
-use Rattle.std.proofs.lemmas.List.{map-append}
+use Rattle.std.proofs.lemmas.Bool.{leb-true, lt-leb, le-leb}
+use Rattle.std.proofs.lemmas.List.{map-append, length-map}
 use Rattle.std.specs.Ordering.{nat_cmp}
 use Rattle.std.specs.BTreeMap.{BTreeMap, get, UpdatesBy}
 use Rattle.id_maps.proofs.Changes.{number_same}
@@ -26,13 +26,17 @@ same_number a b is = eqb-true a b is
 abbrev Change : Type 0
 Change = plain.Outbox → plain.Outbox
 
+-- one stream changes
+abbrev changed_at : Change → ℕ → (ℕ → plain.Outbox) → ℕ → plain.Outbox
+changed_at f target boxes q = cond (target == q) (f (boxes q)) (boxes q)
+
 outbox_at : (b : Bool) (box : Outbox) (was mine : Option Outbox) (f : Change) → (b ≡ true → was ≡ mine) → outbox_of box ≡ f (outbox_or_new mine)
     → outbox_or_new (cond b (Some box) was) ≡ cond b (f (outbox_or_new was)) (outbox_or_new was)
 outbox_at true box was mine f found is = is ∙ ap (λ (o : Option Outbox). f (outbox_or_new o)) (sym (found refl))
 outbox_at false box was mine f found is = refl
 
 box_changes : (m n : BTreeMap ℕ Outbox) (target : ℕ) (box : Outbox) (f : Change) → UpdatesBy nat_cmp (nat_cmp target) m n (Some box) → outbox_of box ≡ f (outbox_or_new (get nat_cmp m target))
-    → (λ (q : ℕ). outbox_or_new (get nat_cmp n q)) ≡ (λ (q : ℕ). cond (target == q) (f (outbox_or_new (get nat_cmp m q))) (outbox_or_new (get nat_cmp m q)))
+    → (λ (q : ℕ). outbox_or_new (get nat_cmp n q)) ≡ changed_at f target (λ (q : ℕ). outbox_or_new (get nat_cmp m q))
 box_changes m n target box f updates is = λ i q.
     (ap outbox_or_new (updates.0 q ∙ ap (λ (b : Bool). cond b (Some box) (get nat_cmp m q)) (number_same target q))
     ∙ outbox_at (target == q) box (get nat_cmp m q) (get nat_cmp m target) f (λ same. ap (get nat_cmp m) (sym (same_number target q same))) is) i
@@ -87,3 +91,50 @@ one_gone number first posted rest less =
     ap (λ (b : Bool). begins_by b number (record { first = first; messages = posted ∷ rest })) (past_it number first less)
     ∙ ap (λ (k : ℕ). record { first = number; messages = drop k (posted ∷ rest) }) (one_less number first less)
     ∙ at_next (nat_le number (first + 1)) number first rest refl less
+
+-- A stream that has let go one message more begins where it did, and isn't past the number yet.
+abbrev pub Goes : ℕ → plain.Outbox → ℕ → List Posted → Type 0
+Goes number start first items =
+    (plain.begins_at number (record { first = first; messages = map posted_of items }) ≡ start) × (number ≤ first + length items) × (first ≤ number)
+
+pub stepped : (number first : ℕ) (items : List Posted) (start : plain.Outbox) → first < number → Goes number start first items → Goes number start (first + 1) (drop 1 items)
+stepped number first [] start less goes = let inside : number ≤ first + 0 = goes.1 in absurd (omega (arith, inside, less))
+stepped number first (posted ∷ rest) start less goes =
+    let inside : number ≤ first + suc (length rest) = goes.1 in
+    (sym (one_gone number first (posted_of posted) (map posted_of rest) less) ∙ goes.0, omega (arith, inside), omega (arith, less))
+
+either : (b : Bool) (box : plain.Outbox) → cond b box box ≡ box
+either true box = refl
+either false box = refl
+
+unchanged : (target : ℕ) (boxes : ℕ → plain.Outbox) → changed_at (λ (box : plain.Outbox). box) target boxes ≡ boxes
+unchanged target boxes = λ i q. either (target == q) (boxes q) i
+
+-- a stream that was lent begins later, or stays
+pub begun_written : (m n : BTreeMap ℕ Outbox) (target number : ℕ) (was now : Outbox) (b : Bool) → get nat_cmp m target ≡ Some was → (IsSome (get nat_cmp m target) → UpdatesBy nat_cmp (nat_cmp target) m n (Some now))
+    → outbox_of now ≡ cond b (plain.begins_at number (outbox_of was)) (outbox_of was)
+    → (λ (q : ℕ). outbox_or_new (get nat_cmp n q)) ≡ cond b (plain.with_first (λ (q : ℕ). outbox_or_new (get nat_cmp m q)) target number) (λ (q : ℕ). outbox_or_new (get nat_cmp m q))
+begun_written m n target number was now true found writes is =
+    box_changes m n target now (plain.begins_at number) (writes (subst IsSome (sym found) refl)) (is ∙ ap (λ (o : Option Outbox). plain.begins_at number (outbox_or_new o)) (sym found))
+begun_written m n target number was now false found writes is =
+    box_changes m n target now (λ (box : plain.Outbox). box) (writes (subst IsSome (sym found) refl)) (is ∙ ap outbox_or_new (sym found)) ∙ unchanged target (λ (q : ℕ). outbox_or_new (get nat_cmp m q))
+
+at_zero : (box : plain.Outbox) → plain.begins_at 0 box ≡ box
+at_zero box = ap (λ (b : Bool). begins_by b 0 box) (le-leb 0 box.first (omega (arith)))
+
+from_zero : (b : Bool) (box : plain.Outbox) → cond b (plain.begins_at 0 box) box ≡ box
+from_zero true box = at_zero box
+from_zero false box = refl
+
+-- A stream that begins at 0 stays.
+pub begun_nowhere : (m : BTreeMap ℕ Outbox) (target number : ℕ) → get nat_cmp m target ≡ None → number ≡ 0
+    → plain.with_first (λ (q : ℕ). outbox_or_new (get nat_cmp m q)) target number ≡ (λ (q : ℕ). outbox_or_new (get nat_cmp m q))
+begun_nowhere m target number absent is =
+    ap (plain.with_first (λ (q : ℕ). outbox_or_new (get nat_cmp m q)) target) is
+    ∙ (λ i q. from_zero (target == q) (outbox_or_new (get nat_cmp m q)) i)
+
+-- where a stream that is there ends
+pub end_found : (m : BTreeMap ℕ Outbox) (target : ℕ) (was : Outbox) → get nat_cmp m target ≡ Some was
+    → (outbox_or_new (get nat_cmp m target)).first + length (outbox_or_new (get nat_cmp m target)).messages ≡ was.first + length was.messages.items
+end_found m target was found =
+    ap (λ (o : Option Outbox). (outbox_or_new o).first + length (outbox_or_new o).messages) found ∙ ap (λ (n : ℕ). was.first + n) (length-map was.messages.items posted_of)

@@ -1,8 +1,8 @@
 //! The streams from and to other partitions.
 
-ghost use Rattle.std.specs.Prelude.{◌≡◌, ◌+◌, length, nat_le, if◌then◌else◌, IfSome, OnOk};
+ghost use Rattle.std.specs.Prelude.{◌≡◌, ◌+◌, length, nat_le, ◌≤◌, if◌then◌else◌, OnOk};
 ghost use Rattle.dura_model.specs.Partition.{with_posted, with_inbox, begins_at, with_first};
-ghost use Rattle.part_rows.specs.Views.{identity_of, posted_of, inbox_of, outbox_of, inboxes_of, outboxes_of};
+ghost use Rattle.part_rows.specs.Views.{posted_of, inbox_of, outbox_of, inboxes_of, outboxes_of, no_outbox, no_inbox};
 
 use dura_value::Message;
 use std::alloc::{AllocError, Global};
@@ -98,6 +98,7 @@ impl Outboxes {
     }
 
     /// A message joins the stream to a partition. After an Err the streams are only dropped.
+    #[tactic(auto, using(crate::proofs::Boxes::posted_written, crate::proofs::Boxes::posted_begun))]
     pub fn push(&mut self, alloc: Global, target: u32, posted: Posted) -> Result<(), AllocError>
         ensures { OnOk result (outboxes_of self.new ≡ with_posted (outboxes_of self.old) target (posted_of posted)) }
     {
@@ -113,6 +114,7 @@ impl Outboxes {
     }
 
     /// The stream to a partition begins at a later number; one that it has begun at stays. A number past its end is refused.
+    #[tactic(auto, using(crate::proofs::Boxes::begun_nowhere))]
     pub fn begin_at(&mut self, target: u32, number: u64) -> bool
         ensures refused { result ≡ nat_le number ((outboxes_of self.old target).first + length (outboxes_of self.old target).messages) }
         ensures begins { outboxes_of self.new ≡ (if result then with_first (outboxes_of self.old) target number else outboxes_of self.old) }
@@ -145,6 +147,7 @@ impl Inboxes {
     }
 
     /// The stream from a partition was taken in as far as this.
+    #[tactic(auto, using(crate::proofs::Boxes::inbox_changes))]
     pub fn put(&mut self, source: u32, inbox: Inbox) -> Result<(), AllocError>
         ensures { OnOk result (inboxes_of self.new ≡ with_inbox (inboxes_of self.old) source (inbox_of inbox)) }
     {
