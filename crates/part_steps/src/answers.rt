@@ -1,0 +1,110 @@
+//! The messages that answer who asked.
+
+ghost use Rattle.std.specs.Prelude.{◌≡◌, ◌++◌, length, ◌≤◌, IfOk, OnOk};
+ghost use Rattle.dura_value.specs.Messages.{to_request, result as said_result};
+ghost use Rattle.dura_value.specs.Views.{id_of, reply_of, answer_of, message_of, messages_of};
+ghost use Rattle.dura_model.specs.Deliveries.{telling, refusing, beginning, answering_all};
+ghost use Rattle.part_steps.specs.Views.{waits_of};
+
+use dura_value::{Answer, Body, Id, Message, Reply};
+use flow_messages::{copy_id, word_text};
+use part_rows::Waiting;
+use std::alloc::{AllocError, Global};
+
+/// The answer to a client's request.
+pub(crate) fn answer_request(
+    from: &Id,
+    to: &Id,
+    number: u32,
+    answer: Answer,
+) -> Result<Message, AllocError>
+    ensures { IfOk result (λ message. message_of message ≡ record { from = id_of from.now; to = id_of to.now; body = said_result (to_request number) (answer_of answer) }) }
+{
+    Ok(Message {
+        from: copy_id(from)?,
+        to: copy_id(to)?,
+        body: Body::Result(Reply::Request(number), answer),
+    })
+}
+
+/// The answer to a client's request, alone.
+pub(crate) fn tell(
+    alloc: Global,
+    from: &Id,
+    to: &Id,
+    number: u32,
+    answer: Answer,
+) -> Result<Vec<Message>, AllocError>
+    ensures { IfOk result (λ sent. messages_of sent.items ≡ telling (id_of from.now) (id_of to.now) number (answer_of answer)) }
+{
+    let mut sent = Vec::new(alloc);
+    sent.push(answer_request(from, to, number, answer)?)?;
+    Ok(sent)
+}
+
+/// The answer to a start of what can't begin. To a task it is a failure.
+pub(crate) fn refuse(
+    alloc: Global,
+    from: &Id,
+    to: &Id,
+    reply: &Reply,
+    answer: Answer,
+    failure: &str,
+) -> Result<Vec<Message>, AllocError>
+    requires { length failure.now ≤ 4096 }
+    ensures { IfOk result (λ sent. messages_of sent.items ≡ refusing (id_of from.now) (id_of to.now) (reply_of reply.now) (answer_of answer) failure.now) }
+{
+    let mut sent = Vec::new(alloc);
+    match reply {
+        Reply::None => {}
+        Reply::Task(number) => sent.push(Message {
+            from: copy_id(from)?,
+            to: copy_id(to)?,
+            body: Body::Result(
+                Reply::Task(*number),
+                Answer::Failed(word_text(alloc, failure)?),
+            ),
+        })?,
+        Reply::Request(number) => sent.push(answer_request(from, to, *number, answer)?)?,
+    }
+    Ok(sent)
+}
+
+/// A client is told that its instance began.
+pub(crate) fn begin(
+    alloc: Global,
+    from: &Id,
+    to: &Id,
+    reply: &Reply,
+) -> Result<Vec<Message>, AllocError>
+    ensures { IfOk result (λ sent. messages_of sent.items ≡ beginning (id_of from.now) (id_of to.now) (reply_of reply.now)) }
+{
+    let mut sent = Vec::new(alloc);
+    if let Reply::Request(number) = reply {
+        sent.push(answer_request(from, to, *number, Answer::Started)?)?;
+    }
+    Ok(sent)
+}
+
+/// The same answer to all that wait, in their order.
+#[tactic(auto, using(crate::proofs::Answering::one_answered))]
+pub(crate) fn answer_all(
+    sent: &mut Vec<Message>,
+    from: &Id,
+    waiting: &[Waiting],
+    answer: &Answer,
+) -> Result<(), AllocError>
+    ensures { OnOk result (messages_of sent.new.items ≡ messages_of sent.old.items ++ answering_all (id_of from.now) (waits_of waiting.now) (answer_of answer.now)) }
+{
+    for one in waiting {
+        sent.push(answer_request(from, &one.client, one.number, copy_answer(answer)?)?)?;
+    }
+    Ok(())
+}
+
+/// A copy of an answer.
+pub(crate) fn copy_answer(answer: &Answer) -> Result<Answer, AllocError>
+    ensures { IfOk result (λ copy. copy ≡ answer.now) }
+{
+    answer.clone()
+}

@@ -1,0 +1,18 @@
+//! What a message makes of an instance, as an instance kept by its history and those who wait for its end.
+//!
+//! - `instance`: an instance, and what a delivery or an event made of it.
+//! - `answers`: the messages that answer who asked.
+//! - `ends`: what follows an event, with the answers at an end.
+//! - `absent`, `present`: each kind of message to an instance that isn't there, or is.
+//! - `specs/Views`: the plain data that these stand for.
+#![tactic(auto)]
+
+mod absent;
+mod answers;
+mod ends;
+mod instance;
+mod present;
+
+pub use absent::to_nothing;
+pub use ends::go_on_from;
+pub use instance::{Effect, Instance};

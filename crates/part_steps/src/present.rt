@@ -1,0 +1,159 @@
+//! Each kind of message to an instance that is there.
+
+ghost use Rattle.std.specs.Prelude.{◌≡◌, true, IfOk};
+ghost use Rattle.dura_value.specs.Views.{id_of, answer_of, messages_of};
+ghost use Rattle.flow_syntax.specs.Machine.{was_raised as raised_event};
+ghost use Rattle.flow_messages.specs.Views.{event_of};
+ghost use Rattle.flow_replay.specs.Views.{progress_of};
+ghost use Rattle.dura_model.specs.Deliveries.{stays_so, standing, is_over, ending, waited, raised_at, result_at, granted_at};
+ghost use Rattle.part_steps.specs.Views.{instance_of, effect_of};
+
+use crate::answers::{copy_answer, tell};
+use crate::ends::{end_answer, go_on_from};
+use crate::instance::{Effect, Instance};
+use dura_value::{Answer, Id, Message, Name, Value};
+use flow_messages::{Event, copy_id, copy_name, copy_text, copy_value};
+use flow_replay::Progress;
+use part_rows::Waiting;
+use std::alloc::{AllocError, Global};
+
+/// It stays as it is, and this is answered.
+fn stay<'f>(alloc: Global, instance: Instance<'f>, sent: Vec<Message>) -> Effect<'f>
+    ensures { effect_of result ≡ stays_so (instance_of instance.entry).machine (instance_of instance.entry).waiting (messages_of sent.items) }
+{
+    Effect {
+        instance: Some(instance),
+        sent,
+        asked: Vec::new(alloc),
+        gives_up: false,
+    }
+}
+
+/// How an instance stands.
+fn stand(progress: &Progress) -> Result<Answer, AllocError>
+    ensures { IfOk result (λ answer. answer_of answer ≡ standing (progress_of progress.now)) }
+{
+    match progress {
+        Progress::Done(value) => Ok(Answer::Done(copy_value(value)?)),
+        Progress::Failed(text) => Ok(Answer::Failed(copy_text(text)?)),
+        Progress::Unborn | Progress::Running => Ok(Answer::Running),
+    }
+}
+
+/// Whether it has come to its end.
+pub(crate) fn has_ended(progress: &Progress) -> bool
+    ensures { result ≡ is_over (progress_of progress.now) }
+{
+    matches!(progress, Progress::Done(_) | Progress::Failed(_))
+}
+
+/// A client waits for its end, or is answered where it has come to it.
+fn wait<'f>(
+    alloc: Global,
+    mut instance: Instance<'f>,
+    from: &Id,
+    to: &Id,
+    number: u32,
+) -> Result<Effect<'f>, AllocError>
+    ensures { IfOk result (λ e. effect_of e ≡ waited (instance_of instance.entry).machine (instance_of instance.entry).waiting (id_of from.now) (id_of to.now) number (ending (instance_of instance.entry).machine.progress)) }
+{
+    let mut sent = Vec::new(alloc);
+    match end_answer(&instance.machine.progress)? {
+        Some(answer) => sent = tell(alloc, to, from, number, answer)?,
+        None => instance.waiting.push(Waiting {
+            client: copy_id(from)?,
+            number,
+        })?,
+    }
+    Ok(stay(alloc, instance, sent))
+}
+
+/// A raise of an event.
+fn raise_event(name: &Name, value: &Value) -> Result<Event, AllocError>
+    ensures { IfOk result (λ event. event_of event ≡ raised_event name.now value.now) }
+{
+    Ok(Event::Raised(copy_name(name)?, copy_value(value)?))
+}
+
+/// An event is raised at it.
+fn raise<'f>(
+    alloc: Global,
+    instance: Instance<'f>,
+    message: &Message,
+    stamp: u64,
+    name: &Name,
+    value: &Value,
+    number: u32,
+) -> Result<Effect<'f>, AllocError>
+    ensures { IfOk result (λ e. effect_of e ≡ raised_at (instance_of instance.entry) (id_of message.now.from) (id_of message.now.to) stamp name.now value.now number (is_over (instance_of instance.entry).machine.progress)) }
+{
+    if has_ended(&instance.machine.progress) {
+        let sent = tell(alloc, &message.to, &message.from, number, Answer::Ended)?;
+        return Ok(stay(alloc, instance, sent));
+    }
+    let event = raise_event(name, value)?;
+    let before = tell(alloc, &message.to, &message.from, number, Answer::Raised)?;
+    let effect = go_on_from(alloc, instance, &event, stamp, before)?;
+    Ok(effect)
+}
+
+/// The result of a task reaches it.
+fn take_result<'f>(
+    alloc: Global,
+    instance: Instance<'f>,
+    stamp: u64,
+    task: u32,
+    answer: &Answer,
+) -> Result<Effect<'f>, AllocError>
+    ensures { IfOk result (λ e. effect_of e ≡ result_at (instance_of instance.entry) stamp task (answer_of answer.now) (is_over (instance_of instance.entry).machine.progress)) }
+{
+    if has_ended(&instance.machine.progress) {
+        return Ok(stay(alloc, instance, Vec::new(alloc)));
+    }
+    let event = Event::Resulted(task, copy_answer(answer)?);
+    let effect = go_on_from(alloc, instance, &event, stamp, Vec::new(alloc))?;
+    Ok(effect)
+}
+
+/// A grant reaches it at its end: it gives the set back.
+fn grant_late<'f>(
+    alloc: Global,
+    mut instance: Instance<'f>,
+    stamp: u64,
+    task: u32,
+) -> Result<Effect<'f>, AllocError>
+    ensures { IfOk result (λ e. effect_of e ≡ granted_at (instance_of instance.entry) stamp task true) }
+{
+    let made = instance
+        .machine
+        .advance(alloc, &Event::Granted(task), stamp)?;
+    Ok(Effect {
+        instance: Some(instance),
+        sent: made.messages,
+        asked: Vec::new(alloc),
+        gives_up: false,
+    })
+}
+
+/// A grant reaches it.
+fn grant<'f>(
+    alloc: Global,
+    instance: Instance<'f>,
+    stamp: u64,
+    task: u32,
+) -> Result<Effect<'f>, AllocError>
+    ensures { IfOk result (λ e. effect_of e ≡ granted_at (instance_of instance.entry) stamp task (is_over (instance_of instance.entry).machine.progress)) }
+{
+    if has_ended(&instance.machine.progress) {
+        let effect = grant_late(alloc, instance, stamp, task)?;
+        return Ok(effect);
+    }
+    let effect = go_on_from(
+        alloc,
+        instance,
+        &Event::Granted(task),
+        stamp,
+        Vec::new(alloc),
+    )?;
+    Ok(effect)
+}
