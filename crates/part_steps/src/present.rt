@@ -1,11 +1,11 @@
 //! Each kind of message to an instance that is there.
 
-ghost use Rattle.std.specs.Prelude.{◌≡◌, true, IfOk};
+ghost use Rattle.std.specs.Prelude.{◌≡◌, [], true, IfOk};
 ghost use Rattle.dura_value.specs.Views.{id_of, answer_of, messages_of};
 ghost use Rattle.flow_syntax.specs.Machine.{was_raised as raised_event};
 ghost use Rattle.flow_messages.specs.Views.{event_of};
 ghost use Rattle.flow_replay.specs.Views.{progress_of};
-ghost use Rattle.dura_model.specs.Deliveries.{stays_so, standing, is_over, ending, waited, raised_at, result_at, granted_at};
+ghost use Rattle.dura_model.specs.Deliveries.{goes_on_from, stays_so, standing, is_over, ending, waited, raised_at, result_at, granted_at};
 ghost use Rattle.part_steps.specs.Views.{instance_of, effect_of};
 
 use crate::answers::{copy_answer, tell};
@@ -97,6 +97,19 @@ fn raise<'f>(
     Ok(effect)
 }
 
+/// An event reaches it, and nothing is sent before.
+fn go_on<'f>(
+    alloc: Global,
+    instance: Instance<'f>,
+    event: &Event,
+    stamp: u64,
+) -> Result<Effect<'f>, AllocError>
+    ensures { IfOk result (λ e. effect_of e ≡ goes_on_from (instance_of instance.entry) (event_of event.now) stamp []) }
+{
+    let effect = go_on_from(alloc, instance, event, stamp, Vec::new(alloc))?;
+    Ok(effect)
+}
+
 /// The result of a task reaches it.
 fn take_result<'f>(
     alloc: Global,
@@ -111,7 +124,7 @@ fn take_result<'f>(
         return Ok(stay(alloc, instance, Vec::new(alloc)));
     }
     let event = Event::Resulted(task, copy_answer(answer)?);
-    let effect = go_on_from(alloc, instance, &event, stamp, Vec::new(alloc))?;
+    let effect = go_on(alloc, instance, &event, stamp)?;
     Ok(effect)
 }
 
@@ -148,12 +161,6 @@ fn grant<'f>(
         let effect = grant_late(alloc, instance, stamp, task)?;
         return Ok(effect);
     }
-    let effect = go_on_from(
-        alloc,
-        instance,
-        &Event::Granted(task),
-        stamp,
-        Vec::new(alloc),
-    )?;
+    let effect = go_on(alloc, instance, &Event::Granted(task), stamp)?;
     Ok(effect)
 }
