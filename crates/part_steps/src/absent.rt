@@ -103,7 +103,7 @@ fn begin_instance<'f>(
 }
 
 /// A message to an instance that isn't there.
-pub fn to_nothing<'f>(
+pub(crate) fn to_nothing<'f>(
     alloc: Global,
     flows: &'f Flows,
     message: &Message,

@@ -2,6 +2,7 @@
 //!
 //! - `instance`: an instance, and what a delivery or an event made of it.
 //! - `answers`: the messages that answer who asked.
+//! - `deliveries`: a message to an instance.
 //! - `ends`: what follows an event, with the answers at an end.
 //! - `absent`, `present`: each kind of message to an instance that isn't there, or is.
 //! - `specs/Views`: the plain data that these stand for.
@@ -9,10 +10,11 @@
 
 mod absent;
 mod answers;
+mod deliveries;
 mod ends;
 mod instance;
 mod present;
 
-pub use absent::to_nothing;
+pub use deliveries::to_instance;
 pub use ends::go_on_from;
 pub use instance::{Effect, Instance};

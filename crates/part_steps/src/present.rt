@@ -1,17 +1,18 @@
 //! Each kind of message to an instance that is there.
 
-ghost use Rattle.std.specs.Prelude.{◌≡◌, [], true, IfOk};
-ghost use Rattle.dura_value.specs.Views.{id_of, answer_of, messages_of};
+ghost use Rattle.std.specs.Prelude.{◌≡◌, [], true, codes, IfOk};
+ghost use Rattle.dura_value.specs.Messages.{was_there};
+ghost use Rattle.dura_value.specs.Views.{id_of, reply_of, answer_of, body_of as said_of, messages_of};
 ghost use Rattle.flow_syntax.specs.Machine.{was_raised as raised_event};
 ghost use Rattle.flow_messages.specs.Views.{event_of};
 ghost use Rattle.flow_replay.specs.Views.{progress_of};
-ghost use Rattle.dura_model.specs.Deliveries.{goes_on_from, stays_so, standing, is_over, ending, waited, raised_at, result_at, granted_at};
+ghost use Rattle.dura_model.specs.Deliveries.{goes_on_from, stays_so, standing, is_over, ending, waited, raised_at, result_at, granted_at, refusing, telling, to_present};
 ghost use Rattle.part_steps.specs.Views.{instance_of, effect_of};
 
-use crate::answers::{copy_answer, tell};
+use crate::answers::{copy_answer, refuse, tell};
 use crate::ends::{end_answer, go_on_from};
 use crate::instance::{Effect, Instance};
-use dura_value::{Answer, Id, Message, Name, Value};
+use dura_value::{Answer, Body, Id, Message, Name, Reply, Value};
 use flow_messages::{Event, copy_id, copy_name, copy_text, copy_value};
 use flow_replay::Progress;
 use part_rows::Waiting;
@@ -163,4 +164,59 @@ fn grant<'f>(
     }
     let effect = go_on(alloc, instance, &Event::Granted(task), stamp)?;
     Ok(effect)
+}
+
+/// It is started again, which is refused.
+fn start_again<'f>(
+    alloc: Global,
+    instance: Instance<'f>,
+    from: &Id,
+    to: &Id,
+    reply: &Reply,
+) -> Result<Effect<'f>, AllocError>
+    ensures { IfOk result (λ e. effect_of e ≡ stays_so (instance_of instance.entry).machine (instance_of instance.entry).waiting (refusing (id_of to.now) (id_of from.now) (reply_of reply.now) was_there (codes "exists"))) }
+{
+    let sent = refuse(alloc, to, from, reply, Answer::Exists, "exists")?;
+    Ok(stay(alloc, instance, sent))
+}
+
+/// A client asks how it stands.
+fn query<'f>(
+    alloc: Global,
+    instance: Instance<'f>,
+    from: &Id,
+    to: &Id,
+    number: u32,
+) -> Result<Effect<'f>, AllocError>
+    ensures { IfOk result (λ e. effect_of e ≡ stays_so (instance_of instance.entry).machine (instance_of instance.entry).waiting (telling (id_of to.now) (id_of from.now) number (standing (instance_of instance.entry).machine.progress))) }
+{
+    let answer = stand(&instance.machine.progress)?;
+    let sent = tell(alloc, to, from, number, answer)?;
+    Ok(stay(alloc, instance, sent))
+}
+
+/// A message to an instance that is there, at its new last moment.
+pub(crate) fn to_it<'f>(
+    alloc: Global,
+    instance: Instance<'f>,
+    message: &Message,
+    stamp: u64,
+) -> Result<Effect<'f>, AllocError>
+    ensures { IfOk result (λ e. effect_of e ≡ to_present (instance_of instance.entry) (id_of message.now.from) (id_of message.now.to) stamp (said_of message.now.body)) }
+{
+    let from = &message.from;
+    let to = &message.to;
+    match &message.body {
+        Body::Start(_, reply) => start_again(alloc, instance, from, to, reply),
+        Body::Query(number) => query(alloc, instance, from, to, *number),
+        Body::Wait(number) => wait(alloc, instance, from, to, *number),
+        Body::Raise(name, value, number) => raise(
+            alloc, instance, message, stamp, name, value, *number,
+        ),
+        Body::Result(Reply::Task(task), answer) => take_result(
+            alloc, instance, stamp, *task, answer,
+        ),
+        Body::Granted(task) => grant(alloc, instance, stamp, *task),
+        _ => Ok(stay(alloc, instance, Vec::new(alloc))),
+    }
 }
