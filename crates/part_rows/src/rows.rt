@@ -4,7 +4,7 @@ use dura_value::{Id, Name, Value};
 use flow_messages::Past;
 
 /// A client's request that waits for the end of an instance.
-#[derive(Debug, Drop)]
+#[derive(Clone, Debug, Drop)]
 pub struct Waiting {
     /// The client.
     pub client: Id,

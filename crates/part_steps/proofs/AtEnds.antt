@@ -3,9 +3,8 @@ use Rattle.std.proofs.Common.{◌≡◌, ◌∙◌, ◌++◌, ℕ, List, Option,
 use Rattle.dura_value.specs.Ids.{Id}
 use Rattle.dura_value.specs.Messages.{Answer, Message}
 use Rattle.flow_syntax.specs.Machine.{Machine, Asked, Resumed}
-use Rattle.dura_model.specs.World.{Orchestration}
 use Rattle.dura_model.specs.Deliveries.{Effect, at_end, ending}
-use Rattle.part_steps.specs.Ends.{ended_with, settled_with}
+use Rattle.part_steps.specs.Ends.{settled_with}
 
 at_answer : (r : Resumed) (waiting : List (Id × ℕ)) (before : List Message) (answer : Option Answer)
     → settled_with (record { machine = r.machine; waiting = waiting }) (before ++ r.sent) r.asked answer ≡ at_end r waiting before answer

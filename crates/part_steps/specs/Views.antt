@@ -1,5 +1,5 @@
 -- The plain data that instances and what is made of them stand for.
-use Rattle.std.specs.Prelude.{ℕ, List, map, Option, Some, None, option_map}
+use Rattle.std.specs.Prelude.{ℕ, List, map, option_map}
 use Rattle.dura_value.specs.Views.{messages_of}
 use Rattle.dura_value.specs.Ids as ids
 use Rattle.flow_messages.specs.Views.{asked_of}

@@ -51,7 +51,7 @@ fn new_instance<'f>(alloc: Global, id: &Id, body: &'f [Stmt]) -> Result<Instance
 }
 
 /// The start of an instance.
-fn start_event(from: &Id, argument: &Value, reply: &Reply) -> Result<Event, AllocError>
+pub(crate) fn start_event(from: &Id, argument: &Value, reply: &Reply) -> Result<Event, AllocError>
     ensures { IfOk result (λ event. event_of event ≡ started (id_of from.now) argument.now (reply_of reply.now)) }
 {
     Ok(Event::Started(copy_id(from)?, copy_value(argument)?, copy_reply(reply)))

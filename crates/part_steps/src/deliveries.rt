@@ -12,7 +12,6 @@ use crate::absent::{flow_in, to_nothing};
 use crate::instance::{Effect, Instance};
 use crate::present::to_it;
 use dura_value::{Id, Message};
-use flow_messages::copy_id;
 use flow_replay::replay;
 use flow_syntax::Flows;
 use part_rows::{Row, Waiting};
@@ -40,4 +39,28 @@ pub fn to_instance<'f>(
         Some(instance) => to_it(alloc, at(instance, stamp), message, stamp),
         None => to_nothing(alloc, flows, message, stamp),
     }
+}
+
+/// A copy of those who wait.
+fn copy_waiting(waiting: &Vec<Waiting>) -> Result<Vec<Waiting>, AllocError>
+    ensures { IfOk result (λ copy. copy.items ≡ waiting.now.items) }
+{
+    waiting.clone()
+}
+
+/// The instance that a row stands for.
+pub fn instance_of_row<'f>(
+    alloc: Global,
+    flows: &'f Flows,
+    id: &Id,
+    row: &Row,
+) -> Result<Instance<'f>, AllocError>
+    ensures { IfOk result (λ o. instance_of o ≡ instance_in (flows_of flows.now) (id_of id.now) (row_of row.now)) }
+{
+    let mut machine = replay(alloc, id, flow_in(flows, id), &row.history)?;
+    machine.last = row.stamp;
+    Ok(Instance {
+        machine,
+        waiting: copy_waiting(&row.waiting)?,
+    })
 }

@@ -5,6 +5,7 @@
 //! - `deliveries`: a message to an instance.
 //! - `ends`: what follows an event, with the answers at an end.
 //! - `absent`, `present`: each kind of message to an instance that isn't there, or is.
+//! - `events`: which messages are events of an instance's history.
 //! - `specs/Views`: the plain data that these stand for.
 #![tactic(auto)]
 
@@ -12,9 +13,11 @@ mod absent;
 mod answers;
 mod deliveries;
 mod ends;
+mod events;
 mod instance;
 mod present;
 
-pub use deliveries::to_instance;
+pub use deliveries::{instance_of_row, to_instance};
 pub use ends::go_on_from;
+pub use events::event_of;
 pub use instance::{Effect, Instance};

@@ -70,7 +70,7 @@ fn wait<'f>(
 }
 
 /// A raise of an event.
-fn raise_event(name: &Name, value: &Value) -> Result<Event, AllocError>
+pub(crate) fn raise_event(name: &Name, value: &Value) -> Result<Event, AllocError>
     ensures { IfOk result (λ event. event_of event ≡ raised_event name.now value.now) }
 {
     Ok(Event::Raised(copy_name(name)?, copy_value(value)?))

@@ -1,4 +1,4 @@
-use Rattle.std.proofs.Common.{◌∙◌, Some, ap, sym, nat_le}
+use Rattle.std.proofs.Common.{◌∙◌, ap, sym, nat_le}
 use Rattle.std.specs.Option.{option_copied_mut}
 use Rattle.part_rows.proofs.Boxes.{begun_written, end_found}
 use Rattle.part_rows.proofs.streams.Outboxes.begin_at.Goals as goal
