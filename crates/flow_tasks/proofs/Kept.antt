@@ -1,7 +1,8 @@
 -- Kept events by their places.
-use Rattle.std.proofs.Common.{◌≡◌, ◌∙◌, ℕ, zero, suc, ◌+◌, List, [], ◌∷◌, length, get_or, map, not, Bool, true, false, nat_lt, if◌then◌else◌, cond, Option, Some, None, position, refl, ap, sym, arith}
+use Rattle.std.proofs.Common.{◌≡◌, ◌∙◌, ℕ, zero, suc, ◌+◌, List, [], ◌∷◌, length, get_or, map, not, Bool, true, false, nat_lt, if◌then◌else◌, cond, Option, Some, None, option_map, position, refl, ap, sym, arith}
 use Rattle.std.proofs.lemmas.Bool.Decides.{nat_tests}
 use Rattle.std.specs.List.{position_or_len, remove}
+use Rattle.std.specs.Option.{IfSome, IsSome, OnSome}
 use Rattle.std.specs.Str.{bytes_eq}
 use Rattle.flow_syntax.specs.Machine.{kept_value, without_kept, later_by_one}
 use Rattle.flow_syntax.specs.Machine as plain
@@ -66,3 +67,12 @@ none_later false None name one more before is = let nothing = before refl in (no
 pub none_taken : (name : List ℕ) (events : List Raised) → position (is_named name) events ≡ None → (kept_value name (map raised_of events) ≡ None) × (without_kept name (map raised_of events) ≡ map raised_of events)
 none_taken name [] is = (refl, refl)
 none_taken name (one ∷ more) is = none_later (is_named name one) (position (is_named name) more) name one more (λ e. none_taken name more e) (sym (first_place (is_named name) one more) ∙ is)
+
+-- the same of what a place of a queue gave
+pub queue_taken : (given : Option Raised) (name : List ℕ) (events rest : List Raised) (place : ℕ) → position (is_named name) events ≡ Some place → IsSome given
+    → IfSome given (λ one. one ≡ get_or events place one) → OnSome given (rest ≡ remove events place)
+    → (option_map (λ one. one.value) given ≡ kept_value name (map raised_of events)) × (map raised_of rest ≡ without_kept name (map raised_of events))
+queue_taken None name events rest place is some here left = absurd (cc some)
+queue_taken (Some one) name events rest place is some here left =
+    let out : Taken name events place one = taken name events place one is in
+    (ap (λ (given : Raised). Some given.value) here ∙ sym out.0, ap (map raised_of) left ∙ sym out.1)

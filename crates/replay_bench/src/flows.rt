@@ -18,6 +18,8 @@ const FLOWS: &[u8] = br#"{
 "asks":[["while",true,[["ask","h","Pot","a","put",0],["await","x",{"v":"h"}]]]],
 "timers":[["while",true,[["timer","h",10],["await","h",{"v":"h"}]]]],
 "events":[["while",true,[["event","h","go"],["await","x",{"v":"h"}]]]],
+"backlog":[["call","x","echo",0],
+    ["while",true,[["event","h","go"],["await","v",{"v":"h"}],["call","x","echo",0]]]],
 "deadline":[["timer","t",1000000],
     ["while",true,[["event","h","go"],["any","x",{"list":[{"v":"h"},{"v":"t"}]}]]]],
 "sections":[["while",true,[["lock",[["Pot","a"]],[["ask","h","Pot","a","put",0],["await","x",{"v":"h"}]]]]]],

@@ -16,6 +16,8 @@ pub enum Going {
     Raises,
     /// Events that nobody listens for, and then as many that it listens for.
     KeptRaises,
+    /// Events before it listens, and then the results of the calls between which it does.
+    Backlog,
     /// The grant of a task, and the result of the next one.
     Sections,
 }
@@ -27,6 +29,7 @@ pub fn going_of(flow: &str) -> Result<Going> {
         "timers" => Ok(Going::Timers),
         "events" | "deadline" => Ok(Going::Raises),
         "kept" => Ok(Going::KeptRaises),
+        "backlog" => Ok(Going::Backlog),
         "sections" => Ok(Going::Sections),
         _ => bail!("no such flow"),
     }
@@ -56,6 +59,14 @@ fn make_event(alloc: Global, going: Going, number: u32, events: u32) -> Result<E
         Going::KeptRaises => {
             let name = if number < events / 2 { "stop" } else { "go" };
             make_raise(alloc, name, number)
+        }
+        Going::Backlog => {
+            let late = number.saturating_sub(events / 2);
+            if number < events / 2 {
+                make_raise(alloc, "go", number)
+            } else {
+                Ok(make_result(late.saturating_mul(2)))
+            }
         }
         Going::Sections => {
             if number % 2 == 0 {

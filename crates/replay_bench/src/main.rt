@@ -20,8 +20,8 @@ use std::alloc::Global;
 use std::env;
 
 /// Flows that are replayed when no words say which.
-const REPLAYED: [&str; 8] = [
-    "calls", "asks", "timers", "events", "deadline", "kept", "sections", "fan",
+const REPLAYED: [&str; 9] = [
+    "calls", "asks", "timers", "events", "deadline", "kept", "backlog", "sections", "fan",
 ];
 
 /// Runs instances of `count`, each in one go.
