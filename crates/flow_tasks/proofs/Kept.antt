@@ -1,7 +1,8 @@
 -- Kept events by their places.
-use Rattle.std.proofs.Common.{◌≡◌, ◌∙◌, ℕ, zero, suc, ◌+◌, List, [], ◌∷◌, length, get_or, map, not, Bool, true, false, nat_lt, if◌then◌else◌, cond, Option, Some, None, position, refl, ap, sym, arith}
+use Rattle.std.proofs.Common.{◌≡◌, ◌∙◌, ℕ, zero, suc, ◌+◌, List, [], ◌∷◌, length, get_or, map, not, Bool, true, false, nat_lt, if◌then◌else◌, cond, Option, Some, None, option_map, position, refl, ap, sym, arith}
 use Rattle.std.proofs.lemmas.Bool.Decides.{nat_tests}
 use Rattle.std.specs.List.{position_or_len, remove}
+use Rattle.std.specs.Option.{IfSome, IsSome, OnSome}
 use Rattle.std.specs.Str.{bytes_eq}
 use Rattle.flow_syntax.specs.Machine.{kept_value, without_kept, later_by_one}
 use Rattle.flow_syntax.specs.Machine as plain
@@ -26,11 +27,11 @@ later_place p n =
 none_before : (n : ℕ) → nat_lt 0 (suc n) ≡ true
 none_before n = grind (arith, nat_tests)
 
-first_place : (name : List ℕ) (one : Raised) (more : List Raised) → position (is_named name) (one ∷ more) ≡ (if is_named name one then Some 0 else later_by_one (position (is_named name) more))
-first_place name one more =
-    elim (is_named name one) as (λ b. cond (nat_lt (cond (not b) (1 + position_or_len (is_named name) more) 0) (suc (length more))) (Some (cond (not b) (1 + position_or_len (is_named name) more) 0)) None ≡ (if b then Some 0 else later_by_one (position (is_named name) more))) [
+pub first_place : {X : Type 0} (test : X → Bool) (one : X) (more : List X) → position test (one ∷ more) ≡ (if test one then Some 0 else later_by_one (position test more))
+first_place test one more =
+    elim (test one) as (λ b. cond (nat_lt (cond (not b) (1 + position_or_len test more) 0) (suc (length more))) (Some (cond (not b) (1 + position_or_len test more) 0)) None ≡ (if b then Some 0 else later_by_one (position test more))) [
       | true ↦ ap (λ (b : Bool). cond b (Some 0) None) (none_before (length more))
-      | false ↦ later_place (position_or_len (is_named name) more) (length more)
+      | false ↦ later_place (position_or_len test more) (length more)
     ]
 
 -- what is taken out at a place is the oldest event of the name
@@ -52,7 +53,7 @@ taken_later false (Some p) name one more (suc place) d before is =
 pub taken : (name : List ℕ) (events : List Raised) (place : ℕ) (d : Raised) → position (is_named name) events ≡ Some place → Taken name events place d
 taken name [] place d is = absurd (cc is)
 taken name (one ∷ more) place d is =
-    taken_later (is_named name one) (position (is_named name) more) name one more place d (λ p e. taken name more p d e) (sym (first_place name one more) ∙ is)
+    taken_later (is_named name one) (position (is_named name) more) name one more place d (λ p e. taken name more p d e) (sym (first_place (is_named name) one more) ∙ is)
 
 none_later : (b : Bool) (o : Option ℕ) (name : List ℕ) (one : Raised) (more : List Raised)
     → (o ≡ None → (kept_value name (map raised_of more) ≡ None) × (without_kept name (map raised_of more) ≡ map raised_of more))
@@ -65,4 +66,13 @@ none_later false None name one more before is = let nothing = before refl in (no
 
 pub none_taken : (name : List ℕ) (events : List Raised) → position (is_named name) events ≡ None → (kept_value name (map raised_of events) ≡ None) × (without_kept name (map raised_of events) ≡ map raised_of events)
 none_taken name [] is = (refl, refl)
-none_taken name (one ∷ more) is = none_later (is_named name one) (position (is_named name) more) name one more (λ e. none_taken name more e) (sym (first_place name one more) ∙ is)
+none_taken name (one ∷ more) is = none_later (is_named name one) (position (is_named name) more) name one more (λ e. none_taken name more e) (sym (first_place (is_named name) one more) ∙ is)
+
+-- the same of what a place of a queue gave
+pub queue_taken : (given : Option Raised) (name : List ℕ) (events rest : List Raised) (place : ℕ) → position (is_named name) events ≡ Some place → IsSome given
+    → IfSome given (λ one. one ≡ get_or events place one) → OnSome given (rest ≡ remove events place)
+    → (option_map (λ one. one.value) given ≡ kept_value name (map raised_of events)) × (map raised_of rest ≡ without_kept name (map raised_of events))
+queue_taken None name events rest place is some here left = absurd (cc some)
+queue_taken (Some one) name events rest place is some here left =
+    let out : Taken name events place one = taken name events place one is in
+    (ap (λ (given : Raised). Some given.value) here ∙ sym out.0, ap (map raised_of) left ∙ sym out.1)

@@ -1,3 +1,4 @@
 pub mod Changes
 pub mod Handles
+pub mod Sought
 pub mod Views

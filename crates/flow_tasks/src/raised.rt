@@ -1,12 +1,13 @@
 //! Events that no handle waited for yet.
 
-ghost use Rattle.std.specs.Prelude.{◌≡◌, ◌++◌, ◌∷◌, [], OnOk, OnErr, map, position};
+ghost use Rattle.std.specs.Prelude.{◌≡◌, ◌++◌, ◌∷◌, [], OnOk, OnErr, map, option_map, position};
 ghost use Rattle.std.specs.Str.{bytes_eq};
 ghost use Rattle.flow_syntax.specs.Machine.{kept_value, without_kept};
 ghost use Rattle.flow_tasks.specs.Views.{raised_of};
 
 use dura_value::{Name, Value};
 use std::alloc::{AllocError, Global};
+use std::collections::VecDeque;
 use std::marker::Model;
 
 /// An event that was raised.
@@ -21,7 +22,7 @@ pub struct Raised {
 /// The events that are kept, the oldest first, which a contract sees as a list.
 #[derive(Debug, Drop)]
 pub struct KeptEvents {
-    events: Vec<Raised>,
+    events: VecDeque<Raised>,
 }
 
 impl Model for KeptEvents {
@@ -39,7 +40,7 @@ impl KeptEvents {
         ensures { result ≡ [] }
     {
         KeptEvents {
-            events: Vec::new(alloc),
+            events: VecDeque::new(alloc),
         }
     }
 
@@ -48,7 +49,7 @@ impl KeptEvents {
         ensures ok { OnOk result (map raised_of self.new ≡ map raised_of self.old ++ record { name = name; value = value } ∷ []) }
         ensures err { OnErr result (self.new ≡ self.old) }
     {
-        self.events.push(Raised { name, value })?;
+        self.events.push_back(Raised { name, value })?;
         Ok(())
     }
 
@@ -60,12 +61,23 @@ impl KeptEvents {
     }
 
     /// Takes out the oldest event of a name.
+    fn take_out(&mut self, name: &Name) -> Option<Raised>
+        ensures value { option_map (λ one. one.value) result ≡ kept_value name.now (map raised_of self.old) }
+        ensures taken { map raised_of self.new ≡ without_kept name.now (map raised_of self.old) }
+    {
+        match self.place_of(name) {
+            Some(place) => self.events.remove(place),
+            None => None,
+        }
+    }
+
+    /// Takes out the value of the oldest event of a name.
     pub fn take(&mut self, name: &Name) -> Option<Value>
         ensures value { result ≡ kept_value name.now (map raised_of self.old) }
         ensures taken { map raised_of self.new ≡ without_kept name.now (map raised_of self.old) }
     {
-        match self.place_of(name) {
-            Some(place) => Some(self.events.remove(place).value),
+        match self.take_out(name) {
+            Some(event) => Some(event.value),
             None => None,
         }
     }
