@@ -305,8 +305,7 @@ pub files_empty : line_for (codes "{}") ≡ codes "read"
 unfolding serde_json_on_literals is_utf8 chars digits
 files_empty = refl
 
-pub files_both : line_for (codes " {\"flows\":{},\"classes\":{}}
-") ≡ codes "read"
+pub files_both : line_for (codes " {\"flows\":{},\"classes\":{}}\n") ≡ codes "read"
 unfolding serde_json_on_literals is_utf8 chars digits
 files_both = refl
 

@@ -101,8 +101,7 @@ pub fn expressions()
 #[tactic(auto, using(crate::proofs::FlowRows::files_empty, crate::proofs::FlowRows::files_both, crate::proofs::FlowRows::files_list, crate::proofs::FlowRows::files_further, crate::proofs::FlowRows::files_three, crate::proofs::FlowRows::files_flows_key, crate::proofs::FlowRows::files_flows_array, crate::proofs::FlowRows::files_classes_first, crate::proofs::FlowRows::files_flows_in_order, crate::proofs::FlowRows::files_doubled, crate::proofs::FlowRows::files_doubled_last, crate::proofs::FlowRows::files_doubled_flows))]
 pub fn files()
     ensures of_empty { line_for (codes "{}") ≡ codes "read" }
-    ensures of_both { line_for (codes " {\"flows\":{},\"classes\":{}}
-") ≡ codes "read" }
+    ensures of_both { line_for (codes " {\"flows\":{},\"classes\":{}}\n") ≡ codes "read" }
     ensures of_list { line_for (codes "[]") ≡ codes "shape #" }
     ensures of_further { line_for (codes "{\"flows\":{},\"plan\":{}}") ≡ codes "shape #" }
     ensures of_three { line_for (codes "{\"flows\":{},\"classes\":{},\"plan\":{}}") ≡ codes "shape #" }
