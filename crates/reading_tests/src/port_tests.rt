@@ -25,6 +25,15 @@ fn due(rt: &impl Abort, alloc: Global, port: &Port) -> Vec<u32> {
     numbers
 }
 
+/// The number of the client's next request, 0 where there is none.
+fn next(rt: &impl Abort, alloc: Global, port: &Port, client: &str) -> u32 {
+    let client = Name::read(alloc, client.as_bytes()).expect(rt, "a name");
+    match port.next_of(&client) {
+        Some(request) => request.number,
+        None => 0,
+    }
+}
+
 /// The client's next request is answered so.
 fn say(rt: &impl Abort, alloc: Global, port: &mut Port, client: &str, answer: Answer) {
     let client = Name::read(alloc, client.as_bytes()).expect(rt, "a name");
@@ -48,6 +57,9 @@ fn sum(rt: HostRuntime) {
     assert!(rt; due(&rt, alloc, &port).as_slice() == [1, 4].as_slice());
     say(&rt, alloc, &mut port, "a", Answer::Started);
     assert!(rt; due(&rt, alloc, &port).as_slice() == [2, 4].as_slice());
+    for (client, number) in [("a", 2), ("b", 4), ("c", 0)] {
+        assert!(rt; next(&rt, alloc, &port, client) == number, "{client}");
+    }
     say(&rt, alloc, &mut port, "a", Answer::Done(Value::Int(5)));
     say(&rt, alloc, &mut port, "a", Answer::Started);
     assert!(rt; due(&rt, alloc, &port).as_slice() == [4].as_slice());
