@@ -50,7 +50,7 @@ fn locked_in(alloc: Global, value: &Json) -> Result<Locked, PartError>
 fn pairs_from(alloc: Global, parts: &[Json]) -> Result<Vec<Locked>, PartError>
     ensures { Gives (λ pairs. map locked_of pairs.items) result (pairs_from 0 (items_view parts.now)) }
 {
-    let mut pairs = Vec::new(alloc);
+    let mut pairs = Vec::with_capacity(alloc, parts.len())?;
     for (index, part) in parts.iter().enumerate() {
         match locked_in(alloc, part) {
             Ok(pair) => pairs.push(pair)?,
@@ -117,7 +117,7 @@ pub(crate) fn body_in(alloc: Global, inside: bool, value: &Json) -> Result<Vec<S
 fn statements_in(alloc: Global, inside: bool, items: &Vec<Json>) -> Result<Vec<Stmt>, PartError>
     ensures { Gives (λ body. block_of body.items) result (statements_from inside 0 (items_view items.now.items)) }
 {
-    let mut statements = Vec::new(alloc);
+    let mut statements = Vec::with_capacity(alloc, items.len())?;
     for (index, item) in items.iter().enumerate() {
         match statement_in(alloc, inside, item) {
             Ok(statement) => statements.push(statement)?,

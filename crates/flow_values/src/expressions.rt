@@ -162,7 +162,7 @@ fn list_in(alloc: Global, value: &Json) -> Result<Vec<Expr>, PartError>
 fn parts_in(alloc: Global, items: &Vec<Json>) -> Result<Vec<Expr>, PartError>
     ensures { Gives (λ parts. parts_of parts.items) result (expressions_from 0 (items_view items.now.items)) }
 {
-    let mut parts = Vec::new(alloc);
+    let mut parts = Vec::with_capacity(alloc, items.len())?;
     for (index, item) in items.iter().enumerate() {
         match expression_in(alloc, item) {
             Ok(part) => parts.push(part)?,

@@ -94,7 +94,7 @@ pub fn name_at(alloc: Global, value: &Json, index: usize) -> Result<Name, PartEr
 fn scalars_in(alloc: Global, parts: &[Json]) -> Result<Vec<Scalar>, PartError>
     ensures { Gives (λ scalars. scalars.items) result (scalars_from 0 (items_view parts.now)) }
 {
-    let mut scalars = Vec::new(alloc);
+    let mut scalars = Vec::with_capacity(alloc, parts.len())?;
     for (index, part) in parts.iter().enumerate() {
         match scalar_in(alloc, part) {
             Ok(scalar) => scalars.push(scalar)?,
