@@ -28,7 +28,8 @@ fn push_text(rt: &impl Abort, file: &mut String, size: usize) {
 
 fn file_of(rt: &impl Abort, alloc: Global, count: usize, size: usize, last: usize) -> String {
     let mut file = String::new(alloc);
-    file.push_str("{\"classes\":{\"C\":{\"init\":[").expect(rt, "memory");
+    file.push_str("{\"classes\":{\"C\":{\"init\":[")
+        .expect(rt, "memory");
     for _ in 0..count {
         push_text(rt, &mut file, size);
         file.push(',').expect(rt, "memory");
