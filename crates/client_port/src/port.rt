@@ -1,7 +1,7 @@
 //! What is due, and what was said.
 
 ghost use Rattle.std.specs.Prelude.{◌≡◌, [], ◌++◌, map, option_map, option_to_list, IfOk, OnOk, OnErr};
-ghost use Rattle.client_port.specs.Ports.{all_due, after_said, first_due, lines_for, queues_of};
+ghost use Rattle.client_port.specs.Ports.{all_due, after_said, due_of, first_due, lines_for, queues_of};
 ghost use Rattle.client_port.specs.Views.{lines_of, queue_of};
 ghost use Rattle.dura_value.specs.Views.{answer_of};
 ghost use Rattle.request_reader.specs.Line.{request_of};
@@ -81,6 +81,17 @@ impl Port {
         ensures { IfOk result (λ due. map (λ r. request_of r.now) due.items ≡ all_due self.now.queues) }
     {
         all_due(alloc, &self.queues.all)
+    }
+
+    /// What is due of one client, found without a look at the others.
+    #[tactic(auto, using(crate::proofs::Changes::due_at, crate::proofs::Changes::undue))]
+    pub fn next_of(&self, client: &Name) -> Option<&Request>
+        ensures { option_map (λ r. request_of r.now) result ≡ due_of client.now self.now.queues }
+    {
+        match self.queues.place_of(client) {
+            Some(place) => first_due(&self.queues.all[place]),
+            None => None,
+        }
     }
 
     /// The client's next request was answered, or counts as said with no answer. An Err leaves the port as it was.

@@ -8,11 +8,11 @@ use Rattle.flow_syntax.specs.declared.syntax.Locked.{Locked}
 use Rattle.flow_syntax.specs.declared.syntax.Stmt.{Stmt}
 use Rattle.flow_syntax.specs.Syntax.{Flows, class_of}
 use Rattle.flow_syntax.specs.Views.{block_of, body_in, locked_of, named_by, statement_of}
-use Rattle.flow_reader.specs.Answers.{Fails, Gives, IsUnder}
-use Rattle.flow_reader.specs.Faults.{at, to_key, to_part, ◌>>=◌}
+use Rattle.flow_values.specs.Answers.{Fails, Gives, IsUnder}
+use Rattle.flow_values.specs.Faults.{at, to_key, to_part, ◌>>=◌}
 use Rattle.flow_reader.specs.Names.{Known, known_block, known_flows, known_if, known_in, known_pairs}
-use Rattle.flow_reader.specs.declared.faults.PartError.{PartError}
-use Rattle.flow_reader.proofs.Parts.{ends_then, ends_under}
+use Rattle.flow_values.specs.declared.faults.PartError.{PartError}
+use Rattle.flow_values.proofs.Parts.{ends_then, ends_under}
 
 left : {X : Type 0} (xs : List X) (i : ℕ) (x : X) → i < length xs → x ≡ get_or xs i x → drop i xs ≡ x ∷ drop (i + 1) xs
 left xs i x lt here = drop_more xs i x lt ∙ ap (λ (h : _). h ∷ drop (i + 1) xs) (sym here)

@@ -1,11 +1,6 @@
 pub mod Blocks
 pub mod Bytes
 pub mod Counts
-pub mod Grammar
 pub mod Known
 pub mod Members
 pub mod Pairs
-pub mod Parts
-pub mod Scalars
-pub mod Texts
-pub mod Trails

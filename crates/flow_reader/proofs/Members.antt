@@ -10,11 +10,11 @@ use Rattle.serde_json.specs.View.{view, members_view}
 use Rattle.serde_json.proofs.Views.{Entry}
 use Rattle.dura_value.specs.Names.{is_name}
 use Rattle.flow_syntax.specs.Syntax.{Named, put_in}
-use Rattle.flow_reader.specs.Answers.{Fails}
+use Rattle.flow_values.specs.Answers.{Fails}
 use Rattle.flow_reader.specs.Classes.{have_names, named_after}
-use Rattle.flow_reader.specs.Faults.{Path, at, to_key}
-use Rattle.flow_reader.specs.declared.faults.PartError.{PartError}
-use Rattle.flow_reader.proofs.Parts.{ends_then}
+use Rattle.flow_values.specs.Faults.{Path, at, to_key}
+use Rattle.flow_values.specs.declared.faults.PartError.{PartError}
+use Rattle.flow_values.proofs.Parts.{ends_then}
 
 left_is : (a b : Bool) → a && b ≡ true → a ≡ true
 left_is true b h = refl

@@ -4,13 +4,13 @@ use Rattle.std.proofs.lemmas.List.{drop_all, append-nil}
 use Rattle.serde_json.specs.Data.{Data, array, Items, item, no_items}
 use Rattle.serde_json.specs.View.{view, items_view}
 use Rattle.serde_json.specs.declared.value.Value.{Value as Json}
-use Rattle.flow_reader.specs.Answers.{Fails, IsUnder}
-use Rattle.flow_reader.specs.Faults.{Path, at, misshapen, to_part, ◌>>=◌}
-use Rattle.flow_reader.specs.Expressions.{expression_in}
-use Rattle.flow_reader.specs.Values.{name_in}
-use Rattle.flow_reader.specs.declared.faults.PartError.{PartError}
-use Rattle.flow_reader.specs.declared.faults.PartError.TheVariants.{Misshapen, Memory}
-use Rattle.flow_reader.proofs.Parts.{items_from}
+use Rattle.flow_values.specs.Answers.{Fails, IsUnder}
+use Rattle.flow_values.specs.Faults.{Path, at, misshapen, to_part, ◌>>=◌}
+use Rattle.flow_values.specs.Expressions.{expression_in}
+use Rattle.flow_values.specs.Values.{name_in}
+use Rattle.flow_values.specs.declared.faults.PartError.{PartError}
+use Rattle.flow_values.specs.declared.faults.PartError.TheVariants.{Misshapen, Memory}
+use Rattle.flow_values.proofs.Parts.{items_from}
 use Rattle.flow_syntax.specs.declared.syntax.Locked.{Locked}
 use Rattle.flow_syntax.specs.Syntax as plain
 use Rattle.flow_syntax.specs.Views.{locked_of}

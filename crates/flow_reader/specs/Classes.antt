@@ -4,9 +4,9 @@ use Rattle.std.specs.Str.{bytes_eq}
 use Rattle.serde_json.specs.Data.{Data, object, Members, no_members, member}
 use Rattle.dura_value.specs.Names.{is_name}
 use Rattle.flow_syntax.specs.Syntax.{Named, Class, put_in}
-use Rattle.flow_reader.specs.Faults.{Path, to_key, at, misshapen, where_fits, ◌>>=◌}
+use Rattle.flow_values.specs.Faults.{Path, to_key, at, misshapen, where_fits, ◌>>=◌}
 use Rattle.flow_reader.specs.Statements.{body_in}
-use Rattle.flow_reader.specs.Values.{value_in}
+use Rattle.flow_values.specs.Values.{value_in}
 
 -- whether all keys are names
 abbrev pub have_names : Members → Bool

@@ -5,7 +5,8 @@ use Rattle.serde_json.specs.Data.{Data, object, no_members, member}
 use Rattle.serde_json.specs.Read.{read}
 use Rattle.flow_syntax.specs.Syntax.{Block, Named, Class, Flows}
 use Rattle.flow_reader.specs.Classes.{class_in, named_in}
-use Rattle.flow_reader.specs.Faults.{Fault, not_json, bad_shape, unknown_name, Path, to_key, at, misshapen, where_fits, ◌>>=◌}
+use Rattle.flow_values.specs.Faults.{Path, to_key, at, misshapen, where_fits, ◌>>=◌}
+use Rattle.flow_reader.specs.Faults.{Fault, not_json, bad_shape, unknown_name}
 use Rattle.flow_reader.specs.Names.{Known, known_flows}
 use Rattle.flow_reader.specs.Statements.{body_in}
 

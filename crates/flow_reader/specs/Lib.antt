@@ -1,10 +1,6 @@
 pub mod Answers
 pub mod Classes
-pub mod Expressions
 pub mod Faults
 pub mod Files
 pub mod Names
-pub mod Paths
-pub mod Rows
 pub mod Statements
-pub mod Values

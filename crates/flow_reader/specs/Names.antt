@@ -2,7 +2,7 @@
 use Rattle.std.specs.Prelude.{ℕ, ◌+◌, List, [], ◌∷◌, Bool, is_some, Result, Ok, ⊤}
 use Rattle.flow_syntax.specs.Check.{has_operation}
 use Rattle.flow_syntax.specs.Syntax.{Statement, subflow, ask, signal, lock_in, if_then, while, try, Block, nothing, first_then, Named, Flows, Locked, body_of, class_of}
-use Rattle.flow_reader.specs.Faults.{Path, to_key, to_part, at, where_fits, ◌>>=◌}
+use Rattle.flow_values.specs.Faults.{Path, to_key, to_part, at, where_fits, ◌>>=◌}
 
 -- that it stands for something
 abbrev pub Known : Type 0

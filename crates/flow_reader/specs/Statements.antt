@@ -5,9 +5,9 @@ use Rattle.dura_value.specs.Limits.{most_spots}
 use Rattle.flow_syntax.specs.Syntax.{Statement, let_be, spawn, call, subflow, ask, timer, event, await, await_all, await_any, signal, lock_in, if_then, while, try, return, fail, Block, nothing, first_then, Locked, Expression}
 use Rattle.flow_reader.specs.declared.words.Word.{Word}
 use Rattle.flow_reader.specs.declared.words.Word.TheVariants as words
-use Rattle.flow_reader.specs.Expressions.{expression_in, is_word, given}
-use Rattle.flow_reader.specs.Faults.{Path, to_part, at, misshapen, where_fits, ◌>>=◌}
-use Rattle.flow_reader.specs.Values.{name_in, count}
+use Rattle.flow_values.specs.Expressions.{expression_in, is_word, given}
+use Rattle.flow_values.specs.Faults.{Path, to_part, at, misshapen, where_fits, ◌>>=◌}
+use Rattle.flow_values.specs.Values.{name_in, count}
 
 -- the words that may stand in an operation
 abbrev pub inner_word : Data → Option Word

@@ -3,23 +3,22 @@
 ghost use Rattle.std.specs.Prelude.{◌≡◌, ◌≤◌, Ok, drop, length, map};
 ghost use Rattle.serde_json.specs.Data.{array};
 ghost use Rattle.serde_json.specs.View.{items_view, view};
-ghost use Rattle.flow_reader.specs.Answers.{Gives};
-ghost use Rattle.flow_reader.specs.Faults.{at, to_part};
+ghost use Rattle.flow_values.specs.Answers.{Gives};
+ghost use Rattle.flow_values.specs.Faults.{at, to_part};
 ghost use Rattle.flow_reader.specs.Statements.{body_in, locked_in, of_word, pairs_from, pairs_in, statement_in, statements_from};
 ghost use Rattle.flow_reader.specs.declared.words.Word.TheVariants as words;
 ghost use Rattle.flow_syntax.specs.Views.{block_of, locked_of, statement_of};
 
-use crate::faults::{PartError, Step, under};
-use crate::simple::{expression_at, name_at, simple_in, two_parts};
-use crate::values::misshapen;
+use crate::simple::{simple_in, two_parts};
 use crate::words::{Word, word_in};
 use dura_value::MOST_SPOTS;
 use flow_syntax::{Locked, Stmt};
+use flow_values::{PartError, Step, expression_at, misshapen, name_at, under};
 use serde_json::Value as Json;
 use std::alloc::Global;
 
 /// A class and what gives a key.
-#[tactic(auto, using(crate::proofs::Parts::ends_then, crate::proofs::Pairs::locked_there, crate::proofs::Pairs::locked_not_there))]
+#[tactic(auto, using(flow_values::proofs::Parts::ends_then, crate::proofs::Pairs::locked_there, crate::proofs::Pairs::locked_not_there))]
 fn pair_in(alloc: Global, parts: &[Json]) -> Result<Locked, PartError>
     ensures { Gives locked_of result (locked_in (array (items_view parts.now))) }
 {
@@ -51,7 +50,7 @@ fn locked_in(alloc: Global, value: &Json) -> Result<Locked, PartError>
 fn pairs_from(alloc: Global, parts: &[Json]) -> Result<Vec<Locked>, PartError>
     ensures { Gives (λ pairs. map locked_of pairs.items) result (pairs_from 0 (items_view parts.now)) }
 {
-    let mut pairs = Vec::new(alloc);
+    let mut pairs = Vec::with_capacity(alloc, parts.len())?;
     for (index, part) in parts.iter().enumerate() {
         match locked_in(alloc, part) {
             Ok(pair) => pairs.push(pair)?,
@@ -62,7 +61,7 @@ fn pairs_from(alloc: Global, parts: &[Json]) -> Result<Vec<Locked>, PartError>
 }
 
 /// 1 to 16 pairs.
-#[tactic(auto, using(crate::proofs::Scalars::count_of_items))]
+#[tactic(auto, using(flow_values::proofs::Scalars::count_of_items))]
 fn few_pairs(alloc: Global, parts: &[Json]) -> Result<Vec<Locked>, PartError>
     ensures { Gives (λ pairs. map locked_of pairs.items) result (pairs_in (array (items_view parts.now))) }
 {
@@ -87,7 +86,7 @@ fn pairs_in(alloc: Global, value: &Json) -> Result<Vec<Locked>, PartError>
 }
 
 /// The pairs at a place of a statement.
-#[tactic(auto, using(crate::proofs::Parts::fails_under))]
+#[tactic(auto, using(flow_values::proofs::Parts::fails_under))]
 fn pairs_at(alloc: Global, value: &Json, index: usize) -> Result<Vec<Locked>, PartError>
     ensures { Gives (λ pairs. map locked_of pairs.items) result (at (to_part index) (pairs_in (view value.now))) }
 {
@@ -118,7 +117,7 @@ pub(crate) fn body_in(alloc: Global, inside: bool, value: &Json) -> Result<Vec<S
 fn statements_in(alloc: Global, inside: bool, items: &Vec<Json>) -> Result<Vec<Stmt>, PartError>
     ensures { Gives (λ body. block_of body.items) result (statements_from inside 0 (items_view items.now.items)) }
 {
-    let mut statements = Vec::new(alloc);
+    let mut statements = Vec::with_capacity(alloc, items.len())?;
     for (index, item) in items.iter().enumerate() {
         match statement_in(alloc, inside, item) {
             Ok(statement) => statements.push(statement)?,
@@ -130,7 +129,7 @@ fn statements_in(alloc: Global, inside: bool, items: &Vec<Json>) -> Result<Vec<S
 
 /// The body at a place of a statement.
 #[cycle(statements)]
-#[tactic(auto, using(crate::proofs::Parts::fails_under))]
+#[tactic(auto, using(flow_values::proofs::Parts::fails_under))]
 fn body_at(alloc: Global, inside: bool, value: &Json, index: usize) -> Result<Vec<Stmt>, PartError>
     ensures { Gives (λ body. block_of body.items) result (at (to_part index) (body_in inside (view value.now))) }
 {
@@ -219,7 +218,7 @@ fn of_word(alloc: Global, inside: bool, word: Word, items: &Vec<Json>) -> Result
 
 /// A body that holds entities.
 #[cycle(statements)]
-#[tactic(auto, using(crate::proofs::Parts::ends_then, crate::proofs::Blocks::behind_two))]
+#[tactic(auto, using(flow_values::proofs::Parts::ends_then, crate::proofs::Blocks::behind_two))]
 fn lock_in(alloc: Global, inside: bool, items: &Vec<Json>) -> Result<Stmt, PartError>
     requires { length items.now.items ≡ 3 }
     ensures { Gives statement_of result (of_word inside words.Lock (items_view (drop 1 items.now.items))) }
@@ -232,7 +231,7 @@ fn lock_in(alloc: Global, inside: bool, items: &Vec<Json>) -> Result<Stmt, PartE
 
 /// One of two bodies.
 #[cycle(statements)]
-#[tactic(auto, using(crate::proofs::Parts::ends_then, crate::proofs::Blocks::behind_three, crate::proofs::Blocks::if_ends, crate::proofs::Blocks::if_ends_yes))]
+#[tactic(auto, using(flow_values::proofs::Parts::ends_then, crate::proofs::Blocks::behind_three, crate::proofs::Blocks::if_ends, crate::proofs::Blocks::if_ends_yes))]
 fn if_in(alloc: Global, inside: bool, items: &Vec<Json>) -> Result<Stmt, PartError>
     requires { length items.now.items ≡ 4 }
     ensures { Gives statement_of result (of_word inside words.If (items_view (drop 1 items.now.items))) }
@@ -246,7 +245,7 @@ fn if_in(alloc: Global, inside: bool, items: &Vec<Json>) -> Result<Stmt, PartErr
 
 /// A body that is repeated.
 #[cycle(statements)]
-#[tactic(auto, using(crate::proofs::Parts::ends_then, crate::proofs::Blocks::behind_two))]
+#[tactic(auto, using(flow_values::proofs::Parts::ends_then, crate::proofs::Blocks::behind_two))]
 fn while_in(alloc: Global, inside: bool, items: &Vec<Json>) -> Result<Stmt, PartError>
     requires { length items.now.items ≡ 3 }
     ensures { Gives statement_of result (of_word inside words.While (items_view (drop 1 items.now.items))) }
@@ -259,7 +258,7 @@ fn while_in(alloc: Global, inside: bool, items: &Vec<Json>) -> Result<Stmt, Part
 
 /// A body and what follows a fault in it.
 #[cycle(statements)]
-#[tactic(auto, using(crate::proofs::Parts::ends_then, crate::proofs::Blocks::behind_three, crate::proofs::Blocks::try_ends, crate::proofs::Blocks::try_ends_variable))]
+#[tactic(auto, using(flow_values::proofs::Parts::ends_then, crate::proofs::Blocks::behind_three, crate::proofs::Blocks::try_ends, crate::proofs::Blocks::try_ends_variable))]
 fn try_in(alloc: Global, inside: bool, items: &Vec<Json>) -> Result<Stmt, PartError>
     requires { length items.now.items ≡ 4 }
     ensures { Gives statement_of result (of_word inside words.Try (items_view (drop 1 items.now.items))) }

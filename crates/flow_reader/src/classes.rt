@@ -3,18 +3,17 @@
 ghost use Rattle.std.specs.Prelude.{◌≡◌, [], codes, true};
 ghost use Rattle.serde_json.specs.Data.{member, no_members, object};
 ghost use Rattle.serde_json.specs.View.{members_view, view};
-ghost use Rattle.flow_reader.specs.Answers.{Gives};
+ghost use Rattle.flow_values.specs.Answers.{Gives};
 ghost use Rattle.flow_reader.specs.Classes.{class_in, have_names, named_after, named_in};
-ghost use Rattle.flow_reader.specs.Faults.{at, to_key};
+ghost use Rattle.flow_values.specs.Faults.{at, to_key};
 ghost use Rattle.flow_reader.specs.Statements.{body_in};
-ghost use Rattle.flow_reader.specs.Values.{value_in};
+ghost use Rattle.flow_values.specs.Values.{value_in};
 ghost use Rattle.flow_syntax.specs.Views.{block_of, bodies_of, class_of, named_by};
 
 use crate::bodies::body_in;
-use crate::faults::{PartError, Step, under};
-use crate::values::{misshapen, value_in};
 use dura_value::{Name, Value, is_name};
 use flow_syntax::{Class, Stmt};
+use flow_values::{PartError, Step, misshapen, under, value_in};
 use serde_json::{Map, Value as Json};
 use std::alloc::Global;
 use std::collections::BTreeMap;
@@ -32,7 +31,7 @@ pub(crate) fn have_names(members: &Map<String, Json>) -> bool
 }
 
 /// The body under a name.
-#[tactic(auto, using(crate::proofs::Parts::fails_under))]
+#[tactic(auto, using(flow_values::proofs::Parts::fails_under))]
 fn body_under(
     alloc: Global,
     inside: bool,
@@ -100,7 +99,7 @@ pub(crate) fn bodies_in(
     }
 }
 
-#[tactic(auto, using(crate::proofs::Parts::fails_under))]
+#[tactic(auto, using(flow_values::proofs::Parts::fails_under))]
 fn init_at(alloc: Global, value: &Json) -> Result<Value, PartError>
     ensures { Gives (λ v. v) result (at (to_key (codes "init")) (value_in (view value.now))) }
 {
@@ -110,7 +109,7 @@ fn init_at(alloc: Global, value: &Json) -> Result<Value, PartError>
     }
 }
 
-#[tactic(auto, using(crate::proofs::Parts::fails_under))]
+#[tactic(auto, using(flow_values::proofs::Parts::fails_under))]
 fn operations_at(alloc: Global, value: &Json) -> Result<BTreeMap<Name, Vec<Stmt>>, PartError>
     ensures { Gives bodies_of result (at (to_key (codes "ops")) (named_in (body_in true) (view value.now))) }
 {
@@ -121,7 +120,7 @@ fn operations_at(alloc: Global, value: &Json) -> Result<BTreeMap<Name, Vec<Stmt>
 }
 
 /// A class of two members.
-#[tactic(auto, using(crate::proofs::Parts::ends_then))]
+#[tactic(auto, using(flow_values::proofs::Parts::ends_then))]
 fn class_of_two(
     alloc: Global,
     first: &str,
@@ -171,7 +170,7 @@ fn class_in(alloc: Global, value: &Json) -> Result<Class, PartError>
 }
 
 /// The class under a name.
-#[tactic(auto, using(crate::proofs::Parts::fails_under))]
+#[tactic(auto, using(flow_values::proofs::Parts::fails_under))]
 fn class_under(alloc: Global, name: &Name, value: &Json) -> Result<Class, PartError>
     ensures { Gives class_of result (at (to_key name.now) (class_in (view value.now))) }
 {

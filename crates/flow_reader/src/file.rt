@@ -3,20 +3,19 @@
 ghost use Rattle.std.specs.Prelude.{◌≡◌};
 ghost use Rattle.serde_json.specs.Data.{member, no_members, object};
 ghost use Rattle.serde_json.specs.View.{members_view, view};
-ghost use Rattle.flow_reader.specs.Answers.{Gives};
+ghost use Rattle.flow_values.specs.Answers.{Gives};
 ghost use Rattle.flow_reader.specs.Files.{bodies_in, classes_in, file_in};
 ghost use Rattle.flow_syntax.specs.Views.{bodies_of, class_of, flows_of, named_by};
 
 use crate::classes::{bodies_in, classes_in};
-use crate::faults::{PartError, Step, under};
-use crate::values::misshapen;
 use dura_value::Name;
 use flow_syntax::{Class, Flows, Stmt};
+use flow_values::{PartError, Step, misshapen, under};
 use serde_json::{Map, Value as Json};
 use std::alloc::Global;
 use std::collections::BTreeMap;
 
-#[tactic(auto, using(crate::proofs::Parts::fails_under))]
+#[tactic(auto, using(flow_values::proofs::Parts::fails_under))]
 fn classes_at(alloc: Global, value: &Json) -> Result<BTreeMap<Name, Class>, PartError>
     ensures { Gives (λ classes. named_by class_of classes.entries) result (classes_in (view value.now)) }
 {
@@ -26,7 +25,7 @@ fn classes_at(alloc: Global, value: &Json) -> Result<BTreeMap<Name, Class>, Part
     }
 }
 
-#[tactic(auto, using(crate::proofs::Parts::fails_under))]
+#[tactic(auto, using(flow_values::proofs::Parts::fails_under))]
 fn flows_at(alloc: Global, value: &Json) -> Result<BTreeMap<Name, Vec<Stmt>>, PartError>
     ensures { Gives bodies_of result (bodies_in (view value.now)) }
 {
@@ -37,7 +36,7 @@ fn flows_at(alloc: Global, value: &Json) -> Result<BTreeMap<Name, Vec<Stmt>>, Pa
 }
 
 /// A file of one member.
-#[tactic(auto, using(crate::proofs::Parts::ends_then))]
+#[tactic(auto, using(flow_values::proofs::Parts::ends_then))]
 fn of_one(alloc: Global, key: &str, value: &Json) -> Result<Flows, PartError>
     ensures { Gives flows_of result (file_in (object (member key.now (view value.now) no_members))) }
 {
@@ -55,7 +54,7 @@ fn of_one(alloc: Global, key: &str, value: &Json) -> Result<Flows, PartError>
 }
 
 /// A file of two members.
-#[tactic(auto, using(crate::proofs::Parts::ends_then))]
+#[tactic(auto, using(flow_values::proofs::Parts::ends_then))]
 fn of_two(
     alloc: Global,
     first: &str,

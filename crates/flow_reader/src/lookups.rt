@@ -1,17 +1,16 @@
 //! The first name of a flow that stands for nothing.
 
 ghost use Rattle.std.specs.Prelude.{◌≡◌, codes, is_some, map};
-ghost use Rattle.flow_reader.specs.Answers.{Gives};
-ghost use Rattle.flow_reader.specs.Faults.{at, to_key, to_part};
+ghost use Rattle.flow_values.specs.Answers.{Gives};
+ghost use Rattle.flow_values.specs.Faults.{at, to_key, to_part};
 ghost use Rattle.flow_reader.specs.Names.{known_block, known_flows, known_if, known_in, known_pairs};
 ghost use Rattle.flow_syntax.specs.Check.{has_operation};
 ghost use Rattle.flow_syntax.specs.Syntax.{body_of, class_of};
 ghost use Rattle.flow_syntax.specs.Views.{block_of, flows_of, locked_of, statement_of};
 
-use crate::faults::{PartError, Step, under};
-use crate::values::misshapen;
 use dura_value::Name;
 use flow_syntax::{Flows, Locked, Stmt};
+use flow_values::{PartError, Step, misshapen, under};
 use std::alloc::Global;
 
 /// What is said of a name at a place, by whether it stands for something.
@@ -54,7 +53,7 @@ fn known_pairs(alloc: Global, file: &Flows, pairs: &[Locked]) -> Result<(), Part
     Ok(())
 }
 
-#[tactic(auto, using(crate::proofs::Parts::fails_under))]
+#[tactic(auto, using(flow_values::proofs::Parts::fails_under))]
 fn pairs_at(alloc: Global, file: &Flows, pairs: &[Locked], index: usize) -> Result<(), PartError>
     ensures { Gives (λ known. tt) result (at (to_part index) (known_pairs (flows_of file.now) 0 (map locked_of pairs.now))) }
 {
@@ -66,7 +65,7 @@ fn pairs_at(alloc: Global, file: &Flows, pairs: &[Locked], index: usize) -> Resu
 
 /// The names of a statement and of those in it.
 #[cycle(names)]
-#[tactic(auto, using(crate::proofs::Parts::ends_then))]
+#[tactic(auto, using(flow_values::proofs::Parts::ends_then))]
 fn known_in(alloc: Global, file: &Flows, statement: &Stmt) -> Result<(), PartError>
     ensures { Gives (λ known. tt) result (known_in (flows_of file.now) (statement_of statement.now)) }
 {
@@ -99,7 +98,7 @@ fn known_in(alloc: Global, file: &Flows, statement: &Stmt) -> Result<(), PartErr
 
 /// The block at a place of a statement.
 #[cycle(names)]
-#[tactic(auto, using(crate::proofs::Parts::fails_under))]
+#[tactic(auto, using(flow_values::proofs::Parts::fails_under))]
 fn block_at(alloc: Global, file: &Flows, block: &[Stmt], index: usize) -> Result<(), PartError>
     ensures { Gives (λ known. tt) result (at (to_part index) (known_block (flows_of file.now) 0 (block_of block.now))) }
 {
@@ -125,7 +124,7 @@ fn known_block(alloc: Global, file: &Flows, block: &[Stmt]) -> Result<(), PartEr
 }
 
 /// The names of a flow.
-#[tactic(auto, using(crate::proofs::Parts::fails_under))]
+#[tactic(auto, using(flow_values::proofs::Parts::fails_under))]
 fn known_under(alloc: Global, file: &Flows, name: &Name, block: &[Stmt]) -> Result<(), PartError>
     ensures { Gives (λ known. tt) result (at (to_key name.now) (known_block (flows_of file.now) 0 (block_of block.now))) }
 {
@@ -150,7 +149,7 @@ fn known_flows(alloc: Global, file: &Flows) -> Result<(), PartError>
 }
 
 /// The names of a whole file.
-#[tactic(auto, using(crate::proofs::Parts::fails_under))]
+#[tactic(auto, using(flow_values::proofs::Parts::fails_under))]
 pub(crate) fn known_file(alloc: Global, file: &Flows) -> Result<(), PartError>
     ensures { Gives (λ known. tt) result (at (to_key (codes "flows")) (known_flows (flows_of file.now) (flows_of file.now).flows)) }
 {

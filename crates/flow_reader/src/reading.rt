@@ -4,10 +4,10 @@ ghost use Rattle.serde_json.specs.View.{view};
 ghost use Rattle.flow_reader.specs.Answers.{Reads};
 ghost use Rattle.flow_reader.specs.Files.{file_in, flows_in, shape_checked};
 
-use crate::faults::{PartError, Path};
 use crate::file::file_in;
 use crate::lookups::known_file;
 use flow_syntax::Flows;
+use flow_values::{PartError, Path};
 use serde_json::Value as Json;
 use std::alloc::Global;
 use thiserror::Error;

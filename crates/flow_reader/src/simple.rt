@@ -2,20 +2,18 @@
 
 ghost use Rattle.std.specs.Prelude.{◌≡◌, option_map};
 ghost use Rattle.serde_json.specs.View.{items_view, view};
-ghost use Rattle.flow_reader.specs.Answers.{Gives};
-ghost use Rattle.flow_reader.specs.Expressions.{expression_in};
-ghost use Rattle.flow_reader.specs.Faults.{at, to_part};
+ghost use Rattle.flow_values.specs.Answers.{Gives};
+ghost use Rattle.flow_values.specs.Expressions.{expression_in};
+ghost use Rattle.flow_values.specs.Faults.{at, to_part};
 ghost use Rattle.flow_reader.specs.Statements.{activity_in, ask_in, event_in, five_parts, four_parts, one_part, only_value, signal_in, simple_in, sub_in, three_parts, two_parts, variable_and_value};
-ghost use Rattle.flow_reader.specs.Values.{name_in};
+ghost use Rattle.flow_values.specs.Values.{name_in};
 ghost use Rattle.flow_reader.specs.declared.words.Word.TheVariants as words;
 ghost use Rattle.flow_syntax.specs.Views.{expression_of, statement_of};
 
-use crate::expressions::expression_in;
-use crate::faults::{PartError, Step, under};
-use crate::values::{misshapen, name_in};
 use crate::words::Word;
 use dura_value::Name;
 use flow_syntax::{Expr, Stmt};
+use flow_values::{PartError, expression_at, misshapen, name_at};
 use serde_json::Value as Json;
 use std::alloc::Global;
 
@@ -74,30 +72,8 @@ fn five_parts(parts: &[Json]) -> Option<(&Json, &Json, &Json, &Json, &Json)>
     }
 }
 
-/// The name at a place of a statement.
-#[tactic(auto, using(crate::proofs::Parts::fails_under))]
-pub(crate) fn name_at(alloc: Global, value: &Json, index: usize) -> Result<Name, PartError>
-    ensures { Gives (λ name. name) result (at (to_part index) (name_in (view value.now))) }
-{
-    match name_in(alloc, value) {
-        Ok(name) => Ok(name),
-        Err(error) => Err(under(error, Step::Part(index))),
-    }
-}
-
-/// The expression at a place of a statement.
-#[tactic(auto, using(crate::proofs::Parts::fails_under))]
-pub(crate) fn expression_at(alloc: Global, value: &Json, index: usize) -> Result<Expr, PartError>
-    ensures { Gives expression_of result (at (to_part index) (expression_in (view value.now))) }
-{
-    match expression_in(alloc, value) {
-        Ok(expression) => Ok(expression),
-        Err(error) => Err(under(error, Step::Part(index))),
-    }
-}
-
 /// The only part, an expression.
-#[tactic(auto, using(crate::proofs::Parts::ends_then))]
+#[tactic(auto, using(flow_values::proofs::Parts::ends_then))]
 fn only_value(alloc: Global, parts: &[Json]) -> Result<Expr, PartError>
     ensures { Gives expression_of result (only_value (items_view parts.now)) }
 {
@@ -111,7 +87,7 @@ fn only_value(alloc: Global, parts: &[Json]) -> Result<Expr, PartError>
 }
 
 /// A variable and an expression.
-#[tactic(auto, using(crate::proofs::Parts::ends_then))]
+#[tactic(auto, using(flow_values::proofs::Parts::ends_then))]
 fn variable_and_value(alloc: Global, parts: &[Json]) -> Result<(Name, Expr), PartError>
     ensures { Gives (λ p. (p.0, expression_of p.1)) result (variable_and_value (items_view parts.now)) }
 {
@@ -126,7 +102,7 @@ fn variable_and_value(alloc: Global, parts: &[Json]) -> Result<(Name, Expr), Par
 }
 
 /// A variable, an activity and its argument.
-#[tactic(auto, using(crate::proofs::Parts::ends_then))]
+#[tactic(auto, using(flow_values::proofs::Parts::ends_then))]
 fn activity_in(alloc: Global, parts: &[Json]) -> Result<(Name, Name, Expr), PartError>
     ensures { Gives (λ p. (p.0, p.1, expression_of p.2)) result (activity_in (items_view parts.now)) }
 {
@@ -142,7 +118,7 @@ fn activity_in(alloc: Global, parts: &[Json]) -> Result<(Name, Name, Expr), Part
 }
 
 /// The next event of a name.
-#[tactic(auto, using(crate::proofs::Parts::ends_then))]
+#[tactic(auto, using(flow_values::proofs::Parts::ends_then))]
 fn event_in(alloc: Global, parts: &[Json]) -> Result<Stmt, PartError>
     ensures { Gives statement_of result (event_in (items_view parts.now)) }
 {
@@ -157,7 +133,7 @@ fn event_in(alloc: Global, parts: &[Json]) -> Result<Stmt, PartError>
 }
 
 /// The start of an instance.
-#[tactic(auto, using(crate::proofs::Parts::ends_then))]
+#[tactic(auto, using(flow_values::proofs::Parts::ends_then))]
 fn sub_in(alloc: Global, parts: &[Json]) -> Result<Stmt, PartError>
     ensures { Gives statement_of result (sub_in (items_view parts.now)) }
 {
@@ -174,7 +150,7 @@ fn sub_in(alloc: Global, parts: &[Json]) -> Result<Stmt, PartError>
 }
 
 /// A question to an entity.
-#[tactic(auto, using(crate::proofs::Parts::ends_then))]
+#[tactic(auto, using(flow_values::proofs::Parts::ends_then))]
 fn ask_in(alloc: Global, parts: &[Json]) -> Result<Stmt, PartError>
     ensures { Gives statement_of result (ask_in (items_view parts.now)) }
 {
@@ -192,7 +168,7 @@ fn ask_in(alloc: Global, parts: &[Json]) -> Result<Stmt, PartError>
 }
 
 /// An operation that nobody waits for.
-#[tactic(auto, using(crate::proofs::Parts::ends_then))]
+#[tactic(auto, using(flow_values::proofs::Parts::ends_then))]
 fn signal_in(alloc: Global, parts: &[Json]) -> Result<Stmt, PartError>
     ensures { Gives statement_of result (signal_in (items_view parts.now)) }
 {
@@ -208,7 +184,7 @@ fn signal_in(alloc: Global, parts: &[Json]) -> Result<Stmt, PartError>
     }
 }
 
-#[tactic(auto, using(crate::proofs::Parts::ends_then))]
+#[tactic(auto, using(flow_values::proofs::Parts::ends_then))]
 fn let_in(alloc: Global, parts: &[Json]) -> Result<Stmt, PartError>
     ensures { Gives statement_of result (simple_in words.Let (items_view parts.now)) }
 {
@@ -216,7 +192,7 @@ fn let_in(alloc: Global, parts: &[Json]) -> Result<Stmt, PartError>
     Ok(Stmt::Let(variable, value))
 }
 
-#[tactic(auto, using(crate::proofs::Parts::ends_then))]
+#[tactic(auto, using(flow_values::proofs::Parts::ends_then))]
 fn spawn_in(alloc: Global, parts: &[Json]) -> Result<Stmt, PartError>
     ensures { Gives statement_of result (simple_in words.Spawn (items_view parts.now)) }
 {
@@ -224,7 +200,7 @@ fn spawn_in(alloc: Global, parts: &[Json]) -> Result<Stmt, PartError>
     Ok(Stmt::Spawn(variable, activity, argument))
 }
 
-#[tactic(auto, using(crate::proofs::Parts::ends_then))]
+#[tactic(auto, using(flow_values::proofs::Parts::ends_then))]
 fn call_in(alloc: Global, parts: &[Json]) -> Result<Stmt, PartError>
     ensures { Gives statement_of result (simple_in words.Call (items_view parts.now)) }
 {
@@ -232,7 +208,7 @@ fn call_in(alloc: Global, parts: &[Json]) -> Result<Stmt, PartError>
     Ok(Stmt::Call(variable, activity, argument))
 }
 
-#[tactic(auto, using(crate::proofs::Parts::ends_then))]
+#[tactic(auto, using(flow_values::proofs::Parts::ends_then))]
 fn timer_in(alloc: Global, parts: &[Json]) -> Result<Stmt, PartError>
     ensures { Gives statement_of result (simple_in words.Timer (items_view parts.now)) }
 {
@@ -240,7 +216,7 @@ fn timer_in(alloc: Global, parts: &[Json]) -> Result<Stmt, PartError>
     Ok(Stmt::Timer(variable, delay))
 }
 
-#[tactic(auto, using(crate::proofs::Parts::ends_then))]
+#[tactic(auto, using(flow_values::proofs::Parts::ends_then))]
 fn await_in(alloc: Global, parts: &[Json]) -> Result<Stmt, PartError>
     ensures { Gives statement_of result (simple_in words.Await (items_view parts.now)) }
 {
@@ -248,7 +224,7 @@ fn await_in(alloc: Global, parts: &[Json]) -> Result<Stmt, PartError>
     Ok(Stmt::Await(variable, handle))
 }
 
-#[tactic(auto, using(crate::proofs::Parts::ends_then))]
+#[tactic(auto, using(flow_values::proofs::Parts::ends_then))]
 fn all_in(alloc: Global, parts: &[Json]) -> Result<Stmt, PartError>
     ensures { Gives statement_of result (simple_in words.All (items_view parts.now)) }
 {
@@ -256,7 +232,7 @@ fn all_in(alloc: Global, parts: &[Json]) -> Result<Stmt, PartError>
     Ok(Stmt::All(variable, handles))
 }
 
-#[tactic(auto, using(crate::proofs::Parts::ends_then))]
+#[tactic(auto, using(flow_values::proofs::Parts::ends_then))]
 fn any_in(alloc: Global, parts: &[Json]) -> Result<Stmt, PartError>
     ensures { Gives statement_of result (simple_in words.Any (items_view parts.now)) }
 {
@@ -264,7 +240,7 @@ fn any_in(alloc: Global, parts: &[Json]) -> Result<Stmt, PartError>
     Ok(Stmt::Any(variable, handles))
 }
 
-#[tactic(auto, using(crate::proofs::Parts::ends_then))]
+#[tactic(auto, using(flow_values::proofs::Parts::ends_then))]
 fn return_in(alloc: Global, parts: &[Json]) -> Result<Stmt, PartError>
     ensures { Gives statement_of result (simple_in words.Return (items_view parts.now)) }
 {
@@ -272,7 +248,7 @@ fn return_in(alloc: Global, parts: &[Json]) -> Result<Stmt, PartError>
     Ok(Stmt::Return(value))
 }
 
-#[tactic(auto, using(crate::proofs::Parts::ends_then))]
+#[tactic(auto, using(flow_values::proofs::Parts::ends_then))]
 fn fail_in(alloc: Global, parts: &[Json]) -> Result<Stmt, PartError>
     ensures { Gives statement_of result (simple_in words.Fail (items_view parts.now)) }
 {

@@ -4,7 +4,7 @@ ghost use Rattle.std.specs.Prelude.{◌≡◌};
 ghost use Rattle.serde_json.specs.View.{view};
 ghost use Rattle.flow_reader.specs.Statements.{flow_word, inner_word, word_in};
 
-use crate::expressions::is_word;
+use flow_values::is_word;
 use serde_json::Value as Json;
 
 /// The word that a statement begins with.

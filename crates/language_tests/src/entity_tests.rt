@@ -56,7 +56,11 @@ fn sends(
 }
 
 fn op(rt: &impl Abort, alloc: Global, operation: &str, argument: i64) -> Body {
-    Body::Op(name(rt, alloc, operation), Value::Int(argument), Reply::Task(3))
+    Body::Op(
+        name(rt, alloc, operation),
+        Value::Int(argument),
+        Reply::Task(3),
+    )
 }
 
 fn answer(answer: Answer) -> Body {
@@ -77,13 +81,43 @@ fn operations(rt: HostRuntime) {
         last: 0,
     };
     let put = op(&rt, alloc, "put", 5);
-    assert!(rt; sends(&rt, alloc, &mut pot, "Sum/x", put, "Sum/x", answer(Answer::Done(Value::Int(7)))));
+    assert!(rt;
+        sends(
+            &rt,
+            alloc,
+            &mut pot,
+            "Sum/x",
+            put,
+            "Sum/x",
+            answer(Answer::Done(Value::Int(7)))
+        )
+    );
     assert!(rt; pot.value == Value::Int(7));
     let burn = op(&rt, alloc, "burn", 0);
-    assert!(rt; sends(&rt, alloc, &mut pot, "Sum/x", burn, "Sum/x", failed(&rt, alloc, "burnt")));
+    assert!(rt;
+        sends(
+            &rt,
+            alloc,
+            &mut pot,
+            "Sum/x",
+            burn,
+            "Sum/x",
+            failed(&rt, alloc, "burnt")
+        )
+    );
     assert!(rt; pot.value == Value::Int(7));
     let take = op(&rt, alloc, "take", 1);
-    assert!(rt; sends(&rt, alloc, &mut pot, "Sum/x", take, "Sum/x", failed(&rt, alloc, "unknown")));
+    assert!(rt;
+        sends(
+            &rt,
+            alloc,
+            &mut pot,
+            "Sum/x",
+            take,
+            "Sum/x",
+            failed(&rt, alloc, "unknown")
+        )
+    );
     let asked = Body::Result(Reply::Request(9), Answer::Value(Value::Int(7)));
     assert!(rt; sends(&rt, alloc, &mut pot, "#c", Body::Query(9), "#c", asked));
 }
@@ -113,5 +147,15 @@ fn locks(rt: HostRuntime) {
     assert!(rt; pot.takes(&id(&rt, alloc, "Sum/x")));
     assert!(rt; sends(&rt, alloc, &mut pot, "Move/m", lock(0), "@Pot/b", lock(1)));
     assert!(rt; pot.takes(&holder) && !pot.takes(&id(&rt, alloc, "Sum/x")));
-    assert!(rt; sends(&rt, alloc, &mut pot, "@Pot/b", lock(1), "Move/m", Body::Granted(6)));
+    assert!(rt;
+        sends(
+            &rt,
+            alloc,
+            &mut pot,
+            "@Pot/b",
+            lock(1),
+            "Move/m",
+            Body::Granted(6)
+        )
+    );
 }

@@ -1,1 +1,2 @@
+pub mod FlowRows
 pub mod Worked

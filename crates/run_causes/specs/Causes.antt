@@ -1,7 +1,7 @@
 -- The exit status of a cause, and its line on standard error behind the program's name.
 use Rattle.std.specs.Prelude.{ℕ, zero, suc, ◌+◌, ◌-◌, ◌/◌, ◌%◌, List, [], ◌∷◌, ◌++◌, codes, nat_lt, Bool, true, false, if◌then◌else◌}
 use Rattle.std.specs.Fmt.{decimal}
-use Rattle.flow_reader.specs.Faults.{path_text}
+use Rattle.flow_values.specs.Faults.{path_text}
 use Rattle.run_causes.specs.declared.cause.Cause.{Cause}
 use Rattle.run_causes.specs.declared.cause.Cause.TheVariants.{Done, Usage, BadFlows, BadRequests, Clash, BadPlan, TooLong, Waiting, Long, SiteFault, SayFault, ClockFault, Damaged, Illegal, Unclosed, OtherShape, OtherFlows, Memory, Full, Spent}
 use Rattle.run_causes.specs.declared.cause.FlowsFault.{FlowsFault}

@@ -4,7 +4,7 @@ ghost use Rattle.std.specs.Prelude.{◌≡◌};
 ghost use Rattle.run_causes.specs.Causes.{status_of};
 
 use dura_value::Name;
-use flow_reader::Path;
+use flow_values::Path;
 
 /// What is wrong with a flows file.
 #[derive(Debug, Drop)]

@@ -2,10 +2,10 @@
 use Rattle.std.proofs.Common.{◌≡◌, get_or, length, Ok, Err, rules}
 use Rattle.serde_json.specs.View.{view}
 use Rattle.flow_syntax.specs.Views.{block_of}
-use Rattle.flow_reader.specs.Answers.{Fails}
-use Rattle.flow_reader.specs.Faults.{at, to_part}
+use Rattle.flow_values.specs.Answers.{Fails}
+use Rattle.flow_values.specs.Faults.{at, to_part}
 use Rattle.flow_reader.specs.Statements.{body_in}
-use Rattle.flow_reader.specs.Values.{name_in}
+use Rattle.flow_values.specs.Values.{name_in}
 use Rattle.flow_reader.proofs.Blocks.{try_ends_variable}
 use Rattle.flow_reader.proofs.bodies.+statements.Goals as goal
 

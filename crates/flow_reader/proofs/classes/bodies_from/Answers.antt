@@ -3,7 +3,7 @@ use Rattle.std.proofs.Common.{◌≡◌, [], Ok, string_bytes, rules}
 use Rattle.serde_json.specs.View.{view, members_view}
 use Rattle.serde_json.proofs.Views.{Entry}
 use Rattle.flow_syntax.specs.Views.{body_in}
-use Rattle.flow_reader.specs.Faults.{at, to_key}
+use Rattle.flow_values.specs.Faults.{at, to_key}
 use Rattle.flow_reader.specs.Classes.{named_after}
 use Rattle.flow_reader.specs.Statements.{body_in as read_body}
 use Rattle.flow_reader.proofs.Members.{put, rest_are_names}

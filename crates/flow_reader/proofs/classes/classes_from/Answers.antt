@@ -3,7 +3,7 @@ use Rattle.std.proofs.Common.{◌≡◌, [], Ok, string_bytes, rules}
 use Rattle.serde_json.specs.View.{view, members_view}
 use Rattle.serde_json.proofs.Views.{Entry}
 use Rattle.flow_syntax.specs.Views.{class_of}
-use Rattle.flow_reader.specs.Faults.{at, to_key}
+use Rattle.flow_values.specs.Faults.{at, to_key}
 use Rattle.flow_reader.specs.Classes.{class_in, named_after}
 use Rattle.flow_reader.proofs.Members.{put, rest_are_names}
 use Rattle.flow_reader.proofs.classes.classes_from.Goals as goal

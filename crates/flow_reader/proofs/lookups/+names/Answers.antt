@@ -4,11 +4,11 @@ use Rattle.flow_syntax.specs.declared.syntax.Stmt.TheViews.{the_lemmas}
 use Rattle.flow_syntax.specs.Syntax.{lock_in, if_then, while, try}
 use Rattle.flow_syntax.specs.Views.{block_of, expression_of, flows_of, locked_of, statement_of}
 use Rattle.flow_syntax.proofs.Rows.{block_in_row}
-use Rattle.flow_reader.specs.Answers.{Fails, Gives}
-use Rattle.flow_reader.specs.Faults.{at, to_part}
+use Rattle.flow_values.specs.Answers.{Fails, Gives}
+use Rattle.flow_values.specs.Faults.{at, to_part}
 use Rattle.flow_reader.specs.Names.{known_block, known_pairs}
 use Rattle.flow_reader.proofs.Known.{then_gives}
-use Rattle.flow_reader.proofs.Parts.{ends_then}
+use Rattle.flow_values.proofs.Parts.{ends_then}
 use Rattle.flow_reader.proofs.lookups.+names.Goals as goal
 
 pub known_in-returns-in_err-block_at-in-If : goal.known_in-returns-in_err-block_at-in-If

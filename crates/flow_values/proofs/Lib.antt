@@ -1,0 +1,4 @@
+pub mod Parts
+pub mod Scalars
+pub mod Texts
+pub mod Trails

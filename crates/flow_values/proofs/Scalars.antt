@@ -1,0 +1,53 @@
+-- Reading the parts of a list one after another, and how many bytes they take.
+use Rattle.std.proofs.Common.{◌≡◌, ℕ, ◌+◌, ◌<◌, List, [], ◌∷◌, ◌++◌, length, drop, get_or, false, Result, Ok, Err, refl, sym, ◌∙◌, arith, append_assoc, add-one}
+use Rattle.std.proofs.Math.Seq.{drop-cons}
+use Rattle.std.specs.Prelude.{nat_le}
+use Rattle.std.proofs.lemmas.Bool.Decides.{nat_tests}
+use Rattle.serde_json.specs.Data.{Items, item}
+use Rattle.serde_json.specs.View.{view, items_view}
+use Rattle.serde_json.specs.declared.value.Value.{Value as Json}
+use Rattle.dura_value.specs.declared.data.Scalar.{Scalar}
+use Rattle.dura_value.specs.Limits.{most_scalars_bytes}
+use Rattle.flow_values.specs.Answers.{Fails, IsUnder}
+use Rattle.flow_values.specs.Faults.{Path, at, to_part, ◌>>=◌}
+use Rattle.dura_value.specs.Values.{scalar_size, scalars_size}
+use Rattle.flow_values.specs.Values.{count, scalar_in, scalars_from}
+use Rattle.flow_values.specs.declared.faults.PartError.{PartError}
+use Rattle.flow_values.specs.declared.faults.PartError.TheVariants.{Misshapen, Memory}
+
+pub count_of_items : (vs : List Json) → count (items_view vs) ≡ length vs
+count_of_items [] = refl
+count_of_items (x ∷ vs) = omega (arith, count_of_items vs)
+
+-- the parts that are still to be read, from this place on, behind those that were
+abbrev pub with_rest : List Scalar → ℕ → Items → Result (List Scalar) Path
+with_rest done i ds = scalars_from i ds >>= λ ss. Ok (done ++ ss)
+
+with_first : (done : List Scalar) (s : Scalar) (rest : Result (List Scalar) Path) → (rest >>= (λ ss. Ok (s ∷ ss)) >>= λ ss. Ok (done ++ ss)) ≡ (rest >>= λ ss. Ok ((done ++ s ∷ []) ++ ss))
+with_first done s (Err path) = refl
+with_first done s (Ok ss) = rw append_assoc refl
+
+items_from : (vs : List Json) (i : ℕ) (v : Json) → i < length vs → v ≡ get_or vs i v → items_view (drop i vs) ≡ item (view v) (items_view (drop (i + 1) vs))
+items_from vs i v lt at = rw (add-one, drop-cons vs i v lt, ← at) refl
+
+-- a part was read
+pub goes_on : (whole : Result (List Scalar) Path) (done : List Scalar) (vs : List Json) (i : ℕ) (v : Json) (s : Scalar) → i < length vs → v ≡ get_or vs i v → with_rest done i (items_view (drop i vs)) ≡ whole → scalar_in (view v) ≡ Ok s → with_rest (done ++ s ∷ []) (i + 1) (items_view (drop (i + 1) vs)) ≡ whole
+goes_on whole done vs i v s lt here before is = sym (with_first done s (scalars_from (i + 1) (items_view (drop (i + 1) vs)))) ∙ sym (rw (items_from vs i v lt here, is) refl) ∙ before
+
+-- a part is no scalar
+pub ends : (whole : Result (List Scalar) Path) (done : List Scalar) (vs : List Json) (i : ℕ) (v : Json) (error further : PartError) → i < length vs → v ≡ get_or vs i v → with_rest done i (items_view (drop i vs)) ≡ whole → Fails error (scalar_in (view v)) → IsUnder (to_part i) error further → Fails further whole
+ends whole done vs i v (Misshapen path) (Misshapen outer) lt here before is under = sym before ∙ rw (items_from vs i v lt here, is, under) refl
+ends whole done vs i v Memory (Misshapen outer) lt here before is under = absurd under
+ends whole done vs i v (Misshapen path) Memory lt here before is under = tt
+ends whole done vs i v Memory Memory lt here before is under = tt
+
+sizes_from : (ss : List Scalar) (i : ℕ) (s : Scalar) → i < length ss → s ≡ get_or ss i s → scalars_size (drop i ss) ≡ scalar_size s + scalars_size (drop (i + 1) ss)
+sizes_from ss i s lt at = rw (add-one, drop-cons ss i s lt, ← at) refl
+
+-- a scalar that still fits was counted
+pub counted : (ss : List Scalar) (i left after : ℕ) (s : Scalar) → i < length ss → s ≡ get_or ss i s → scalars_size ss + left ≡ most_scalars_bytes + scalars_size (drop i ss) → after + scalar_size s ≡ left → scalars_size ss + after ≡ most_scalars_bytes + scalars_size (drop (i + 1) ss)
+counted ss i left after s lt at before is = omega (arith, sizes_from ss i s lt at)
+
+-- a scalar doesn't fit any more
+pub too_many : (ss : List Scalar) (i left : ℕ) (s : Scalar) → i < length ss → s ≡ get_or ss i s → scalars_size ss + left ≡ most_scalars_bytes + scalars_size (drop i ss) → left < scalar_size s → nat_le (scalars_size ss) most_scalars_bytes ≡ false
+too_many ss i left s lt at before is = let above : most_scalars_bytes < scalars_size ss = omega (arith, sizes_from ss i s lt at) in grind (arith, nat_tests)

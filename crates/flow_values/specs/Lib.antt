@@ -1,0 +1,5 @@
+pub mod Answers
+pub mod Expressions
+pub mod Faults
+pub mod Paths
+pub mod Values

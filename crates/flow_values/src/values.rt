@@ -1,0 +1,172 @@
+//! Values and names.
+
+ghost use Rattle.std.specs.Prelude.{◌≡◌, ◌≤◌, [], nat_le, Ok};
+ghost use Rattle.serde_json.specs.View.{view, items_view};
+ghost use Rattle.flow_values.specs.Answers.{Gives};
+ghost use Rattle.flow_values.specs.Faults.{at, to_part, where_fits};
+ghost use Rattle.dura_value.specs.Values.{scalar_size, scalars_size, value_of};
+ghost use Rattle.flow_values.specs.Values.{is_text, list_in, name_in, scalar_in, scalars_from, value_in};
+ghost use Rattle.dura_value.specs.Limits.{most_scalars_bytes};
+
+use crate::faults::{PartError, Path, Step, under};
+use dura_value::{
+    MOST_SCALARS, MOST_SCALARS_BYTES, Name, Scalar, Scalars, Text, TextError, Value, is_name,
+};
+use serde_json::Value as Json;
+use std::alloc::Global;
+
+/// This value isn't of the shape wanted.
+pub fn misshapen(alloc: Global) -> PartError
+    ensures { result ≡ PartError.Misshapen [] }
+{
+    PartError::Misshapen(Path::here(alloc))
+}
+
+#[tactic(auto, using(crate::proofs::Texts::text_passes, crate::proofs::Texts::long_fails))]
+fn text_in(alloc: Global, text: &str) -> Result<Text, PartError>
+    ensures { Gives (λ t. t) result (where_fits (is_text text.now) (Ok text.now)) }
+{
+    match Text::read(alloc, text.as_bytes()) {
+        Ok(text) => Ok(text),
+        Err(TextError::TooLong { .. }) => Err(misshapen(alloc)),
+        Err(TextError::NotUtf8 { .. }) => Err(misshapen(alloc)),
+        Err(TextError::Memory) => Err(PartError::Memory),
+    }
+}
+
+pub(crate) fn scalar_in(alloc: Global, value: &Json) -> Result<Scalar, PartError>
+    ensures { Gives (λ s. s) result (scalar_in (view value.now)) }
+{
+    match value {
+        Json::Null => Ok(Scalar::Null),
+        Json::Bool(truth) => {
+            if *truth {
+                Ok(Scalar::True)
+            } else {
+                Ok(Scalar::False)
+            }
+        }
+        Json::Number(number) => match number.as_i64() {
+            Some(number) => Ok(Scalar::Int(number)),
+            None => Err(misshapen(alloc)),
+        },
+        Json::String(text) => match text_in(alloc, text.as_str()) {
+            Ok(text) => Ok(Scalar::Text(text)),
+            Err(error) => Err(error),
+        },
+        Json::Array(_) => Err(misshapen(alloc)),
+        Json::Object(_) => Err(misshapen(alloc)),
+    }
+}
+
+pub fn name_in(alloc: Global, value: &Json) -> Result<Name, PartError>
+    ensures { Gives (λ name. name) result (name_in (view value.now)) }
+{
+    match value {
+        Json::String(text) => {
+            if is_name(text.as_str().as_bytes()) {
+                Ok(Name::of(alloc, text.as_str().as_bytes())?)
+            } else {
+                Err(misshapen(alloc))
+            }
+        }
+        Json::Null => Err(misshapen(alloc)),
+        Json::Bool(_) => Err(misshapen(alloc)),
+        Json::Number(_) => Err(misshapen(alloc)),
+        Json::Array(_) => Err(misshapen(alloc)),
+        Json::Object(_) => Err(misshapen(alloc)),
+    }
+}
+
+/// The name at a place of an array.
+#[tactic(auto, using(crate::proofs::Parts::fails_under))]
+pub fn name_at(alloc: Global, value: &Json, index: usize) -> Result<Name, PartError>
+    ensures { Gives (λ name. name) result (at (to_part index) (name_in (view value.now))) }
+{
+    match name_in(alloc, value) {
+        Ok(name) => Ok(name),
+        Err(error) => Err(under(error, Step::Part(index))),
+    }
+}
+
+/// The scalars of an array, from the first on.
+#[tactic(auto, using(crate::proofs::Scalars::goes_on, crate::proofs::Scalars::ends))]
+fn scalars_in(alloc: Global, parts: &[Json]) -> Result<Vec<Scalar>, PartError>
+    ensures { Gives (λ scalars. scalars.items) result (scalars_from 0 (items_view parts.now)) }
+{
+    let mut scalars = Vec::with_capacity(alloc, parts.len())?;
+    for (index, part) in parts.iter().enumerate() {
+        match scalar_in(alloc, part) {
+            Ok(scalar) => scalars.push(scalar)?,
+            Err(error) => return Err(under(error, Step::Part(index))),
+        }
+    }
+    Ok(scalars)
+}
+
+/// How many bytes a scalar takes where it is written.
+fn scalar_size(scalar: &Scalar) -> usize
+    ensures size { result ≡ scalar_size scalar.now }
+    ensures small { result ≤ 4099 }
+{
+    match scalar {
+        Scalar::Null => 1,
+        Scalar::False => 1,
+        Scalar::True => 1,
+        Scalar::Int(_) => 9,
+        Scalar::Text(text) => 3 + text.as_bytes().len(),
+    }
+}
+
+/// Whether scalars are few enough bytes for a list.
+#[tactic(auto, using(crate::proofs::Scalars::counted, crate::proofs::Scalars::too_many))]
+fn are_short(scalars: &[Scalar]) -> bool
+    ensures { result ≡ nat_le (scalars_size scalars.now) most_scalars_bytes }
+{
+    let mut left = MOST_SCALARS_BYTES;
+    for scalar in scalars {
+        let size = scalar_size(scalar);
+        if size > left {
+            return false;
+        }
+        left -= size;
+    }
+    true
+}
+
+#[tactic(auto, using(crate::proofs::Scalars::count_of_items))]
+fn list_in(alloc: Global, parts: &[Json]) -> Result<Scalars, PartError>
+    ensures { Gives (λ scalars. scalars) result (list_in (items_view parts.now)) }
+{
+    if parts.len() > MOST_SCALARS {
+        return Err(misshapen(alloc));
+    }
+    let scalars = scalars_in(alloc, parts)?;
+    if are_short(&scalars) {
+        Ok(Scalars::of(scalars))
+    } else {
+        Err(misshapen(alloc))
+    }
+}
+
+/// A scalar as a value.
+fn value_of(scalar: Scalar) -> Value
+    ensures { result ≡ value_of scalar }
+{
+    match scalar {
+        Scalar::Null => Value::Null,
+        Scalar::False => Value::False,
+        Scalar::True => Value::True,
+        Scalar::Int(number) => Value::Int(number),
+        Scalar::Text(text) => Value::Text(text),
+    }
+}
+
+pub fn value_in(alloc: Global, value: &Json) -> Result<Value, PartError>
+    ensures { Gives (λ v. v) result (value_in (view value.now)) }
+{
+    match value.as_array() {
+        Some(parts) => Ok(Value::List(list_in(alloc, parts)?)),
+        None => Ok(value_of(scalar_in(alloc, value)?)),
+    }
+}
