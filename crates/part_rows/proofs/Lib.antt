@@ -1,2 +1,4 @@
 pub mod Boxes
 pub mod Links
+pub mod Posting
+pub mod Seen

@@ -7,10 +7,15 @@
 //! - `specs/Views`: the plain data that these stand for.
 #![tactic(auto)]
 
+mod holders;
+mod parts;
+mod pending;
 mod queue;
+mod requests;
 mod rows;
 mod streams;
 
+pub use parts::PartRows;
 pub use queue::Queue;
 pub use rows::{Activity, Row, Waiting};
 pub use streams::{Identity, Inbox, Inboxes, Outbox, Outboxes, Posted};

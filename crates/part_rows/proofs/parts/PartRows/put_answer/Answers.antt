@@ -1,0 +1,12 @@
+use Rattle.std.proofs.Common.{◌∙◌, Some, ap}
+use Rattle.dura_value.specs.Views.{id_of}
+use Rattle.id_maps.specs.Maps.{by_number, at_number}
+use Rattle.part_rows.specs.Parts.{part_of}
+use Rattle.part_rows.proofs.Seen.{answers_put}
+use Rattle.part_rows.proofs.parts.PartRows.put_answer.Goals as goal
+
+pub returns-clause-put : goal.returns-clause-put
+returns-clause-put c =
+    let was = c.args.self.now in
+    let put = c.in_ok-put.ensures ∙ ap (λ i. at_number (by_number was.answers) (id_of i) c.args.number (Some c.args.answer)) c.in_ok-client.ensures in
+    ap (λ a. record (part_of was) { answers = a }) (answers_put (by_number was.answers) (by_number c.put.new.self) (id_of c.args.client.now) c.args.number (Some c.args.answer) put)

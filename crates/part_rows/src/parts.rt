@@ -1,0 +1,89 @@
+//! All that a partition knows.
+
+ghost use Rattle.std.specs.Prelude.{◌≡◌, ◌<◌, OnOk};
+ghost use Rattle.dura_value.specs.Views.{message_of, messages_of};
+ghost use Rattle.dura_model.specs.Partition.{entry_of, post, post_all};
+ghost use Rattle.part_rows.specs.Views.{identity_of};
+ghost use Rattle.part_rows.specs.Parts.{part_of};
+
+use crate::queue::Queue;
+use crate::rows::{Activity, Row};
+use crate::streams::{Identity, Inboxes, Outboxes, Posted};
+use dura_value::{Answer, Message, home};
+use flow_messages::Entity;
+use id_maps::{IdMap, NumberMap};
+use std::alloc::{AllocError, Global};
+use timer_row::TimerRow;
+
+/// What a partition among so many knows. After an Err, which is want of memory, it is only dropped.
+#[derive(Debug, Drop)]
+pub struct PartRows {
+    /// How many partitions there are.
+    pub partitions: u32,
+    /// Which of them it is.
+    pub number: u32,
+    /// The place of its next entry.
+    pub position: u64,
+    /// Its life.
+    pub incarnation: u64,
+    /// Its greatest moment.
+    pub stamp: u64,
+    /// The requests that were taken from its clients.
+    pub taken: NumberMap<Message>,
+    /// The answers to them.
+    pub answers: NumberMap<Answer>,
+    /// Its instances.
+    pub instances: IdMap<Row>,
+    /// Its entities.
+    pub entities: IdMap<Entity>,
+    /// The activities that are pending.
+    pub activities: NumberMap<Activity>,
+    /// The timers that are pending.
+    pub timers: TimerRow,
+    /// The messages to receivers here.
+    pub queue: Queue,
+    /// The streams from other partitions.
+    pub inboxes: Inboxes,
+    /// The streams to other partitions.
+    pub outboxes: Outboxes,
+}
+
+impl PartRows {
+    /// The entry that its items belong to.
+    pub fn entry(&self) -> Identity
+        ensures { identity_of result ≡ entry_of (part_of self.now) }
+    {
+        Identity {
+            partition: self.number,
+            incarnation: self.incarnation,
+            position: self.position.saturating_sub(1),
+        }
+    }
+
+    /// A message joins the queue here, or the stream to its receiver's partition.
+    #[tactic(auto, using(crate::proofs::Posting::joined))]
+    pub fn post(&mut self, alloc: Global, message: Message) -> Result<(), AllocError>
+        requires { 0 < self.old.partitions }
+        ensures posted { OnOk result (part_of self.new ≡ post self.old.partitions (part_of self.old) (message_of message)) }
+        ensures partitions { self.new.partitions ≡ self.old.partitions }
+    {
+        let target = home(&message.to, self.partitions);
+        if target == self.number {
+            return self.queue.push(message);
+        }
+        let entry = self.entry();
+        self.outboxes.push(alloc, target, Posted { entry, message })
+    }
+
+    /// Messages are posted one after the other.
+    pub fn post_all(&mut self, alloc: Global, messages: Vec<Message>) -> Result<(), AllocError>
+        requires { 0 < self.old.partitions }
+        ensures posted { OnOk result (part_of self.new ≡ post_all self.old.partitions (part_of self.old) (messages_of messages.items)) }
+        ensures partitions { self.new.partitions ≡ self.old.partitions }
+    {
+        for message in messages {
+            self.post(alloc, message)?;
+        }
+        Ok(())
+    }
+}
