@@ -1,3 +1,4 @@
+pub mod Accepts
 pub mod Parts
 pub mod Queues
 pub mod Views

@@ -8,6 +8,7 @@
 #![tactic(auto)]
 
 mod holders;
+mod incoming;
 mod parts;
 mod pending;
 mod queue;
