@@ -57,3 +57,11 @@ instances_put = by_id row_of
 pub entities_put : (f g : Id → Option Entity) (id : Id) (x : Option Entity) → g ≡ maps.at_id f id x
     → (λ (i : Id). option_map entity_of (g i)) ≡ world.at_id (λ (i : Id). option_map entity_of (f i)) id (option_map entity_of x)
 entities_put = by_id entity_of
+
+twice_by : {X : Type 0} (b : Bool) (x y w : X) → cond b x (cond b y w) ≡ cond b x w
+twice_by true x y w = refl
+twice_by false x y w = refl
+
+-- what was set twice at one place was set once
+pub set_again : {X : Type 0} (f : Id → X) (id : Id) (x y : X) → world.at_id (world.at_id f id y) id x ≡ world.at_id f id x
+set_again f id x y = λ t i. twice_by (id_eq id i) x y (f i) t

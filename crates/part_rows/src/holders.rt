@@ -45,4 +45,19 @@ impl PartRows {
     {
         self.instances.take(id)
     }
+
+    /// An instance is kept in the place of its row, or no longer where there is none.
+    pub fn replace_instance(&mut self, id: &Id, row: Option<Row>) -> Result<(), AllocError>
+        ensures put { OnOk result (part_of self.new ≡ record (part_of self.old) { instances = at_id (part_of self.old).instances (id_of id.now) (option_map row_of row) }) }
+        ensures timers { self.new.timers ≡ self.old.timers }
+        ensures partitions { self.new.partitions ≡ self.old.partitions }
+    {
+        match row {
+            Some(row) => self.put_instance(id, row),
+            None => {
+                self.take_instance(id);
+                Ok(())
+            }
+        }
+    }
 }

@@ -1,12 +1,13 @@
 //! Requests of clients that were taken, and their answers.
 
-ghost use Rattle.std.specs.Prelude.{◌≡◌, Some, OnOk, is_some};
-ghost use Rattle.dura_value.specs.Views.{id_of, answer_of, message_of};
+ghost use Rattle.std.specs.Prelude.{◌≡◌, Some, OnOk, IfOk, is_some};
+ghost use Rattle.dura_value.specs.Views.{id_of, answer_of, body_of, message_of};
 ghost use Rattle.dura_model.specs.World.{at_number};
+ghost use Rattle.dura_model.specs.Partition.{client_received};
 ghost use Rattle.part_rows.specs.Parts.{part_of};
 
 use crate::parts::PartRows;
-use dura_value::{Answer, Id, Message};
+use dura_value::{Answer, Body, Id, Message, Reply};
 use flow_messages::copy_id;
 use std::alloc::{AllocError, Global};
 
@@ -51,4 +52,25 @@ impl PartRows {
         self.answers.put(alloc, client, number, answer)?;
         Ok(())
     }
+
+    /// A message reaches a client: the answer to a request that was taken is kept.
+    pub fn receive(&mut self, alloc: Global, to: &Id, body: &Body) -> Result<(), AllocError>
+        ensures received { OnOk result (part_of self.new ≡ client_received (part_of self.old) (id_of to.now) (body_of body.now)) }
+        ensures timers { self.new.timers ≡ self.old.timers }
+        ensures partitions { self.new.partitions ≡ self.old.partitions }
+    {
+        if let Body::Result(Reply::Request(number), answer) = body {
+            if self.has_taken(to, *number) {
+                self.put_answer(alloc, to, *number, copy_answer(answer)?)?;
+            }
+        }
+        Ok(())
+    }
+}
+
+/// A copy of an answer.
+fn copy_answer(answer: &Answer) -> Result<Answer, AllocError>
+    ensures { IfOk result (λ copy. copy ≡ answer.now) }
+{
+    answer.clone()
 }
