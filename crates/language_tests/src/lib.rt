@@ -5,6 +5,7 @@
 mod activity_tests;
 #[cfg(test)]
 mod entity_tests;
+#[cfg(test)]
 mod eval_tests;
 #[cfg(test)]
 mod flow_tests;

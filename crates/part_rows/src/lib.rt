@@ -2,6 +2,7 @@
 //! messages on their way here, and the streams from and to other partitions.
 //!
 //! - `rows`: an instance as it is kept, a pending activity.
+//! - `parts`: all that a partition knows, and what is posted. `holders`, `pending`, `requests`, `incoming`: what changes it.
 //! - `queue`: the messages to receivers here.
 //! - `streams`: what came in from other partitions, and what goes out to them.
 //! - `specs/Views`: the plain data that these stand for.
