@@ -22,7 +22,8 @@ use Rattle.dura_model.proofs.Basics.{some_same, passes, passed, not_true, eqb_ap
 use Rattle.dura_model.proofs.Rows.{instance_suits, row_goes_on}
 use Rattle.dura_model.proofs.Items.{entity_from}
 use Rattle.dura_model.proofs.Shown.{home_below, dropped_in, silent}
-use Rattle.dura_model.proofs.Keeping.{entry_behind, Follows, follows_then, taken_follows, answers_follows, activities_follows, timers_follows, raised_follows, entity_follows, queue_follows, queued_lives, post_follows, post_all_follows, stands_follows, without_contained, first_lives}
+use Rattle.dura_model.proofs.Belonging.{got_belongs, trim_belongs, enter_belongs}
+use Rattle.dura_model.proofs.Keeping.{Follows, follows_then, taken_follows, answers_follows, activities_follows, timers_follows, raised_follows, entity_follows, queue_follows, queued_lives, post_follows, post_all_follows, stands_follows, without_contained, first_lives}
 
 -- an entity that was delivered to is at the moment that it was at
 operated_last : (e : Entity) (from to : Id) (argument : _) (reply : Reply) (body : Option Block) → (operated e from to argument reply body).entity.last ≡ e.last
@@ -147,6 +148,30 @@ module _ (flows : Flows) (count p : ℕ) where
       let two = raised_follows count p left stamp one.belongs one.begun in
       follows_then count p q left next one (follows_then count p left later next two.0 (received_comes later next from to stamp body below here two.0.belongs two.0.begun two.1 is))
 
+  -- ---- items
+
+  -- what a label makes of a state comes from it
+  pub label_comes : (item : Item) (q next : Partition) → is_some (label_in item) ≡ true → p < count → Belongs count p q → 0 < q.position → accepted flows count q item ≡ Some next → Comes q next
+  label_comes (took message) q next some below b begun is =
+      let number = number_in message.body in
+      let it = passes (home count message.from == q.number && is_request message.from number message) (taken_in count q message (q.taken message.from number)) next is in
+      let here = eqb-true (home count message.from) q.number (both_true (home count message.from == q.number) (is_request message.from number message) it.0).0 in
+      taken_comes q next message (q.taken message.from number) below (here ∙ b.number) b begun it.1
+  label_comes (ran from to stamp) q next some below b begun is = delivered_comes q next from to stamp (first_in q.queue from to) refl below b begun is
+  label_comes (ended id task outcome) q next some below b begun is = ended_comes q next id task outcome (q.instances id) (q.activities id task) below b begun refl is
+  label_comes (fired id task stamp) q next some below b begun is = fired_comes q next id task stamp (q.instances id) (q.timers id task) below b begun refl is
+  label_comes (got source number message) q next some below b begun is = absurd (cc some)
+  label_comes (trim reader number) q next some below b begun is = absurd (cc some)
+
+  -- what an item makes of a state belongs where the state does
+  pub item_belongs : (item : Item) (q next : Partition) → p < count → Belongs count p q → 0 < q.position → accepted flows count q item ≡ Some next → Belongs count p next
+  item_belongs (took message) q next below b begun is = (label_comes (took message) q next refl below b begun is).belongs
+  item_belongs (ran from to stamp) q next below b begun is = (label_comes (ran from to stamp) q next refl below b begun is).belongs
+  item_belongs (ended id task outcome) q next below b begun is = (label_comes (ended id task outcome) q next refl below b begun is).belongs
+  item_belongs (fired id task stamp) q next below b begun is = (label_comes (fired id task stamp) q next refl below b begun is).belongs
+  item_belongs (got source number message) q next below b begun is = got_belongs count p q next source number message b begun is
+  item_belongs (trim reader number) q next below b begun is = trim_belongs count p q next reader number b is
+
 -- ---- all states, with one of them replaced
 
 -- a reader of a stream, by the stream and by how far it was taken in
@@ -203,7 +228,7 @@ module _ (flows : Flows) (count : ℕ) (parts : ℕ → Partition) (p : ℕ) whe
       → accepted flows count (parts p) (got source number message) ≡ Some next → AreShown count (with_part parts p next)
   got_shown next source number message shows below begun streamed is =
       subst (λ (s : Partition). AreShown count (with_part parts p s)) it.1
-      (with_shown after shows belongs
+      (with_shown after shows (got_belongs count p q after source number message b begun (is ∙ sym (ap Some it.1)))
       (λ target low. let r = shows.readers p target below low in (r.from_first, r.to_end))
       (λ other low. reads other low (source.partition == other) refl))
     where
@@ -240,30 +265,6 @@ module _ (flows : Flows) (count : ℕ) (parts : ℕ → Partition) (p : ℕ) whe
       two : (low_source ≡ true) × ((in_turn && lives) ≡ true)
       two = both_true low_source (in_turn && lives) one.1
 
-      three : (in_turn ≡ true) × (lives ≡ true)
-      three = both_true in_turn lives two.1
-
-      other_source : IsOther count p source.partition
-      other_source = record { apart = λ wrong. eqb_apart source.partition q.number (not_true away one.0) (wrong ∙ sym b.number); below = ltb-true source.partition count two.0 }
-
-      others : (other : ℕ) (test : Bool) → (source.partition == other) ≡ test → IsOther count p other ⊎ ((cond test box (q.inboxes other)).next ≡ 0)
-      others other true same = inl (subst (IsOther count p) (eqb-true source.partition other same) other_source)
-      others other false apart = b.inboxes.others other
-
-      earlier : (other : ℕ) (test : Bool) → 0 < (cond test box (q.inboxes other)).next → IsBehind p q.position q.incarnation (cond test box (q.inboxes other)).reader
-      earlier other true some = entry_behind count p q b begun
-      earlier other false some = b.inboxes.earlier other some
-
-      belongs : Belongs count p after
-      belongs = record {
-        number = b.number;
-        rows = b.rows;
-        queue = queued_lives count p q.queue message b.queue (eqb-true (home count message.to) q.number three.1 ∙ b.number);
-        outboxes = b.outboxes;
-        inboxes = record { others = λ other. others other (source.partition == other) refl; earlier = λ other. earlier other (source.partition == other) };
-        moments = b.moments;
-      }
-
       reads : (other : ℕ) → other < count → (test : Bool) → (source.partition == other) ≡ test → Reads ((parts other).outboxes p) (cond test box (q.inboxes other)).next
       reads other low true same =
           let stream = (parts source.partition).outboxes p in
@@ -275,7 +276,7 @@ module _ (flows : Flows) (count : ℕ) (parts : ℕ → Partition) (p : ℕ) whe
       → accepted flows count (parts p) (trim reader number) ≡ Some next → AreShown count (with_part parts p next)
   trim_shown next reader number shows below read is =
       subst (λ (s : Partition). AreShown count (with_part parts p s)) it.1
-      (with_shown after shows belongs
+      (with_shown after shows (trim_belongs count p q after reader number b (is ∙ sym (ap Some it.1)))
       (λ other low. reads other low (target == other) refl)
       (λ source low. let r = shows.readers source p low below in (r.from_first, r.to_end)))
     where
@@ -309,38 +310,8 @@ module _ (flows : Flows) (count : ℕ) (parts : ℕ → Partition) (p : ℕ) whe
       two : (low_target ≡ true) × (enough ≡ true)
       two = both_true low_target enough one.1
 
-      other_target : IsOther count p target
-      other_target = record { apart = λ wrong. eqb_apart target q.number (not_true away one.0) (wrong ∙ sym b.number); below = ltb-true target count two.0 }
-
       box_of : ℕ → Bool → Outbox
       box_of other test = cond test (begins_at number (q.outboxes other)) (q.outboxes other)
-
-      others : (other : ℕ) (test : Bool) → (target == other) ≡ test → IsOther count p other ⊎ (box_of other test ≡ record { first = 0; messages = [] })
-      others other true same = inl (subst (IsOther count p) (eqb-true target other same) other_target)
-      others other false apart = b.outboxes.others other
-
-      left : (other : ℕ) (one_posted : Posted) (test : Bool) → Contains (box_of other test).messages one_posted → Contains (q.outboxes other).messages one_posted
-      left other posted true of_it = by (nat_le number (q.outboxes other).first) of_it
-        where
-          by : (low : Bool) → Contains (cond low (q.outboxes other) (record { first = number; messages = drop (number - (q.outboxes other).first) (q.outboxes other).messages })).messages posted → Contains (q.outboxes other).messages posted
-          by true has = has
-          by false has = dropped_in (number - (q.outboxes other).first) (q.outboxes other).messages posted has
-      left other posted false of_it = of_it
-
-      belongs : Belongs count p after
-      belongs = record {
-        number = b.number;
-        rows = b.rows;
-        queue = b.queue;
-        outboxes = record {
-          others = λ other. others other (target == other) refl;
-          senders = λ other posted of_it. b.outboxes.senders other posted (left other posted (target == other) of_it);
-          receivers = λ other posted of_it. b.outboxes.receivers other posted (left other posted (target == other) of_it);
-          earlier = λ other posted of_it. b.outboxes.earlier other posted (left other posted (target == other) of_it);
-        };
-        inboxes = b.inboxes;
-        moments = b.moments;
-      }
 
       reads : (other : ℕ) → other < count → (test : Bool) → (target == other) ≡ test → Reads (box_of other test) ((parts other).inboxes p).next
       reads other low false apart = let r = shows.readers p other below low in (r.from_first, r.to_end)
@@ -363,21 +334,7 @@ module _ (flows : Flows) (count : ℕ) (parts : ℕ → Partition) (p : ℕ) whe
 
   -- what a label makes of a state comes from it
   label_follows : (item : Item) (next : Partition) → is_some (label_in item) ≡ true → AreShown count parts → p < count → 0 < (parts p).position → accepted flows count (parts p) item ≡ Some next → Follows count p (parts p) next
-  label_follows (took message) next some shows below begun is =
-      let q = parts p in
-      let b = shows.each p below in
-      let number = number_in message.body in
-      let it = passes (home count message.from == q.number && is_request message.from number message) (taken_in count q message (q.taken message.from number)) next is in
-      let here = eqb-true (home count message.from) q.number (both_true (home count message.from == q.number) (is_request message.from number message) it.0).0 in
-      taken_comes flows count p q next message (q.taken message.from number) below (here ∙ b.number) b begun it.1
-  label_follows (ran from to stamp) next some shows below begun is =
-      delivered_comes flows count p (parts p) next from to stamp (first_in (parts p).queue from to) refl below (shows.each p below) begun is
-  label_follows (ended id task outcome) next some shows below begun is =
-      ended_comes flows count p (parts p) next id task outcome ((parts p).instances id) ((parts p).activities id task) below (shows.each p below) begun refl is
-  label_follows (fired id task stamp) next some shows below begun is =
-      fired_comes flows count p (parts p) next id task stamp ((parts p).instances id) ((parts p).timers id task) below (shows.each p below) begun refl is
-  label_follows (got source number message) next some shows below begun is = absurd (cc some)
-  label_follows (trim reader number) next some shows below begun is = absurd (cc some)
+  label_follows item next some shows below begun is = label_comes flows count p item (parts p) next some below (shows.each p below) begun is
 
   label_keeps : (item : Item) (next : Partition) → is_some (label_in item) ≡ true → AreShown count parts → p < count → 0 < (parts p).position → accepted flows count (parts p) item ≡ Some next → AreShown count (with_part parts p next)
   label_keeps item next some shows below begun is = comes_shown next shows below (label_follows item next some shows below begun is)
@@ -443,30 +400,9 @@ module _ (flows : Flows) (count : ℕ) (parts : ℕ → Partition) (p : ℕ) whe
 
   -- ---- entries
 
-  entered_behind : (was now life new : ℕ) (entry : Identity) → was ≤ now → life ≤ new → IsBehind p was life entry → IsBehind p now new entry
-  entered_behind was now life new entry later younger is = record { here = is.here; before = omega (arith, later, is.before); alive = omega (arith, younger, is.alive) }
-
   pub enter_keeps : (incarnation : ℕ) → AreShown count parts → p < count → (parts p).incarnation ≤ incarnation → AreShown count (with_part parts p (enter incarnation (parts p)))
   enter_keeps incarnation shows below young =
-      let q = parts p in
-      let b = shows.each p below in
-      with_shown (enter incarnation q) shows
-      (record {
-        number = b.number;
-        rows = b.rows;
-        queue = b.queue;
-        outboxes = record {
-          others = b.outboxes.others;
-          senders = b.outboxes.senders;
-          receivers = b.outboxes.receivers;
-          earlier = λ target posted of_it. entered_behind q.position (q.position + 1) q.incarnation incarnation posted.entry (omega arith) young (b.outboxes.earlier target posted of_it);
-        };
-        inboxes = record {
-          others = b.inboxes.others;
-          earlier = λ source some. entered_behind q.position (q.position + 1) q.incarnation incarnation (q.inboxes source).reader (omega arith) young (b.inboxes.earlier source some);
-        };
-        moments = b.moments;
-      })
+      with_shown (enter incarnation (parts p)) shows (enter_belongs count p (parts p) incarnation (shows.each p below) young)
       (λ target low. let r = shows.readers p target below low in (r.from_first, r.to_end))
       (λ source low. let r = shows.readers source p low below in (r.from_first, r.to_end))
 
@@ -475,7 +411,7 @@ module _ (flows : Flows) (count : ℕ) (parts : ℕ → Partition) (p : ℕ) whe
 
 -- ---- the beginning
 
-fresh_belongs : (count place : ℕ) → Belongs count place (fresh place)
+pub fresh_belongs : (count place : ℕ) → Belongs count place (fresh place)
 fresh_belongs count place = record {
   number = refl;
   rows = record { requests = λ id n x is. absurd (cc is); answered = λ id n x is. absurd (cc is); kept = λ id x is. absurd (cc is); reached = λ id x is. absurd (cc is); pending = λ id n x is. absurd (cc is); due = λ id n x is. absurd (cc is) };

@@ -1,6 +1,8 @@
 pub mod Basics
+pub mod Belonging
 pub mod Growing
 pub mod Outcomes
+pub mod Owned
 pub mod Rows
 pub mod Sending
 pub mod Shown

@@ -1,5 +1,5 @@
 -- What the states of all partitions need, so that they show a world.
-use Rattle.std.specs.Prelude.{◌≡◌, ◌⊎◌, ℕ, ◌+◌, ◌-◌, ◌<◌, ◌≤◌, List, [], ◌∷◌, length, drop, true, Option, Some, None, option_map}
+use Rattle.std.specs.Prelude.{◌≡◌, ◌⊎◌, ℕ, ◌+◌, ◌-◌, ◌<◌, ◌≤◌, List, [], ◌∷◌, length, drop, true, Option, Some, None, option_map, is_some}
 use Rattle.std.specs.List.{Contains}
 use Rattle.activity_table.specs.Table.{may}
 use Rattle.dura_value.specs.Ids.{Id, home}
@@ -86,6 +86,11 @@ pub record Belongs (count place : ℕ) (p : Partition) : Type 0 where
   pub inboxes : InboxesStand count place p.position p.incarnation p.inboxes
   -- nothing in it is of a later moment than its own
   pub moments : MomentsStand p.stamp p.instances p.entities
+
+-- each of its pending activities and timers is of an instance that is there
+pub record AreOfInstances (p : Partition) : Type 0 where
+  pub pending : (id : Id) (task : ℕ) (activity : Activity) → p.activities id task ≡ Some activity → is_some (p.instances id) ≡ true
+  pub due : (id : Id) (task due : ℕ) → p.timers id task ≡ Some due → is_some (p.instances id) ≡ true
 
 -- The next message that a partition reads of another's stream lies from the stream's first to its end.
 pub record IsReader (parts : ℕ → Partition) (source target : ℕ) : Type 0 where

@@ -6,7 +6,7 @@ ghost use Rattle.dura_value.specs.Items.{Item, ran};
 ghost use Rattle.flow_syntax.specs.Syntax.{Flows};
 ghost use Rattle.dura_model.specs.Legal.{Legal, finishes};
 ghost use Rattle.dura_model.specs.Partition.{Partition, fresh, enter, first_in, accepted, label_in, shown, with_part};
-ghost use Rattle.dura_model.specs.Placed.{AreShown, happens_at, IsGiven, IsOfStreams, IsLabelled, ShowsNothing, IsSameEntry};
+ghost use Rattle.dura_model.specs.Placed.{AreShown, happens_at, IsGiven, IsOfStreams, IsLabelled, ShowsNothing, IsSameEntry, Belongs, AreOfInstances};
 ghost use Rattle.dura_model.specs.Steps.{Label};
 ghost use Rattle.dura_model.specs.World.{World, empty};
 
@@ -40,6 +40,16 @@ pub fn items_keep_shown()
         → AreShown count parts → p < count → 0 < (parts p).position → IsOfStreams parts p item → accepted flows count (parts p) item ≡ Some next → AreShown count (with_part parts p next) }
     ensures entry { (flows : Flows) (count : ℕ) (parts : ℕ → Partition) (p : ℕ) (item : Item) (next : Partition)
         → AreShown count parts → p < count → 0 < (parts p).position → accepted flows count (parts p) item ≡ Some next → IsSameEntry (parts p) next }
+{}
+
+/// What an item that is accepted makes of one state belongs where the state did, and what is pending in it is of instances that are
+/// there. So it is of a state where nothing happened, and of one where an entry begins.
+#[tactic(auto, using(crate::proofs::Kept::item_belongs, crate::proofs::Kept::fresh_belongs, crate::proofs::Belonging::enter_belongs, crate::proofs::Owned::item_owned))]
+pub fn items_belong()
+    ensures belongs { (flows : Flows) (count place : ℕ) (p next : Partition) (item : Item) → place < count → Belongs count place p → 0 < p.position → accepted flows count p item ≡ Some next → Belongs count place next }
+    ensures owned { (flows : Flows) (count : ℕ) (p next : Partition) (item : Item) → AreOfInstances p → accepted flows count p item ≡ Some next → AreOfInstances next }
+    ensures fresh { (count place : ℕ) → Belongs count place (fresh place) }
+    ensures enters { (count place incarnation : ℕ) (p : Partition) → Belongs count place p → p.incarnation ≤ incarnation → Belongs count place (enter incarnation p) }
 {}
 
 /// The begin of an entry shows nothing.
