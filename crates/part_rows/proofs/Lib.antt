@@ -1,4 +1,5 @@
 pub mod Boxes
 pub mod Links
+pub mod Opening
 pub mod Posting
 pub mod Seen

@@ -2,7 +2,6 @@
 use Rattle.std.proofs.Common.{◌≡◌, ◌∙◌, ◌<◌, ◌≤◌, ◌+◌, ◌&&◌, ℕ, suc, List, [], ◌∷◌, length, Bool, true, false, not, Some, None, get_or, nat_lt, refl, ap, sym, subst, cond, arith}
 use Rattle.std.proofs.lemmas.Bool.{ltb-true, ltb-false}
 use Rattle.std.specs.List.{position, position_or_len, remove}
-use Rattle.dura_value.proofs.Ids.{id_self}
 use Rattle.dura_value.specs.declared.messages.Message.{Message}
 use Rattle.dura_value.specs.Ids.{Id, id_eq}
 use Rattle.dura_value.specs.Messages as said
@@ -14,17 +13,20 @@ use Rattle.part_rows.specs.Queues.{is_of_link}
 pub record Found (ms : List Message) (from to : Id) (place : ℕ) : Type 0 where
   pub said : (m : Message) → first_in (messages_of ms) from to ≡ Some (body_of (get_or ms place m).body)
   pub gone : without_first (messages_of ms) from to ≡ messages_of (remove ms place)
+  pub link : (m : Message) → is_of_link from to (get_or ms place m) ≡ true
 
 found_here : (m : Message) (ms : List Message) (from to : Id) → is_of_link from to m ≡ true → Found (m ∷ ms) from to 0
 found_here m ms from to is = record {
   said = λ d. ap (λ (c : Bool). cond c (Some (body_of m.body)) (first_in (messages_of ms) from to)) is;
   gone = ap (λ (c : Bool). cond c (messages_of ms) (message_of m ∷ without_first (messages_of ms) from to)) is;
+  link = λ d. is;
 }
 
 found_later : (m : Message) (ms : List Message) (from to : Id) (place : ℕ) → is_of_link from to m ≡ false → Found ms from to place → Found (m ∷ ms) from to (suc place)
 found_later m ms from to place is found = record {
   said = λ d. ap (λ (c : Bool). cond c (Some (body_of m.body)) (first_in (messages_of ms) from to)) is ∙ found.said d;
   gone = ap (λ (c : Bool). cond c (messages_of ms) (message_of m ∷ without_first (messages_of ms) from to)) is ∙ ap (λ (rest : List said.Message). message_of m ∷ rest) found.gone;
+  link = found.link;
 }
 
 abbrev place_in : Id → Id → List Message → ℕ
@@ -95,18 +97,11 @@ place_said ms from to place m is at = (place_found ms from to place is).1.said m
 pub place_gone : (ms : List Message) (from to : Id) (place : ℕ) → Some place ≡ position (is_of_link from to) ms → without_first (messages_of ms) from to ≡ messages_of (remove ms place)
 place_gone ms from to place is = (place_found ms from to place is).1.gone
 
+pub place_is_link : (ms : List Message) (from to : Id) (place : ℕ) (m : Message) → Some place ≡ position (is_of_link from to) ms → m ≡ get_or ms place m → is_of_link from to m ≡ true
+place_is_link ms from to place m is at = ap (is_of_link from to) at ∙ (place_found ms from to place is).1.link m
+
 pub no_place_said : (ms : List Message) (from to : Id) → None ≡ position (is_of_link from to) ms → first_in (messages_of ms) from to ≡ None
 no_place_said ms from to is = (missing ms from to (past_of (place_in from to ms) (length ms) (not_there (nat_lt (place_in from to ms) (length ms)) (place_in from to ms) (sym is)))).said
 
 pub no_place_gone : (ms : List Message) (from to : Id) → None ≡ position (is_of_link from to) ms → without_first (messages_of ms) from to ≡ messages_of ms
 no_place_gone ms from to is = (missing ms from to (past_of (place_in from to ms) (length ms) (not_there (nat_lt (place_in from to ms) (length ms)) (place_in from to ms) (sym is)))).gone
-
-first_self : (m : Message) (ms : List Message) → first_in (messages_of (m ∷ ms)) (id_of m.from) (id_of m.to) ≡ Some (body_of m.body)
-first_self m ms =
-    ap (λ (c : Bool). cond (c && id_eq (id_of m.to) (id_of m.to)) (Some (body_of m.body)) (first_in (messages_of ms) (id_of m.from) (id_of m.to))) (id_self (id_of m.from))
-    ∙ ap (λ (c : Bool). cond c (Some (body_of m.body)) (first_in (messages_of ms) (id_of m.from) (id_of m.to))) (id_self (id_of m.to))
-
--- the message that has waited longest is the first of its link
-pub front_said : (ms : List Message) (m : Message) → 0 < length ms → m ≡ get_or ms 0 m → first_in (messages_of ms) (id_of m.from) (id_of m.to) ≡ Some (body_of m.body)
-front_said [] m some is = absurd (let none : 0 < 0 = some in omega (arith, none))
-front_said (first ∷ ms) m some is = ap (λ (one : Message). first_in (messages_of (first ∷ ms)) (id_of one.from) (id_of one.to)) is ∙ first_self first ms ∙ ap (λ (one : Message). Some (body_of one.body)) (sym is)

@@ -1,4 +1,5 @@
 pub mod Accepts
+pub mod Open
 pub mod Parts
 pub mod Queues
 pub mod Views

@@ -1,19 +1,68 @@
 //! The rows of instances and entities.
 
-ghost use Rattle.std.specs.Prelude.{◌≡◌, Some, None, OnOk, option_map};
+ghost use Rattle.std.specs.Prelude.{◌≡◌, Some, None, OnOk, IfSome, IfNone, option_map};
 ghost use Rattle.dura_value.specs.Views.{id_of};
 ghost use Rattle.flow_messages.specs.Views.{entity_of};
 ghost use Rattle.dura_model.specs.World.{at_id};
 ghost use Rattle.part_rows.specs.Views.{row_of};
+ghost use Rattle.part_rows.specs.Open.{lets_in, last_at, IsOpen, NoneOpen};
 ghost use Rattle.part_rows.specs.Parts.{part_of};
 
 use crate::parts::PartRows;
 use crate::rows::Row;
-use dura_value::Id;
+use dura_value::{Id, Message};
 use flow_messages::{Entity, copy_id};
 use std::alloc::AllocError;
 
 impl PartRows {
+    /// Whether a receiver takes what a sender sends: an entity that is held takes only what its holder sends.
+    pub fn lets_in(&self, from: &Id, to: &Id) -> bool
+        ensures { result ≡ lets_in (part_of self.now).entities (id_of from.now) (id_of to.now) }
+    {
+        match to {
+            Id::Entity(_, _) => match self.entities.get(to) {
+                Some(entity) => entity.takes(from),
+                None => true,
+            },
+            Id::Flow(_, _) | Id::Client(_) => true,
+        }
+    }
+
+    /// The last moment of an instance or an entity, and 0 where it isn't there.
+    pub fn last_of(&self, id: &Id) -> u64
+        ensures { result ≡ last_at (part_of self.now) (id_of id.now) }
+    {
+        match id {
+            Id::Flow(_, _) => match self.instances.get(id) {
+                Some(row) => row.stamp,
+                None => 0,
+            },
+            Id::Entity(_, _) => match self.entities.get(id) {
+                Some(entity) => entity.last,
+                None => 0,
+            },
+            Id::Client(_) => 0,
+        }
+    }
+
+    /// The message that has waited longest of those that their receivers take.
+    #[tactic(auto, using(crate::proofs::Opening::passed_over, crate::proofs::Opening::found_here, crate::proofs::Opening::found_nowhere, crate::proofs::Opening::is_there))]
+    pub fn first_open(&self) -> Option<&Message>
+        ensures some { IfSome result (λ m. IsOpen (part_of self.now) (id_of m.now.from) (id_of m.now.to)) }
+        ensures none { IfNone result (NoneOpen (part_of self.now)) }
+    {
+        let length = self.queue.len();
+        let mut place = 0;
+        while place < length {
+            let message = self.queue.at(place)?;
+            if self.lets_in(&message.from, &message.to) {
+                return Some(message);
+            }
+            place += 1;
+        }
+        None
+    }
+
     /// An instance is kept.
     pub fn put_instance(&mut self, id: &Id, row: Row) -> Result<(), AllocError>
         ensures put { OnOk result (part_of self.new ≡ record (part_of self.old) { instances = at_id (part_of self.old).instances (id_of id.now) (Some (row_of row)) }) }
@@ -44,6 +93,16 @@ impl PartRows {
         ensures partitions { self.new.partitions ≡ self.old.partitions }
     {
         self.instances.take(id)
+    }
+
+    /// An entity is taken out of its row.
+    pub fn take_entity(&mut self, id: &Id) -> Option<Entity>
+        ensures entity { option_map entity_of result ≡ (part_of self.old).entities (id_of id.now) }
+        ensures taken { part_of self.new ≡ record (part_of self.old) { entities = at_id (part_of self.old).entities (id_of id.now) None } }
+        ensures timers { self.new.timers ≡ self.old.timers }
+        ensures partitions { self.new.partitions ≡ self.old.partitions }
+    {
+        self.entities.take(id)
     }
 
     /// An instance is kept in the place of its row, or no longer where there is none.

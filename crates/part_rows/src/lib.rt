@@ -3,11 +3,12 @@
 //!
 //! - `rows`: an instance as it is kept, a pending activity.
 //! - `parts`: all that a partition knows, and what is posted. `holders`, `pending`, `requests`, `incoming`: what changes it.
-//! - `queue`: the messages to receivers here.
+//! - `queue`: the messages to receivers here. `copies`: copies of messages.
 //! - `streams`: what came in from other partitions, and what goes out to them.
 //! - `specs/Views`: the plain data that these stand for.
 #![tactic(auto)]
 
+mod copies;
 mod holders;
 mod incoming;
 mod parts;
@@ -17,7 +18,9 @@ mod requests;
 mod rows;
 mod streams;
 
+pub use copies::{copy_answer, copy_message};
 pub use parts::PartRows;
 pub use queue::Queue;
+pub use requests::number_in;
 pub use rows::{Activity, Row, Waiting};
 pub use streams::{Identity, Inbox, Inboxes, Outbox, Outboxes, Posted};

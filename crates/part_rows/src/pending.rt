@@ -1,6 +1,6 @@
 //! What instances wait for, and what is given up.
 
-ghost use Rattle.std.specs.Prelude.{◌≡◌, ◌∷◌, [], map, true, Some, OnOk};
+ghost use Rattle.std.specs.Prelude.{◌≡◌, ◌∷◌, [], map, option_map, true, Some, None, OnOk};
 ghost use Rattle.dura_value.specs.Views.{id_of};
 ghost use Rattle.flow_messages.specs.Views.{asked_of};
 ghost use Rattle.timer_row.specs.Timers.{InOrder};
@@ -30,6 +30,27 @@ impl PartRows {
     {
         let id = copy_id(id)?;
         self.activities.put(alloc, id, task, activity)?;
+        Ok(())
+    }
+
+    /// A pending activity of an instance's task is taken out.
+    pub fn take_activity(&mut self, id: &Id, task: u32) -> Option<Activity>
+        ensures activity { option_map activity_of result ≡ (part_of self.old).activities (id_of id.now) task }
+        ensures taken { part_of self.new ≡ record (part_of self.old) { activities = at_number (part_of self.old).activities (id_of id.now) task None } }
+        ensures timers { self.new.timers ≡ self.old.timers }
+        ensures partitions { self.new.partitions ≡ self.old.partitions }
+    {
+        self.activities.take(id, task)
+    }
+
+    /// A pending timer of an instance's task is taken out.
+    pub fn take_timer(&mut self, id: &Id, task: u32) -> Result<(), AllocError>
+        requires { InOrder self.old.timers }
+        ensures taken { OnOk result (part_of self.new ≡ record (part_of self.old) { timers = at_number (part_of self.old).timers (id_of id.now) task None }) }
+        ensures order { OnOk result (InOrder self.new.timers) }
+        ensures partitions { self.new.partitions ≡ self.old.partitions }
+    {
+        self.timers.take(id, task)?;
         Ok(())
     }
 

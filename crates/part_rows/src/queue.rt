@@ -1,6 +1,6 @@
 //! The messages to receivers of a partition.
 
-ghost use Rattle.std.specs.Prelude.{◌≡◌, ◌++◌, ◌∷◌, [], Some, OnOk, IfSome, IfNone};
+ghost use Rattle.std.specs.Prelude.{◌≡◌, ◌++◌, ◌∷◌, [], Some, OnOk, IfSome, IfNone, option_map, true, slice_get, length};
 ghost use Rattle.std.specs.List.{position};
 ghost use Rattle.dura_value.specs.Views.{id_of, body_of, messages_of};
 ghost use Rattle.dura_model.specs.Partition.{first_in, without_first};
@@ -44,15 +44,6 @@ impl Queue {
         Ok(())
     }
 
-    /// The message that has waited longest.
-    #[tactic(auto, using(crate::proofs::Links::front_said))]
-    pub fn front(&self) -> Option<&Message>
-        ensures some { IfSome result (λ message. first_in (messages_of self.now) (id_of message.now.from) (id_of message.now.to) ≡ Some (body_of message.now.body)) }
-        ensures none { IfNone result (self.now ≡ []) }
-    {
-        self.messages.front()
-    }
-
     /// Where the first message from one to the other is.
     #[tactic(auto, using(flow_messages::proofs::SameIds::derived_id_eq))]
     fn place_of(&self, from: &Id, to: &Id) -> Option<usize>
@@ -63,11 +54,27 @@ impl Queue {
             .position(|message| *from == message.from && *to == message.to)
     }
 
+    /// How many messages there are.
+    pub fn len(&self) -> usize
+        ensures { result ≡ length self.now }
+    {
+        self.messages.len()
+    }
+
+    /// The message at a place.
+    pub fn at(&self, place: usize) -> Option<&Message>
+        ensures { option_map (λ m. m.now) result ≡ slice_get self.now place }
+    {
+        self.messages.get(place)
+    }
+
     /// The first message from one to the other is taken out.
-    #[tactic(auto, using(crate::proofs::Links::place_inside, crate::proofs::Links::place_said, crate::proofs::Links::place_gone, crate::proofs::Links::no_place_said, crate::proofs::Links::no_place_gone))]
+    #[tactic(auto, using(crate::proofs::Links::place_is_link, crate::proofs::Links::place_inside, crate::proofs::Links::place_said, crate::proofs::Links::place_gone, crate::proofs::Links::no_place_said, crate::proofs::Links::no_place_gone))]
     pub fn take_first(&mut self, from: &Id, to: &Id) -> Option<Message>
         ensures first { said_in result ≡ first_in (messages_of self.old) (id_of from.now) (id_of to.now) }
         ensures rest { messages_of self.new ≡ without_first (messages_of self.old) (id_of from.now) (id_of to.now) }
+        ensures link { IfSome result (λ m. is_of_link (id_of from.now) (id_of to.now) m ≡ true) }
+        ensures none { IfNone result (self.new ≡ self.old) }
     {
         match self.place_of(from, to) {
             Some(place) => self.messages.remove(place),

@@ -1,3 +1,5 @@
 pub mod Answering
 pub mod AtEnds
+pub mod Delivering
+pub mod Events
 pub mod EventsOf

@@ -1,2 +1,5 @@
+pub mod Applied
 pub mod Ends
+pub mod Outputs
+pub mod Reached
 pub mod Views

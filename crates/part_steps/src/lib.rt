@@ -5,6 +5,7 @@
 //! - `deliveries`: a message to an instance.
 //! - `ends`: what follows an event, with the answers at an end.
 //! - `absent`, `present`: each kind of message to an instance that isn't there, or is.
+//! - `keeping`: an instance is kept as a delivery or an event made it. `reaching`: a message reaches its receiver.
 //! - `events`: which messages are events of an instance's history.
 //! - `specs/Views`: the plain data that these stand for.
 #![tactic(auto)]
@@ -15,7 +16,9 @@ mod deliveries;
 mod ends;
 mod events;
 mod instance;
+mod keeping;
 mod present;
+mod reaching;
 
 pub use deliveries::{instance_of_row, to_instance};
 pub use ends::go_on_from;

@@ -9,4 +9,4 @@ use Rattle.part_rows.proofs.parts.PartRows.post_all.Given as goal
 abbrev pub invariant-loop-message : goal.invariant-loop-message
 invariant-loop-message l =
     (post_all l.initial.self.partitions (part_of l.self) (messages_of (into_iter_items l.message-iterator)) ≡ post_all l.initial.self.partitions (part_of l.initial.self) (messages_of l.fn.messages.items))
-    × (l.self.partitions ≡ l.initial.self.partitions)
+    × (l.self.partitions ≡ l.initial.self.partitions) × (l.self.timers ≡ l.initial.self.timers)

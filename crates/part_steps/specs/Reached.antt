@@ -1,0 +1,34 @@
+-- What a message makes of a partition whose receiver takes it.
+use Rattle.std.specs.Prelude.{ℕ, List, Bool, false, ◌&&◌, nat_le, Option, Some, None}
+use Rattle.dura_value.specs.Ids.{Id, orchestration, entity, client}
+use Rattle.dura_value.specs.Messages.{Body}
+use Rattle.flow_syntax.specs.Syntax.{Flows}
+use Rattle.flow_syntax.specs.Entity.{deliver as deliver_to}
+use Rattle.dura_model.specs.Deliveries.{to_instance}
+use Rattle.dura_model.specs.Steps.{entity_of}
+use Rattle.dura_model.specs.Partition.{Partition, instance_at, event_of, stands_in, entity_after, client_received}
+use Rattle.part_rows.specs.Open.{lets_in, last_at}
+
+-- whether a receiver takes what a sender sends it at this moment, which isn't before its last
+abbrev pub takes_at : Partition → (from to : Id) → ℕ → Bool
+takes_at p from to stamp = lets_in p.entities from to && nat_le (last_at p to) stamp
+
+-- a message reaches an instance
+abbrev pub instance_reached : Flows → ℕ → Partition → (from to : Id) → ℕ → Body → Partition
+instance_reached flows count p from to stamp body =
+    stands_in count p to stamp (event_of flows (instance_at flows p to) from to body) (to_instance flows (instance_at flows p to) from to stamp body)
+
+-- a message reaches an entity of a class
+abbrev pub entity_reached : Flows → ℕ → Partition → (class : List ℕ) → (from to : Id) → ℕ → Body → Partition
+entity_reached flows count p class from to stamp body =
+    entity_after count p to (deliver_to flows (record (entity_of flows class (p.entities to)) { last = stamp }) class from to body)
+
+abbrev pub reached : Flows → ℕ → Partition → (from to : Id) → ℕ → Body → Partition
+reached flows count p from (orchestration flow key) stamp body = instance_reached flows count p from (orchestration flow key) stamp body
+reached flows count p from (entity class key) stamp body = entity_reached flows count p class from (entity class key) stamp body
+reached flows count p from (client name) stamp body = client_received p (client name) body
+
+-- whether a timer is pending and due at this moment
+abbrev pub is_due : Option ℕ → ℕ → Bool
+is_due None stamp = false
+is_due (Some due) stamp = nat_le due stamp

@@ -1,0 +1,282 @@
+//! What an item makes of all that a partition knows.
+
+ghost use Rattle.std.specs.Prelude.{◌≡◌, ◌<◌, ◌∷◌, [], Some, None, map, IfOk, OnOk};
+ghost use Rattle.dura_value.specs.Items.{took, got, ran, ended, fired, trim};
+ghost use Rattle.dura_value.specs.Views.{id_of, answer_of, body_of as said_of, message_of, messages_of};
+ghost use Rattle.flow_syntax.specs.Machine.{resulted};
+ghost use Rattle.flow_syntax.specs.Views.{flows_of};
+ghost use Rattle.flow_messages.specs.Views.{event_of};
+ghost use Rattle.timer_row.specs.Timers.{InOrder};
+ghost use Rattle.part_items.specs.Plain.{item_of};
+ghost use Rattle.dura_model.specs.Deliveries.{goes_on_from};
+ghost use Rattle.dura_model.specs.Steps.{answer_of as answer_to};
+ghost use Rattle.dura_model.specs.Partition.{raised_to, stands_in, accepted};
+ghost use Rattle.part_rows.specs.Views.{identity_of};
+ghost use Rattle.part_rows.specs.Parts.{part_of};
+ghost use Rattle.part_steps.specs.Applied.{Applied};
+ghost use Rattle.part_steps.specs.Outputs.{sent_to, answered_to, answered_of, outputs_by, outputs_of};
+ghost use Rattle.part_steps.specs.Reached.{is_due, reached};
+ghost use Rattle.part_steps.specs.Views.{instance_of};
+
+use crate::ends::go_on_from;
+use crate::instance::Instance;
+use crate::keeping::keep;
+use crate::reaching::{answers_to, instance_at, reach, takes_at};
+use dura_value::{Answer, Answered, Answers, Id, Message, Messages, Outcome, Outputs};
+use flow_messages::{Event, copy_text, copy_value};
+use flow_syntax::Flows;
+use part_items::Item;
+use part_rows::{Identity, PartRows, copy_message};
+use std::alloc::{AllocError, Global};
+
+/// Outputs.
+fn outputs(sent: Vec<Message>, answers: Vec<Answered>) -> Outputs
+    ensures { outputs_of result ≡ record { sent = messages_of sent.items; answers = map answered_of answers.items } }
+{
+    Outputs {
+        messages: Messages::of(sent),
+        answers: Answers::of(answers),
+    }
+}
+
+/// Outputs without answers.
+fn sent_alone(alloc: Global, sent: Vec<Message>) -> Outputs
+    ensures { outputs_of result ≡ record { sent = messages_of sent.items; answers = [] } }
+{
+    outputs(sent, Vec::new(alloc))
+}
+
+/// A request of a client is taken.
+fn take(
+    alloc: Global,
+    rows: &mut PartRows,
+    message: &Message,
+) -> Result<Option<Outputs>, AllocError>
+    requires { 0 < rows.old.partitions }
+    ensures applied { IfOk result (λ made. (flows : _) → Applied made (part_of rows.old) (part_of rows.new) (accepted flows rows.old.partitions (part_of rows.old) (took (message_of message.now))) (outputs_by flows (part_of rows.old) (took (message_of message.now)))) }
+    ensures timers { rows.new.timers ≡ rows.old.timers }
+    ensures partitions { rows.new.partitions ≡ rows.old.partitions }
+{
+    if !rows.take(alloc, message)? {
+        return Ok(None);
+    }
+    let mut sent = Vec::new(alloc);
+    sent.push(copy_message(message)?)?;
+    Ok(Some(sent_alone(alloc, sent)))
+}
+
+/// The next message of a stream comes in.
+fn get(
+    alloc: Global,
+    rows: &mut PartRows,
+    source: Identity,
+    number: u64,
+    message: &Message,
+) -> Result<Option<Outputs>, AllocError>
+    requires { 0 < rows.old.partitions }
+    ensures applied { IfOk result (λ made. (flows : _) → Applied made (part_of rows.old) (part_of rows.new) (accepted flows rows.old.partitions (part_of rows.old) (got (identity_of source) number (message_of message.now))) (outputs_by flows (part_of rows.old) (got (identity_of source) number (message_of message.now)))) }
+    ensures timers { rows.new.timers ≡ rows.old.timers }
+    ensures partitions { rows.new.partitions ≡ rows.old.partitions }
+{
+    if !rows.got(&source, number, copy_message(message)?)? {
+        return Ok(None);
+    }
+    Ok(Some(sent_alone(alloc, Vec::new(alloc))))
+}
+
+/// A stream is let go of.
+fn let_go(alloc: Global, rows: &mut PartRows, reader: Identity, number: u64) -> Option<Outputs>
+    ensures applied { (flows : _) → Applied result (part_of rows.old) (part_of rows.new) (accepted flows rows.old.partitions (part_of rows.old) (trim (identity_of reader) number)) (outputs_by flows (part_of rows.old) (trim (identity_of reader) number)) }
+    ensures timers { rows.new.timers ≡ rows.old.timers }
+    ensures partitions { rows.new.partitions ≡ rows.old.partitions }
+{
+    if !rows.trim(&reader, number) {
+        return None;
+    }
+    Some(sent_alone(alloc, Vec::new(alloc)))
+}
+
+/// A message that left the queue reaches its receiver, who takes it.
+fn reach_first(
+    alloc: Global,
+    flows: &Flows,
+    rows: &mut PartRows,
+    message: &Message,
+    stamp: u64,
+) -> Result<Outputs, AllocError>
+    requires order { InOrder rows.old.timers }
+    requires partitions { 0 < rows.old.partitions }
+    ensures outputs { IfOk result (λ made. outputs_of made ≡ record { sent = sent_to (flows_of flows.now) (part_of rows.old) (id_of message.now.from) (id_of message.now.to) stamp (said_of message.now.body); answers = answered_to (part_of rows.old) (id_of message.now.to) (Some (said_of message.now.body)) }) }
+    ensures stands { OnOk result (part_of rows.new ≡ reached (flows_of flows.now) rows.old.partitions (raised_to stamp (part_of rows.old)) (id_of message.now.from) (id_of message.now.to) stamp (said_of message.now.body)) }
+    ensures order { OnOk result (InOrder rows.new.timers) }
+    ensures partitions { rows.new.partitions ≡ rows.old.partitions }
+{
+    rows.raise_to(stamp);
+    let answers = answers_to(alloc, rows, &message.to, &message.body)?;
+    let sent = reach(alloc, flows, rows, message, stamp)?;
+    Ok(outputs(sent, answers))
+}
+
+/// The first message of a link is delivered at this moment.
+#[tactic(auto, using(crate::proofs::Delivering::not_taken, crate::proofs::Delivering::nothing_there, crate::proofs::Delivering::delivered, crate::proofs::Delivering::delivered_outputs))]
+fn run(
+    alloc: Global,
+    flows: &Flows,
+    rows: &mut PartRows,
+    from: &Id,
+    to: &Id,
+    stamp: u64,
+) -> Result<Option<Outputs>, AllocError>
+    requires order { InOrder rows.old.timers }
+    requires partitions { 0 < rows.old.partitions }
+    ensures applied { IfOk result (λ made. Applied made (part_of rows.old) (part_of rows.new) (accepted (flows_of flows.now) rows.old.partitions (part_of rows.old) (ran (id_of from.now) (id_of to.now) stamp)) (outputs_by (flows_of flows.now) (part_of rows.old) (ran (id_of from.now) (id_of to.now) stamp))) }
+    ensures order { OnOk result (InOrder rows.new.timers) }
+    ensures partitions { rows.new.partitions ≡ rows.old.partitions }
+{
+    if !takes_at(rows, from, to, stamp) {
+        return Ok(None);
+    }
+    let Some(message) = rows.queue.take_first(from, to) else {
+        return Ok(None);
+    };
+    let made = reach_first(alloc, flows, rows, &message, stamp)?;
+    Ok(Some(made))
+}
+
+/// An event reaches an instance, which goes on. What it sends comes back.
+fn go_on(
+    alloc: Global,
+    rows: &mut PartRows,
+    id: &Id,
+    instance: Instance<'_>,
+    event: Event,
+    stamp: u64,
+) -> Result<Outputs, AllocError>
+    requires order { InOrder rows.old.timers }
+    requires partitions { 0 < rows.old.partitions }
+    ensures outputs { IfOk result (λ made. outputs_of made ≡ record { sent = (goes_on_from (instance_of instance.entry) (event_of event) stamp []).sent; answers = [] }) }
+    ensures stands { OnOk result (part_of rows.new ≡ stands_in rows.old.partitions (part_of rows.old) (id_of id.now) stamp (Some (event_of event)) (goes_on_from (instance_of instance.entry) (event_of event) stamp [])) }
+    ensures order { OnOk result (InOrder rows.new.timers) }
+    ensures partitions { rows.new.partitions ≡ rows.old.partitions }
+{
+    let effect = go_on_from(alloc, instance, &event, stamp, Vec::new(alloc))?;
+    let sent = keep(alloc, rows, id, stamp, Some(event), effect)?;
+    Ok(sent_alone(alloc, sent))
+}
+
+/// The answer that an outcome becomes.
+fn answer_of(outcome: &Outcome) -> Result<Answer, AllocError>
+    ensures { IfOk result (λ answer. answer_of answer ≡ answer_to outcome.now) }
+{
+    match outcome {
+        Outcome::Done(value) => Ok(Answer::Done(copy_value(value)?)),
+        Outcome::Failed(text) => Ok(Answer::Failed(copy_text(text)?)),
+    }
+}
+
+/// A pending activity is over.
+#[tactic(auto, using(crate::proofs::Events::not_pending, crate::proofs::Events::not_there, crate::proofs::Events::over, crate::proofs::Events::over_outputs))]
+fn finish(
+    alloc: Global,
+    flows: &Flows,
+    rows: &mut PartRows,
+    id: &Id,
+    task: u32,
+    outcome: &Outcome,
+) -> Result<Option<Outputs>, AllocError>
+    requires order { InOrder rows.old.timers }
+    requires partitions { 0 < rows.old.partitions }
+    ensures applied { IfOk result (λ made. Applied made (part_of rows.old) (part_of rows.new) (accepted (flows_of flows.now) rows.old.partitions (part_of rows.old) (ended (id_of id.now) task outcome.now)) (outputs_by (flows_of flows.now) (part_of rows.old) (ended (id_of id.now) task outcome.now))) }
+    ensures order { OnOk result (InOrder rows.new.timers) }
+    ensures partitions { rows.new.partitions ≡ rows.old.partitions }
+{
+    if rows.activities.get(id, task).is_none() {
+        return Ok(None);
+    }
+    let Some(instance) = instance_at(alloc, flows, rows, id)? else {
+        return Ok(None);
+    };
+    rows.take_activity(id, task);
+    let event = Event::Resulted(task, answer_of(outcome)?);
+    let stamp = instance.machine.last;
+    let made = go_on(alloc, rows, id, instance, event, stamp)?;
+    Ok(Some(made))
+}
+
+/// Whether a timer of an instance's task is pending and due.
+fn is_due(rows: &PartRows, id: &Id, task: u32, stamp: u64) -> bool
+    ensures { result ≡ is_due ((part_of rows.now).timers (id_of id.now) task) stamp }
+{
+    match rows.timers.get(id, task) {
+        Some(due) => due <= stamp,
+        None => false,
+    }
+}
+
+/// A pending timer fires at this moment.
+#[tactic(auto, using(crate::proofs::Events::not_due, crate::proofs::Events::nobody_there, crate::proofs::Events::too_late, crate::proofs::Events::fires, crate::proofs::Events::fired_outputs))]
+fn fire(
+    alloc: Global,
+    flows: &Flows,
+    rows: &mut PartRows,
+    id: &Id,
+    task: u32,
+    stamp: u64,
+) -> Result<Option<Outputs>, AllocError>
+    requires order { InOrder rows.old.timers }
+    requires partitions { 0 < rows.old.partitions }
+    ensures applied { IfOk result (λ made. Applied made (part_of rows.old) (part_of rows.new) (accepted (flows_of flows.now) rows.old.partitions (part_of rows.old) (fired (id_of id.now) task stamp)) (outputs_by (flows_of flows.now) (part_of rows.old) (fired (id_of id.now) task stamp))) }
+    ensures order { OnOk result (InOrder rows.new.timers) }
+    ensures partitions { rows.new.partitions ≡ rows.old.partitions }
+{
+    if !is_due(rows, id, task, stamp) {
+        return Ok(None);
+    }
+    let Some(instance) = instance_at(alloc, flows, rows, id)? else {
+        return Ok(None);
+    };
+    if instance.machine.last > stamp {
+        return Ok(None);
+    }
+    rows.take_timer(id, task)?;
+    rows.raise_to(stamp);
+    let made = go_on(alloc, rows, id, instance, Event::Fired(task), stamp)?;
+    Ok(Some(made))
+}
+
+/// An item is applied to all that a partition knows, where it is accepted; else nothing changes.
+pub(crate) fn apply_item(
+    alloc: Global,
+    flows: &Flows,
+    rows: &mut PartRows,
+    item: &Item,
+) -> Result<Option<Outputs>, AllocError>
+    requires order { InOrder rows.old.timers }
+    requires partitions { 0 < rows.old.partitions }
+    ensures applied { IfOk result (λ made. Applied made (part_of rows.old) (part_of rows.new) (accepted (flows_of flows.now) rows.old.partitions (part_of rows.old) (item_of item.now)) (outputs_by (flows_of flows.now) (part_of rows.old) (item_of item.now))) }
+    ensures order { OnOk result (InOrder rows.new.timers) }
+    ensures partitions { rows.new.partitions ≡ rows.old.partitions }
+{
+    match item {
+        Item::Took(message) => take(alloc, rows, message),
+        Item::Got(partition, incarnation, position, number, message) => {
+            let source = Identity {
+                partition: *partition,
+                incarnation: *incarnation,
+                position: *position,
+            };
+            get(alloc, rows, source, *number, message)
+        }
+        Item::Ran(from, to, stamp) => run(alloc, flows, rows, from, to, *stamp),
+        Item::Done(id, task, outcome) => finish(alloc, flows, rows, id, *task, outcome),
+        Item::Fired(id, task, stamp) => fire(alloc, flows, rows, id, *task, *stamp),
+        Item::Trim(partition, number, incarnation, position) => {
+            let reader = Identity {
+                partition: *partition,
+                incarnation: *incarnation,
+                position: *position,
+            };
+            Ok(let_go(alloc, rows, reader, *number))
+        }
+    }
+}

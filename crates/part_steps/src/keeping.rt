@@ -1,0 +1,141 @@
+//! An instance is kept as a delivery or an event made it.
+
+ghost use Rattle.std.specs.Prelude.{◌≡◌, ◌<◌, map, IfOk, OnOk, option_map};
+ghost use Rattle.dura_value.specs.Views.{id_of, messages_of};
+ghost use Rattle.flow_messages.specs.Views.{event_of, past_of};
+ghost use Rattle.timer_row.specs.Timers.{InOrder};
+ghost use Rattle.dura_model.specs.World.{at_id};
+ghost use Rattle.dura_model.specs.Partition.{history_of, with_event, row_after, post_all, given_up_in, stands_in};
+ghost use Rattle.part_rows.specs.Views.{row_of};
+ghost use Rattle.part_rows.specs.Parts.{part_of};
+ghost use Rattle.part_steps.specs.Views.{instance_of, effect_of};
+
+use crate::instance::{Effect, Instance};
+use dura_value::{Id, Message};
+use flow_messages::{Event, Past};
+use part_rows::{PartRows, Row};
+use std::alloc::{AllocError, Global};
+
+/// The history of a row, or none where there is no row.
+fn history_in(alloc: Global, row: Option<Row>) -> Vec<Past>
+    ensures { map past_of result.items ≡ history_of (option_map row_of row) }
+{
+    match row {
+        Some(row) => row.history,
+        None => Vec::new(alloc),
+    }
+}
+
+/// A history with this event behind, if there is one.
+fn add_event(
+    mut history: Vec<Past>,
+    stamp: u64,
+    event: Option<Event>,
+) -> Result<Vec<Past>, AllocError>
+    ensures { IfOk result (λ all. map past_of all.items ≡ with_event (map past_of history.items) stamp (option_map event_of event)) }
+{
+    if let Some(event) = event {
+        history.push(Past { event, stamp })?;
+    }
+    Ok(history)
+}
+
+/// The row of an instance after a delivery or an event at this moment.
+fn next_row(
+    alloc: Global,
+    row: Option<Row>,
+    stamp: u64,
+    event: Option<Event>,
+    instance: Instance<'_>,
+) -> Result<Row, AllocError>
+    ensures { IfOk result (λ next. row_of next ≡ row_after (option_map row_of row) stamp (option_map event_of event) (instance_of instance.entry)) }
+{
+    let history = add_event(history_in(alloc, row), stamp, event)?;
+    Ok(Row {
+        stamp,
+        history,
+        waiting: instance.waiting,
+    })
+}
+
+/// An instance has the row that a delivery or an event at this moment makes of its row, or none where it isn't there.
+#[tactic(auto, using(part_rows::proofs::Seen::set_again))]
+fn put_row(
+    alloc: Global,
+    rows: &mut PartRows,
+    id: &Id,
+    stamp: u64,
+    event: Option<Event>,
+    instance: Option<Instance<'_>>,
+) -> Result<(), AllocError>
+    ensures put { OnOk result (part_of rows.new ≡ record (part_of rows.old) { instances = at_id (part_of rows.old).instances (id_of id.now) (option_map (row_after ((part_of rows.old).instances (id_of id.now)) stamp (option_map event_of event)) (option_map instance_of instance.entry)) }) }
+    ensures timers { rows.new.timers ≡ rows.old.timers }
+    ensures partitions { rows.new.partitions ≡ rows.old.partitions }
+{
+    let row = rows.take_instance(id);
+    let next = match instance {
+        Some(instance) => Some(next_row(alloc, row, stamp, event, instance)?),
+        None => None,
+    };
+    rows.replace_instance(id, next)
+}
+
+/// What is pending of an instance is given up, if so it is.
+fn give_up_if(rows: &mut PartRows, id: &Id, gives_up: bool) -> Result<(), AllocError>
+    requires { InOrder rows.old.timers }
+    ensures given_up { OnOk result (part_of rows.new ≡ given_up_in (part_of rows.old) (id_of id.now) gives_up) }
+    ensures order { OnOk result (InOrder rows.new.timers) }
+    ensures partitions { rows.new.partitions ≡ rows.old.partitions }
+{
+    if gives_up {
+        rows.give_up(id)?;
+    }
+    Ok(())
+}
+
+/// Copies of messages.
+fn copy_messages(messages: &Vec<Message>) -> Result<Vec<Message>, AllocError>
+    ensures { IfOk result (λ copies. copies.items ≡ messages.now.items) }
+{
+    messages.clone()
+}
+
+/// Messages are posted, and come back as outputs.
+pub(crate) fn send(
+    alloc: Global,
+    rows: &mut PartRows,
+    messages: Vec<Message>,
+) -> Result<Vec<Message>, AllocError>
+    requires { 0 < rows.old.partitions }
+    ensures sent { IfOk result (λ sent. messages_of sent.items ≡ messages_of messages.items) }
+    ensures posted { OnOk result (part_of rows.new ≡ post_all rows.old.partitions (part_of rows.old) (messages_of messages.items)) }
+    ensures timers { rows.new.timers ≡ rows.old.timers }
+    ensures partitions { rows.new.partitions ≡ rows.old.partitions }
+{
+    let copies = copy_messages(&messages)?;
+    rows.post_all(alloc, messages)?;
+    Ok(copies)
+}
+
+/// An instance stands as a delivery or an event made it. What it sent comes back.
+pub(crate) fn keep(
+    alloc: Global,
+    rows: &mut PartRows,
+    id: &Id,
+    stamp: u64,
+    event: Option<Event>,
+    effect: Effect<'_>,
+) -> Result<Vec<Message>, AllocError>
+    requires order { InOrder rows.old.timers }
+    requires partitions { 0 < rows.old.partitions }
+    ensures sent { IfOk result (λ sent. messages_of sent.items ≡ (effect_of effect.entry).sent) }
+    ensures stands { OnOk result (part_of rows.new ≡ stands_in rows.old.partitions (part_of rows.old) (id_of id.now) stamp (option_map event_of event) (effect_of effect.entry)) }
+    ensures order { OnOk result (InOrder rows.new.timers) }
+    ensures partitions { rows.new.partitions ≡ rows.old.partitions }
+{
+    put_row(alloc, rows, id, stamp, event, effect.instance)?;
+    give_up_if(rows, id, effect.gives_up)?;
+    rows.ask_all(alloc, id, effect.asked)?;
+    let sent = send(alloc, rows, effect.sent)?;
+    Ok(sent)
+}
