@@ -13,7 +13,7 @@ use Rattle.flow_syntax.specs.Entity.{Entity, takes, deliver as deliver_to}
 use Rattle.dura_model.specs.World.{Orchestration, Activity, at_id, at_number, cleared}
 use Rattle.dura_model.specs.Deliveries.{Effect, ending, at_end, goes_on_from, telling, beginning, flow_of, begun, to_absent, is_over, waited, raised_at, result_at, granted_at, to_present, at_moment, to_instance}
 use Rattle.dura_model.specs.Steps.{is_request, number_in, entity_of, answer_of}
-use Rattle.dura_model.specs.Partition.{Row, Partition, instance_in, instance_at, event_of, row_after, raised_to, first_in, without_first, last_in, answered_in, client_received, entity_after, entity_received, received_in, delivered_in, taken_in, ended_in, fired_in, entry_of, with_inbox, with_first, with_posted, post, post_all, asked_in, given_up_in, stands_in, accepted}
+use Rattle.dura_model.specs.Partition.{Row, Partition, fresh, instance_in, instance_at, event_of, row_after, raised_to, first_in, without_first, last_in, answered_in, client_received, entity_after, entity_received, received_in, delivered_in, taken_in, ended_in, fired_in, entry_of, with_inbox, with_first, with_posted, post, post_all, asked_in, given_up_in, stands_in, accepted}
 use Rattle.dura_model.specs.Placed.{AreOfInstances}
 use Rattle.dura_value.proofs.Ids.{id_same, id_self}
 use Rattle.dura_model.proofs.Basics.{some_same, passes, passed}
@@ -278,3 +278,7 @@ module _ (flows : Flows) (count : ℕ) where
   item_owned (trim reader number) q next owned is =
       came_owned (not (reader.partition == q.number) && (nat_lt reader.partition count && nat_le number ((q.outboxes reader.partition).first + length (q.outboxes reader.partition).messages)))
       (record q { outboxes = with_first q.outboxes reader.partition number }) next (record { pending = owned.pending; due = owned.due }) is
+
+-- so they are where nothing happened
+pub fresh_owned : (number : ℕ) → AreOfInstances (fresh number)
+fresh_owned number = record { pending = λ id task activity is. absurd (cc is); due = λ id task due is. absurd (cc is) }

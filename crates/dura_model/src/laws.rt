@@ -44,11 +44,11 @@ pub fn items_keep_shown()
 
 /// What an item that is accepted makes of one state belongs where the state did, and what is pending in it is of instances that are
 /// there. So it is of a state where nothing happened, and of one where an entry begins.
-#[tactic(auto, using(crate::proofs::Kept::item_belongs, crate::proofs::Kept::fresh_belongs, crate::proofs::Belonging::enter_belongs, crate::proofs::Owned::item_owned))]
+#[tactic(auto, using(crate::proofs::Kept::item_belongs, crate::proofs::Kept::fresh_belongs, crate::proofs::Belonging::enter_belongs, crate::proofs::Owned::item_owned, crate::proofs::Owned::fresh_owned))]
 pub fn items_belong()
     ensures belongs { (flows : Flows) (count place : ℕ) (p next : Partition) (item : Item) → place < count → Belongs count place p → 0 < p.position → accepted flows count p item ≡ Some next → Belongs count place next }
     ensures owned { (flows : Flows) (count : ℕ) (p next : Partition) (item : Item) → AreOfInstances p → accepted flows count p item ≡ Some next → AreOfInstances next }
-    ensures fresh { (count place : ℕ) → Belongs count place (fresh place) }
+    ensures fresh { (count place : ℕ) → Belongs count place (fresh place) × AreOfInstances (fresh place) }
     ensures enters { (count place incarnation : ℕ) (p : Partition) → Belongs count place p → p.incarnation ≤ incarnation → Belongs count place (enter incarnation p) }
 {}
 

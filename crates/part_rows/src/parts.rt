@@ -2,7 +2,8 @@
 
 ghost use Rattle.std.specs.Prelude.{◌≡◌, ◌<◌, OnOk};
 ghost use Rattle.dura_value.specs.Views.{message_of, messages_of};
-ghost use Rattle.dura_model.specs.Partition.{entry_of, post, post_all};
+ghost use Rattle.timer_row.specs.Timers.{InOrder};
+ghost use Rattle.dura_model.specs.Partition.{fresh, entry_of, post, post_all};
 ghost use Rattle.part_rows.specs.Views.{identity_of};
 ghost use Rattle.part_rows.specs.Parts.{part_of};
 
@@ -49,6 +50,31 @@ pub struct PartRows {
 }
 
 impl PartRows {
+    /// A partition among so many where nothing happened.
+    pub fn new(alloc: Global, partitions: u32, number: u32) -> PartRows
+        ensures fresh { part_of result ≡ fresh number }
+        ensures order { InOrder result.timers }
+        ensures partitions { result.partitions ≡ partitions }
+        ensures number { result.number ≡ number }
+    {
+        PartRows {
+            partitions,
+            number,
+            position: 0,
+            incarnation: 0,
+            stamp: 0,
+            taken: NumberMap::new(alloc),
+            answers: NumberMap::new(alloc),
+            instances: IdMap::new(alloc),
+            entities: IdMap::new(alloc),
+            activities: NumberMap::new(alloc),
+            timers: TimerRow::new(alloc),
+            queue: Queue::new(alloc),
+            inboxes: Inboxes::new(alloc),
+            outboxes: Outboxes::new(alloc),
+        }
+    }
+
     /// The entry that its items belong to.
     pub fn entry(&self) -> Identity
         ensures { identity_of result ≡ entry_of (part_of self.now) }

@@ -25,3 +25,11 @@ one_answered sent m id answer waiting i one total here is said so_far =
     ∙ append_assoc (messages_of sent) (answers id answer (waiting_of one) ∷ []) rest
     ∙ ap (λ (ws : List Waiting). messages_of sent ++ answering_all id (waits_of ws) answer) (sym (drop_more waiting i one here ∙ ap (λ (w : Waiting). w ∷ drop (i + 1) waiting) (sym is)))
     ∙ so_far
+
+-- Messages are copied one behind the other.
+pub one_copied : (copies ms : List OwnMessage) (i : ℕ) (one copy : OwnMessage) → i < length ms → one ≡ get_or ms i one → copy ≡ one → copies ++ drop i ms ≡ ms → (copies ++ copy ∷ []) ++ drop (i + 1) ms ≡ ms
+one_copied copies ms i one copy here is same so_far =
+    append_assoc copies (copy ∷ []) (drop (i + 1) ms)
+    ∙ ap (λ (c : OwnMessage). copies ++ c ∷ drop (i + 1) ms) same
+    ∙ ap (λ (l : List OwnMessage). copies ++ l) (sym (drop_more ms i one here ∙ ap (λ (m : OwnMessage). m ∷ drop (i + 1) ms) (sym is)))
+    ∙ so_far

@@ -1,5 +1,8 @@
 pub mod Answering
 pub mod AtEnds
 pub mod Delivering
-pub mod Events
+pub mod Enabling
+pub mod Ending
 pub mod EventsOf
+pub mod PutBack
+pub mod Sound

@@ -3,10 +3,10 @@ use Rattle.std.specs.Prelude.{ℕ, List, Bool, false, ◌&&◌, nat_le, Option, 
 use Rattle.dura_value.specs.Ids.{Id, orchestration, entity, client}
 use Rattle.dura_value.specs.Messages.{Body}
 use Rattle.flow_syntax.specs.Syntax.{Flows}
-use Rattle.flow_syntax.specs.Entity.{deliver as deliver_to}
+use Rattle.flow_syntax.specs.Entity.{Delivered, deliver as deliver_to}
 use Rattle.dura_model.specs.Deliveries.{to_instance}
 use Rattle.dura_model.specs.Steps.{entity_of}
-use Rattle.dura_model.specs.Partition.{Partition, instance_at, event_of, stands_in, entity_after, client_received}
+use Rattle.dura_model.specs.Partition.{Row, Partition, instance_at, event_of, stands_in, entity_after, client_received}
 use Rattle.part_rows.specs.Open.{lets_in, last_at}
 
 -- whether a receiver takes what a sender sends it at this moment, which isn't before its last
@@ -18,17 +18,20 @@ abbrev pub instance_reached : Flows → ℕ → Partition → (from to : Id) →
 instance_reached flows count p from to stamp body =
     stands_in count p to stamp (event_of flows (instance_at flows p to) from to body) (to_instance flows (instance_at flows p to) from to stamp body)
 
+-- what a message makes of an entity of a class at this moment
+abbrev pub delivered_at : Flows → Partition → (class : List ℕ) → (from to : Id) → ℕ → Body → Delivered
+delivered_at flows p class from to stamp body = deliver_to flows (record (entity_of flows class (p.entities to)) { last = stamp }) class from to body
+
 -- a message reaches an entity of a class
 abbrev pub entity_reached : Flows → ℕ → Partition → (class : List ℕ) → (from to : Id) → ℕ → Body → Partition
-entity_reached flows count p class from to stamp body =
-    entity_after count p to (deliver_to flows (record (entity_of flows class (p.entities to)) { last = stamp }) class from to body)
+entity_reached flows count p class from to stamp body = entity_after count p to (delivered_at flows p class from to stamp body)
 
 abbrev pub reached : Flows → ℕ → Partition → (from to : Id) → ℕ → Body → Partition
 reached flows count p from (orchestration flow key) stamp body = instance_reached flows count p from (orchestration flow key) stamp body
 reached flows count p from (entity class key) stamp body = entity_reached flows count p class from (entity class key) stamp body
 reached flows count p from (client name) stamp body = client_received p (client name) body
 
--- whether a timer is pending and due at this moment
-abbrev pub is_due : Option ℕ → ℕ → Bool
-is_due None stamp = false
-is_due (Some due) stamp = nat_le due stamp
+-- whether a timer is pending and due at this moment, and its instance's last moment isn't later
+abbrev pub fires_at : Option Row → Option ℕ → ℕ → Bool
+fires_at (Some row) (Some due) stamp = nat_le due stamp && nat_le row.stamp stamp
+fires_at row timer stamp = false

@@ -8,7 +8,7 @@ ghost use Rattle.part_steps.specs.Views.{waits_of};
 
 use dura_value::{Answer, Body, Id, Message, Reply};
 use flow_messages::{copy_id, word_text};
-use part_rows::Waiting;
+use part_rows::{Waiting, copy_answer};
 use std::alloc::{AllocError, Global};
 
 /// The answer to a client's request.
@@ -100,11 +100,4 @@ pub(crate) fn answer_all(
         sent.push(answer_request(from, &one.client, one.number, copy_answer(answer)?)?)?;
     }
     Ok(())
-}
-
-/// A copy of an answer.
-pub(crate) fn copy_answer(answer: &Answer) -> Result<Answer, AllocError>
-    ensures { IfOk result (λ copy. copy ≡ answer.now) }
-{
-    answer.clone()
 }

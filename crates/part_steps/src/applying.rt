@@ -1,7 +1,7 @@
 //! What an item makes of all that a partition knows.
 
-ghost use Rattle.std.specs.Prelude.{◌≡◌, ◌<◌, ◌∷◌, [], Some, None, map, IfOk, OnOk};
-ghost use Rattle.dura_value.specs.Items.{took, got, ran, ended, fired, trim};
+ghost use Rattle.std.specs.Prelude.{◌≡◌, ◌<◌, ◌∷◌, [], Some, None, is_some, map, IfOk, OnOk};
+ghost use Rattle.dura_value.specs.Items.{ran, ended, fired};
 ghost use Rattle.dura_value.specs.Views.{id_of, answer_of, body_of as said_of, message_of, messages_of};
 ghost use Rattle.flow_syntax.specs.Machine.{resulted};
 ghost use Rattle.flow_syntax.specs.Views.{flows_of};
@@ -10,12 +10,14 @@ ghost use Rattle.timer_row.specs.Timers.{InOrder};
 ghost use Rattle.part_items.specs.Plain.{item_of};
 ghost use Rattle.dura_model.specs.Deliveries.{goes_on_from};
 ghost use Rattle.dura_model.specs.Steps.{answer_of as answer_to};
-ghost use Rattle.dura_model.specs.Partition.{raised_to, stands_in, accepted};
+ghost use Rattle.dura_model.specs.Partition.{raised_to, got_in, trim_in, stands_in, accepted};
+ghost use Rattle.dura_model.specs.World.{at_number};
+ghost use Rattle.part_rows.specs.Accepts.{accepted_request};
 ghost use Rattle.part_rows.specs.Views.{identity_of};
 ghost use Rattle.part_rows.specs.Parts.{part_of};
 ghost use Rattle.part_steps.specs.Applied.{Applied};
 ghost use Rattle.part_steps.specs.Outputs.{sent_to, answered_to, answered_of, outputs_by, outputs_of};
-ghost use Rattle.part_steps.specs.Reached.{is_due, reached};
+ghost use Rattle.part_steps.specs.Reached.{fires_at, reached};
 ghost use Rattle.part_steps.specs.Views.{instance_of};
 
 use crate::ends::go_on_from;
@@ -53,7 +55,7 @@ fn take(
     message: &Message,
 ) -> Result<Option<Outputs>, AllocError>
     requires { 0 < rows.old.partitions }
-    ensures applied { IfOk result (λ made. (flows : _) → Applied made (part_of rows.old) (part_of rows.new) (accepted flows rows.old.partitions (part_of rows.old) (took (message_of message.now))) (outputs_by flows (part_of rows.old) (took (message_of message.now)))) }
+    ensures applied { IfOk result (λ made. Applied made (part_of rows.old) (part_of rows.new) (accepted_request rows.old.partitions (part_of rows.old) (message_of message.now)) (record { sent = message_of message.now ∷ []; answers = [] })) }
     ensures timers { rows.new.timers ≡ rows.old.timers }
     ensures partitions { rows.new.partitions ≡ rows.old.partitions }
 {
@@ -74,7 +76,7 @@ fn get(
     message: &Message,
 ) -> Result<Option<Outputs>, AllocError>
     requires { 0 < rows.old.partitions }
-    ensures applied { IfOk result (λ made. (flows : _) → Applied made (part_of rows.old) (part_of rows.new) (accepted flows rows.old.partitions (part_of rows.old) (got (identity_of source) number (message_of message.now))) (outputs_by flows (part_of rows.old) (got (identity_of source) number (message_of message.now)))) }
+    ensures applied { IfOk result (λ made. Applied made (part_of rows.old) (part_of rows.new) (got_in rows.old.partitions (part_of rows.old) (identity_of source) number (message_of message.now)) (record { sent = []; answers = [] })) }
     ensures timers { rows.new.timers ≡ rows.old.timers }
     ensures partitions { rows.new.partitions ≡ rows.old.partitions }
 {
@@ -86,7 +88,7 @@ fn get(
 
 /// A stream is let go of.
 fn let_go(alloc: Global, rows: &mut PartRows, reader: Identity, number: u64) -> Option<Outputs>
-    ensures applied { (flows : _) → Applied result (part_of rows.old) (part_of rows.new) (accepted flows rows.old.partitions (part_of rows.old) (trim (identity_of reader) number)) (outputs_by flows (part_of rows.old) (trim (identity_of reader) number)) }
+    ensures applied { Applied result (part_of rows.old) (part_of rows.new) (trim_in rows.old.partitions (part_of rows.old) (identity_of reader) number) (record { sent = []; answers = [] }) }
     ensures timers { rows.new.timers ≡ rows.old.timers }
     ensures partitions { rows.new.partitions ≡ rows.old.partitions }
 {
@@ -106,7 +108,7 @@ fn reach_first(
 ) -> Result<Outputs, AllocError>
     requires order { InOrder rows.old.timers }
     requires partitions { 0 < rows.old.partitions }
-    ensures outputs { IfOk result (λ made. outputs_of made ≡ record { sent = sent_to (flows_of flows.now) (part_of rows.old) (id_of message.now.from) (id_of message.now.to) stamp (said_of message.now.body); answers = answered_to (part_of rows.old) (id_of message.now.to) (Some (said_of message.now.body)) }) }
+    ensures outputs { IfOk result (λ made. outputs_of made ≡ record { sent = sent_to (flows_of flows.now) (raised_to stamp (part_of rows.old)) (id_of message.now.from) (id_of message.now.to) stamp (said_of message.now.body); answers = answered_to (raised_to stamp (part_of rows.old)) (id_of message.now.to) (Some (said_of message.now.body)) }) }
     ensures stands { OnOk result (part_of rows.new ≡ reached (flows_of flows.now) rows.old.partitions (raised_to stamp (part_of rows.old)) (id_of message.now.from) (id_of message.now.to) stamp (said_of message.now.body)) }
     ensures order { OnOk result (InOrder rows.new.timers) }
     ensures partitions { rows.new.partitions ≡ rows.old.partitions }
@@ -118,7 +120,6 @@ fn reach_first(
 }
 
 /// The first message of a link is delivered at this moment.
-#[tactic(auto, using(crate::proofs::Delivering::not_taken, crate::proofs::Delivering::nothing_there, crate::proofs::Delivering::delivered, crate::proofs::Delivering::delivered_outputs))]
 fn run(
     alloc: Global,
     flows: &Flows,
@@ -174,8 +175,23 @@ fn answer_of(outcome: &Outcome) -> Result<Answer, AllocError>
     }
 }
 
+/// Whether an activity of an instance's task is pending.
+fn is_pending(rows: &PartRows, id: &Id, task: u32) -> bool
+    ensures { result ≡ is_some ((part_of rows.now).activities (id_of id.now) task) }
+{
+    rows.activities.get(id, task).is_some()
+}
+
+/// An activity of an instance's task is no longer pending.
+fn drop_activity(rows: &mut PartRows, id: &Id, task: u32)
+    ensures dropped { part_of rows.new ≡ record (part_of rows.old) { activities = at_number (part_of rows.old).activities (id_of id.now) task None } }
+    ensures timers { rows.new.timers ≡ rows.old.timers }
+    ensures partitions { rows.new.partitions ≡ rows.old.partitions }
+{
+    rows.take_activity(id, task);
+}
+
 /// A pending activity is over.
-#[tactic(auto, using(crate::proofs::Events::not_pending, crate::proofs::Events::not_there, crate::proofs::Events::over, crate::proofs::Events::over_outputs))]
 fn finish(
     alloc: Global,
     flows: &Flows,
@@ -190,31 +206,30 @@ fn finish(
     ensures order { OnOk result (InOrder rows.new.timers) }
     ensures partitions { rows.new.partitions ≡ rows.old.partitions }
 {
-    if rows.activities.get(id, task).is_none() {
+    if !is_pending(rows, id, task) {
         return Ok(None);
     }
     let Some(instance) = instance_at(alloc, flows, rows, id)? else {
         return Ok(None);
     };
-    rows.take_activity(id, task);
+    drop_activity(rows, id, task);
     let event = Event::Resulted(task, answer_of(outcome)?);
     let stamp = instance.machine.last;
     let made = go_on(alloc, rows, id, instance, event, stamp)?;
     Ok(Some(made))
 }
 
-/// Whether a timer of an instance's task is pending and due.
-fn is_due(rows: &PartRows, id: &Id, task: u32, stamp: u64) -> bool
-    ensures { result ≡ is_due ((part_of rows.now).timers (id_of id.now) task) stamp }
+/// Whether a timer of an instance's task is pending and due, and the instance's last moment isn't later.
+fn may_fire(rows: &PartRows, id: &Id, task: u32, stamp: u64) -> bool
+    ensures { result ≡ fires_at ((part_of rows.now).instances (id_of id.now)) ((part_of rows.now).timers (id_of id.now) task) stamp }
 {
-    match rows.timers.get(id, task) {
-        Some(due) => due <= stamp,
-        None => false,
+    match (rows.instances.get(id), rows.timers.get(id, task)) {
+        (Some(row), Some(due)) => due <= stamp && row.stamp <= stamp,
+        _ => false,
     }
 }
 
 /// A pending timer fires at this moment.
-#[tactic(auto, using(crate::proofs::Events::not_due, crate::proofs::Events::nobody_there, crate::proofs::Events::too_late, crate::proofs::Events::fires, crate::proofs::Events::fired_outputs))]
 fn fire(
     alloc: Global,
     flows: &Flows,
@@ -229,15 +244,12 @@ fn fire(
     ensures order { OnOk result (InOrder rows.new.timers) }
     ensures partitions { rows.new.partitions ≡ rows.old.partitions }
 {
-    if !is_due(rows, id, task, stamp) {
+    if !may_fire(rows, id, task, stamp) {
         return Ok(None);
     }
     let Some(instance) = instance_at(alloc, flows, rows, id)? else {
         return Ok(None);
     };
-    if instance.machine.last > stamp {
-        return Ok(None);
-    }
     rows.take_timer(id, task)?;
     rows.raise_to(stamp);
     let made = go_on(alloc, rows, id, instance, Event::Fired(task), stamp)?;
@@ -258,25 +270,32 @@ pub(crate) fn apply_item(
     ensures partitions { rows.new.partitions ≡ rows.old.partitions }
 {
     match item {
-        Item::Took(message) => take(alloc, rows, message),
+        Item::Took(message) => {
+            let made = take(alloc, rows, message)?;
+            Ok(made)
+        }
         Item::Got(partition, incarnation, position, number, message) => {
-            let source = Identity {
-                partition: *partition,
-                incarnation: *incarnation,
-                position: *position,
-            };
-            get(alloc, rows, source, *number, message)
+            let source = identity(*partition, *incarnation, *position);
+            let made = get(alloc, rows, source, *number, message)?;
+            Ok(made)
         }
         Item::Ran(from, to, stamp) => run(alloc, flows, rows, from, to, *stamp),
         Item::Done(id, task, outcome) => finish(alloc, flows, rows, id, *task, outcome),
         Item::Fired(id, task, stamp) => fire(alloc, flows, rows, id, *task, *stamp),
         Item::Trim(partition, number, incarnation, position) => {
-            let reader = Identity {
-                partition: *partition,
-                incarnation: *incarnation,
-                position: *position,
-            };
+            let reader = identity(*partition, *incarnation, *position);
             Ok(let_go(alloc, rows, reader, *number))
         }
+    }
+}
+
+/// An entry of a partition.
+fn identity(partition: u32, incarnation: u64, position: u64) -> Identity
+    ensures { identity_of result ≡ record { partition = partition; incarnation = incarnation; position = position } }
+{
+    Identity {
+        partition,
+        incarnation,
+        position,
     }
 }

@@ -9,12 +9,12 @@ ghost use Rattle.dura_model.specs.Partition.{event_of};
 ghost use Rattle.part_steps.specs.Views.{instance_of};
 
 use crate::absent::{flow_in, start_event};
-use crate::answers::copy_answer;
 use crate::instance::Instance;
 use crate::present::{has_ended, raise_event};
 use dura_value::{Body, Message, Reply};
 use flow_messages::Event;
 use flow_syntax::Flows;
+use part_rows::copy_answer;
 use std::alloc::AllocError;
 
 /// The event that a message is to an instance that isn't there.

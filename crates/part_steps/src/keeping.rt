@@ -13,7 +13,7 @@ ghost use Rattle.part_steps.specs.Views.{instance_of, effect_of};
 use crate::instance::{Effect, Instance};
 use dura_value::{Id, Message};
 use flow_messages::{Event, Past};
-use part_rows::{PartRows, Row};
+use part_rows::{PartRows, Row, copy_message};
 use std::alloc::{AllocError, Global};
 
 /// The history of a row, or none where there is no row.
@@ -58,8 +58,26 @@ fn next_row(
     })
 }
 
+/// The row of an instance after a delivery or an event at this moment, or none where the instance isn't there.
+fn next_or_none(
+    alloc: Global,
+    row: Option<Row>,
+    stamp: u64,
+    event: Option<Event>,
+    instance: Option<Instance<'_>>,
+) -> Result<Option<Row>, AllocError>
+    ensures { IfOk result (λ next. option_map row_of next ≡ option_map (row_after (option_map row_of row) stamp (option_map event_of event)) (option_map instance_of instance.entry)) }
+{
+    match instance {
+        Some(instance) => {
+            let next = next_row(alloc, row, stamp, event, instance)?;
+            Ok(Some(next))
+        }
+        None => Ok(None),
+    }
+}
+
 /// An instance has the row that a delivery or an event at this moment makes of its row, or none where it isn't there.
-#[tactic(auto, using(part_rows::proofs::Seen::set_again))]
 fn put_row(
     alloc: Global,
     rows: &mut PartRows,
@@ -73,11 +91,9 @@ fn put_row(
     ensures partitions { rows.new.partitions ≡ rows.old.partitions }
 {
     let row = rows.take_instance(id);
-    let next = match instance {
-        Some(instance) => Some(next_row(alloc, row, stamp, event, instance)?),
-        None => None,
-    };
-    rows.replace_instance(id, next)
+    let next = next_or_none(alloc, row, stamp, event, instance)?;
+    rows.replace_instance(id, next)?;
+    Ok(())
 }
 
 /// What is pending of an instance is given up, if so it is.
@@ -94,10 +110,15 @@ fn give_up_if(rows: &mut PartRows, id: &Id, gives_up: bool) -> Result<(), AllocE
 }
 
 /// Copies of messages.
-fn copy_messages(messages: &Vec<Message>) -> Result<Vec<Message>, AllocError>
-    ensures { IfOk result (λ copies. copies.items ≡ messages.now.items) }
+#[tactic(auto, using(crate::proofs::Answering::one_copied))]
+fn copy_messages(alloc: Global, messages: &[Message]) -> Result<Vec<Message>, AllocError>
+    ensures { IfOk result (λ copies. copies.items ≡ messages.now) }
 {
-    messages.clone()
+    let mut copies = Vec::new(alloc);
+    for message in messages {
+        copies.push(copy_message(message)?)?;
+    }
+    Ok(copies)
 }
 
 /// Messages are posted, and come back as outputs.
@@ -112,7 +133,7 @@ pub(crate) fn send(
     ensures timers { rows.new.timers ≡ rows.old.timers }
     ensures partitions { rows.new.partitions ≡ rows.old.partitions }
 {
-    let copies = copy_messages(&messages)?;
+    let copies = copy_messages(alloc, &messages)?;
     rows.post_all(alloc, messages)?;
     Ok(copies)
 }

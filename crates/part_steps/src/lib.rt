@@ -12,6 +12,8 @@
 
 mod absent;
 mod answers;
+mod applying;
+mod batch;
 mod deliveries;
 mod ends;
 mod events;
@@ -19,8 +21,11 @@ mod instance;
 mod keeping;
 mod present;
 mod reaching;
+mod state;
 
+pub use batch::{Batch, next_items};
 pub use deliveries::{instance_of_row, to_instance};
 pub use ends::go_on_from;
 pub use events::event_of;
 pub use instance::{Effect, Instance};
+pub use state::{PartState, Verdict};

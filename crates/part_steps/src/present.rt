@@ -9,13 +9,13 @@ ghost use Rattle.flow_replay.specs.Views.{progress_of};
 ghost use Rattle.dura_model.specs.Deliveries.{goes_on_from, stays_so, standing, is_over, ending, waited, raised_at, result_at, granted_at, refusing, telling, to_present};
 ghost use Rattle.part_steps.specs.Views.{instance_of, effect_of};
 
-use crate::answers::{copy_answer, refuse, tell};
+use crate::answers::{refuse, tell};
 use crate::ends::{end_answer, go_on_from};
 use crate::instance::{Effect, Instance};
 use dura_value::{Answer, Body, Id, Message, Name, Reply, Value};
 use flow_messages::{Event, copy_id, copy_name, copy_text, copy_value};
 use flow_replay::Progress;
-use part_rows::Waiting;
+use part_rows::{Waiting, copy_answer};
 use std::alloc::{AllocError, Global};
 
 /// It stays as it is, and this is answered.

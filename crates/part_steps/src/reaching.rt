@@ -5,15 +5,16 @@ ghost use Rattle.dura_value.specs.Ids.{orchestration, entity, client};
 ghost use Rattle.dura_value.specs.Views.{id_of, body_of as said_of, message_of, messages_of};
 ghost use Rattle.flow_syntax.specs.Views.{flows_of};
 ghost use Rattle.flow_syntax.specs.Syntax.{class_of};
-ghost use Rattle.flow_syntax.specs.Entity.{initial, deliver as deliver_to};
+ghost use Rattle.flow_syntax.specs.Entity.{initial};
 ghost use Rattle.flow_messages.specs.Views.{entity_of};
 ghost use Rattle.timer_row.specs.Timers.{InOrder};
 ghost use Rattle.dura_model.specs.Deliveries.{to_instance};
 ghost use Rattle.dura_model.specs.Steps.{entity_of as entity_in};
+ghost use Rattle.dura_model.specs.World.{at_id};
 ghost use Rattle.dura_model.specs.Partition.{instance_at, client_received};
 ghost use Rattle.part_rows.specs.Parts.{part_of};
 ghost use Rattle.part_steps.specs.Outputs.{sent_to, answered_to, answered_of};
-ghost use Rattle.part_steps.specs.Reached.{takes_at, instance_reached, entity_reached, reached};
+ghost use Rattle.part_steps.specs.Reached.{takes_at, instance_reached, delivered_at, entity_reached, reached};
 ghost use Rattle.part_steps.specs.Views.{instance_of};
 
 use crate::deliveries::{instance_of_row, to_instance};
@@ -106,6 +107,27 @@ fn entity_at(
     }
 }
 
+/// An entity of this class is kept as a message made it. What it sent comes back.
+fn change_entity(
+    alloc: Global,
+    flows: &Flows,
+    rows: &mut PartRows,
+    class: &Name,
+    message: &Message,
+    stamp: u64,
+) -> Result<Vec<Message>, AllocError>
+    ensures sent { IfOk result (λ sent. messages_of sent.items ≡ (delivered_at (flows_of flows.now) (part_of rows.old) class.now (id_of message.now.from) (id_of message.now.to) stamp (said_of message.now.body)).sent) }
+    ensures kept { OnOk result (part_of rows.new ≡ record (part_of rows.old) { entities = at_id (part_of rows.old).entities (id_of message.now.to) (Some (delivered_at (flows_of flows.now) (part_of rows.old) class.now (id_of message.now.from) (id_of message.now.to) stamp (said_of message.now.body)).entity) }) }
+    ensures timers { rows.new.timers ≡ rows.old.timers }
+    ensures partitions { rows.new.partitions ≡ rows.old.partitions }
+{
+    let kept = rows.take_entity(&message.to);
+    let mut entity = entity_at(flows, class, kept, stamp)?;
+    let sent = deliver(alloc, &mut entity, flows, class, message)?;
+    rows.put_entity(&message.to, entity)?;
+    Ok(sent)
+}
+
 /// A message reaches an entity of this class. What this sends comes back.
 fn reach_entity(
     alloc: Global,
@@ -116,21 +138,18 @@ fn reach_entity(
     stamp: u64,
 ) -> Result<Vec<Message>, AllocError>
     requires partitions { 0 < rows.old.partitions }
-    ensures sent { IfOk result (λ sent. messages_of sent.items ≡ (deliver_to (flows_of flows.now) (record (entity_in (flows_of flows.now) class.now ((part_of rows.old).entities (id_of message.now.to))) { last = stamp }) class.now (id_of message.now.from) (id_of message.now.to) (said_of message.now.body)).sent) }
+    ensures sent { IfOk result (λ sent. messages_of sent.items ≡ (delivered_at (flows_of flows.now) (part_of rows.old) class.now (id_of message.now.from) (id_of message.now.to) stamp (said_of message.now.body)).sent) }
     ensures stands { OnOk result (part_of rows.new ≡ entity_reached (flows_of flows.now) rows.old.partitions (part_of rows.old) class.now (id_of message.now.from) (id_of message.now.to) stamp (said_of message.now.body)) }
     ensures timers { rows.new.timers ≡ rows.old.timers }
     ensures partitions { rows.new.partitions ≡ rows.old.partitions }
 {
-    let kept = rows.take_entity(&message.to);
-    let mut entity = entity_at(flows, class, kept, stamp)?;
-    let sent = deliver(alloc, &mut entity, flows, class, message)?;
-    rows.put_entity(&message.to, entity)?;
+    let sent = change_entity(alloc, flows, rows, class, message, stamp)?;
     let sent = send(alloc, rows, sent)?;
     Ok(sent)
 }
 
 /// The answer that a client keeps of what reaches it: the one to a request that was taken.
-fn answers_to(
+pub(crate) fn answers_to(
     alloc: Global,
     rows: &PartRows,
     to: &Id,
@@ -153,7 +172,7 @@ fn answers_to(
 }
 
 /// A message reaches its receiver. What this sends comes back.
-fn reach(
+pub(crate) fn reach(
     alloc: Global,
     flows: &Flows,
     rows: &mut PartRows,

@@ -1,0 +1,30 @@
+-- The state of a partition.
+use Rattle.std.specs.Prelude.{ℕ, ◌<◌}
+use Rattle.timer_row.specs.Timers.{InOrder}
+use Rattle.dura_model.specs.Partition.{Partition}
+use Rattle.dura_model.specs.Placed.{Belongs, AreOfInstances}
+use Rattle.part_rows.specs.Parts.{part_of}
+use Rattle.part_rows.specs.declared.parts.PartRows.{PartRows}
+use Rattle.part_steps.specs.declared.state.PartState.{PartState}
+
+-- What rows need to be the state of a partition among so many.
+pub record AreSound (rows : PartRows) : Type 0 where
+  -- its timers are listed in order
+  pub order : InOrder rows.timers
+  -- it is one of so many
+  pub below : rows.number < rows.partitions
+  -- all in it belongs here, and nothing is of a later moment than its own
+  pub belongs : Belongs rows.partitions rows.number (part_of rows)
+  -- what is pending is of instances that are there
+  pub owned : AreOfInstances (part_of rows)
+
+abbrev pub IsSound : PartState → Type 0
+IsSound s = AreSound s.rows
+
+-- all that the partition knows
+abbrev pub state_of : PartState → Partition
+state_of s = part_of s.rows
+
+-- how many partitions there are
+abbrev pub count_of : PartState → ℕ
+count_of s = s.rows.partitions

@@ -1,0 +1,110 @@
+//! The items of an entry that a partition makes by itself.
+
+ghost use Rattle.std.specs.Prelude.{◌≡◌, ◌<◌, ◌≤◌, ◌++◌, ◌∷◌, [], length, map, IfOk};
+ghost use Rattle.flow_syntax.specs.Views.{flows_of};
+ghost use Rattle.part_items.specs.Plain.{items_of};
+ghost use Rattle.part_steps.specs.Batches.{GoesOn};
+ghost use Rattle.part_steps.specs.Enabled.{moment_at, NoneEnabled, Makes};
+ghost use Rattle.part_steps.specs.Outputs.{outputs_of};
+ghost use Rattle.part_steps.specs.States.{IsSound, state_of, count_of};
+
+use crate::state::{PartState, Verdict};
+use dura_value::Outputs;
+use flow_syntax::Flows;
+use part_items::Item;
+use std::alloc::{AllocError, Global};
+
+/// Items, applied one after another.
+#[derive(Drop)]
+pub struct Batch {
+    /// The state after all of them.
+    pub state: PartState,
+    /// The items.
+    pub items: Vec<Item>,
+    /// What each of them made.
+    pub outputs: Vec<Outputs>,
+}
+
+/// What came of going on with a batch.
+#[derive(Drop)]
+pub(crate) enum Turn {
+    /// It has one item more.
+    More(Batch),
+    /// Nothing more is possible now.
+    Over(Batch),
+}
+
+/// A batch with one item more that was applied.
+fn with_item(
+    state: PartState,
+    mut items: Vec<Item>,
+    mut outputs: Vec<Outputs>,
+    item: Item,
+    made: Outputs,
+) -> Result<Batch, AllocError>
+    ensures state { IfOk result (λ batch. batch.state ≡ state) }
+    ensures items { IfOk result (λ batch. batch.items.items ≡ items.items ++ item ∷ []) }
+    ensures outputs { IfOk result (λ batch. batch.outputs.items ≡ outputs.items ++ made ∷ []) }
+{
+    items.push(item)?;
+    outputs.push(made)?;
+    Ok(Batch {
+        state,
+        items,
+        outputs,
+    })
+}
+
+/// A batch goes on with what is possible now.
+pub(crate) fn add_next(
+    alloc: Global,
+    flows: &Flows,
+    batch: Batch,
+    now: u64,
+) -> Result<Turn, AllocError>
+    requires sound { IsSound batch.state }
+    requires begun { 0 < (state_of batch.state).position }
+    ensures { IfOk result (λ turn. GoesOn (flows_of flows.now) now batch turn) }
+{
+    let Some(item) = batch.state.enabled(now)? else {
+        return Ok(Turn::Over(batch));
+    };
+    match batch.state.apply(alloc, flows, &item)? {
+        Verdict::Accepted(state, made) => {
+            let next = with_item(state, batch.items, batch.outputs, item, made)?;
+            Ok(Turn::More(next))
+        }
+        Verdict::Refused(_) => unreachable!(),
+    }
+}
+
+/// Deliveries and timers that are possible now, each after those before it, up to this many. There are none only where nothing
+/// is possible. They are applied as they are chosen, so that each is chosen in the state that it meets.
+pub fn next_items(
+    alloc: Global,
+    flows: &Flows,
+    state: PartState,
+    now: u64,
+    limit: u32,
+) -> Result<Batch, AllocError>
+    requires sound { IsSound state }
+    requires begun { 0 < (state_of state).position }
+    ensures made { IfOk result (λ batch. Makes (flows_of flows.now) count_of state (state_of state) (items_of batch.items.items) (map outputs_of batch.outputs.items) (state_of batch.state)) }
+    ensures limit { IfOk result (λ batch. length batch.items.items ≤ limit) }
+    ensures none { IfOk result (λ batch. 0 < limit → batch.items.items ≡ [] → NoneEnabled (flows_of flows.now) count_of state (state_of state) (moment_at (state_of state) now)) }
+    ensures partitions { IfOk result (λ batch. count_of batch.state ≡ count_of state) }
+    ensures sound { IfOk result (λ batch. IsSound batch.state) }
+{
+    let mut batch = Batch {
+        state,
+        items: Vec::new(alloc),
+        outputs: Vec::new(alloc),
+    };
+    for _ in 0..limit {
+        match add_next(alloc, flows, batch, now)? {
+            Turn::More(next) => batch = next,
+            Turn::Over(last) => return Ok(last),
+        }
+    }
+    Ok(batch)
+}

@@ -1,0 +1,118 @@
+//! The state of a partition.
+
+ghost use Rattle.std.specs.Prelude.{◌≡◌, ◌<◌, ◌≤◌, ◌^◌, Some, None, IfOk, IfSome, IfNone};
+ghost use Rattle.dura_value.specs.Views.{id_of, answer_of};
+ghost use Rattle.flow_syntax.specs.Syntax.{Flows as PlainFlows};
+ghost use Rattle.flow_syntax.specs.Views.{flows_of};
+ghost use Rattle.part_items.specs.Plain.{item_of};
+ghost use Rattle.dura_model.specs.Partition.{fresh, enter, accepted};
+ghost use Rattle.part_steps.specs.Applied.{Becomes};
+ghost use Rattle.part_steps.specs.Enabled.{moment_at, IsEnabled, NoneEnabled};
+ghost use Rattle.part_steps.specs.Outputs.{outputs_by};
+ghost use Rattle.part_steps.specs.States.{IsSound, state_of, count_of};
+
+use crate::applying::apply_item;
+use dura_value::Outputs;
+use flow_messages::copy_id;
+use flow_syntax::Flows;
+use part_items::Item;
+use part_rows::PartRows;
+use std::alloc::{AllocError, Global};
+
+/// The state of one of so many partitions: all that it knows. `specs/States` says what it needs (`IsSound`), which each call
+/// keeps. Want of memory drops it.
+#[derive(Debug, Drop)]
+pub struct PartState {
+    pub(crate) rows: PartRows,
+}
+
+/// What came of an item.
+#[derive(Drop)]
+pub enum Verdict {
+    /// It is applied, and this was made for the outside.
+    Accepted(PartState, Outputs),
+    /// It isn't legal in this state, which is as it was.
+    Refused(PartState),
+}
+
+impl PartState {
+    /// The state of a partition where nothing happened.
+    #[tactic(auto, using(crate::proofs::Sound::fresh_sound))]
+    pub fn new(alloc: Global, partitions: u32, number: u32) -> PartState
+        requires { number < partitions }
+        ensures fresh { state_of result ≡ fresh number }
+        ensures partitions { count_of result ≡ partitions }
+        ensures sound { IsSound result }
+    {
+        PartState {
+            rows: PartRows::new(alloc, partitions, number),
+        }
+    }
+
+    /// An entry of this life begins. Positions are below 2^62.
+    #[tactic(auto, using(crate::proofs::Sound::entered_sound))]
+    pub fn enter(self, incarnation: u64) -> PartState
+        requires sound { IsSound self }
+        requires younger { (state_of self).incarnation ≤ incarnation }
+        requires room { (state_of self).position < 2 ^ 62 }
+        ensures entered { state_of result ≡ enter incarnation (state_of self) }
+        ensures partitions { count_of result ≡ count_of self }
+        ensures sound { IsSound result }
+    {
+        let mut rows = self.rows;
+        rows.incarnation = incarnation;
+        rows.position += 1;
+        PartState { rows }
+    }
+
+    /// An item of the entry that has begun is applied, where it is legal.
+    pub fn apply(
+        self,
+        alloc: Global,
+        flows: &Flows,
+        item: &Item,
+    ) -> Result<Verdict, AllocError>
+        requires sound { IsSound self }
+        requires begun { 0 < (state_of self).position }
+        ensures { IfOk result (λ verdict. Becomes verdict self (accepted (flows_of flows.now) (count_of self) (state_of self) (item_of item.now)) (outputs_by (flows_of flows.now) (state_of self) (item_of item.now))) }
+    {
+        let mut rows = self.rows;
+        match apply_item(alloc, flows, &mut rows, item)? {
+            Some(made) => Ok(Verdict::Accepted(PartState { rows }, made)),
+            None => Ok(Verdict::Refused(PartState { rows })),
+        }
+    }
+
+    /// The moment of what is done now: a clock may stand behind what was done before.
+    fn moment(&self, now: u64) -> u64
+        ensures { result ≡ moment_at (state_of self.now) now }
+    {
+        if self.rows.stamp <= now {
+            now
+        } else {
+            self.rows.stamp
+        }
+    }
+
+    /// A delivery or a timer that is possible now, if there is one: the message that has waited longest of those that their
+    /// receivers take, else the timer that is due first.
+    #[tactic(auto, using(crate::proofs::Enabling::open_enabled, crate::proofs::Enabling::due_enabled, crate::proofs::Enabling::none_enabled))]
+    pub fn enabled(&self, now: u64) -> Result<Option<Item>, AllocError>
+        requires { IsSound self.now }
+        ensures some { IfOk result (λ item. IfSome item (λ one. (flows : PlainFlows) → IsEnabled flows (count_of self.now) (state_of self.now) (moment_at (state_of self.now) now) (item_of one))) }
+        ensures none { IfOk result (λ item. IfNone item ((flows : PlainFlows) → NoneEnabled flows (count_of self.now) (state_of self.now) (moment_at (state_of self.now) now))) }
+    {
+        let moment = self.moment(now);
+        if let Some(message) = self.rows.first_open() {
+            return Ok(Some(Item::Ran(
+                copy_id(&message.from)?,
+                copy_id(&message.to)?,
+                moment,
+            )));
+        }
+        match self.rows.timers.due(moment) {
+            Some(timer) => Ok(Some(Item::Fired(copy_id(&timer.id)?, timer.task, moment))),
+            None => Ok(None),
+        }
+    }
+}
