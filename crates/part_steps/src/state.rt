@@ -37,7 +37,6 @@ pub enum Verdict {
 
 impl PartState {
     /// The state of a partition where nothing happened.
-    #[tactic(auto, using(crate::proofs::Sound::fresh_sound))]
     pub fn new(alloc: Global, partitions: u32, number: u32) -> PartState
         requires { number < partitions }
         ensures fresh { state_of result ≡ fresh number }
@@ -50,7 +49,6 @@ impl PartState {
     }
 
     /// An entry of this life begins. Positions are below 2^62.
-    #[tactic(auto, using(crate::proofs::Sound::entered_sound))]
     pub fn enter(self, incarnation: u64) -> PartState
         requires sound { IsSound self }
         requires younger { (state_of self).incarnation ≤ incarnation }
@@ -96,7 +94,7 @@ impl PartState {
 
     /// A delivery or a timer that is possible now, if there is one: the message that has waited longest of those that their
     /// receivers take, else the timer that is due first.
-    #[tactic(auto, using(crate::proofs::Enabling::open_enabled, crate::proofs::Enabling::due_enabled, crate::proofs::Enabling::none_enabled))]
+    #[tactic(auto, using(crate::proofs::Enabling::none_enabled))]
     pub fn enabled(&self, now: u64) -> Result<Option<Item>, AllocError>
         requires { IsSound self.now }
         ensures some { IfOk result (λ item. IfSome item (λ one. (flows : PlainFlows) → IsEnabled flows (count_of self.now) (state_of self.now) (moment_at (state_of self.now) now) (item_of one))) }
