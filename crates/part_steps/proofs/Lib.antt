@@ -1,5 +1,6 @@
 pub mod Answering
 pub mod AtEnds
+pub mod Batching
 pub mod Delivering
 pub mod Enabling
 pub mod Ending
