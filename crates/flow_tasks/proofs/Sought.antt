@@ -13,7 +13,7 @@ use Rattle.flow_tasks.specs.declared.tasks.Wanted.TheVariants as wanted
 use Rattle.flow_tasks.specs.declared.tasks.Task.{Task as Kept}
 use Rattle.flow_tasks.specs.declared.tasks.Kind.{Kind as Kinds}
 use Rattle.flow_tasks.specs.Views.{kind_of, task_of, tasks_of}
-use Rattle.flow_tasks.proofs.Kept.{first_place}
+use Rattle.flow_tasks.proofs.Positions.{first_place}
 use Rattle.flow_tasks.proofs.Places.{later_by}
 
 -- ---- what the first one says

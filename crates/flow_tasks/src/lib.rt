@@ -4,10 +4,11 @@
 //! - `handles`: values that name tasks.
 //! - `sets`: the set of entities that a lock goes through.
 //! - `sections`: the section that an instance is in, and what may be done there.
-//! - `raised`: events that no handle waited for yet.
+//! - `raised`: events that no handle waited for yet; `by_name`: where those of each name are.
 //! - `specs/Views`: the plain data that these stand for.
 #![tactic(auto)]
 
+mod by_name;
 mod handles;
 mod raised;
 mod sections;
