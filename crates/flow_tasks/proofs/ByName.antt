@@ -8,7 +8,7 @@ use Rattle.std.specs.List.{slice_get}
 use Rattle.std.specs.Ordering.{nat_cmp}
 use Rattle.std.specs.Str.{bytes_eq}
 use Rattle.std.specs.declared.collections.VecDeque.{VecDeque}
-use Rattle.flow_tasks.specs.Places.{items_or_none, at_name}
+use Rattle.flow_tasks.specs.Numbers.{items_or_none, at_name}
 
 -- the places in queues
 abbrev pub seen : {Y : Type 0} → BTreeMap (List ℕ) (VecDeque ℕ Y) → List ℕ → List ℕ

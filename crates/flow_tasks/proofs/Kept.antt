@@ -9,7 +9,7 @@ use Rattle.flow_syntax.specs.Machine.{kept_value, without_kept}
 use Rattle.flow_syntax.specs.Machine as plain
 use Rattle.flow_tasks.specs.declared.raised.Raised.{Raised}
 use Rattle.flow_tasks.specs.Kept.{events_in, places_from}
-use Rattle.flow_tasks.specs.Places.{at_name}
+use Rattle.flow_tasks.specs.Numbers.{at_name}
 use Rattle.flow_tasks.specs.Views.{raised_of}
 
 abbrev Slots : Type 0

@@ -2,6 +2,6 @@ pub mod ByName
 pub mod Copies
 pub mod Inserts
 pub mod Kept
+pub mod OpenTasks
 pub mod Places
 pub mod Positions
-pub mod Sought

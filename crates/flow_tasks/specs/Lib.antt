@@ -1,6 +1,6 @@
 pub mod Changes
 pub mod Handles
 pub mod Kept
-pub mod Places
-pub mod Sought
+pub mod Numbers
+pub mod OpenTasks
 pub mod Views

@@ -4,7 +4,8 @@
 //! - `handles`: values that name tasks.
 //! - `sets`: the set of entities that a lock goes through.
 //! - `sections`: the section that an instance is in, and what may be done there.
-//! - `raised`: events that no handle waited for yet; `by_name`: where those of each name are.
+//! - `raised`: events that no handle waited for yet.
+//! - `waiting`: which tasks have no result yet, and `by_name`: numbers by names, so that nothing goes over all.
 //! - `specs/Views`: the plain data that these stand for.
 #![tactic(auto)]
 
@@ -14,6 +15,7 @@ mod raised;
 mod sections;
 mod sets;
 mod tasks;
+mod waiting;
 
 pub use handles::HandleFault;
 pub use raised::{KeptEvents, Raised};

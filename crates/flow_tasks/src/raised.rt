@@ -1,10 +1,10 @@
 //! Events that no handle waited for yet.
 
-ghost use Rattle.std.specs.Prelude.{◌≡◌, ◌++◌, ◌∷◌, [], ◌<◌, length, None, IfOk, OnOk, OnErr, map, option_map, get_or, slice_set};
+ghost use Rattle.std.specs.Prelude.{◌≡◌, ◌++◌, ◌∷◌, [], ◌<◌, length, None, OnOk, OnErr, map, option_map, get_or, slice_set};
 ghost use Rattle.flow_syntax.specs.Machine.{kept_value, without_kept};
 ghost use Rattle.flow_tasks.specs.Views.{raised_of};
 
-use crate::by_name::PlacesByName;
+use crate::by_name::{NumbersByName, copy_name};
 use dura_value::{Name, Value};
 use std::alloc::{AllocError, Global};
 use std::marker::Model;
@@ -21,24 +21,23 @@ pub struct Raised {
 /// The events that are kept, the oldest first, which a contract sees as a list.
 #[derive(Debug, Drop)]
 pub struct KeptEvents {
-    alloc: Global,
     /// In the order in which they came. The place of one that was taken stays empty.
     slots: Vec<Option<Raised>>,
     /// Where those of each name are, so that nothing goes over the others.
-    places: PlacesByName,
+    places: NumbersByName,
 }
 
 impl Model for KeptEvents {
     ghost use Rattle.std.specs.Prelude.{List, ℕ, ◌≡◌};
     ghost use Rattle.flow_tasks.specs.declared.raised.Raised.{Raised};
     ghost use Rattle.flow_tasks.specs.Kept.{events_in, places_from};
-    ghost use Rattle.flow_tasks.specs.Places.{places_in};
+    ghost use Rattle.flow_tasks.specs.Numbers.{numbers_in};
 
     ghost Value = { List Raised };
 
     ghost view = { λ k. events_in k.slots.items };
 
-    ghost invariant = { λ k. (name : List ℕ) → places_in k.places name ≡ places_from name 0 k.slots.items };
+    ghost invariant = { λ k. (name : List ℕ) → numbers_in k.places name ≡ places_from name 0 k.slots.items };
 }
 
 impl KeptEvents {
@@ -47,9 +46,8 @@ impl KeptEvents {
         ensures { result ≡ [] }
     {
         KeptEvents {
-            alloc,
             slots: Vec::new(alloc),
-            places: PlacesByName::new(alloc),
+            places: NumbersByName::new(alloc),
         }
     }
 
@@ -59,9 +57,9 @@ impl KeptEvents {
         ensures err { OnErr result (self.new ≡ self.old) }
     {
         let place = self.slots.len();
-        let key = copy_of(&name)?;
+        let key = copy_name(&name)?;
         self.slots.push(Some(Raised { name, value }))?;
-        if let Err(error) = self.places.push(self.alloc, key, place) {
+        if let Err(error) = self.places.push(key, place) {
             self.slots.pop();
             return Err(error);
         }
@@ -90,10 +88,4 @@ fn take_out(slots: &mut Vec<Option<Raised>>, place: usize) -> Option<Value>
         Some(event) => Some(event.value),
         None => None,
     }
-}
-
-fn copy_of(name: &Name) -> Result<Name, AllocError>
-    ensures { IfOk result (λ copy. copy ≡ name.now) }
-{
-    name.clone()
 }

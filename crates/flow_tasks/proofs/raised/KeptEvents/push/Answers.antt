@@ -3,7 +3,7 @@ use Rattle.std.proofs.lemmas.List.{map-append, take_at}
 use Rattle.flow_syntax.specs.Machine as plain
 use Rattle.flow_tasks.specs.declared.raised.Raised.{Raised}
 use Rattle.flow_tasks.specs.Kept.{events_in, places_from}
-use Rattle.flow_tasks.specs.Places.{places_in, at_name}
+use Rattle.flow_tasks.specs.Numbers.{numbers_in, at_name}
 use Rattle.flow_tasks.specs.Views.{raised_of}
 use Rattle.flow_tasks.proofs.Kept.{events_behind, pushed}
 use Rattle.flow_tasks.proofs.raised.KeptEvents.push.Goals as goal
@@ -11,11 +11,11 @@ use Rattle.flow_tasks.proofs.raised.KeptEvents.push.Goals as goal
 pub invariant_of-self-in_default : goal.invariant_of-self-in_default
 invariant_of-self-in_default c = λ name.
     let one : Raised = record { name = c.args.name; value = c.args.value } in
-    let old = places_in c.self.inside.places in
+    let old = numbers_in c.self.inside.places in
     let key : c.in_ok-key.key ≡ c.args.name = c.in_ok-key.ensures in
     let place : c.len-place.result ≡ length c.self.inside.slots.items = search rules in
     let is = c.in_default.ensures.ok ∙ ap (λ (k : List ℕ). at_name old k (old k ++ c.len-place.result ∷ [])) key ∙ ap (λ (n : ℕ). at_name old c.args.name (old c.args.name ++ n ∷ [])) place in
-    pushed c.self.inside.slots.items one old (places_in c.push-2.new.self) c.self.invariant is name ∙ sym (ap (places_from name 0) c.in_ok-push.ensures.items)
+    pushed c.self.inside.slots.items one old (numbers_in c.push-2.new.self) c.self.invariant is name ∙ sym (ap (places_from name 0) c.in_ok-push.ensures.items)
 
 pub invariant_of-self-in-Err : goal.invariant_of-self-in-Err
 invariant_of-self-in-Err c = λ name.

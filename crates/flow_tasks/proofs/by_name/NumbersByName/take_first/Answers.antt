@@ -1,7 +1,7 @@
 use Rattle.std.proofs.Common.{◌∙◌, drop, ap, sym}
 use Rattle.std.specs.Option.{option_copied_mut}
 use Rattle.flow_tasks.proofs.ByName.{written}
-use Rattle.flow_tasks.proofs.by_name.PlacesByName.take_first.Goals as goal
+use Rattle.flow_tasks.proofs.by_name.NumbersByName.take_first.Goals as goal
 
 pub returns-in-Some-clause-rest : goal.returns-in-Some-clause-rest
 returns-in-Some-clause-rest c =
