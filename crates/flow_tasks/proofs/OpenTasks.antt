@@ -18,7 +18,7 @@ use Rattle.flow_tasks.specs.Numbers.{numbers_in, at_name, without}
 use Rattle.flow_tasks.specs.OpenTasks.{is_open_call, is_open_ask, is_listener, passes_at, numbers_from, AreThose}
 use Rattle.flow_tasks.specs.declared.tasks.Kind.{Kind as Kinds}
 use Rattle.flow_tasks.specs.declared.tasks.Kind.TheVariants as kinds
-use Rattle.flow_tasks.specs.declared.waiting.Waiting.{Waiting}
+use Rattle.flow_tasks.specs.declared.open_tasks.OpenTasks.{OpenTasks}
 use Rattle.flow_tasks.specs.Views.{kind_of}
 use Rattle.flow_tasks.proofs.Places.{later_by}
 
@@ -72,13 +72,13 @@ longer (first ∷ before) task = ap (λ (n : ℕ). suc n) (longer before task)
 abbrev pub asked : Spot → List Task → List ℕ → Bool
 asked spot tasks numbers = list_any (λ n. passes_at (is_open_ask spot) (task_at tasks n)) numbers
 
+never_settled : (b : Bool) → (b && false) ≡ false
+never_settled true = refl
+never_settled false = refl
+
 ask_is_call : (spot : Spot) (kind : Kind) (waits : Bool) → (is_call kind && waits) ≡ false → (asks_spot spot kind && waits) ≡ false
 ask_is_call spot (of_entity other) true is = absurd (cc is)
-ask_is_call spot (of_entity other) false is = never (asks_spot spot (of_entity other))
-  where
-    never : (b : Bool) → (b && false) ≡ false
-    never true = refl
-    never false = refl
+ask_is_call spot (of_entity other) false is = never_settled (asks_spot spot (of_entity other))
 ask_is_call spot other waits is = refl
 
 ask_behind : (spot : Spot) (before tasks : List Task) → asked spot (before ++ tasks) (numbers_from is_open_call (length before) tasks) ≡ has_open_ask spot tasks
@@ -165,7 +165,7 @@ and_true : (b : Bool) → (b && true) ≡ b
 and_true true = refl
 and_true false = refl
 
-pub call_comes : (old new : Waiting) (kind : Kind) (number : ℕ) → is_call kind ≡ true → ((name : List ℕ) → listens_for name kind ≡ false)
+pub call_comes : (old new : OpenTasks) (kind : Kind) (number : ℕ) → is_call kind ≡ true → ((name : List ℕ) → listens_for name kind ≡ false)
     → new.calls.keys ≡ insert_key nat_cmp old.calls.keys number → numbers_in new.listeners ≡ numbers_in old.listeners
     → (tasks : List Task) → AreThose old tasks → number ≡ length tasks → AreThose new (tasks ++ fresh kind ∷ [])
 call_comes old new kind number call deaf keys same tasks are is =
@@ -179,7 +179,7 @@ call_comes old new kind number call deaf keys same tasks are is =
       listeners = λ name. ap (λ (f : List ℕ → List ℕ). f name) same ∙ are.listeners name ∙ stays_behind (is_listener name) tasks (fresh kind) (and_true (listens_for name kind) ∙ deaf name);
     }
 
-pub other_comes : (old new : Waiting) (kind : Kind) → is_call kind ≡ false → ((name : List ℕ) → listens_for name kind ≡ false) → new.calls.keys ≡ old.calls.keys → numbers_in new.listeners ≡ numbers_in old.listeners
+pub other_comes : (old new : OpenTasks) (kind : Kind) → is_call kind ≡ false → ((name : List ℕ) → listens_for name kind ≡ false) → new.calls.keys ≡ old.calls.keys → numbers_in new.listeners ≡ numbers_in old.listeners
     → (tasks : List Task) → AreThose old tasks → AreThose new (tasks ++ fresh kind ∷ [])
 other_comes old new kind call deaf keys same tasks are =
     record {
@@ -200,7 +200,7 @@ listener_behind name other f number tasks true same are is =
 listener_behind name other f number tasks false same are is =
     are other ∙ stays_behind (is_listener other) tasks (fresh (of_event name)) (and_true (bytes_eq other name) ∙ swapped other name ∙ same)
 
-pub listener_comes : (old new : Waiting) (name : List ℕ) (number : ℕ) → new.calls.keys ≡ old.calls.keys → numbers_in new.listeners ≡ at_name (numbers_in old.listeners) name (numbers_in old.listeners name ++ number ∷ [])
+pub listener_comes : (old new : OpenTasks) (name : List ℕ) (number : ℕ) → new.calls.keys ≡ old.calls.keys → numbers_in new.listeners ≡ at_name (numbers_in old.listeners) name (numbers_in old.listeners name ++ number ∷ [])
     → (tasks : List Task) → AreThose old tasks → number ≡ length tasks → AreThose new (tasks ++ fresh (of_event name) ∷ [])
 listener_comes old new name number keys changed tasks are is =
     record {
@@ -208,7 +208,7 @@ listener_comes old new name number keys changed tasks are is =
       listeners = λ other. ap (λ (f : List ℕ → List ℕ). f other) changed ∙ listener_behind name other (numbers_in old.listeners) number tasks (bytes_eq name other) refl are.listeners is;
     }
 
-pub none_comes : (old new : Waiting) → new.calls.keys ≡ old.calls.keys → numbers_in new.listeners ≡ numbers_in old.listeners → (tasks : List Task) → AreThose old tasks → AreThose new tasks
+pub none_comes : (old new : OpenTasks) → new.calls.keys ≡ old.calls.keys → numbers_in new.listeners ≡ numbers_in old.listeners → (tasks : List Task) → AreThose old tasks → AreThose new tasks
 none_comes old new keys same tasks are =
     record {
       calls = keys ∙ are.calls;
@@ -220,10 +220,6 @@ none_comes old new keys same tasks are =
 -- no task with a result passes
 abbrev Closed : (Task → Bool) → Type 0
 Closed test = (task : Task) (arrival : Arrival) → test (record task { arrival = Some arrival }) ≡ false
-
-never_settled : (b : Bool) → (b && false) ≡ false
-never_settled true = refl
-never_settled false = refl
 
 differs : (a b : ℕ) → a < b → (a == b) ≡ false
 differs a b less = grind (arith, nat_tests)
@@ -287,7 +283,7 @@ removed n [] = refl
 removed n (m ∷ numbers) =
     ap (λ (b : Bool). cond b numbers (m ∷ remove_key (is_at (nat_cmp n)) numbers)) (sym (unsigned_ties n m)) ∙ ap (λ l. cond (n == m) numbers (m ∷ l)) (removed n numbers)
 
-pub call_settles : (old new : Waiting) (kind : Kind) (number : ℕ) → ((name : List ℕ) → listens_for name kind ≡ false)
+pub call_settles : (old new : OpenTasks) (kind : Kind) (number : ℕ) → ((name : List ℕ) → listens_for name kind ≡ false)
     → new.calls.keys ≡ remove_key (is_at (nat_cmp number)) old.calls.keys → numbers_in new.listeners ≡ numbers_in old.listeners
     → (tasks : List Task) (arrival : Arrival) → AreThose old tasks → task_at tasks number ≡ Some (fresh kind) → AreThose new (with_arrival tasks number arrival)
 call_settles old new kind number deaf keys same tasks arrival are there =
@@ -297,7 +293,7 @@ call_settles old new kind number deaf keys same tasks arrival are there =
           ∙ stays (is_listener name) (listener_closed name) 0 number tasks (fresh kind) arrival there (and_true (listens_for name kind) ∙ deaf name);
     }
 
-pub other_settles : (old new : Waiting) (kind : Kind) (number : ℕ) → is_call kind ≡ false → ((name : List ℕ) → listens_for name kind ≡ false) → new.calls.keys ≡ old.calls.keys → numbers_in new.listeners ≡ numbers_in old.listeners
+pub other_settles : (old new : OpenTasks) (kind : Kind) (number : ℕ) → is_call kind ≡ false → ((name : List ℕ) → listens_for name kind ≡ false) → new.calls.keys ≡ old.calls.keys → numbers_in new.listeners ≡ numbers_in old.listeners
     → (tasks : List Task) (arrival : Arrival) → AreThose old tasks → task_at tasks number ≡ Some (fresh kind) → AreThose new (with_arrival tasks number arrival)
 other_settles old new kind number call deaf keys same tasks arrival are there =
     record {
@@ -313,7 +309,7 @@ listener_left name other f number tasks arrival true same are there =
 listener_left name other f number tasks arrival false same are there =
     are other ∙ stays (is_listener other) (listener_closed other) 0 number tasks (fresh (of_event name)) arrival there (and_true (bytes_eq other name) ∙ swapped other name ∙ same)
 
-pub listener_settles : (old new : Waiting) (name : List ℕ) (number : ℕ) → new.calls.keys ≡ old.calls.keys → numbers_in new.listeners ≡ at_name (numbers_in old.listeners) name (without number (numbers_in old.listeners name))
+pub listener_settles : (old new : OpenTasks) (name : List ℕ) (number : ℕ) → new.calls.keys ≡ old.calls.keys → numbers_in new.listeners ≡ at_name (numbers_in old.listeners) name (without number (numbers_in old.listeners name))
     → (tasks : List Task) (arrival : Arrival) → AreThose old tasks → task_at tasks number ≡ Some (fresh (of_event name)) → AreThose new (with_arrival tasks number arrival)
 listener_settles old new name number keys changed tasks arrival are there =
     record {

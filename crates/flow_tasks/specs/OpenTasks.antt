@@ -3,7 +3,7 @@ use Rattle.std.specs.Prelude.{◌≡◌, ℕ, suc, List, [], ◌∷◌, Bool, fa
 use Rattle.dura_value.specs.Messages.{Spot}
 use Rattle.flow_syntax.specs.Machine.{Task, is_call, asks_spot, listens_for, is_open}
 use Rattle.flow_tasks.specs.Numbers.{numbers_in}
-use Rattle.flow_tasks.specs.declared.waiting.Waiting.{Waiting}
+use Rattle.flow_tasks.specs.declared.open_tasks.OpenTasks.{OpenTasks}
 
 -- an ask or a started flow
 abbrev pub is_open_call : Task → Bool
@@ -27,7 +27,7 @@ abbrev pub numbers_from : (Task → Bool) → ℕ → List Task → List ℕ
 numbers_from test number [] = []
 numbers_from test number (task ∷ tasks) = if test task then number ∷ numbers_from test (suc number) tasks else numbers_from test (suc number) tasks
 
--- These are the numbers of the tasks that wait.
-pub record AreThose (waiting : Waiting) (tasks : List Task) : Type 0 where
-  pub calls : waiting.calls.keys ≡ numbers_from is_open_call 0 tasks
-  pub listeners : (name : List ℕ) → numbers_in waiting.listeners name ≡ numbers_from (is_listener name) 0 tasks
+-- These are the numbers of those that are looked for.
+pub record AreThose (index : OpenTasks) (tasks : List Task) : Type 0 where
+  pub calls : index.calls.keys ≡ numbers_from is_open_call 0 tasks
+  pub listeners : (name : List ℕ) → numbers_in index.listeners name ≡ numbers_from (is_listener name) 0 tasks

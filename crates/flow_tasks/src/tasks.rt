@@ -7,8 +7,8 @@ ghost use Rattle.flow_tasks.specs.Views.{kind_of, arrival_of, task_of, tasks_of,
 ghost use Rattle.flow_tasks.specs.Changes.{can_arrive, tasks_with};
 ghost use Rattle.flow_tasks.specs.OpenTasks.{is_open_ask, passes_at};
 
+use crate::open_tasks::OpenTasks;
 use crate::sets::are_same;
-use crate::waiting::Waiting;
 use dura_value::{Name, Outcome, Spot, Spots, Value};
 use std::alloc::{AllocError, Global};
 use std::marker::Model;
@@ -69,7 +69,7 @@ impl Task {
 pub struct Tasks {
     tasks: Vec<Task>,
     /// Which of them have no result yet, so that nothing goes over all.
-    waiting: Waiting,
+    index: OpenTasks,
 }
 
 impl Model for Tasks {
@@ -82,7 +82,7 @@ impl Model for Tasks {
 
     ghost view = { λ t. t.tasks.items };
 
-    ghost invariant = { λ t. AreThose t.waiting (tasks_of t.tasks.items) };
+    ghost invariant = { λ t. AreThose t.index (tasks_of t.tasks.items) };
 }
 
 impl Tasks {
@@ -92,7 +92,7 @@ impl Tasks {
     {
         Tasks {
             tasks: Vec::new(alloc),
-            waiting: Waiting::new(alloc),
+            index: OpenTasks::new(alloc),
         }
     }
 
@@ -120,7 +120,7 @@ impl Tasks {
             kind,
             arrival: None,
         })?;
-        if let Err(error) = self.waiting.push(&self.tasks[number].kind, number) {
+        if let Err(error) = self.index.push(&self.tasks[number].kind, number) {
             self.tasks.pop();
             return Err(error);
         }
@@ -155,7 +155,7 @@ impl Tasks {
     {
         let arrives = self.can_arrive(number);
         if arrives {
-            self.waiting.leave_out(&self.tasks[number].kind, number);
+            self.index.leave_out(&self.tasks[number].kind, number);
             self.tasks[number].settle(outcome, order);
         }
         arrives
@@ -201,7 +201,7 @@ impl Tasks {
     pub fn has_open_call(&self) -> bool
         ensures { result ≡ has_open_call (tasks_of self.now) }
     {
-        self.waiting.calls.first().is_some()
+        self.index.calls.first().is_some()
     }
 
     /// Whether the task of a number is there, and an ask of this entity without a result.
@@ -218,7 +218,7 @@ impl Tasks {
     pub fn has_open_ask(&self, spot: &Spot) -> bool
         ensures { result ≡ has_open_ask (spot_of spot.now) (tasks_of self.now) }
     {
-        for number in &self.waiting.calls {
+        for number in &self.index.calls {
             if self.asks(*number, spot) {
                 return true;
             }
@@ -230,7 +230,7 @@ impl Tasks {
     pub fn oldest_listener(&self, name: &Name) -> Option<usize>
         ensures { result ≡ oldest_listener name.now (tasks_of self.now) }
     {
-        self.waiting.listeners.first(name)
+        self.index.listeners.first(name)
     }
 }
 

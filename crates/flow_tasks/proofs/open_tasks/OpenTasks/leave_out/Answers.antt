@@ -3,14 +3,14 @@ use Rattle.flow_syntax.specs.Machine.{Task, Arrival, task_at, with_arrival}
 use Rattle.flow_tasks.specs.OpenTasks.{AreThose}
 use Rattle.flow_tasks.specs.Views.{kind_of}
 use Rattle.flow_tasks.specs.declared.tasks.Kind.{Kind}
-use Rattle.flow_tasks.specs.declared.waiting.Waiting.{Waiting}
+use Rattle.flow_tasks.specs.declared.open_tasks.OpenTasks.{OpenTasks}
 use Rattle.flow_tasks.proofs.OpenTasks.{call_settles, listener_settles, other_settles, call_kind, other_kind}
-use Rattle.flow_tasks.proofs.waiting.Waiting.leave_out.Goals as goal
+use Rattle.flow_tasks.proofs.open_tasks.OpenTasks.leave_out.Goals as goal
 
 pub returns-in-Event : goal.returns-in-Event
 returns-in-Event c =
     let old = c.args.self.now in
-    let new : Waiting = record { calls = old.calls; listeners = c.leave_out.new.self } in
+    let new : OpenTasks = record { calls = old.calls; listeners = c.leave_out.new.self } in
     subst (λ (k : Kind). (tasks : List Task) (arrival : Arrival) → AreThose old tasks → task_at tasks c.args.number ≡ Some (record { kind = kind_of k; arrival = None }) → AreThose new (with_arrival tasks c.args.number arrival)) (sym c.in-Event.is)
     (listener_settles old new c.in-Event.name c.args.number refl c.leave_out.ensures)
 

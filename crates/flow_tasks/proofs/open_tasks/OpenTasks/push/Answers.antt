@@ -4,10 +4,10 @@ use Rattle.flow_tasks.specs.Numbers.{numbers_in, at_name}
 use Rattle.flow_tasks.specs.OpenTasks.{AreThose}
 use Rattle.flow_tasks.specs.Views.{kind_of}
 use Rattle.flow_tasks.specs.declared.tasks.Kind.{Kind}
-use Rattle.flow_tasks.specs.declared.waiting.Waiting.{Waiting}
+use Rattle.flow_tasks.specs.declared.open_tasks.OpenTasks.{OpenTasks}
 use Rattle.flow_tasks.proofs.ByName.{on_err}
 use Rattle.flow_tasks.proofs.OpenTasks.{call_comes, listener_comes, other_comes, none_comes, call_kind, other_kind}
-use Rattle.flow_tasks.proofs.waiting.Waiting.push.Goals as goal
+use Rattle.flow_tasks.proofs.open_tasks.OpenTasks.push.Goals as goal
 
 pub returns-in_err-push-in-Event-clause-err : goal.returns-in_err-push-in-Event-clause-err
 returns-in_err-push-in-Event-clause-err c =
@@ -16,7 +16,7 @@ returns-in_err-push-in-Event-clause-err c =
 pub returns-in_ok-push-in-Event-clause-ok : goal.returns-in_ok-push-in-Event-clause-ok
 returns-in_ok-push-in-Event-clause-ok c =
     let old = c.args.self.now in
-    let new : Waiting = record { calls = old.calls; listeners = c.push.new.self } in
+    let new : OpenTasks = record { calls = old.calls; listeners = c.push.new.self } in
     let changed = subst (λ (n : List ℕ). numbers_in new.listeners ≡ at_name (numbers_in old.listeners) n (numbers_in old.listeners n ++ c.args.number ∷ [])) c.in_ok-copy_name-in-Event.ensures c.in_ok-push-in-Event.ensures.ok in
     subst (λ (k : Kind). (tasks : List Task) → AreThose old tasks → c.args.number ≡ length tasks → AreThose new (tasks ++ record { kind = kind_of k; arrival = None } ∷ [])) (sym c.in-Event.is)
     (listener_comes old new c.in-Event.name c.args.number refl changed)

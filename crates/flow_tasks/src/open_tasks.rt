@@ -14,19 +14,19 @@ use std::collections::BTreeSet;
 
 /// The numbers of the tasks without a result that are looked for by what they are.
 #[derive(Debug, Drop)]
-pub(crate) struct Waiting {
+pub(crate) struct OpenTasks {
     /// Asks and started flows.
     pub(crate) calls: BTreeSet<usize>,
     /// Handles of events, by their names.
     pub(crate) listeners: NumbersByName,
 }
 
-impl Waiting {
+impl OpenTasks {
     /// None.
-    pub(crate) fn new(alloc: Global) -> Waiting
+    pub(crate) fn new(alloc: Global) -> OpenTasks
         ensures { AreThose result [] }
     {
-        Waiting {
+        OpenTasks {
             calls: BTreeSet::new(alloc),
             listeners: NumbersByName::new(alloc),
         }
