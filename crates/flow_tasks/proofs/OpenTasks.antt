@@ -13,7 +13,7 @@ use Rattle.std.specs.Str.{bytes_eq}
 use Rattle.std.specs.declared.cmp.Ordering.{Ordering}
 use Rattle.std.specs.declared.cmp.Ordering.TheVariants.{Less, Equal, Greater}
 use Rattle.dura_value.specs.Messages.{Spot}
-use Rattle.flow_syntax.specs.Machine.{Arrival, Task, Kind, of_flow, of_entity, of_event, asks_spot, listens_for, is_open, is_call, task_at, with_arrival, later_by_one, oldest_listener, has_open_call, has_open_ask}
+use Rattle.flow_syntax.specs.Machine.{Arrival, Task, Kind, of_entity, of_event, asks_spot, listens_for, is_open, is_call, task_at, with_arrival, later_by_one, oldest_listener, has_open_call, has_open_ask}
 use Rattle.flow_tasks.specs.Numbers.{numbers_in, at_name, without}
 use Rattle.flow_tasks.specs.OpenTasks.{is_open_call, is_open_ask, is_listener, passes_at, numbers_from, AreThose}
 use Rattle.flow_tasks.specs.declared.tasks.Kind.{Kind as Kinds}

@@ -1,6 +1,5 @@
 use Rattle.std.proofs.Common.{◌≡◌, ◌∙◌, ◌++◌, ◌∷◌, [], ◌-◌, ℕ, List, Some, length, map, take, ap, sym, rules, arith}
 use Rattle.std.proofs.lemmas.List.{map-append, take_at}
-use Rattle.flow_syntax.specs.Machine as plain
 use Rattle.flow_tasks.specs.declared.raised.Raised.{Raised}
 use Rattle.flow_tasks.specs.Kept.{events_in, places_from}
 use Rattle.flow_tasks.specs.Numbers.{numbers_in, at_name}

@@ -1,6 +1,5 @@
-use Rattle.std.proofs.Common.{◌≡◌, ◌∙◌, List, ℕ, ap}
+use Rattle.std.proofs.Common.{◌∙◌, List, ap}
 use Rattle.dura_value.specs.Views.{spot_of}
-use Rattle.flow_syntax.specs.Machine.{has_open_ask}
 use Rattle.flow_tasks.specs.OpenTasks.{numbers_from, is_open_call}
 use Rattle.flow_tasks.specs.Views.{tasks_of}
 use Rattle.flow_tasks.specs.declared.tasks.Task.{Task}
