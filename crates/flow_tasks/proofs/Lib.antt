@@ -1,5 +1,7 @@
+pub mod ByName
 pub mod Copies
 pub mod Inserts
 pub mod Kept
+pub mod OpenTasks
 pub mod Places
-pub mod Sought
+pub mod Positions

@@ -6,7 +6,7 @@ use Rattle.flow_syntax.specs.Machine as plain
 use Rattle.flow_tasks.specs.declared.tasks.Task.{Task}
 use Rattle.flow_tasks.specs.declared.tasks.Arrival.{Arrival as Arrived}
 use Rattle.flow_tasks.specs.Changes.{can_arrive, tasks_with}
-use Rattle.flow_tasks.specs.Views.{arrival_of, task_of, tasks_of}
+use Rattle.flow_tasks.specs.Views.{kind_of, arrival_of, task_of, tasks_of}
 
 -- a number in the rest, as one in the whole
 abbrev pub later_by : ℕ → Option ℕ → Option ℕ
@@ -56,3 +56,14 @@ pub arrived_at : (tasks : List Task) (number : ℕ) (was now : Task) (arrival : 
 arrived_at tasks number was now arrival here is can changed =
     written tasks number was now arrival here is changed
     ∙ sym (ap (λ (b : Bool). if b then with_arrival (tasks_of tasks) number arrival else tasks_of tasks) can)
+
+-- a task whose result can arrive has none
+pub open_there : (tasks : List Task) (number : ℕ) (task : Task) → number < length tasks → task ≡ get_or tasks number task → can_arrive (task_at (tasks_of tasks) number) ≡ true
+    → task_at (tasks_of tasks) number ≡ Some (record { kind = kind_of task.kind; arrival = None })
+open_there tasks number task here is can =
+    let found = there tasks number task here is in
+    found ∙ ap (λ (a : Option Arrival). Some (record { kind = kind_of task.kind; arrival = a })) (by_arrival task.arrival (sym (ap can_arrive found) ∙ can))
+  where
+    by_arrival : (arrival : Option Arrived) → is_open (option_map arrival_of arrival) ≡ true → option_map arrival_of arrival ≡ None
+    by_arrival None open_is = refl
+    by_arrival (Some a) open_is = absurd (cc open_is)

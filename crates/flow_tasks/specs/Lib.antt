@@ -1,4 +1,6 @@
 pub mod Changes
 pub mod Handles
-pub mod Sought
+pub mod Kept
+pub mod Numbers
+pub mod OpenTasks
 pub mod Views

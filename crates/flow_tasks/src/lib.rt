@@ -5,10 +5,13 @@
 //! - `sets`: the set of entities that a lock goes through.
 //! - `sections`: the section that an instance is in, and what may be done there.
 //! - `raised`: events that no handle waited for yet.
+//! - `open_tasks`: which tasks have no result yet, and `by_name`: numbers by names, so that nothing goes over all.
 //! - `specs/Views`: the plain data that these stand for.
 #![tactic(auto)]
 
+mod by_name;
 mod handles;
+mod open_tasks;
 mod raised;
 mod sections;
 mod sets;

@@ -1,12 +1,13 @@
 //! The tasks of an instance.
 
-ghost use Rattle.std.specs.Prelude.{◌≡◌, ◌==◌, ◌<◌, ◌&&◌, IsTrue, ◌++◌, ◌∷◌, [], length, Some, None, IfOk, OnOk, OnErr, option_map, position};
+ghost use Rattle.std.specs.Prelude.{◌≡◌, ◌==◌, ◌<◌, ◌&&◌, IsTrue, ◌++◌, ◌∷◌, [], length, Some, None, IfOk, OnOk, OnErr, option_map};
 ghost use Rattle.dura_value.specs.Views.{spot_of};
 ghost use Rattle.flow_syntax.specs.Machine.{task_at, arrival_of as arrival_at, all_arrived, first_arrived, has_open_call, has_open_ask, oldest_listener, sooner};
 ghost use Rattle.flow_tasks.specs.Views.{kind_of, arrival_of, task_of, tasks_of, candidate_of};
 ghost use Rattle.flow_tasks.specs.Changes.{can_arrive, tasks_with};
-ghost use Rattle.flow_tasks.specs.Sought.{is_sought_kind, without, meets, meets_at, first_of};
+ghost use Rattle.flow_tasks.specs.OpenTasks.{is_open_ask, passes_at};
 
+use crate::open_tasks::OpenTasks;
 use crate::sets::are_same;
 use dura_value::{Name, Outcome, Spot, Spots, Value};
 use std::alloc::{AllocError, Global};
@@ -54,38 +55,34 @@ impl Task {
     {
         self.arrival = Some(Arrival { outcome, order });
     }
-}
 
-/// What is looked for among the tasks without a result.
-#[derive(Debug, Drop)]
-enum Wanted<'a> {
-    /// A flow that was started, or an entity that was asked.
-    Call,
-    /// An ask of this entity.
-    Ask(&'a Spot),
-    /// A handle of an event of this name.
-    Listener(&'a Name),
+    /// Whether it is an ask of this entity without a result.
+    fn asks(&self, spot: &Spot) -> bool
+        ensures { result ≡ is_open_ask (spot_of spot.now) (task_of self.now) }
+    {
+        matches!(&self.kind, Kind::Entity(other) if are_same(spot, other)) && self.arrival.is_none()
+    }
 }
 
 /// The tasks of an instance by number, which a contract sees as a list.
 #[derive(Debug, Drop)]
 pub struct Tasks {
     tasks: Vec<Task>,
-    /// The numbers of those that are looked for, so that nothing goes over all tasks.
-    sought: Vec<usize>,
+    /// Which of them have no result yet, so that nothing goes over all.
+    index: OpenTasks,
 }
 
 impl Model for Tasks {
     ghost use Rattle.std.specs.Prelude.{List, ◌≡◌};
     ghost use Rattle.flow_tasks.specs.declared.tasks.Task.{Task};
-    ghost use Rattle.flow_tasks.specs.Sought.{sought_from};
+    ghost use Rattle.flow_tasks.specs.OpenTasks.{AreThose};
     ghost use Rattle.flow_tasks.specs.Views.{tasks_of};
 
     ghost Value = { List Task };
 
     ghost view = { λ t. t.tasks.items };
 
-    ghost invariant = { λ t. t.sought.items ≡ sought_from 0 (tasks_of t.tasks.items) };
+    ghost invariant = { λ t. AreThose t.index (tasks_of t.tasks.items) };
 }
 
 impl Tasks {
@@ -95,7 +92,7 @@ impl Tasks {
     {
         Tasks {
             tasks: Vec::new(alloc),
-            sought: Vec::new(alloc),
+            index: OpenTasks::new(alloc),
         }
     }
 
@@ -119,16 +116,13 @@ impl Tasks {
         ensures err { OnErr result (self.new ≡ self.old) }
     {
         let number = self.tasks.len();
-        let sought = is_sought(&kind);
         self.tasks.push(Task {
             kind,
             arrival: None,
         })?;
-        if sought {
-            if let Err(error) = self.sought.push(number) {
-                self.tasks.pop();
-                return Err(error.into());
-            }
+        if let Err(error) = self.index.push(&self.tasks[number].kind, number) {
+            self.tasks.pop();
+            return Err(error);
         }
         Ok(())
     }
@@ -161,7 +155,7 @@ impl Tasks {
     {
         let arrives = self.can_arrive(number);
         if arrives {
-            leave_out(&mut self.sought, number);
+            self.index.leave_out(&self.tasks[number].kind, number);
             self.tasks[number].settle(outcome, order);
         }
         arrives
@@ -203,50 +197,40 @@ impl Tasks {
         }
     }
 
-    /// Whether the task of a number is there, and what is wanted.
-    fn is_at(&self, number: usize, wanted: &Wanted) -> bool
-        ensures { result ≡ meets_at wanted.now (task_at (tasks_of self.now) number) }
+    /// Whether an ask or a started flow has no result yet.
+    pub fn has_open_call(&self) -> bool
+        ensures { result ≡ has_open_call (tasks_of self.now) }
+    {
+        self.index.calls.first().is_some()
+    }
+
+    /// Whether the task of a number is there, and an ask of this entity without a result.
+    fn asks(&self, number: usize, spot: &Spot) -> bool
+        ensures { result ≡ passes_at (is_open_ask (spot_of spot.now)) (task_at (tasks_of self.now) number) }
     {
         match self.tasks.get(number) {
-            Some(task) => meets(wanted, task),
+            Some(task) => task.asks(spot),
             None => false,
         }
     }
 
-    /// The number of the first task that is wanted.
-    fn first(&self, wanted: &Wanted) -> Option<usize>
-        ensures { result ≡ first_of wanted.now (tasks_of self.now) }
-    {
-        for number in &self.sought {
-            if self.is_at(*number, wanted) {
-                return Some(*number);
-            }
-        }
-        None
-    }
-
-    /// Whether an ask or a started flow has no result yet.
-    #[tactic(auto, using(crate::proofs::Sought::first_call))]
-    pub fn has_open_call(&self) -> bool
-        ensures { result ≡ has_open_call (tasks_of self.now) }
-    {
-        self.first(&Wanted::Call).is_some()
-    }
-
     /// Whether an ask of this entity has no result yet.
-    #[tactic(auto, using(crate::proofs::Sought::first_ask))]
     pub fn has_open_ask(&self, spot: &Spot) -> bool
         ensures { result ≡ has_open_ask (spot_of spot.now) (tasks_of self.now) }
     {
-        self.first(&Wanted::Ask(spot)).is_some()
+        for number in &self.index.calls {
+            if self.asks(*number, spot) {
+                return true;
+            }
+        }
+        false
     }
 
     /// The oldest handle of an event's name that waits.
-    #[tactic(auto, using(crate::proofs::Sought::first_listener))]
     pub fn oldest_listener(&self, name: &Name) -> Option<usize>
         ensures { result ≡ oldest_listener name.now (tasks_of self.now) }
     {
-        self.first(&Wanted::Listener(name))
+        self.index.listeners.first(name)
     }
 }
 
@@ -277,42 +261,4 @@ fn copy_of(outcome: &Outcome) -> Result<Outcome, AllocError>
     ensures { IfOk result (λ copy. copy ≡ outcome.now) }
 {
     outcome.clone()
-}
-
-fn place_of(numbers: &[usize], number: usize) -> Option<usize>
-    ensures { result ≡ position (λ other. other == number) numbers.now }
-{
-    numbers.iter().position(|other| *other == number)
-}
-
-/// Takes out the first such number.
-#[tactic(auto, using(crate::proofs::Sought::taken_out))]
-fn leave_out(numbers: &mut Vec<usize>, number: usize)
-    ensures { numbers.new.items ≡ without number numbers.old.items }
-{
-    if let Some(place) = place_of(numbers, number) {
-        numbers.remove(place);
-    }
-}
-
-/// Whether tasks of a kind are looked for among all.
-fn is_sought(kind: &Kind) -> bool
-    ensures { result ≡ is_sought_kind (kind_of kind.now) }
-{
-    match kind {
-        Kind::Flow | Kind::Entity(_) | Kind::Event(_) => true,
-        Kind::Activity(_, _) | Kind::Timer(_) | Kind::Grant(_) => false,
-    }
-}
-
-/// Whether a task is what is wanted.
-fn meets(wanted: &Wanted, task: &Task) -> bool
-    ensures { result ≡ meets wanted.now (task_of task.now) }
-{
-    let is = match wanted {
-        Wanted::Call => matches!(task.kind, Kind::Flow | Kind::Entity(_)),
-        Wanted::Ask(spot) => matches!(&task.kind, Kind::Entity(other) if are_same(spot, other)),
-        Wanted::Listener(name) => matches!(&task.kind, Kind::Event(other) if *name == other),
-    };
-    is && task.arrival.is_none()
 }

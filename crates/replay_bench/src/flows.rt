@@ -20,6 +20,10 @@ const FLOWS: &[u8] = br#"{
 "events":[["while",true,[["event","h","go"],["await","x",{"v":"h"}]]]],
 "backlog":[["call","x","echo",0],
     ["while",true,[["event","h","go"],["await","v",{"v":"h"}],["call","x","echo",0]]]],
+"listeners":[["while",true,[["event","h","never"],["event","h","go"],["await","x",{"v":"h"}]]]],
+"children":[["let","i",0],["while",true,[
+    ["sub","s","calls",{"do":["cat","k",{"do":["str",{"v":"i"}]}]},0],["let","i",{"do":["add",{"v":"i"},1]}],
+    ["call","x","echo",0]]]],
 "deadline":[["timer","t",1000000],
     ["while",true,[["event","h","go"],["any","x",{"list":[{"v":"h"},{"v":"t"}]}]]]],
 "sections":[["while",true,[["lock",[["Pot","a"]],[["ask","h","Pot","a","put",0],["await","x",{"v":"h"}]]]]]],

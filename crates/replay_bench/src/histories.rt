@@ -16,6 +16,10 @@ pub enum Going {
     Raises,
     /// Events that nobody listens for, and then as many that it listens for.
     KeptRaises,
+    /// Events of many names that nobody listens for, each before one that it listens for.
+    Unheard,
+    /// The results of the calls between which it starts flows, and then those of the flows.
+    Children,
     /// Events before it listens, and then the results of the calls between which it does.
     Backlog,
     /// The grant of a task, and the result of the next one.
@@ -27,8 +31,10 @@ pub fn going_of(flow: &str) -> Result<Going> {
     match flow {
         "calls" | "asks" | "fan" => Ok(Going::Results),
         "timers" => Ok(Going::Timers),
-        "events" | "deadline" => Ok(Going::Raises),
+        "events" | "deadline" | "listeners" => Ok(Going::Raises),
         "kept" => Ok(Going::KeptRaises),
+        "unheard" => Ok(Going::Unheard),
+        "children" => Ok(Going::Children),
         "backlog" => Ok(Going::Backlog),
         "sections" => Ok(Going::Sections),
         _ => bail!("no such flow"),
@@ -59,6 +65,21 @@ fn make_event(alloc: Global, going: Going, number: u32, events: u32) -> Result<E
         Going::KeptRaises => {
             let name = if number < events / 2 { "stop" } else { "go" };
             make_raise(alloc, name, number)
+        }
+        Going::Unheard => {
+            if number % 2 == 0 {
+                make_raise(alloc, format!(in alloc; "n{number}")?.as_str(), number)
+            } else {
+                make_raise(alloc, "go", number)
+            }
+        }
+        Going::Children => {
+            let late = number.saturating_sub(events / 2);
+            if number < events / 2 {
+                Ok(make_result(number.saturating_mul(2).saturating_add(1)))
+            } else {
+                Ok(make_result(late.saturating_mul(2)))
+            }
         }
         Going::Backlog => {
             let late = number.saturating_sub(events / 2);

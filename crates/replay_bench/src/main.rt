@@ -20,8 +20,19 @@ use std::alloc::Global;
 use std::env;
 
 /// Flows that are replayed when no words say which.
-const REPLAYED: [&str; 9] = [
-    "calls", "asks", "timers", "events", "deadline", "kept", "backlog", "sections", "fan",
+const REPLAYED: [&str; 12] = [
+    "calls",
+    "asks",
+    "timers",
+    "events",
+    "deadline",
+    "kept",
+    "unheard",
+    "listeners",
+    "children",
+    "backlog",
+    "sections",
+    "fan",
 ];
 
 /// Runs instances of `count`, each in one go.
@@ -46,7 +57,10 @@ fn take_steps(alloc: Global, argument: i64, times: u32) -> Result<()> {
 fn replay_often(alloc: Global, name: &str, events: u32, times: u32) -> Result<()> {
     let flows = make_flows(alloc)?;
     let going = going_of(name)?;
-    let flow = if name == "kept" { "events" } else { name };
+    let flow = match name {
+        "kept" | "unheard" => "events",
+        other => other,
+    };
     let body = find_body(alloc, &flows, flow)?;
     let id = Id::read(alloc, b"flow/x")?;
     let history = make_history(alloc, going, events)?;
