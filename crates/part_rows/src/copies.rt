@@ -19,7 +19,11 @@ fn copy_body(body: &Body) -> Result<Body, AllocError>
 {
     Ok(match body {
         Body::Start(argument, reply) => Body::Start(copy_value(argument)?, copy_reply(reply)),
-        Body::Raise(name, value, number) => Body::Raise(copy_name(name)?, copy_value(value)?, *number),
+        Body::Raise(name, value, number) => Body::Raise(
+            copy_name(name)?,
+            copy_value(value)?,
+            *number,
+        ),
         Body::Query(number) => Body::Query(*number),
         Body::Wait(number) => Body::Wait(*number),
         Body::Result(reply, answer) => Body::Result(copy_reply(reply), copy_answer(answer)?),

@@ -8,9 +8,9 @@ ghost use Rattle.dura_model.specs.Steps.{number_in, is_asking, is_request};
 ghost use Rattle.part_rows.specs.Accepts.{Accepts, accepted_request};
 ghost use Rattle.part_rows.specs.Parts.{part_of};
 
+use crate::copies::{copy_answer, copy_message};
 use crate::parts::PartRows;
 use dura_value::{Answer, Body, Id, Message, Reply, home};
-use crate::copies::{copy_answer, copy_message};
 use flow_messages::copy_id;
 use std::alloc::{AllocError, Global};
 

@@ -1,41 +1,29 @@
 -- A batch that goes on.
 use Rattle.std.proofs.Common.{◌≡◌, ◌∙◌, ◌<◌, ◌==◌, ◌+◌, length, arith, ℕ, true, List, [], ◌∷◌, ◌++◌, map, Option, Some, None, refl, ap, sym, subst}
-use Rattle.std.specs.Prelude.{is_some}
 use Rattle.std.proofs.lemmas.List.{map-append, length-map, length-append}
-use Rattle.dura_value.specs.Items.{Item, took, got, ran, ended, fired, trim}
+use Rattle.dura_value.specs.Items.{Item}
 use Rattle.dura_value.specs.declared.outputs.Outputs as made_outputs
 use Rattle.flow_syntax.specs.Syntax.{Flows}
 use Rattle.part_items.specs.Plain.{item_of, items_of}
 use Rattle.part_items.specs.declared.items.Item as own
-use Rattle.dura_model.specs.Partition.{Partition, label_in, accepted}
-use Rattle.dura_model.proofs.Kept.{label_comes}
+use Rattle.dura_model.specs.Partition.{Partition, accepted}
 use Rattle.part_steps.specs.declared.batch.Batch.{Batch}
 use Rattle.part_steps.specs.declared.state.PartState.{PartState}
 use Rattle.part_steps.specs.Batches.{HasMore, IsOver}
-use Rattle.part_steps.specs.Enabled.{moment_at, is_at, NoneEnabled, Makes, nothing, one_more}
+use Rattle.part_steps.specs.Enabled.{moment_at, NoneEnabled, Makes, nothing, one_more}
 use Rattle.part_steps.specs.Outputs.{Outputs, outputs_by, outputs_of}
 use Rattle.part_steps.specs.States.{IsSound, state_of, count_of}
 
--- what is possible by itself is a label
-is_label : (item : Item) (moment : ℕ) → is_at item moment ≡ true → is_some (label_in item) ≡ true
-is_label (ran from to stamp) moment is = refl
-is_label (fired id task stamp) moment is = refl
-is_label (took message) moment is = absurd (cc is)
-is_label (got source number message) moment is = absurd (cc is)
-is_label (ended id task outcome) moment is = absurd (cc is)
-is_label (trim reader number) moment is = absurd (cc is)
-
-pub one_item_more : (flows : Flows) (old new : Batch) (item : own.Item) (made : made_outputs.Outputs) (state : PartState) (moment : ℕ) → IsSound old.state → 0 < (state_of old.state).position → is_at (item_of item) moment ≡ true
-    → accepted flows (count_of old.state) (state_of old.state) (item_of item) ≡ Some (state_of state) → outputs_of made ≡ outputs_by flows (state_of old.state) (item_of item) → count_of state ≡ count_of old.state → IsSound state
+pub one_item_more : (flows : Flows) (old new : Batch) (item : own.Item) (made : made_outputs.Outputs) (state : PartState)
+    → accepted flows (count_of old.state) (state_of old.state) (item_of item) ≡ Some (state_of state) → outputs_of made ≡ outputs_by flows (state_of old.state) (item_of item) → count_of state ≡ count_of old.state → (state_of state).position ≡ (state_of old.state).position → IsSound state
     → new.state ≡ state → new.items.items ≡ old.items.items ++ item ∷ [] → new.outputs.items ≡ old.outputs.items ++ made ∷ [] → HasMore flows old new
-one_item_more flows old new item made state moment sound begun at taken made_is count_is sound_too state_is items_is outputs_is = record {
+one_item_more flows old new item made state taken made_is count_is position_is sound_too state_is items_is outputs_is = record {
   item = item_of item;
   items = ap items_of items_is ∙ map-append item_of old.items.items (item ∷ []);
   outputs = ap (map outputs_of) outputs_is ∙ map-append outputs_of old.outputs.items (made ∷ []) ∙ ap (λ (o : _). map outputs_of old.outputs.items ++ o ∷ []) made_is;
   taken = taken ∙ ap (λ (s : PartState). Some (state_of s)) (sym state_is);
   partitions = ap count_of state_is ∙ count_is;
-  position = ap (λ (s : PartState). (state_of s).position) state_is
-      ∙ (label_comes flows (count_of old.state) old.state.rows.number (item_of item) (state_of old.state) (state_of state) (is_label (item_of item) moment at) sound.below sound.belongs begun taken).position;
+  position = ap (λ (s : PartState). (state_of s).position) state_is ∙ position_is;
   sound = subst IsSound (sym state_is) sound_too;
 }
 

@@ -65,9 +65,9 @@ module _ (flows : Flows) (count : ℕ) (p : Partition) (from to : Id) (stamp : �
   run_accepts mid new sender receiver body takes found mid_is sender_is receiver_is is =
       delivered body (sym found) takes
       ∙ sym (ap Some (is
-        ∙ ap (λ (q : Partition). reached flows count (raised_to stamp q) sender receiver stamp body) mid_is
-        ∙ ap (λ (f : Id). reached flows count left f receiver stamp body) sender_is
-        ∙ ap (λ (t : Id). reached flows count left from t stamp body) receiver_is))
+      ∙ ap (λ (q : Partition). reached flows count (raised_to stamp q) sender receiver stamp body) mid_is
+      ∙ ap (λ (f : Id). reached flows count left f receiver stamp body) sender_is
+      ∙ ap (λ (t : Id). reached flows count left from t stamp body) receiver_is))
 
   -- what it makes then
   same_sent : (to : Id) (body : Body) → sent_to flows left from to stamp body ≡ sent_to flows p from to stamp body

@@ -63,7 +63,7 @@ module _ (count place : ℕ) (p : Partition) (b : Belongs count place p) (now : 
         (ap (λ (r : Option Row). fires_at r (p.timers id task) (moment_at p now)) is
         ∙ ap (λ (timer : Option ℕ). fires_at (Some row) timer (moment_at p now)) pending
         ∙ and_true (nat_le due (moment_at p now)) (nat_le row.stamp (moment_at p now)) (le-leb due (moment_at p now) in_time)
-          (le-leb row.stamp (moment_at p now) (let low = row_low id (Some row) is in omega (arith, low, moment_late))))
+        (le-leb row.stamp (moment_at p now) (let low = row_low id (Some row) is in omega (arith, low, moment_late))))
         (ap (option_map (instance_in flows id)) is);
   }
 

@@ -53,9 +53,9 @@ module _ (flows : Flows) (count : ℕ) (p : Partition) (id : Id) (task : ℕ) wh
         ap (λ (x : Option Orchestration). ended_in flows count p id task outcome x (p.activities id task)) there
         ∙ over_by o (p.activities id task) pending
         ∙ sym (ap Some (is
-          ∙ ap (λ (k : ℕ). after_answer k mid o answer) count_is
-          ∙ ap (λ (q : Partition). after_answer count q o answer) mid_is
-          ∙ ap (after_answer count over_left o) answer_is))
+        ∙ ap (λ (k : ℕ). after_answer k mid o answer) count_is
+        ∙ ap (λ (q : Partition). after_answer count q o answer) mid_is
+        ∙ ap (after_answer count over_left o) answer_is))
 
     pub over_outputs : (o : Orchestration) (answer : Answer) (made : Outputs) → instance_at flows p id ≡ Some o → answer ≡ answer_of outcome → made ≡ alone (goes_on_from o (resulted task answer) o.machine.last []).sent
         → made ≡ outputs_by flows p (ended id task outcome)
@@ -101,8 +101,8 @@ module _ (flows : Flows) (count : ℕ) (p : Partition) (id : Id) (task : ℕ) wh
     timer_fires o again mid left new is there mid_is left_is count_is new_is =
         fires o is there
         ∙ sym (ap Some (new_is
-          ∙ ap (λ (k : ℕ). after_timer k left o) count_is
-          ∙ ap (λ (q : Partition). after_timer count q o) (left_is ∙ ap (raised_to stamp) mid_is)))
+        ∙ ap (λ (k : ℕ). after_timer k left o) count_is
+        ∙ ap (λ (q : Partition). after_timer count q o) (left_is ∙ ap (raised_to stamp) mid_is)))
 
     pub fired_outputs : (o : Orchestration) (made : Outputs) → instance_at flows p id ≡ Some o → made ≡ alone (goes_on_from o (timer_fired task) stamp []).sent → made ≡ outputs_by flows p (fired id task stamp)
     fired_outputs o made there is = is ∙ sym (ap (λ (x : Option Orchestration). alone (sent_at_timer x task stamp)) there)

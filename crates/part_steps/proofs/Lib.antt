@@ -5,5 +5,6 @@ pub mod Delivering
 pub mod Enabling
 pub mod Ending
 pub mod EventsOf
+pub mod Looking
 pub mod PutBack
 pub mod Sound

@@ -32,7 +32,7 @@ entity_put_back flows old middle new class from to stamp body kept e after kept_
     ∙ ap (λ (m : Partition). record m { entities = at_id m.entities to (Some after) }) middle_is
     ∙ ap (λ (f : Id → Option Entity). record old { entities = f }) (set_again old.entities to (Some after) None)
     ∙ ap (λ (x : Entity). record old { entities = at_id old.entities to (Some x) })
-      (after_is ∙ ap (λ (y : Entity). (deliver_to flows y class from to body).entity) (e_is ∙ ap (λ (k : Option Entity). record (entity_of flows class k) { last = stamp }) kept_is))
+    (after_is ∙ ap (λ (y : Entity). (deliver_to flows y class from to body).entity) (e_is ∙ ap (λ (k : Option Entity). record (entity_of flows class k) { last = stamp }) kept_is))
 
 pub reached_by : (flows : Flows) (count : ℕ) (p new : Partition) (from to : Id) (stamp : ℕ) (body : Body) (o : Option Orchestration) (event : Option Event) (e : Effect)
     → o ≡ instance_at flows p to → event ≡ event_of flows o from to body → e ≡ to_instance flows o from to stamp body → new ≡ stands_in count p to stamp event e → new ≡ instance_reached flows count p from to stamp body

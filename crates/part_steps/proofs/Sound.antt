@@ -1,12 +1,15 @@
 -- The state of a partition stays sound.
-use Rattle.std.proofs.Common.{◌≡◌, ◌∙◌, ◌<◌, ◌≤◌, ℕ, Option, Some, None, refl, ap, sym, subst}
+use Rattle.std.proofs.Common.{◌≡◌, ◌∙◌, ◌==◌, ◌&&◌, ◌+◌, ◌++◌, ◌∷◌, [], length, cond, Bool, ◌<◌, ◌≤◌, ℕ, Option, Some, None, refl, ap, sym, subst}
 use Rattle.flow_syntax.specs.Syntax.{Flows}
-use Rattle.dura_value.specs.Items.{Item}
+use Rattle.std.specs.Prelude.{not, nat_lt, nat_le}
+use Rattle.dura_value.specs.Ids.{home}
+use Rattle.dura_value.specs.Items.{Item, took, got, ran, ended, fired, trim}
 use Rattle.timer_row.specs.Timers.{InOrder}
-use Rattle.dura_model.specs.Partition.{Partition, fresh, enter, accepted}
+use Rattle.dura_model.specs.Partition.{Partition, fresh, enter, entry_of, with_inbox, with_first, accepted}
 use Rattle.dura_model.specs.Placed.{Belongs, AreOfInstances}
-use Rattle.dura_model.proofs.Kept.{item_belongs, fresh_belongs}
+use Rattle.dura_model.proofs.Kept.{item_belongs, fresh_belongs, label_comes}
 use Rattle.dura_model.proofs.Belonging.{enter_belongs}
+use Rattle.dura_model.proofs.Basics.{passed}
 use Rattle.dura_model.proofs.Owned.{item_owned, fresh_owned}
 use Rattle.part_rows.specs.Parts.{part_of}
 use Rattle.part_rows.specs.declared.parts.PartRows.{PartRows}
@@ -52,3 +55,19 @@ refused_sound old new sound order partitions seen =
           (subst (λ (p : Partition). Belongs old.partitions old.number p) (sym seen) sound.belongs));
       owned = subst AreOfInstances (sym seen) sound.owned;
     }
+
+came_in : (test : Bool) (after next : Partition) (was : ℕ) → after.position ≡ was → cond test (Some after) None ≡ Some next → next.position ≡ was
+came_in test after next was same is = sym (ap (λ (p : Partition). p.position) (passed test after next is).1) ∙ same
+
+-- an item leaves the partition in its entry
+pub same_entry : (flows : Flows) (count place : ℕ) (item : Item) (q next : Partition) → place < count → Belongs count place q → 0 < q.position → accepted flows count q item ≡ Some next → next.position ≡ q.position
+same_entry flows count place (took message) q next below belongs begun is = (label_comes flows count place (took message) q next refl below belongs begun is).position
+same_entry flows count place (ran from to stamp) q next below belongs begun is = (label_comes flows count place (ran from to stamp) q next refl below belongs begun is).position
+same_entry flows count place (ended id task outcome) q next below belongs begun is = (label_comes flows count place (ended id task outcome) q next refl below belongs begun is).position
+same_entry flows count place (fired id task stamp) q next below belongs begun is = (label_comes flows count place (fired id task stamp) q next refl below belongs begun is).position
+same_entry flows count place (got source number message) q next below belongs begun is =
+    came_in (not (source.partition == q.number) && (nat_lt source.partition count && (number == (q.inboxes source.partition).next && home count message.to == q.number)))
+    (record q { queue = q.queue ++ message ∷ []; inboxes = with_inbox q.inboxes source.partition (record { next = number + 1; reader = entry_of q }) }) next q.position refl is
+same_entry flows count place (trim reader number) q next below belongs begun is =
+    came_in (not (reader.partition == q.number) && (nat_lt reader.partition count && nat_le number ((q.outboxes reader.partition).first + length (q.outboxes reader.partition).messages)))
+    (record q { outboxes = with_first q.outboxes reader.partition number }) next q.position refl is

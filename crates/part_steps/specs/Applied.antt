@@ -13,8 +13,8 @@ abbrev pub Applied : Option seen.Outputs → (old now : Partition) → Option Pa
 Applied None old now wanted outputs = (wanted ≡ None) × (now ≡ old)
 Applied (Some made) old now wanted outputs = (wanted ≡ Some now) × (outputs_of made ≡ outputs)
 
--- What came of an item: a sound state among as many, which is the one that it makes and with its outputs; or the same state, where
--- it isn't accepted.
+-- What came of an item: a sound state among as many and in the same entry, which is the one that it makes and with its outputs; or
+-- the same state, where it isn't accepted.
 abbrev pub Becomes : Verdict → (old : PartState) → Option Partition → Outputs → Type 0
-Becomes (verdicts.Accepted state made) old wanted outputs = (wanted ≡ Some (state_of state)) × (outputs_of made ≡ outputs) × (count_of state ≡ count_of old) × IsSound state
+Becomes (verdicts.Accepted state made) old wanted outputs = (wanted ≡ Some (state_of state)) × (outputs_of made ≡ outputs) × (count_of state ≡ count_of old) × ((state_of state).position ≡ (state_of old).position) × IsSound state
 Becomes (verdicts.Refused state) old wanted outputs = (wanted ≡ None) × (state_of state ≡ state_of old) × (count_of state ≡ count_of old) × IsSound state

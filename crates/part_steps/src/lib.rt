@@ -1,13 +1,14 @@
-//! What a message makes of an instance, as an instance kept by its history and those who wait for its end.
+//! The state of a partition, and what an item makes of it. Instances are kept by their histories, and a delivery to one replays its.
 //!
-//! - `instance`: an instance, and what a delivery or an event made of it.
-//! - `answers`: the messages that answer who asked.
-//! - `deliveries`: a message to an instance.
-//! - `ends`: what follows an event, with the answers at an end.
-//! - `absent`, `present`: each kind of message to an instance that isn't there, or is.
-//! - `keeping`: an instance is kept as a delivery or an event made it. `reaching`: a message reaches its receiver.
-//! - `events`: which messages are events of an instance's history.
-//! - `specs/Views`: the plain data that these stand for.
+//! - `state`: the state of a partition (`PartState`): an item is applied, and what is possible now. `looks`: what the engine reads
+//!   off it. `batch`: the items that are possible by themselves, one after another.
+//! - `applying`: what each kind of item makes of all that a partition knows. `reaching`: a message reaches its receiver.
+//!   `keeping`: an instance is kept as a delivery or an event made it.
+//! - `instance`: an instance, and what a delivery or an event made of it. `deliveries`: a message to an instance.
+//! - `absent`, `present`: each kind of message to an instance that isn't there, or is. `events`: which messages are events of an
+//!   instance's history. `ends`: what follows an event, with the answers at an end. `answers`: the messages that answer who asked.
+//! - `specs/States` says what a state needs, `specs/Applied` what came of an item, `specs/Outputs` what it makes for the outside,
+//!   and `specs/Enabled` what is possible; `specs/Views`: the plain data that these stand for.
 #![tactic(auto)]
 
 mod absent;
@@ -19,6 +20,7 @@ mod ends;
 mod events;
 mod instance;
 mod keeping;
+mod looks;
 mod present;
 mod reaching;
 mod state;

@@ -64,12 +64,7 @@ impl PartState {
     }
 
     /// An item of the entry that has begun is applied, where it is legal.
-    pub fn apply(
-        self,
-        alloc: Global,
-        flows: &Flows,
-        item: &Item,
-    ) -> Result<Verdict, AllocError>
+    pub fn apply(self, alloc: Global, flows: &Flows, item: &Item) -> Result<Verdict, AllocError>
         requires sound { IsSound self }
         requires begun { 0 < (state_of self).position }
         ensures { IfOk result (λ verdict. Becomes verdict self (accepted (flows_of flows.now) (count_of self) (state_of self) (item_of item.now)) (outputs_by (flows_of flows.now) (state_of self) (item_of item.now))) }
@@ -102,11 +97,7 @@ impl PartState {
     {
         let moment = self.moment(now);
         if let Some(message) = self.rows.first_open() {
-            return Ok(Some(Item::Ran(
-                copy_id(&message.from)?,
-                copy_id(&message.to)?,
-                moment,
-            )));
+            return Ok(Some(Item::Ran(copy_id(&message.from)?, copy_id(&message.to)?, moment)));
         }
         match self.rows.timers.due(moment) {
             Some(timer) => Ok(Some(Item::Fired(copy_id(&timer.id)?, timer.task, moment))),

@@ -14,7 +14,8 @@ returns-clause-applied c =
     let id = id_of c.args.id.now in
     let o = instance_of c.in-Some.instance in
     let there = sym c.in_ok-instance.ensures ∙ ap (option_map instance_of) c.in-Some.is in
-    let answer = answer_of c.in_ok-answer_of.field-0 in
-    (over (flows_of c.args.flows.now) c.args.rows.now.partitions was id c.args.task c.args.outcome.now o c.drop_activity.new.rows.partitions (part_of c.drop_activity.new.rows) (part_of c.go_on.new.rows) answer
-      there (sym c.is_pending.ensures ∙ c.if-not-is_pending.false) c.drop_activity.ensures.dropped c.drop_activity.ensures.partitions c.in_ok-answer_of.ensures c.in_ok-made.ensures.stands,
-    over_outputs (flows_of c.args.flows.now) c.args.rows.now.partitions was id c.args.task c.args.outcome.now o answer (outputs_of c.in_ok-made.made) there c.in_ok-answer_of.ensures c.in_ok-made.ensures.outputs)
+    let answer = answer_of c.in_ok-answer_of.field-0 in (
+      over (flows_of c.args.flows.now) c.args.rows.now.partitions was id c.args.task c.args.outcome.now o c.drop_activity.new.rows.partitions (part_of c.drop_activity.new.rows) (part_of c.go_on.new.rows) answer
+          there (sym c.is_pending.ensures ∙ c.if-not-is_pending.false) c.drop_activity.ensures.dropped c.drop_activity.ensures.partitions c.in_ok-answer_of.ensures c.in_ok-made.ensures.stands,
+      over_outputs (flows_of c.args.flows.now) c.args.rows.now.partitions was id c.args.task c.args.outcome.now o answer (outputs_of c.in_ok-made.made) there c.in_ok-answer_of.ensures c.in_ok-made.ensures.outputs,
+    )

@@ -13,7 +13,8 @@ returns-clause-applied c =
     let was = part_of c.args.rows.now in
     let id = id_of c.args.id.now in
     let o = instance_of c.in-Some.instance in
-    let there = sym c.in_ok-instance.ensures ∙ ap (option_map instance_of) c.in-Some.is in
-    (timer_fires (flows_of c.args.flows.now) c.args.rows.now.partitions was id c.args.task c.args.stamp o c.raise_to.new.self.partitions (part_of c.take_timer.new.self) (part_of c.raise_to.new.self) (part_of c.go_on.new.rows)
-      (sym c.may_fire.ensures ∙ c.if-not-may_fire.false) there c.in_ok-take_timer.ensures.taken c.raise_to.ensures.raised (c.raise_to.ensures.partitions ∙ c.in_ok-take_timer.ensures.partitions) c.in_ok-made.ensures.stands,
-    fired_outputs (flows_of c.args.flows.now) c.args.rows.now.partitions was id c.args.task c.args.stamp o (outputs_of c.in_ok-made.made) there c.in_ok-made.ensures.outputs)
+    let there = sym c.in_ok-instance.ensures ∙ ap (option_map instance_of) c.in-Some.is in (
+      timer_fires (flows_of c.args.flows.now) c.args.rows.now.partitions was id c.args.task c.args.stamp o c.raise_to.new.self.partitions (part_of c.take_timer.new.self) (part_of c.raise_to.new.self) (part_of c.go_on.new.rows)
+          (sym c.may_fire.ensures ∙ c.if-not-may_fire.false) there c.in_ok-take_timer.ensures.taken c.raise_to.ensures.raised (c.raise_to.ensures.partitions ∙ c.in_ok-take_timer.ensures.partitions) c.in_ok-made.ensures.stands,
+      fired_outputs (flows_of c.args.flows.now) c.args.rows.now.partitions was id c.args.task c.args.stamp o (outputs_of c.in_ok-made.made) there c.in_ok-made.ensures.outputs,
+    )

@@ -16,12 +16,12 @@ pub returns-clause-outputs : goal.returns-clause-outputs
 returns-clause-outputs c =
     let o = instance_of c.args.instance in
     let effect : effect_of c.in_ok-effect.effect ≡ goes_on_from o (event_of c.args.event) c.args.stamp [] =
-        c.in_ok-effect.ensures ∙ ap (λ before. goes_on_from o (event_of c.args.event) c.args.stamp (messages_of before)) c.new.ensures.items in
+    c.in_ok-effect.ensures ∙ ap (λ before. goes_on_from o (event_of c.args.event) c.args.stamp (messages_of before)) c.new.ensures.items in
     c.sent_alone.ensures ∙ ap alone (c.in_ok-sent.ensures.sent ∙ ap (λ (e : Effect). e.sent) effect)
 
 pub returns-clause-stands : goal.returns-clause-stands
 returns-clause-stands c =
     let o = instance_of c.args.instance in
     let effect : effect_of c.in_ok-effect.effect ≡ goes_on_from o (event_of c.args.event) c.args.stamp [] =
-        c.in_ok-effect.ensures ∙ ap (λ before. goes_on_from o (event_of c.args.event) c.args.stamp (messages_of before)) c.new.ensures.items in
+    c.in_ok-effect.ensures ∙ ap (λ before. goes_on_from o (event_of c.args.event) c.args.stamp (messages_of before)) c.new.ensures.items in
     c.in_ok-sent.ensures.stands ∙ ap (stands_in c.args.rows.now.partitions (part_of c.args.rows.now) (id_of c.args.id.now) c.args.stamp (Some (event_of c.args.event))) effect

@@ -1,0 +1,54 @@
+//! What the engine reads off the state of a partition.
+
+ghost use Rattle.std.specs.Prelude.{◌≡◌, ℕ, Some, None, is_some, IsSome, IfSome, IfNone, option_map};
+ghost use Rattle.dura_value.specs.Views.{id_of, answer_of};
+ghost use Rattle.timer_row.specs.Timers.{IsNext, NoTimer};
+ghost use Rattle.part_rows.specs.Views.{activity_of};
+ghost use Rattle.part_steps.specs.States.{IsSound, state_of};
+
+use crate::state::PartState;
+use dura_value::{Answer, Id};
+use part_rows::Activity;
+
+impl PartState {
+    /// Whether a request of a client was taken.
+    pub fn has_taken(&self, client: &Id, number: u32) -> bool
+        ensures { result ≡ is_some ((state_of self.now).taken (id_of client.now) number) }
+    {
+        self.rows.has_taken(client, number)
+    }
+
+    /// The answer to a request of a client, if it came.
+    #[tactic(auto, using(crate::proofs::Looking::seen_through))]
+    pub fn answer(&self, client: &Id, number: u32) -> Option<&Answer>
+        ensures { option_map (λ answer. answer_of answer.now) result ≡ (state_of self.now).answers (id_of client.now) number }
+    {
+        self.rows.answers.get(client, number)
+    }
+
+    /// The activity of an instance's task, if it is pending.
+    #[tactic(auto, using(crate::proofs::Looking::seen_through))]
+    pub fn activity(&self, id: &Id, task: u32) -> Option<&Activity>
+        ensures { option_map (λ activity. activity_of activity.now) result ≡ (state_of self.now).activities (id_of id.now) task }
+    {
+        self.rows.activities.get(id, task)
+    }
+
+    /// The first of an instance's tasks whose activity is pending.
+    #[tactic(auto, using(crate::proofs::Looking::seen_there, crate::proofs::Looking::seen_nowhere))]
+    pub fn pending_task(&self, id: &Id) -> Option<u32>
+        ensures there { IfSome result (λ task. IsSome ((state_of self.now).activities (id_of id.now) task)) }
+        ensures none { IfNone result ((task : ℕ) → (state_of self.now).activities (id_of id.now) task ≡ None) }
+    {
+        self.rows.activities.first_of(id)
+    }
+
+    /// The moment at which the first timer is due.
+    pub fn next_timer(&self) -> Option<u64>
+        requires { IsSound self.now }
+        ensures next { IfSome result (λ due. IsNext (state_of self.now).timers due) }
+        ensures none { IfNone result (NoTimer (state_of self.now).timers) }
+    {
+        self.rows.timers.next()
+    }
+}
