@@ -58,15 +58,17 @@ fn wait<'f>(
 ) -> Result<Effect<'f>, AllocError>
     ensures { IfOk result (λ e. effect_of e ≡ waited (instance_of instance.entry).machine (instance_of instance.entry).waiting (id_of from.now) (id_of to.now) number (ending (instance_of instance.entry).machine.progress)) }
 {
-    let mut sent = Vec::new(alloc);
     match end_answer(&instance.machine.progress)? {
-        Some(answer) => sent = tell(alloc, to, from, number, answer)?,
-        None => instance.waiting.push(Waiting {
-            client: copy_id(from)?,
-            number,
-        })?,
+        Some(answer) => {
+            let sent = tell(alloc, to, from, number, answer)?;
+            Ok(stay(alloc, instance, sent))
+        }
+        None => {
+            let client = copy_id(from)?;
+            instance.waiting.push(Waiting { client, number })?;
+            Ok(stay(alloc, instance, Vec::new(alloc)))
+        }
     }
-    Ok(stay(alloc, instance, sent))
 }
 
 /// A raise of an event.
