@@ -1,5 +1,5 @@
 -- A batch that goes on.
-use Rattle.std.proofs.Common.{◌≡◌, ◌∙◌, ◌<◌, ◌==◌, ◌+◌, length, arith, ℕ, true, List, [], ◌∷◌, ◌++◌, map, Option, Some, None, refl, ap, sym, subst}
+use Rattle.std.proofs.Common.{◌≡◌, ◌∙◌, ◌<◌, ◌+◌, length, arith, ℕ, List, [], ◌∷◌, ◌++◌, map, Some, ap, sym, subst}
 use Rattle.std.proofs.lemmas.List.{map-append, length-map, length-append}
 use Rattle.dura_value.specs.Items.{Item}
 use Rattle.dura_value.specs.declared.outputs.Outputs as made_outputs

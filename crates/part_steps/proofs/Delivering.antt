@@ -1,16 +1,15 @@
 -- When the first message of a link is delivered, and what it makes then.
-use Rattle.std.proofs.Common.{◌≡◌, ◌∙◌, ◌&&◌, ℕ, Bool, true, false, List, [], cond, Option, Some, None, refl, ap, sym, arith}
+use Rattle.std.proofs.Common.{◌≡◌, ◌∙◌, ◌&&◌, ℕ, Bool, true, false, List, cond, Option, Some, None, refl, ap, sym, arith}
 use Rattle.std.specs.Prelude.{nat_le}
 use Rattle.std.proofs.lemmas.Bool.{le-leb}
 use Rattle.dura_value.specs.Ids.{Id, orchestration, entity, client}
 use Rattle.dura_value.specs.Items.{ran}
 use Rattle.dura_value.specs.Messages.{Reply, to_nobody, to_task, to_request, Answer, Body, start, raise, query, wait, result, operate, lock, granted, release, Message}
 use Rattle.flow_syntax.specs.Syntax.{Flows}
-use Rattle.flow_syntax.specs.Entity.{Entity, takes, deliver as deliver_to}
-use Rattle.dura_model.specs.Deliveries.{to_instance}
+use Rattle.flow_syntax.specs.Entity.{Entity, takes}
 use Rattle.dura_model.specs.Steps.{entity_of}
-use Rattle.dura_model.specs.Partition.{Partition, raised_to, first_in, without_first, last_in, instance_at, event_of, stands_in, entity_after, entity_received, received_in, delivered_in, accepted}
-use Rattle.part_rows.specs.Open.{takes_from, lets_in, last_of_entity, last_at}
+use Rattle.dura_model.specs.Partition.{Partition, raised_to, first_in, without_first, last_in, received_in, delivered_in, accepted}
+use Rattle.part_rows.specs.Open.{takes_from, last_of_entity}
 use Rattle.part_steps.specs.Outputs.{Answered, Outputs, sent_to, sent_at, answered_to, outputs_by}
 use Rattle.part_steps.specs.Reached.{takes_at, entity_reached, reached}
 

@@ -1,6 +1,6 @@
 -- When an activity is over or a timer fires, and what it makes then.
-use Rattle.std.proofs.Common.{◌≡◌, ◌∙◌, ◌&&◌, ℕ, Bool, true, false, List, [], cond, Option, Some, None, refl, ap, sym}
-use Rattle.std.specs.Prelude.{nat_le, is_some, option_map}
+use Rattle.std.proofs.Common.{◌≡◌, ◌∙◌, ℕ, Bool, true, false, List, [], cond, Option, Some, None, refl, ap, sym}
+use Rattle.std.specs.Prelude.{is_some, option_map}
 use Rattle.dura_value.specs.declared.outcome.Outcome.{Outcome}
 use Rattle.dura_value.specs.Ids.{Id}
 use Rattle.dura_value.specs.Items.{ended, fired}

@@ -1,5 +1,5 @@
 -- What is seen through two views is seen through both.
-use Rattle.std.proofs.Common.{◌≡◌, ◌∙◌, ℕ, Option, Some, None, refl, ap}
+use Rattle.std.proofs.Common.{◌≡◌, ℕ, Option, Some, None, ap}
 use Rattle.std.specs.Prelude.{option_map, IsSome}
 
 pub seen_through : {X Y Z : Type 0} (f : X → Y) (g : Y → Z) (x : Option X) (y : Option Y) → option_map f x ≡ y → option_map (λ v. g (f v)) x ≡ option_map g y

@@ -1,11 +1,11 @@
 -- A row that is taken out and put back.
-use Rattle.std.proofs.Common.{◌≡◌, ◌∙◌, ℕ, List, Option, Some, None, refl, ap, sym}
+use Rattle.std.proofs.Common.{◌≡◌, ◌∙◌, ℕ, List, Option, Some, None, ap, sym}
 use Rattle.std.specs.Prelude.{option_map}
-use Rattle.dura_value.specs.Ids.{Id, orchestration, entity, client}
-use Rattle.dura_value.specs.Messages.{Body, Message}
+use Rattle.dura_value.specs.Ids.{Id, entity}
+use Rattle.dura_value.specs.Messages.{Body}
 use Rattle.flow_syntax.specs.Syntax.{Flows}
 use Rattle.flow_syntax.specs.Machine.{Event}
-use Rattle.flow_syntax.specs.Entity.{Entity, Delivered, deliver as deliver_to}
+use Rattle.flow_syntax.specs.Entity.{Entity, deliver as deliver_to}
 use Rattle.dura_model.specs.World.{Orchestration, at_id}
 use Rattle.dura_model.specs.Deliveries.{Effect, to_instance}
 use Rattle.dura_model.specs.Steps.{entity_of}

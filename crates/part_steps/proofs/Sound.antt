@@ -1,5 +1,5 @@
 -- The state of a partition stays sound.
-use Rattle.std.proofs.Common.{◌≡◌, ◌∙◌, ◌==◌, ◌&&◌, ◌+◌, ◌++◌, ◌∷◌, [], length, cond, Bool, ◌<◌, ◌≤◌, ℕ, Option, Some, None, refl, ap, sym, subst}
+use Rattle.std.proofs.Common.{◌≡◌, ◌∙◌, ◌==◌, ◌&&◌, ◌+◌, ◌++◌, ◌∷◌, [], length, cond, Bool, ◌<◌, ◌≤◌, ℕ, Some, None, refl, ap, sym, subst}
 use Rattle.flow_syntax.specs.Syntax.{Flows}
 use Rattle.std.specs.Prelude.{not, nat_lt, nat_le}
 use Rattle.dura_value.specs.Ids.{home}

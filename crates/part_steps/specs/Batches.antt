@@ -1,9 +1,9 @@
 -- A batch that goes on.
-use Rattle.std.specs.Prelude.{◌≡◌, ℕ, List, [], ◌∷◌, ◌++◌, map, Some}
+use Rattle.std.specs.Prelude.{◌≡◌, ℕ, [], ◌∷◌, ◌++◌, map, Some}
 use Rattle.dura_value.specs.Items.{Item}
 use Rattle.flow_syntax.specs.Syntax.{Flows}
 use Rattle.part_items.specs.Plain.{items_of}
-use Rattle.dura_model.specs.Partition.{Partition, accepted}
+use Rattle.dura_model.specs.Partition.{accepted}
 use Rattle.part_steps.specs.declared.batch.Batch.{Batch}
 use Rattle.part_steps.specs.declared.batch.Turn.{Turn}
 use Rattle.part_steps.specs.declared.batch.Turn.TheVariants as turns

@@ -1,7 +1,7 @@
 -- What a partition can do by itself.
-use Rattle.std.specs.Prelude.{◌≡◌, ◌==◌, ℕ, Bool, true, false, Option, Some, None, List, [], ◌∷◌, ◌++◌}
+use Rattle.std.specs.Prelude.{◌≡◌, ◌==◌, ℕ, Bool, true, false, Some, None, List, [], ◌∷◌, ◌++◌}
 use Rattle.dura_value.specs.Ids.{Id}
-use Rattle.dura_value.specs.Items.{Item, took, got, ran, ended, fired, trim}
+use Rattle.dura_value.specs.Items.{Item, ran, fired}
 use Rattle.flow_syntax.specs.Syntax.{Flows}
 use Rattle.dura_model.specs.Partition.{Partition, raised_to, accepted}
 use Rattle.part_steps.specs.Outputs.{Outputs, outputs_by}

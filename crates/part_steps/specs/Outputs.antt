@@ -2,7 +2,7 @@
 use Rattle.std.specs.Prelude.{ℕ, List, [], ◌∷◌, map, Option, Some, None}
 use Rattle.dura_value.specs.declared.outcome.Outcome.{Outcome}
 use Rattle.dura_value.specs.Ids.{Id, orchestration, entity, client}
-use Rattle.dura_value.specs.Items.{Item, took, got, ran, ended, fired, trim}
+use Rattle.dura_value.specs.Items.{Item, took, ran, ended, fired}
 use Rattle.dura_value.specs.Messages.{to_request, Answer, Body, result, Message}
 use Rattle.dura_value.specs.Views.{answer_of as seen, messages_of}
 use Rattle.dura_value.specs.declared.outputs.Answered as seen_answers

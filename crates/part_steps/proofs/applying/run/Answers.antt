@@ -1,9 +1,8 @@
-use Rattle.std.proofs.Common.{◌≡◌, ◌∙◌, ap, sym}
+use Rattle.std.proofs.Common.{◌∙◌, ap, sym}
 use Rattle.dura_value.specs.Ids.{id_eq}
 use Rattle.dura_value.specs.Views.{id_of, body_of}
 use Rattle.dura_value.proofs.Ids.{both_true, id_same}
 use Rattle.flow_syntax.specs.Views.{flows_of}
-use Rattle.dura_model.specs.Partition.{Partition, without_first}
 use Rattle.part_rows.specs.Parts.{part_of}
 use Rattle.part_rows.specs.declared.parts.PartRows.{PartRows}
 use Rattle.part_steps.specs.Outputs.{outputs_of}

@@ -1,4 +1,4 @@
-use Rattle.std.proofs.Common.{◌≡◌, ◌∙◌, Option, subst}
+use Rattle.std.proofs.Common.{Option, subst}
 use Rattle.dura_value.specs.declared.outputs.Outputs.{Outputs}
 use Rattle.flow_syntax.specs.Views.{flows_of}
 use Rattle.part_items.specs.Plain.{item_of}

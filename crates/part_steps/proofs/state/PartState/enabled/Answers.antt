@@ -1,4 +1,4 @@
-use Rattle.std.proofs.Common.{◌≡◌, ◌∙◌, ℕ, ap, sym, subst}
+use Rattle.std.proofs.Common.{ℕ, ap, sym, subst}
 use Rattle.dura_value.specs.Ids.{Id}
 use Rattle.dura_value.specs.Items.{ran, fired}
 use Rattle.dura_value.specs.Views.{id_of}

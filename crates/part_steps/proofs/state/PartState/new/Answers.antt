@@ -1,4 +1,4 @@
-use Rattle.std.proofs.Common.{◌≡◌, ◌<◌, ◌∙◌, ℕ, subst, sym, ap}
+use Rattle.std.proofs.Common.{◌<◌, ℕ, subst, sym}
 use Rattle.part_steps.proofs.Sound.{fresh_sound}
 use Rattle.part_steps.proofs.state.PartState.new.Goals as goal
 
