@@ -1,0 +1,168 @@
+//! From bytes to a tree, in one pass over the tokens.
+
+ghost use Rattle.std.specs.Prelude.{◌≡◌, ◌<◌, IfOk, OnOk, length};
+ghost use Rattle.std.specs.Str.{IsUtf8};
+ghost use Rattle.json.specs.Reads.{token_of};
+ghost use Rattle.serde_json.specs.Read.{read};
+ghost use Rattle.json_tree.specs.Answers.{Finds, Takes};
+ghost use Rattle.json_tree.specs.Tokens.{data_in, items_in, leaf, members_in};
+ghost use Rattle.json_tree.specs.View.{items_view, members_view, view};
+ghost use Rattle.json_tree.specs.declared.reading.ReadError.TheVariants as errors;
+
+use crate::number::number_of;
+use crate::tree::{Member, Tree};
+use json::{Invalid, Reader, Scratch, Token};
+use std::alloc::{AllocError, AllocFailed, Global};
+use std::collections::BTreeMap;
+use thiserror::Error;
+
+/// How deep arrays and objects may nest.
+const MOST_LEVELS: usize = 127;
+
+/// Why bytes gave no tree.
+#[derive(Debug, Drop, Error)]
+pub enum ReadError {
+    /// They are no JSON.
+    #[error("no JSON")]
+    NotJson,
+    /// Memory ran out.
+    #[error("out of memory")]
+    Memory,
+}
+
+impl From<AllocError> for ReadError {
+    ghost from_gives = { λ _ e. e ≡ errors.Memory };
+
+    fn from(_error: AllocError) -> ReadError {
+        ReadError::Memory
+    }
+}
+
+impl<T: Drop> From<AllocFailed<T>> for ReadError {
+    ghost from_gives = { λ _ e. e ≡ errors.Memory };
+
+    fn from(_error: AllocFailed<T>) -> ReadError {
+        ReadError::Memory
+    }
+}
+
+impl From<Invalid> for ReadError {
+    ghost from_gives = { λ _ e. e ≡ errors.NotJson };
+
+    fn from(_error: Invalid) -> ReadError {
+        ReadError::NotJson
+    }
+}
+
+/// The same, with no room to spare.
+fn exactly<T: Drop>(alloc: Global, mut found: Vec<T>) -> Result<Vec<T>, AllocError>
+    ensures { IfOk result (λ kept. kept.items ≡ found.items) }
+{
+    let mut kept = Vec::with_capacity(alloc, found.len())?;
+    kept.append(&mut found)?;
+    Ok(kept)
+}
+
+/// What a token alone stands for.
+fn leaf(alloc: Global, token: Token<'_>) -> Result<Tree, ReadError>
+    ensures { Finds view result (leaf (token_of token.entry)) }
+{
+    match token {
+        Token::Null => Ok(Tree::Null),
+        Token::Bool(truth) => Ok(Tree::Bool(truth)),
+        Token::Number(text) => match number_of(text) {
+            Some(number) => Ok(Tree::Number(number)),
+            None => Err(ReadError::NotJson),
+        },
+        Token::String(text) => Ok(Tree::String(String::from_str(alloc, text)?)),
+        _ => Err(ReadError::NotJson),
+    }
+}
+
+/// The next value. Arrays and objects may nest so many levels deep.
+#[cycle(read)]
+#[tactic(auto, using(crate::proofs::Parts::array_began, crate::proofs::Parts::object_began, crate::proofs::Parts::too_deep_array, crate::proofs::Parts::too_deep_object, crate::proofs::Parts::nothing_left, crate::proofs::Parts::fails_around))]
+fn tree_in(alloc: Global, reader: &mut Reader<'_>, levels: usize) -> Result<Tree, ReadError>
+    ensures taken { Takes view result reader.new (data_in levels reader.old) }
+    ensures shorter { OnOk result (length reader.new < length reader.old) }
+{
+    let token = reader.next().ok_or(ReadError::NotJson)?;
+    match token {
+        Token::BeginArray => {
+            if levels == 0 {
+                return Err(ReadError::NotJson);
+            }
+            Ok(Tree::Array(items_in(alloc, reader, levels - 1)?))
+        }
+        Token::BeginObject => {
+            if levels == 0 {
+                return Err(ReadError::NotJson);
+            }
+            Ok(Tree::Object(members_in(alloc, reader, levels - 1)?))
+        }
+        _ => leaf(alloc, token),
+    }
+}
+
+/// The items up to the end of the array that began.
+#[cycle(read)]
+#[tactic(auto, using(crate::proofs::Items::begins, crate::proofs::Items::goes_on, crate::proofs::Items::ends, crate::proofs::Items::fails))]
+fn items_in(alloc: Global, reader: &mut Reader<'_>, levels: usize) -> Result<Vec<Tree>, ReadError>
+    ensures taken { Takes (λ found. items_view found.items) result reader.new (items_in levels reader.old) }
+    ensures shorter { OnOk result (length reader.new < length reader.old) }
+{
+    let mut found = Vec::new(alloc);
+    while !reader.take_end_array() {
+        let item = tree_in(alloc, reader, levels)?;
+        found.push(item)?;
+    }
+    Ok(exactly(alloc, found)?)
+}
+
+/// The members up to the end of the object that began. The map that sorts them is large, so it lives no longer.
+#[cycle(read)]
+#[tactic(auto, using(crate::proofs::Members::begins, crate::proofs::Members::goes_on, crate::proofs::Members::ends, crate::proofs::Members::no_key, crate::proofs::Members::fails))]
+fn members_in(
+    alloc: Global,
+    reader: &mut Reader<'_>,
+    levels: usize,
+) -> Result<Vec<Member>, ReadError>
+    ensures taken { Takes (λ found. members_view found.items) result reader.new (members_in levels reader.old) }
+    ensures shorter { OnOk result (length reader.new < length reader.old) }
+{
+    let mut found = BTreeMap::new(alloc);
+    while let Some(name) = reader.next_key()? {
+        let key = String::from_str(alloc, name)?;
+        let member = tree_in(alloc, reader, levels)?;
+        drop(found.insert(key, member)?);
+    }
+    Ok(entries_of(alloc, found)?)
+}
+
+/// The members in the order of their keys.
+fn entries_of(alloc: Global, found: BTreeMap<String, Tree>) -> Result<Vec<Member>, AllocError>
+    ensures { IfOk result (λ members. members.items ≡ found.entries) }
+{
+    let mut members = Vec::with_capacity(alloc, found.len())?;
+    for member in found {
+        members.push(member)?;
+    }
+    Ok(members)
+}
+
+/// The value that bytes are.
+pub fn read_tree(alloc: Global, bytes: &[u8]) -> Result<Tree, ReadError>
+    ensures utf8 { OnOk result (IsUtf8 bytes.now) }
+    ensures found { IsUtf8 bytes.now → Finds view result (read bytes.now) }
+{
+    let Ok(text) = str::from_utf8(bytes) else {
+        return Err(ReadError::NotJson);
+    };
+    let mut scratch = Scratch::new(alloc);
+    let mut reader = Reader::new(text, &mut scratch)?;
+    let tree = tree_in(alloc, &mut reader, MOST_LEVELS)?;
+    if reader.next().is_some() {
+        return Err(ReadError::NotJson);
+    }
+    Ok(tree)
+}
