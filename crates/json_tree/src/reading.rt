@@ -19,6 +19,9 @@ use thiserror::Error;
 /// How deep arrays and objects may nest.
 const MOST_LEVELS: usize = 127;
 
+/// More parts than this are cut to their size where they lie.
+const MANY: usize = 64;
+
 /// Why bytes gave no tree.
 #[derive(Debug, Drop, Error)]
 pub enum ReadError {
@@ -54,10 +57,14 @@ impl From<Invalid> for ReadError {
     }
 }
 
-/// The same, with no room to spare.
+/// The same, with no room to spare: a few parts are moved, since what is cut off a small block is seldom used again.
 fn exactly<T: Drop>(alloc: Global, mut found: Vec<T>) -> Result<Vec<T>, AllocError>
     ensures { IfOk result (λ kept. kept.items ≡ found.items) }
 {
+    if found.len() > MANY {
+        found.shrink_to_fit();
+        return Ok(found);
+    }
     let mut kept = Vec::with_capacity(alloc, found.len())?;
     kept.append(&mut found)?;
     Ok(kept)
