@@ -1,5 +1,9 @@
 //! A JSON value.
 
+ghost use Rattle.std.specs.Prelude.{◌≡◌, option_map};
+ghost use Rattle.serde_json.specs.Find.{as_array};
+ghost use Rattle.json_tree.specs.View.{items_view, view};
+
 use serde_json::Number;
 
 /// A JSON value, which owns its text. No array or object has room for more than it holds.
@@ -16,3 +20,15 @@ pub enum Tree {
 
 /// A key and what stands under it.
 pub type Member = (String, Tree);
+
+impl Tree {
+    /// The parts, where it is an array.
+    pub fn as_array(&self) -> Option<&[Tree]>
+        ensures { option_map (λ parts. items_view parts.now) result ≡ as_array (view self.now) }
+    {
+        match self {
+            Tree::Array(parts) => Some(parts),
+            _ => None,
+        }
+    }
+}
