@@ -1,6 +1,6 @@
 -- The variable of a statement that catches faults is no name.
 use Rattle.std.proofs.Common.{◌≡◌, get_or, length, Ok, Err, rules}
-use Rattle.serde_json.specs.View.{view}
+use Rattle.json_tree.specs.View.{view}
 use Rattle.flow_syntax.specs.Views.{block_of}
 use Rattle.flow_values.specs.Answers.{Fails}
 use Rattle.flow_values.specs.Faults.{at, to_part}

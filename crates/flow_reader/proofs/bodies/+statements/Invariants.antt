@@ -1,6 +1,6 @@
 -- The statements that are still to be read lead on to all of them.
 use Rattle.std.proofs.Common.{◌≡◌, drop}
-use Rattle.serde_json.specs.View.{items_view}
+use Rattle.json_tree.specs.View.{items_view}
 use Rattle.flow_reader.specs.Statements.{statements_from}
 use Rattle.flow_reader.proofs.Blocks.{with_rest}
 use Rattle.flow_reader.proofs.bodies.+statements.Given as goal
