@@ -33,34 +33,29 @@ pub(crate) fn have_names(members: &[Member]) -> bool
 
 /// The body under a name.
 #[tactic(auto, using(flow_values::proofs::Parts::fails_under))]
-fn body_under(
-    alloc: Global,
-    inside: bool,
-    name: &Name,
-    value: &Tree,
-) -> Result<Vec<Stmt>, PartError>
-    ensures { Gives (λ body. block_of body.items) result (at (to_key name.now) (body_in inside (view value.now))) }
+fn body_under(alloc: Global, inside: bool, name: &Name, value: Tree) -> Result<Vec<Stmt>, PartError>
+    ensures { Gives (λ body. block_of body.items) result (at (to_key name.now) (body_in inside (view value))) }
 {
-    match body_in(alloc, inside, value) {
+    match body_in(alloc, inside, &value) {
         Ok(body) => Ok(body),
         Err(error) => Err(under(error, Step::Name(name.clone()?))),
     }
 }
 
 /// The bodies of an object whose keys are names.
-#[tactic(auto, using(crate::proofs::Members::put, crate::proofs::Members::ends, crate::proofs::Members::all, crate::proofs::Members::first_is_name, crate::proofs::Members::rest_are_names))]
+#[tactic(auto, using(crate::proofs::Members::put, crate::proofs::Members::ends, crate::proofs::Members::first_is_name, crate::proofs::Members::rest_are_names))]
 fn bodies_from(
     alloc: Global,
     inside: bool,
-    members: &[Member],
+    members: Vec<Member>,
 ) -> Result<BTreeMap<Name, Vec<Stmt>>, PartError>
-    requires { have_names (members_view members.now) ≡ true }
-    ensures { Gives bodies_of result (named_after (body_in inside) [] (members_view members.now)) }
+    requires { have_names (members_view members.items) ≡ true }
+    ensures { Gives bodies_of result (named_after (body_in inside) [] (members_view members.items)) }
 {
     let mut bodies = BTreeMap::new(alloc);
-    for member in members {
-        let name = Name::of(alloc, member.0.as_str().as_bytes())?;
-        match body_under(alloc, inside, &name, &member.1) {
+    for (key, value) in members {
+        let name = Name::of(alloc, key.as_str().as_bytes())?;
+        match body_under(alloc, inside, &name, value) {
             Ok(body) => bodies.insert(name, body)?,
             Err(error) => return Err(error),
         };
@@ -71,11 +66,11 @@ fn bodies_from(
 fn bodies_of_members(
     alloc: Global,
     inside: bool,
-    members: &[Member],
+    members: Vec<Member>,
 ) -> Result<BTreeMap<Name, Vec<Stmt>>, PartError>
-    ensures { Gives bodies_of result (named_in (body_in inside) (object (members_view members.now))) }
+    ensures { Gives bodies_of result (named_in (body_in inside) (object (members_view members.items))) }
 {
-    if have_names(members) {
+    if have_names(&members) {
         bodies_from(alloc, inside, members)
     } else {
         Err(misshapen(alloc))
@@ -86,9 +81,9 @@ fn bodies_of_members(
 pub(crate) fn bodies_in(
     alloc: Global,
     inside: bool,
-    value: &Tree,
+    value: Tree,
 ) -> Result<BTreeMap<Name, Vec<Stmt>>, PartError>
-    ensures { Gives bodies_of result (named_in (body_in inside) (view value.now)) }
+    ensures { Gives bodies_of result (named_in (body_in inside) (view value)) }
 {
     match value {
         Tree::Object(members) => bodies_of_members(alloc, inside, members),
@@ -101,18 +96,18 @@ pub(crate) fn bodies_in(
 }
 
 #[tactic(auto, using(flow_values::proofs::Parts::fails_under))]
-fn init_at(alloc: Global, value: &Tree) -> Result<Value, PartError>
-    ensures { Gives (λ v. v) result (at (to_key (codes "init")) (value_in (view value.now))) }
+fn init_at(alloc: Global, value: Tree) -> Result<Value, PartError>
+    ensures { Gives (λ v. v) result (at (to_key (codes "init")) (value_in (view value))) }
 {
-    match value_in(alloc, value) {
+    match value_in(alloc, &value) {
         Ok(init) => Ok(init),
         Err(error) => Err(under(error, Step::Word("init"))),
     }
 }
 
 #[tactic(auto, using(flow_values::proofs::Parts::fails_under))]
-fn operations_at(alloc: Global, value: &Tree) -> Result<BTreeMap<Name, Vec<Stmt>>, PartError>
-    ensures { Gives bodies_of result (at (to_key (codes "ops")) (named_in (body_in true) (view value.now))) }
+fn operations_at(alloc: Global, value: Tree) -> Result<BTreeMap<Name, Vec<Stmt>>, PartError>
+    ensures { Gives bodies_of result (at (to_key (codes "ops")) (named_in (body_in true) (view value))) }
 {
     match bodies_in(alloc, true, value) {
         Ok(operations) => Ok(operations),
@@ -125,11 +120,11 @@ fn operations_at(alloc: Global, value: &Tree) -> Result<BTreeMap<Name, Vec<Stmt>
 fn class_of_two(
     alloc: Global,
     first: &str,
-    init: &Tree,
+    init: Tree,
     second: &str,
-    operations: &Tree,
+    operations: Tree,
 ) -> Result<Class, PartError>
-    ensures { Gives class_of result (class_in (object (member first.now (view init.now) (member second.now (view operations.now) no_members)))) }
+    ensures { Gives class_of result (class_in (object (member first.now (view init) (member second.now (view operations) no_members)))) }
 {
     if first == "init" && second == "ops" {
         let init = init_at(alloc, init)?;
@@ -140,21 +135,15 @@ fn class_of_two(
     }
 }
 
-fn class_of_members(alloc: Global, members: &[Member]) -> Result<Class, PartError>
-    ensures { Gives class_of result (class_in (object (members_view members.now))) }
+fn class_of_members(alloc: Global, members: Vec<Member>) -> Result<Class, PartError>
+    ensures { Gives class_of result (class_in (object (members_view members.items))) }
 {
-    let mut entries = members.iter();
+    let mut entries = members.into_iter();
     match entries.next() {
-        Some(first) => match entries.next() {
-            Some(second) => match entries.next() {
+        Some((first, init)) => match entries.next() {
+            Some((second, operations)) => match entries.next() {
                 Some(_) => Err(misshapen(alloc)),
-                None => class_of_two(
-                    alloc,
-                    first.0.as_str(),
-                    &first.1,
-                    second.0.as_str(),
-                    &second.1,
-                ),
+                None => class_of_two(alloc, first.as_str(), init, second.as_str(), operations),
             },
             None => Err(misshapen(alloc)),
         },
@@ -163,8 +152,8 @@ fn class_of_members(alloc: Global, members: &[Member]) -> Result<Class, PartErro
 }
 
 /// A class: its members are `init` and `ops`, no more and no less.
-fn class_in(alloc: Global, value: &Tree) -> Result<Class, PartError>
-    ensures { Gives class_of result (class_in (view value.now)) }
+fn class_in(alloc: Global, value: Tree) -> Result<Class, PartError>
+    ensures { Gives class_of result (class_in (view value)) }
 {
     match value {
         Tree::Object(members) => class_of_members(alloc, members),
@@ -178,8 +167,8 @@ fn class_in(alloc: Global, value: &Tree) -> Result<Class, PartError>
 
 /// The class under a name.
 #[tactic(auto, using(flow_values::proofs::Parts::fails_under))]
-fn class_under(alloc: Global, name: &Name, value: &Tree) -> Result<Class, PartError>
-    ensures { Gives class_of result (at (to_key name.now) (class_in (view value.now))) }
+fn class_under(alloc: Global, name: &Name, value: Tree) -> Result<Class, PartError>
+    ensures { Gives class_of result (at (to_key name.now) (class_in (view value))) }
 {
     match class_in(alloc, value) {
         Ok(class) => Ok(class),
@@ -188,15 +177,15 @@ fn class_under(alloc: Global, name: &Name, value: &Tree) -> Result<Class, PartEr
 }
 
 /// The classes of an object whose keys are names.
-#[tactic(auto, using(crate::proofs::Members::put, crate::proofs::Members::ends, crate::proofs::Members::all, crate::proofs::Members::first_is_name, crate::proofs::Members::rest_are_names))]
-fn classes_from(alloc: Global, members: &[Member]) -> Result<BTreeMap<Name, Class>, PartError>
-    requires { have_names (members_view members.now) ≡ true }
-    ensures { Gives (λ classes. named_by class_of classes.entries) result (named_after class_in [] (members_view members.now)) }
+#[tactic(auto, using(crate::proofs::Members::put, crate::proofs::Members::ends, crate::proofs::Members::first_is_name, crate::proofs::Members::rest_are_names))]
+fn classes_from(alloc: Global, members: Vec<Member>) -> Result<BTreeMap<Name, Class>, PartError>
+    requires { have_names (members_view members.items) ≡ true }
+    ensures { Gives (λ classes. named_by class_of classes.entries) result (named_after class_in [] (members_view members.items)) }
 {
     let mut classes = BTreeMap::new(alloc);
-    for member in members {
-        let name = Name::of(alloc, member.0.as_str().as_bytes())?;
-        match class_under(alloc, &name, &member.1) {
+    for (key, value) in members {
+        let name = Name::of(alloc, key.as_str().as_bytes())?;
+        match class_under(alloc, &name, value) {
             Ok(class) => classes.insert(name, class)?,
             Err(error) => return Err(error),
         };
@@ -204,10 +193,13 @@ fn classes_from(alloc: Global, members: &[Member]) -> Result<BTreeMap<Name, Clas
     Ok(classes)
 }
 
-fn classes_of_members(alloc: Global, members: &[Member]) -> Result<BTreeMap<Name, Class>, PartError>
-    ensures { Gives (λ classes. named_by class_of classes.entries) result (named_in class_in (object (members_view members.now))) }
+fn classes_of_members(
+    alloc: Global,
+    members: Vec<Member>,
+) -> Result<BTreeMap<Name, Class>, PartError>
+    ensures { Gives (λ classes. named_by class_of classes.entries) result (named_in class_in (object (members_view members.items))) }
 {
-    if have_names(members) {
+    if have_names(&members) {
         classes_from(alloc, members)
     } else {
         Err(misshapen(alloc))
@@ -215,8 +207,8 @@ fn classes_of_members(alloc: Global, members: &[Member]) -> Result<BTreeMap<Name
 }
 
 /// An object of classes by names.
-pub(crate) fn classes_in(alloc: Global, value: &Tree) -> Result<BTreeMap<Name, Class>, PartError>
-    ensures { Gives (λ classes. named_by class_of classes.entries) result (named_in class_in (view value.now)) }
+pub(crate) fn classes_in(alloc: Global, value: Tree) -> Result<BTreeMap<Name, Class>, PartError>
+    ensures { Gives (λ classes. named_by class_of classes.entries) result (named_in class_in (view value)) }
 {
     match value {
         Tree::Object(members) => classes_of_members(alloc, members),

@@ -36,10 +36,10 @@ pub enum FlowsError {
 }
 
 /// The flows that JSON stands for: all shapes are looked at, and then all names.
-fn flows_of(alloc: Global, value: &Tree) -> Result<Flows, FlowsError>
-    ensures { Reads result (shape_checked (file_in (view value.now))) }
+fn flows_of(alloc: Global, tree: Tree) -> Result<Flows, FlowsError>
+    ensures { Reads result (shape_checked (file_in (view tree))) }
 {
-    match file_in(alloc, value) {
+    match file_in(alloc, tree) {
         Ok(file) => match known_file(alloc, &file) {
             Ok(()) => Ok(file),
             Err(PartError::Misshapen(path)) => Err(FlowsError::UnknownName { path }),
@@ -56,7 +56,7 @@ pub fn read_flows(alloc: Global, bytes: &[u8]) -> Result<Flows, FlowsError>
     ensures { Reads result (flows_in bytes.now) }
 {
     match read_tree(alloc, bytes) {
-        Ok(tree) => flows_of(alloc, &tree),
+        Ok(tree) => flows_of(alloc, tree),
         Err(ReadError::NotJson) => Err(FlowsError::NotJson),
         Err(ReadError::Memory) => Err(FlowsError::Memory),
     }
