@@ -19,7 +19,7 @@ use std::alloc::Global;
 
 /// A class and what gives a key.
 #[tactic(auto, using(flow_values::proofs::Parts::ends_then, crate::proofs::Pairs::locked_there, crate::proofs::Pairs::locked_not_there))]
-fn pair_in(alloc: Global, parts: &[Tree]) -> Result<Locked, PartError>
+fn pair_in(alloc: Global, parts: &[Tree<'_>]) -> Result<Locked, PartError>
     ensures { Gives locked_of result (locked_in (array (items_view parts.now))) }
 {
     match two_parts(parts) {
@@ -32,7 +32,7 @@ fn pair_in(alloc: Global, parts: &[Tree]) -> Result<Locked, PartError>
     }
 }
 
-fn locked_in(alloc: Global, value: &Tree) -> Result<Locked, PartError>
+fn locked_in(alloc: Global, value: &Tree<'_>) -> Result<Locked, PartError>
     ensures { Gives locked_of result (locked_in (view value.now)) }
 {
     match value {
@@ -47,7 +47,7 @@ fn locked_in(alloc: Global, value: &Tree) -> Result<Locked, PartError>
 
 /// The pairs of an array, from the first on.
 #[tactic(auto, using(crate::proofs::Pairs::goes_on, crate::proofs::Pairs::ends, crate::proofs::Pairs::begins, crate::proofs::Pairs::all))]
-fn pairs_from(alloc: Global, parts: &[Tree]) -> Result<Vec<Locked>, PartError>
+fn pairs_from(alloc: Global, parts: &[Tree<'_>]) -> Result<Vec<Locked>, PartError>
     ensures { Gives (λ pairs. map locked_of pairs.items) result (pairs_from 0 (items_view parts.now)) }
 {
     let mut pairs = Vec::with_capacity(alloc, parts.len())?;
@@ -62,7 +62,7 @@ fn pairs_from(alloc: Global, parts: &[Tree]) -> Result<Vec<Locked>, PartError>
 
 /// 1 to 16 pairs.
 #[tactic(auto, using(flow_values::proofs::Scalars::count_of_items))]
-fn few_pairs(alloc: Global, parts: &[Tree]) -> Result<Vec<Locked>, PartError>
+fn few_pairs(alloc: Global, parts: &[Tree<'_>]) -> Result<Vec<Locked>, PartError>
     ensures { Gives (λ pairs. map locked_of pairs.items) result (pairs_in (array (items_view parts.now))) }
 {
     if parts.len() >= 1 && parts.len() <= MOST_SPOTS {
@@ -72,7 +72,7 @@ fn few_pairs(alloc: Global, parts: &[Tree]) -> Result<Vec<Locked>, PartError>
     }
 }
 
-fn pairs_in(alloc: Global, value: &Tree) -> Result<Vec<Locked>, PartError>
+fn pairs_in(alloc: Global, value: &Tree<'_>) -> Result<Vec<Locked>, PartError>
     ensures { Gives (λ pairs. map locked_of pairs.items) result (pairs_in (view value.now)) }
 {
     match value {
@@ -87,7 +87,7 @@ fn pairs_in(alloc: Global, value: &Tree) -> Result<Vec<Locked>, PartError>
 
 /// The pairs at a place of a statement.
 #[tactic(auto, using(flow_values::proofs::Parts::fails_under))]
-fn pairs_at(alloc: Global, value: &Tree, index: usize) -> Result<Vec<Locked>, PartError>
+fn pairs_at(alloc: Global, value: &Tree<'_>, index: usize) -> Result<Vec<Locked>, PartError>
     ensures { Gives (λ pairs. map locked_of pairs.items) result (at (to_part index) (pairs_in (view value.now))) }
 {
     match pairs_in(alloc, value) {
@@ -98,7 +98,7 @@ fn pairs_at(alloc: Global, value: &Tree, index: usize) -> Result<Vec<Locked>, Pa
 
 /// A body: an array of statements.
 #[cycle(statements)]
-pub(crate) fn body_in(alloc: Global, inside: bool, value: &Tree) -> Result<Vec<Stmt>, PartError>
+pub(crate) fn body_in(alloc: Global, inside: bool, value: &Tree<'_>) -> Result<Vec<Stmt>, PartError>
     ensures { Gives (λ body. block_of body.items) result (body_in inside (view value.now)) }
 {
     match value {
@@ -114,7 +114,7 @@ pub(crate) fn body_in(alloc: Global, inside: bool, value: &Tree) -> Result<Vec<S
 /// The statements of an array, from the first on.
 #[cycle(statements)]
 #[tactic(auto, using(crate::proofs::Blocks::goes_on, crate::proofs::Blocks::ends, crate::proofs::Blocks::begins, crate::proofs::Blocks::all))]
-fn statements_in(alloc: Global, inside: bool, items: &Vec<Tree>) -> Result<Vec<Stmt>, PartError>
+fn statements_in(alloc: Global, inside: bool, items: &Vec<Tree<'_>>) -> Result<Vec<Stmt>, PartError>
     ensures { Gives (λ body. block_of body.items) result (statements_from inside 0 (items_view items.now.items)) }
 {
     let mut statements = Vec::with_capacity(alloc, items.len())?;
@@ -130,7 +130,12 @@ fn statements_in(alloc: Global, inside: bool, items: &Vec<Tree>) -> Result<Vec<S
 /// The body at a place of a statement.
 #[cycle(statements)]
 #[tactic(auto, using(flow_values::proofs::Parts::fails_under))]
-fn body_at(alloc: Global, inside: bool, value: &Tree, index: usize) -> Result<Vec<Stmt>, PartError>
+fn body_at(
+    alloc: Global,
+    inside: bool,
+    value: &Tree<'_>,
+    index: usize,
+) -> Result<Vec<Stmt>, PartError>
     ensures { Gives (λ body. block_of body.items) result (at (to_part index) (body_in inside (view value.now))) }
 {
     match body_in(alloc, inside, value) {
@@ -141,7 +146,7 @@ fn body_at(alloc: Global, inside: bool, value: &Tree, index: usize) -> Result<Ve
 
 /// A statement: an array of a word and its parts.
 #[cycle(statements)]
-fn statement_in(alloc: Global, inside: bool, value: &Tree) -> Result<Stmt, PartError>
+fn statement_in(alloc: Global, inside: bool, value: &Tree<'_>) -> Result<Stmt, PartError>
     ensures { Gives statement_of result (statement_in inside (view value.now)) }
 {
     match value {
@@ -156,7 +161,7 @@ fn statement_in(alloc: Global, inside: bool, value: &Tree) -> Result<Stmt, PartE
 
 #[cycle(statements)]
 #[tactic(auto, using(crate::proofs::Blocks::no_word, crate::proofs::Blocks::unknown_word, crate::proofs::Blocks::known_word))]
-fn array_in(alloc: Global, inside: bool, items: &Vec<Tree>) -> Result<Stmt, PartError>
+fn array_in(alloc: Global, inside: bool, items: &Vec<Tree<'_>>) -> Result<Stmt, PartError>
     ensures { Gives statement_of result (statement_in inside (array (items_view items.now.items))) }
 {
     if items.is_empty() {
@@ -169,7 +174,7 @@ fn array_in(alloc: Global, inside: bool, items: &Vec<Tree>) -> Result<Stmt, Part
 }
 
 /// The parts behind the word.
-fn parts_of(items: &[Tree]) -> &[Tree]
+fn parts_of<'t, 'a>(items: &'t [Tree<'a>]) -> &'t [Tree<'a>]
     requires { 1 ≤ length items.now }
     ensures { result.now ≡ drop 1 items.now }
 {
@@ -179,7 +184,12 @@ fn parts_of(items: &[Tree]) -> &[Tree]
 /// The statement of a word and the parts behind it.
 #[cycle(statements)]
 #[tactic(auto, using(crate::proofs::Blocks::no_lock, crate::proofs::Blocks::no_if, crate::proofs::Blocks::no_while, crate::proofs::Blocks::no_try))]
-fn of_word(alloc: Global, inside: bool, word: Word, items: &Vec<Tree>) -> Result<Stmt, PartError>
+fn of_word(
+    alloc: Global,
+    inside: bool,
+    word: Word,
+    items: &Vec<Tree<'_>>,
+) -> Result<Stmt, PartError>
     requires { 1 ≤ length items.now.items }
     ensures { Gives statement_of result (of_word inside word (items_view (drop 1 items.now.items))) }
 {
@@ -219,7 +229,7 @@ fn of_word(alloc: Global, inside: bool, word: Word, items: &Vec<Tree>) -> Result
 /// A body that holds entities.
 #[cycle(statements)]
 #[tactic(auto, using(flow_values::proofs::Parts::ends_then, crate::proofs::Blocks::behind_two))]
-fn lock_in(alloc: Global, inside: bool, items: &Vec<Tree>) -> Result<Stmt, PartError>
+fn lock_in(alloc: Global, inside: bool, items: &Vec<Tree<'_>>) -> Result<Stmt, PartError>
     requires { length items.now.items ≡ 3 }
     ensures { Gives statement_of result (of_word inside words.Lock (items_view (drop 1 items.now.items))) }
 {
@@ -232,7 +242,7 @@ fn lock_in(alloc: Global, inside: bool, items: &Vec<Tree>) -> Result<Stmt, PartE
 /// One of two bodies.
 #[cycle(statements)]
 #[tactic(auto, using(flow_values::proofs::Parts::ends_then, crate::proofs::Blocks::behind_three, crate::proofs::Blocks::if_ends, crate::proofs::Blocks::if_ends_yes))]
-fn if_in(alloc: Global, inside: bool, items: &Vec<Tree>) -> Result<Stmt, PartError>
+fn if_in(alloc: Global, inside: bool, items: &Vec<Tree<'_>>) -> Result<Stmt, PartError>
     requires { length items.now.items ≡ 4 }
     ensures { Gives statement_of result (of_word inside words.If (items_view (drop 1 items.now.items))) }
 {
@@ -246,7 +256,7 @@ fn if_in(alloc: Global, inside: bool, items: &Vec<Tree>) -> Result<Stmt, PartErr
 /// A body that is repeated.
 #[cycle(statements)]
 #[tactic(auto, using(flow_values::proofs::Parts::ends_then, crate::proofs::Blocks::behind_two))]
-fn while_in(alloc: Global, inside: bool, items: &Vec<Tree>) -> Result<Stmt, PartError>
+fn while_in(alloc: Global, inside: bool, items: &Vec<Tree<'_>>) -> Result<Stmt, PartError>
     requires { length items.now.items ≡ 3 }
     ensures { Gives statement_of result (of_word inside words.While (items_view (drop 1 items.now.items))) }
 {
@@ -259,7 +269,7 @@ fn while_in(alloc: Global, inside: bool, items: &Vec<Tree>) -> Result<Stmt, Part
 /// A body and what follows a fault in it.
 #[cycle(statements)]
 #[tactic(auto, using(flow_values::proofs::Parts::ends_then, crate::proofs::Blocks::behind_three, crate::proofs::Blocks::try_ends, crate::proofs::Blocks::try_ends_variable))]
-fn try_in(alloc: Global, inside: bool, items: &Vec<Tree>) -> Result<Stmt, PartError>
+fn try_in(alloc: Global, inside: bool, items: &Vec<Tree<'_>>) -> Result<Stmt, PartError>
     requires { length items.now.items ≡ 4 }
     ensures { Gives statement_of result (of_word inside words.Try (items_view (drop 1 items.now.items))) }
 {

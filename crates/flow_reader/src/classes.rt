@@ -20,11 +20,11 @@ use std::collections::BTreeMap;
 
 /// Whether all keys are names.
 #[tactic(auto, using(crate::proofs::Members::name_here, crate::proofs::Members::no_name_here, crate::proofs::Members::all_names))]
-pub(crate) fn have_names(members: &[Member]) -> bool
+pub(crate) fn have_names(members: &[Member<'_>]) -> bool
     ensures { result ≡ have_names (members_view members.now) }
 {
     for member in members {
-        if !is_name(member.0.as_str().as_bytes()) {
+        if !is_name(member.0.as_bytes()) {
             return false;
         }
     }
@@ -33,8 +33,13 @@ pub(crate) fn have_names(members: &[Member]) -> bool
 
 /// The body under a name.
 #[tactic(auto, using(flow_values::proofs::Parts::fails_under))]
-fn body_under(alloc: Global, inside: bool, name: &Name, value: Tree) -> Result<Vec<Stmt>, PartError>
-    ensures { Gives (λ body. block_of body.items) result (at (to_key name.now) (body_in inside (view value))) }
+fn body_under(
+    alloc: Global,
+    inside: bool,
+    name: &Name,
+    value: Tree<'_>,
+) -> Result<Vec<Stmt>, PartError>
+    ensures { Gives (λ body. block_of body.items) result (at (to_key name.now) (body_in inside (view value.entry))) }
 {
     match body_in(alloc, inside, &value) {
         Ok(body) => Ok(body),
@@ -47,14 +52,14 @@ fn body_under(alloc: Global, inside: bool, name: &Name, value: Tree) -> Result<V
 fn bodies_from(
     alloc: Global,
     inside: bool,
-    members: Vec<Member>,
+    members: Vec<Member<'_>>,
 ) -> Result<BTreeMap<Name, Vec<Stmt>>, PartError>
     requires { have_names (members_view members.items) ≡ true }
-    ensures { Gives bodies_of result (named_after (body_in inside) [] (members_view members.items)) }
+    ensures { Gives bodies_of result (named_after (body_in inside) [] (members_view members.entry.items)) }
 {
     let mut bodies = BTreeMap::new(alloc);
     for (key, value) in members {
-        let name = Name::of(alloc, key.as_str().as_bytes())?;
+        let name = Name::of(alloc, key.as_bytes())?;
         match body_under(alloc, inside, &name, value) {
             Ok(body) => bodies.insert(name, body)?,
             Err(error) => return Err(error),
@@ -66,9 +71,9 @@ fn bodies_from(
 fn bodies_of_members(
     alloc: Global,
     inside: bool,
-    members: Vec<Member>,
+    members: Vec<Member<'_>>,
 ) -> Result<BTreeMap<Name, Vec<Stmt>>, PartError>
-    ensures { Gives bodies_of result (named_in (body_in inside) (object (members_view members.items))) }
+    ensures { Gives bodies_of result (named_in (body_in inside) (object (members_view members.entry.items))) }
 {
     if have_names(&members) {
         bodies_from(alloc, inside, members)
@@ -81,9 +86,9 @@ fn bodies_of_members(
 pub(crate) fn bodies_in(
     alloc: Global,
     inside: bool,
-    value: Tree,
+    value: Tree<'_>,
 ) -> Result<BTreeMap<Name, Vec<Stmt>>, PartError>
-    ensures { Gives bodies_of result (named_in (body_in inside) (view value)) }
+    ensures { Gives bodies_of result (named_in (body_in inside) (view value.entry)) }
 {
     match value {
         Tree::Object(members) => bodies_of_members(alloc, inside, members),
@@ -96,8 +101,8 @@ pub(crate) fn bodies_in(
 }
 
 #[tactic(auto, using(flow_values::proofs::Parts::fails_under))]
-fn init_at(alloc: Global, value: Tree) -> Result<Value, PartError>
-    ensures { Gives (λ v. v) result (at (to_key (codes "init")) (value_in (view value))) }
+fn init_at(alloc: Global, value: Tree<'_>) -> Result<Value, PartError>
+    ensures { Gives (λ v. v) result (at (to_key (codes "init")) (value_in (view value.entry))) }
 {
     match value_in(alloc, &value) {
         Ok(init) => Ok(init),
@@ -106,8 +111,8 @@ fn init_at(alloc: Global, value: Tree) -> Result<Value, PartError>
 }
 
 #[tactic(auto, using(flow_values::proofs::Parts::fails_under))]
-fn operations_at(alloc: Global, value: Tree) -> Result<BTreeMap<Name, Vec<Stmt>>, PartError>
-    ensures { Gives bodies_of result (at (to_key (codes "ops")) (named_in (body_in true) (view value))) }
+fn operations_at(alloc: Global, value: Tree<'_>) -> Result<BTreeMap<Name, Vec<Stmt>>, PartError>
+    ensures { Gives bodies_of result (at (to_key (codes "ops")) (named_in (body_in true) (view value.entry))) }
 {
     match bodies_in(alloc, true, value) {
         Ok(operations) => Ok(operations),
@@ -120,11 +125,11 @@ fn operations_at(alloc: Global, value: Tree) -> Result<BTreeMap<Name, Vec<Stmt>>
 fn class_of_two(
     alloc: Global,
     first: &str,
-    init: Tree,
+    init: Tree<'_>,
     second: &str,
-    operations: Tree,
+    operations: Tree<'_>,
 ) -> Result<Class, PartError>
-    ensures { Gives class_of result (class_in (object (member first.now (view init) (member second.now (view operations) no_members)))) }
+    ensures { Gives class_of result (class_in (object (member first.now (view init.entry) (member second.now (view operations.entry) no_members)))) }
 {
     if first == "init" && second == "ops" {
         let init = init_at(alloc, init)?;
@@ -135,15 +140,15 @@ fn class_of_two(
     }
 }
 
-fn class_of_members(alloc: Global, members: Vec<Member>) -> Result<Class, PartError>
-    ensures { Gives class_of result (class_in (object (members_view members.items))) }
+fn class_of_members(alloc: Global, members: Vec<Member<'_>>) -> Result<Class, PartError>
+    ensures { Gives class_of result (class_in (object (members_view members.entry.items))) }
 {
     let mut entries = members.into_iter();
     match entries.next() {
         Some((first, init)) => match entries.next() {
             Some((second, operations)) => match entries.next() {
                 Some(_) => Err(misshapen(alloc)),
-                None => class_of_two(alloc, first.as_str(), init, second.as_str(), operations),
+                None => class_of_two(alloc, first, init, second, operations),
             },
             None => Err(misshapen(alloc)),
         },
@@ -152,8 +157,8 @@ fn class_of_members(alloc: Global, members: Vec<Member>) -> Result<Class, PartEr
 }
 
 /// A class: its members are `init` and `ops`, no more and no less.
-fn class_in(alloc: Global, value: Tree) -> Result<Class, PartError>
-    ensures { Gives class_of result (class_in (view value)) }
+fn class_in(alloc: Global, value: Tree<'_>) -> Result<Class, PartError>
+    ensures { Gives class_of result (class_in (view value.entry)) }
 {
     match value {
         Tree::Object(members) => class_of_members(alloc, members),
@@ -167,8 +172,8 @@ fn class_in(alloc: Global, value: Tree) -> Result<Class, PartError>
 
 /// The class under a name.
 #[tactic(auto, using(flow_values::proofs::Parts::fails_under))]
-fn class_under(alloc: Global, name: &Name, value: Tree) -> Result<Class, PartError>
-    ensures { Gives class_of result (at (to_key name.now) (class_in (view value))) }
+fn class_under(alloc: Global, name: &Name, value: Tree<'_>) -> Result<Class, PartError>
+    ensures { Gives class_of result (at (to_key name.now) (class_in (view value.entry))) }
 {
     match class_in(alloc, value) {
         Ok(class) => Ok(class),
@@ -178,13 +183,13 @@ fn class_under(alloc: Global, name: &Name, value: Tree) -> Result<Class, PartErr
 
 /// The classes of an object whose keys are names.
 #[tactic(auto, using(crate::proofs::Members::put, crate::proofs::Members::ends, crate::proofs::Members::first_is_name, crate::proofs::Members::rest_are_names))]
-fn classes_from(alloc: Global, members: Vec<Member>) -> Result<BTreeMap<Name, Class>, PartError>
+fn classes_from(alloc: Global, members: Vec<Member<'_>>) -> Result<BTreeMap<Name, Class>, PartError>
     requires { have_names (members_view members.items) ≡ true }
-    ensures { Gives (λ classes. named_by class_of classes.entries) result (named_after class_in [] (members_view members.items)) }
+    ensures { Gives (λ classes. named_by class_of classes.entries) result (named_after class_in [] (members_view members.entry.items)) }
 {
     let mut classes = BTreeMap::new(alloc);
     for (key, value) in members {
-        let name = Name::of(alloc, key.as_str().as_bytes())?;
+        let name = Name::of(alloc, key.as_bytes())?;
         match class_under(alloc, &name, value) {
             Ok(class) => classes.insert(name, class)?,
             Err(error) => return Err(error),
@@ -195,9 +200,9 @@ fn classes_from(alloc: Global, members: Vec<Member>) -> Result<BTreeMap<Name, Cl
 
 fn classes_of_members(
     alloc: Global,
-    members: Vec<Member>,
+    members: Vec<Member<'_>>,
 ) -> Result<BTreeMap<Name, Class>, PartError>
-    ensures { Gives (λ classes. named_by class_of classes.entries) result (named_in class_in (object (members_view members.items))) }
+    ensures { Gives (λ classes. named_by class_of classes.entries) result (named_in class_in (object (members_view members.entry.items))) }
 {
     if have_names(&members) {
         classes_from(alloc, members)
@@ -207,8 +212,8 @@ fn classes_of_members(
 }
 
 /// An object of classes by names.
-pub(crate) fn classes_in(alloc: Global, value: Tree) -> Result<BTreeMap<Name, Class>, PartError>
-    ensures { Gives (λ classes. named_by class_of classes.entries) result (named_in class_in (view value)) }
+pub(crate) fn classes_in(alloc: Global, value: Tree<'_>) -> Result<BTreeMap<Name, Class>, PartError>
+    ensures { Gives (λ classes. named_by class_of classes.entries) result (named_in class_in (view value.entry)) }
 {
     match value {
         Tree::Object(members) => classes_of_members(alloc, members),

@@ -8,6 +8,7 @@ use crate::file::file_in;
 use crate::lookups::known_file;
 use flow_syntax::Flows;
 use flow_values::{PartError, Path};
+use json::Scratch;
 use json_tree::{ReadError, Tree, read_tree};
 use std::alloc::Global;
 use thiserror::Error;
@@ -36,8 +37,8 @@ pub enum FlowsError {
 }
 
 /// The flows that JSON stands for: all shapes are looked at, and then all names.
-fn flows_of(alloc: Global, tree: Tree) -> Result<Flows, FlowsError>
-    ensures { Reads result (shape_checked (file_in (view tree))) }
+fn flows_of(alloc: Global, tree: Tree<'_>) -> Result<Flows, FlowsError>
+    ensures { Reads result (shape_checked (file_in (view tree.entry))) }
 {
     match file_in(alloc, tree) {
         Ok(file) => match known_file(alloc, &file) {
@@ -55,7 +56,8 @@ fn flows_of(alloc: Global, tree: Tree) -> Result<Flows, FlowsError>
 pub fn read_flows(alloc: Global, bytes: &[u8]) -> Result<Flows, FlowsError>
     ensures { Reads result (flows_in bytes.now) }
 {
-    match read_tree(alloc, bytes) {
+    let mut scratch = Scratch::new(alloc);
+    match read_tree(alloc, bytes, &mut scratch) {
         Ok(tree) => flows_of(alloc, tree),
         Err(ReadError::NotJson) => Err(FlowsError::NotJson),
         Err(ReadError::Memory) => Err(FlowsError::Memory),

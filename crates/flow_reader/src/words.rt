@@ -30,7 +30,7 @@ pub(crate) enum Word {
 }
 
 /// A word that may stand in an operation.
-fn inner_word(value: &Tree) -> Option<Word>
+fn inner_word(value: &Tree<'_>) -> Option<Word>
     ensures { result ≡ inner_word (view value.now) }
 {
     if is_word(value, "let") {
@@ -51,7 +51,7 @@ fn inner_word(value: &Tree) -> Option<Word>
 }
 
 /// A word that may stand in a flow alone.
-fn flow_word(value: &Tree) -> Option<Word>
+fn flow_word(value: &Tree<'_>) -> Option<Word>
     ensures { result ≡ flow_word (view value.now) }
 {
     if is_word(value, "spawn") {
@@ -82,7 +82,7 @@ fn flow_word(value: &Tree) -> Option<Word>
 }
 
 /// A word that may stand there.
-pub(crate) fn word_in(inside: bool, value: &Tree) -> Option<Word>
+pub(crate) fn word_in(inside: bool, value: &Tree<'_>) -> Option<Word>
     ensures { result ≡ word_in inside (view value.now) }
 {
     match inner_word(value) {

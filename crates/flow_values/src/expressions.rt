@@ -17,11 +17,11 @@ use json_tree::{Member, Tree};
 use std::alloc::Global;
 
 /// Whether it is this text.
-pub fn is_word(value: &Tree, word: &str) -> bool
+pub fn is_word(value: &Tree<'_>, word: &str) -> bool
     ensures { result ≡ is_word word.now (view value.now) }
 {
     match value {
-        Tree::String(text) => text.as_str() == word,
+        Tree::String(text) => *text == word,
         Tree::Null => false,
         Tree::Bool(_) => false,
         Tree::Number(_) => false,
@@ -30,7 +30,7 @@ pub fn is_word(value: &Tree, word: &str) -> bool
     }
 }
 
-fn unary_in(value: &Tree) -> Option<UnaryOp>
+fn unary_in(value: &Tree<'_>) -> Option<UnaryOp>
     ensures { option_map unary_of result ≡ unary_in (view value.now) }
 {
     if is_word(value, "not") {
@@ -44,7 +44,7 @@ fn unary_in(value: &Tree) -> Option<UnaryOp>
     }
 }
 
-fn binary_in(value: &Tree) -> Option<BinaryOp>
+fn binary_in(value: &Tree<'_>) -> Option<BinaryOp>
     ensures { option_map binary_of result ≡ binary_in (view value.now) }
 {
     if is_word(value, "add") {
@@ -76,7 +76,7 @@ fn binary_in(value: &Tree) -> Option<BinaryOp>
     }
 }
 
-fn scalar_of(alloc: Global, value: &Tree) -> Result<Expr, PartError>
+fn scalar_of(alloc: Global, value: &Tree<'_>) -> Result<Expr, PartError>
     ensures { Gives expression_of result (bind (scalar_in (view value.now)) (λ s. Ok (scalar s))) }
 {
     match scalar_in(alloc, value) {
@@ -87,7 +87,7 @@ fn scalar_of(alloc: Global, value: &Tree) -> Result<Expr, PartError>
 
 /// An expression: a scalar is itself, and an object with one member is a variable, a list or an operation.
 #[cycle(expressions)]
-pub fn expression_in(alloc: Global, value: &Tree) -> Result<Expr, PartError>
+pub fn expression_in(alloc: Global, value: &Tree<'_>) -> Result<Expr, PartError>
     ensures { Gives expression_of result (expression_in (view value.now)) }
 {
     match value {
@@ -102,14 +102,14 @@ pub fn expression_in(alloc: Global, value: &Tree) -> Result<Expr, PartError>
 
 /// An object that is an expression.
 #[cycle(expressions)]
-fn object_in(alloc: Global, members: &[Member]) -> Result<Expr, PartError>
+fn object_in(alloc: Global, members: &[Member<'_>]) -> Result<Expr, PartError>
     ensures { Gives expression_of result (expression_in (object (members_view members.now))) }
 {
     let mut entries = members.iter();
     match entries.next() {
         Some(member) => match entries.next() {
             Some(_) => Err(misshapen(alloc)),
-            None => member_in(alloc, member.0.as_str(), &member.1),
+            None => member_in(alloc, member.0, &member.1),
         },
         None => Err(misshapen(alloc)),
     }
@@ -118,7 +118,7 @@ fn object_in(alloc: Global, members: &[Member]) -> Result<Expr, PartError>
 /// The only member of an object that is an expression.
 #[cycle(expressions)]
 #[tactic(auto, using(crate::proofs::Parts::ends_under))]
-fn member_in(alloc: Global, key: &str, inside: &Tree) -> Result<Expr, PartError>
+fn member_in(alloc: Global, key: &str, inside: &Tree<'_>) -> Result<Expr, PartError>
     ensures { Gives expression_of result (expression_in (object (member key.now (view inside.now) no_members))) }
 {
     if key == "v" {
@@ -143,7 +143,7 @@ fn member_in(alloc: Global, key: &str, inside: &Tree) -> Result<Expr, PartError>
 
 /// An array of expressions.
 #[cycle(expressions)]
-fn list_in(alloc: Global, value: &Tree) -> Result<Vec<Expr>, PartError>
+fn list_in(alloc: Global, value: &Tree<'_>) -> Result<Vec<Expr>, PartError>
     ensures { Gives (λ parts. parts_of parts.items) result (list_in (view value.now)) }
 {
     match value {
@@ -159,7 +159,7 @@ fn list_in(alloc: Global, value: &Tree) -> Result<Vec<Expr>, PartError>
 /// The expressions of an array, from the first on.
 #[cycle(expressions)]
 #[tactic(auto, using(crate::proofs::Parts::goes_on, crate::proofs::Parts::ends, crate::proofs::Parts::begins, crate::proofs::Parts::all))]
-fn parts_in(alloc: Global, items: &Vec<Tree>) -> Result<Vec<Expr>, PartError>
+fn parts_in(alloc: Global, items: &Vec<Tree<'_>>) -> Result<Vec<Expr>, PartError>
     ensures { Gives (λ parts. parts_of parts.items) result (expressions_from 0 (items_view items.now.items)) }
 {
     let mut parts = Vec::with_capacity(alloc, items.len())?;
@@ -175,7 +175,7 @@ fn parts_in(alloc: Global, items: &Vec<Tree>) -> Result<Vec<Expr>, PartError>
 /// An operation and its parts.
 #[cycle(expressions)]
 #[tactic(auto, using(crate::proofs::Parts::no_operation))]
-fn operation_in(alloc: Global, value: &Tree) -> Result<Expr, PartError>
+fn operation_in(alloc: Global, value: &Tree<'_>) -> Result<Expr, PartError>
     ensures { Gives expression_of result (operation_in (view value.now)) }
 {
     match value {
@@ -199,7 +199,7 @@ fn operation_in(alloc: Global, value: &Tree) -> Result<Expr, PartError>
 /// The expression at a place of an array.
 #[cycle(expressions)]
 #[tactic(auto, using(crate::proofs::Parts::fails_under))]
-pub fn expression_at(alloc: Global, item: &Tree, index: usize) -> Result<Expr, PartError>
+pub fn expression_at(alloc: Global, item: &Tree<'_>, index: usize) -> Result<Expr, PartError>
     ensures { Gives expression_of result (at (to_part index) (expression_in (view item.now))) }
 {
     match expression_in(alloc, item) {
@@ -211,7 +211,7 @@ pub fn expression_at(alloc: Global, item: &Tree, index: usize) -> Result<Expr, P
 /// An operation of one part.
 #[cycle(expressions)]
 #[tactic(auto, using(crate::proofs::Parts::unary_unknown, crate::proofs::Parts::unary_ends, crate::proofs::Parts::unary_read))]
-fn unary_of(alloc: Global, items: &Vec<Tree>) -> Result<Expr, PartError>
+fn unary_of(alloc: Global, items: &Vec<Tree<'_>>) -> Result<Expr, PartError>
     requires { length items.now.items ≡ 2 }
     ensures { Gives expression_of result (operation_in (array (items_view items.now.items))) }
 {
@@ -228,7 +228,7 @@ fn unary_of(alloc: Global, items: &Vec<Tree>) -> Result<Expr, PartError>
 /// An operation of two parts.
 #[cycle(expressions)]
 #[tactic(auto, using(crate::proofs::Parts::binary_unknown, crate::proofs::Parts::binary_ends, crate::proofs::Parts::binary_ends_second, crate::proofs::Parts::binary_read))]
-fn binary_of(alloc: Global, items: &Vec<Tree>) -> Result<Expr, PartError>
+fn binary_of(alloc: Global, items: &Vec<Tree<'_>>) -> Result<Expr, PartError>
     requires { length items.now.items ≡ 3 }
     ensures { Gives expression_of result (operation_in (array (items_view items.now.items))) }
 {

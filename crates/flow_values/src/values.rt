@@ -34,7 +34,7 @@ fn text_in(alloc: Global, text: &str) -> Result<Text, PartError>
     }
 }
 
-pub(crate) fn scalar_in(alloc: Global, value: &Tree) -> Result<Scalar, PartError>
+pub(crate) fn scalar_in(alloc: Global, value: &Tree<'_>) -> Result<Scalar, PartError>
     ensures { Gives (λ s. s) result (scalar_in (view value.now)) }
 {
     match value {
@@ -50,7 +50,7 @@ pub(crate) fn scalar_in(alloc: Global, value: &Tree) -> Result<Scalar, PartError
             Some(number) => Ok(Scalar::Int(number)),
             None => Err(misshapen(alloc)),
         },
-        Tree::String(text) => match text_in(alloc, text.as_str()) {
+        Tree::String(text) => match text_in(alloc, text) {
             Ok(text) => Ok(Scalar::Text(text)),
             Err(error) => Err(error),
         },
@@ -59,13 +59,13 @@ pub(crate) fn scalar_in(alloc: Global, value: &Tree) -> Result<Scalar, PartError
     }
 }
 
-pub fn name_in(alloc: Global, value: &Tree) -> Result<Name, PartError>
+pub fn name_in(alloc: Global, value: &Tree<'_>) -> Result<Name, PartError>
     ensures { Gives (λ name. name) result (name_in (view value.now)) }
 {
     match value {
         Tree::String(text) => {
-            if is_name(text.as_str().as_bytes()) {
-                Ok(Name::of(alloc, text.as_str().as_bytes())?)
+            if is_name(text.as_bytes()) {
+                Ok(Name::of(alloc, text.as_bytes())?)
             } else {
                 Err(misshapen(alloc))
             }
@@ -80,7 +80,7 @@ pub fn name_in(alloc: Global, value: &Tree) -> Result<Name, PartError>
 
 /// The name at a place of an array.
 #[tactic(auto, using(crate::proofs::Parts::fails_under))]
-pub fn name_at(alloc: Global, value: &Tree, index: usize) -> Result<Name, PartError>
+pub fn name_at(alloc: Global, value: &Tree<'_>, index: usize) -> Result<Name, PartError>
     ensures { Gives (λ name. name) result (at (to_part index) (name_in (view value.now))) }
 {
     match name_in(alloc, value) {
@@ -91,7 +91,7 @@ pub fn name_at(alloc: Global, value: &Tree, index: usize) -> Result<Name, PartEr
 
 /// The scalars of an array, from the first on.
 #[tactic(auto, using(crate::proofs::Scalars::goes_on, crate::proofs::Scalars::ends))]
-fn scalars_in(alloc: Global, parts: &[Tree]) -> Result<Vec<Scalar>, PartError>
+fn scalars_in(alloc: Global, parts: &[Tree<'_>]) -> Result<Vec<Scalar>, PartError>
     ensures { Gives (λ scalars. scalars.items) result (scalars_from 0 (items_view parts.now)) }
 {
     let mut scalars = Vec::with_capacity(alloc, parts.len())?;
@@ -135,7 +135,7 @@ fn are_short(scalars: &[Scalar]) -> bool
 }
 
 #[tactic(auto, using(crate::proofs::Scalars::count_of_items))]
-fn list_in(alloc: Global, parts: &[Tree]) -> Result<Scalars, PartError>
+fn list_in(alloc: Global, parts: &[Tree<'_>]) -> Result<Scalars, PartError>
     ensures { Gives (λ scalars. scalars) result (list_in (items_view parts.now)) }
 {
     if parts.len() > MOST_SCALARS {
@@ -162,7 +162,7 @@ fn value_of(scalar: Scalar) -> Value
     }
 }
 
-pub fn value_in(alloc: Global, value: &Tree) -> Result<Value, PartError>
+pub fn value_in(alloc: Global, value: &Tree<'_>) -> Result<Value, PartError>
     ensures { Gives (λ v. v) result (value_in (view value.now)) }
 {
     match value.as_array() {

@@ -1,6 +1,7 @@
 -- The members of an object, one after another.
-use Rattle.std.proofs.Common.{◌≡◌, ℕ, zero, suc, ◌-◌, ◌<◌, ◌≤◌, List, [], ◌∷◌, length, Option, Some, None, option_map, Ordering, Less, Equal, Greater, String, Global, string_bytes, string_cmp, refl, sym, ap, ◌∙◌, arith}
+use Rattle.std.proofs.Common.{◌≡◌, ℕ, zero, suc, ◌-◌, ◌<◌, ◌≤◌, List, [], ◌∷◌, length, Option, Some, None, option_map, Ordering, Less, Equal, Greater, Bor, nat_cmp, refl, sym, ap, ◌∙◌, arith}
 use Rattle.std.specs.BTreeMap.{insert_entry}
+use Rattle.std.specs.Cmp.Lexicographic.{slice_cmp}
 use Rattle.std.specs.Ordering.{match_ordering}
 use Rattle.json.specs.Token.{Token}
 use Rattle.json.specs.Json as json
@@ -17,18 +18,22 @@ use Rattle.json_tree.specs.declared.tree.Tree.{Tree}
 use Rattle.json_tree.proofs.Parts.{converted_from}
 
 abbrev pub Entry : Type 0
-Entry = String Global × Tree
+Entry = Bor (List ℕ) × Tree
 
 -- ---- the map
+
+-- the order of keys
+abbrev pub key_cmp : Bor (List ℕ) → Bor (List ℕ) → Ordering
+key_cmp a b = slice_cmp nat_cmp a.now b.now
 
 by_order : (o : Ordering) (less equal greater : List Entry) → members_view (match_ordering o less equal greater) ≡ match_ordering o (members_view less) (members_view equal) (members_view greater)
 by_order Less less equal greater = refl
 by_order Equal less equal greater = refl
 by_order Greater less equal greater = refl
 
-inserted : (es : List Entry) (key : String Global) (v : Tree) → members_view (insert_entry string_cmp es key v) ≡ put (string_bytes key) (view v) (members_view es)
+inserted : (es : List Entry) (key : Bor (List ℕ)) (v : Tree) → members_view (insert_entry key_cmp es key v) ≡ put key.now (view v) (members_view es)
 inserted [] key v = refl
-inserted (e ∷ es) key v = by_order (string_cmp key e.0) _ _ _ ∙ rw (inserted es key v) refl
+inserted (e ∷ es) key v = by_order (key_cmp key e.0) _ _ _ ∙ rw (inserted es key v) refl
 
 -- ---- one turn
 
@@ -65,18 +70,18 @@ unfolding LeadTo
 begins levels done ts none = (length ts, omega arith, rw none refl)
 
 -- a member was read and put
-pub goes_on : (whole : Option (Members × List Token)) (levels : ℕ) (done further : List Entry) (ts behind rest : List Token) (key : String Global) (v : Tree) → LeadTo whole levels done ts → read_key ts ≡ Some (Some (string_bytes key), behind) → data_in levels behind ≡ Some (view v, rest)
-    → further ≡ insert_entry string_cmp done key v → length rest < length behind → LeadTo whole levels further rest
+pub goes_on : (whole : Option (Members × List Token)) (levels : ℕ) (done further : List Entry) (ts behind rest : List Token) (key : Bor (List ℕ)) (v : Tree) → LeadTo whole levels done ts → read_key ts ≡ Some (Some key.now, behind) → data_in levels behind ≡ Some (view v, rest)
+    → further ≡ insert_entry key_cmp done key v → length rest < length behind → LeadTo whole levels further rest
 unfolding LeadTo
 goes_on whole levels done further ts behind rest key v leads named read put_in less =
     let n = leads.0 in
     let p = json.value levels in
     let j = converted_from of_json (p behind) (view v) rest read in
-    let shorter = read_key-shorter ts (Some (string_bytes key)) behind named in
-    let seen : members_view further ≡ put (string_bytes key) (view v) (members_view done) = ap members_view put_in ∙ inserted done key v in
+    let shorter = read_key-shorter ts (Some key.now) behind named in
+    let seen : members_view further ≡ put key.now (view v) (members_view done) = ap members_view put_in ∙ inserted done key v in
     let turn : converted (λ ms. of_members ms (members_view done)) (members p n ts) ≡ converted (λ ms. of_members ms (members_view further)) (members p (n - 1) rest) =
-    ap (converted (λ ms. of_members ms (members_view done))) (members_more p n (string_bytes key) ts behind rest j.0 (omega (arith, leads.1)) named j.1)
-    ∙ first_made (string_bytes key) j.0 (view v) (members_view done) _ j.2 ∙ ap (λ found. converted (λ ms. of_members ms found) (members p (n - 1) rest)) (sym seen) in
+    ap (converted (λ ms. of_members ms (members_view done))) (members_more p n key.now ts behind rest j.0 (omega (arith, leads.1)) named j.1)
+    ∙ first_made key.now j.0 (view v) (members_view done) _ j.2 ∙ ap (λ found. converted (λ ms. of_members ms found) (members p (n - 1) rest)) (sym seen) in
     (n - 1, omega (arith, leads.1), leads.2 ∙ turn)
 
 -- there is no further member

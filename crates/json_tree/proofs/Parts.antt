@@ -1,5 +1,5 @@
 -- A value by the token that it begins with.
-use Rattle.std.proofs.Common.{◌≡◌, ℕ, ◌-◌, ◌<◌, List, [], ◌∷◌, length, Bool, true, false, Option, Some, None, option_map, Result, Ok, Err, refl, ap, ◌∙◌, arith, rules, Vec, Global, String}
+use Rattle.std.proofs.Common.{◌≡◌, ℕ, ◌-◌, ◌<◌, List, [], ◌∷◌, length, Bool, true, false, Option, Some, None, option_map, Result, Ok, Err, refl, ap, ◌∙◌, arith, rules, Vec, Global, Bor}
 use Rattle.std.specs.Prelude.{OnOk}
 use Rattle.json.specs.Token.{Token}
 use Rattle.json.specs.Json as json
@@ -107,7 +107,7 @@ one_taken (Err error) t ts rest is = tt
 pub view_of_array : (v : Vec Tree Global) → view (Array v) ≡ array (items_view v.items)
 view_of_array v = search (rules, the_lemmas)
 
-pub view_of_object : (v : Vec (String Global × Tree) Global) → view (Object v) ≡ object (members_view v.items)
+pub view_of_object : (v : Vec (Bor (List ℕ) × Tree) Global) → view (Object v) ≡ object (members_view v.items)
 view_of_object v = search (rules, the_lemmas)
 
 -- a refusal of the inside is one of the whole

@@ -71,7 +71,7 @@ fn exactly<T: Drop>(alloc: Global, mut found: Vec<T>) -> Result<Vec<T>, AllocErr
 }
 
 /// What a token alone stands for.
-fn leaf(alloc: Global, token: Token<'_>) -> Result<Tree, ReadError>
+fn leaf<'a>(token: Token<'a>) -> Result<Tree<'a>, ReadError>
     ensures { Finds view result (leaf (token_of token.entry)) }
 {
     match token {
@@ -81,7 +81,7 @@ fn leaf(alloc: Global, token: Token<'_>) -> Result<Tree, ReadError>
             Some(number) => Ok(Tree::Number(number)),
             None => Err(ReadError::NotJson),
         },
-        Token::String(text) => Ok(Tree::String(String::from_str(alloc, text)?)),
+        Token::String(text) => Ok(Tree::String(text)),
         _ => Err(ReadError::NotJson),
     }
 }
@@ -89,7 +89,7 @@ fn leaf(alloc: Global, token: Token<'_>) -> Result<Tree, ReadError>
 /// The next value. Arrays and objects may nest so many levels deep.
 #[cycle(read)]
 #[tactic(auto, using(crate::proofs::Parts::array_began, crate::proofs::Parts::object_began, crate::proofs::Parts::too_deep_array, crate::proofs::Parts::too_deep_object, crate::proofs::Parts::nothing_left, crate::proofs::Parts::fails_around))]
-fn tree_in(alloc: Global, reader: &mut Reader<'_>, levels: usize) -> Result<Tree, ReadError>
+fn tree_in<'a>(alloc: Global, reader: &mut Reader<'a>, levels: usize) -> Result<Tree<'a>, ReadError>
     ensures taken { Takes view result reader.new (data_in levels reader.old) }
     ensures shorter { OnOk result (length reader.new < length reader.old) }
 {
@@ -107,14 +107,18 @@ fn tree_in(alloc: Global, reader: &mut Reader<'_>, levels: usize) -> Result<Tree
             }
             Ok(Tree::Object(members_in(alloc, reader, levels - 1)?))
         }
-        _ => leaf(alloc, token),
+        _ => leaf(token),
     }
 }
 
 /// The items up to the end of the array that began.
 #[cycle(read)]
 #[tactic(auto, using(crate::proofs::Items::begins, crate::proofs::Items::goes_on, crate::proofs::Items::ends, crate::proofs::Items::fails))]
-fn items_in(alloc: Global, reader: &mut Reader<'_>, levels: usize) -> Result<Vec<Tree>, ReadError>
+fn items_in<'a>(
+    alloc: Global,
+    reader: &mut Reader<'a>,
+    levels: usize,
+) -> Result<Vec<Tree<'a>>, ReadError>
     ensures taken { Takes (λ found. items_view found.items) result reader.new (items_in levels reader.old) }
     ensures shorter { OnOk result (length reader.new < length reader.old) }
 {
@@ -129,17 +133,16 @@ fn items_in(alloc: Global, reader: &mut Reader<'_>, levels: usize) -> Result<Vec
 /// The members up to the end of the object that began. The map that sorts them is large, so it lives no longer.
 #[cycle(read)]
 #[tactic(auto, using(crate::proofs::Members::begins, crate::proofs::Members::goes_on, crate::proofs::Members::ends, crate::proofs::Members::no_key, crate::proofs::Members::fails))]
-fn members_in(
+fn members_in<'a>(
     alloc: Global,
-    reader: &mut Reader<'_>,
+    reader: &mut Reader<'a>,
     levels: usize,
-) -> Result<Vec<Member>, ReadError>
+) -> Result<Vec<Member<'a>>, ReadError>
     ensures taken { Takes (λ found. members_view found.items) result reader.new (members_in levels reader.old) }
     ensures shorter { OnOk result (length reader.new < length reader.old) }
 {
     let mut found = BTreeMap::new(alloc);
-    while let Some(name) = reader.next_key()? {
-        let key = String::from_str(alloc, name)?;
+    while let Some(key) = reader.next_key()? {
         let member = tree_in(alloc, reader, levels)?;
         drop(found.insert(key, member)?);
     }
@@ -147,8 +150,11 @@ fn members_in(
 }
 
 /// The members in the order of their keys.
-fn entries_of(alloc: Global, found: BTreeMap<String, Tree>) -> Result<Vec<Member>, AllocError>
-    ensures { IfOk result (λ members. members.items ≡ found.entries) }
+fn entries_of<'a>(
+    alloc: Global,
+    found: BTreeMap<&'a str, Tree<'a>>,
+) -> Result<Vec<Member<'a>>, AllocError>
+    ensures { IfOk result (λ members. members.items ≡ found.entry.entries) }
 {
     let mut members = Vec::with_capacity(alloc, found.len())?;
     for member in found {
@@ -157,16 +163,19 @@ fn entries_of(alloc: Global, found: BTreeMap<String, Tree>) -> Result<Vec<Member
     Ok(members)
 }
 
-/// The value that bytes are.
-pub fn read_tree(alloc: Global, bytes: &[u8]) -> Result<Tree, ReadError>
+/// The value that bytes are. Texts with escapes lie in the scratch, all others in the bytes.
+pub fn read_tree<'a>(
+    alloc: Global,
+    bytes: &'a [u8],
+    scratch: &'a mut Scratch,
+) -> Result<Tree<'a>, ReadError>
     ensures utf8 { OnOk result (IsUtf8 bytes.now) }
     ensures found { IsUtf8 bytes.now → Finds view result (read bytes.now) }
 {
     let Ok(text) = str::from_utf8(bytes) else {
         return Err(ReadError::NotJson);
     };
-    let mut scratch = Scratch::new(alloc);
-    let mut reader = Reader::new(text, &mut scratch)?;
+    let mut reader = Reader::new(text, scratch)?;
     let tree = tree_in(alloc, &mut reader, MOST_LEVELS)?;
     if reader.next().is_some() {
         return Err(ReadError::NotJson);

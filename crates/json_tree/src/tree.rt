@@ -6,24 +6,24 @@ ghost use Rattle.json_tree.specs.View.{items_view, view};
 
 use serde_json::Number;
 
-/// A JSON value, which owns its text. No array or object has room for more than it holds.
+/// A JSON value. Its texts are borrowed. No array or object has room for more than it holds.
 #[derive(Drop)]
-pub enum Tree {
+pub enum Tree<'a> {
     Null,
     Bool(bool),
     Number(Number),
-    String(String),
-    Array(Vec<Tree>),
+    String(&'a str),
+    Array(Vec<Tree<'a>>),
     /// The members in the order of their keys, each key once.
-    Object(Vec<Member>),
+    Object(Vec<Member<'a>>),
 }
 
 /// A key and what stands under it.
-pub type Member = (String, Tree);
+pub type Member<'a> = (&'a str, Tree<'a>);
 
-impl Tree {
+impl<'a> Tree<'a> {
     /// The parts, where it is an array.
-    pub fn as_array(&self) -> Option<&[Tree]>
+    pub fn as_array(&self) -> Option<&[Tree<'a>]>
         ensures { option_map (λ parts. items_view parts.now) result ≡ as_array (view self.now) }
     {
         match self {
