@@ -126,6 +126,9 @@ if_ends inside vs a b c error count at1 at2 at3 fails = rw (behind_three vs a b 
 pub if_ends_yes : (inside : Bool) (vs : List Tree) (a b c : Tree) (test : Expression) (error : PartError) → length vs ≡ 4 → a ≡ get_or vs 1 a → b ≡ get_or vs 2 b → c ≡ get_or vs 3 c → at (to_part 1) (expression_in (view a)) ≡ Ok test → Fails error (at (to_part 2) (body_in inside (view b))) → Fails error (of_word inside words.If (items_view (drop 1 vs)))
 if_ends_yes inside vs a b c test error count at1 at2 at3 read fails = rw (behind_three vs a b c count at1 at2 at3, read) (ends_then _ _ error fails)
 
+pub while_ends : (inside : Bool) (vs : List Tree) (a b : Tree) (error : PartError) → length vs ≡ 3 → a ≡ get_or vs 1 a → b ≡ get_or vs 2 b → Fails error (at (to_part 1) (expression_in (view a))) → Fails error (of_word inside words.While (items_view (drop 1 vs)))
+while_ends inside vs a b error count at1 at2 fails = rw (behind_two vs a b count at1 at2) (ends_then _ _ error fails)
+
 pub try_ends : (inside : Bool) (vs : List Tree) (a b c : Tree) (error : PartError) → length vs ≡ 4 → a ≡ get_or vs 1 a → b ≡ get_or vs 2 b → c ≡ get_or vs 3 c → Fails error (at (to_part 1) (body_in inside (view a))) → Fails error (of_word inside words.Try (items_view (drop 1 vs)))
 try_ends inside vs a b c error count at1 at2 at3 fails = rw (behind_three vs a b c count at1 at2 at3) (ends_then _ _ error fails)
 

@@ -114,8 +114,8 @@ pub(crate) fn body_in(alloc: Global, inside: bool, value: &Tree<'_>) -> Result<V
 /// The statements of an array, from the first on.
 #[cycle(statements)]
 #[tactic(auto, using(crate::proofs::Blocks::goes_on, crate::proofs::Blocks::ends, crate::proofs::Blocks::begins, crate::proofs::Blocks::all))]
-fn statements_in(alloc: Global, inside: bool, items: &Vec<Tree<'_>>) -> Result<Vec<Stmt>, PartError>
-    ensures { Gives (λ body. block_of body.items) result (statements_from inside 0 (items_view items.now.items)) }
+fn statements_in(alloc: Global, inside: bool, items: &[Tree<'_>]) -> Result<Vec<Stmt>, PartError>
+    ensures { Gives (λ body. block_of body.items) result (statements_from inside 0 (items_view items.now)) }
 {
     let mut statements = Vec::with_capacity(alloc, items.len())?;
     for (index, item) in items.iter().enumerate() {
@@ -161,8 +161,8 @@ fn statement_in(alloc: Global, inside: bool, value: &Tree<'_>) -> Result<Stmt, P
 
 #[cycle(statements)]
 #[tactic(auto, using(crate::proofs::Blocks::no_word, crate::proofs::Blocks::unknown_word, crate::proofs::Blocks::known_word))]
-fn array_in(alloc: Global, inside: bool, items: &Vec<Tree<'_>>) -> Result<Stmt, PartError>
-    ensures { Gives statement_of result (statement_in inside (array (items_view items.now.items))) }
+fn array_in(alloc: Global, inside: bool, items: &[Tree<'_>]) -> Result<Stmt, PartError>
+    ensures { Gives statement_of result (statement_in inside (array (items_view items.now))) }
 {
     if items.is_empty() {
         return Err(misshapen(alloc));
@@ -184,14 +184,9 @@ fn parts_of<'t, 'a>(items: &'t [Tree<'a>]) -> &'t [Tree<'a>]
 /// The statement of a word and the parts behind it.
 #[cycle(statements)]
 #[tactic(auto, using(crate::proofs::Blocks::no_lock, crate::proofs::Blocks::no_if, crate::proofs::Blocks::no_while, crate::proofs::Blocks::no_try))]
-fn of_word(
-    alloc: Global,
-    inside: bool,
-    word: Word,
-    items: &Vec<Tree<'_>>,
-) -> Result<Stmt, PartError>
-    requires { 1 ≤ length items.now.items }
-    ensures { Gives statement_of result (of_word inside word (items_view (drop 1 items.now.items))) }
+fn of_word(alloc: Global, inside: bool, word: Word, items: &[Tree<'_>]) -> Result<Stmt, PartError>
+    requires { 1 ≤ length items.now }
+    ensures { Gives statement_of result (of_word inside word (items_view (drop 1 items.now))) }
 {
     match word {
         Word::Lock => {
@@ -229,9 +224,9 @@ fn of_word(
 /// A body that holds entities.
 #[cycle(statements)]
 #[tactic(auto, using(flow_values::proofs::Parts::ends_then, crate::proofs::Blocks::behind_two))]
-fn lock_in(alloc: Global, inside: bool, items: &Vec<Tree<'_>>) -> Result<Stmt, PartError>
-    requires { length items.now.items ≡ 3 }
-    ensures { Gives statement_of result (of_word inside words.Lock (items_view (drop 1 items.now.items))) }
+fn lock_in(alloc: Global, inside: bool, items: &[Tree<'_>]) -> Result<Stmt, PartError>
+    requires { length items.now ≡ 3 }
+    ensures { Gives statement_of result (of_word inside words.Lock (items_view (drop 1 items.now))) }
 {
     let (entities, body) = (&items[1], &items[2]);
     let entities = pairs_at(alloc, entities, 1)?;
@@ -242,9 +237,9 @@ fn lock_in(alloc: Global, inside: bool, items: &Vec<Tree<'_>>) -> Result<Stmt, P
 /// One of two bodies.
 #[cycle(statements)]
 #[tactic(auto, using(flow_values::proofs::Parts::ends_then, crate::proofs::Blocks::behind_three, crate::proofs::Blocks::if_ends, crate::proofs::Blocks::if_ends_yes))]
-fn if_in(alloc: Global, inside: bool, items: &Vec<Tree<'_>>) -> Result<Stmt, PartError>
-    requires { length items.now.items ≡ 4 }
-    ensures { Gives statement_of result (of_word inside words.If (items_view (drop 1 items.now.items))) }
+fn if_in(alloc: Global, inside: bool, items: &[Tree<'_>]) -> Result<Stmt, PartError>
+    requires { length items.now ≡ 4 }
+    ensures { Gives statement_of result (of_word inside words.If (items_view (drop 1 items.now))) }
 {
     let (test, yes, no) = (&items[1], &items[2], &items[3]);
     let test = expression_at(alloc, test, 1)?;
@@ -255,10 +250,10 @@ fn if_in(alloc: Global, inside: bool, items: &Vec<Tree<'_>>) -> Result<Stmt, Par
 
 /// A body that is repeated.
 #[cycle(statements)]
-#[tactic(auto, using(flow_values::proofs::Parts::ends_then, crate::proofs::Blocks::behind_two))]
-fn while_in(alloc: Global, inside: bool, items: &Vec<Tree<'_>>) -> Result<Stmt, PartError>
-    requires { length items.now.items ≡ 3 }
-    ensures { Gives statement_of result (of_word inside words.While (items_view (drop 1 items.now.items))) }
+#[tactic(auto, using(flow_values::proofs::Parts::ends_then, crate::proofs::Blocks::behind_two, crate::proofs::Blocks::while_ends))]
+fn while_in(alloc: Global, inside: bool, items: &[Tree<'_>]) -> Result<Stmt, PartError>
+    requires { length items.now ≡ 3 }
+    ensures { Gives statement_of result (of_word inside words.While (items_view (drop 1 items.now))) }
 {
     let (test, body) = (&items[1], &items[2]);
     let test = expression_at(alloc, test, 1)?;
@@ -269,9 +264,9 @@ fn while_in(alloc: Global, inside: bool, items: &Vec<Tree<'_>>) -> Result<Stmt, 
 /// A body and what follows a fault in it.
 #[cycle(statements)]
 #[tactic(auto, using(flow_values::proofs::Parts::ends_then, crate::proofs::Blocks::behind_three, crate::proofs::Blocks::try_ends, crate::proofs::Blocks::try_ends_variable))]
-fn try_in(alloc: Global, inside: bool, items: &Vec<Tree<'_>>) -> Result<Stmt, PartError>
-    requires { length items.now.items ≡ 4 }
-    ensures { Gives statement_of result (of_word inside words.Try (items_view (drop 1 items.now.items))) }
+fn try_in(alloc: Global, inside: bool, items: &[Tree<'_>]) -> Result<Stmt, PartError>
+    requires { length items.now ≡ 4 }
+    ensures { Gives statement_of result (of_word inside words.Try (items_view (drop 1 items.now))) }
 {
     let (body, variable, handler) = (&items[1], &items[2], &items[3]);
     let body = body_at(alloc, inside, body, 1)?;

@@ -37,30 +37,30 @@ fn body_under(
     alloc: Global,
     inside: bool,
     name: &Name,
-    value: Tree<'_>,
+    value: &Tree<'_>,
 ) -> Result<Vec<Stmt>, PartError>
-    ensures { Gives (λ body. block_of body.items) result (at (to_key name.now) (body_in inside (view value.entry))) }
+    ensures { Gives (λ body. block_of body.items) result (at (to_key name.now) (body_in inside (view value.now))) }
 {
-    match body_in(alloc, inside, &value) {
+    match body_in(alloc, inside, value) {
         Ok(body) => Ok(body),
         Err(error) => Err(under(error, Step::Name(name.clone()?))),
     }
 }
 
 /// The bodies of an object whose keys are names.
-#[tactic(auto, using(crate::proofs::Members::put, crate::proofs::Members::ends, crate::proofs::Members::first_is_name, crate::proofs::Members::rest_are_names))]
+#[tactic(auto, using(crate::proofs::Members::put, crate::proofs::Members::ends, crate::proofs::Members::all, crate::proofs::Members::first_is_name, crate::proofs::Members::rest_are_names))]
 fn bodies_from(
     alloc: Global,
     inside: bool,
-    members: Vec<Member<'_>>,
+    members: &[Member<'_>],
 ) -> Result<BTreeMap<Name, Vec<Stmt>>, PartError>
-    requires { have_names (members_view members.items) ≡ true }
-    ensures { Gives bodies_of result (named_after (body_in inside) [] (members_view members.entry.items)) }
+    requires { have_names (members_view members.now) ≡ true }
+    ensures { Gives bodies_of result (named_after (body_in inside) [] (members_view members.now)) }
 {
     let mut bodies = BTreeMap::new(alloc);
-    for (key, value) in members {
-        let name = Name::of(alloc, key.as_bytes())?;
-        match body_under(alloc, inside, &name, value) {
+    for member in members {
+        let name = Name::of(alloc, member.0.as_bytes())?;
+        match body_under(alloc, inside, &name, &member.1) {
             Ok(body) => bodies.insert(name, body)?,
             Err(error) => return Err(error),
         };
@@ -71,11 +71,11 @@ fn bodies_from(
 fn bodies_of_members(
     alloc: Global,
     inside: bool,
-    members: Vec<Member<'_>>,
+    members: &[Member<'_>],
 ) -> Result<BTreeMap<Name, Vec<Stmt>>, PartError>
-    ensures { Gives bodies_of result (named_in (body_in inside) (object (members_view members.entry.items))) }
+    ensures { Gives bodies_of result (named_in (body_in inside) (object (members_view members.now))) }
 {
-    if have_names(&members) {
+    if have_names(members) {
         bodies_from(alloc, inside, members)
     } else {
         Err(misshapen(alloc))
@@ -86,9 +86,9 @@ fn bodies_of_members(
 pub(crate) fn bodies_in(
     alloc: Global,
     inside: bool,
-    value: Tree<'_>,
+    value: &Tree<'_>,
 ) -> Result<BTreeMap<Name, Vec<Stmt>>, PartError>
-    ensures { Gives bodies_of result (named_in (body_in inside) (view value.entry)) }
+    ensures { Gives bodies_of result (named_in (body_in inside) (view value.now)) }
 {
     match value {
         Tree::Object(members) => bodies_of_members(alloc, inside, members),
@@ -101,18 +101,18 @@ pub(crate) fn bodies_in(
 }
 
 #[tactic(auto, using(flow_values::proofs::Parts::fails_under))]
-fn init_at(alloc: Global, value: Tree<'_>) -> Result<Value, PartError>
-    ensures { Gives (λ v. v) result (at (to_key (codes "init")) (value_in (view value.entry))) }
+fn init_at(alloc: Global, value: &Tree<'_>) -> Result<Value, PartError>
+    ensures { Gives (λ v. v) result (at (to_key (codes "init")) (value_in (view value.now))) }
 {
-    match value_in(alloc, &value) {
+    match value_in(alloc, value) {
         Ok(init) => Ok(init),
         Err(error) => Err(under(error, Step::Word("init"))),
     }
 }
 
 #[tactic(auto, using(flow_values::proofs::Parts::fails_under))]
-fn operations_at(alloc: Global, value: Tree<'_>) -> Result<BTreeMap<Name, Vec<Stmt>>, PartError>
-    ensures { Gives bodies_of result (at (to_key (codes "ops")) (named_in (body_in true) (view value.entry))) }
+fn operations_at(alloc: Global, value: &Tree<'_>) -> Result<BTreeMap<Name, Vec<Stmt>>, PartError>
+    ensures { Gives bodies_of result (at (to_key (codes "ops")) (named_in (body_in true) (view value.now))) }
 {
     match bodies_in(alloc, true, value) {
         Ok(operations) => Ok(operations),
@@ -125,11 +125,11 @@ fn operations_at(alloc: Global, value: Tree<'_>) -> Result<BTreeMap<Name, Vec<St
 fn class_of_two(
     alloc: Global,
     first: &str,
-    init: Tree<'_>,
+    init: &Tree<'_>,
     second: &str,
-    operations: Tree<'_>,
+    operations: &Tree<'_>,
 ) -> Result<Class, PartError>
-    ensures { Gives class_of result (class_in (object (member first.now (view init.entry) (member second.now (view operations.entry) no_members)))) }
+    ensures { Gives class_of result (class_in (object (member first.now (view init.now) (member second.now (view operations.now) no_members)))) }
 {
     if first == "init" && second == "ops" {
         let init = init_at(alloc, init)?;
@@ -140,15 +140,15 @@ fn class_of_two(
     }
 }
 
-fn class_of_members(alloc: Global, members: Vec<Member<'_>>) -> Result<Class, PartError>
-    ensures { Gives class_of result (class_in (object (members_view members.entry.items))) }
+fn class_of_members(alloc: Global, members: &[Member<'_>]) -> Result<Class, PartError>
+    ensures { Gives class_of result (class_in (object (members_view members.now))) }
 {
-    let mut entries = members.into_iter();
+    let mut entries = members.iter();
     match entries.next() {
-        Some((first, init)) => match entries.next() {
-            Some((second, operations)) => match entries.next() {
+        Some(first) => match entries.next() {
+            Some(second) => match entries.next() {
                 Some(_) => Err(misshapen(alloc)),
-                None => class_of_two(alloc, first, init, second, operations),
+                None => class_of_two(alloc, first.0, &first.1, second.0, &second.1),
             },
             None => Err(misshapen(alloc)),
         },
@@ -157,8 +157,8 @@ fn class_of_members(alloc: Global, members: Vec<Member<'_>>) -> Result<Class, Pa
 }
 
 /// A class: its members are `init` and `ops`, no more and no less.
-fn class_in(alloc: Global, value: Tree<'_>) -> Result<Class, PartError>
-    ensures { Gives class_of result (class_in (view value.entry)) }
+fn class_in(alloc: Global, value: &Tree<'_>) -> Result<Class, PartError>
+    ensures { Gives class_of result (class_in (view value.now)) }
 {
     match value {
         Tree::Object(members) => class_of_members(alloc, members),
@@ -172,8 +172,8 @@ fn class_in(alloc: Global, value: Tree<'_>) -> Result<Class, PartError>
 
 /// The class under a name.
 #[tactic(auto, using(flow_values::proofs::Parts::fails_under))]
-fn class_under(alloc: Global, name: &Name, value: Tree<'_>) -> Result<Class, PartError>
-    ensures { Gives class_of result (at (to_key name.now) (class_in (view value.entry))) }
+fn class_under(alloc: Global, name: &Name, value: &Tree<'_>) -> Result<Class, PartError>
+    ensures { Gives class_of result (at (to_key name.now) (class_in (view value.now))) }
 {
     match class_in(alloc, value) {
         Ok(class) => Ok(class),
@@ -182,15 +182,15 @@ fn class_under(alloc: Global, name: &Name, value: Tree<'_>) -> Result<Class, Par
 }
 
 /// The classes of an object whose keys are names.
-#[tactic(auto, using(crate::proofs::Members::put, crate::proofs::Members::ends, crate::proofs::Members::first_is_name, crate::proofs::Members::rest_are_names))]
-fn classes_from(alloc: Global, members: Vec<Member<'_>>) -> Result<BTreeMap<Name, Class>, PartError>
-    requires { have_names (members_view members.items) ≡ true }
-    ensures { Gives (λ classes. named_by class_of classes.entries) result (named_after class_in [] (members_view members.entry.items)) }
+#[tactic(auto, using(crate::proofs::Members::put, crate::proofs::Members::ends, crate::proofs::Members::all, crate::proofs::Members::first_is_name, crate::proofs::Members::rest_are_names))]
+fn classes_from(alloc: Global, members: &[Member<'_>]) -> Result<BTreeMap<Name, Class>, PartError>
+    requires { have_names (members_view members.now) ≡ true }
+    ensures { Gives (λ classes. named_by class_of classes.entries) result (named_after class_in [] (members_view members.now)) }
 {
     let mut classes = BTreeMap::new(alloc);
-    for (key, value) in members {
-        let name = Name::of(alloc, key.as_bytes())?;
-        match class_under(alloc, &name, value) {
+    for member in members {
+        let name = Name::of(alloc, member.0.as_bytes())?;
+        match class_under(alloc, &name, &member.1) {
             Ok(class) => classes.insert(name, class)?,
             Err(error) => return Err(error),
         };
@@ -200,11 +200,11 @@ fn classes_from(alloc: Global, members: Vec<Member<'_>>) -> Result<BTreeMap<Name
 
 fn classes_of_members(
     alloc: Global,
-    members: Vec<Member<'_>>,
+    members: &[Member<'_>],
 ) -> Result<BTreeMap<Name, Class>, PartError>
-    ensures { Gives (λ classes. named_by class_of classes.entries) result (named_in class_in (object (members_view members.entry.items))) }
+    ensures { Gives (λ classes. named_by class_of classes.entries) result (named_in class_in (object (members_view members.now))) }
 {
-    if have_names(&members) {
+    if have_names(members) {
         classes_from(alloc, members)
     } else {
         Err(misshapen(alloc))
@@ -212,8 +212,11 @@ fn classes_of_members(
 }
 
 /// An object of classes by names.
-pub(crate) fn classes_in(alloc: Global, value: Tree<'_>) -> Result<BTreeMap<Name, Class>, PartError>
-    ensures { Gives (λ classes. named_by class_of classes.entries) result (named_in class_in (view value.entry)) }
+pub(crate) fn classes_in(
+    alloc: Global,
+    value: &Tree<'_>,
+) -> Result<BTreeMap<Name, Class>, PartError>
+    ensures { Gives (λ classes. named_by class_of classes.entries) result (named_in class_in (view value.now)) }
 {
     match value {
         Tree::Object(members) => classes_of_members(alloc, members),

@@ -16,8 +16,8 @@ use std::alloc::Global;
 use std::collections::BTreeMap;
 
 #[tactic(auto, using(flow_values::proofs::Parts::fails_under))]
-fn classes_at(alloc: Global, value: Tree<'_>) -> Result<BTreeMap<Name, Class>, PartError>
-    ensures { Gives (λ classes. named_by class_of classes.entries) result (classes_in (view value.entry)) }
+fn classes_at(alloc: Global, value: &Tree<'_>) -> Result<BTreeMap<Name, Class>, PartError>
+    ensures { Gives (λ classes. named_by class_of classes.entries) result (classes_in (view value.now)) }
 {
     match classes_in(alloc, value) {
         Ok(classes) => Ok(classes),
@@ -26,8 +26,8 @@ fn classes_at(alloc: Global, value: Tree<'_>) -> Result<BTreeMap<Name, Class>, P
 }
 
 #[tactic(auto, using(flow_values::proofs::Parts::fails_under))]
-fn flows_at(alloc: Global, value: Tree<'_>) -> Result<BTreeMap<Name, Vec<Stmt>>, PartError>
-    ensures { Gives bodies_of result (bodies_in (view value.entry)) }
+fn flows_at(alloc: Global, value: &Tree<'_>) -> Result<BTreeMap<Name, Vec<Stmt>>, PartError>
+    ensures { Gives bodies_of result (bodies_in (view value.now)) }
 {
     match bodies_in(alloc, false, value) {
         Ok(flows) => Ok(flows),
@@ -37,8 +37,8 @@ fn flows_at(alloc: Global, value: Tree<'_>) -> Result<BTreeMap<Name, Vec<Stmt>>,
 
 /// A file of one member.
 #[tactic(auto, using(flow_values::proofs::Parts::ends_then))]
-fn of_one(alloc: Global, key: &str, value: Tree<'_>) -> Result<Flows, PartError>
-    ensures { Gives flows_of result (file_in (object (member key.now (view value.entry) no_members))) }
+fn of_one(alloc: Global, key: &str, value: &Tree<'_>) -> Result<Flows, PartError>
+    ensures { Gives flows_of result (file_in (object (member key.now (view value.now) no_members))) }
 {
     if key == "classes" {
         let classes = classes_at(alloc, value)?;
@@ -58,11 +58,11 @@ fn of_one(alloc: Global, key: &str, value: Tree<'_>) -> Result<Flows, PartError>
 fn of_two(
     alloc: Global,
     first: &str,
-    classes: Tree<'_>,
+    classes: &Tree<'_>,
     second: &str,
-    flows: Tree<'_>,
+    flows: &Tree<'_>,
 ) -> Result<Flows, PartError>
-    ensures { Gives flows_of result (file_in (object (member first.now (view classes.entry) (member second.now (view flows.entry) no_members)))) }
+    ensures { Gives flows_of result (file_in (object (member first.now (view classes.now) (member second.now (view flows.now) no_members)))) }
 {
     if first == "classes" && second == "flows" {
         let classes = classes_at(alloc, classes)?;
@@ -73,25 +73,25 @@ fn of_two(
     }
 }
 
-fn of_members(alloc: Global, members: Vec<Member<'_>>) -> Result<Flows, PartError>
-    ensures { Gives flows_of result (file_in (object (members_view members.entry.items))) }
+fn of_members(alloc: Global, members: &[Member<'_>]) -> Result<Flows, PartError>
+    ensures { Gives flows_of result (file_in (object (members_view members.now))) }
 {
-    let mut entries = members.into_iter();
+    let mut entries = members.iter();
     match entries.next() {
-        Some((first, classes)) => match entries.next() {
-            Some((second, flows)) => match entries.next() {
+        Some(first) => match entries.next() {
+            Some(second) => match entries.next() {
                 Some(_) => Err(misshapen(alloc)),
-                None => of_two(alloc, first, classes, second, flows),
+                None => of_two(alloc, first.0, &first.1, second.0, &second.1),
             },
-            None => of_one(alloc, first, classes),
+            None => of_one(alloc, first.0, &first.1),
         },
         None => Ok(Flows::new(alloc)),
     }
 }
 
 /// An object with no members but `classes` and `flows`.
-pub(crate) fn file_in(alloc: Global, value: Tree<'_>) -> Result<Flows, PartError>
-    ensures { Gives flows_of result (file_in (view value.entry)) }
+pub(crate) fn file_in(alloc: Global, value: &Tree<'_>) -> Result<Flows, PartError>
+    ensures { Gives flows_of result (file_in (view value.now)) }
 {
     match value {
         Tree::Object(members) => of_members(alloc, members),

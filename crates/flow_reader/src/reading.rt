@@ -6,9 +6,9 @@ ghost use Rattle.flow_reader.specs.Files.{file_in, flows_in, shape_checked};
 
 use crate::file::file_in;
 use crate::lookups::known_file;
+use bumpalo::Bump;
 use flow_syntax::Flows;
 use flow_values::{PartError, Path};
-use json::Scratch;
 use json_tree::{ReadError, Tree, read_tree};
 use std::alloc::Global;
 use thiserror::Error;
@@ -37,10 +37,10 @@ pub enum FlowsError {
 }
 
 /// The flows that JSON stands for: all shapes are looked at, and then all names.
-fn flows_of(alloc: Global, tree: Tree<'_>) -> Result<Flows, FlowsError>
-    ensures { Reads result (shape_checked (file_in (view tree.entry))) }
+fn flows_of(alloc: Global, value: &Tree<'_>) -> Result<Flows, FlowsError>
+    ensures { Reads result (shape_checked (file_in (view value.now))) }
 {
-    match file_in(alloc, tree) {
+    match file_in(alloc, value) {
         Ok(file) => match known_file(alloc, &file) {
             Ok(()) => Ok(file),
             Err(PartError::Misshapen(path)) => Err(FlowsError::UnknownName { path }),
@@ -56,9 +56,9 @@ fn flows_of(alloc: Global, tree: Tree<'_>) -> Result<Flows, FlowsError>
 pub fn read_flows(alloc: Global, bytes: &[u8]) -> Result<Flows, FlowsError>
     ensures { Reads result (flows_in bytes.now) }
 {
-    let mut scratch = Scratch::new(alloc);
-    match read_tree(alloc, bytes, &mut scratch) {
-        Ok(tree) => flows_of(alloc, tree),
+    let arena = Bump::new(alloc);
+    match read_tree(alloc, &arena, bytes) {
+        Ok(tree) => flows_of(alloc, &tree),
         Err(ReadError::NotJson) => Err(FlowsError::NotJson),
         Err(ReadError::Memory) => Err(FlowsError::Memory),
     }

@@ -159,8 +159,8 @@ fn list_in(alloc: Global, value: &Tree<'_>) -> Result<Vec<Expr>, PartError>
 /// The expressions of an array, from the first on.
 #[cycle(expressions)]
 #[tactic(auto, using(crate::proofs::Parts::goes_on, crate::proofs::Parts::ends, crate::proofs::Parts::begins, crate::proofs::Parts::all))]
-fn parts_in(alloc: Global, items: &Vec<Tree<'_>>) -> Result<Vec<Expr>, PartError>
-    ensures { Gives (λ parts. parts_of parts.items) result (expressions_from 0 (items_view items.now.items)) }
+fn parts_in(alloc: Global, items: &[Tree<'_>]) -> Result<Vec<Expr>, PartError>
+    ensures { Gives (λ parts. parts_of parts.items) result (expressions_from 0 (items_view items.now)) }
 {
     let mut parts = Vec::with_capacity(alloc, items.len())?;
     for (index, item) in items.iter().enumerate() {
@@ -211,9 +211,9 @@ pub fn expression_at(alloc: Global, item: &Tree<'_>, index: usize) -> Result<Exp
 /// An operation of one part.
 #[cycle(expressions)]
 #[tactic(auto, using(crate::proofs::Parts::unary_unknown, crate::proofs::Parts::unary_ends, crate::proofs::Parts::unary_read))]
-fn unary_of(alloc: Global, items: &Vec<Tree<'_>>) -> Result<Expr, PartError>
-    requires { length items.now.items ≡ 2 }
-    ensures { Gives expression_of result (operation_in (array (items_view items.now.items))) }
+fn unary_of(alloc: Global, items: &[Tree<'_>]) -> Result<Expr, PartError>
+    requires { length items.now ≡ 2 }
+    ensures { Gives expression_of result (operation_in (array (items_view items.now))) }
 {
     let (word, only) = (&items[0], &items[1]);
     match unary_in(word) {
@@ -228,9 +228,9 @@ fn unary_of(alloc: Global, items: &Vec<Tree<'_>>) -> Result<Expr, PartError>
 /// An operation of two parts.
 #[cycle(expressions)]
 #[tactic(auto, using(crate::proofs::Parts::binary_unknown, crate::proofs::Parts::binary_ends, crate::proofs::Parts::binary_ends_second, crate::proofs::Parts::binary_read))]
-fn binary_of(alloc: Global, items: &Vec<Tree<'_>>) -> Result<Expr, PartError>
-    requires { length items.now.items ≡ 3 }
-    ensures { Gives expression_of result (operation_in (array (items_view items.now.items))) }
+fn binary_of(alloc: Global, items: &[Tree<'_>]) -> Result<Expr, PartError>
+    requires { length items.now ≡ 3 }
+    ensures { Gives expression_of result (operation_in (array (items_view items.now))) }
 {
     let (word, first, second) = (&items[0], &items[1], &items[2]);
     match binary_in(word) {

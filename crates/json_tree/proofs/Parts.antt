@@ -1,5 +1,5 @@
 -- A value by the token that it begins with.
-use Rattle.std.proofs.Common.{◌≡◌, ℕ, ◌-◌, ◌<◌, List, [], ◌∷◌, length, Bool, true, false, Option, Some, None, option_map, Result, Ok, Err, refl, ap, ◌∙◌, arith, rules, Vec, Global, Bor}
+use Rattle.std.proofs.Common.{◌≡◌, ℕ, ◌-◌, ◌<◌, List, [], ◌∷◌, length, Bool, true, false, Option, Some, None, option_map, Result, Ok, Err, refl, ap, ◌∙◌, arith, rules, Bor}
 use Rattle.std.specs.Prelude.{OnOk}
 use Rattle.json.specs.Token.{Token}
 use Rattle.json.specs.Json as json
@@ -104,10 +104,10 @@ one_taken (Err error) t ts rest is = tt
 
 -- ---- trees of trees
 
-pub view_of_array : (v : Vec Tree Global) → view (Array v) ≡ array (items_view v.items)
+pub view_of_array : (v : Bor (List Tree)) → view (Array v) ≡ array (items_view v.now)
 view_of_array v = search (rules, the_lemmas)
 
-pub view_of_object : (v : Vec (Bor (List ℕ) × Tree) Global) → view (Object v) ≡ object (members_view v.items)
+pub view_of_object : (v : Bor (List (Bor (List ℕ) × Tree))) → view (Object v) ≡ object (members_view v.now)
 view_of_object v = search (rules, the_lemmas)
 
 -- a refusal of the inside is one of the whole

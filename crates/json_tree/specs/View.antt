@@ -16,8 +16,8 @@ view_step Tree-F.Null = null
 view_step (Tree-F.Bool b) = boolean b
 view_step (Tree-F.Number n) = number (number_view n)
 view_step (Tree-F.String s) = string s.now
-view_step (Tree-F.Array trees) = array (items_of trees.items)
-view_step (Tree-F.Object members) = object (members_of members.items)
+view_step (Tree-F.Array trees) = array (items_of trees.now)
+view_step (Tree-F.Object members) = object (members_of members.now)
 
 abbrev pub view : Tree → Data
 view = fold-Tree Data view_step

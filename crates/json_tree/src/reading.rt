@@ -11,6 +11,7 @@ ghost use Rattle.json_tree.specs.declared.reading.ReadError.TheVariants as error
 
 use crate::number::number_of;
 use crate::tree::{Member, Tree};
+use bumpalo::Bump;
 use json::{Invalid, Reader, Scratch, Token};
 use std::alloc::{AllocError, AllocFailed, Global};
 use std::collections::BTreeMap;
@@ -18,9 +19,6 @@ use thiserror::Error;
 
 /// How deep arrays and objects may nest.
 const MOST_LEVELS: usize = 127;
-
-/// More parts than this are cut to their size where they lie.
-const MANY: usize = 64;
 
 /// Why bytes gave no tree.
 #[derive(Debug, Drop, Error)]
@@ -57,21 +55,8 @@ impl From<Invalid> for ReadError {
     }
 }
 
-/// The same, with no room to spare: a few parts are moved, since what is cut off a small block is seldom used again.
-fn exactly<T: Drop>(alloc: Global, mut found: Vec<T>) -> Result<Vec<T>, AllocError>
-    ensures { IfOk result (λ kept. kept.items ≡ found.items) }
-{
-    if found.len() > MANY {
-        found.shrink_to_fit();
-        return Ok(found);
-    }
-    let mut kept = Vec::with_capacity(alloc, found.len())?;
-    kept.append(&mut found)?;
-    Ok(kept)
-}
-
 /// What a token alone stands for.
-fn leaf<'a>(token: Token<'a>) -> Result<Tree<'a>, ReadError>
+fn leaf<'a>(arena: &'a Bump, token: Token<'_>) -> Result<Tree<'a>, ReadError>
     ensures { Finds view result (leaf (token_of token.entry)) }
 {
     match token {
@@ -81,7 +66,7 @@ fn leaf<'a>(token: Token<'a>) -> Result<Tree<'a>, ReadError>
             Some(number) => Ok(Tree::Number(number)),
             None => Err(ReadError::NotJson),
         },
-        Token::String(text) => Ok(Tree::String(text)),
+        Token::String(text) => Ok(Tree::String(arena.try_alloc_str(text)?)),
         _ => Err(ReadError::NotJson),
     }
 }
@@ -89,7 +74,12 @@ fn leaf<'a>(token: Token<'a>) -> Result<Tree<'a>, ReadError>
 /// The next value. Arrays and objects may nest so many levels deep.
 #[cycle(read)]
 #[tactic(auto, using(crate::proofs::Parts::array_began, crate::proofs::Parts::object_began, crate::proofs::Parts::too_deep_array, crate::proofs::Parts::too_deep_object, crate::proofs::Parts::nothing_left, crate::proofs::Parts::fails_around))]
-fn tree_in<'a>(alloc: Global, reader: &mut Reader<'a>, levels: usize) -> Result<Tree<'a>, ReadError>
+fn tree_in<'a>(
+    alloc: Global,
+    arena: &'a Bump,
+    reader: &mut Reader<'_>,
+    levels: usize,
+) -> Result<Tree<'a>, ReadError>
     ensures taken { Takes view result reader.new (data_in levels reader.old) }
     ensures shorter { OnOk result (length reader.new < length reader.old) }
 {
@@ -99,15 +89,15 @@ fn tree_in<'a>(alloc: Global, reader: &mut Reader<'a>, levels: usize) -> Result<
             if levels == 0 {
                 return Err(ReadError::NotJson);
             }
-            Ok(Tree::Array(items_in(alloc, reader, levels - 1)?))
+            Ok(Tree::Array(items_in(alloc, arena, reader, levels - 1)?))
         }
         Token::BeginObject => {
             if levels == 0 {
                 return Err(ReadError::NotJson);
             }
-            Ok(Tree::Object(members_in(alloc, reader, levels - 1)?))
+            Ok(Tree::Object(members_in(alloc, arena, reader, levels - 1)?))
         }
-        _ => leaf(token),
+        _ => leaf(arena, token),
     }
 }
 
@@ -116,18 +106,19 @@ fn tree_in<'a>(alloc: Global, reader: &mut Reader<'a>, levels: usize) -> Result<
 #[tactic(auto, using(crate::proofs::Items::begins, crate::proofs::Items::goes_on, crate::proofs::Items::ends, crate::proofs::Items::fails))]
 fn items_in<'a>(
     alloc: Global,
-    reader: &mut Reader<'a>,
+    arena: &'a Bump,
+    reader: &mut Reader<'_>,
     levels: usize,
-) -> Result<Vec<Tree<'a>>, ReadError>
-    ensures taken { Takes (λ found. items_view found.items) result reader.new (items_in levels reader.old) }
+) -> Result<&'a [Tree<'a>], ReadError>
+    ensures taken { Takes (λ found. items_view found.now) result reader.new (items_in levels reader.old) }
     ensures shorter { OnOk result (length reader.new < length reader.old) }
 {
     let mut found = Vec::new(alloc);
     while !reader.take_end_array() {
-        let item = tree_in(alloc, reader, levels)?;
+        let item = tree_in(alloc, arena, reader, levels)?;
         found.push(item)?;
     }
-    Ok(exactly(alloc, found)?)
+    Ok(arena.try_alloc_slice_copy(&found)?)
 }
 
 /// The members up to the end of the object that began. The map that sorts them is large, so it lives no longer.
@@ -135,18 +126,21 @@ fn items_in<'a>(
 #[tactic(auto, using(crate::proofs::Members::begins, crate::proofs::Members::goes_on, crate::proofs::Members::ends, crate::proofs::Members::no_key, crate::proofs::Members::fails))]
 fn members_in<'a>(
     alloc: Global,
-    reader: &mut Reader<'a>,
+    arena: &'a Bump,
+    reader: &mut Reader<'_>,
     levels: usize,
-) -> Result<Vec<Member<'a>>, ReadError>
-    ensures taken { Takes (λ found. members_view found.items) result reader.new (members_in levels reader.old) }
+) -> Result<&'a [Member<'a>], ReadError>
+    ensures taken { Takes (λ found. members_view found.now) result reader.new (members_in levels reader.old) }
     ensures shorter { OnOk result (length reader.new < length reader.old) }
 {
     let mut found = BTreeMap::new(alloc);
-    while let Some(key) = reader.next_key()? {
-        let member = tree_in(alloc, reader, levels)?;
+    while let Some(name) = reader.next_key()? {
+        let key = arena.try_alloc_str(name)?;
+        let member = tree_in(alloc, arena, reader, levels)?;
         drop(found.insert(key, member)?);
     }
-    Ok(entries_of(alloc, found)?)
+    let found = entries_of(alloc, found)?;
+    Ok(arena.try_alloc_slice_copy(&found)?)
 }
 
 /// The members in the order of their keys.
@@ -163,20 +157,17 @@ fn entries_of<'a>(
     Ok(members)
 }
 
-/// The value that bytes are. Texts with escapes lie in the scratch, all others in the bytes.
-pub fn read_tree<'a>(
-    alloc: Global,
-    bytes: &'a [u8],
-    scratch: &'a mut Scratch,
-) -> Result<Tree<'a>, ReadError>
+/// The value that bytes are, put into the arena.
+pub fn read_tree<'a>(alloc: Global, arena: &'a Bump, bytes: &[u8]) -> Result<Tree<'a>, ReadError>
     ensures utf8 { OnOk result (IsUtf8 bytes.now) }
     ensures found { IsUtf8 bytes.now → Finds view result (read bytes.now) }
 {
     let Ok(text) = str::from_utf8(bytes) else {
         return Err(ReadError::NotJson);
     };
-    let mut reader = Reader::new(text, scratch)?;
-    let tree = tree_in(alloc, &mut reader, MOST_LEVELS)?;
+    let mut scratch = Scratch::new(alloc);
+    let mut reader = Reader::new(text, &mut scratch)?;
+    let tree = tree_in(alloc, arena, &mut reader, MOST_LEVELS)?;
     if reader.next().is_some() {
         return Err(ReadError::NotJson);
     }

@@ -6,16 +6,16 @@ ghost use Rattle.json_tree.specs.View.{items_view, view};
 
 use serde_json::Number;
 
-/// A JSON value. Its texts are borrowed. No array or object has room for more than it holds.
-#[derive(Drop)]
+/// A JSON value. All of it lies in an arena.
+#[derive(Clone, Copy)]
 pub enum Tree<'a> {
     Null,
     Bool(bool),
     Number(Number),
     String(&'a str),
-    Array(Vec<Tree<'a>>),
+    Array(&'a [Tree<'a>]),
     /// The members in the order of their keys, each key once.
-    Object(Vec<Member<'a>>),
+    Object(&'a [Member<'a>]),
 }
 
 /// A key and what stands under it.
@@ -23,11 +23,11 @@ pub type Member<'a> = (&'a str, Tree<'a>);
 
 impl<'a> Tree<'a> {
     /// The parts, where it is an array.
-    pub fn as_array(&self) -> Option<&[Tree<'a>]>
+    pub fn as_array(&self) -> Option<&'a [Tree<'a>]>
         ensures { option_map (λ parts. items_view parts.now) result ≡ as_array (view self.now) }
     {
         match self {
-            Tree::Array(parts) => Some(parts),
+            Tree::Array(parts) => Some(*parts),
             _ => None,
         }
     }

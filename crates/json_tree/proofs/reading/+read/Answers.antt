@@ -19,9 +19,9 @@ items_in-returns-in_err-item-clause-taken t c =
 
 pub members_in-returns-in_err-member-clause-taken : goal.members_in-returns-in_err-member-clause-taken
 members_in-returns-in_err-member-clause-taken t c =
-    let named : read_key c.loop-found.reader ≡ Some (Some c.in-Some.key.now, c.next_key.new.self) = grind arith in
+    let named : read_key c.loop-found.reader ≡ Some (Some c.in-Some.name.now, c.next_key.new.self) = grind arith in
     let ends : c.from_residual-in_err-member.result ≡ Err c.in_err-member.field-0.0 = search rules in
-    rw ends (members.fails (members_in c.args.levels c.args.reader.now) c.args.levels c.loop-found.found.entries c.in-Some.key.now c.loop-found.reader c.next_key.new.self c.in_err-member.field-0.0 c.loop-found.invariant.0 named c.in_err-member.ensures.taken)
+    rw ends (members.fails (members_in c.args.levels c.args.reader.now) c.args.levels c.loop-found.found.entries c.in-Some.name.now c.loop-found.reader c.next_key.new.self c.in_err-member.field-0.0 c.loop-found.invariant.0 named c.in_err-member.ensures.taken)
 
 pub tree_in-returns-then-levels-eq0-clause-taken : goal.tree_in-returns-then-levels-eq0-clause-taken
 tree_in-returns-then-levels-eq0-clause-taken t c =
