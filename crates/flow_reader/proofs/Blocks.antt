@@ -2,8 +2,8 @@
 use Rattle.std.proofs.Common.{◌≡◌, ℕ, ◌+◌, ◌<◌, ◌≤◌, List, [], ◌∷◌, ◌++◌, length, drop, get_or, Bool, Some, None, Result, Ok, Err, refl, sym, ◌∙◌, ap, arith}
 use Rattle.std.proofs.lemmas.List.{drop_all}
 use Rattle.serde_json.specs.Data.{array, Items, item, no_items}
-use Rattle.serde_json.specs.View.{view, items_view}
-use Rattle.serde_json.specs.declared.value.Value.{Value as Json}
+use Rattle.json_tree.specs.View.{view, items_view}
+use Rattle.json_tree.specs.declared.tree.Tree.{Tree}
 use Rattle.flow_values.specs.Answers.{Fails, IsUnder}
 use Rattle.flow_values.specs.Faults.{Path, at, misshapen, to_part, ◌>>=◌}
 use Rattle.flow_values.specs.Expressions.{expression_in}
@@ -40,49 +40,49 @@ with_first done e (Err path) = refl
 with_first done e (Ok es) = rw (one_behind done e es) refl
 
 -- nothing was read yet
-pub begins : (inside : Bool) (vs : List Json) → with_rest inside [] 0 (items_view (drop 0 vs)) ≡ statements_from inside 0 (items_view vs)
+pub begins : (inside : Bool) (vs : List Tree) → with_rest inside [] 0 (items_view (drop 0 vs)) ≡ statements_from inside 0 (items_view vs)
 begins inside vs = same (statements_from inside 0 (items_view vs)) where
   same : (read : Result Block Path) → (read >>= λ rest. Ok (before_block [] rest)) ≡ read
   same (Ok es) = refl
   same (Err path) = refl
 
 -- a statement was read
-pub goes_on : (inside : Bool) (whole : Result Block Path) (done : List Stmt) (vs : List Json) (i : ℕ) (v : Json) (e : Stmt) → i < length vs → v ≡ get_or vs i v → with_rest inside done i (items_view (drop i vs)) ≡ whole → statement_in inside (view v) ≡ Ok (statement_of e) → with_rest inside (done ++ e ∷ []) (i + 1) (items_view (drop (i + 1) vs)) ≡ whole
+pub goes_on : (inside : Bool) (whole : Result Block Path) (done : List Stmt) (vs : List Tree) (i : ℕ) (v : Tree) (e : Stmt) → i < length vs → v ≡ get_or vs i v → with_rest inside done i (items_view (drop i vs)) ≡ whole → statement_in inside (view v) ≡ Ok (statement_of e) → with_rest inside (done ++ e ∷ []) (i + 1) (items_view (drop (i + 1) vs)) ≡ whole
 goes_on inside whole done vs i v e lt here before is = sym (with_first done e (statements_from inside (i + 1) (items_view (drop (i + 1) vs)))) ∙ sym (rw (items_from vs i v lt here, is) refl) ∙ before
 
 -- a part is no statement
-pub ends : (inside : Bool) (whole : Result Block Path) (done : List Stmt) (vs : List Json) (i : ℕ) (v : Json) (error further : PartError) → i < length vs → v ≡ get_or vs i v → with_rest inside done i (items_view (drop i vs)) ≡ whole → Fails error (statement_in inside (view v)) → IsUnder (to_part i) error further → Fails further whole
+pub ends : (inside : Bool) (whole : Result Block Path) (done : List Stmt) (vs : List Tree) (i : ℕ) (v : Tree) (error further : PartError) → i < length vs → v ≡ get_or vs i v → with_rest inside done i (items_view (drop i vs)) ≡ whole → Fails error (statement_in inside (view v)) → IsUnder (to_part i) error further → Fails further whole
 ends inside whole done vs i v (Misshapen path) (Misshapen outer) lt here before is under = sym before ∙ rw (items_from vs i v lt here, is, under) refl
 ends inside whole done vs i v Memory (Misshapen outer) lt here before is under = absurd under
 ends inside whole done vs i v (Misshapen path) Memory lt here before is under = tt
 ends inside whole done vs i v Memory Memory lt here before is under = tt
 
 -- all statements were read
-pub all : (inside : Bool) (vs : List Json) (done : List Stmt) (i : ℕ) → length vs ≤ i → with_rest inside done i (items_view (drop i vs)) ≡ statements_from inside 0 (items_view vs) → statements_from inside 0 (items_view vs) ≡ Ok (block_of done)
+pub all : (inside : Bool) (vs : List Tree) (done : List Stmt) (i : ℕ) → length vs ≤ i → with_rest inside done i (items_view (drop i vs)) ≡ statements_from inside 0 (items_view vs) → statements_from inside 0 (items_view vs) ≡ Ok (block_of done)
 all inside vs done i past is = sym is ∙ rw (drop_all i vs past) (ap Ok (none_behind done))
 
 -- ---- a statement by its word
 
-pub no_word : (inside : Bool) (vs : List Json) → length vs ≡ 0 → statement_in inside (array (items_view vs)) ≡ misshapen
+pub no_word : (inside : Bool) (vs : List Tree) → length vs ≡ 0 → statement_in inside (array (items_view vs)) ≡ misshapen
 no_word inside [] none = refl
 no_word inside (v ∷ vs) none = absurd (omega (arith, none))
 
-pub unknown_word : (inside : Bool) (vs : List Json) (v : Json) → 0 < length vs → v ≡ get_or vs 0 v → None ≡ word_in inside (view v) → statement_in inside (array (items_view vs)) ≡ misshapen
+pub unknown_word : (inside : Bool) (vs : List Tree) (v : Tree) → 0 < length vs → v ≡ get_or vs 0 v → None ≡ word_in inside (view v) → statement_in inside (array (items_view vs)) ≡ misshapen
 unknown_word inside [] v some here none = absurd (omega (arith, some))
 unknown_word inside (x ∷ vs) v some here none = let same : v ≡ x = here in rw (← same, ← none) refl
 
-pub known_word : (inside : Bool) (vs : List Json) (v : Json) (word : Word) → 0 < length vs → v ≡ get_or vs 0 v → Some word ≡ word_in inside (view v) → statement_in inside (array (items_view vs)) ≡ of_word inside word (items_view (drop 1 vs))
+pub known_word : (inside : Bool) (vs : List Tree) (v : Tree) (word : Word) → 0 < length vs → v ≡ get_or vs 0 v → Some word ≡ word_in inside (view v) → statement_in inside (array (items_view vs)) ≡ of_word inside word (items_view (drop 1 vs))
 known_word inside [] v word some here is = absurd (omega (arith, some))
 known_word inside (x ∷ vs) v word some here is = let same : v ≡ x = here in rw (← same, ← is) refl
 
-pub behind_two : (vs : List Json) (a b : Json) → length vs ≡ 3 → a ≡ get_or vs 1 a → b ≡ get_or vs 2 b → items_view (drop 1 vs) ≡ item (view a) (item (view b) no_items)
+pub behind_two : (vs : List Tree) (a b : Tree) → length vs ≡ 3 → a ≡ get_or vs 1 a → b ≡ get_or vs 2 b → items_view (drop 1 vs) ≡ item (view a) (item (view b) no_items)
 behind_two [] a b count at1 at2 = absurd (omega (arith, count))
 behind_two (x ∷ []) a b count at1 at2 = absurd (omega (arith, count))
 behind_two (x ∷ y ∷ []) a b count at1 at2 = absurd (omega (arith, count))
 behind_two (x ∷ y ∷ z ∷ []) a b count at1 at2 = rw (at1, at2) refl
 behind_two (x ∷ y ∷ z ∷ w ∷ vs) a b count at1 at2 = absurd (omega (arith, count))
 
-pub behind_three : (vs : List Json) (a b c : Json) → length vs ≡ 4 → a ≡ get_or vs 1 a → b ≡ get_or vs 2 b → c ≡ get_or vs 3 c → items_view (drop 1 vs) ≡ item (view a) (item (view b) (item (view c) no_items))
+pub behind_three : (vs : List Tree) (a b c : Tree) → length vs ≡ 4 → a ≡ get_or vs 1 a → b ≡ get_or vs 2 b → c ≡ get_or vs 3 c → items_view (drop 1 vs) ≡ item (view a) (item (view b) (item (view c) no_items))
 behind_three [] a b c count at1 at2 at3 = absurd (omega (arith, count))
 behind_three (x ∷ []) a b c count at1 at2 at3 = absurd (omega (arith, count))
 behind_three (x ∷ y ∷ []) a b c count at1 at2 at3 = absurd (omega (arith, count))
@@ -90,14 +90,14 @@ behind_three (x ∷ y ∷ z ∷ []) a b c count at1 at2 at3 = absurd (omega (ari
 behind_three (x ∷ y ∷ z ∷ w ∷ []) a b c count at1 at2 at3 = rw (at1, at2, at3) refl
 behind_three (x ∷ y ∷ z ∷ w ∷ u ∷ vs) a b c count at1 at2 at3 = absurd (omega (arith, count))
 
-pub no_lock : (inside : Bool) (vs : List Json) → ¬ length vs ≡ 3 → of_word inside words.Lock (items_view (drop 1 vs)) ≡ misshapen
+pub no_lock : (inside : Bool) (vs : List Tree) → ¬ length vs ≡ 3 → of_word inside words.Lock (items_view (drop 1 vs)) ≡ misshapen
 no_lock inside [] other = refl
 no_lock inside (x0 ∷ []) other = refl
 no_lock inside (x0 ∷ x1 ∷ []) other = refl
 no_lock inside (x0 ∷ x1 ∷ x2 ∷ []) other = absurd (other refl)
 no_lock inside (x0 ∷ x1 ∷ x2 ∷ x3 ∷ vs) other = refl
 
-pub no_if : (inside : Bool) (vs : List Json) → ¬ length vs ≡ 4 → of_word inside words.If (items_view (drop 1 vs)) ≡ misshapen
+pub no_if : (inside : Bool) (vs : List Tree) → ¬ length vs ≡ 4 → of_word inside words.If (items_view (drop 1 vs)) ≡ misshapen
 no_if inside [] other = refl
 no_if inside (x0 ∷ []) other = refl
 no_if inside (x0 ∷ x1 ∷ []) other = refl
@@ -105,14 +105,14 @@ no_if inside (x0 ∷ x1 ∷ x2 ∷ []) other = refl
 no_if inside (x0 ∷ x1 ∷ x2 ∷ x3 ∷ []) other = absurd (other refl)
 no_if inside (x0 ∷ x1 ∷ x2 ∷ x3 ∷ x4 ∷ vs) other = refl
 
-pub no_while : (inside : Bool) (vs : List Json) → ¬ length vs ≡ 3 → of_word inside words.While (items_view (drop 1 vs)) ≡ misshapen
+pub no_while : (inside : Bool) (vs : List Tree) → ¬ length vs ≡ 3 → of_word inside words.While (items_view (drop 1 vs)) ≡ misshapen
 no_while inside [] other = refl
 no_while inside (x0 ∷ []) other = refl
 no_while inside (x0 ∷ x1 ∷ []) other = refl
 no_while inside (x0 ∷ x1 ∷ x2 ∷ []) other = absurd (other refl)
 no_while inside (x0 ∷ x1 ∷ x2 ∷ x3 ∷ vs) other = refl
 
-pub no_try : (inside : Bool) (vs : List Json) → ¬ length vs ≡ 4 → of_word inside words.Try (items_view (drop 1 vs)) ≡ misshapen
+pub no_try : (inside : Bool) (vs : List Tree) → ¬ length vs ≡ 4 → of_word inside words.Try (items_view (drop 1 vs)) ≡ misshapen
 no_try inside [] other = refl
 no_try inside (x0 ∷ []) other = refl
 no_try inside (x0 ∷ x1 ∷ []) other = refl
@@ -120,14 +120,17 @@ no_try inside (x0 ∷ x1 ∷ x2 ∷ []) other = refl
 no_try inside (x0 ∷ x1 ∷ x2 ∷ x3 ∷ []) other = absurd (other refl)
 no_try inside (x0 ∷ x1 ∷ x2 ∷ x3 ∷ x4 ∷ vs) other = refl
 
-pub if_ends : (inside : Bool) (vs : List Json) (a b c : Json) (error : PartError) → length vs ≡ 4 → a ≡ get_or vs 1 a → b ≡ get_or vs 2 b → c ≡ get_or vs 3 c → Fails error (at (to_part 1) (expression_in (view a))) → Fails error (of_word inside words.If (items_view (drop 1 vs)))
+pub if_ends : (inside : Bool) (vs : List Tree) (a b c : Tree) (error : PartError) → length vs ≡ 4 → a ≡ get_or vs 1 a → b ≡ get_or vs 2 b → c ≡ get_or vs 3 c → Fails error (at (to_part 1) (expression_in (view a))) → Fails error (of_word inside words.If (items_view (drop 1 vs)))
 if_ends inside vs a b c error count at1 at2 at3 fails = rw (behind_three vs a b c count at1 at2 at3) (ends_then _ _ error fails)
 
-pub if_ends_yes : (inside : Bool) (vs : List Json) (a b c : Json) (test : Expression) (error : PartError) → length vs ≡ 4 → a ≡ get_or vs 1 a → b ≡ get_or vs 2 b → c ≡ get_or vs 3 c → at (to_part 1) (expression_in (view a)) ≡ Ok test → Fails error (at (to_part 2) (body_in inside (view b))) → Fails error (of_word inside words.If (items_view (drop 1 vs)))
+pub if_ends_yes : (inside : Bool) (vs : List Tree) (a b c : Tree) (test : Expression) (error : PartError) → length vs ≡ 4 → a ≡ get_or vs 1 a → b ≡ get_or vs 2 b → c ≡ get_or vs 3 c → at (to_part 1) (expression_in (view a)) ≡ Ok test → Fails error (at (to_part 2) (body_in inside (view b))) → Fails error (of_word inside words.If (items_view (drop 1 vs)))
 if_ends_yes inside vs a b c test error count at1 at2 at3 read fails = rw (behind_three vs a b c count at1 at2 at3, read) (ends_then _ _ error fails)
 
-pub try_ends : (inside : Bool) (vs : List Json) (a b c : Json) (error : PartError) → length vs ≡ 4 → a ≡ get_or vs 1 a → b ≡ get_or vs 2 b → c ≡ get_or vs 3 c → Fails error (at (to_part 1) (body_in inside (view a))) → Fails error (of_word inside words.Try (items_view (drop 1 vs)))
+pub while_ends : (inside : Bool) (vs : List Tree) (a b : Tree) (error : PartError) → length vs ≡ 3 → a ≡ get_or vs 1 a → b ≡ get_or vs 2 b → Fails error (at (to_part 1) (expression_in (view a))) → Fails error (of_word inside words.While (items_view (drop 1 vs)))
+while_ends inside vs a b error count at1 at2 fails = rw (behind_two vs a b count at1 at2) (ends_then _ _ error fails)
+
+pub try_ends : (inside : Bool) (vs : List Tree) (a b c : Tree) (error : PartError) → length vs ≡ 4 → a ≡ get_or vs 1 a → b ≡ get_or vs 2 b → c ≡ get_or vs 3 c → Fails error (at (to_part 1) (body_in inside (view a))) → Fails error (of_word inside words.Try (items_view (drop 1 vs)))
 try_ends inside vs a b c error count at1 at2 at3 fails = rw (behind_three vs a b c count at1 at2 at3) (ends_then _ _ error fails)
 
-pub try_ends_variable : (inside : Bool) (vs : List Json) (a b c : Json) (body : Block) (error : PartError) → length vs ≡ 4 → a ≡ get_or vs 1 a → b ≡ get_or vs 2 b → c ≡ get_or vs 3 c → at (to_part 1) (body_in inside (view a)) ≡ Ok body → Fails error (at (to_part 2) (name_in (view b))) → Fails error (of_word inside words.Try (items_view (drop 1 vs)))
+pub try_ends_variable : (inside : Bool) (vs : List Tree) (a b c : Tree) (body : Block) (error : PartError) → length vs ≡ 4 → a ≡ get_or vs 1 a → b ≡ get_or vs 2 b → c ≡ get_or vs 3 c → at (to_part 1) (body_in inside (view a)) ≡ Ok body → Fails error (at (to_part 2) (name_in (view b))) → Fails error (of_word inside words.Try (items_view (drop 1 vs)))
 try_ends_variable inside vs a b c body error count at1 at2 at3 read fails = rw (behind_three vs a b c count at1 at2 at3, read) (ends_then _ _ error fails)

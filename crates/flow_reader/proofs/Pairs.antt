@@ -2,8 +2,8 @@
 use Rattle.std.proofs.Common.{◌≡◌, ℕ, ◌+◌, ◌<◌, ◌≤◌, List, [], ◌∷◌, ◌++◌, length, drop, get_or, map, Some, None, Result, Ok, Err, refl, sym, ◌∙◌, ap}
 use Rattle.std.proofs.lemmas.List.{drop_all, append-nil}
 use Rattle.serde_json.specs.Data.{Data, array, Items, item, no_items}
-use Rattle.serde_json.specs.View.{view, items_view}
-use Rattle.serde_json.specs.declared.value.Value.{Value as Json}
+use Rattle.json_tree.specs.View.{view, items_view}
+use Rattle.json_tree.specs.declared.tree.Tree.{Tree}
 use Rattle.flow_values.specs.Answers.{Fails, IsUnder}
 use Rattle.flow_values.specs.Faults.{Path, at, misshapen, to_part, ◌>>=◌}
 use Rattle.flow_values.specs.Expressions.{expression_in}
@@ -42,23 +42,23 @@ with_first done e (Err path) = refl
 with_first done e (Ok es) = rw (one_behind done e es) refl
 
 -- nothing was read yet
-pub begins : (vs : List Json) → with_rest [] 0 (items_view (drop 0 vs)) ≡ pairs_from 0 (items_view vs)
+pub begins : (vs : List Tree) → with_rest [] 0 (items_view (drop 0 vs)) ≡ pairs_from 0 (items_view vs)
 begins vs = same (pairs_from 0 (items_view vs)) where
   same : (read : Result (List plain.Locked) Path) → (read >>= λ rest. Ok (map locked_of [] ++ rest)) ≡ read
   same (Ok es) = refl
   same (Err path) = refl
 
 -- a pair was read
-pub goes_on : (whole : Result (List plain.Locked) Path) (done : List Locked) (vs : List Json) (i : ℕ) (v : Json) (e : Locked) → i < length vs → v ≡ get_or vs i v → with_rest done i (items_view (drop i vs)) ≡ whole → locked_in (view v) ≡ Ok (locked_of e) → with_rest (done ++ e ∷ []) (i + 1) (items_view (drop (i + 1) vs)) ≡ whole
+pub goes_on : (whole : Result (List plain.Locked) Path) (done : List Locked) (vs : List Tree) (i : ℕ) (v : Tree) (e : Locked) → i < length vs → v ≡ get_or vs i v → with_rest done i (items_view (drop i vs)) ≡ whole → locked_in (view v) ≡ Ok (locked_of e) → with_rest (done ++ e ∷ []) (i + 1) (items_view (drop (i + 1) vs)) ≡ whole
 goes_on whole done vs i v e lt here before is = sym (with_first done e (pairs_from (i + 1) (items_view (drop (i + 1) vs)))) ∙ sym (rw (items_from vs i v lt here, is) refl) ∙ before
 
 -- a part is no pair
-pub ends : (whole : Result (List plain.Locked) Path) (done : List Locked) (vs : List Json) (i : ℕ) (v : Json) (error further : PartError) → i < length vs → v ≡ get_or vs i v → with_rest done i (items_view (drop i vs)) ≡ whole → Fails error (locked_in (view v)) → IsUnder (to_part i) error further → Fails further whole
+pub ends : (whole : Result (List plain.Locked) Path) (done : List Locked) (vs : List Tree) (i : ℕ) (v : Tree) (error further : PartError) → i < length vs → v ≡ get_or vs i v → with_rest done i (items_view (drop i vs)) ≡ whole → Fails error (locked_in (view v)) → IsUnder (to_part i) error further → Fails further whole
 ends whole done vs i v (Misshapen path) (Misshapen outer) lt here before is under = sym before ∙ rw (items_from vs i v lt here, is, under) refl
 ends whole done vs i v Memory (Misshapen outer) lt here before is under = absurd under
 ends whole done vs i v (Misshapen path) Memory lt here before is under = tt
 ends whole done vs i v Memory Memory lt here before is under = tt
 
 -- all parts were read
-pub all : (vs : List Json) (done : List Locked) (i : ℕ) → length vs ≤ i → with_rest done i (items_view (drop i vs)) ≡ pairs_from 0 (items_view vs) → pairs_from 0 (items_view vs) ≡ Ok (map locked_of done)
+pub all : (vs : List Tree) (done : List Locked) (i : ℕ) → length vs ≤ i → with_rest done i (items_view (drop i vs)) ≡ pairs_from 0 (items_view vs) → pairs_from 0 (items_view vs) ≡ Ok (map locked_of done)
 all vs done i past is = sym is ∙ rw (drop_all i vs past, append-nil) refl

@@ -2,7 +2,7 @@
 
 ghost use Rattle.std.specs.Prelude.{◌≡◌, ◌≤◌, Ok, drop, length, map};
 ghost use Rattle.serde_json.specs.Data.{array};
-ghost use Rattle.serde_json.specs.View.{items_view, view};
+ghost use Rattle.json_tree.specs.View.{items_view, view};
 ghost use Rattle.flow_values.specs.Answers.{Gives};
 ghost use Rattle.flow_values.specs.Faults.{at, to_part};
 ghost use Rattle.flow_reader.specs.Statements.{body_in, locked_in, of_word, pairs_from, pairs_in, statement_in, statements_from};
@@ -14,12 +14,12 @@ use crate::words::{Word, word_in};
 use dura_value::MOST_SPOTS;
 use flow_syntax::{Locked, Stmt};
 use flow_values::{PartError, Step, expression_at, misshapen, name_at, under};
-use serde_json::Value as Json;
+use json_tree::Tree;
 use std::alloc::Global;
 
 /// A class and what gives a key.
 #[tactic(auto, using(flow_values::proofs::Parts::ends_then, crate::proofs::Pairs::locked_there, crate::proofs::Pairs::locked_not_there))]
-fn pair_in(alloc: Global, parts: &[Json]) -> Result<Locked, PartError>
+fn pair_in(alloc: Global, parts: &[Tree<'_>]) -> Result<Locked, PartError>
     ensures { Gives locked_of result (locked_in (array (items_view parts.now))) }
 {
     match two_parts(parts) {
@@ -32,22 +32,22 @@ fn pair_in(alloc: Global, parts: &[Json]) -> Result<Locked, PartError>
     }
 }
 
-fn locked_in(alloc: Global, value: &Json) -> Result<Locked, PartError>
+fn locked_in(alloc: Global, value: &Tree<'_>) -> Result<Locked, PartError>
     ensures { Gives locked_of result (locked_in (view value.now)) }
 {
     match value {
-        Json::Array(parts) => pair_in(alloc, parts),
-        Json::Null => Err(misshapen(alloc)),
-        Json::Bool(_) => Err(misshapen(alloc)),
-        Json::Number(_) => Err(misshapen(alloc)),
-        Json::String(_) => Err(misshapen(alloc)),
-        Json::Object(_) => Err(misshapen(alloc)),
+        Tree::Array(parts) => pair_in(alloc, parts),
+        Tree::Null => Err(misshapen(alloc)),
+        Tree::Bool(_) => Err(misshapen(alloc)),
+        Tree::Number(_) => Err(misshapen(alloc)),
+        Tree::String(_) => Err(misshapen(alloc)),
+        Tree::Object(_) => Err(misshapen(alloc)),
     }
 }
 
 /// The pairs of an array, from the first on.
 #[tactic(auto, using(crate::proofs::Pairs::goes_on, crate::proofs::Pairs::ends, crate::proofs::Pairs::begins, crate::proofs::Pairs::all))]
-fn pairs_from(alloc: Global, parts: &[Json]) -> Result<Vec<Locked>, PartError>
+fn pairs_from(alloc: Global, parts: &[Tree<'_>]) -> Result<Vec<Locked>, PartError>
     ensures { Gives (λ pairs. map locked_of pairs.items) result (pairs_from 0 (items_view parts.now)) }
 {
     let mut pairs = Vec::with_capacity(alloc, parts.len())?;
@@ -62,7 +62,7 @@ fn pairs_from(alloc: Global, parts: &[Json]) -> Result<Vec<Locked>, PartError>
 
 /// 1 to 16 pairs.
 #[tactic(auto, using(flow_values::proofs::Scalars::count_of_items))]
-fn few_pairs(alloc: Global, parts: &[Json]) -> Result<Vec<Locked>, PartError>
+fn few_pairs(alloc: Global, parts: &[Tree<'_>]) -> Result<Vec<Locked>, PartError>
     ensures { Gives (λ pairs. map locked_of pairs.items) result (pairs_in (array (items_view parts.now))) }
 {
     if parts.len() >= 1 && parts.len() <= MOST_SPOTS {
@@ -72,22 +72,22 @@ fn few_pairs(alloc: Global, parts: &[Json]) -> Result<Vec<Locked>, PartError>
     }
 }
 
-fn pairs_in(alloc: Global, value: &Json) -> Result<Vec<Locked>, PartError>
+fn pairs_in(alloc: Global, value: &Tree<'_>) -> Result<Vec<Locked>, PartError>
     ensures { Gives (λ pairs. map locked_of pairs.items) result (pairs_in (view value.now)) }
 {
     match value {
-        Json::Array(parts) => few_pairs(alloc, parts),
-        Json::Null => Err(misshapen(alloc)),
-        Json::Bool(_) => Err(misshapen(alloc)),
-        Json::Number(_) => Err(misshapen(alloc)),
-        Json::String(_) => Err(misshapen(alloc)),
-        Json::Object(_) => Err(misshapen(alloc)),
+        Tree::Array(parts) => few_pairs(alloc, parts),
+        Tree::Null => Err(misshapen(alloc)),
+        Tree::Bool(_) => Err(misshapen(alloc)),
+        Tree::Number(_) => Err(misshapen(alloc)),
+        Tree::String(_) => Err(misshapen(alloc)),
+        Tree::Object(_) => Err(misshapen(alloc)),
     }
 }
 
 /// The pairs at a place of a statement.
 #[tactic(auto, using(flow_values::proofs::Parts::fails_under))]
-fn pairs_at(alloc: Global, value: &Json, index: usize) -> Result<Vec<Locked>, PartError>
+fn pairs_at(alloc: Global, value: &Tree<'_>, index: usize) -> Result<Vec<Locked>, PartError>
     ensures { Gives (λ pairs. map locked_of pairs.items) result (at (to_part index) (pairs_in (view value.now))) }
 {
     match pairs_in(alloc, value) {
@@ -98,24 +98,24 @@ fn pairs_at(alloc: Global, value: &Json, index: usize) -> Result<Vec<Locked>, Pa
 
 /// A body: an array of statements.
 #[cycle(statements)]
-pub(crate) fn body_in(alloc: Global, inside: bool, value: &Json) -> Result<Vec<Stmt>, PartError>
+pub(crate) fn body_in(alloc: Global, inside: bool, value: &Tree<'_>) -> Result<Vec<Stmt>, PartError>
     ensures { Gives (λ body. block_of body.items) result (body_in inside (view value.now)) }
 {
     match value {
-        Json::Array(items) => statements_in(alloc, inside, items),
-        Json::Null => Err(misshapen(alloc)),
-        Json::Bool(_) => Err(misshapen(alloc)),
-        Json::Number(_) => Err(misshapen(alloc)),
-        Json::String(_) => Err(misshapen(alloc)),
-        Json::Object(_) => Err(misshapen(alloc)),
+        Tree::Array(items) => statements_in(alloc, inside, items),
+        Tree::Null => Err(misshapen(alloc)),
+        Tree::Bool(_) => Err(misshapen(alloc)),
+        Tree::Number(_) => Err(misshapen(alloc)),
+        Tree::String(_) => Err(misshapen(alloc)),
+        Tree::Object(_) => Err(misshapen(alloc)),
     }
 }
 
 /// The statements of an array, from the first on.
 #[cycle(statements)]
 #[tactic(auto, using(crate::proofs::Blocks::goes_on, crate::proofs::Blocks::ends, crate::proofs::Blocks::begins, crate::proofs::Blocks::all))]
-fn statements_in(alloc: Global, inside: bool, items: &Vec<Json>) -> Result<Vec<Stmt>, PartError>
-    ensures { Gives (λ body. block_of body.items) result (statements_from inside 0 (items_view items.now.items)) }
+fn statements_in(alloc: Global, inside: bool, items: &[Tree<'_>]) -> Result<Vec<Stmt>, PartError>
+    ensures { Gives (λ body. block_of body.items) result (statements_from inside 0 (items_view items.now)) }
 {
     let mut statements = Vec::with_capacity(alloc, items.len())?;
     for (index, item) in items.iter().enumerate() {
@@ -130,7 +130,12 @@ fn statements_in(alloc: Global, inside: bool, items: &Vec<Json>) -> Result<Vec<S
 /// The body at a place of a statement.
 #[cycle(statements)]
 #[tactic(auto, using(flow_values::proofs::Parts::fails_under))]
-fn body_at(alloc: Global, inside: bool, value: &Json, index: usize) -> Result<Vec<Stmt>, PartError>
+fn body_at(
+    alloc: Global,
+    inside: bool,
+    value: &Tree<'_>,
+    index: usize,
+) -> Result<Vec<Stmt>, PartError>
     ensures { Gives (λ body. block_of body.items) result (at (to_part index) (body_in inside (view value.now))) }
 {
     match body_in(alloc, inside, value) {
@@ -141,23 +146,23 @@ fn body_at(alloc: Global, inside: bool, value: &Json, index: usize) -> Result<Ve
 
 /// A statement: an array of a word and its parts.
 #[cycle(statements)]
-fn statement_in(alloc: Global, inside: bool, value: &Json) -> Result<Stmt, PartError>
+fn statement_in(alloc: Global, inside: bool, value: &Tree<'_>) -> Result<Stmt, PartError>
     ensures { Gives statement_of result (statement_in inside (view value.now)) }
 {
     match value {
-        Json::Array(items) => array_in(alloc, inside, items),
-        Json::Null => Err(misshapen(alloc)),
-        Json::Bool(_) => Err(misshapen(alloc)),
-        Json::Number(_) => Err(misshapen(alloc)),
-        Json::String(_) => Err(misshapen(alloc)),
-        Json::Object(_) => Err(misshapen(alloc)),
+        Tree::Array(items) => array_in(alloc, inside, items),
+        Tree::Null => Err(misshapen(alloc)),
+        Tree::Bool(_) => Err(misshapen(alloc)),
+        Tree::Number(_) => Err(misshapen(alloc)),
+        Tree::String(_) => Err(misshapen(alloc)),
+        Tree::Object(_) => Err(misshapen(alloc)),
     }
 }
 
 #[cycle(statements)]
 #[tactic(auto, using(crate::proofs::Blocks::no_word, crate::proofs::Blocks::unknown_word, crate::proofs::Blocks::known_word))]
-fn array_in(alloc: Global, inside: bool, items: &Vec<Json>) -> Result<Stmt, PartError>
-    ensures { Gives statement_of result (statement_in inside (array (items_view items.now.items))) }
+fn array_in(alloc: Global, inside: bool, items: &[Tree<'_>]) -> Result<Stmt, PartError>
+    ensures { Gives statement_of result (statement_in inside (array (items_view items.now))) }
 {
     if items.is_empty() {
         return Err(misshapen(alloc));
@@ -169,7 +174,7 @@ fn array_in(alloc: Global, inside: bool, items: &Vec<Json>) -> Result<Stmt, Part
 }
 
 /// The parts behind the word.
-fn parts_of(items: &[Json]) -> &[Json]
+fn parts_of<'t, 'a>(items: &'t [Tree<'a>]) -> &'t [Tree<'a>]
     requires { 1 ≤ length items.now }
     ensures { result.now ≡ drop 1 items.now }
 {
@@ -179,9 +184,9 @@ fn parts_of(items: &[Json]) -> &[Json]
 /// The statement of a word and the parts behind it.
 #[cycle(statements)]
 #[tactic(auto, using(crate::proofs::Blocks::no_lock, crate::proofs::Blocks::no_if, crate::proofs::Blocks::no_while, crate::proofs::Blocks::no_try))]
-fn of_word(alloc: Global, inside: bool, word: Word, items: &Vec<Json>) -> Result<Stmt, PartError>
-    requires { 1 ≤ length items.now.items }
-    ensures { Gives statement_of result (of_word inside word (items_view (drop 1 items.now.items))) }
+fn of_word(alloc: Global, inside: bool, word: Word, items: &[Tree<'_>]) -> Result<Stmt, PartError>
+    requires { 1 ≤ length items.now }
+    ensures { Gives statement_of result (of_word inside word (items_view (drop 1 items.now))) }
 {
     match word {
         Word::Lock => {
@@ -219,9 +224,9 @@ fn of_word(alloc: Global, inside: bool, word: Word, items: &Vec<Json>) -> Result
 /// A body that holds entities.
 #[cycle(statements)]
 #[tactic(auto, using(flow_values::proofs::Parts::ends_then, crate::proofs::Blocks::behind_two))]
-fn lock_in(alloc: Global, inside: bool, items: &Vec<Json>) -> Result<Stmt, PartError>
-    requires { length items.now.items ≡ 3 }
-    ensures { Gives statement_of result (of_word inside words.Lock (items_view (drop 1 items.now.items))) }
+fn lock_in(alloc: Global, inside: bool, items: &[Tree<'_>]) -> Result<Stmt, PartError>
+    requires { length items.now ≡ 3 }
+    ensures { Gives statement_of result (of_word inside words.Lock (items_view (drop 1 items.now))) }
 {
     let (entities, body) = (&items[1], &items[2]);
     let entities = pairs_at(alloc, entities, 1)?;
@@ -232,9 +237,9 @@ fn lock_in(alloc: Global, inside: bool, items: &Vec<Json>) -> Result<Stmt, PartE
 /// One of two bodies.
 #[cycle(statements)]
 #[tactic(auto, using(flow_values::proofs::Parts::ends_then, crate::proofs::Blocks::behind_three, crate::proofs::Blocks::if_ends, crate::proofs::Blocks::if_ends_yes))]
-fn if_in(alloc: Global, inside: bool, items: &Vec<Json>) -> Result<Stmt, PartError>
-    requires { length items.now.items ≡ 4 }
-    ensures { Gives statement_of result (of_word inside words.If (items_view (drop 1 items.now.items))) }
+fn if_in(alloc: Global, inside: bool, items: &[Tree<'_>]) -> Result<Stmt, PartError>
+    requires { length items.now ≡ 4 }
+    ensures { Gives statement_of result (of_word inside words.If (items_view (drop 1 items.now))) }
 {
     let (test, yes, no) = (&items[1], &items[2], &items[3]);
     let test = expression_at(alloc, test, 1)?;
@@ -245,10 +250,10 @@ fn if_in(alloc: Global, inside: bool, items: &Vec<Json>) -> Result<Stmt, PartErr
 
 /// A body that is repeated.
 #[cycle(statements)]
-#[tactic(auto, using(flow_values::proofs::Parts::ends_then, crate::proofs::Blocks::behind_two))]
-fn while_in(alloc: Global, inside: bool, items: &Vec<Json>) -> Result<Stmt, PartError>
-    requires { length items.now.items ≡ 3 }
-    ensures { Gives statement_of result (of_word inside words.While (items_view (drop 1 items.now.items))) }
+#[tactic(auto, using(flow_values::proofs::Parts::ends_then, crate::proofs::Blocks::behind_two, crate::proofs::Blocks::while_ends))]
+fn while_in(alloc: Global, inside: bool, items: &[Tree<'_>]) -> Result<Stmt, PartError>
+    requires { length items.now ≡ 3 }
+    ensures { Gives statement_of result (of_word inside words.While (items_view (drop 1 items.now))) }
 {
     let (test, body) = (&items[1], &items[2]);
     let test = expression_at(alloc, test, 1)?;
@@ -259,9 +264,9 @@ fn while_in(alloc: Global, inside: bool, items: &Vec<Json>) -> Result<Stmt, Part
 /// A body and what follows a fault in it.
 #[cycle(statements)]
 #[tactic(auto, using(flow_values::proofs::Parts::ends_then, crate::proofs::Blocks::behind_three, crate::proofs::Blocks::try_ends, crate::proofs::Blocks::try_ends_variable))]
-fn try_in(alloc: Global, inside: bool, items: &Vec<Json>) -> Result<Stmt, PartError>
-    requires { length items.now.items ≡ 4 }
-    ensures { Gives statement_of result (of_word inside words.Try (items_view (drop 1 items.now.items))) }
+fn try_in(alloc: Global, inside: bool, items: &[Tree<'_>]) -> Result<Stmt, PartError>
+    requires { length items.now ≡ 4 }
+    ensures { Gives statement_of result (of_word inside words.Try (items_view (drop 1 items.now))) }
 {
     let (body, variable, handler) = (&items[1], &items[2], &items[3]);
     let body = body_at(alloc, inside, body, 1)?;

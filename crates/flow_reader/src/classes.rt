@@ -2,7 +2,7 @@
 
 ghost use Rattle.std.specs.Prelude.{◌≡◌, [], codes, true};
 ghost use Rattle.serde_json.specs.Data.{member, no_members, object};
-ghost use Rattle.serde_json.specs.View.{members_view, view};
+ghost use Rattle.json_tree.specs.View.{members_view, view};
 ghost use Rattle.flow_values.specs.Answers.{Gives};
 ghost use Rattle.flow_reader.specs.Classes.{class_in, have_names, named_after, named_in};
 ghost use Rattle.flow_values.specs.Faults.{at, to_key};
@@ -14,16 +14,17 @@ use crate::bodies::body_in;
 use dura_value::{Name, Value, is_name};
 use flow_syntax::{Class, Stmt};
 use flow_values::{PartError, Step, misshapen, under, value_in};
-use serde_json::{Map, Value as Json};
+use json_tree::{Member, Tree};
 use std::alloc::Global;
 use std::collections::BTreeMap;
 
 /// Whether all keys are names.
-pub(crate) fn have_names(members: &Map<String, Json>) -> bool
-    ensures { result ≡ have_names (members_view members.now.entries) }
+#[tactic(auto, using(crate::proofs::Members::name_here, crate::proofs::Members::no_name_here, crate::proofs::Members::all_names))]
+pub(crate) fn have_names(members: &[Member<'_>]) -> bool
+    ensures { result ≡ have_names (members_view members.now) }
 {
-    for (key, _) in members.iter() {
-        if !is_name(key.as_str().as_bytes()) {
+    for member in members {
+        if !is_name(member.0.as_bytes()) {
             return false;
         }
     }
@@ -36,7 +37,7 @@ fn body_under(
     alloc: Global,
     inside: bool,
     name: &Name,
-    value: &Json,
+    value: &Tree<'_>,
 ) -> Result<Vec<Stmt>, PartError>
     ensures { Gives (λ body. block_of body.items) result (at (to_key name.now) (body_in inside (view value.now))) }
 {
@@ -47,19 +48,19 @@ fn body_under(
 }
 
 /// The bodies of an object whose keys are names.
-#[tactic(auto, using(crate::proofs::Members::put, crate::proofs::Members::ends, crate::proofs::Members::first_is_name, crate::proofs::Members::rest_are_names))]
+#[tactic(auto, using(crate::proofs::Members::put, crate::proofs::Members::ends, crate::proofs::Members::all, crate::proofs::Members::first_is_name, crate::proofs::Members::rest_are_names))]
 fn bodies_from(
     alloc: Global,
     inside: bool,
-    members: &Map<String, Json>,
+    members: &[Member<'_>],
 ) -> Result<BTreeMap<Name, Vec<Stmt>>, PartError>
-    requires { have_names (members_view members.now.entries) ≡ true }
-    ensures { Gives bodies_of result (named_after (body_in inside) [] (members_view members.now.entries)) }
+    requires { have_names (members_view members.now) ≡ true }
+    ensures { Gives bodies_of result (named_after (body_in inside) [] (members_view members.now)) }
 {
     let mut bodies = BTreeMap::new(alloc);
-    for (key, value) in members.iter() {
-        let name = Name::of(alloc, key.as_str().as_bytes())?;
-        match body_under(alloc, inside, &name, value) {
+    for member in members {
+        let name = Name::of(alloc, member.0.as_bytes())?;
+        match body_under(alloc, inside, &name, &member.1) {
             Ok(body) => bodies.insert(name, body)?,
             Err(error) => return Err(error),
         };
@@ -70,9 +71,9 @@ fn bodies_from(
 fn bodies_of_members(
     alloc: Global,
     inside: bool,
-    members: &Map<String, Json>,
+    members: &[Member<'_>],
 ) -> Result<BTreeMap<Name, Vec<Stmt>>, PartError>
-    ensures { Gives bodies_of result (named_in (body_in inside) (object (members_view members.now.entries))) }
+    ensures { Gives bodies_of result (named_in (body_in inside) (object (members_view members.now))) }
 {
     if have_names(members) {
         bodies_from(alloc, inside, members)
@@ -85,22 +86,22 @@ fn bodies_of_members(
 pub(crate) fn bodies_in(
     alloc: Global,
     inside: bool,
-    value: &Json,
+    value: &Tree<'_>,
 ) -> Result<BTreeMap<Name, Vec<Stmt>>, PartError>
     ensures { Gives bodies_of result (named_in (body_in inside) (view value.now)) }
 {
     match value {
-        Json::Object(members) => bodies_of_members(alloc, inside, members),
-        Json::Null => Err(misshapen(alloc)),
-        Json::Bool(_) => Err(misshapen(alloc)),
-        Json::Number(_) => Err(misshapen(alloc)),
-        Json::String(_) => Err(misshapen(alloc)),
-        Json::Array(_) => Err(misshapen(alloc)),
+        Tree::Object(members) => bodies_of_members(alloc, inside, members),
+        Tree::Null => Err(misshapen(alloc)),
+        Tree::Bool(_) => Err(misshapen(alloc)),
+        Tree::Number(_) => Err(misshapen(alloc)),
+        Tree::String(_) => Err(misshapen(alloc)),
+        Tree::Array(_) => Err(misshapen(alloc)),
     }
 }
 
 #[tactic(auto, using(flow_values::proofs::Parts::fails_under))]
-fn init_at(alloc: Global, value: &Json) -> Result<Value, PartError>
+fn init_at(alloc: Global, value: &Tree<'_>) -> Result<Value, PartError>
     ensures { Gives (λ v. v) result (at (to_key (codes "init")) (value_in (view value.now))) }
 {
     match value_in(alloc, value) {
@@ -110,7 +111,7 @@ fn init_at(alloc: Global, value: &Json) -> Result<Value, PartError>
 }
 
 #[tactic(auto, using(flow_values::proofs::Parts::fails_under))]
-fn operations_at(alloc: Global, value: &Json) -> Result<BTreeMap<Name, Vec<Stmt>>, PartError>
+fn operations_at(alloc: Global, value: &Tree<'_>) -> Result<BTreeMap<Name, Vec<Stmt>>, PartError>
     ensures { Gives bodies_of result (at (to_key (codes "ops")) (named_in (body_in true) (view value.now))) }
 {
     match bodies_in(alloc, true, value) {
@@ -124,9 +125,9 @@ fn operations_at(alloc: Global, value: &Json) -> Result<BTreeMap<Name, Vec<Stmt>
 fn class_of_two(
     alloc: Global,
     first: &str,
-    init: &Json,
+    init: &Tree<'_>,
     second: &str,
-    operations: &Json,
+    operations: &Tree<'_>,
 ) -> Result<Class, PartError>
     ensures { Gives class_of result (class_in (object (member first.now (view init.now) (member second.now (view operations.now) no_members)))) }
 {
@@ -139,15 +140,15 @@ fn class_of_two(
     }
 }
 
-fn class_of_members(alloc: Global, members: &Map<String, Json>) -> Result<Class, PartError>
-    ensures { Gives class_of result (class_in (object (members_view members.now.entries))) }
+fn class_of_members(alloc: Global, members: &[Member<'_>]) -> Result<Class, PartError>
+    ensures { Gives class_of result (class_in (object (members_view members.now))) }
 {
     let mut entries = members.iter();
     match entries.next() {
-        Some((first, init)) => match entries.next() {
-            Some((second, operations)) => match entries.next() {
+        Some(first) => match entries.next() {
+            Some(second) => match entries.next() {
                 Some(_) => Err(misshapen(alloc)),
-                None => class_of_two(alloc, first.as_str(), init, second.as_str(), operations),
+                None => class_of_two(alloc, first.0, &first.1, second.0, &second.1),
             },
             None => Err(misshapen(alloc)),
         },
@@ -156,22 +157,22 @@ fn class_of_members(alloc: Global, members: &Map<String, Json>) -> Result<Class,
 }
 
 /// A class: its members are `init` and `ops`, no more and no less.
-fn class_in(alloc: Global, value: &Json) -> Result<Class, PartError>
+fn class_in(alloc: Global, value: &Tree<'_>) -> Result<Class, PartError>
     ensures { Gives class_of result (class_in (view value.now)) }
 {
     match value {
-        Json::Object(members) => class_of_members(alloc, members),
-        Json::Null => Err(misshapen(alloc)),
-        Json::Bool(_) => Err(misshapen(alloc)),
-        Json::Number(_) => Err(misshapen(alloc)),
-        Json::String(_) => Err(misshapen(alloc)),
-        Json::Array(_) => Err(misshapen(alloc)),
+        Tree::Object(members) => class_of_members(alloc, members),
+        Tree::Null => Err(misshapen(alloc)),
+        Tree::Bool(_) => Err(misshapen(alloc)),
+        Tree::Number(_) => Err(misshapen(alloc)),
+        Tree::String(_) => Err(misshapen(alloc)),
+        Tree::Array(_) => Err(misshapen(alloc)),
     }
 }
 
 /// The class under a name.
 #[tactic(auto, using(flow_values::proofs::Parts::fails_under))]
-fn class_under(alloc: Global, name: &Name, value: &Json) -> Result<Class, PartError>
+fn class_under(alloc: Global, name: &Name, value: &Tree<'_>) -> Result<Class, PartError>
     ensures { Gives class_of result (at (to_key name.now) (class_in (view value.now))) }
 {
     match class_in(alloc, value) {
@@ -181,18 +182,15 @@ fn class_under(alloc: Global, name: &Name, value: &Json) -> Result<Class, PartEr
 }
 
 /// The classes of an object whose keys are names.
-#[tactic(auto, using(crate::proofs::Members::put, crate::proofs::Members::ends, crate::proofs::Members::first_is_name, crate::proofs::Members::rest_are_names))]
-fn classes_from(
-    alloc: Global,
-    members: &Map<String, Json>,
-) -> Result<BTreeMap<Name, Class>, PartError>
-    requires { have_names (members_view members.now.entries) ≡ true }
-    ensures { Gives (λ classes. named_by class_of classes.entries) result (named_after class_in [] (members_view members.now.entries)) }
+#[tactic(auto, using(crate::proofs::Members::put, crate::proofs::Members::ends, crate::proofs::Members::all, crate::proofs::Members::first_is_name, crate::proofs::Members::rest_are_names))]
+fn classes_from(alloc: Global, members: &[Member<'_>]) -> Result<BTreeMap<Name, Class>, PartError>
+    requires { have_names (members_view members.now) ≡ true }
+    ensures { Gives (λ classes. named_by class_of classes.entries) result (named_after class_in [] (members_view members.now)) }
 {
     let mut classes = BTreeMap::new(alloc);
-    for (key, value) in members.iter() {
-        let name = Name::of(alloc, key.as_str().as_bytes())?;
-        match class_under(alloc, &name, value) {
+    for member in members {
+        let name = Name::of(alloc, member.0.as_bytes())?;
+        match class_under(alloc, &name, &member.1) {
             Ok(class) => classes.insert(name, class)?,
             Err(error) => return Err(error),
         };
@@ -202,9 +200,9 @@ fn classes_from(
 
 fn classes_of_members(
     alloc: Global,
-    members: &Map<String, Json>,
+    members: &[Member<'_>],
 ) -> Result<BTreeMap<Name, Class>, PartError>
-    ensures { Gives (λ classes. named_by class_of classes.entries) result (named_in class_in (object (members_view members.now.entries))) }
+    ensures { Gives (λ classes. named_by class_of classes.entries) result (named_in class_in (object (members_view members.now))) }
 {
     if have_names(members) {
         classes_from(alloc, members)
@@ -214,15 +212,18 @@ fn classes_of_members(
 }
 
 /// An object of classes by names.
-pub(crate) fn classes_in(alloc: Global, value: &Json) -> Result<BTreeMap<Name, Class>, PartError>
+pub(crate) fn classes_in(
+    alloc: Global,
+    value: &Tree<'_>,
+) -> Result<BTreeMap<Name, Class>, PartError>
     ensures { Gives (λ classes. named_by class_of classes.entries) result (named_in class_in (view value.now)) }
 {
     match value {
-        Json::Object(members) => classes_of_members(alloc, members),
-        Json::Null => Err(misshapen(alloc)),
-        Json::Bool(_) => Err(misshapen(alloc)),
-        Json::Number(_) => Err(misshapen(alloc)),
-        Json::String(_) => Err(misshapen(alloc)),
-        Json::Array(_) => Err(misshapen(alloc)),
+        Tree::Object(members) => classes_of_members(alloc, members),
+        Tree::Null => Err(misshapen(alloc)),
+        Tree::Bool(_) => Err(misshapen(alloc)),
+        Tree::Number(_) => Err(misshapen(alloc)),
+        Tree::String(_) => Err(misshapen(alloc)),
+        Tree::Array(_) => Err(misshapen(alloc)),
     }
 }

@@ -2,7 +2,7 @@
 
 ghost use Rattle.std.specs.Prelude.{◌≡◌};
 ghost use Rattle.serde_json.specs.Data.{member, no_members, object};
-ghost use Rattle.serde_json.specs.View.{members_view, view};
+ghost use Rattle.json_tree.specs.View.{members_view, view};
 ghost use Rattle.flow_values.specs.Answers.{Gives};
 ghost use Rattle.flow_reader.specs.Files.{bodies_in, classes_in, file_in};
 ghost use Rattle.flow_syntax.specs.Views.{bodies_of, class_of, flows_of, named_by};
@@ -11,12 +11,12 @@ use crate::classes::{bodies_in, classes_in};
 use dura_value::Name;
 use flow_syntax::{Class, Flows, Stmt};
 use flow_values::{PartError, Step, misshapen, under};
-use serde_json::{Map, Value as Json};
+use json_tree::{Member, Tree};
 use std::alloc::Global;
 use std::collections::BTreeMap;
 
 #[tactic(auto, using(flow_values::proofs::Parts::fails_under))]
-fn classes_at(alloc: Global, value: &Json) -> Result<BTreeMap<Name, Class>, PartError>
+fn classes_at(alloc: Global, value: &Tree<'_>) -> Result<BTreeMap<Name, Class>, PartError>
     ensures { Gives (λ classes. named_by class_of classes.entries) result (classes_in (view value.now)) }
 {
     match classes_in(alloc, value) {
@@ -26,7 +26,7 @@ fn classes_at(alloc: Global, value: &Json) -> Result<BTreeMap<Name, Class>, Part
 }
 
 #[tactic(auto, using(flow_values::proofs::Parts::fails_under))]
-fn flows_at(alloc: Global, value: &Json) -> Result<BTreeMap<Name, Vec<Stmt>>, PartError>
+fn flows_at(alloc: Global, value: &Tree<'_>) -> Result<BTreeMap<Name, Vec<Stmt>>, PartError>
     ensures { Gives bodies_of result (bodies_in (view value.now)) }
 {
     match bodies_in(alloc, false, value) {
@@ -37,7 +37,7 @@ fn flows_at(alloc: Global, value: &Json) -> Result<BTreeMap<Name, Vec<Stmt>>, Pa
 
 /// A file of one member.
 #[tactic(auto, using(flow_values::proofs::Parts::ends_then))]
-fn of_one(alloc: Global, key: &str, value: &Json) -> Result<Flows, PartError>
+fn of_one(alloc: Global, key: &str, value: &Tree<'_>) -> Result<Flows, PartError>
     ensures { Gives flows_of result (file_in (object (member key.now (view value.now) no_members))) }
 {
     if key == "classes" {
@@ -58,9 +58,9 @@ fn of_one(alloc: Global, key: &str, value: &Json) -> Result<Flows, PartError>
 fn of_two(
     alloc: Global,
     first: &str,
-    classes: &Json,
+    classes: &Tree<'_>,
     second: &str,
-    flows: &Json,
+    flows: &Tree<'_>,
 ) -> Result<Flows, PartError>
     ensures { Gives flows_of result (file_in (object (member first.now (view classes.now) (member second.now (view flows.now) no_members)))) }
 {
@@ -73,32 +73,32 @@ fn of_two(
     }
 }
 
-fn of_members(alloc: Global, members: &Map<String, Json>) -> Result<Flows, PartError>
-    ensures { Gives flows_of result (file_in (object (members_view members.now.entries))) }
+fn of_members(alloc: Global, members: &[Member<'_>]) -> Result<Flows, PartError>
+    ensures { Gives flows_of result (file_in (object (members_view members.now))) }
 {
     let mut entries = members.iter();
     match entries.next() {
-        Some((first, classes)) => match entries.next() {
-            Some((second, flows)) => match entries.next() {
+        Some(first) => match entries.next() {
+            Some(second) => match entries.next() {
                 Some(_) => Err(misshapen(alloc)),
-                None => of_two(alloc, first.as_str(), classes, second.as_str(), flows),
+                None => of_two(alloc, first.0, &first.1, second.0, &second.1),
             },
-            None => of_one(alloc, first.as_str(), classes),
+            None => of_one(alloc, first.0, &first.1),
         },
         None => Ok(Flows::new(alloc)),
     }
 }
 
 /// An object with no members but `classes` and `flows`.
-pub(crate) fn file_in(alloc: Global, value: &Json) -> Result<Flows, PartError>
+pub(crate) fn file_in(alloc: Global, value: &Tree<'_>) -> Result<Flows, PartError>
     ensures { Gives flows_of result (file_in (view value.now)) }
 {
     match value {
-        Json::Object(members) => of_members(alloc, members),
-        Json::Null => Err(misshapen(alloc)),
-        Json::Bool(_) => Err(misshapen(alloc)),
-        Json::Number(_) => Err(misshapen(alloc)),
-        Json::String(_) => Err(misshapen(alloc)),
-        Json::Array(_) => Err(misshapen(alloc)),
+        Tree::Object(members) => of_members(alloc, members),
+        Tree::Null => Err(misshapen(alloc)),
+        Tree::Bool(_) => Err(misshapen(alloc)),
+        Tree::Number(_) => Err(misshapen(alloc)),
+        Tree::String(_) => Err(misshapen(alloc)),
+        Tree::Array(_) => Err(misshapen(alloc)),
     }
 }

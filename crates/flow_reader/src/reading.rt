@@ -1,14 +1,15 @@
 //! The flows of a file, or why it is refused.
 
-ghost use Rattle.serde_json.specs.View.{view};
+ghost use Rattle.json_tree.specs.View.{view};
 ghost use Rattle.flow_reader.specs.Answers.{Reads};
 ghost use Rattle.flow_reader.specs.Files.{file_in, flows_in, shape_checked};
 
 use crate::file::file_in;
 use crate::lookups::known_file;
+use bumpalo::Bump;
 use flow_syntax::Flows;
 use flow_values::{PartError, Path};
-use serde_json::Value as Json;
+use json_tree::{ReadError, Tree, read_tree};
 use std::alloc::Global;
 use thiserror::Error;
 
@@ -36,7 +37,7 @@ pub enum FlowsError {
 }
 
 /// The flows that JSON stands for: all shapes are looked at, and then all names.
-fn flows_of(alloc: Global, value: &Json) -> Result<Flows, FlowsError>
+fn flows_of(alloc: Global, value: &Tree<'_>) -> Result<Flows, FlowsError>
     ensures { Reads result (shape_checked (file_in (view value.now))) }
 {
     match file_in(alloc, value) {
@@ -55,14 +56,10 @@ fn flows_of(alloc: Global, value: &Json) -> Result<Flows, FlowsError>
 pub fn read_flows(alloc: Global, bytes: &[u8]) -> Result<Flows, FlowsError>
     ensures { Reads result (flows_in bytes.now) }
 {
-    match Json::from_slice(alloc, bytes) {
-        Ok(value) => flows_of(alloc, &value),
-        Err(error) => {
-            if error.is_memory() {
-                Err(FlowsError::Memory)
-            } else {
-                Err(FlowsError::NotJson)
-            }
-        }
+    let arena = Bump::new(alloc);
+    match read_tree(alloc, &arena, bytes) {
+        Ok(tree) => flows_of(alloc, &tree),
+        Err(ReadError::NotJson) => Err(FlowsError::NotJson),
+        Err(ReadError::Memory) => Err(FlowsError::Memory),
     }
 }

@@ -1,7 +1,7 @@
 //! Statements with none in them.
 
 ghost use Rattle.std.specs.Prelude.{◌≡◌, option_map};
-ghost use Rattle.serde_json.specs.View.{items_view, view};
+ghost use Rattle.json_tree.specs.View.{items_view, view};
 ghost use Rattle.flow_values.specs.Answers.{Gives};
 ghost use Rattle.flow_values.specs.Expressions.{expression_in};
 ghost use Rattle.flow_values.specs.Faults.{at, to_part};
@@ -14,11 +14,14 @@ use crate::words::Word;
 use dura_value::Name;
 use flow_syntax::{Expr, Stmt};
 use flow_values::{PartError, expression_at, misshapen, name_at};
-use serde_json::Value as Json;
+use json_tree::Tree;
 use std::alloc::Global;
 
+/// A part of a statement.
+pub(crate) type Part<'t, 'a> = &'t Tree<'a>;
+
 #[tactic(auto, using(crate::proofs::Counts::one_there, crate::proofs::Counts::one_not_there))]
-fn one_part(parts: &[Json]) -> Option<&Json>
+fn one_part<'t, 'a>(parts: &'t [Tree<'a>]) -> Option<Part<'t, 'a>>
     ensures { option_map (λ p. view p.now) result ≡ one_part (items_view parts.now) }
 {
     if parts.len() == 1 {
@@ -29,7 +32,7 @@ fn one_part(parts: &[Json]) -> Option<&Json>
 }
 
 #[tactic(auto, using(crate::proofs::Counts::two_there, crate::proofs::Counts::two_not_there))]
-pub(crate) fn two_parts(parts: &[Json]) -> Option<(&Json, &Json)>
+pub(crate) fn two_parts<'t, 'a>(parts: &'t [Tree<'a>]) -> Option<(Part<'t, 'a>, Part<'t, 'a>)>
     ensures { option_map (λ p. (view p.0.now, view p.1.now)) result ≡ two_parts (items_view parts.now) }
 {
     if parts.len() == 2 {
@@ -40,7 +43,7 @@ pub(crate) fn two_parts(parts: &[Json]) -> Option<(&Json, &Json)>
 }
 
 #[tactic(auto, using(crate::proofs::Counts::three_there, crate::proofs::Counts::three_not_there))]
-fn three_parts(parts: &[Json]) -> Option<(&Json, &Json, &Json)>
+fn three_parts<'t, 'a>(parts: &'t [Tree<'a>]) -> Option<(Part<'t, 'a>, Part<'t, 'a>, Part<'t, 'a>)>
     ensures { option_map (λ p. (view p.0.now, view p.1.now, view p.2.now)) result ≡ three_parts (items_view parts.now) }
 {
     if parts.len() == 3 {
@@ -51,7 +54,9 @@ fn three_parts(parts: &[Json]) -> Option<(&Json, &Json, &Json)>
 }
 
 #[tactic(auto, using(crate::proofs::Counts::four_there, crate::proofs::Counts::four_not_there))]
-fn four_parts(parts: &[Json]) -> Option<(&Json, &Json, &Json, &Json)>
+fn four_parts<'t, 'a>(
+    parts: &'t [Tree<'a>],
+) -> Option<(Part<'t, 'a>, Part<'t, 'a>, Part<'t, 'a>, Part<'t, 'a>)>
     ensures { option_map (λ p. (view p.0.now, view p.1.now, view p.2.now, view p.3.now)) result ≡ four_parts (items_view parts.now) }
 {
     if parts.len() == 4 {
@@ -62,7 +67,17 @@ fn four_parts(parts: &[Json]) -> Option<(&Json, &Json, &Json, &Json)>
 }
 
 #[tactic(auto, using(crate::proofs::Counts::five_there, crate::proofs::Counts::five_not_there))]
-fn five_parts(parts: &[Json]) -> Option<(&Json, &Json, &Json, &Json, &Json)>
+fn five_parts<'t, 'a>(
+    parts: &'t [Tree<'a>],
+) -> Option<
+    (
+        Part<'t, 'a>,
+        Part<'t, 'a>,
+        Part<'t, 'a>,
+        Part<'t, 'a>,
+        Part<'t, 'a>,
+    ),
+>
     ensures { option_map (λ p. (view p.0.now, view p.1.now, view p.2.now, view p.3.now, view p.4.now)) result ≡ five_parts (items_view parts.now) }
 {
     if parts.len() == 5 {
@@ -74,7 +89,7 @@ fn five_parts(parts: &[Json]) -> Option<(&Json, &Json, &Json, &Json, &Json)>
 
 /// The only part, an expression.
 #[tactic(auto, using(flow_values::proofs::Parts::ends_then))]
-fn only_value(alloc: Global, parts: &[Json]) -> Result<Expr, PartError>
+fn only_value(alloc: Global, parts: &[Tree<'_>]) -> Result<Expr, PartError>
     ensures { Gives expression_of result (only_value (items_view parts.now)) }
 {
     match one_part(parts) {
@@ -88,7 +103,7 @@ fn only_value(alloc: Global, parts: &[Json]) -> Result<Expr, PartError>
 
 /// A variable and an expression.
 #[tactic(auto, using(flow_values::proofs::Parts::ends_then))]
-fn variable_and_value(alloc: Global, parts: &[Json]) -> Result<(Name, Expr), PartError>
+fn variable_and_value(alloc: Global, parts: &[Tree<'_>]) -> Result<(Name, Expr), PartError>
     ensures { Gives (λ p. (p.0, expression_of p.1)) result (variable_and_value (items_view parts.now)) }
 {
     match two_parts(parts) {
@@ -103,7 +118,7 @@ fn variable_and_value(alloc: Global, parts: &[Json]) -> Result<(Name, Expr), Par
 
 /// A variable, an activity and its argument.
 #[tactic(auto, using(flow_values::proofs::Parts::ends_then))]
-fn activity_in(alloc: Global, parts: &[Json]) -> Result<(Name, Name, Expr), PartError>
+fn activity_in(alloc: Global, parts: &[Tree<'_>]) -> Result<(Name, Name, Expr), PartError>
     ensures { Gives (λ p. (p.0, p.1, expression_of p.2)) result (activity_in (items_view parts.now)) }
 {
     match three_parts(parts) {
@@ -119,7 +134,7 @@ fn activity_in(alloc: Global, parts: &[Json]) -> Result<(Name, Name, Expr), Part
 
 /// The next event of a name.
 #[tactic(auto, using(flow_values::proofs::Parts::ends_then))]
-fn event_in(alloc: Global, parts: &[Json]) -> Result<Stmt, PartError>
+fn event_in(alloc: Global, parts: &[Tree<'_>]) -> Result<Stmt, PartError>
     ensures { Gives statement_of result (event_in (items_view parts.now)) }
 {
     match two_parts(parts) {
@@ -134,7 +149,7 @@ fn event_in(alloc: Global, parts: &[Json]) -> Result<Stmt, PartError>
 
 /// The start of an instance.
 #[tactic(auto, using(flow_values::proofs::Parts::ends_then))]
-fn sub_in(alloc: Global, parts: &[Json]) -> Result<Stmt, PartError>
+fn sub_in(alloc: Global, parts: &[Tree<'_>]) -> Result<Stmt, PartError>
     ensures { Gives statement_of result (sub_in (items_view parts.now)) }
 {
     match four_parts(parts) {
@@ -151,7 +166,7 @@ fn sub_in(alloc: Global, parts: &[Json]) -> Result<Stmt, PartError>
 
 /// A question to an entity.
 #[tactic(auto, using(flow_values::proofs::Parts::ends_then))]
-fn ask_in(alloc: Global, parts: &[Json]) -> Result<Stmt, PartError>
+fn ask_in(alloc: Global, parts: &[Tree<'_>]) -> Result<Stmt, PartError>
     ensures { Gives statement_of result (ask_in (items_view parts.now)) }
 {
     match five_parts(parts) {
@@ -169,7 +184,7 @@ fn ask_in(alloc: Global, parts: &[Json]) -> Result<Stmt, PartError>
 
 /// An operation that nobody waits for.
 #[tactic(auto, using(flow_values::proofs::Parts::ends_then))]
-fn signal_in(alloc: Global, parts: &[Json]) -> Result<Stmt, PartError>
+fn signal_in(alloc: Global, parts: &[Tree<'_>]) -> Result<Stmt, PartError>
     ensures { Gives statement_of result (signal_in (items_view parts.now)) }
 {
     match four_parts(parts) {
@@ -185,7 +200,7 @@ fn signal_in(alloc: Global, parts: &[Json]) -> Result<Stmt, PartError>
 }
 
 #[tactic(auto, using(flow_values::proofs::Parts::ends_then))]
-fn let_in(alloc: Global, parts: &[Json]) -> Result<Stmt, PartError>
+fn let_in(alloc: Global, parts: &[Tree<'_>]) -> Result<Stmt, PartError>
     ensures { Gives statement_of result (simple_in words.Let (items_view parts.now)) }
 {
     let (variable, value) = variable_and_value(alloc, parts)?;
@@ -193,7 +208,7 @@ fn let_in(alloc: Global, parts: &[Json]) -> Result<Stmt, PartError>
 }
 
 #[tactic(auto, using(flow_values::proofs::Parts::ends_then))]
-fn spawn_in(alloc: Global, parts: &[Json]) -> Result<Stmt, PartError>
+fn spawn_in(alloc: Global, parts: &[Tree<'_>]) -> Result<Stmt, PartError>
     ensures { Gives statement_of result (simple_in words.Spawn (items_view parts.now)) }
 {
     let (variable, activity, argument) = activity_in(alloc, parts)?;
@@ -201,7 +216,7 @@ fn spawn_in(alloc: Global, parts: &[Json]) -> Result<Stmt, PartError>
 }
 
 #[tactic(auto, using(flow_values::proofs::Parts::ends_then))]
-fn call_in(alloc: Global, parts: &[Json]) -> Result<Stmt, PartError>
+fn call_in(alloc: Global, parts: &[Tree<'_>]) -> Result<Stmt, PartError>
     ensures { Gives statement_of result (simple_in words.Call (items_view parts.now)) }
 {
     let (variable, activity, argument) = activity_in(alloc, parts)?;
@@ -209,7 +224,7 @@ fn call_in(alloc: Global, parts: &[Json]) -> Result<Stmt, PartError>
 }
 
 #[tactic(auto, using(flow_values::proofs::Parts::ends_then))]
-fn timer_in(alloc: Global, parts: &[Json]) -> Result<Stmt, PartError>
+fn timer_in(alloc: Global, parts: &[Tree<'_>]) -> Result<Stmt, PartError>
     ensures { Gives statement_of result (simple_in words.Timer (items_view parts.now)) }
 {
     let (variable, delay) = variable_and_value(alloc, parts)?;
@@ -217,7 +232,7 @@ fn timer_in(alloc: Global, parts: &[Json]) -> Result<Stmt, PartError>
 }
 
 #[tactic(auto, using(flow_values::proofs::Parts::ends_then))]
-fn await_in(alloc: Global, parts: &[Json]) -> Result<Stmt, PartError>
+fn await_in(alloc: Global, parts: &[Tree<'_>]) -> Result<Stmt, PartError>
     ensures { Gives statement_of result (simple_in words.Await (items_view parts.now)) }
 {
     let (variable, handle) = variable_and_value(alloc, parts)?;
@@ -225,7 +240,7 @@ fn await_in(alloc: Global, parts: &[Json]) -> Result<Stmt, PartError>
 }
 
 #[tactic(auto, using(flow_values::proofs::Parts::ends_then))]
-fn all_in(alloc: Global, parts: &[Json]) -> Result<Stmt, PartError>
+fn all_in(alloc: Global, parts: &[Tree<'_>]) -> Result<Stmt, PartError>
     ensures { Gives statement_of result (simple_in words.All (items_view parts.now)) }
 {
     let (variable, handles) = variable_and_value(alloc, parts)?;
@@ -233,7 +248,7 @@ fn all_in(alloc: Global, parts: &[Json]) -> Result<Stmt, PartError>
 }
 
 #[tactic(auto, using(flow_values::proofs::Parts::ends_then))]
-fn any_in(alloc: Global, parts: &[Json]) -> Result<Stmt, PartError>
+fn any_in(alloc: Global, parts: &[Tree<'_>]) -> Result<Stmt, PartError>
     ensures { Gives statement_of result (simple_in words.Any (items_view parts.now)) }
 {
     let (variable, handles) = variable_and_value(alloc, parts)?;
@@ -241,7 +256,7 @@ fn any_in(alloc: Global, parts: &[Json]) -> Result<Stmt, PartError>
 }
 
 #[tactic(auto, using(flow_values::proofs::Parts::ends_then))]
-fn return_in(alloc: Global, parts: &[Json]) -> Result<Stmt, PartError>
+fn return_in(alloc: Global, parts: &[Tree<'_>]) -> Result<Stmt, PartError>
     ensures { Gives statement_of result (simple_in words.Return (items_view parts.now)) }
 {
     let value = only_value(alloc, parts)?;
@@ -249,7 +264,7 @@ fn return_in(alloc: Global, parts: &[Json]) -> Result<Stmt, PartError>
 }
 
 #[tactic(auto, using(flow_values::proofs::Parts::ends_then))]
-fn fail_in(alloc: Global, parts: &[Json]) -> Result<Stmt, PartError>
+fn fail_in(alloc: Global, parts: &[Tree<'_>]) -> Result<Stmt, PartError>
     ensures { Gives statement_of result (simple_in words.Fail (items_view parts.now)) }
 {
     let text = only_value(alloc, parts)?;
@@ -257,7 +272,7 @@ fn fail_in(alloc: Global, parts: &[Json]) -> Result<Stmt, PartError>
 }
 
 /// A statement with none in it, of a word and the parts behind it.
-pub(crate) fn simple_in(alloc: Global, word: Word, parts: &[Json]) -> Result<Stmt, PartError>
+pub(crate) fn simple_in(alloc: Global, word: Word, parts: &[Tree<'_>]) -> Result<Stmt, PartError>
     ensures { Gives statement_of result (simple_in word (items_view parts.now)) }
 {
     match word {

@@ -1,11 +1,11 @@
 //! The words of statements.
 
 ghost use Rattle.std.specs.Prelude.{◌≡◌};
-ghost use Rattle.serde_json.specs.View.{view};
+ghost use Rattle.json_tree.specs.View.{view};
 ghost use Rattle.flow_reader.specs.Statements.{flow_word, inner_word, word_in};
 
 use flow_values::is_word;
-use serde_json::Value as Json;
+use json_tree::Tree;
 
 /// The word that a statement begins with.
 #[derive(Clone, Copy, Debug, PartialEq, Eq)]
@@ -30,7 +30,7 @@ pub(crate) enum Word {
 }
 
 /// A word that may stand in an operation.
-fn inner_word(value: &Json) -> Option<Word>
+fn inner_word(value: &Tree<'_>) -> Option<Word>
     ensures { result ≡ inner_word (view value.now) }
 {
     if is_word(value, "let") {
@@ -51,7 +51,7 @@ fn inner_word(value: &Json) -> Option<Word>
 }
 
 /// A word that may stand in a flow alone.
-fn flow_word(value: &Json) -> Option<Word>
+fn flow_word(value: &Tree<'_>) -> Option<Word>
     ensures { result ≡ flow_word (view value.now) }
 {
     if is_word(value, "spawn") {
@@ -82,7 +82,7 @@ fn flow_word(value: &Json) -> Option<Word>
 }
 
 /// A word that may stand there.
-pub(crate) fn word_in(inside: bool, value: &Json) -> Option<Word>
+pub(crate) fn word_in(inside: bool, value: &Tree<'_>) -> Option<Word>
     ensures { result ≡ word_in inside (view value.now) }
 {
     match inner_word(value) {

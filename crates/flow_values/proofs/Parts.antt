@@ -3,8 +3,8 @@ use Rattle.std.proofs.Common.{◌≡◌, ℕ, ◌+◌, ◌<◌, ◌≤◌, List,
 use Rattle.std.proofs.Math.Seq.{drop-cons}
 use Rattle.std.proofs.lemmas.List.{drop_all}
 use Rattle.serde_json.specs.Data.{array, Items, item, no_items}
-use Rattle.serde_json.specs.View.{view, items_view}
-use Rattle.serde_json.specs.declared.value.Value.{Value as Json}
+use Rattle.json_tree.specs.View.{view, items_view}
+use Rattle.json_tree.specs.declared.tree.Tree.{Tree}
 use Rattle.flow_syntax.specs.declared.syntax.Expr.{Expr}
 use Rattle.flow_syntax.specs.declared.syntax.UnaryOp.{UnaryOp}
 use Rattle.flow_syntax.specs.declared.syntax.BinaryOp.{BinaryOp}
@@ -51,47 +51,47 @@ with_first : (done : List Expr) (e : Expr) (rest : Result Expressions Path) → 
 with_first done e (Err path) = refl
 with_first done e (Ok es) = rw (one_behind done e es) refl
 
-pub items_from : (vs : List Json) (i : ℕ) (v : Json) → i < length vs → v ≡ get_or vs i v → items_view (drop i vs) ≡ item (view v) (items_view (drop (i + 1) vs))
+pub items_from : (vs : List Tree) (i : ℕ) (v : Tree) → i < length vs → v ≡ get_or vs i v → items_view (drop i vs) ≡ item (view v) (items_view (drop (i + 1) vs))
 items_from vs i v lt at = rw (add-one, drop-cons vs i v lt, ← at) refl
 
 -- nothing was read yet
-pub begins : (vs : List Json) → with_rest [] 0 (items_view (drop 0 vs)) ≡ expressions_from 0 (items_view vs)
+pub begins : (vs : List Tree) → with_rest [] 0 (items_view (drop 0 vs)) ≡ expressions_from 0 (items_view vs)
 begins vs = same (expressions_from 0 (items_view vs)) where
   same : (read : Result Expressions Path) → (read >>= λ rest. Ok (before_parts [] rest)) ≡ read
   same (Ok es) = refl
   same (Err path) = refl
 
 -- a part was read
-pub goes_on : (whole : Result Expressions Path) (done : List Expr) (vs : List Json) (i : ℕ) (v : Json) (e : Expr) → i < length vs → v ≡ get_or vs i v → with_rest done i (items_view (drop i vs)) ≡ whole → expression_in (view v) ≡ Ok (expression_of e) → with_rest (done ++ e ∷ []) (i + 1) (items_view (drop (i + 1) vs)) ≡ whole
+pub goes_on : (whole : Result Expressions Path) (done : List Expr) (vs : List Tree) (i : ℕ) (v : Tree) (e : Expr) → i < length vs → v ≡ get_or vs i v → with_rest done i (items_view (drop i vs)) ≡ whole → expression_in (view v) ≡ Ok (expression_of e) → with_rest (done ++ e ∷ []) (i + 1) (items_view (drop (i + 1) vs)) ≡ whole
 goes_on whole done vs i v e lt here before is = sym (with_first done e (expressions_from (i + 1) (items_view (drop (i + 1) vs)))) ∙ sym (rw (items_from vs i v lt here, is) refl) ∙ before
 
 -- a part is no expression
-pub ends : (whole : Result Expressions Path) (done : List Expr) (vs : List Json) (i : ℕ) (v : Json) (error further : PartError) → i < length vs → v ≡ get_or vs i v → with_rest done i (items_view (drop i vs)) ≡ whole → Fails error (expression_in (view v)) → IsUnder (to_part i) error further → Fails further whole
+pub ends : (whole : Result Expressions Path) (done : List Expr) (vs : List Tree) (i : ℕ) (v : Tree) (error further : PartError) → i < length vs → v ≡ get_or vs i v → with_rest done i (items_view (drop i vs)) ≡ whole → Fails error (expression_in (view v)) → IsUnder (to_part i) error further → Fails further whole
 ends whole done vs i v (Misshapen path) (Misshapen outer) lt here before is under = sym before ∙ rw (items_from vs i v lt here, is, under) refl
 ends whole done vs i v Memory (Misshapen outer) lt here before is under = absurd under
 ends whole done vs i v (Misshapen path) Memory lt here before is under = tt
 ends whole done vs i v Memory Memory lt here before is under = tt
 
 -- all parts were read
-pub all : (vs : List Json) (done : List Expr) (i : ℕ) → length vs ≤ i → with_rest done i (items_view (drop i vs)) ≡ expressions_from 0 (items_view vs) → expressions_from 0 (items_view vs) ≡ Ok (parts_of done)
+pub all : (vs : List Tree) (done : List Expr) (i : ℕ) → length vs ≤ i → with_rest done i (items_view (drop i vs)) ≡ expressions_from 0 (items_view vs) → expressions_from 0 (items_view vs) ≡ Ok (parts_of done)
 all vs done i past is = sym is ∙ rw (drop_all i vs past) (ap Ok (none_behind done))
 
 -- ---- an operation by the count of its items
 
-pub two_items : (vs : List Json) (a b : Json) → length vs ≡ 2 → a ≡ get_or vs 0 a → b ≡ get_or vs 1 b → items_view vs ≡ item (view a) (item (view b) no_items)
+pub two_items : (vs : List Tree) (a b : Tree) → length vs ≡ 2 → a ≡ get_or vs 0 a → b ≡ get_or vs 1 b → items_view vs ≡ item (view a) (item (view b) no_items)
 two_items [] a b count at0 at1 = absurd (omega (arith, count))
 two_items (x ∷ []) a b count at0 at1 = absurd (omega (arith, count))
 two_items (x ∷ y ∷ []) a b count at0 at1 = rw (at0, at1) refl
 two_items (x ∷ y ∷ z ∷ vs) a b count at0 at1 = absurd (omega (arith, count))
 
-pub three_items : (vs : List Json) (a b c : Json) → length vs ≡ 3 → a ≡ get_or vs 0 a → b ≡ get_or vs 1 b → c ≡ get_or vs 2 c → items_view vs ≡ item (view a) (item (view b) (item (view c) no_items))
+pub three_items : (vs : List Tree) (a b c : Tree) → length vs ≡ 3 → a ≡ get_or vs 0 a → b ≡ get_or vs 1 b → c ≡ get_or vs 2 c → items_view vs ≡ item (view a) (item (view b) (item (view c) no_items))
 three_items [] a b c count at0 at1 at2 = absurd (omega (arith, count))
 three_items (x ∷ []) a b c count at0 at1 at2 = absurd (omega (arith, count))
 three_items (x ∷ y ∷ []) a b c count at0 at1 at2 = absurd (omega (arith, count))
 three_items (x ∷ y ∷ z ∷ []) a b c count at0 at1 at2 = rw (at0, at1, at2) refl
 three_items (x ∷ y ∷ z ∷ w ∷ vs) a b c count at0 at1 at2 = absurd (omega (arith, count))
 
-pub no_operation : (vs : List Json) → ¬ length vs ≡ 2 → ¬ length vs ≡ 3 → operation_in (array (items_view vs)) ≡ misshapen
+pub no_operation : (vs : List Tree) → ¬ length vs ≡ 2 → ¬ length vs ≡ 3 → operation_in (array (items_view vs)) ≡ misshapen
 no_operation [] two three = refl
 no_operation (x ∷ []) two three = refl
 no_operation (x ∷ y ∷ []) two three = absurd (two refl)
@@ -102,23 +102,23 @@ pub ends_then : {X Y : Type 0} (read : Result X Path) (then : X → Result Y Pat
 ends_then read then (Misshapen path) fails = rw fails refl
 ends_then read then Memory fails = tt
 
-pub unary_ends : (vs : List Json) (a b : Json) (operation : UnaryOp) (error : PartError) → length vs ≡ 2 → a ≡ get_or vs 0 a → b ≡ get_or vs 1 b → Some (unary_of operation) ≡ unary_in (view a) → Fails error (at (to_part 1) (expression_in (view b))) → Fails error (operation_in (array (items_view vs)))
+pub unary_ends : (vs : List Tree) (a b : Tree) (operation : UnaryOp) (error : PartError) → length vs ≡ 2 → a ≡ get_or vs 0 a → b ≡ get_or vs 1 b → Some (unary_of operation) ≡ unary_in (view a) → Fails error (at (to_part 1) (expression_in (view b))) → Fails error (operation_in (array (items_view vs)))
 unary_ends vs a b operation error count at0 at1 word fails = rw (two_items vs a b count at0 at1, ← word) (ends_then _ _ error fails)
 
-pub unary_read : (vs : List Json) (a b : Json) (operation : UnaryOp) (first : Expression) → length vs ≡ 2 → a ≡ get_or vs 0 a → b ≡ get_or vs 1 b → Some (unary_of operation) ≡ unary_in (view a) → at (to_part 1) (expression_in (view b)) ≡ Ok first → operation_in (array (items_view vs)) ≡ Ok (unary (unary_of operation) first)
+pub unary_read : (vs : List Tree) (a b : Tree) (operation : UnaryOp) (first : Expression) → length vs ≡ 2 → a ≡ get_or vs 0 a → b ≡ get_or vs 1 b → Some (unary_of operation) ≡ unary_in (view a) → at (to_part 1) (expression_in (view b)) ≡ Ok first → operation_in (array (items_view vs)) ≡ Ok (unary (unary_of operation) first)
 unary_read vs a b operation first count at0 at1 word read = rw (two_items vs a b count at0 at1, ← word, read) refl
 
-pub unary_unknown : (vs : List Json) (a b : Json) → length vs ≡ 2 → a ≡ get_or vs 0 a → b ≡ get_or vs 1 b → None ≡ unary_in (view a) → operation_in (array (items_view vs)) ≡ misshapen
+pub unary_unknown : (vs : List Tree) (a b : Tree) → length vs ≡ 2 → a ≡ get_or vs 0 a → b ≡ get_or vs 1 b → None ≡ unary_in (view a) → operation_in (array (items_view vs)) ≡ misshapen
 unary_unknown vs a b count at0 at1 word = rw (two_items vs a b count at0 at1, ← word) refl
 
-pub binary_unknown : (vs : List Json) (a b c : Json) → length vs ≡ 3 → a ≡ get_or vs 0 a → b ≡ get_or vs 1 b → c ≡ get_or vs 2 c → None ≡ binary_in (view a) → operation_in (array (items_view vs)) ≡ misshapen
+pub binary_unknown : (vs : List Tree) (a b c : Tree) → length vs ≡ 3 → a ≡ get_or vs 0 a → b ≡ get_or vs 1 b → c ≡ get_or vs 2 c → None ≡ binary_in (view a) → operation_in (array (items_view vs)) ≡ misshapen
 binary_unknown vs a b c count at0 at1 at2 word = rw (three_items vs a b c count at0 at1 at2, ← word) refl
 
-pub binary_ends : (vs : List Json) (a b c : Json) (operation : BinaryOp) (error : PartError) → length vs ≡ 3 → a ≡ get_or vs 0 a → b ≡ get_or vs 1 b → c ≡ get_or vs 2 c → Some (binary_of operation) ≡ binary_in (view a) → Fails error (at (to_part 1) (expression_in (view b))) → Fails error (operation_in (array (items_view vs)))
+pub binary_ends : (vs : List Tree) (a b c : Tree) (operation : BinaryOp) (error : PartError) → length vs ≡ 3 → a ≡ get_or vs 0 a → b ≡ get_or vs 1 b → c ≡ get_or vs 2 c → Some (binary_of operation) ≡ binary_in (view a) → Fails error (at (to_part 1) (expression_in (view b))) → Fails error (operation_in (array (items_view vs)))
 binary_ends vs a b c operation error count at0 at1 at2 word fails = rw (three_items vs a b c count at0 at1 at2, ← word) (ends_then _ _ error fails)
 
-pub binary_ends_second : (vs : List Json) (a b c : Json) (operation : BinaryOp) (first : Expression) (error : PartError) → length vs ≡ 3 → a ≡ get_or vs 0 a → b ≡ get_or vs 1 b → c ≡ get_or vs 2 c → Some (binary_of operation) ≡ binary_in (view a) → at (to_part 1) (expression_in (view b)) ≡ Ok first → Fails error (at (to_part 2) (expression_in (view c))) → Fails error (operation_in (array (items_view vs)))
+pub binary_ends_second : (vs : List Tree) (a b c : Tree) (operation : BinaryOp) (first : Expression) (error : PartError) → length vs ≡ 3 → a ≡ get_or vs 0 a → b ≡ get_or vs 1 b → c ≡ get_or vs 2 c → Some (binary_of operation) ≡ binary_in (view a) → at (to_part 1) (expression_in (view b)) ≡ Ok first → Fails error (at (to_part 2) (expression_in (view c))) → Fails error (operation_in (array (items_view vs)))
 binary_ends_second vs a b c operation first error count at0 at1 at2 word read fails = rw (three_items vs a b c count at0 at1 at2, ← word, read) (ends_then _ _ error fails)
 
-pub binary_read : (vs : List Json) (a b c : Json) (operation : BinaryOp) (first second : Expression) → length vs ≡ 3 → a ≡ get_or vs 0 a → b ≡ get_or vs 1 b → c ≡ get_or vs 2 c → Some (binary_of operation) ≡ binary_in (view a) → at (to_part 1) (expression_in (view b)) ≡ Ok first → at (to_part 2) (expression_in (view c)) ≡ Ok second → operation_in (array (items_view vs)) ≡ Ok (binary (binary_of operation) first second)
+pub binary_read : (vs : List Tree) (a b c : Tree) (operation : BinaryOp) (first second : Expression) → length vs ≡ 3 → a ≡ get_or vs 0 a → b ≡ get_or vs 1 b → c ≡ get_or vs 2 c → Some (binary_of operation) ≡ binary_in (view a) → at (to_part 1) (expression_in (view b)) ≡ Ok first → at (to_part 2) (expression_in (view c)) ≡ Ok second → operation_in (array (items_view vs)) ≡ Ok (binary (binary_of operation) first second)
 binary_read vs a b c operation first second count at0 at1 at2 word read read_second = rw (three_items vs a b c count at0 at1 at2, ← word, read, read_second) refl

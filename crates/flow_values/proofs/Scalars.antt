@@ -4,8 +4,8 @@ use Rattle.std.proofs.Math.Seq.{drop-cons}
 use Rattle.std.specs.Prelude.{nat_le}
 use Rattle.std.proofs.lemmas.Bool.Decides.{nat_tests}
 use Rattle.serde_json.specs.Data.{Items, item}
-use Rattle.serde_json.specs.View.{view, items_view}
-use Rattle.serde_json.specs.declared.value.Value.{Value as Json}
+use Rattle.json_tree.specs.View.{view, items_view}
+use Rattle.json_tree.specs.declared.tree.Tree.{Tree}
 use Rattle.dura_value.specs.declared.data.Scalar.{Scalar}
 use Rattle.dura_value.specs.Limits.{most_scalars_bytes}
 use Rattle.flow_values.specs.Answers.{Fails, IsUnder}
@@ -15,7 +15,7 @@ use Rattle.flow_values.specs.Values.{count, scalar_in, scalars_from}
 use Rattle.flow_values.specs.declared.faults.PartError.{PartError}
 use Rattle.flow_values.specs.declared.faults.PartError.TheVariants.{Misshapen, Memory}
 
-pub count_of_items : (vs : List Json) → count (items_view vs) ≡ length vs
+pub count_of_items : (vs : List Tree) → count (items_view vs) ≡ length vs
 count_of_items [] = refl
 count_of_items (x ∷ vs) = omega (arith, count_of_items vs)
 
@@ -27,15 +27,15 @@ with_first : (done : List Scalar) (s : Scalar) (rest : Result (List Scalar) Path
 with_first done s (Err path) = refl
 with_first done s (Ok ss) = rw append_assoc refl
 
-items_from : (vs : List Json) (i : ℕ) (v : Json) → i < length vs → v ≡ get_or vs i v → items_view (drop i vs) ≡ item (view v) (items_view (drop (i + 1) vs))
+items_from : (vs : List Tree) (i : ℕ) (v : Tree) → i < length vs → v ≡ get_or vs i v → items_view (drop i vs) ≡ item (view v) (items_view (drop (i + 1) vs))
 items_from vs i v lt at = rw (add-one, drop-cons vs i v lt, ← at) refl
 
 -- a part was read
-pub goes_on : (whole : Result (List Scalar) Path) (done : List Scalar) (vs : List Json) (i : ℕ) (v : Json) (s : Scalar) → i < length vs → v ≡ get_or vs i v → with_rest done i (items_view (drop i vs)) ≡ whole → scalar_in (view v) ≡ Ok s → with_rest (done ++ s ∷ []) (i + 1) (items_view (drop (i + 1) vs)) ≡ whole
+pub goes_on : (whole : Result (List Scalar) Path) (done : List Scalar) (vs : List Tree) (i : ℕ) (v : Tree) (s : Scalar) → i < length vs → v ≡ get_or vs i v → with_rest done i (items_view (drop i vs)) ≡ whole → scalar_in (view v) ≡ Ok s → with_rest (done ++ s ∷ []) (i + 1) (items_view (drop (i + 1) vs)) ≡ whole
 goes_on whole done vs i v s lt here before is = sym (with_first done s (scalars_from (i + 1) (items_view (drop (i + 1) vs)))) ∙ sym (rw (items_from vs i v lt here, is) refl) ∙ before
 
 -- a part is no scalar
-pub ends : (whole : Result (List Scalar) Path) (done : List Scalar) (vs : List Json) (i : ℕ) (v : Json) (error further : PartError) → i < length vs → v ≡ get_or vs i v → with_rest done i (items_view (drop i vs)) ≡ whole → Fails error (scalar_in (view v)) → IsUnder (to_part i) error further → Fails further whole
+pub ends : (whole : Result (List Scalar) Path) (done : List Scalar) (vs : List Tree) (i : ℕ) (v : Tree) (error further : PartError) → i < length vs → v ≡ get_or vs i v → with_rest done i (items_view (drop i vs)) ≡ whole → Fails error (scalar_in (view v)) → IsUnder (to_part i) error further → Fails further whole
 ends whole done vs i v (Misshapen path) (Misshapen outer) lt here before is under = sym before ∙ rw (items_from vs i v lt here, is, under) refl
 ends whole done vs i v Memory (Misshapen outer) lt here before is under = absurd under
 ends whole done vs i v (Misshapen path) Memory lt here before is under = tt

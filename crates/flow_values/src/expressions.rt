@@ -2,7 +2,7 @@
 
 ghost use Rattle.std.specs.Prelude.{◌≡◌, Ok, length, option_map};
 ghost use Rattle.serde_json.specs.Data.{array, no_members, member, object};
-ghost use Rattle.serde_json.specs.View.{items_view, members_view, view};
+ghost use Rattle.json_tree.specs.View.{items_view, members_view, view};
 ghost use Rattle.flow_values.specs.Answers.{Gives};
 ghost use Rattle.flow_values.specs.Expressions.{binary_in, expression_in, expressions_from, is_word, list_in, operation_in, unary_in};
 ghost use Rattle.flow_values.specs.Faults.{at, to_part, ◌>>=◌ as bind};
@@ -13,24 +13,24 @@ ghost use Rattle.flow_syntax.specs.Views.{binary_of, expression_of, parts_of, un
 use crate::faults::{PartError, Step, under};
 use crate::values::{misshapen, name_in, scalar_in};
 use flow_syntax::{BinaryOp, Expr, UnaryOp};
-use serde_json::{Map, Value as Json};
+use json_tree::{Member, Tree};
 use std::alloc::Global;
 
 /// Whether it is this text.
-pub fn is_word(value: &Json, word: &str) -> bool
+pub fn is_word(value: &Tree<'_>, word: &str) -> bool
     ensures { result ≡ is_word word.now (view value.now) }
 {
     match value {
-        Json::String(text) => text.as_str() == word,
-        Json::Null => false,
-        Json::Bool(_) => false,
-        Json::Number(_) => false,
-        Json::Array(_) => false,
-        Json::Object(_) => false,
+        Tree::String(text) => *text == word,
+        Tree::Null => false,
+        Tree::Bool(_) => false,
+        Tree::Number(_) => false,
+        Tree::Array(_) => false,
+        Tree::Object(_) => false,
     }
 }
 
-fn unary_in(value: &Json) -> Option<UnaryOp>
+fn unary_in(value: &Tree<'_>) -> Option<UnaryOp>
     ensures { option_map unary_of result ≡ unary_in (view value.now) }
 {
     if is_word(value, "not") {
@@ -44,7 +44,7 @@ fn unary_in(value: &Json) -> Option<UnaryOp>
     }
 }
 
-fn binary_in(value: &Json) -> Option<BinaryOp>
+fn binary_in(value: &Tree<'_>) -> Option<BinaryOp>
     ensures { option_map binary_of result ≡ binary_in (view value.now) }
 {
     if is_word(value, "add") {
@@ -76,7 +76,7 @@ fn binary_in(value: &Json) -> Option<BinaryOp>
     }
 }
 
-fn scalar_of(alloc: Global, value: &Json) -> Result<Expr, PartError>
+fn scalar_of(alloc: Global, value: &Tree<'_>) -> Result<Expr, PartError>
     ensures { Gives expression_of result (bind (scalar_in (view value.now)) (λ s. Ok (scalar s))) }
 {
     match scalar_in(alloc, value) {
@@ -87,29 +87,29 @@ fn scalar_of(alloc: Global, value: &Json) -> Result<Expr, PartError>
 
 /// An expression: a scalar is itself, and an object with one member is a variable, a list or an operation.
 #[cycle(expressions)]
-pub fn expression_in(alloc: Global, value: &Json) -> Result<Expr, PartError>
+pub fn expression_in(alloc: Global, value: &Tree<'_>) -> Result<Expr, PartError>
     ensures { Gives expression_of result (expression_in (view value.now)) }
 {
     match value {
-        Json::Object(members) => object_in(alloc, members),
-        Json::Array(_) => Err(misshapen(alloc)),
-        Json::Null => scalar_of(alloc, value),
-        Json::Bool(_) => scalar_of(alloc, value),
-        Json::Number(_) => scalar_of(alloc, value),
-        Json::String(_) => scalar_of(alloc, value),
+        Tree::Object(members) => object_in(alloc, members),
+        Tree::Array(_) => Err(misshapen(alloc)),
+        Tree::Null => scalar_of(alloc, value),
+        Tree::Bool(_) => scalar_of(alloc, value),
+        Tree::Number(_) => scalar_of(alloc, value),
+        Tree::String(_) => scalar_of(alloc, value),
     }
 }
 
 /// An object that is an expression.
 #[cycle(expressions)]
-fn object_in(alloc: Global, members: &Map<String, Json>) -> Result<Expr, PartError>
-    ensures { Gives expression_of result (expression_in (object (members_view members.now.entries))) }
+fn object_in(alloc: Global, members: &[Member<'_>]) -> Result<Expr, PartError>
+    ensures { Gives expression_of result (expression_in (object (members_view members.now))) }
 {
     let mut entries = members.iter();
     match entries.next() {
-        Some((key, inside)) => match entries.next() {
+        Some(member) => match entries.next() {
             Some(_) => Err(misshapen(alloc)),
-            None => member_in(alloc, key.as_str(), inside),
+            None => member_in(alloc, member.0, &member.1),
         },
         None => Err(misshapen(alloc)),
     }
@@ -118,7 +118,7 @@ fn object_in(alloc: Global, members: &Map<String, Json>) -> Result<Expr, PartErr
 /// The only member of an object that is an expression.
 #[cycle(expressions)]
 #[tactic(auto, using(crate::proofs::Parts::ends_under))]
-fn member_in(alloc: Global, key: &str, inside: &Json) -> Result<Expr, PartError>
+fn member_in(alloc: Global, key: &str, inside: &Tree<'_>) -> Result<Expr, PartError>
     ensures { Gives expression_of result (expression_in (object (member key.now (view inside.now) no_members))) }
 {
     if key == "v" {
@@ -143,24 +143,24 @@ fn member_in(alloc: Global, key: &str, inside: &Json) -> Result<Expr, PartError>
 
 /// An array of expressions.
 #[cycle(expressions)]
-fn list_in(alloc: Global, value: &Json) -> Result<Vec<Expr>, PartError>
+fn list_in(alloc: Global, value: &Tree<'_>) -> Result<Vec<Expr>, PartError>
     ensures { Gives (λ parts. parts_of parts.items) result (list_in (view value.now)) }
 {
     match value {
-        Json::Array(items) => parts_in(alloc, items),
-        Json::Null => Err(misshapen(alloc)),
-        Json::Bool(_) => Err(misshapen(alloc)),
-        Json::Number(_) => Err(misshapen(alloc)),
-        Json::String(_) => Err(misshapen(alloc)),
-        Json::Object(_) => Err(misshapen(alloc)),
+        Tree::Array(items) => parts_in(alloc, items),
+        Tree::Null => Err(misshapen(alloc)),
+        Tree::Bool(_) => Err(misshapen(alloc)),
+        Tree::Number(_) => Err(misshapen(alloc)),
+        Tree::String(_) => Err(misshapen(alloc)),
+        Tree::Object(_) => Err(misshapen(alloc)),
     }
 }
 
 /// The expressions of an array, from the first on.
 #[cycle(expressions)]
 #[tactic(auto, using(crate::proofs::Parts::goes_on, crate::proofs::Parts::ends, crate::proofs::Parts::begins, crate::proofs::Parts::all))]
-fn parts_in(alloc: Global, items: &Vec<Json>) -> Result<Vec<Expr>, PartError>
-    ensures { Gives (λ parts. parts_of parts.items) result (expressions_from 0 (items_view items.now.items)) }
+fn parts_in(alloc: Global, items: &[Tree<'_>]) -> Result<Vec<Expr>, PartError>
+    ensures { Gives (λ parts. parts_of parts.items) result (expressions_from 0 (items_view items.now)) }
 {
     let mut parts = Vec::with_capacity(alloc, items.len())?;
     for (index, item) in items.iter().enumerate() {
@@ -175,11 +175,11 @@ fn parts_in(alloc: Global, items: &Vec<Json>) -> Result<Vec<Expr>, PartError>
 /// An operation and its parts.
 #[cycle(expressions)]
 #[tactic(auto, using(crate::proofs::Parts::no_operation))]
-fn operation_in(alloc: Global, value: &Json) -> Result<Expr, PartError>
+fn operation_in(alloc: Global, value: &Tree<'_>) -> Result<Expr, PartError>
     ensures { Gives expression_of result (operation_in (view value.now)) }
 {
     match value {
-        Json::Array(items) => {
+        Tree::Array(items) => {
             if items.len() == 2 {
                 unary_of(alloc, items)
             } else if items.len() == 3 {
@@ -188,18 +188,18 @@ fn operation_in(alloc: Global, value: &Json) -> Result<Expr, PartError>
                 Err(misshapen(alloc))
             }
         }
-        Json::Null => Err(misshapen(alloc)),
-        Json::Bool(_) => Err(misshapen(alloc)),
-        Json::Number(_) => Err(misshapen(alloc)),
-        Json::String(_) => Err(misshapen(alloc)),
-        Json::Object(_) => Err(misshapen(alloc)),
+        Tree::Null => Err(misshapen(alloc)),
+        Tree::Bool(_) => Err(misshapen(alloc)),
+        Tree::Number(_) => Err(misshapen(alloc)),
+        Tree::String(_) => Err(misshapen(alloc)),
+        Tree::Object(_) => Err(misshapen(alloc)),
     }
 }
 
 /// The expression at a place of an array.
 #[cycle(expressions)]
 #[tactic(auto, using(crate::proofs::Parts::fails_under))]
-pub fn expression_at(alloc: Global, item: &Json, index: usize) -> Result<Expr, PartError>
+pub fn expression_at(alloc: Global, item: &Tree<'_>, index: usize) -> Result<Expr, PartError>
     ensures { Gives expression_of result (at (to_part index) (expression_in (view item.now))) }
 {
     match expression_in(alloc, item) {
@@ -211,9 +211,9 @@ pub fn expression_at(alloc: Global, item: &Json, index: usize) -> Result<Expr, P
 /// An operation of one part.
 #[cycle(expressions)]
 #[tactic(auto, using(crate::proofs::Parts::unary_unknown, crate::proofs::Parts::unary_ends, crate::proofs::Parts::unary_read))]
-fn unary_of(alloc: Global, items: &Vec<Json>) -> Result<Expr, PartError>
-    requires { length items.now.items ≡ 2 }
-    ensures { Gives expression_of result (operation_in (array (items_view items.now.items))) }
+fn unary_of(alloc: Global, items: &[Tree<'_>]) -> Result<Expr, PartError>
+    requires { length items.now ≡ 2 }
+    ensures { Gives expression_of result (operation_in (array (items_view items.now))) }
 {
     let (word, only) = (&items[0], &items[1]);
     match unary_in(word) {
@@ -228,9 +228,9 @@ fn unary_of(alloc: Global, items: &Vec<Json>) -> Result<Expr, PartError>
 /// An operation of two parts.
 #[cycle(expressions)]
 #[tactic(auto, using(crate::proofs::Parts::binary_unknown, crate::proofs::Parts::binary_ends, crate::proofs::Parts::binary_ends_second, crate::proofs::Parts::binary_read))]
-fn binary_of(alloc: Global, items: &Vec<Json>) -> Result<Expr, PartError>
-    requires { length items.now.items ≡ 3 }
-    ensures { Gives expression_of result (operation_in (array (items_view items.now.items))) }
+fn binary_of(alloc: Global, items: &[Tree<'_>]) -> Result<Expr, PartError>
+    requires { length items.now ≡ 3 }
+    ensures { Gives expression_of result (operation_in (array (items_view items.now))) }
 {
     let (word, first, second) = (&items[0], &items[1], &items[2]);
     match binary_in(word) {

@@ -1,7 +1,7 @@
 //! Values and names.
 
 ghost use Rattle.std.specs.Prelude.{◌≡◌, ◌≤◌, [], nat_le, Ok};
-ghost use Rattle.serde_json.specs.View.{view, items_view};
+ghost use Rattle.json_tree.specs.View.{view, items_view};
 ghost use Rattle.flow_values.specs.Answers.{Gives};
 ghost use Rattle.flow_values.specs.Faults.{at, to_part, where_fits};
 ghost use Rattle.dura_value.specs.Values.{scalar_size, scalars_size, value_of};
@@ -12,7 +12,7 @@ use crate::faults::{PartError, Path, Step, under};
 use dura_value::{
     MOST_SCALARS, MOST_SCALARS_BYTES, Name, Scalar, Scalars, Text, TextError, Value, is_name,
 };
-use serde_json::Value as Json;
+use json_tree::Tree;
 use std::alloc::Global;
 
 /// This value isn't of the shape wanted.
@@ -34,53 +34,53 @@ fn text_in(alloc: Global, text: &str) -> Result<Text, PartError>
     }
 }
 
-pub(crate) fn scalar_in(alloc: Global, value: &Json) -> Result<Scalar, PartError>
+pub(crate) fn scalar_in(alloc: Global, value: &Tree<'_>) -> Result<Scalar, PartError>
     ensures { Gives (λ s. s) result (scalar_in (view value.now)) }
 {
     match value {
-        Json::Null => Ok(Scalar::Null),
-        Json::Bool(truth) => {
+        Tree::Null => Ok(Scalar::Null),
+        Tree::Bool(truth) => {
             if *truth {
                 Ok(Scalar::True)
             } else {
                 Ok(Scalar::False)
             }
         }
-        Json::Number(number) => match number.as_i64() {
+        Tree::Number(number) => match number.as_i64() {
             Some(number) => Ok(Scalar::Int(number)),
             None => Err(misshapen(alloc)),
         },
-        Json::String(text) => match text_in(alloc, text.as_str()) {
+        Tree::String(text) => match text_in(alloc, text) {
             Ok(text) => Ok(Scalar::Text(text)),
             Err(error) => Err(error),
         },
-        Json::Array(_) => Err(misshapen(alloc)),
-        Json::Object(_) => Err(misshapen(alloc)),
+        Tree::Array(_) => Err(misshapen(alloc)),
+        Tree::Object(_) => Err(misshapen(alloc)),
     }
 }
 
-pub fn name_in(alloc: Global, value: &Json) -> Result<Name, PartError>
+pub fn name_in(alloc: Global, value: &Tree<'_>) -> Result<Name, PartError>
     ensures { Gives (λ name. name) result (name_in (view value.now)) }
 {
     match value {
-        Json::String(text) => {
-            if is_name(text.as_str().as_bytes()) {
-                Ok(Name::of(alloc, text.as_str().as_bytes())?)
+        Tree::String(text) => {
+            if is_name(text.as_bytes()) {
+                Ok(Name::of(alloc, text.as_bytes())?)
             } else {
                 Err(misshapen(alloc))
             }
         }
-        Json::Null => Err(misshapen(alloc)),
-        Json::Bool(_) => Err(misshapen(alloc)),
-        Json::Number(_) => Err(misshapen(alloc)),
-        Json::Array(_) => Err(misshapen(alloc)),
-        Json::Object(_) => Err(misshapen(alloc)),
+        Tree::Null => Err(misshapen(alloc)),
+        Tree::Bool(_) => Err(misshapen(alloc)),
+        Tree::Number(_) => Err(misshapen(alloc)),
+        Tree::Array(_) => Err(misshapen(alloc)),
+        Tree::Object(_) => Err(misshapen(alloc)),
     }
 }
 
 /// The name at a place of an array.
 #[tactic(auto, using(crate::proofs::Parts::fails_under))]
-pub fn name_at(alloc: Global, value: &Json, index: usize) -> Result<Name, PartError>
+pub fn name_at(alloc: Global, value: &Tree<'_>, index: usize) -> Result<Name, PartError>
     ensures { Gives (λ name. name) result (at (to_part index) (name_in (view value.now))) }
 {
     match name_in(alloc, value) {
@@ -91,7 +91,7 @@ pub fn name_at(alloc: Global, value: &Json, index: usize) -> Result<Name, PartEr
 
 /// The scalars of an array, from the first on.
 #[tactic(auto, using(crate::proofs::Scalars::goes_on, crate::proofs::Scalars::ends))]
-fn scalars_in(alloc: Global, parts: &[Json]) -> Result<Vec<Scalar>, PartError>
+fn scalars_in(alloc: Global, parts: &[Tree<'_>]) -> Result<Vec<Scalar>, PartError>
     ensures { Gives (λ scalars. scalars.items) result (scalars_from 0 (items_view parts.now)) }
 {
     let mut scalars = Vec::with_capacity(alloc, parts.len())?;
@@ -135,7 +135,7 @@ fn are_short(scalars: &[Scalar]) -> bool
 }
 
 #[tactic(auto, using(crate::proofs::Scalars::count_of_items))]
-fn list_in(alloc: Global, parts: &[Json]) -> Result<Scalars, PartError>
+fn list_in(alloc: Global, parts: &[Tree<'_>]) -> Result<Scalars, PartError>
     ensures { Gives (λ scalars. scalars) result (list_in (items_view parts.now)) }
 {
     if parts.len() > MOST_SCALARS {
@@ -162,7 +162,7 @@ fn value_of(scalar: Scalar) -> Value
     }
 }
 
-pub fn value_in(alloc: Global, value: &Json) -> Result<Value, PartError>
+pub fn value_in(alloc: Global, value: &Tree<'_>) -> Result<Value, PartError>
     ensures { Gives (λ v. v) result (value_in (view value.now)) }
 {
     match value.as_array() {

@@ -1,6 +1,6 @@
 -- The pairs that are still to be read lead on to all of them.
 use Rattle.std.proofs.Common.{◌≡◌, drop}
-use Rattle.serde_json.specs.View.{items_view}
+use Rattle.json_tree.specs.View.{items_view}
 use Rattle.flow_reader.specs.Statements.{pairs_from}
 use Rattle.flow_reader.proofs.Pairs.{with_rest}
 use Rattle.flow_reader.proofs.bodies.pairs_from.Given as goal

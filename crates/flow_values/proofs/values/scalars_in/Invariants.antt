@@ -1,6 +1,6 @@
 -- The parts that are still to be read lead on to all of them.
 use Rattle.std.proofs.Common.{◌≡◌, drop}
-use Rattle.serde_json.specs.View.{items_view}
+use Rattle.json_tree.specs.View.{items_view}
 use Rattle.flow_values.specs.Values.{scalars_from}
 use Rattle.flow_values.proofs.Scalars.{with_rest}
 use Rattle.flow_values.proofs.values.scalars_in.Given as goal
