@@ -1,6 +1,7 @@
 //! What is kept for each id and number.
 
 ghost use Rattle.std.specs.Prelude.{◌≡◌, ◌+◌, ℕ, Some, None, is_some, IsSome, IfSome, IfNone, OnOk, option_map, if◌then◌else◌};
+ghost use Rattle.dura_value.specs.Ids.{Id as PlainId};
 ghost use Rattle.dura_value.specs.Views.{id_of};
 ghost use Rattle.id_maps.specs.Maps.{by_number, count_of, no_number, at_number, cleared};
 
@@ -38,6 +39,19 @@ impl<V> NumberMap<V> {
     {
         let (number, _) = self.entries.get(id)?.first_key_value()?;
         Some(*number)
+    }
+
+    /// An id and a number that something is kept for, if there are any: of the first such id the least number.
+    pub fn first(&self) -> Option<(&Id, u32)>
+        ensures there { IfSome result (λ one. IsSome (by_number self.now (id_of one.0.now) one.1)) }
+        ensures none { IfNone result ((id : PlainId) (number : ℕ) → by_number self.now id number ≡ None) }
+    {
+        for (id, numbers) in self.entries.iter() {
+            if let Some((number, _)) = numbers.first_key_value() {
+                return Some((id, *number));
+            }
+        }
+        None
     }
 
     /// Keeps this for the id and the number, in place of what was kept for both. After an Err the map is only dropped.
