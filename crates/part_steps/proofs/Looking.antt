@@ -1,6 +1,11 @@
--- What is seen through two views is seen through both.
-use Rattle.std.proofs.Common.{◌≡◌, ℕ, Option, Some, None, ap}
-use Rattle.std.specs.Prelude.{option_map, IsSome}
+-- What is seen through two views is seen through both; and what is there keeps a partition from being quiet.
+use Rattle.std.proofs.Common.{◌≡◌, ◌∙◌, ℕ, true, false, Option, Some, None, IsSome, refl, ap, sym}
+use Rattle.std.specs.Prelude.{option_map, is_some}
+use Rattle.dura_value.specs.Ids.{Id}
+use Rattle.timer_row.specs.Timers.{IsNext, NoTimer}
+use Rattle.dura_model.specs.Partition.{Partition}
+use Rattle.part_rows.specs.Open.{IsOpen, NoneOpen}
+use Rattle.part_steps.specs.Quiet.{NoActivity, IsQuiet}
 
 pub seen_through : {X Y Z : Type 0} (f : X → Y) (g : Y → Z) (x : Option X) (y : Option Y) → option_map f x ≡ y → option_map (λ v. g (f v)) x ≡ option_map g y
 seen_through {X} {Y} f g None y is = ap (option_map g) is
@@ -10,5 +15,17 @@ pub seen_there : {X Y : Type 0} (g : X → Y) (x : Option X) → IsSome x → Is
 seen_there g None there = there
 seen_there g (Some x) there = there
 
-pub seen_nowhere : {X Y : Type 0} (g : X → Y) (f : ℕ → Option X) → ((n : ℕ) → f n ≡ None) → (n : ℕ) → option_map g (f n) ≡ None
-seen_nowhere g f none n = ap (option_map g) (none n)
+pub seen_nowhere : {X Y : Type 0} (g : X → Y) (f : Id → ℕ → Option X) → ((id : Id) (n : ℕ) → f id n ≡ None) → (id : Id) (n : ℕ) → option_map g (f id n) ≡ None
+seen_nowhere g f none id n = ap (option_map g) (none id n)
+
+pub is_open_somewhere : (p : Partition) (from to : Id) → IsOpen p from to → IsQuiet p → ⊥
+is_open_somewhere p from to is quiet = let wrong : true ≡ false = sym is.taken ∙ quiet.deliveries from to is.body is.first in cc wrong
+
+pub is_pending_somewhere : (p : Partition) (id : Id) (task : ℕ) → IsSome (p.activities id task) → IsQuiet p → ⊥
+is_pending_somewhere p id task is quiet = let wrong : true ≡ false = sym is ∙ ap (λ (x : Option _). is_some x) (quiet.activities id task) in cc wrong
+
+pub is_due_somewhere : (p : Partition) (due : ℕ) → IsNext p.timers due → IsQuiet p → ⊥
+is_due_somewhere p due is quiet = let wrong : None ≡ Some due = sym (quiet.timers is.there.0 is.there.1) ∙ is.there.2 in cc wrong
+
+pub nothing_anywhere : (p : Partition) → NoneOpen p → NoActivity p → NoTimer p.timers → IsQuiet p
+nothing_anywhere p closed pending due = record { deliveries = closed; activities = pending; timers = due }

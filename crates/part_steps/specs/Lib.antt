@@ -3,6 +3,7 @@ pub mod Batches
 pub mod Enabled
 pub mod Ends
 pub mod Outputs
+pub mod Quiet
 pub mod Reached
 pub mod States
 pub mod Views

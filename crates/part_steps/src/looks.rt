@@ -1,9 +1,10 @@
 //! What the engine reads off the state of a partition.
 
-ghost use Rattle.std.specs.Prelude.{◌≡◌, ℕ, Some, None, is_some, IsSome, IfSome, IfNone, option_map};
+ghost use Rattle.std.specs.Prelude.{◌≡◌, true, false, is_some, IsSome, IfSome, IfNone, option_map};
 ghost use Rattle.dura_value.specs.Views.{id_of, answer_of};
 ghost use Rattle.timer_row.specs.Timers.{IsNext, NoTimer};
 ghost use Rattle.part_rows.specs.Views.{activity_of};
+ghost use Rattle.part_steps.specs.Quiet.{NoActivity, IsQuiet};
 ghost use Rattle.part_steps.specs.States.{IsSound, state_of};
 
 use crate::state::PartState;
@@ -34,13 +35,13 @@ impl PartState {
         self.rows.activities.get(id, task)
     }
 
-    /// The first of an instance's tasks whose activity is pending.
+    /// A task whose activity is pending, if there is one: of the first such instance the least.
     #[tactic(auto, using(crate::proofs::Looking::seen_there, crate::proofs::Looking::seen_nowhere))]
-    pub fn pending_task(&self, id: &Id) -> Option<u32>
-        ensures there { IfSome result (λ task. IsSome ((state_of self.now).activities (id_of id.now) task)) }
-        ensures none { IfNone result ((task : ℕ) → (state_of self.now).activities (id_of id.now) task ≡ None) }
+    pub fn pending_task(&self) -> Option<(&Id, u32)>
+        ensures there { IfSome result (λ one. IsSome ((state_of self.now).activities (id_of one.0.now) one.1)) }
+        ensures none { IfNone result (NoActivity (state_of self.now)) }
     {
-        self.rows.activities.first_of(id)
+        self.rows.activities.first()
     }
 
     /// The moment at which the first timer is due.
@@ -50,5 +51,24 @@ impl PartState {
         ensures none { IfNone result (NoTimer (state_of self.now).timers) }
     {
         self.rows.timers.next()
+    }
+
+    /// Whether nothing is possible without a request: no message that its receiver takes, no activity and no timer.
+    #[tactic(auto, using(crate::proofs::Looking::is_open_somewhere, crate::proofs::Looking::nothing_anywhere))]
+    pub fn is_quiet(&self) -> bool
+        requires { IsSound self.now }
+        ensures quiet { result ≡ true → IsQuiet (state_of self.now) }
+        ensures stirs { result ≡ false → IsQuiet (state_of self.now) → ⊥ }
+    {
+        if let Some(_) = self.rows.first_open() {
+            return false;
+        }
+        if let Some(_) = self.pending_task() {
+            return false;
+        }
+        match self.next_timer() {
+            Some(_) => false,
+            None => true,
+        }
     }
 }
