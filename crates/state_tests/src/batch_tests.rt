@@ -11,7 +11,9 @@ const FLOWS: &[u8] = br#"{"flows":{"Sum":[["return",{"v":"arg"}]]}}"#;
 
 fn is_ran(item: Option<&Item>, wanted: (&Id, &Id), moment: u64) -> bool {
     match item {
-        Some(Item::Ran(from, to, stamp)) => *from == *wanted.0 && *to == *wanted.1 && *stamp == moment,
+        Some(Item::Ran(from, to, stamp)) => *from == *wanted.0
+            && *to == *wanted.1
+            && *stamp == moment,
         _ => false,
     }
 }

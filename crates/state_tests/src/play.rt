@@ -41,9 +41,20 @@ impl Play {
         ensures sound { IfOk result (λ made. IsSound made.0.state) }
         ensures begun { IfOk result (λ made. 0 < (state_of made.0.state).position) }
     {
-        let Play { alloc, flows, state } = self;
+        let Play {
+            alloc,
+            flows,
+            state,
+        } = self;
         match state.apply(alloc, &flows, &item)? {
-            Verdict::Accepted(state, made) => Ok((Play { alloc, flows, state }, made)),
+            Verdict::Accepted(state, made) => Ok((
+                Play {
+                    alloc,
+                    flows,
+                    state,
+                },
+                made,
+            )),
             Verdict::Refused(_) => bail!("refused: {item:?}"),
         }
     }
@@ -55,10 +66,18 @@ impl Play {
         ensures sound { IfOk result (λ play. IsSound play.state) }
         ensures begun { IfOk result (λ play. 0 < (state_of play.state).position) }
     {
-        let Play { alloc, flows, state } = self;
+        let Play {
+            alloc,
+            flows,
+            state,
+        } = self;
         match state.apply(alloc, &flows, &item)? {
             Verdict::Accepted(_, _) => bail!("accepted: {item:?}"),
-            Verdict::Refused(state) => Ok(Play { alloc, flows, state }),
+            Verdict::Refused(state) => Ok(Play {
+                alloc,
+                flows,
+                state,
+            }),
         }
     }
 

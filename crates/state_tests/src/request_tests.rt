@@ -78,8 +78,12 @@ fn homes(rt: HostRuntime) -> Result<()> {
     let alloc = rt.alloc();
     for (client, wanted) in [("#a", 1), ("#b", 0), ("#c", 1), ("#d", 0)] {
         assert_eq!(rt; home(&id(alloc, client)?, 2), wanted, "of {client}");
-        let (play, _) = Play::begin(alloc, SUM, 2, wanted)?
-            .makes(took(alloc, client, "Sum/x", Body::Wait(1))?)?;
+        let (play, _) = Play::begin(alloc, SUM, 2, wanted)?.makes(took(
+            alloc,
+            client,
+            "Sum/x",
+            Body::Wait(1),
+        )?)?;
         play.refuses(took(alloc, client, "Sum/x", Body::Wait(1))?)?;
         let other = Play::begin(alloc, SUM, 2, 1 - wanted)?;
         other.refuses(took(alloc, client, "Sum/x", Body::Wait(1))?)?;

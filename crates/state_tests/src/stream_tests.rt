@@ -61,7 +61,12 @@ fn there_and_back(rt: HostRuntime) -> Result<()> {
     let (here, _) = here.makes(got(1, 0, started))?;
     let here = here.answers(ran(alloc, "Sum/b", "#b", 5)?, "b", 1, Answer::Started)?;
     let (here, _) = here.makes(got(1, 1, done))?;
-    here.answers(ran(alloc, "Sum/b", "#b", 5)?, "b", 2, Answer::Done(Value::Int(7)))?;
+    here.answers(
+        ran(alloc, "Sum/b", "#b", 5)?,
+        "b",
+        2,
+        Answer::Done(Value::Int(7)),
+    )?;
     Ok(())
 }
 

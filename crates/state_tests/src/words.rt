@@ -29,7 +29,12 @@ pub fn said(alloc: Global, from: &str, to: &str, body: Body) -> Result<Message> 
 
 /// The answer to a client's request.
 pub fn told(alloc: Global, from: &str, to: &str, number: u32, answer: Answer) -> Result<Message> {
-    said(alloc, from, to, Body::Result(Reply::Request(number), answer))
+    said(
+        alloc,
+        from,
+        to,
+        Body::Result(Reply::Request(number), answer),
+    )
 }
 
 pub fn took(alloc: Global, from: &str, to: &str, body: Body) -> Result<Item> {
