@@ -56,17 +56,16 @@ fn sum_of(argument: &Value) -> Result<Value> {
     }
 }
 
-/// The end of the pending activity of an instance.
-pub fn end(alloc: Global, state: &PartState, number: u32) -> Result<Item> {
-    let id = instance_of(alloc, number)?;
-    let Some(task) = state.pending_task(&id) else {
-        bail!("nothing pending of instance {number}");
+/// The end of the activity that is pending first.
+pub fn end(state: &PartState) -> Result<Item> {
+    let Some((id, task)) = state.pending_task() else {
+        bail!("nothing is pending");
     };
-    let Some(activity) = state.activity(&id, task) else {
-        bail!("no activity of instance {number}");
+    let Some(activity) = state.activity(id, task) else {
+        bail!("no activity of {id:?}");
     };
     let sum = sum_of(&activity.argument)?;
-    Ok(Item::Done(id, task, Outcome::Done(sum)))
+    Ok(Item::Done(id.clone()?, task, Outcome::Done(sum)))
 }
 
 /// Whether the client of the instance with this number was told its start and its sum.

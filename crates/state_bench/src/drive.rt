@@ -70,8 +70,8 @@ pub fn finish_all(
     ensures begun { IfOk result (λ state. 0 < (state_of state).position) }
 {
     let mut state = state;
-    for number in 0..instances {
-        let item = end(alloc, &state, number)?;
+    for _ in 0..instances {
+        let item = end(&state)?;
         state = apply(alloc, flows, state, &item)?;
     }
     Ok(state)
