@@ -1,5 +1,5 @@
 -- A batch that goes on.
-use Rattle.std.specs.Prelude.{◌≡◌, ℕ, [], ◌∷◌, ◌++◌, map, Some}
+use Rattle.std.specs.Prelude.{◌≡◌, ℕ, true, [], ◌∷◌, ◌++◌, map, Some}
 use Rattle.dura_value.specs.Items.{Item}
 use Rattle.flow_syntax.specs.Syntax.{Flows}
 use Rattle.part_items.specs.Plain.{items_of}
@@ -7,13 +7,14 @@ use Rattle.dura_model.specs.Partition.{accepted}
 use Rattle.part_steps.specs.declared.batch.Batch.{Batch}
 use Rattle.part_steps.specs.declared.batch.Turn.{Turn}
 use Rattle.part_steps.specs.declared.batch.Turn.TheVariants as turns
-use Rattle.part_steps.specs.Enabled.{moment_at, NoneEnabled}
+use Rattle.part_steps.specs.Enabled.{moment_at, is_at, NoneEnabled}
 use Rattle.part_steps.specs.Outputs.{outputs_by, outputs_of}
 use Rattle.part_steps.specs.States.{IsSound, state_of, count_of}
 
--- it has one item more, which its state accepts
-pub record HasMore (flows : Flows) (old new : Batch) : Type 0 where
+-- it has one item more, a delivery or a timer at this moment, which its state accepts
+pub record HasMore (flows : Flows) (now : ℕ) (old new : Batch) : Type 0 where
   pub item : Item
+  pub at : is_at item (moment_at (state_of old.state) now) ≡ true
   pub items : items_of new.items.items ≡ items_of old.items.items ++ item ∷ []
   pub outputs : map outputs_of new.outputs.items ≡ map outputs_of old.outputs.items ++ outputs_by flows (state_of old.state) item ∷ []
   pub taken : accepted flows (count_of old.state) (state_of old.state) item ≡ Some (state_of new.state)
@@ -27,5 +28,5 @@ pub record IsOver (flows : Flows) (now : ℕ) (old new : Batch) : Type 0 where
   pub none : NoneEnabled flows (count_of old.state) (state_of old.state) (moment_at (state_of old.state) now)
 
 abbrev pub GoesOn : Flows → ℕ → Batch → Turn → Type 0
-GoesOn flows now old (turns.More new) = HasMore flows old new
+GoesOn flows now old (turns.More new) = HasMore flows now old new
 GoesOn flows now old (turns.Over new) = IsOver flows now old new

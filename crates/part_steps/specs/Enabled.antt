@@ -27,8 +27,9 @@ pub record NoneEnabled (flows : Flows) (count : ℕ) (p : Partition) (moment : �
   pub deliveries : (from to : Id) → accepted flows count p (ran from to moment) ≡ None
   pub timers : (id : Id) (task : ℕ) → accepted flows count p (fired id task moment) ≡ None
 
--- These items are accepted one after another, and make this partition and these outputs.
-pub data Makes (flows : Flows) (count : ℕ) (first : Partition) : List Item → List Outputs → Partition → Type 0 where
-  nothing : Makes flows count first [] [] first
-  one_more : {items : List Item} {made : List Outputs} {p q : Partition} → Makes flows count first items made p → (item : Item) → accepted flows count p item ≡ Some q
-      → Makes flows count first (items ++ item ∷ []) (made ++ outputs_by flows p item ∷ []) q
+-- These items are enabled one after another, each at the moment of the state that it meets, and make this partition and these
+-- outputs.
+pub data Makes (flows : Flows) (count now : ℕ) (first : Partition) : List Item → List Outputs → Partition → Type 0 where
+  nothing : Makes flows count now first [] [] first
+  one_more : {items : List Item} {made : List Outputs} {p q : Partition} → Makes flows count now first items made p → (item : Item) → is_at item (moment_at p now) ≡ true → accepted flows count p item ≡ Some q
+      → Makes flows count now first (items ++ item ∷ []) (made ++ outputs_by flows p item ∷ []) q

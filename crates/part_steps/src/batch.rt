@@ -90,10 +90,11 @@ pub fn next_items(
 ) -> Result<Batch, AllocError>
     requires sound { IsSound state }
     requires begun { 0 < (state_of state).position }
-    ensures made { IfOk result (λ batch. Makes (flows_of flows.now) (count_of state) (state_of state) (items_of batch.items.items) (map outputs_of batch.outputs.items) (state_of batch.state)) }
+    ensures made { IfOk result (λ batch. Makes (flows_of flows.now) (count_of state) now (state_of state) (items_of batch.items.items) (map outputs_of batch.outputs.items) (state_of batch.state)) }
     ensures limit { IfOk result (λ batch. length batch.items.items ≤ limit) }
     ensures none { IfOk result (λ batch. 0 < limit → batch.items.items ≡ [] → NoneEnabled (flows_of flows.now) (count_of state) (state_of state) (moment_at (state_of state) now)) }
     ensures partitions { IfOk result (λ batch. count_of batch.state ≡ count_of state) }
+    ensures entry { IfOk result (λ batch. (state_of batch.state).position ≡ (state_of state).position) }
     ensures sound { IfOk result (λ batch. IsSound batch.state) }
 {
     let mut batch = Batch {

@@ -31,5 +31,5 @@ returns c =
     let enabled = subst (λ (x : Option Item). IfSome x (λ one. (f : Flows) → IsEnabled f (count_of s) (state_of s) (moment_at (state_of s) c.args.now) (item_of one))) c.in-Some.is c.in_ok-item.ensures.some flows in
     let done = subst (λ (v : Verdict). Becomes v s (accepted flows (count_of s) (state_of s) item) (outputs_by flows (state_of s) item)) c.in-Accepted.is c.in_ok-state.ensures in
     let next = c.in_ok-next-in-Accepted in
-    one_item_more flows c.args.batch next.next c.in-Some.item c.in-Accepted.made c.in-Accepted.state
-    done.0 done.1 done.2 done.3 done.4 next.ensures.state next.ensures.items next.ensures.outputs
+    one_item_more flows c.args.now c.args.batch next.next c.in-Some.item c.in-Accepted.made c.in-Accepted.state
+    enabled.at done.0 done.1 done.2 done.3 done.4 next.ensures.state next.ensures.items next.ensures.outputs

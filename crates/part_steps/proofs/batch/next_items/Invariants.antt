@@ -4,4 +4,4 @@ use Rattle.part_steps.proofs.batch.next_items.Given as goal
 
 -- so many items were applied, one after the other
 abbrev pub invariant-loop : goal.invariant-loop
-invariant-loop l = Filled (flows_of l.fn.flows) l.fn.state l.counter l.batch
+invariant-loop l = Filled (flows_of l.fn.flows) l.fn.now l.fn.state l.counter l.batch
