@@ -29,7 +29,7 @@ fn fresh(rt: HostRuntime) -> Result<()> {
 
 /// A start and a wait, of which two items are made and then what is left.
 #[test]
-#[tactic(auto, using(crate::proofs::Running::still_begun))]
+#[tactic(auto, using(crate::proofs::Begun::still_begun))]
 fn up_to_a_limit(rt: HostRuntime) -> Result<()> {
     let alloc = rt.alloc();
     let play = Play::begin(alloc, FLOWS, 1, 0)?;
