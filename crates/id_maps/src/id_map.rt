@@ -1,12 +1,14 @@
 //! What is kept for each id.
 
-ghost use Rattle.std.specs.Prelude.{◌≡◌, Some, None, OnOk, OnErr, option_map};
+ghost use Rattle.std.specs.Prelude.{◌≡◌, Some, None, OnOk, OnErr, IfSome, IfNone, is_some, option_map};
 ghost use Rattle.dura_value.specs.Views.{id_of};
 ghost use Rattle.id_maps.specs.Maps.{by_id, nothing, at_id};
+ghost use Rattle.id_maps.specs.Order.{IsNextBehind, NoneBehind};
 
 use dura_value::Id;
 use std::alloc::{AllocError, Global};
 use std::collections::BTreeMap;
+use std::ops::Bound;
 
 /// What is kept for each id, which a contract sees as a function.
 #[derive(Debug, Drop)]
@@ -29,6 +31,19 @@ impl<V> IdMap<V> {
         ensures { option_map (λ x. x.now) result ≡ by_id self.now (id_of id.now) }
     {
         self.entries.get(id)
+    }
+
+    /// The first id behind the last one, or of all, that something is kept for, with what is kept.
+    pub fn next(&self, last: Option<&Id>) -> Option<(&Id, &V)>
+        ensures kept { IfSome result (λ one. by_id self.now (id_of one.0.now) ≡ Some one.1.now) }
+        ensures next { IfSome result (λ one. IsNextBehind (λ id. is_some (by_id self.now id)) (option_map (λ id. id_of id.now) last.entry) (id_of one.0.now)) }
+        ensures none { IfNone result (NoneBehind (λ id. is_some (by_id self.now id)) (option_map (λ id. id_of id.now) last.entry)) }
+    {
+        let from = match last {
+            Some(id) => Bound::Excluded(id),
+            None => Bound::Unbounded,
+        };
+        self.entries.range((from, Bound::Unbounded)).next()
     }
 
     /// Keeps this for the id, in place of what was kept for it.

@@ -2,6 +2,7 @@ pub mod Applied
 pub mod Batches
 pub mod Enabled
 pub mod Ends
+pub mod Listing
 pub mod Outputs
 pub mod Quiet
 pub mod Reached

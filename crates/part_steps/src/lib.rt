@@ -1,7 +1,8 @@
 //! The state of a partition, and what an item makes of it. Instances are kept by their histories, and a delivery to one replays its.
 //!
 //! - `state`: the state of a partition (`PartState`): an item is applied, and what is possible now. `looks`: what the engine reads
-//!   off it. `batch`: the items that are possible by themselves, one after another.
+//!   off it, and `listing`: how its instances and entities stand. `batch`: the items that are possible by themselves, one after
+//!   another.
 //! - `applying`: what each kind of item makes of all that a partition knows. `reaching`: a message reaches its receiver.
 //!   `keeping`: an instance is kept as a delivery or an event made it.
 //! - `instance`: an instance, and what a delivery or an event made of it. `deliveries`: a message to an instance.
@@ -20,6 +21,7 @@ mod ends;
 mod events;
 mod instance;
 mod keeping;
+mod listing;
 mod looks;
 mod present;
 mod reaching;

@@ -31,7 +31,7 @@ fn stay<'f>(alloc: Global, instance: Instance<'f>, sent: Vec<Message>) -> Effect
 }
 
 /// How an instance stands.
-fn stand(progress: &Progress) -> Result<Answer, AllocError>
+pub(crate) fn stand(progress: &Progress) -> Result<Answer, AllocError>
     ensures { IfOk result (λ answer. answer_of answer ≡ standing (progress_of progress.now)) }
 {
     match progress {
