@@ -1,0 +1,4 @@
+pub mod Moves
+pub mod Orders
+pub mod Places
+pub mod Stillness
