@@ -1,4 +1,5 @@
 pub mod Boxes
+pub mod Copies
 pub mod Links
 pub mod Opening
 pub mod Posting
