@@ -13,7 +13,7 @@ use std::alloc::{AllocError, Global};
 use std::collections::BTreeMap;
 
 /// What is kept for each number, as this copies it.
-fn copy_numbers<V: Drop, F: Fn(&V) -> Result<V, AllocError>>(
+pub fn copy_numbers<V: Drop, F: Fn(&V) -> Result<V, AllocError>>(
     alloc: Global,
     numbers: &BTreeMap<u32, V>,
     copy: &F,

@@ -77,7 +77,7 @@ fn copy_past(past: &Past) -> Result<Past, AllocError>
 }
 
 /// A copy of a history.
-#[tactic(auto, using(crate::proofs::Copies::one_copied))]
+#[tactic(auto, using(crate::proofs::Copied::one_copied))]
 fn copy_history(alloc: Global, history: &[Past]) -> Result<Vec<Past>, AllocError>
     ensures { IfOk result (λ copies. copies.items ≡ history.now) }
 {
