@@ -1,3 +1,4 @@
+pub mod Copies
 pub mod Keys
 pub mod Maps
 pub mod Order
