@@ -3,7 +3,7 @@
 //!
 //! - `rows`: an instance as it is kept, a pending activity.
 //! - `parts`: all that a partition knows, and what is posted. `holders`, `pending`, `requests`, `incoming`: what changes it.
-//! - `queue`: the messages to receivers here. `copies`: copies of messages.
+//! - `queue`: the messages to receivers here. `copies`: copies of messages, rows, entities and activities.
 //! - `streams`: what came in from other partitions, and what goes out to them.
 //! - `specs/Views`: the plain data that these stand for.
 #![tactic(auto)]

@@ -45,8 +45,9 @@ applied_sound old new flows item sound begun order partitions is =
       owned = item_owned flows old.partitions item (part_of old) (part_of new) sound.owned is;
     }
 
-pub refused_sound : (old new : PartRows) → AreSound old → InOrder new.timers → new.partitions ≡ old.partitions → part_of new ≡ part_of old → AreSound new
-refused_sound old new sound order partitions seen =
+-- rows that stand for the same are as sound
+pub same_sound : (old new : PartRows) → AreSound old → InOrder new.timers → new.partitions ≡ old.partitions → part_of new ≡ part_of old → AreSound new
+same_sound old new sound order partitions seen =
     let number : new.number ≡ old.number = ap (λ (p : Partition). p.number) seen in
     record {
       order = order;

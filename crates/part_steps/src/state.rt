@@ -48,6 +48,17 @@ impl PartState {
         }
     }
 
+    /// An equal state.
+    pub fn copy(&self, alloc: Global) -> Result<PartState, AllocError>
+        requires { IsSound self.now }
+        ensures same { IfOk result (λ copy. state_of copy ≡ state_of self.now) }
+        ensures partitions { IfOk result (λ copy. count_of copy ≡ count_of self.now) }
+        ensures sound { IfOk result IsSound }
+    {
+        let rows = self.rows.copy(alloc)?;
+        Ok(PartState { rows })
+    }
+
     /// An entry of this life begins. Positions are below 2^62.
     pub fn enter(self, incarnation: u64) -> PartState
         requires sound { IsSound self }
