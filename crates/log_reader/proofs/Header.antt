@@ -1,14 +1,14 @@
 -- The header of a file is told by its first 33 bytes.
-use Rattle.std.proofs.Common.{◌≡◌, ℕ, suc, ◌+◌, ◌<◌, ◌≤◌, ◌^◌, Bool, true, false, cond, ltb, eqb, inl, inr, List, [], ◌∷◌, length, take, drop, Result, Ok, Err, refl, ap, sym, subst, ◌∙◌, zero-add, arith}
-use Rattle.std.proofs.lemmas.Bool.{cases_Bool, cases_lt, lt-ltb, le-ltb}
+use Rattle.std.proofs.Common.{◌≡◌, ℕ, suc, ◌+◌, ◌^◌, Bool, true, false, cond, ltb, eqb, inl, inr, List, [], ◌∷◌, length, take, Result, Ok, Err, refl, ap, sym, ◌∙◌, zero-add, arith}
+use Rattle.std.proofs.lemmas.Bool.{cases_lt, lt-ltb, le-ltb}
 use Rattle.std.proofs.lemmas.List.{take-take, take_all, drop-take, length-take}
-use Rattle.std.specs.Int.{Width, w32, w64, byte_len, from_be_bytes}
+use Rattle.std.specs.Int.{Width, w32, w64, byte_len}
 use Rattle.commit_log.specs.declared.header.Header.{Header}
 use Rattle.commit_log.specs.Segment.{◌>>=◌, signature, constant_at, number_at, header_at, open_gate}
 use Rattle.log_reader.specs.declared.reader.OpenError.{OpenError}
 use Rattle.log_reader.specs.declared.reader.OpenError.TheVariants as unopened
-use Rattle.log_reader.specs.Frames.{Opening, fresh, header_for, opening_from, opening_of, HasRead}
-use Rattle.log_reader.specs.Outcomes.{SaysHeader}
+use Rattle.log_reader.specs.Frames.{Opening, fresh, header_for, opening_from, opening_of}
+use Rattle.log_reader.specs.Fronts.{SaysHeader}
 
 -- what was read, with so many of the bytes behind it
 abbrev cut : {A : Type 0} → ℕ → Result (A × List ℕ) ℕ → Result (A × List ℕ) ℕ

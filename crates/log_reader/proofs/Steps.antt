@@ -1,12 +1,12 @@
 -- Steps of reading a log.
 use Rattle.std.proofs.Common.{◌≡◌, ◌≢◌, ◌⊎◌, inl, inr, ℕ, ◌+◌, ◌<◌, ◌≤◌, ◌^◌, Bool, true, false, cond, ltb, eqb, ◌&&◌, List, [], ◌∷◌, ◌++◌, length, take, drop, Result, Ok, Err, refl, sym, ap, subst, ◌∙◌, append_assoc, arith}
 use Rattle.std.specs.List.{flat_map}
-use Rattle.std.specs.Int.{w32, to_be_bytes, from_be_bytes}
+use Rattle.std.specs.Int.{w32, to_be_bytes}
 use Rattle.std.proofs.lemmas.Bool.{cases_Bool, eqb-false, le-ltb, lt-ltb, and_left, and_right, and_from}
-use Rattle.std.proofs.lemmas.List.{append-nil, take-append-drop, take_at, drop_at, drop-drop, length-append, length-take, length-drop}
-use Rattle.std.proofs.lemmas.List.Concat.{flat_map-append, flat_map-cons}
+use Rattle.std.proofs.lemmas.List.{append-nil, take-append-drop, take_at, drop_at, length-append, length-take}
+use Rattle.std.proofs.lemmas.List.Concat.{flat_map-append}
 use Rattle.std.proofs.lemmas.Nat.{from_be_bytes-to_be_bytes_4}
-use Rattle.site_model.specs.History.{Step, Change, on, synced, reads, changes_of, content_of, Leaves, IsKept, writes_inside}
+use Rattle.site_model.specs.History.{Step, Change, synced, reads, changes_of, Leaves, IsKept, writes_inside}
 use Rattle.site_model.specs.Calls.{Syncs}
 use Rattle.site_model.specs.Moments.{LeavesOnly}
 use Rattle.site_model.proofs.Images.{reads_is_image}
@@ -15,7 +15,7 @@ use Rattle.commit_log.specs.declared.header.Header.{Header}
 use Rattle.commit_log.specs.Segment.{number_at, frame_at, framed, frame_bytes, segment_bytes, header_bytes, open_gate}
 use Rattle.commit_log.specs.States.{IsSegment, IsResting}
 use Rattle.log_reader.specs.Frames.{closed, frame, wrong, found_from, found_at, HasRead}
-use Rattle.log_reader.specs.Outcomes.{BeginsFrame}
+use Rattle.log_reader.specs.Fronts.{BeginsFrame}
 
 -- a sync leaves no image that wasn't there before
 pub opening_during : {T E : Type 0} (file : ℕ) (old mid new : List Step) (result : Result T E) → Syncs file old mid result → new ≡ mid → writes_inside (changes_of file old) ≡ true

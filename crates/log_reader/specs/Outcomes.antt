@@ -1,9 +1,8 @@
 -- What each step of reading answers.
-use Rattle.std.specs.Prelude.{◌≡◌, ℕ, ◌+◌, ◌<◌, ◌^◌, Option, Some, None, List, [], ◌∷◌, ◌++◌, length, drop, take, Result, Ok, Err}
-use Rattle.std.specs.Int.{w32, to_be_bytes}
+use Rattle.std.specs.Prelude.{◌≡◌, ℕ, ◌+◌, List, [], ◌∷◌, ◌++◌, length, drop, Result, Ok, Err}
 use Rattle.site_model.specs.History.{Step}
 use Rattle.commit_log.specs.declared.header.Header.{Header}
-use Rattle.commit_log.specs.Segment.{open_gate, first_gate}
+use Rattle.commit_log.specs.Segment.{first_gate}
 use Rattle.commit_log.specs.States.{IsSegment}
 use Rattle.commit_log.specs.Outcomes.{RestsAs}
 use Rattle.log_reader.specs.declared.reader.LogReader.{LogReader}
@@ -13,7 +12,7 @@ use Rattle.log_reader.specs.declared.reader.OpenError.{OpenError}
 use Rattle.log_reader.specs.declared.reader.OpenError.TheVariants as unopened
 use Rattle.log_reader.specs.declared.reader.FrameError.{FrameError}
 use Rattle.log_reader.specs.declared.reader.FrameError.TheVariants as unread
-use Rattle.log_reader.specs.Frames.{Opening, fresh, damaged, headed, opening_of, Found, closed, frame, wrong, found_at, HasRead}
+use Rattle.log_reader.specs.Frames.{fresh, damaged, headed, opening_of, closed, frame, wrong, found_at, HasRead}
 
 -- what is answered of a partition's log whose file has this content
 abbrev pub Opens : ℕ → List ℕ → Result LogReader OpenError → Type 0
@@ -46,38 +45,3 @@ StaysInFile reader (Ok (Frame payload next)) =
     (next.file ≡ reader.file) × (next.header ≡ reader.header) × (next.size ≡ reader.size) × (next.gate ≡ reader.gate + 5 + length payload)
 StaysInFile reader (Ok (End log)) = (log.file ≡ reader.file) × (log.gate ≡ reader.gate)
 StaysInFile reader (Err error) = Unit {0}
-
--- ---- reading bytes
-
--- what a step of reading returned, seen by view, is what the definition gives
-abbrev pub Gives : {X Y : Type 0} → (X → Y) → Result X ℕ → Result Y ℕ → Type 0
-Gives view (Ok x) wanted = wanted ≡ Ok (view x)
-Gives view (Err offset) wanted = wanted ≡ Err offset
-
--- the bytes from a gate on are an open gate, this length, and the rest
-pub record BeginsFrame (bytes : List ℕ) (size : ℕ) : Type 0 where
-  pub rest : List ℕ
-  pub split : bytes ≡ open_gate ∷ (to_be_bytes w32 size ++ rest)
-  pub fits : size < 2 ^ 32
-
--- what the gate and the length behind it say of the bytes from the gate on
-abbrev pub SaysGate : ℕ → List ℕ → Result (Option ℕ) FrameError → Type 0
-SaysGate gate bytes (Ok None) = found_at gate bytes ≡ closed
-SaysGate gate bytes (Ok (Some size)) = BeginsFrame bytes size
-SaysGate gate bytes (Err (unread.Damaged offset)) = (length bytes < 5) × (found_at gate bytes ≡ wrong offset)
-SaysGate gate bytes (Err unread.SiteFault) = Unit {0}
-SaysGate gate bytes (Err unread.Memory) = Unit {0}
-
--- what stands of a payload of this length, of the bytes behind its gate's frame length
-abbrev pub SaysPayload : ℕ → ℕ → List ℕ → Result (List ℕ) FrameError → Type 0
-SaysPayload gate size bytes (Ok payload) = payload ≡ take size bytes
-SaysPayload gate size bytes (Err (unread.Damaged offset)) = length bytes < size
-SaysPayload gate size bytes (Err unread.SiteFault) = Unit {0}
-SaysPayload gate size bytes (Err unread.Memory) = Unit {0}
-
--- what a front of 33 bytes says of the whole file
-abbrev pub SaysHeader : ℕ → List ℕ → Result Header OpenError → Type 0
-SaysHeader partition content (Ok header) = (opening_of partition content ≡ headed header) × HasRead content header [] first_gate
-SaysHeader partition content (Err unopened.Fresh) = opening_of partition content ≡ fresh
-SaysHeader partition content (Err (unopened.Damaged offset)) = opening_of partition content ≡ damaged offset
-SaysHeader partition content (Err unopened.SiteFault) = Unit {0}

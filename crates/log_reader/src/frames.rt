@@ -3,7 +3,8 @@ ghost use Rattle.std.specs.Prelude.{◌≡◌, ◌≤◌, ◌<◌, ◌+◌, ◌^
 ghost use Rattle.site_model.specs.History.{changes_of, content_of, IsKept};
 ghost use Rattle.site_model.specs.Calls.{HasRisen};
 ghost use Rattle.log_reader.specs.Frames.{HasRead};
-ghost use Rattle.log_reader.specs.Outcomes.{SaysGate, SaysPayload, Goes, RestsAtEnd, StaysInFile};
+ghost use Rattle.log_reader.specs.Fronts.{SaysGate, SaysPayload};
+ghost use Rattle.log_reader.specs.Outcomes.{Goes, RestsAtEnd, StaysInFile};
 
 use crate::parse::parse_gate;
 use crate::reader::{FrameError, LogReader, Next};
@@ -41,7 +42,7 @@ fn read_payload<V: Site>(
 ) -> Result<Payload, FrameError>
     requires { gate + 1 < 2 ^ 31 }
     ensures told { V.tells site.new → V.tells site.old }
-    ensures says { V.tells site.new → SaysPayload gate payload_len (drop (gate + 5) (content_of file (V.history site.old))) result }
+    ensures says { V.tells site.new → SaysPayload payload_len (drop (gate + 5) (content_of file (V.history site.old))) result }
     ensures whole { IfOk result (λ payload. length payload ≡ payload_len) }
     ensures unchanged { V.history site.new ≡ V.history site.old }
     ensures fault { result ≡ Err FrameError.SiteFault → HasRisen (V.disk_faults site.old) (V.disk_faults site.new) }

@@ -3,7 +3,8 @@ ghost use Rattle.std.specs.Prelude.{◌≡◌, ◌≤◌, ◌∷◌, ℕ, Err, O
 ghost use Rattle.site_model.specs.History.{on, synced, changes_of, content_of, Leaves};
 ghost use Rattle.site_model.specs.Calls.{HasRisen, HasCause, Syncs};
 ghost use Rattle.site_model.specs.Moments.{LeavesOnly};
-ghost use Rattle.log_reader.specs.Outcomes.{Opens, SaysHeader};
+ghost use Rattle.log_reader.specs.Fronts.{SaysHeader};
+ghost use Rattle.log_reader.specs.Outcomes.{Opens};
 
 use crate::parse::parse_front;
 use crate::reader::{LogReader, OpenError};
@@ -11,7 +12,7 @@ use commit_log::Header;
 use site_model::{Failed, Site};
 
 /// Where the first gate stands.
-const FIRST_GATE: u64 = 33;
+const FIRST_GATE: usize = 33;
 
 /// Syncs a file, and says how long it is.
 fn synced_length<V: Site>(site: &mut V, file: u32) -> Result<u64, Failed>
@@ -34,7 +35,7 @@ fn read_front<V: Site>(site: &mut V, file: u32, partition: u32) -> Result<Header
     ensures later { V.disk_faults site.old ≤ V.disk_faults site.new }
     ensures say_faults { V.say_faults site.new ≡ V.say_faults site.old }
 {
-    let mut front = [0; 33];
+    let mut front = [0; FIRST_GATE];
     match site.read(file, 0, &mut front) {
         Ok(count) => parse_front(partition, &front[..count]),
         Err(_) => Err(OpenError::SiteFault),
@@ -64,7 +65,7 @@ pub fn open_log<V: Site>(site: &mut V, file: u32, partition: u32) -> Result<LogR
     Ok(LogReader {
         file,
         header,
-        gate: FIRST_GATE,
+        gate: FIRST_GATE as u64,
         size,
     })
 }

@@ -3,7 +3,7 @@ ghost use Rattle.std.specs.Prelude.{◌≡◌, ◌+◌, ◌++◌, ◌<◌, ◌^�
 ghost use Rattle.std.specs.Int.{w32, w64, to_be_bytes};
 ghost use Rattle.commit_log.specs.Segment.{header_bytes, constant_at, number_at, FitsHeader};
 ghost use Rattle.log_reader.specs.Frames.{header_for};
-ghost use Rattle.log_reader.specs.Outcomes.{Gives, SaysGate, SaysHeader};
+ghost use Rattle.log_reader.specs.Fronts.{Gives, SaysGate, SaysHeader};
 
 use crate::reader::{FrameError, OpenError};
 use commit_log::Header;

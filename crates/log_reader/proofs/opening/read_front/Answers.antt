@@ -1,4 +1,3 @@
-use Rattle.std.proofs.Common.{◌∙◌}
 use Rattle.log_reader.proofs.Fronts.{read_is}
 use Rattle.log_reader.proofs.Header.{header_front}
 use Rattle.log_reader.proofs.opening.read_front.Goals as goal

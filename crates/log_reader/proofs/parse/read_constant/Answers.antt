@@ -1,4 +1,3 @@
-use Rattle.std.proofs.Common.{ap, sym, ◌∙◌}
 use Rattle.std.proofs.lemmas.List.{nil_from_length}
 use Rattle.log_reader.proofs.Fronts.{falls_short}
 use Rattle.log_reader.proofs.parse.read_constant.Goals as goal

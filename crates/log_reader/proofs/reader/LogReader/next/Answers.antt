@@ -2,8 +2,8 @@ use Rattle.std.proofs.Common.{◌≡◌, ◌⊎◌, inl, inr, ℕ, ◌+◌, ◌<
 use Rattle.std.proofs.lemmas.List.{drop-drop, length-drop}
 use Rattle.site_model.specs.History.{Step, changes_of, content_of}
 use Rattle.commit_log.specs.States.{IsResting}
-use Rattle.log_reader.specs.Frames.{closed, found_at, HasRead}
-use Rattle.log_reader.specs.Outcomes.{BeginsFrame, SaysGate, SaysPayload}
+use Rattle.log_reader.specs.Frames.{HasRead}
+use Rattle.log_reader.specs.Fronts.{BeginsFrame}
 use Rattle.log_reader.proofs.Steps.{closed_segment, segment_rests, no_frame, stands, frame_split, frame_read}
 use Rattle.log_reader.proofs.reader.LogReader.next.Goals as goal
 use Rattle.log_reader.proofs.reader.LogReader.next.Goals.{then-next-size-via-then-next-size, then-next-size-via-else-next-size+then-next-ge-END}
