@@ -96,12 +96,14 @@ opening_front partition (gate ∷ byte ∷ bytes) =
 -- the front says it of the whole file
 pub header_front : (partition : ℕ) (content front : List ℕ) (result : Result Header OpenError) → front ≡ take 33 content → SaysHeader partition front result → SaysHeader partition content result
 header_front partition content front (Ok header) is says =
-    let whole : opening_of partition content ≡ opening_of partition front = sym (ap (opening_of partition) is ∙ opening_front partition content) in
-    (whole ∙ says.0, record {
-      fits = says.1.fits;
-      front = sym (ap (take 33) is ∙ take-take 33 33 content (omega arith)) ∙ says.1.front;
-      inside = omega (arith, says.1.inside, ap length is, length-take 33 content);
-    })
+    let whole : opening_of partition content ≡ opening_of partition front = sym (ap (opening_of partition) is ∙ opening_front partition content) in (
+      whole ∙ says.0,
+      record {
+        fits = says.1.fits;
+        front = sym (ap (take 33) is ∙ take-take 33 33 content (omega arith)) ∙ says.1.front;
+        inside = omega (arith, says.1.inside, ap length is, length-take 33 content);
+      },
+    )
 header_front partition content front (Err unopened.Fresh) is says = sym (ap (opening_of partition) is ∙ opening_front partition content) ∙ says
 header_front partition content front (Err (unopened.Damaged offset)) is says = sym (ap (opening_of partition) is ∙ opening_front partition content) ∙ says
 header_front partition content front (Err unopened.SiteFault) is says = tt

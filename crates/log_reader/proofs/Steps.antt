@@ -1,21 +1,21 @@
 -- Steps of reading a log.
-use Rattle.std.proofs.Common.{◌≡◌, ◌≢◌, ◌⊎◌, inl, inr, ℕ, ◌+◌, ◌<◌, ◌≤◌, ◌^◌, Bool, true, false, cond, ltb, eqb, ◌&&◌, List, [], ◌∷◌, ◌++◌, length, take, drop, Result, Ok, Err, refl, sym, ap, subst, ◌∙◌, append_assoc, arith}
+use Rattle.std.proofs.Common.{◌≡◌, ◌≢◌, ◌⊎◌, inl, inr, ℕ, ◌+◌, ◌<◌, ◌≤◌, ◌^◌, Bool, true, false, cond, ltb, eqb, List, [], ◌∷◌, ◌++◌, length, take, drop, Result, Ok, Err, refl, sym, ap, subst, ◌∙◌, append_assoc, arith}
 use Rattle.std.specs.List.{flat_map}
 use Rattle.std.specs.Int.{w32, to_be_bytes}
-use Rattle.std.proofs.lemmas.Bool.{cases_Bool, eqb-false, le-ltb, lt-ltb, and_left, and_right, and_from}
+use Rattle.std.proofs.lemmas.Bool.{cases_Bool, eqb-false, le-ltb, and_left, and_right}
 use Rattle.std.proofs.lemmas.List.{append-nil, take-append-drop, take_at, drop_at, length-append, length-take}
 use Rattle.std.proofs.lemmas.List.Concat.{flat_map-append}
-use Rattle.std.proofs.lemmas.Nat.{from_be_bytes-to_be_bytes_4}
 use Rattle.site_model.specs.History.{Step, Change, synced, reads, changes_of, Leaves, IsKept, writes_inside}
 use Rattle.site_model.specs.Calls.{Syncs}
 use Rattle.site_model.specs.Moments.{LeavesOnly}
 use Rattle.site_model.proofs.Images.{reads_is_image}
 use Rattle.site_model.proofs.Paths.{one_call}
 use Rattle.commit_log.specs.declared.header.Header.{Header}
-use Rattle.commit_log.specs.Segment.{number_at, frame_at, framed, frame_bytes, segment_bytes, header_bytes, open_gate}
+use Rattle.commit_log.specs.Segment.{frame_at, framed, frame_bytes, segment_bytes, header_bytes, open_gate}
 use Rattle.commit_log.specs.States.{IsSegment, IsResting}
 use Rattle.log_reader.specs.Frames.{closed, frame, wrong, found_from, found_at, HasRead}
 use Rattle.log_reader.specs.Fronts.{BeginsFrame}
+use Rattle.log_reader.proofs.Spelled.{is_whole, frame_by_test, whole_frame}
 
 -- a sync leaves no image that wasn't there before
 pub opening_during : {T E : Type 0} (file : ℕ) (old mid new : List Step) (result : Result T E) → Syncs file old mid result → new ≡ mid → writes_inside (changes_of file old) ≡ true
@@ -69,10 +69,12 @@ module _ (content : List ℕ) (h : Header) (payloads : List (List ℕ)) (gate : 
       pushed =
           ap (λ (l : List ℕ). (open_gate ∷ header_bytes h) ++ l) (flat_map-append frame_bytes payloads (payload ∷ []) ∙ ap (λ (l : List ℕ). flat_map frame_bytes payloads ++ l) (append-nil (frame_bytes payload)))
           ∙ sym (append_assoc (open_gate ∷ header_bytes h) (flat_map frame_bytes payloads) (frame_bytes payload))
+
       whole : content ≡ segment_bytes h (payloads ++ payload ∷ []) ++ rest
       whole =
           sym (take-append-drop gate content) ∙ ap (λ (l : List ℕ). l ++ drop gate content) has_read.front ∙ ap (λ (l : List ℕ). segment_bytes h payloads ++ l) split
           ∙ sym (append_assoc (segment_bytes h payloads) (frame_bytes payload) rest) ∙ ap (λ (l : List ℕ). l ++ rest) (sym pushed)
+
       long : length (segment_bytes h (payloads ++ payload ∷ [])) ≡ gate + 5 + length payload
       long = omega (arith, ap length pushed, length-append (segment_bytes h payloads) (frame_bytes payload), length-append (to_be_bytes w32 (length payload)) payload, front_long)
 
@@ -89,17 +91,10 @@ segment_rests changes h payloads gate found kept = record {
 
 -- ---- an open gate
 
--- the four bytes of a length
-number_again : (at n : ℕ) (rest : List ℕ) → n < 2 ^ 32 → number_at w32 at (to_be_bytes w32 n ++ rest) ≡ Ok (n, rest)
-number_again at n rest fits =
-    let long : ltb (length (to_be_bytes w32 n ++ rest)) 4 ≡ false = le-ltb _ _ (omega (arith, length-append (to_be_bytes w32 n) rest)) in
-    rw (long, from_be_bytes-to_be_bytes_4 n fits) refl
-
--- behind an open gate: the frame by the test of its length
-frame_by_test : (gate size : ℕ) (bytes : List ℕ) (begins : BeginsFrame bytes size) (b : Bool) → (ltb size (length begins.rest) && ltb (gate + 1 + 5 + size) (2 ^ 31)) ≡ b
+-- the frame by the test of its length
+found_by_test : (gate size : ℕ) (bytes : List ℕ) (begins : BeginsFrame bytes size) (b : Bool) → is_whole (gate + 1) size begins.rest ≡ b
     → found_at gate bytes ≡ found_from (cond b (Ok (take size begins.rest, drop size begins.rest)) (Err (gate + 1)))
-unfolding frame_at
-frame_by_test gate size bytes begins b test = ap (found_at gate) begins.split ∙ rw (number_again (gate + 1) size begins.rest begins.fits, test) refl
+found_by_test gate size bytes begins b test = ap (found_at gate) begins.split ∙ ap found_from (frame_by_test (gate + 1) size begins.rest b begins.fits test)
 
 module _ (gate size : ℕ) (bytes : List ℕ) (begins : BeginsFrame bytes size) where
   bytes_long : length bytes ≡ 5 + length begins.rest
@@ -110,7 +105,7 @@ module _ (gate size : ℕ) (bytes : List ℕ) (begins : BeginsFrame bytes size) 
 
   -- the next gate isn't in the file, or ends a file that is too long
   pub no_frame : (length bytes ≤ 5 + size) ⊎ (2 ^ 31 ≤ gate + 6 + size) → found_at gate bytes ≡ wrong (gate + 1)
-  no_frame why = frame_by_test gate size bytes begins false (elim why [
+  no_frame why = found_by_test gate size bytes begins false (elim why [
     | inl short ↦ and_left (ltb size (length begins.rest)) _ (le-ltb size (length begins.rest) (omega (arith, bytes_long)))
     | inr past ↦ and_right _ (ltb (gate + 1 + 5 + size) (2 ^ 31)) (le-ltb (gate + 1 + 5 + size) (2 ^ 31) (omega arith))
   ])
@@ -118,7 +113,7 @@ module _ (gate size : ℕ) (bytes : List ℕ) (begins : BeginsFrame bytes size) 
   -- and else the frame stands there
   pub stands : (payload : List ℕ) → 5 + size < length bytes → gate + 6 + size < 2 ^ 31 → payload ≡ take size (drop 5 bytes) → found_at gate bytes ≡ frame payload
   stands payload inside below is =
-      frame_by_test gate size bytes begins true (and_from _ _ (lt-ltb size (length begins.rest) (omega (arith, bytes_long))) (lt-ltb (gate + 1 + 5 + size) (2 ^ 31) (omega arith)))
+      found_by_test gate size bytes begins true (whole_frame (gate + 1) size begins.rest (omega (arith, bytes_long)) (omega arith))
       ∙ ap frame (sym (is ∙ ap (take size) behind_length))
 
   pub frame_split : (payload : List ℕ) → length payload ≡ size → payload ≡ take size (drop 5 bytes) → bytes ≡ open_gate ∷ (framed payload ++ drop size begins.rest)

@@ -6,9 +6,11 @@
 #![tactic(auto)]
 
 mod frames;
+mod laws;
 mod opening;
 mod parse;
 mod reader;
 
+pub use laws::the_frames_are_the_whole;
 pub use opening::open_log;
 pub use reader::{FrameError, LogReader, Next, OpenError};

@@ -3,6 +3,5 @@
 
 #[cfg(test)]
 mod log_tests;
-
 #[cfg(test)]
 mod reader_tests;

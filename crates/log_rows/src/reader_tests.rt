@@ -139,7 +139,11 @@ fn each_prefix_and_each_byte(rt: HostRuntime) {
 #[test]
 fn a_length_past_the_end(rt: HostRuntime) {
     let alloc = rt.alloc();
-    for length in [[0x7F, 0xFF, 0xFF, 0xFF], [0xFF, 0xFF, 0xFF, 0xFF], [0, 0, 0, 0x27]] {
+    for length in [
+        [0x7F, 0xFF, 0xFF, 0xFF],
+        [0xFF, 0xFF, 0xFF, 0xFF],
+        [0, 0, 0, 0x27],
+    ] {
         let mut bytes = ONE_FRAME;
         bytes[34..38].copy_from_slice(&length);
         let mut site = site_of(&rt, alloc, &bytes, NEVER);
