@@ -1,5 +1,7 @@
-//! Tests of `commit_log`, on sites in memory.
+//! Tests of `commit_log` and `log_reader`, on sites in memory.
 #![tactic(auto)]
 
 #[cfg(test)]
 mod log_tests;
+#[cfg(test)]
+mod reader_tests;

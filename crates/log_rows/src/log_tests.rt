@@ -14,7 +14,7 @@ use std::alloc::Global;
 use std::process::Abort;
 
 // An empty segment of partition 0 of 1, whose flows file holds `{}`.
-const HEADER: Header = Header {
+pub(crate) const HEADER: Header = Header {
     partition: 0,
     partitions: 1,
     digest: 0x08F4_4B07_B590_1A25,
@@ -33,7 +33,7 @@ const EMPTY: [u8; 34] = [
 ];
 
 // Client a's request 1 starts Sum/x with null.
-const PAYLOAD: [u8; 38] = [
+pub(crate) const PAYLOAD: [u8; 38] = [
     0x00, 0x01, // one entry
     0x00, 0x00, 0x00, 0x00, 0x00, 0x00, 0x00, 0x00, // its position
     0x00, 0x00, 0x00, 0x00, 0x00, 0x00, 0x00, 0x00, // its incarnation
@@ -46,7 +46,7 @@ const PAYLOAD: [u8; 38] = [
 ];
 
 // The segment with that one frame.
-const ONE_FRAME: [u8; 77] = [
+pub(crate) const ONE_FRAME: [u8; 77] = [
     0xC3, // the format's gate
     0x4E, 0x45, 0x54, 0x48, 0x4C, 0x4F, 0x47, // NETHLOG
     0x01, // the version
@@ -69,15 +69,15 @@ const ONE_FRAME: [u8; 77] = [
 ];
 
 // The payload of a second frame.
-const NEXT: [u8; 3] = [0xC3, 0x00, 0xC3];
+pub(crate) const NEXT: [u8; 3] = [0xC3, 0x00, 0xC3];
 
 const LIMIT: u64 = 1 << 20;
 
 // The number of no device call.
-const NEVER: u64 = 1000;
+pub(crate) const NEVER: u64 = 1000;
 
 // A site whose file 1 holds these bytes, and where the device call with this number fails.
-fn site_of(rt: &impl Abort, alloc: Global, bytes: &[u8], fails: u64) -> MemorySite {
+pub(crate) fn site_of(rt: &impl Abort, alloc: Global, bytes: &[u8], fails: u64) -> MemorySite {
     let fails = vec![in alloc; (Kind::Device, fails)].expect(rt, "memory");
     let mut site = MemorySite::new(alloc, 1000, 40, fails).expect(rt, "memory");
     site.prepare(1, 0, bytes).expect(rt, "room");
@@ -256,7 +256,7 @@ fn log_full(rt: HostRuntime) {
 
 // What a file is to be read as.
 #[derive(Clone, Copy, PartialEq, Eq)]
-enum Wanted {
+pub(crate) enum Wanted {
     Fresh,
     At(u64),
     // So many payloads, and where the closed gate stands.
@@ -264,7 +264,7 @@ enum Wanted {
 }
 
 // A header, spelled up to the first gate.
-fn spelled(rt: &impl Abort, alloc: Global, header: Header) -> Vec<u8> {
+pub(crate) fn spelled(rt: &impl Abort, alloc: Global, header: Header) -> Vec<u8> {
     let mut bytes = Vec::new(alloc);
     for part in [
         [0xC3].as_slice(),
@@ -280,7 +280,7 @@ fn spelled(rt: &impl Abort, alloc: Global, header: Header) -> Vec<u8> {
 }
 
 // A frame, spelled from the gate before it up to the one behind it.
-fn spell_frame(rt: &impl Abort, bytes: &mut Vec<u8>, payload: &[u8]) {
+pub(crate) fn spell_frame(rt: &impl Abort, bytes: &mut Vec<u8>, payload: &[u8]) {
     let length = u32::try_from(payload.len()).expect(rt, "a length");
     bytes.push(0xC3).expect(rt, "memory");
     bytes
@@ -289,7 +289,7 @@ fn spell_frame(rt: &impl Abort, bytes: &mut Vec<u8>, payload: &[u8]) {
     bytes.extend_from_slice(payload).expect(rt, "memory");
 }
 
-fn spell_frames(rt: &impl Abort, bytes: &mut Vec<u8>, payloads: &[Payload]) {
+pub(crate) fn spell_frames(rt: &impl Abort, bytes: &mut Vec<u8>, payloads: &[Payload]) {
     for payload in payloads {
         spell_frame(rt, bytes, payload.as_bytes());
     }
@@ -304,7 +304,7 @@ fn check_front(rt: &impl Abort, alloc: Global, opened: &Opened, bytes: &[u8]) {
 }
 
 // What file 1, of these bytes, is read as.
-fn found(rt: &impl Abort, alloc: Global, site: &mut MemorySite, bytes: &[u8]) -> Wanted {
+pub(crate) fn found(rt: &impl Abort, alloc: Global, site: &mut MemorySite, bytes: &[u8]) -> Wanted {
     match read_log(alloc, site, 1) {
         Ok(opened) => {
             check_front(rt, alloc, &opened, bytes);

@@ -1,0 +1,5 @@
+pub mod Fronts
+pub mod Header
+pub mod Spelled
+pub mod Steps
+pub mod Whole
