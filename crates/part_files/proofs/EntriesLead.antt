@@ -1,8 +1,7 @@
 -- Entries that are accepted lead the world that the one partition shows where their labels do.
-use Rattle.std.proofs.Common.{◌≡◌, ◌<◌, ◌+◌, ℕ, List, [], ◌∷◌, ◌++◌, Option, Some, None, Result, Ok, refl, sym, ap, subst, ◌∙◌, arith}
+use Rattle.std.proofs.Common.{◌≡◌, ◌<◌, ◌+◌, ℕ, List, [], ◌∷◌, ◌++◌, Option, Some, None, Ok, refl, sym, ap, subst, ◌∙◌, arith}
 use Rattle.std.specs.Prelude.{option_map}
 use Rattle.std.specs.Option.{option_and_then}
-use Rattle.commit_log.specs.Segment.{◌>>=◌}
 use Rattle.dura_value.specs.Items.{Item, Entry}
 use Rattle.flow_syntax.specs.Syntax.{Flows}
 use Rattle.dura_model.specs.Legal.{after_from}
@@ -13,18 +12,15 @@ use Rattle.dura_model.specs.World.{World}
 use Rattle.dura_model.proofs.Shown.{item_labelled}
 use Rattle.dura_model.proofs.Kept.{item_keeps, item_stands, enter_keeps}
 use Rattle.part_items.specs.Numbered.{Next, behind, behind_all, IsNumbered}
-use Rattle.part_files.specs.Placing.{state_next, all_accepted, entry_accepted, or_place, placed, and_label, labels_of, labels_in, AreGiven, AllGiven}
+use Rattle.part_files.specs.Placing.{state_next, all_accepted, entry_accepted, placed, and_label, labels_of, labels_in, AreGiven, AllGiven}
 use Rattle.part_files.specs.Stands.{shown_by}
+use Rattle.part_files.proofs.Appending.{both_placed}
 use Rattle.part_files.proofs.Alone.{home_alone, shown_alone, are_shown_alone, IsStep, accepted_is_step}
 
 -- both steps of two were made
 both_some : {X Y : Type 0} (o : Option X) (f : X → Option Y) (y : Y) → option_and_then f o ≡ Some y → (x : X) × (o ≡ Some x) × (f x ≡ Some y)
 both_some None f y is = absurd (cc is)
 both_some (Some x) f y is = (x, refl, is)
-
-both_placed : {X Y : Type 0} (position : ℕ) (o : Option X) (f : X → Result Y ℕ) (y : Y) → (or_place position o >>= f) ≡ Ok y → (x : X) × (o ≡ Some x) × (f x ≡ Ok y)
-both_placed position None f y is = absurd (cc is)
-both_placed position (Some x) f y is = (x, refl, is)
 
 module _ (flows : Flows) where
   -- one run behind another
