@@ -1,13 +1,15 @@
 //! Laws of what a log keeps. They are said of the definitions alone: the functions do nothing.
 
-ghost use Rattle.std.specs.Prelude.{◌≡◌, ◌↔◌, ℕ, ◌+◌, List, [], ◌∷◌, ◌++◌, Some, Ok};
+ghost use Rattle.std.specs.Prelude.{◌≡◌, ◌↔◌, ℕ, ◌+◌, List, [], ◌∷◌, ◌++◌, length, drop, Some, Ok, Err};
 ghost use Rattle.commit_log.specs.Segment.{◌>>=◌ as bind};
 ghost use Rattle.dura_value.specs.Items.{Entry};
 ghost use Rattle.flow_syntax.specs.Syntax.{Flows};
 ghost use Rattle.dura_model.specs.Legal.{after_from};
 ghost use Rattle.dura_model.specs.Partition.{Partition};
 ghost use Rattle.dura_model.specs.Placed.{AreShown};
-ghost use Rattle.part_items.specs.Numbered.{Next, behind_all, IsNumbered};
+ghost use Rattle.part_items.specs.Numbered.{Next, behind_all, IsNumbered, next_frame_in};
+ghost use Rattle.log_reader.specs.Frames.{closed, frame, wrong, found_at};
+ghost use Rattle.part_files.specs.Kept.{in_file, left_from};
 ghost use Rattle.part_files.specs.Placing.{state_next, placed, next_life, labels_in, AllGiven};
 ghost use Rattle.part_files.specs.Stands.{shown_by};
 
@@ -27,4 +29,13 @@ pub fn one_after_another()
     ensures behind { (next : Next) (a b : List Entry) → behind_all next (a ++ b) ≡ behind_all (behind_all next a) b }
     ensures numbered { (next : Next) (a b : List Entry) → IsNumbered next (a ++ b) ↔ (IsNumbered next a × IsNumbered (behind_all next a) b) }
     ensures life { (entries : List Entry) (last : Entry) → next_life (entries ++ last ∷ []) ≡ last.incarnation + 1 }
+{}
+
+/// What a file keeps from a gate on is what stands there, with what it keeps from the next gate on.
+#[tactic(auto, using(crate::proofs::FrameByFrame::left_frame, crate::proofs::FrameByFrame::left_closed, crate::proofs::FrameByFrame::left_wrong))]
+pub fn read_frame_by_frame()
+    ensures frame { (content : List ℕ) (gate : ℕ) (next : Next) (payload : List ℕ) → found_at gate (drop gate content) ≡ frame payload
+        → left_from content gate next ≡ bind (in_file (gate + 5) (next_frame_in next payload)) (λ entries. bind (left_from content (gate + 5 + length payload) (behind_all next entries)) (λ more. Ok (entries ++ more.0, more.1))) }
+    ensures closed { (content : List ℕ) (gate : ℕ) (next : Next) → found_at gate (drop gate content) ≡ closed → left_from content gate next ≡ Ok ([], gate) }
+    ensures wrong { (content : List ℕ) (gate : ℕ) (next : Next) (offset : ℕ) → found_at gate (drop gate content) ≡ wrong offset → left_from content gate next ≡ Err offset }
 {}
