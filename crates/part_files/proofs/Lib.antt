@@ -2,3 +2,4 @@ pub mod Alone
 pub mod Appending
 pub mod EntriesLead
 pub mod FrameByFrame
+pub mod OneEntryKept

@@ -1,3 +1,4 @@
+pub mod Examples
 pub mod Kept
 pub mod Logs
 pub mod Placing
