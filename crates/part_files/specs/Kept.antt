@@ -1,5 +1,5 @@
 -- What the bytes of a log file keep.
-use Rattle.std.specs.Prelude.{ℕ, zero, suc, ◌+◌, List, [], ◌++◌, length, drop, Result, Ok, Err}
+use Rattle.std.specs.Prelude.{ℕ, zero, suc, ◌+◌, List, [], ◌∷◌, ◌++◌, length, drop, Result, Ok, Err}
 use Rattle.commit_log.specs.declared.header.Header.{Header}
 use Rattle.commit_log.specs.Segment.{◌>>=◌, first_gate}
 use Rattle.log_reader.specs.Frames as logs
@@ -53,3 +53,12 @@ kept_from bytes (headed header) = kept_under header (left_from bytes first_gate 
 
 abbrev pub kept_in : (partition : ℕ) → List ℕ → Kept
 kept_in partition bytes = kept_from bytes (opening_of partition bytes)
+
+-- The entries of a log's payloads, one after another, numbered from here, where the gate of the first stands at this offset; or the
+-- first byte that is wrong or missing.
+abbrev pub decoded : (gate : ℕ) → Next → List (List ℕ) → Result (List Entry) ℕ
+decoded gate next [] = Ok []
+decoded gate next (payload ∷ payloads) =
+    in_file (gate + 5) (next_frame_in next payload) >>= λ entries.
+    decoded (gate + 5 + length payload) (behind_all next entries) payloads >>= λ more.
+    Ok (entries ++ more)
