@@ -29,12 +29,7 @@ fn standing_of_entity(entity: &Entity) -> Result<Answer, AllocError>
 }
 
 /// What a query of the instance that a row stands for is answered.
-fn standing_of_row(
-    alloc: Global,
-    flows: &Flows,
-    id: &Id,
-    row: &Row,
-) -> Result<Answer, AllocError>
+fn standing_of_row(alloc: Global, flows: &Flows, id: &Id, row: &Row) -> Result<Answer, AllocError>
     ensures { IfOk result (λ answer. answer_of answer ≡ standing (instance_in (flows_of flows.now) (id_of id.now) (row_of row.now)).machine.progress) }
 {
     let instance = instance_of_row(alloc, flows, id, row)?;

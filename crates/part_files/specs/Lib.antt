@@ -1,0 +1,5 @@
+pub mod Examples
+pub mod Kept
+pub mod Logs
+pub mod Placing
+pub mod Stands
