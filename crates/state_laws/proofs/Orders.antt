@@ -1,5 +1,5 @@
 -- Ids one after another.
-use Rattle.std.proofs.Common.{◌≡◌, ◌∙◌, true, false, Some, None, refl, sym, ap, subst}
+use Rattle.std.proofs.Common.{◌≡◌, ◌∙◌, true, false, Some, None, refl, ap, subst}
 use Rattle.dura_value.specs.Ids.{Id, id_eq}
 use Rattle.dura_value.proofs.Ids.{id_same}
 use Rattle.id_maps.specs.Order.{is_before, is_no_later, IsNextBehind, NoneBehind}

@@ -1,8 +1,6 @@
 -- What belongs to a state.
-use Rattle.std.proofs.Common.{◌≡◌, ◌≤◌, ℕ, true, false, Some, None, refl, sym, ap, subst, ◌∙◌, arith, []}
-use Rattle.std.specs.Prelude.{is_some}
+use Rattle.std.proofs.Common.{◌≡◌, ◌≤◌, true, false, refl, arith}
 use Rattle.std.specs.List.{Contains}
-use Rattle.dura_value.specs.Ids.{home}
 use Rattle.dura_model.specs.Partition.{fresh}
 use Rattle.dura_model.specs.Placed.{Belongs, AreOfInstances}
 use Rattle.dura_model.proofs.Belonging.{enter_belongs}

@@ -1,9 +1,8 @@
 -- What is quiet.
-use Rattle.std.proofs.Common.{◌≡◌, ◌&&◌, ◌∙◌, ℕ, Bool, true, false, cond, Some, None, refl, sym, ap, subst}
+use Rattle.std.proofs.Common.{◌≡◌, ◌&&◌, ◌∙◌, Bool, true, false, cond, Some, None, refl, ap}
 use Rattle.dura_value.specs.Ids.{Id, id_eq}
 use Rattle.dura_value.specs.Messages.{Body, query}
 use Rattle.dura_value.proofs.Ids.{id_same, both_true}
-use Rattle.dura_model.specs.Partition.{first_in}
 use Rattle.part_rows.specs.Open.{lets_in}
 use Rattle.part_steps.specs.Quiet.{IsQuiet}
 use Rattle.state_laws.specs.Examples.{asker, sum, account, begun, asked, held, orphaned, ticking}

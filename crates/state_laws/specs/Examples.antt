@@ -54,4 +54,4 @@ come_to stamp = record begun { stamp = stamp }
 
 -- no flow is there
 abbrev pub no_flows : Flows
-no_flows name = None
+no_flows = record { flows = []; classes = [] }

@@ -1,6 +1,6 @@
 //! Definitions from both sides.
 
-ghost use Rattle.std.specs.Prelude.{◌≡◌, ℕ, List, [], ◌∷◌, Some, None};
+ghost use Rattle.std.specs.Prelude.{◌≡◌, List, [], ◌∷◌, Some, None};
 ghost use Rattle.dura_value.specs.declared.data.Value.TheVariants as values;
 ghost use Rattle.dura_value.specs.Ids.{id_eq};
 ghost use Rattle.dura_value.specs.Items.{Item, ran, took};
