@@ -1,0 +1,7 @@
+use Rattle.std.proofs.Common.{◌<◌}
+use Rattle.part_steps.specs.States.{IsSound, state_of}
+use Rattle.state_bench.proofs.drive.settle.Given as goal
+
+-- its state is sound, in an entry that has begun
+abbrev pub invariant-loop : goal.invariant-loop
+invariant-loop l = IsSound l.state × (0 < (state_of l.state).position)

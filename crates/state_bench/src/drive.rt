@@ -1,0 +1,95 @@
+//! A state that items are applied to.
+
+ghost use Rattle.std.specs.Prelude.{◌<◌, IfOk};
+ghost use Rattle.part_steps.specs.States.{IsSound, state_of};
+
+use crate::asking::{end, start, wait};
+use anyhow::{Result, bail};
+use flow_syntax::Flows;
+use part_items::Item;
+use part_steps::{PartState, Verdict};
+use std::alloc::Global;
+
+/// The only partition, in its first entry.
+pub fn begin(alloc: Global) -> PartState
+    ensures sound { IsSound result }
+    ensures begun { 0 < (state_of result).position }
+{
+    PartState::new(alloc, 1, 0).enter(1)
+}
+
+/// An item is accepted.
+fn apply(alloc: Global, flows: &Flows, state: PartState, item: &Item) -> Result<PartState>
+    requires sound { IsSound state }
+    requires begun { 0 < (state_of state).position }
+    ensures sound { IfOk result (λ state. IsSound state) }
+    ensures begun { IfOk result (λ state. 0 < (state_of state).position) }
+{
+    match state.apply(alloc, flows, item)? {
+        Verdict::Accepted(state, _) => Ok(state),
+        Verdict::Refused(_) => bail!("refused: {item:?}"),
+    }
+}
+
+/// An instance is started and waited for.
+fn ask(alloc: Global, flows: &Flows, state: PartState, number: u32) -> Result<PartState>
+    requires sound { IsSound state }
+    requires begun { 0 < (state_of state).position }
+    ensures sound { IfOk result (λ state. IsSound state) }
+    ensures begun { IfOk result (λ state. 0 < (state_of state).position) }
+{
+    let state = apply(alloc, flows, state, &start(alloc, number)?)?;
+    let state = apply(alloc, flows, state, &wait(alloc, number)?)?;
+    Ok(state)
+}
+
+/// So many instances are started and waited for.
+pub fn ask_all(alloc: Global, flows: &Flows, state: PartState, instances: u32) -> Result<PartState>
+    requires sound { IsSound state }
+    requires begun { 0 < (state_of state).position }
+    ensures sound { IfOk result (λ state. IsSound state) }
+    ensures begun { IfOk result (λ state. 0 < (state_of state).position) }
+{
+    let mut state = state;
+    for number in 0..instances {
+        state = ask(alloc, flows, state, number)?;
+    }
+    Ok(state)
+}
+
+/// Each activity comes to its end.
+pub fn finish_all(
+    alloc: Global,
+    flows: &Flows,
+    state: PartState,
+    instances: u32,
+) -> Result<PartState>
+    requires sound { IsSound state }
+    requires begun { 0 < (state_of state).position }
+    ensures sound { IfOk result (λ state. IsSound state) }
+    ensures begun { IfOk result (λ state. 0 < (state_of state).position) }
+{
+    let mut state = state;
+    for _ in 0..instances {
+        let item = end(&state)?;
+        state = apply(alloc, flows, state, &item)?;
+    }
+    Ok(state)
+}
+
+/// All that is possible by itself is done, in its order.
+pub fn settle(alloc: Global, flows: &Flows, state: PartState, now: u64) -> Result<PartState>
+    requires sound { IsSound state }
+    requires begun { 0 < (state_of state).position }
+    ensures sound { IfOk result (λ state. IsSound state) }
+    ensures begun { IfOk result (λ state. 0 < (state_of state).position) }
+{
+    let mut state = state;
+    for _ in 0..u64::MAX {
+        match state.enabled(now)? {
+            Some(item) => state = apply(alloc, flows, state, &item)?,
+            None => break,
+        }
+    }
+    Ok(state)
+}
