@@ -6,3 +6,5 @@ pub mod FrameByFrame
 pub mod OneEntryKept
 pub mod PayloadsKept
 pub mod PayloadsDecoded
+pub mod LabelsStand
+pub mod LogsNumbered

@@ -23,6 +23,10 @@ Entries = List Entry × ℕ
 abbrev with_payload : List ℕ → Frames → Result Frames ℕ
 with_payload payload more = Ok (payload ∷ more.0, more.1)
 
+-- one step after another
+both_bound : {X Y Z : Type 0} (r : Result X ℕ) (f : X → Result Y ℕ) (g : X → Y → Result Z ℕ) (x : X) (y : Y) → r ≡ Ok x → f x ≡ Ok y → (r >>= λ a. f a >>= g a) ≡ g x y
+both_bound r f g x y one two = ap (λ (s : Result _ ℕ). s >>= λ a. f a >>= g a) one ∙ ap (λ (s : Result _ ℕ). s >>= g x) two
+
 -- the bytes behind a frame
 behind_frame : (at byte : ℕ) (bytes : List ℕ) (x : List ℕ × List ℕ) → frame_at at bytes ≡ Ok x → drop (5 + length x.0) (byte ∷ bytes) ≡ x.1
 behind_frame at byte bytes x is = let more : 5 + length x.0 ≡ suc (4 + length x.0) = omega arith in ap (λ (k : ℕ). drop k (byte ∷ bytes)) more ∙ sym (frame_rest at bytes x is)
@@ -50,9 +54,8 @@ frames_kept (suc most) at next (byte ∷ bytes) frames entries is reads = by (by
         let ms = both_ok (decoded behind (behind_all next es.0) more.0.0) (λ m. Ok (es.0 ++ m)) entries es.2 in
         let all : es.0 ++ ms.0 ≡ entries = same_ok (es.0 ++ ms.0) entries ms.2 in
         let ends : good (es.0 ++ ms.0, more.0.1) ≡ Ok (entries, frames.1) = λ i. Ok (all i, (same i).1) in
-        ap (λ (r : Result (List Entry) ℕ). r >>= λ es. entries_from most behind (behind_all next es) (drop (5 + length x.0) (byte ∷ bytes)) >>= λ m. Ok (es ++ m.0, m.1)) es.1
-        ∙ ap (λ (l : List ℕ). entries_from most behind (behind_all next es.0) l >>= λ m. Ok (es.0 ++ m.0, m.1)) (behind_frame (at + 1) byte bytes x at_frame)
-        ∙ ap (λ (r : Result Entries ℕ). r >>= λ m. Ok (es.0 ++ m.0, m.1)) (rest behind (behind_all next es.0) x.1 more.0 ms.0 more.1 ms.1)
+        let there = ap (entries_from most behind (behind_all next es.0)) (behind_frame (at + 1) byte bytes x at_frame) ∙ rest behind (behind_all next es.0) x.1 more.0 ms.0 more.1 ms.1 in
+        both_bound (in_file (at + 5) (next_frame_in next x.0)) (λ es. entries_from most behind (behind_all next es) (drop (5 + length x.0) (byte ∷ bytes))) (λ es m. Ok (es ++ m.0, m.1)) es.0 (ms.0, more.0.1) es.1 there
         ∙ ends
 
 -- the frames that entries were read of
@@ -84,8 +87,7 @@ frames_only (suc most) at next (byte ∷ bytes) found is =
         let entries_end : good (es.0 ++ ms.0.0) ≡ Ok found.0 = λ i. Ok ((same i).0) in (
           x.0 ∷ later.payloads,
           ap (λ (r : Result Frames ℕ). r >>= with_payload x.0) later.framed ∙ frames_end,
-          ap (λ (r : Result (List Entry) ℕ). r >>= λ es. decoded behind (behind_all next es) later.payloads >>= λ m. Ok (es ++ m)) es.1
-              ∙ ap (λ (r : Result (List Entry) ℕ). r >>= λ m. Ok (es.0 ++ m)) later.reads
+          both_bound (in_file (at + 5) (next_frame_in next x.0)) (λ es. decoded behind (behind_all next es) later.payloads) (λ es m. Ok (es ++ m)) es.0 ms.0.0 es.1 later.reads
               ∙ entries_end,
         )
 

@@ -3,19 +3,20 @@
 ghost use Rattle.std.specs.Prelude.{◌≡◌, ◌↔◌, ℕ, ◌+◌, List, [], ◌∷◌, ◌++◌, length, drop, map, Some, Ok, Err};
 ghost use Rattle.std.specs.List.{All, flat_map};
 ghost use Rattle.commit_log.specs.declared.header.Header.{Header};
-ghost use Rattle.commit_log.specs.Segment.{◌>>=◌ as bind, first_gate, frame_bytes, fresh, segment, reading_of};
+ghost use Rattle.commit_log.specs.Segment.{◌>>=◌ as bind, first_gate, frame_bytes, fresh as is_fresh, segment, reading_of};
 ghost use Rattle.dura_value.specs.Items.{Entry};
 ghost use Rattle.flow_syntax.specs.Syntax.{Flows};
 ghost use Rattle.dura_model.specs.Legal.{after_from};
-ghost use Rattle.dura_model.specs.Partition.{Partition};
+ghost use Rattle.dura_model.specs.Partition.{Partition, fresh};
 ghost use Rattle.dura_model.specs.Placed.{AreShown};
 ghost use Rattle.part_items.specs.Numbered.{Next, behind_all, IsNumbered, next_frame_in};
 ghost use Rattle.part_items.specs.Spelling.{spell_frame};
 ghost use Rattle.codec_laws.specs.ItemFits.{FitsFrame};
 ghost use Rattle.log_reader.specs.Frames.{closed, frame, wrong, found_at};
 ghost use Rattle.part_files.specs.Kept.{nothing, keeps, in_file, left_from, first_of, kept_in, decoded};
+ghost use Rattle.part_files.specs.Logs.{Asked, logs_in, entries_in};
 ghost use Rattle.part_files.specs.Placing.{state_next, placed, next_life, labels_in, AllGiven};
-ghost use Rattle.part_files.specs.Stands.{shown_by};
+ghost use Rattle.part_files.specs.Stands.{alone_with, shown_by, Stands};
 
 /// Entries that are accepted one after another make of the world that the one partition shows what their labels do, where each
 /// outcome is one that its activity may give; and the log goes on behind them.
@@ -50,7 +51,7 @@ pub fn payloads_are_kept()
         → decoded first_gate (first_of h) payloads ≡ Ok entries → kept_in partition bytes ≡ keeps h entries gate }
     ensures only { (partition : ℕ) (bytes : List ℕ) (h : Header) (entries : List Entry) (gate : ℕ) → kept_in partition bytes ≡ keeps h entries gate
         → (payloads : List (List ℕ)) × (reading_of bytes ≡ segment h payloads gate) × (h.partition ≡ partition) × (decoded first_gate (first_of h) payloads ≡ Ok entries) }
-    ensures nothing { (partition : ℕ) (bytes : List ℕ) → (reading_of bytes ≡ fresh) ↔ (kept_in partition bytes ≡ nothing) }
+    ensures nothing { (partition : ℕ) (bytes : List ℕ) → (reading_of bytes ≡ is_fresh) ↔ (kept_in partition bytes ≡ nothing) }
 {}
 
 /// Payloads are decoded one behind the other, and their entries are numbered. What was spelled of numbered entries is decoded
@@ -63,4 +64,16 @@ pub fn payloads_are_decoded()
         → decoded gate next (map spell_frame frames) ≡ Ok (flat_map (λ frame. frame) frames) }
     ensures appended { (gate : ℕ) (next : Next) (payloads : List (List ℕ)) (entries frame : List Entry) → decoded gate next payloads ≡ Ok entries → FitsFrame frame → IsNumbered (behind_all next entries) frame
         → decoded gate next (payloads ++ spell_frame frame ∷ []) ≡ Ok (entries ++ frame) }
+{}
+
+/// The entries of a partition's log are numbered from the first position on.
+pub fn logs_are_numbered()
+    ensures { (asked : Asked) (files : ℕ → List ℕ) (entries : List Entry) → entries_in (logs_in asked files) ≡ Some entries → IsNumbered (state_next (fresh asked.partition)) entries }
+{}
+
+/// Files whose entries are accepted one after another stand for the labels of these, where each outcome is one that its activity
+/// may give.
+pub fn labels_stand()
+    ensures { (flows : Flows) (digest : ℕ) (files : ℕ → List ℕ) (entries : List Entry) (q : Partition) → entries_in (logs_in (alone_with digest) files) ≡ Some entries → placed flows 1 (fresh 0) entries ≡ Ok q
+        → AllGiven flows 1 (fresh 0) entries → Stands flows digest files (labels_in entries) }
 {}
