@@ -2,6 +2,7 @@ pub mod EntryLemmas
 pub mod Ids
 pub mod ItemLemmas
 pub mod Messages
+pub mod NumberedFrames
 pub mod Numbers
 pub mod OnlyItems
 pub mod OnlyMessages

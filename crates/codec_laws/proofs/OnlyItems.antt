@@ -156,11 +156,11 @@ entry_only bytes read all h =
     chain_2 bytes ((to_be_bytes w64 s.0.0 ++ to_be_bytes w64 t.0.0) ++ to_be_bytes w16 (length v.0.0)) u.0.1 (flat_map spell_item v.0.0) v.0.1 heading items.0
     ∙ ap (λ (q : Entry × List ℕ). spell_entry q.0 ++ q.1) (ok_is (record { position = s.0.0; incarnation = t.0.0; items = v.0.0 }, v.0.1) read v.2)
 
-placed_ok : {X : Type 0} (bytes : List ℕ) (r : Read X) (x : X × List ℕ) → placed bytes r ≡ Ok x → r ≡ Ok x
+pub placed_ok : {X : Type 0} (bytes : List ℕ) (r : Read X) (x : X × List ℕ) → placed bytes r ≡ Ok x → r ≡ Ok x
 placed_ok bytes (Ok y) x h = h
 placed_ok bytes (Err left) x h = absurd (cc h)
 
-alone_ok : {X : Type 0} (e r : X × List ℕ) → alone e ≡ Ok r → (e.1 ≡ []) × (e.0 ≡ r.0)
+pub alone_ok : {X : Type 0} (e r : X × List ℕ) → alone e ≡ Ok r → (e.1 ≡ []) × (e.0 ≡ r.0)
 alone_ok (x, []) r h = (refl, ap (λ (q : _ × List ℕ). q.0) (ok_is _ r h))
 alone_ok (x, byte ∷ bytes) r h = absurd (cc h)
 

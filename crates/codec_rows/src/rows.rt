@@ -11,6 +11,7 @@ ghost use Rattle.codec_rows.specs.Ids.{id_rows, id_faults, reply_rows, reply_fau
 ghost use Rattle.codec_rows.specs.Messages.{answer_rows, answer_faults, body_rows, body_faults, message_rows, message_faults};
 ghost use Rattle.codec_rows.specs.Items.{item_rows, item_faults};
 ghost use Rattle.codec_rows.specs.Frames.{example_bytes, example_entries, frame_faults};
+ghost use Rattle.codec_rows.specs.Numbered.{next_rows, next_faults, NextReads, NextFaults};
 
 /// Values of each kind.
 pub fn values()
@@ -66,4 +67,10 @@ pub fn frames()
     ensures read { frame_in example_bytes ≡ Ok example_entries }
     ensures spelled { spell_frame example_entries ≡ example_bytes }
     ensures faults { Faults frame_at frame_faults }
+{}
+
+/// The next frames of a log.
+pub fn next_frames()
+    ensures read { NextReads next_rows }
+    ensures faults { NextFaults next_faults }
 {}

@@ -73,12 +73,17 @@ members_at bytes = do
   count ← number_at w16 bytes
   if nat_lt 0 count.0 && nat_le count.0 most_members then Ok count else Err (length bytes)
 
+-- the items of an entry, of which there are 1 to 64
+unfoldable pub entry_items_at : List ℕ → Read (List Item)
+entry_items_at bytes = do
+  count ← members_at bytes
+  several_at item_at count.0 count.1
+
 unfoldable pub entry_at : List ℕ → Read Entry
 entry_at bytes = do
   position ← count_at bytes
   incarnation ← count_at position.1
-  count ← members_at incarnation.1
-  items ← several_at item_at count.0 count.1
+  items ← entry_items_at incarnation.1
   Ok (record { position = position.0; incarnation = incarnation.0; items = items.0 }, items.1)
 
 -- what was read takes all of the bytes
@@ -92,6 +97,10 @@ frame_at bytes = do
   entries ← several_at entry_at count.0 count.1
   alone entries
 
+-- what was read of all of the bytes, or the offset of the fault
+abbrev pub whole : {X : Type 0} → List ℕ → Read X → Result X ℕ
+whole bytes read = placed bytes read >>= λ x. Ok x.0
+
 -- the entries of a frame's bytes, or the offset of the fault
 abbrev pub frame_in : List ℕ → Result (List Entry) ℕ
-frame_in bytes = placed bytes (frame_at bytes) >>= λ frame. Ok frame.0
+frame_in bytes = whole bytes (frame_at bytes)

@@ -1,4 +1,5 @@
 pub mod Grammar
+pub mod Numbered
 pub mod Plain
 pub mod Spelling
 pub mod Tags

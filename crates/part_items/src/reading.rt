@@ -2,9 +2,9 @@
 
 ghost use Rattle.std.specs.Prelude.{◌≡◌};
 ghost use Rattle.dura_value.specs.Reading.{Gives};
-ghost use Rattle.dura_codec.specs.Fields.{Takes, several_at};
+ghost use Rattle.dura_codec.specs.Fields.{Takes, several_at, fault_in};
 ghost use Rattle.part_items.specs.Plain.{item_of, items_of, entry_of, entries_of};
-ghost use Rattle.part_items.specs.Grammar.{took_at, got_at, ran_at, done_at, fired_at, trim_at, item_at, members_at, entry_at, frame_at, frame_in};
+ghost use Rattle.part_items.specs.Grammar.{took_at, got_at, ran_at, done_at, fired_at, trim_at, item_at, members_at, entry_items_at, entry_at, alone, frame_at, frame_in};
 
 use crate::frames::{Entry, Frame, Items};
 use crate::items::Item;
@@ -95,7 +95,7 @@ fn take_item(alloc: Global, bytes: &[u8]) -> Result<(Item, &[u8]), FieldError>
 
 /// How many members there are: 1 to 64.
 #[tactic(auto, unfolding(crate::specs::Grammar::members_at))]
-fn take_members(bytes: &[u8]) -> Result<(u16, &[u8]), FieldError>
+pub(crate) fn take_members(bytes: &[u8]) -> Result<(u16, &[u8]), FieldError>
     ensures { Takes (λ n. n) result (members_at bytes.now) }
 {
     let (count, rest) = take_u16(bytes)?;
@@ -118,6 +118,16 @@ fn take_items(alloc: Global, count: u16, bytes: &[u8]) -> Result<(Vec<Item>, &[u
     Ok((items, rest))
 }
 
+/// The items of an entry, of which there are 1 to 64.
+#[tactic(auto, unfolding(crate::specs::Grammar::entry_items_at))]
+pub(crate) fn take_entry_items(alloc: Global, bytes: &[u8]) -> Result<(Items, &[u8]), FieldError>
+    ensures { Takes items_of result (entry_items_at bytes.now) }
+{
+    let (count, rest) = take_members(bytes)?;
+    let (items, rest) = take_items(alloc, count, rest)?;
+    Ok((Items::of(items), rest))
+}
+
 /// An entry.
 #[tactic(auto, unfolding(crate::specs::Grammar::entry_at))]
 fn take_entry(alloc: Global, bytes: &[u8]) -> Result<(Entry, &[u8]), FieldError>
@@ -125,12 +135,11 @@ fn take_entry(alloc: Global, bytes: &[u8]) -> Result<(Entry, &[u8]), FieldError>
 {
     let (position, rest) = take_count(bytes)?;
     let (incarnation, rest) = take_count(rest)?;
-    let (count, rest) = take_members(rest)?;
-    let (items, rest) = take_items(alloc, count, rest)?;
+    let (items, rest) = take_entry_items(alloc, rest)?;
     let entry = Entry {
         position,
         incarnation,
-        items: Items::of(items),
+        items,
     };
     Ok((entry, rest))
 }
@@ -148,16 +157,35 @@ fn take_entries(alloc: Global, count: u16, bytes: &[u8]) -> Result<(Vec<Entry>, 
     Ok((entries, rest))
 }
 
+/// The frame of these entries, behind which nothing may follow.
+pub(crate) fn whole_frame(entries: Vec<Entry>, rest: &[u8]) -> Result<(Frame, &[u8]), FieldError>
+    ensures { Takes entries_of result (alone (entries_of entries.items, rest.now)) }
+{
+    if !rest.is_empty() {
+        return Err(FieldError::Bad { left: rest.len() });
+    }
+    Ok((Frame::of(entries), rest))
+}
+
 #[tactic(auto, unfolding(crate::specs::Grammar::frame_at))]
 fn take_frame(alloc: Global, bytes: &[u8]) -> Result<(Frame, &[u8]), FieldError>
     ensures { Takes entries_of result (frame_at bytes.now) }
 {
     let (count, rest) = take_members(bytes)?;
     let (entries, rest) = take_entries(alloc, count, rest)?;
-    if !rest.is_empty() {
-        return Err(FieldError::Bad { left: rest.len() });
+    whole_frame(entries, rest)
+}
+
+/// Where the fault is, from the start of these bytes.
+pub(crate) fn at_offset(error: FieldError, bytes: &[u8]) -> ReadError
+    ensures { result ≡ fault_in bytes.now error }
+{
+    match error {
+        FieldError::Bad { left } => ReadError::Bad {
+            offset: bytes.len().saturating_sub(left),
+        },
+        FieldError::Memory => ReadError::Memory,
     }
-    Ok((Frame::of(entries), rest))
 }
 
 /// The frame that these bytes are, all of them.
@@ -166,9 +194,6 @@ pub fn read_frame(alloc: Global, bytes: &[u8]) -> Result<Frame, ReadError>
 {
     match take_frame(alloc, bytes) {
         Ok((frame, _)) => Ok(frame),
-        Err(FieldError::Bad { left }) => Err(ReadError::Bad {
-            offset: bytes.len().saturating_sub(left),
-        }),
-        Err(FieldError::Memory) => Err(ReadError::Memory),
+        Err(error) => Err(at_offset(error, bytes)),
     }
 }

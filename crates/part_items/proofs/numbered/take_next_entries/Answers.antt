@@ -1,0 +1,23 @@
+use Rattle.std.proofs.Common.{◌≡◌, ◌++◌, ◌∷◌, []}
+use Rattle.std.proofs.lemmas.Result.{err_from_is_err_and}
+use Rattle.std.proofs.lemmas.List.{map_push}
+use Rattle.part_items.specs.Plain.{entry_of, entries_of, next_of}
+use Rattle.part_items.specs.Numbered.{next_entries_at}
+use Rattle.part_items.proofs.NextEntries.{goes_on, ends, is_done, place_below}
+use Rattle.part_items.proofs.numbered.take_next_entries.Goals as goal
+
+pub returns-in_err-entry : goal.returns-in_err-entry
+returns-in_err-entry c =
+    let p = err_from_is_err_and c.from_residual.result c.from_residual.ensures.1 in
+    rw (p.1, p.2) (ends (next_of c.loop.next) c.in_err-entry.field-0.0 (entries_of c.loop.entries.items) c.args.count c.loop.counter c.loop.rest.now (next_entries_at (next_of c.args.next) c.args.count c.args.bytes.now) c.loop-test.true c.in_err-entry.ensures c.loop.invariant)
+
+pub next_behind-next-requires : goal.next_behind-next-requires
+next_behind-next-requires c = place_below (next_of c.loop.next) c.loop.rest.now (entry_of c.in_ok-entry.entry) c.in_ok-entry.after.now c.in_ok-entry.ensures
+
+pub loop-preserved : goal.loop-preserved
+loop-preserved c =
+    let e : entries_of c.push.new.self.items ≡ entries_of c.loop.entries.items ++ entry_of c.in_ok-entry.entry ∷ [] = rw c.in_ok-push.ensures.items (map_push _ c.loop.entries.items c.in_ok-entry.entry) in
+    rw (e, c.next_behind-next.ensures) (goes_on (next_of c.loop.next) (entries_of c.loop.entries.items) c.args.count c.loop.counter c.loop.rest.now (entry_of c.in_ok-entry.entry) c.in_ok-entry.after.now (next_entries_at (next_of c.args.next) c.args.count c.args.bytes.now) c.loop-test.true c.in_ok-entry.ensures c.loop.invariant)
+
+pub returns : goal.returns
+returns c = is_done (next_of c.loop.next) (entries_of c.loop.entries.items) c.args.count c.loop.counter c.loop.rest.now (next_entries_at (next_of c.args.next) c.args.count c.args.bytes.now) c.loop-test.false c.loop.invariant
