@@ -1,0 +1,4 @@
+pub mod Kept
+pub mod Logs
+pub mod Placing
+pub mod Stands
