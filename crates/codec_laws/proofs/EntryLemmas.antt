@@ -1,11 +1,11 @@
 -- Entries are read again, and frames.
 use Rattle.std.proofs.Common.{◌≡◌, ℕ, ◌-◌, ◌<◌, ◌≤◌, List, [], ◌∷◌, ◌++◌, length, Ok, Err, refl, sym, ap, ◌∙◌, append_assoc, append-nil, length-append, arith}
 use Rattle.std.specs.Int.{w16, w64, to_be_bytes}
-use Rattle.std.specs.List.{flat_map}
+use Rattle.std.specs.List.{All, flat_map}
 use Rattle.dura_value.specs.Items.{Item, Entry}
 use Rattle.dura_value.specs.Reading.{◌>>=◌}
 use Rattle.dura_codec.specs.Fields.{Read, several_at}
-use Rattle.part_items.specs.Grammar.{item_at, members_at, entry_at, alone, frame_at, frame_in}
+use Rattle.part_items.specs.Grammar.{item_at, members_at, entry_items_at, entry_at, alone, frame_at, frame_in}
 use Rattle.part_items.specs.Spelling.{spell_item, spell_heading, spell_entry, spell_frame}
 use Rattle.codec_laws.proofs.Numbers.{is_below, is_within, number_again_2, count_again}
 use Rattle.codec_laws.proofs.Values.{several_again}
@@ -17,6 +17,10 @@ members_again : (count : ℕ) (rest : List ℕ) → 0 < count → count ≤ 64 �
 unfolding members_at
 members_again count rest some few = rw (number_again_2 count rest (omega arith), is_below 0 count some, is_within count 64 few) refl
 
+entry_items_again : (items : List Item) (rest : List ℕ) → 0 < length items → length items ≤ 64 → All FitsItem items → entry_items_at (to_be_bytes w16 (length items) ++ (flat_map spell_item items ++ rest)) ≡ Ok (items, rest)
+unfolding entry_items_at
+entry_items_again items rest some few each = rw (members_again (length items) (flat_map spell_item items ++ rest) some few) (several_again item_at spell_item FitsItem item_again items rest each)
+
 after_heading : (entry : Entry) (rest : List ℕ) → FitsEntry entry
     → entry_at (to_be_bytes w64 entry.position ++ (to_be_bytes w64 entry.incarnation ++ (to_be_bytes w16 (length entry.items) ++ (flat_map spell_item entry.items ++ rest)))) ≡ Ok (entry, rest)
 unfolding entry_at
@@ -24,8 +28,7 @@ after_heading entry rest fits =
     rw (
       count_again entry.position (to_be_bytes w64 entry.incarnation ++ (to_be_bytes w16 (length entry.items) ++ (flat_map spell_item entry.items ++ rest))) fits.position_fits,
       count_again entry.incarnation (to_be_bytes w16 (length entry.items) ++ (flat_map spell_item entry.items ++ rest)) fits.incarnation_fits,
-      members_again (length entry.items) (flat_map spell_item entry.items ++ rest) fits.some fits.few,
-      several_again item_at spell_item FitsItem item_again entry.items rest fits.each,
+      entry_items_again entry.items rest fits.some fits.few fits.each,
     ) refl
 
 pub entry_again : (entry : Entry) (rest : List ℕ) → FitsEntry entry → entry_at (spell_entry entry ++ rest) ≡ Ok (entry, rest)

@@ -1,15 +1,15 @@
 -- A frame is read with its numbering exactly where it is read without and its entries are numbered.
-use Rattle.std.proofs.Common.{◌≡◌, ℕ, zero, suc, ◌≤◌, List, [], ◌∷◌, ◌==◌, true, Ok, refl, ap, ◌∙◌, sym, subst, eqb-true, leb-true, arith}
+use Rattle.std.proofs.Common.{◌≡◌, ℕ, zero, suc, ◌≤◌, List, [], ◌∷◌, ◌==◌, true, Ok, Err, refl, ap, ◌∙◌, sym, subst, eqb-true, leb-true, arith}
 use Rattle.std.proofs.lemmas.Bool.Decides.{nat_tests}
 use Rattle.dura_value.specs.Items.{Entry}
-use Rattle.dura_codec.specs.Fields.{Read, count_at, several_at, placed}
-use Rattle.part_items.specs.Grammar.{members_at, entry_items_at, entry_at, alone, frame_at, frame_in}
+use Rattle.dura_codec.specs.Fields.{Read, count_at, several_at}
+use Rattle.part_items.specs.Grammar.{members_at, entry_items_at, entry_at, frame_at, whole, frame_in}
 use Rattle.part_items.specs.Numbered.{Next, behind, IsNumbered, place_at, life_at, next_entry_at, next_entries_at, next_frame_at, next_frame_in}
 use Rattle.part_items.specs.Spelling.{spell_frame}
 use Rattle.codec_laws.specs.ItemFits.{FitsFrame}
 use Rattle.codec_laws.proofs.Numbers.{is_within}
 use Rattle.codec_laws.proofs.Steps.{ok_is, step, passed}
-use Rattle.codec_laws.proofs.OnlyItems.{placed_ok, alone_ok}
+use Rattle.codec_laws.proofs.OnlyItems.{alone_ok}
 use Rattle.codec_laws.proofs.EntryLemmas.{frame_again}
 
 place_is : (next : Next) (bytes : List ℕ) (read : ℕ × List ℕ) → place_at next bytes ≡ Ok read → (count_at bytes ≡ Ok read) × (read.0 ≡ next.position)
@@ -91,32 +91,44 @@ entries_read next (suc count) bytes read h numbered =
     let one = entry_read next bytes first.0 (record { reads = first.1; place = each.0; life = each.1 }) in
     rw (one, entries_read (behind first.0.0) count first.0.1 more.0 more.1 each.2) more.2
 
-frame_is : (next : Next) (bytes : List ℕ) (entries : List Entry) → next_frame_in next bytes ≡ Ok entries → (frame_in bytes ≡ Ok entries) × IsNumbered next entries
+frame_is : (next : Next) (bytes : List ℕ) (read : List Entry × List ℕ) → next_frame_at next bytes ≡ Ok read → (frame_at bytes ≡ Ok read) × IsNumbered next read.0
 unfolding next_frame_at frame_at
-frame_is next bytes entries h =
-    let f = step (placed bytes (next_frame_at next bytes)) _ entries h in
-    let count = step (members_at bytes) _ f.0 (placed_ok bytes (next_frame_at next bytes) f.0 f.1) in
-    let read = step (next_entries_at next count.0.0 count.0.1) _ f.0 count.2 in
-    let are = entries_are next count.0.0 count.0.1 read.0 read.1 in
-    let reads : frame_at bytes ≡ Ok f.0 = rw (count.1, are.0) read.2 in
-    let same : read.0.0 ≡ entries = (alone_ok read.0 f.0 read.2).1 ∙ ok_is f.0.0 entries f.2 in
-    (rw reads f.2, subst (IsNumbered next) same are.1)
+frame_is next bytes read h =
+    let count = step (members_at bytes) _ read h in
+    let entries = step (next_entries_at next count.0.0 count.0.1) _ read count.2 in
+    let are = entries_are next count.0.0 count.0.1 entries.0 entries.1 in
+    (rw (count.1, are.0) entries.2, subst (IsNumbered next) (alone_ok entries.0 read entries.2).1 are.1)
+
+frame_read : (next : Next) (bytes : List ℕ) (read : List Entry × List ℕ) → frame_at bytes ≡ Ok read → IsNumbered next read.0 → next_frame_at next bytes ≡ Ok read
+unfolding next_frame_at frame_at
+frame_read next bytes read h numbered =
+    let count = step (members_at bytes) _ read h in
+    let entries = step (several_at entry_at count.0.0 count.0.1) _ read count.2 in
+    let are : IsNumbered next entries.0.0 = subst (IsNumbered next) (sym (alone_ok entries.0 read entries.2).1) numbered in
+    rw (count.1, entries_read next count.0.0 count.0.1 entries.0 entries.1 are) entries.2
+
+-- what was read of all of the bytes, and what was left
+whole_is : {X : Type 0} (bytes : List ℕ) (r : Read X) (x : X) → whole bytes r ≡ Ok x → (read : X × List ℕ) × (r ≡ Ok read) × (read.0 ≡ x)
+whole_is bytes (Ok read) x h = (read, refl, ok_is read.0 x h)
+whole_is bytes (Err left) x h = absurd (cc h)
+
+whole_read : {X : Type 0} (bytes : List ℕ) (r : Read X) (read : X × List ℕ) → r ≡ Ok read → whole bytes r ≡ Ok read.0
+whole_read bytes r read h = rw h refl
 
 pub numbered_reads : (next : Next) (bytes : List ℕ) (entries : List Entry) → next_frame_in next bytes ≡ Ok entries → frame_in bytes ≡ Ok entries
-numbered_reads next bytes entries h = (frame_is next bytes entries h).0
+numbered_reads next bytes entries h =
+    let w = whole_is bytes (next_frame_at next bytes) entries h in
+    whole_read bytes (frame_at bytes) w.0 (frame_is next bytes w.0 w.1).0 ∙ ap (λ (read : List Entry). Ok read) w.2
 
 pub numbered_is : (next : Next) (bytes : List ℕ) (entries : List Entry) → next_frame_in next bytes ≡ Ok entries → IsNumbered next entries
-numbered_is next bytes entries h = (frame_is next bytes entries h).1
+numbered_is next bytes entries h =
+    let w = whole_is bytes (next_frame_at next bytes) entries h in
+    subst (IsNumbered next) w.2 (frame_is next bytes w.0 w.1).1
 
 pub numbered_only : (next : Next) (bytes : List ℕ) (entries : List Entry) → frame_in bytes ≡ Ok entries → IsNumbered next entries → next_frame_in next bytes ≡ Ok entries
-unfolding next_frame_at frame_at
 numbered_only next bytes entries h numbered =
-    let f = step (placed bytes (frame_at bytes)) _ entries h in
-    let count = step (members_at bytes) _ f.0 (placed_ok bytes (frame_at bytes) f.0 f.1) in
-    let read = step (several_at entry_at count.0.0 count.0.1) _ f.0 count.2 in
-    let same : read.0.0 ≡ entries = (alone_ok read.0 f.0 read.2).1 ∙ ok_is f.0.0 entries f.2 in
-    let reads : next_frame_at next bytes ≡ Ok f.0 = rw (count.1, entries_read next count.0.0 count.0.1 read.0 read.1 (subst (IsNumbered next) (sym same) numbered)) read.2 in
-    rw reads f.2
+    let w = whole_is bytes (frame_at bytes) entries h in
+    whole_read bytes (next_frame_at next bytes) w.0 (frame_read next bytes w.0 w.1 (subst (IsNumbered next) (sym w.2) numbered)) ∙ ap (λ (read : List Entry). Ok read) w.2
 
 pub numbered_again : (next : Next) (entries : List Entry) → IsNumbered next entries → FitsFrame entries → next_frame_in next (spell_frame entries) ≡ Ok entries
 numbered_again next entries numbered fits = numbered_only next (spell_frame entries) entries (frame_again entries fits) numbered

@@ -1,12 +1,12 @@
 -- What was read as an item, an entry or a frame is spelled by the bytes that it was read from.
-use Rattle.std.proofs.Common.{◌≡◌, ℕ, List, [], ◌∷◌, ◌++◌, length, ◌==◌, Ok, Err, refl, sym, ap, ◌∙◌, inl, inr, append-nil}
+use Rattle.std.proofs.Common.{◌≡◌, ℕ, List, [], ◌∷◌, ◌++◌, length, ◌==◌, Ok, Err, refl, sym, ap, ◌∙◌, inl, inr, append_assoc, append-nil}
 use Rattle.std.specs.Int.{w16, w32, w64, to_be_bytes}
 use Rattle.std.specs.List.{flat_map}
 use Rattle.dura_value.specs.Items.{Item, took, got, ran, ended, fired, trim, Entry}
 use Rattle.dura_codec.specs.Fields.{Read, byte_at, number_at, count_at, several_at, placed}
 use Rattle.dura_codec.specs.Grammar.{id_at, message_at, outcome_at}
 use Rattle.dura_codec.specs.Spelling.{spell_id, spell_outcome, spell_message}
-use Rattle.part_items.specs.Grammar.{took_at, got_at, ran_at, done_at, fired_at, trim_at, item_at, members_at, entry_at, alone, frame_at, frame_in}
+use Rattle.part_items.specs.Grammar.{took_at, got_at, ran_at, done_at, fired_at, trim_at, item_at, members_at, entry_items_at, entry_at, alone, frame_at, frame_in}
 use Rattle.part_items.specs.Spelling.{spell_three, spell_item, spell_heading, spell_entry, spell_frame}
 use Rattle.codec_laws.specs.Fits.{AreBytes}
 use Rattle.codec_laws.proofs.Steps.{ok_is, step, passed, either, rest_are, byte_only, number_only_2, number_only_4, count_only, several_only, tagged, join_1, join_2, join_3}
@@ -137,6 +137,14 @@ members_only bytes read all h =
     let p = passed _ (Ok s.0) _ read s.2 in
     number_only_2 bytes s.0 all s.1 ∙ ap (λ (q : ℕ × List ℕ). to_be_bytes w16 q.0 ++ q.1) (ok_is s.0 read p.1)
 
+entry_items_only : (bytes : List ℕ) (read : List Item × List ℕ) → AreBytes bytes → entry_items_at bytes ≡ Ok read → bytes ≡ to_be_bytes w16 (length read.0) ++ (flat_map spell_item read.0 ++ read.1)
+unfolding entry_items_at
+entry_items_only bytes read all h =
+    let s = step (members_at bytes) _ read h in
+    let count : bytes ≡ to_be_bytes w16 s.0.0 ++ s.0.1 = members_only bytes s.0 all s.1 in
+    let items = several_only item_at spell_item item_only s.0.0 s.0.1 read (rest_are bytes (to_be_bytes w16 s.0.0) s.0.1 count all) s.2 in
+    count ∙ (ap (λ (n : ℕ). to_be_bytes w16 n ++ s.0.1) (sym items.1) ∙ ap (λ (rest : List ℕ). to_be_bytes w16 (length read.0) ++ rest) items.0)
+
 pub entry_only : (bytes : List ℕ) (read : Entry × List ℕ) → AreBytes bytes → entry_at bytes ≡ Ok read → bytes ≡ spell_entry read.0 ++ read.1
 unfolding entry_at spell_entry spell_heading
 entry_only bytes read all h =
@@ -146,17 +154,15 @@ entry_only bytes read all h =
     let t = step (count_at s.0.1) _ read s.2 in
     let second : s.0.1 ≡ to_be_bytes w64 t.0.0 ++ t.0.1 = count_only s.0.1 t.0 after t.1 in
     let behind : AreBytes t.0.1 = rest_are s.0.1 (to_be_bytes w64 t.0.0) t.0.1 second after in
-    let u = step (members_at t.0.1) _ read t.2 in
-    let count : t.0.1 ≡ to_be_bytes w16 u.0.0 ++ u.0.1 = members_only t.0.1 u.0 behind u.1 in
-    let v = step (several_at item_at u.0.0 u.0.1) _ read u.2 in
-    let items = several_only item_at spell_item item_only u.0.0 u.0.1 v.0 (rest_are t.0.1 (to_be_bytes w16 u.0.0) u.0.1 count behind) v.1 in
-    let third : t.0.1 ≡ to_be_bytes w16 (length v.0.0) ++ u.0.1 = count ∙ ap (λ (n : ℕ). to_be_bytes w16 n ++ u.0.1) (sym items.1) in
-    let heading : bytes ≡ ((to_be_bytes w64 s.0.0 ++ to_be_bytes w64 t.0.0) ++ to_be_bytes w16 (length v.0.0)) ++ u.0.1 =
-    chain_2 bytes (to_be_bytes w64 s.0.0 ++ to_be_bytes w64 t.0.0) t.0.1 (to_be_bytes w16 (length v.0.0)) u.0.1 (chain_2 bytes (to_be_bytes w64 s.0.0) s.0.1 (to_be_bytes w64 t.0.0) t.0.1 first second) third in
-    chain_2 bytes ((to_be_bytes w64 s.0.0 ++ to_be_bytes w64 t.0.0) ++ to_be_bytes w16 (length v.0.0)) u.0.1 (flat_map spell_item v.0.0) v.0.1 heading items.0
-    ∙ ap (λ (q : Entry × List ℕ). spell_entry q.0 ++ q.1) (ok_is (record { position = s.0.0; incarnation = t.0.0; items = v.0.0 }, v.0.1) read v.2)
+    let u = step (entry_items_at t.0.1) _ read t.2 in
+    let items : t.0.1 ≡ to_be_bytes w16 (length u.0.0) ++ (flat_map spell_item u.0.0 ++ u.0.1) = entry_items_only t.0.1 u.0 behind u.1 in
+    let heading : bytes ≡ ((to_be_bytes w64 s.0.0 ++ to_be_bytes w64 t.0.0) ++ to_be_bytes w16 (length u.0.0)) ++ (flat_map spell_item u.0.0 ++ u.0.1) =
+    chain_2 bytes (to_be_bytes w64 s.0.0 ++ to_be_bytes w64 t.0.0) t.0.1 (to_be_bytes w16 (length u.0.0)) (flat_map spell_item u.0.0 ++ u.0.1) (chain_2 bytes (to_be_bytes w64 s.0.0) s.0.1 (to_be_bytes w64 t.0.0) t.0.1 first second) items in
+    heading
+    ∙ (sym (append_assoc ((to_be_bytes w64 s.0.0 ++ to_be_bytes w64 t.0.0) ++ to_be_bytes w16 (length u.0.0)) (flat_map spell_item u.0.0) u.0.1)
+    ∙ ap (λ (q : Entry × List ℕ). spell_entry q.0 ++ q.1) (ok_is (record { position = s.0.0; incarnation = t.0.0; items = u.0.0 }, u.0.1) read u.2))
 
-pub placed_ok : {X : Type 0} (bytes : List ℕ) (r : Read X) (x : X × List ℕ) → placed bytes r ≡ Ok x → r ≡ Ok x
+placed_ok : {X : Type 0} (bytes : List ℕ) (r : Read X) (x : X × List ℕ) → placed bytes r ≡ Ok x → r ≡ Ok x
 placed_ok bytes (Ok y) x h = h
 placed_ok bytes (Err left) x h = absurd (cc h)
 

@@ -8,7 +8,6 @@ use Rattle.dura_value.specs.declared.data.Scalar.{Scalar}
 use Rattle.dura_value.specs.declared.data.Scalar.TheVariants as scalars
 use Rattle.dura_value.specs.declared.data.Value.{Value}
 use Rattle.dura_value.specs.declared.data.Value.TheVariants as values
-use Rattle.dura_value.specs.Values.{value_of}
 use Rattle.dura_codec.specs.Fields.{Read, number_at, several_at}
 use Rattle.dura_codec.specs.Grammar.{scalar_at, scalars_at, value_front, of_front, value_at}
 use Rattle.dura_codec.specs.Spelling.{spell_scalar, spell_value}

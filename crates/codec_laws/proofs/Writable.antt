@@ -1,6 +1,5 @@
 -- What is within the limits of the format may be written.
 use Rattle.std.proofs.Common.{List}
-use Rattle.std.specs.List.{All}
 use Rattle.dura_value.specs.declared.data.Value.{Value}
 use Rattle.dura_value.specs.declared.data.Value.TheVariants as values
 use Rattle.dura_value.specs.declared.outcome.Outcome.{Outcome}

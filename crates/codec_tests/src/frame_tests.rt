@@ -1,8 +1,8 @@
-//! A frame as it is, cut short, and with a byte changed. The answers were made by tools/frame-table, which reads by the grammar of
-//! docs/FORMAT.md and shares no code with the crates.
+//! A frame as it is, cut short, with a byte changed, and as a log's next one. The answers of the tables were made by
+//! tools/frame-table, which reads by the grammar of docs/FORMAT.md and shares no code with the crates.
 
 use dura_value::ReadError;
-use part_items::read_frame;
+use part_items::{Frame, Next, read_frame, read_next_frame};
 use std::alloc::Global;
 use std::process::Abort;
 
@@ -104,13 +104,18 @@ const CHANGED: [[Option<usize>; 4]; 38] = [
     [Some(34), None, None, None], // 37: 01
 ];
 
-/// These bytes are a frame, or have a fault there.
-fn check(rt: &impl Abort, alloc: Global, bytes: &[u8], fault: Option<usize>) {
-    match read_frame(alloc, bytes) {
+/// A frame was read, or there was a fault there.
+fn check_read(rt: &impl Abort, read: Result<Frame, ReadError>, fault: Option<usize>) {
+    match read {
         Ok(_) => assert!(rt; fault.is_none()),
         Err(ReadError::Bad { offset }) => assert!(rt; fault == Some(offset)),
         Err(ReadError::Memory) => panic!(rt; "memory"),
     }
+}
+
+/// These bytes are a frame, or have a fault there.
+fn check(rt: &impl Abort, alloc: Global, bytes: &[u8], fault: Option<usize>) {
+    check_read(rt, read_frame(alloc, bytes), fault);
 }
 
 #[test]
@@ -140,4 +145,27 @@ fn changed_bytes(rt: HostRuntime) {
         check_changed(&rt, alloc, at, byte.wrapping_add(1), faults[2]);
         check_changed(&rt, alloc, at, byte ^ 0x80, faults[3]);
     }
+}
+
+/// The example as the next frame of a log that goes on at this place, in this life.
+fn check_next(
+    rt: &impl Abort,
+    alloc: Global,
+    position: u64,
+    incarnation: u64,
+    fault: Option<usize>,
+) {
+    let next = Next {
+        position,
+        incarnation,
+    };
+    check_read(rt, read_next_frame(alloc, next, &EXAMPLE), fault);
+}
+
+#[test]
+fn next_frames(rt: HostRuntime) {
+    let alloc = rt.alloc();
+    check_next(&rt, alloc, 0, 0, None);
+    check_next(&rt, alloc, 1, 0, Some(2));
+    check_next(&rt, alloc, 0, 1, Some(10));
 }

@@ -1,4 +1,4 @@
-//! Tests of the codecs: the example frame, each of its fronts, and each of its bytes changed.
+//! Tests of the codecs: the example frame, each of its fronts, each of its bytes changed, and where a log goes on with it.
 #![tactic(auto)]
 
 #[cfg(test)]

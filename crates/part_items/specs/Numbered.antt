@@ -19,10 +19,11 @@ abbrev pub behind_all : Next → List Entry → Next
 behind_all next [] = next
 behind_all next (entry ∷ entries) = behind_all (behind entry) entries
 
--- each of these stands at the place where the log goes on, and is of no life before the one of the entry before it
+-- each of these stands where the log goes on behind the one before, and is of no earlier life
 abbrev pub IsNumbered : Next → List Entry → Type 0
 IsNumbered next [] = Unit {0}
-IsNumbered next (entry ∷ entries) = (entry.position ≡ next.position) × (next.incarnation ≤ entry.incarnation) × IsNumbered (behind entry) entries
+IsNumbered next (entry ∷ entries) =
+    (entry.position ≡ next.position) × (next.incarnation ≤ entry.incarnation) × IsNumbered (behind entry) entries
 
 -- the number of the next entry's place
 unfoldable pub place_at : Next → List ℕ → Read ℕ
@@ -36,6 +37,7 @@ life_at next bytes = do
   incarnation ← count_at bytes
   if nat_le next.incarnation incarnation.0 then Ok incarnation else Err (length bytes)
 
+-- an entry that stands where the log goes on
 unfoldable pub next_entry_at : Next → List ℕ → Read Entry
 next_entry_at next bytes = do
   position ← place_at next bytes
@@ -43,7 +45,7 @@ next_entry_at next bytes = do
   items ← entry_items_at incarnation.1
   Ok (record { position = position.0; incarnation = incarnation.0; items = items.0 }, items.1)
 
--- so many entries, each where the log goes on behind the one before
+-- so many entries, each of which stands where the log goes on behind the one before
 unfoldable pub next_entries_at : Next → ℕ → List ℕ → Read (List Entry)
 next_entries_at next zero bytes = Ok ([], bytes)
 next_entries_at next (suc count) bytes = do
