@@ -1,17 +1,41 @@
 //! Laws of what a log keeps. They are said of the definitions alone: the functions do nothing.
 
-ghost use Rattle.std.specs.Prelude.{◌≡◌, ℕ, List, Some, Ok};
+ghost use Rattle.std.specs.Prelude.{◌≡◌, ◌↔◌, ℕ, ◌+◌, List, [], ◌∷◌, ◌++◌, length, drop, Some, Ok, Err};
+ghost use Rattle.commit_log.specs.Segment.{◌>>=◌ as bind};
 ghost use Rattle.dura_value.specs.Items.{Entry};
 ghost use Rattle.flow_syntax.specs.Syntax.{Flows};
 ghost use Rattle.dura_model.specs.Legal.{after_from};
 ghost use Rattle.dura_model.specs.Partition.{Partition};
 ghost use Rattle.dura_model.specs.Placed.{AreShown};
-ghost use Rattle.part_files.specs.Placing.{placed, labels_in, AllGiven};
+ghost use Rattle.part_items.specs.Numbered.{Next, behind_all, IsNumbered, next_frame_in};
+ghost use Rattle.log_reader.specs.Frames.{closed, frame, wrong, found_at};
+ghost use Rattle.part_files.specs.Kept.{in_file, left_from};
+ghost use Rattle.part_files.specs.Placing.{state_next, placed, next_life, labels_in, AllGiven};
 ghost use Rattle.part_files.specs.Stands.{shown_by};
 
 /// Entries that are accepted one after another make of the world that the one partition shows what their labels do, where each
-/// outcome is one that its activity may give.
+/// outcome is one that its activity may give; and the log goes on behind them.
 pub fn entries_are_labels()
-    ensures shown { (flows : Flows) (p q : Partition) (entries : List Entry) → AreShown 1 (λ place. p) → AllGiven flows 1 p entries → placed flows 1 p entries ≡ Ok q
-        → (after_from flows (shown_by flows p) (labels_in entries) ≡ Some (shown_by flows q)) × AreShown 1 (λ place. q) }
+    ensures { (flows : Flows) (p q : Partition) (entries : List Entry) → AreShown 1 (λ place. p) → IsNumbered (state_next p) entries → AllGiven flows 1 p entries → placed flows 1 p entries ≡ Ok q
+        → (after_from flows (shown_by flows p) (labels_in entries) ≡ Some (shown_by flows q)) × AreShown 1 (λ place. q) × (state_next q ≡ behind_all (state_next p) entries) }
+{}
+
+/// What entries make where others come behind them is what the others make behind these.
+#[tactic(auto, using(crate::proofs::Appending::placed_both, crate::proofs::Appending::labels_both, crate::proofs::Appending::behind_both, crate::proofs::Appending::next_life_last))]
+pub fn one_after_another()
+    ensures placed { (flows : Flows) (count : ℕ) (p : Partition) (a b : List Entry) → placed flows count p (a ++ b) ≡ bind (placed flows count p a) (λ q. placed flows count q b) }
+    ensures given { (flows : Flows) (count : ℕ) (p : Partition) (a b : List Entry) → AllGiven flows count p (a ++ b) ↔ (AllGiven flows count p a × ((q : Partition) → placed flows count p a ≡ Ok q → AllGiven flows count q b)) }
+    ensures labels { (a b : List Entry) → labels_in (a ++ b) ≡ labels_in a ++ labels_in b }
+    ensures behind { (next : Next) (a b : List Entry) → behind_all next (a ++ b) ≡ behind_all (behind_all next a) b }
+    ensures numbered { (next : Next) (a b : List Entry) → IsNumbered next (a ++ b) ↔ (IsNumbered next a × IsNumbered (behind_all next a) b) }
+    ensures life { (entries : List Entry) (last : Entry) → next_life (entries ++ last ∷ []) ≡ last.incarnation + 1 }
+{}
+
+/// What a file keeps from a gate on is what stands there, with what it keeps from the next gate on.
+#[tactic(auto, using(crate::proofs::FrameByFrame::left_frame, crate::proofs::FrameByFrame::left_closed, crate::proofs::FrameByFrame::left_wrong))]
+pub fn read_frame_by_frame()
+    ensures frame { (content : List ℕ) (gate : ℕ) (next : Next) (payload : List ℕ) → found_at gate (drop gate content) ≡ frame payload
+        → left_from content gate next ≡ bind (in_file (gate + 5) (next_frame_in next payload)) (λ entries. bind (left_from content (gate + 5 + length payload) (behind_all next entries)) (λ more. Ok (entries ++ more.0, more.1))) }
+    ensures closed { (content : List ℕ) (gate : ℕ) (next : Next) → found_at gate (drop gate content) ≡ closed → left_from content gate next ≡ Ok ([], gate) }
+    ensures wrong { (content : List ℕ) (gate : ℕ) (next : Next) (offset : ℕ) → found_at gate (drop gate content) ≡ wrong offset → left_from content gate next ≡ Err offset }
 {}

@@ -1,0 +1,4 @@
+pub mod Alone
+pub mod Appending
+pub mod EntriesLead
+pub mod FrameByFrame
