@@ -1,2 +1,4 @@
 pub mod Changes
+pub mod Copying
 pub mod Firsts
+pub mod Seen

@@ -1,12 +1,21 @@
 //! What is kept for each id.
 
-ghost use Rattle.std.specs.Prelude.{◌≡◌, Some, None, OnOk, OnErr, option_map};
+ghost use Rattle.std.specs.Prelude.{◌≡◌, Some, None, IfOk, OnOk, OnErr, option_map};
+ghost use Rattle.std.specs.Fn.{FnReturnsAt};
 ghost use Rattle.dura_value.specs.Views.{id_of};
+ghost use Rattle.id_maps.specs.Copies.{IsCopyById};
 ghost use Rattle.id_maps.specs.Maps.{by_id, nothing, at_id};
 
 use dura_value::Id;
 use std::alloc::{AllocError, Global};
 use std::collections::BTreeMap;
+
+/// A copy of an id.
+pub(crate) fn copy_key(id: &Id) -> Result<Id, AllocError>
+    ensures { IfOk result (λ copy. copy ≡ id.now) }
+{
+    id.clone()
+}
 
 /// What is kept for each id, which a contract sees as a function.
 #[derive(Debug, Drop)]
@@ -48,5 +57,23 @@ impl<V> IdMap<V> {
         ensures taken { by_id self.new ≡ at_id (by_id self.old) (id_of id.now) None }
     {
         self.entries.remove(id)
+    }
+
+    /// What is kept for each id, as this copies it.
+    pub fn copied<F: Fn(&V) -> Result<V, AllocError>>(
+        &self,
+        alloc: Global,
+        copy: F,
+    ) -> Result<IdMap<V>, AllocError>
+    where
+        V: Drop,
+        requires { F.IsAlwaysCallable copy }
+        ensures { IfOk result (IsCopyById (λ value kept. FnReturnsAt F.Fn copy value (Ok kept)) self.now) }
+    {
+        let mut copies = BTreeMap::new(alloc);
+        for (id, value) in self.entries.iter() {
+            copies.insert(copy_key(id)?, copy(value)?)?;
+        }
+        Ok(IdMap { entries: copies })
     }
 }

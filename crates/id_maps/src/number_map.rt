@@ -1,13 +1,32 @@
 //! What is kept for each id and number.
 
-ghost use Rattle.std.specs.Prelude.{◌≡◌, ◌+◌, ℕ, Some, None, is_some, IsSome, IfSome, IfNone, OnOk, option_map, if◌then◌else◌};
+ghost use Rattle.std.specs.Prelude.{◌≡◌, ◌+◌, ℕ, Some, None, is_some, IsSome, IfSome, IfNone, IfOk, OnOk, option_map, if◌then◌else◌};
+ghost use Rattle.std.specs.Fn.{FnReturnsAt};
 ghost use Rattle.dura_value.specs.Ids.{Id as PlainId};
 ghost use Rattle.dura_value.specs.Views.{id_of};
+ghost use Rattle.id_maps.specs.Copies.{AreNumbersCopied, IsCopyByNumber};
 ghost use Rattle.id_maps.specs.Maps.{by_number, count_of, no_number, at_number, cleared};
 
+use crate::id_map::copy_key;
 use dura_value::Id;
 use std::alloc::{AllocError, Global};
 use std::collections::BTreeMap;
+
+/// What is kept for each number, as this copies it.
+pub fn copy_numbers<V: Drop, F: Fn(&V) -> Result<V, AllocError>>(
+    alloc: Global,
+    numbers: &BTreeMap<u32, V>,
+    copy: &F,
+) -> Result<BTreeMap<u32, V>, AllocError>
+    requires { F.IsAlwaysCallable copy.now }
+    ensures { IfOk result (AreNumbersCopied (λ value kept. FnReturnsAt F.Fn copy.now value (Ok kept)) numbers.now) }
+{
+    let mut copies = BTreeMap::new(alloc);
+    for (number, value) in numbers.iter() {
+        copies.insert(*number, copy(value)?)?;
+    }
+    Ok(copies)
+}
 
 /// What is kept for each id and number, as the tasks of instances. A contract sees it as a function.
 #[derive(Debug, Drop)]
@@ -89,5 +108,23 @@ impl<V> NumberMap<V> {
         ensures { by_number self.new ≡ cleared (by_number self.old) (id_of id.now) }
     {
         self.entries.remove(id);
+    }
+
+    /// What is kept for each id and number, as this copies it.
+    pub fn copied<F: Fn(&V) -> Result<V, AllocError>>(
+        &self,
+        alloc: Global,
+        copy: F,
+    ) -> Result<NumberMap<V>, AllocError>
+    where
+        V: Drop,
+        requires { F.IsAlwaysCallable copy }
+        ensures { IfOk result (IsCopyByNumber (λ value kept. FnReturnsAt F.Fn copy value (Ok kept)) self.now) }
+    {
+        let mut copies = BTreeMap::new(alloc);
+        for (id, numbers) in self.entries.iter() {
+            copies.insert(copy_key(id)?, copy_numbers(alloc, numbers, &copy)?)?;
+        }
+        Ok(NumberMap { entries: copies })
     }
 }

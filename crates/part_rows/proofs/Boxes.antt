@@ -4,12 +4,14 @@ use Rattle.std.proofs.lemmas.Bool.{leb-true, lt-leb, le-leb}
 use Rattle.std.proofs.lemmas.List.{map-append, length-map}
 use Rattle.std.specs.Ordering.{nat_cmp}
 use Rattle.std.specs.BTreeMap.{BTreeMap, get, UpdatesBy}
+use Rattle.id_maps.specs.Copies.{AreCopied, AreNumbersCopied}
 use Rattle.id_maps.proofs.Changes.{number_same}
 use Rattle.dura_model.specs.Partition as plain
 use Rattle.part_rows.specs.declared.streams.Posted.{Posted}
 use Rattle.part_rows.specs.declared.streams.Outbox.{Outbox}
+use Rattle.part_rows.specs.declared.streams.Outboxes.{Outboxes}
 use Rattle.part_rows.specs.declared.streams.Inbox.{Inbox}
-use Rattle.part_rows.specs.Views.{posted_of, outbox_of, inbox_of, outbox_or_new, inbox_or_new}
+use Rattle.part_rows.specs.Views.{posted_of, outbox_of, inbox_of, outboxes_of, outbox_or_new, inbox_or_new}
 
 inbox_at : (b : Bool) (box : Inbox) (was : Option Inbox) → inbox_or_new (cond b (Some box) was) ≡ cond b (inbox_of box) (inbox_or_new was)
 inbox_at true box was = refl
@@ -138,3 +140,21 @@ pub end_found : (m : BTreeMap ℕ Outbox) (target : ℕ) (was : Outbox) → get 
     → (outbox_or_new (get nat_cmp m target)).first + length (outbox_or_new (get nat_cmp m target)).messages ≡ was.first + length was.messages.items
 end_found m target was found =
     ap (λ (o : Option Outbox). (outbox_or_new o).first + length (outbox_or_new o).messages) found ∙ ap (λ (n : ℕ). was.first + n) (length-map was.messages.items posted_of)
+
+-- ---- copies
+
+pub same_outbox : (was now : Outbox) → now.first ≡ was.first → now.messages.items ≡ was.messages.items → outbox_of now ≡ outbox_of was
+same_outbox was now first items =
+    ap (λ (n : ℕ). record { first = n; messages = map posted_of now.messages.items }) first
+    ∙ ap (λ (ps : List Posted). record { first = was.first; messages = map posted_of ps }) items
+
+module _ (IsCopy : Outbox → Outbox → Type 0) (alike : (was now : Outbox) → IsCopy was now → outbox_of now ≡ outbox_of was) where
+  box_copied : (was now : Option Outbox) → AreCopied IsCopy was now → outbox_or_new now ≡ outbox_or_new was
+  box_copied None None copied = refl
+  box_copied None (Some now) copied = absurd copied
+  box_copied (Some was) None copied = absurd copied
+  box_copied (Some was) (Some now) copied = alike was now copied
+
+  -- streams that are copied one by one are the same
+  pub boxes_copied : (boxes copies : Outboxes) → AreNumbersCopied IsCopy boxes.boxes copies.boxes → outboxes_of copies ≡ outboxes_of boxes
+  boxes_copied boxes copies copied = λ i target. box_copied (get nat_cmp boxes.boxes target) (get nat_cmp copies.boxes target) (copied target) i

@@ -1,4 +1,5 @@
 pub mod Boxes
+pub mod Copied
 pub mod Links
 pub mod Opening
 pub mod Posting

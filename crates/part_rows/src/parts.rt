@@ -1,12 +1,13 @@
 //! All that a partition knows.
 
-ghost use Rattle.std.specs.Prelude.{◌≡◌, ◌<◌, OnOk};
+ghost use Rattle.std.specs.Prelude.{◌≡◌, ◌<◌, IfOk, OnOk};
 ghost use Rattle.dura_value.specs.Views.{message_of, messages_of};
 ghost use Rattle.timer_row.specs.Timers.{InOrder};
 ghost use Rattle.dura_model.specs.Partition.{fresh, entry_of, post, post_all};
 ghost use Rattle.part_rows.specs.Views.{identity_of};
 ghost use Rattle.part_rows.specs.Parts.{part_of};
 
+use crate::copies::{copy_activity, copy_answer, copy_entity, copy_message, copy_row};
 use crate::queue::Queue;
 use crate::rows::{Activity, Row};
 use crate::streams::{Identity, Inboxes, Outboxes, Posted};
@@ -73,6 +74,32 @@ impl PartRows {
             inboxes: Inboxes::new(alloc),
             outboxes: Outboxes::new(alloc),
         }
+    }
+
+    /// A partition that knows the same.
+    pub fn copy(&self, alloc: Global) -> Result<PartRows, AllocError>
+        requires { InOrder self.now.timers }
+        ensures same { IfOk result (λ copy. part_of copy ≡ part_of self.now) }
+        ensures order { IfOk result (λ copy. InOrder copy.timers) }
+        ensures partitions { IfOk result (λ copy. copy.partitions ≡ self.now.partitions) }
+        ensures number { IfOk result (λ copy. copy.number ≡ self.now.number) }
+    {
+        Ok(PartRows {
+            partitions: self.partitions,
+            number: self.number,
+            position: self.position,
+            incarnation: self.incarnation,
+            stamp: self.stamp,
+            taken: self.taken.copied(alloc, copy_message)?,
+            answers: self.answers.copied(alloc, copy_answer)?,
+            instances: self.instances.copied(alloc, |row| copy_row(alloc, row))?,
+            entities: self.entities.copied(alloc, copy_entity)?,
+            activities: self.activities.copied(alloc, copy_activity)?,
+            timers: self.timers.copy(alloc)?,
+            queue: self.queue.copy(alloc)?,
+            inboxes: self.inboxes.copy()?,
+            outboxes: self.outboxes.copy(alloc)?,
+        })
     }
 
     /// The entry that its items belong to.

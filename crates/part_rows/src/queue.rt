@@ -1,11 +1,12 @@
 //! The messages to receivers of a partition.
 
-ghost use Rattle.std.specs.Prelude.{◌≡◌, ◌++◌, ◌∷◌, [], Some, OnOk, IfSome, IfNone, option_map, true, slice_get, length};
+ghost use Rattle.std.specs.Prelude.{◌≡◌, ◌++◌, ◌∷◌, [], Some, IfOk, OnOk, IfSome, IfNone, option_map, true, slice_get, length};
 ghost use Rattle.std.specs.List.{position};
 ghost use Rattle.dura_value.specs.Views.{id_of, body_of, messages_of};
 ghost use Rattle.dura_model.specs.Partition.{first_in, without_first};
 ghost use Rattle.part_rows.specs.Queues.{is_of_link, said_in};
 
+use crate::copies::copy_message;
 use dura_value::{Id, Message};
 use std::alloc::{AllocError, Global};
 use std::collections::VecDeque;
@@ -80,5 +81,17 @@ impl Queue {
             Some(place) => self.messages.remove(place),
             None => None,
         }
+    }
+
+    /// The same messages.
+    #[tactic(auto, using(crate::proofs::Copied::first_copied))]
+    pub fn copy(&self, alloc: Global) -> Result<Queue, AllocError>
+        ensures { IfOk result (λ copy. copy ≡ self.now) }
+    {
+        let mut messages = VecDeque::with_capacity(alloc, self.messages.len())?;
+        for message in self.messages.iter() {
+            messages.push_back(copy_message(message)?)?;
+        }
+        Ok(Queue { messages })
     }
 }

@@ -24,7 +24,7 @@ pub struct Row {
 }
 
 /// An activity that is pending.
-#[derive(Debug, Drop)]
+#[derive(Clone, Debug, Drop)]
 pub struct Activity {
     /// Its name.
     pub name: Name,

@@ -1,10 +1,12 @@
 //! The streams from and to other partitions.
 
-ghost use Rattle.std.specs.Prelude.{◌≡◌, ◌+◌, length, nat_le, ◌≤◌, if◌then◌else◌, OnOk};
+ghost use Rattle.std.specs.Prelude.{◌≡◌, ◌+◌, length, nat_le, ◌≤◌, if◌then◌else◌, IfOk, OnOk};
 ghost use Rattle.dura_model.specs.Partition.{with_posted, with_inbox, begins_at, with_first};
 ghost use Rattle.part_rows.specs.Views.{posted_of, inbox_of, outbox_of, inboxes_of, outboxes_of, no_outbox, no_inbox};
 
+use crate::copies::copy_message;
 use dura_value::Message;
+use id_maps::copy_numbers;
 use std::alloc::{AllocError, Global};
 use std::collections::{BTreeMap, VecDeque};
 
@@ -58,7 +60,34 @@ pub struct Outboxes {
     boxes: BTreeMap<u32, Outbox>,
 }
 
+impl Posted {
+    /// The same message of the same entry.
+    fn copy(&self) -> Result<Posted, AllocError>
+        ensures { IfOk result (λ copy. copy ≡ self.now) }
+    {
+        Ok(Posted {
+            entry: self.entry,
+            message: copy_message(&self.message)?,
+        })
+    }
+}
+
 impl Outbox {
+    /// The same stream.
+    #[tactic(auto, using(crate::proofs::Copied::first_copied))]
+    fn copy(&self, alloc: Global) -> Result<Outbox, AllocError>
+        ensures { IfOk result (λ copy. outbox_of copy ≡ outbox_of self.now) }
+    {
+        let mut messages = VecDeque::with_capacity(alloc, self.messages.len())?;
+        for posted in self.messages.iter() {
+            messages.push_back(posted.copy()?)?;
+        }
+        Ok(Outbox {
+            first: self.first,
+            messages,
+        })
+    }
+
     /// It begins at a later number; one that it has begun at stays. A number past its end is refused.
     fn begin_at(&mut self, number: u64) -> bool
         ensures refused { result ≡ nat_le number (self.old.first + length self.old.messages.items) }
@@ -124,6 +153,15 @@ impl Outboxes {
             None => number == 0,
         }
     }
+
+    /// The same streams.
+    pub fn copy(&self, alloc: Global) -> Result<Outboxes, AllocError>
+        ensures { IfOk result (λ copy. outboxes_of copy ≡ outboxes_of self.now) }
+    {
+        Ok(Outboxes {
+            boxes: copy_numbers(alloc, &self.boxes, &|outbox| outbox.copy(alloc))?,
+        })
+    }
 }
 
 impl Inboxes {
@@ -153,5 +191,14 @@ impl Inboxes {
     {
         self.boxes.insert(source, inbox)?;
         Ok(())
+    }
+
+    /// The same streams.
+    pub fn copy(&self) -> Result<Inboxes, AllocError>
+        ensures { IfOk result (λ copy. inboxes_of copy ≡ inboxes_of self.now) }
+    {
+        Ok(Inboxes {
+            boxes: self.boxes.clone()?,
+        })
     }
 }

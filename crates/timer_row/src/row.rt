@@ -101,4 +101,16 @@ impl TimerRow {
             None => None,
         }
     }
+
+    /// The same timers.
+    pub fn copy(&self, alloc: Global) -> Result<TimerRow, AllocError>
+        requires { InOrder self.now }
+        ensures same { IfOk result (λ copy. timers_in copy ≡ timers_in self.now) }
+        ensures order { IfOk result InOrder }
+    {
+        Ok(TimerRow {
+            moments: self.moments.copied(alloc, |due| Ok(*due))?,
+            order: self.order.clone()?,
+        })
+    }
 }
