@@ -1,0 +1,9 @@
+pub mod EntriesPlaced
+pub mod FilesFound
+pub mod FramesRead
+pub mod HeadersRead
+pub mod LogsFound
+pub mod NextFrames
+pub mod SameLife
+pub mod Standing
+pub mod Walks
