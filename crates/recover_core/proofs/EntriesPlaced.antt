@@ -74,6 +74,21 @@ entry_stuck flows entry old is = record {
   room = omega arith;
 }
 
+-- what the items of an entry make of a state that has begun it is what the entry makes
+module _ (flows : Flows) (entry : Entry) (old entered : PartState) (items : List Item) (ready : IsReadyFor entry.incarnation (On old)) (begun : state_of entered ≡ enter entry.incarnation (state_of old)) (count : count_of entered ≡ count_of old) (same : items ≡ entry.items) where
+  entry_is : (made : Option Partition) → all_accepted flows (count_of entered) (state_of entered) items ≡ made → entry_accepted flows 1 (state_of old) entry ≡ made
+  entry_is made is =
+      ap (λ (p : Partition). all_accepted flows 1 p entry.items) (sym begun) ∙ ap (λ (n : ℕ). all_accepted flows n (state_of entered) entry.items) (sym (count ∙ ready.1))
+      ∙ ap (all_accepted flows (count_of entered) (state_of entered)) (sym same) ∙ is
+
+  pub made_on : (made : PartState) → Makes (Some made) entered (all_accepted flows (count_of entered) (state_of entered) items) → GoesOnAs flows entry (On old) (On made)
+  made_on made done =
+      entry_made flows entry old made ready.1 (entry_is (Some (state_of made)) done.0) done.1 (done.2 ∙ count ∙ ready.1)
+      (done.3 ∙ ap (λ (p : Partition). p.position) begun) (done.4 ∙ ap (λ (p : Partition). p.incarnation) begun)
+
+  pub stuck_on : Makes None entered (all_accepted flows (count_of entered) (state_of entered) items) → GoesOnAs flows entry (On old) (Stuck entry.position)
+  stuck_on done = entry_stuck flows entry old (entry_is None done)
+
 pub still_stuck : (flows : Flows) (entry : Entry) (position : ℕ) → GoesOnAs flows entry (Stuck position) (Stuck position)
 still_stuck flows entry position = record {
   placed = λ made shows. ap (λ (m : Result Partition ℕ). m >>= λ p. placed flows 1 p (entry ∷ [])) shows;

@@ -1,8 +1,13 @@
 -- What one frame more makes of what was read.
 use Rattle.std.proofs.Common.{◌≡◌, ◌∙◌, ℕ, ◌+◌, List, [], ◌∷◌, ◌++◌, length, drop, Result, Ok, Err, refl, sym, ap, subst, append_assoc, append-nil}
+use Rattle.site_model.specs.History.{Step, changes_of, content_of, IsKept}
 use Rattle.commit_log.specs.declared.header.Header.{Header}
 use Rattle.commit_log.specs.Segment.{◌>>=◌, first_gate}
+use Rattle.log_reader.specs.declared.reader.FrameError.{FrameError}
+use Rattle.log_reader.specs.declared.reader.FrameError.TheVariants as unread
+use Rattle.log_reader.specs.declared.reader.LogReader.{LogReader}
 use Rattle.log_reader.specs.Frames.{closed, frame, wrong, found_at, HasRead}
+use Rattle.log_reader.specs.Outcomes.{Goes}
 use Rattle.dura_value.specs.Items.{Entry}
 use Rattle.flow_syntax.specs.Syntax.{Flows}
 use Rattle.part_items.specs.Numbered.{Next, behind_all, next_frame_in}
@@ -11,7 +16,9 @@ use Rattle.part_files.specs.Kept.{in_file, left_from, first_of}
 use Rattle.part_files.proofs.Appending.{behind_both}
 use Rattle.part_files.proofs.FrameByFrame.{left_frame, left_closed, left_wrong}
 use Rattle.recover_core.specs.declared.progress.Progress.{Progress}
-use Rattle.recover_core.specs.Files.{frames_in, HasReadTo}
+use Rattle.recover_core.specs.declared.reading.Reading.{Reading}
+use Rattle.recover_core.specs.declared.reading.Turn.{Turn}
+use Rattle.recover_core.specs.Files.{frames_in, PlacesFrame, IsOpened, HasReadTo, ReadsOn, RestsAfter, ReadsAll}
 use Rattle.recover_core.specs.Progress.{GoesOn, IsProgress}
 use Rattle.recover_core.proofs.EntriesPlaced.{progress_more}
 
@@ -81,6 +88,17 @@ module _ (flows : Flows) (content : List ℕ) (header : Header) (payloads : List
   end_read at found is =
       sym has.left ∙ ap (with_front entries) (left_closed content gate (next_of p.next) found) ∙ ap (λ (l : List Entry). Ok (l, gate)) (append-nil entries) ∙ ap (λ (k : ℕ). Ok (entries, k)) (sym is)
 
+  -- what is wrong at a gate, and what is wrong in a frame
+  pub gate_refused : (reader : LogReader) (error : FrameError) → reader.gate ≡ gate → Goes content reader payloads (Err error) → ReadsOn flows content header payloads entries (Err error)
+  gate_refused reader (unread.Damaged offset) is goes = wrong_read offset (subst (λ (n : ℕ). found_at n (drop n content) ≡ wrong offset) is goes)
+  gate_refused reader unread.SiteFault is goes = tt
+  gate_refused reader unread.Memory is goes = tt
+
+  pub frame_refused : (payload : List ℕ) (error : FrameError) → found_at gate (drop gate content) ≡ frame payload → PlacesFrame flows p gate (next_frame_in (next_of p.next) payload) (Err error) → ReadsOn flows content header payloads entries (Err error)
+  frame_refused payload (unread.Damaged offset) found places = bad_read payload offset found places
+  frame_refused payload unread.SiteFault found places = absurd places
+  frame_refused payload unread.Memory found places = tt
+
 -- nothing was read yet
 front_none : (read : Result (List Entry × ℕ) ℕ) → with_front [] read ≡ read
 front_none (Ok more) = refl
@@ -93,3 +111,36 @@ none_read flows content header gate p read first progress = record {
   left = ap (λ (k : ℕ). with_front [] (left_from content k (next_of p.next))) first ∙ front_none (left_from content first_gate (next_of p.next)) ∙ ap (left_from content first_gate) progress.next;
   progress = progress;
 }
+
+-- ---- a step of the loop
+
+module _ (flows : Flows) (old steps : List Step) (reader : LogReader) (reading : Reading) (result : Result Turn FrameError) (payloads : List (List ℕ)) (entries : List Entry)
+    (file : reading.reader.file ≡ reader.file) (header : reading.reader.header ≡ reader.header) (size : reading.reader.size ≡ reader.size) (same : steps ≡ old) (opened : IsOpened old reader) where
+  content_same : content_of reading.reader.file steps ≡ content_of reader.file old
+  content_same = ap (λ (f : ℕ). content_of f steps) file ∙ ap (content_of reader.file) same
+
+  -- what a step says of the log as it is read, it says of the log as it was opened
+  pub reads_over : HasReadTo flows (content_of reader.file old) reader.header payloads entries reading.reader.gate reading.progress
+      → (reading.reader.size ≡ length (content_of reading.reader.file steps) → (some : List (List ℕ)) (more : List Entry) → HasReadTo flows (content_of reading.reader.file steps) reading.reader.header some more reading.reader.gate reading.progress
+      → ReadsOn flows (content_of reading.reader.file steps) reading.reader.header some more result)
+      → ReadsOn flows (content_of reader.file old) reader.header payloads entries result
+  reads_over has reads =
+      let Says : List ℕ → Header → Type 0 = λ content h. HasReadTo flows content h payloads entries reading.reader.gate reading.progress → ReadsOn flows content h payloads entries result in
+      let here : Says (content_of reading.reader.file steps) reading.reader.header = reads (size ∙ opened.size ∙ ap (λ (c : List ℕ). length c) (sym content_same)) payloads entries in
+      subst (Says (content_of reader.file old)) header (subst (λ (c : List ℕ). Says c reading.reader.header) content_same here) has
+
+  pub rests_over : (new : List Step) → new ≡ steps → HasRead (content_of reader.file old) reader.header payloads reading.reader.gate
+      → ((some : List (List ℕ)) → HasRead (content_of reading.reader.file steps) reading.reader.header some reading.reader.gate → IsKept (changes_of reading.reader.file steps) → RestsAfter new reading.reader.header some result)
+      → RestsAfter old reader.header payloads result
+  rests_over new unchanged read rests =
+      let Says : List ℕ → Header → Type 0 = λ content h. HasRead content h payloads reading.reader.gate → RestsAfter new h payloads result in
+      let kept : IsKept (changes_of reading.reader.file steps) = subst IsKept (sym (ap (λ (f : ℕ). changes_of f steps) file ∙ ap (changes_of reader.file) same)) opened.kept in
+      let here : Says (content_of reading.reader.file steps) reading.reader.header = λ has. rests payloads has kept in
+      subst (λ (s : List Step). RestsAfter s reader.header payloads result) (unchanged ∙ same)
+      (subst (Says (content_of reader.file old)) header (subst (λ (c : List ℕ). Says c reading.reader.header) content_same here) read)
+
+pub all_refused : (flows : Flows) (old : List Step) (reader : LogReader) (payloads : List (List ℕ)) (entries : List Entry) (error : FrameError)
+    → ReadsOn flows (content_of reader.file old) reader.header payloads entries (Err error) → ReadsAll old flows reader (Err error)
+all_refused flows old reader payloads entries (unread.Damaged offset) reads = reads
+all_refused flows old reader payloads entries unread.SiteFault reads = tt
+all_refused flows old reader payloads entries unread.Memory reads = tt

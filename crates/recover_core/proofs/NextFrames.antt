@@ -1,6 +1,5 @@
 -- A log's next frame has its next entries, of which there are at most 64.
 use Rattle.std.proofs.Common.{◌≡◌, ◌∙◌, ℕ, zero, suc, ◌+◌, ◌-◌, ◌≤◌, ◌<◌, List, [], ◌∷◌, length, Bool, true, false, ◌&&◌, nat_lt, nat_le, if◌then◌else◌, Result, Ok, Err, refl, sym, ap, subst, eqb-true, leb-true, arith}
-use Rattle.std.proofs.lemmas.Bool.{and_right}
 use Rattle.std.proofs.lemmas.Bool.Decides.{nat_tests}
 use Rattle.std.specs.Int.{w16, w64}
 use Rattle.dura_value.specs.Items.{Entry}
@@ -78,12 +77,16 @@ entries_are next (suc count) bytes read h =
     let same : (first.0.0 ∷ more.0.0, more.0.1) ≡ read = ok_is _ read more.2 in
     subst (λ (r : List Entry × List ℕ). AreNext next (suc count) r.0) same ((one.0, one.1, one.2, one.3, are.0), ap suc are.1)
 
+second_true : (x y : Bool) → x && y ≡ true → y ≡ true
+second_true true y is = is
+second_true false y is = absurd (cc is)
+
 few : (bytes : List ℕ) (read : ℕ × List ℕ) → members_at bytes ≡ Ok read → read.0 ≤ 64
 unfolding members_at
 few bytes read h =
     let s = step (number_at w16 bytes) _ read h in
     let p = passed (nat_lt 0 s.0.0 && nat_le s.0.0 most_members) s.0 _ read s.2 in
-    let within : s.0.0 ≤ 64 = leb-true s.0.0 64 (and_right (nat_lt 0 s.0.0) (nat_le s.0.0 most_members) p.0) in
+    let within : s.0.0 ≤ 64 = leb-true s.0.0 64 (second_true (nat_lt 0 s.0.0) (nat_le s.0.0 most_members) p.0) in
     subst (λ (r : ℕ × List ℕ). r.0 ≤ 64) p.1 within
 
 alone_ok : {X : Type 0} (e r : X × List ℕ) → alone e ≡ Ok r → e.0 ≡ r.0

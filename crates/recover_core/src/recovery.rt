@@ -41,7 +41,13 @@ pub struct Recovered {
 fn end(found: Found) -> Result<Recovered, RecoverError>
     ensures { (flows : PlainFlows) (entries : List Entry) → Shows found.placing (placed flows 1 (fresh 0) entries) → found.life ≡ next_life entries → Ends flows entries found result }
 {
-    let state = match found.placing {
+    let Found {
+        header: _,
+        log,
+        life,
+        placing,
+    } = found;
+    let state = match placing {
         Placing::On(state) => state,
         Placing::Stuck(position) => {
             return Err(RecoverError::Illegal {
@@ -50,16 +56,16 @@ fn end(found: Found) -> Result<Recovered, RecoverError>
             });
         }
     };
-    if found.life >= LIVES {
+    if life >= LIVES {
         return Err(RecoverError::Spent {
             partition: 0,
-            number: found.life,
+            number: life,
         });
     }
     Ok(Recovered {
         state,
-        log: Some(found.log),
-        incarnation: found.life,
+        log: Some(log),
+        incarnation: life,
     })
 }
 
