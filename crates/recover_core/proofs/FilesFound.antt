@@ -77,15 +77,20 @@ module _ (file : ℕ) (old new : List Step) (is : new ≡ on file synced ∷ old
       → kept_in 0 (content_of file new) ≡ broken offset
   damaged_behind flows reader offset file_is opens all = keeps_read reader file_is opens ∙ ap (kept_under reader.header) all
 
+  pub file_refused : (flows : Flows) (reader : LogReader) (error : FrameError) → reader.file ≡ file → Opens 0 (content_of file old) (Ok reader) → ReadsAll new flows reader (Err error) → SaysFile new flows file (Err error)
+  file_refused flows reader (unread.Damaged offset) file_is opens all = damaged_behind flows reader offset file_is opens all
+  file_refused flows reader unread.SiteFault file_is opens all = tt
+  file_refused flows reader unread.Memory file_is opens all = tt
+
 -- ---- what a file is refused for
 
 pub damaged_fault : (digest file offset : ℕ) (kept : Kept) → kept ≡ broken offset → fault_of (alone_with digest) file kept ≡ Some (damaged_at file offset)
 damaged_fault digest file offset kept is = ap (fault_of (alone_with digest) file) is
 
-is_one : (n m : ℕ) → n ≡ m → (n == m) ≡ true
+pub is_one : (n m : ℕ) → n ≡ m → (n == m) ≡ true
 is_one n m is = grind (arith, nat_tests)
 
-is_other : (n m : ℕ) → n ≢ m → (n == m) ≡ false
+pub is_other : (n m : ℕ) → n ≢ m → (n == m) ≡ false
 is_other n m other = elim (cases_Bool (n == m)) [ inl is ↦ absurd (other (eqb-true n m is)) | inr apart ↦ apart ]
 
 pub shape_fault : (digest file : ℕ) (kept : Kept) (h : Header) (entries : List Entry) (gate : ℕ) → kept ≡ keeps h entries gate → h.partitions ≢ 1 → fault_of (alone_with digest) file kept ≡ Some (other_shape h.partitions)

@@ -1,3 +1,4 @@
+pub mod BothSynced
 pub mod EntriesPlaced
 pub mod FilesFound
 pub mod FramesRead
@@ -6,4 +7,5 @@ pub mod LogsFound
 pub mod NextFrames
 pub mod SameLife
 pub mod Standing
+pub mod Ties
 pub mod Walks

@@ -1,8 +1,9 @@
 -- What two files have is what is answered of them.
-use Rattle.std.proofs.Common.{◌≡◌, ◌∙◌, ◌⊎◌, inl, inr, ℕ, ◌+◌, ◌<◌, ◌^◌, lit<, List, [], ◌∷◌, Bool, true, false, ◌==◌, Option, Some, None, Result, Ok, Err, refl, sym, ap, subst, arith}
+use Rattle.std.proofs.Common.{◌≡◌, ◌∙◌, ◌⊎◌, inl, inr, ℕ, ◌+◌, ◌<◌, ◌≤◌, ◌^◌, lit<, List, [], ◌∷◌, Bool, true, false, ◌==◌, Option, Some, None, Result, Ok, Err, refl, sym, ap, subst, arith}
 use Rattle.std.specs.Prelude.{IfOk, IfSome}
-use Rattle.std.proofs.lemmas.Bool.Decides.{nat_tests}
+use Rattle.std.proofs.lemmas.Bool.{cases_lt}
 use Rattle.site_model.specs.History.{Step, changes_of, content_of, reads}
+use Rattle.site_model.specs.Calls.{HasRisen}
 use Rattle.commit_log.specs.declared.header.Header.{Header}
 use Rattle.commit_log.specs.declared.states.Resting.{Resting}
 use Rattle.commit_log.specs.States.{IsResting}
@@ -27,7 +28,12 @@ use Rattle.recover_core.specs.Files.{frames_in, IsFound, Suits}
 use Rattle.recover_core.specs.Progress.{Shows}
 use Rattle.recover_core.specs.Recovering.{IsLogOf, RecoversLogs, Recovers, RestsFor}
 use Rattle.recover_core.specs.Refusals.{Refuses}
-use Rattle.recover_core.proofs.FilesFound.{no_fault}
+use Rattle.recover_core.proofs.FilesFound.{is_one, no_fault}
+
+-- a count of faults that rose later has risen
+pub risen_later : (before mid now : ℕ) → before ≤ mid → mid ≤ now → HasRisen mid now → HasRisen before now
+risen_later before mid now first second (inl rose) = inl (omega arith)
+risen_later before mid now first second (inr full) = elim (cases_lt before mid) [ inl rose ↦ inl (omega arith) | inr same ↦ inr (omega arith) ]
 
 -- ---- refusals
 
@@ -53,9 +59,6 @@ refused_logs flows digest SiteFault fault found is = tt
 refused_logs flows digest Memory fault found is = tt
 
 -- ---- files that suit
-
-is_one : (n m : ℕ) → n ≡ m → (n == m) ≡ true
-is_one n m is = grind (arith, nat_tests)
 
 suits_none : (steps : List Step) (flows : Flows) (digest file : ℕ) (found : LogFile) → Suits steps flows digest file found → fault_of (alone_with digest) file (kept_in 0 (content_of file steps)) ≡ None
 suits_none steps flows digest file Fresh suits = ap (fault_of (alone_with digest) file) suits

@@ -74,6 +74,7 @@ fn read_file<V: Site>(
 }
 
 /// Refuses a file that is damaged, of another number of partitions or of other flows, in this order.
+#[tactic(auto, using(crate::proofs::FilesFound::damaged_fault, crate::proofs::FilesFound::shape_fault, crate::proofs::FilesFound::flows_fault))]
 pub(crate) fn open_file<V: Site>(
     alloc: Global,
     site: &mut V,

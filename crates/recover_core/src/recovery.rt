@@ -39,7 +39,8 @@ pub struct Recovered {
 
 /// What the entries of a log stand for.
 fn end(found: Found) -> Result<Recovered, RecoverError>
-    ensures { (flows : PlainFlows) (entries : List Entry) → Shows found.placing (placed flows 1 (fresh 0) entries) → found.life ≡ next_life entries → Ends flows entries found result }
+    ensures ends { (flows : PlainFlows) (entries : List Entry) → Shows found.placing (placed flows 1 (fresh 0) entries) → found.life ≡ next_life entries → Ends flows entries found result }
+    ensures no_fault { result ≡ Err RecoverError.SiteFault → ⊥ }
 {
     let Found {
         header: _,
@@ -72,6 +73,7 @@ fn end(found: Found) -> Result<Recovered, RecoverError>
 /// Opens the log of the one partition, and says what its two files stand for. Each file is synced, and nothing is written.
 /// Of each file the bytes are looked at first, then of how many partitions and of which flows it is; then whether both can
 /// stand; then the entries, one after another; and then whether a life is left.
+#[tactic(auto, using(crate::proofs::LogsFound::risen_later))]
 pub fn recover<V: Site>(
     alloc: Global,
     site: &mut V,

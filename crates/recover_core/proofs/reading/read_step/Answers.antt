@@ -38,9 +38,11 @@ returns-clause-reads g c tells size_is payloads entries has =
     let content = content_of reader.file (g.V.Site.history c.args.site.now) in
     let goes = rw c.in-Ok-Frame.field-0-is at (c.in-Ok-Frame.ensures.found tells size_is payloads has.read) in
     let place = rw c.in-Ok-Frame.field-0-is at c.in-Ok-Frame.ensures.place in
-    let placed = c.in_ok-progress.ensures in
-    (c.in-Ok-Frame.payload, placed.0,
-    more_read (flows_of c.args.flows.now) content reader.header payloads entries reader.gate c.args.reading.progress has c.in-Ok-Frame.payload c.in-Ok-Frame.behind.gate placed.0 c.in_ok-progress.progress goes.0 goes.1 place.3 placed.1 placed.2)
+    let placed = c.in_ok-progress.ensures in (
+      c.in-Ok-Frame.payload,
+      placed.0,
+      more_read (flows_of c.args.flows.now) content reader.header payloads entries reader.gate c.args.reading.progress has c.in-Ok-Frame.payload c.in-Ok-Frame.behind.gate placed.0 c.in_ok-progress.progress goes.0 goes.1 place.3 placed.1 placed.2,
+    )
 
 pub returns-clause-there : goal.returns-clause-there
 returns-clause-there g c =
