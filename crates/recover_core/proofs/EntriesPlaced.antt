@@ -1,5 +1,6 @@
 -- Entries are placed one after another.
 use Rattle.std.proofs.Common.{◌≡◌, ◌∙◌, ℕ, suc, ◌+◌, ◌≤◌, ◌<◌, ◌^◌, List, [], ◌∷◌, ◌++◌, length, take, drop, map, get_or, Option, Some, None, Result, Ok, Err, refl, sym, ap, subst, append-nil, length-append, arith}
+use Rattle.std.specs.Option.{option_and_then}
 use Rattle.commit_log.specs.Segment.{◌>>=◌}
 use Rattle.dura_value.specs.Items.{Item, Entry}
 use Rattle.flow_syntax.specs.Syntax.{Flows}
@@ -33,7 +34,8 @@ pub one_applied : (flows : Flows) (old now next : PartState) (all rest : List It
     → HasApplied flows old next all rest
 one_applied flows old now next all rest item so_far is sound count position life =
     let here : accepted flows (count_of old) (state_of now) item ≡ Some (state_of next) = subst (λ (n : ℕ). accepted flows n (state_of now) item ≡ Some (state_of next)) so_far.count is in
-    let one : all_accepted flows (count_of old) (state_of now) (item ∷ rest) ≡ all_accepted flows (count_of old) (state_of next) rest = rw here refl in
+    let one : all_accepted flows (count_of old) (state_of now) (item ∷ rest) ≡ all_accepted flows (count_of old) (state_of next) rest =
+    ap (option_and_then (λ p. all_accepted flows (count_of old) p rest)) here in
     record {
       same = sym one ∙ so_far.same;
       sound = sound;
@@ -46,7 +48,7 @@ pub one_refused : (flows : Flows) (old now : PartState) (all rest : List Item) (
     → accepted flows (count_of now) (state_of now) item ≡ None → all_accepted flows (count_of old) (state_of old) all ≡ None
 one_refused flows old now all rest item so_far is =
     let here : accepted flows (count_of old) (state_of now) item ≡ None = subst (λ (n : ℕ). accepted flows n (state_of now) item ≡ None) so_far.count is in
-    let one : all_accepted flows (count_of old) (state_of now) (item ∷ rest) ≡ None = rw here refl in
+    let one : all_accepted flows (count_of old) (state_of now) (item ∷ rest) ≡ None = ap (option_and_then (λ p. all_accepted flows (count_of old) p rest)) here in
     sym so_far.same ∙ one
 
 pub all_applied : (flows : Flows) (old now : PartState) (all : List Item) → HasApplied flows old now all [] → Makes (Some now) old (all_accepted flows (count_of old) (state_of old) all)

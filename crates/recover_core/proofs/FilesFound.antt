@@ -93,12 +93,11 @@ is_one n m is = grind (arith, nat_tests)
 pub is_other : (n m : ℕ) → n ≢ m → (n == m) ≡ false
 is_other n m other = elim (cases_Bool (n == m)) [ inl is ↦ absurd (other (eqb-true n m is)) | inr apart ↦ apart ]
 
-pub shape_fault : (digest file : ℕ) (kept : Kept) (h : Header) (entries : List Entry) (gate : ℕ) → kept ≡ keeps h entries gate → h.partitions ≢ 1 → fault_of (alone_with digest) file kept ≡ Some (other_shape h.partitions)
-shape_fault digest file kept h entries gate is other = ap (fault_of (alone_with digest) file) is ∙ rw (is_other h.partitions 1 other) refl
+pub shape_fault : (digest file : ℕ) (h : Header) (entries : List Entry) (gate : ℕ) → h.partitions ≢ 1 → fault_of (alone_with digest) file (keeps h entries gate) ≡ Some (other_shape h.partitions)
+shape_fault digest file h entries gate other = rw (is_other h.partitions 1 other) refl
 
-pub flows_fault : (digest file : ℕ) (kept : Kept) (h : Header) (entries : List Entry) (gate : ℕ) → kept ≡ keeps h entries gate → h.partitions ≡ 1 → h.digest ≢ digest
-    → fault_of (alone_with digest) file kept ≡ Some (other_flows h.digest)
-flows_fault digest file kept h entries gate is alone other = ap (fault_of (alone_with digest) file) is ∙ rw (is_one h.partitions 1 alone, is_other h.digest digest other) refl
+pub flows_fault : (digest file : ℕ) (h : Header) (entries : List Entry) (gate : ℕ) → h.partitions ≡ 1 → h.digest ≢ digest → fault_of (alone_with digest) file (keeps h entries gate) ≡ Some (other_flows h.digest)
+flows_fault digest file h entries gate alone other = rw (is_one h.partitions 1 alone, is_other h.digest digest other) refl
 
 pub no_fault : (digest file : ℕ) (kept : Kept) (h : Header) (entries : List Entry) (gate : ℕ) → kept ≡ keeps h entries gate → h.partitions ≡ 1 → h.digest ≡ digest → fault_of (alone_with digest) file kept ≡ None
 no_fault digest file kept h entries gate is alone own = ap (fault_of (alone_with digest) file) is ∙ rw (is_one h.partitions 1 alone, is_one h.digest digest own) refl

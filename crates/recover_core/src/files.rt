@@ -1,9 +1,14 @@
 // What one log file of the partition holds.
-ghost use Rattle.std.specs.Prelude.{◌≡◌, ◌⊎◌, ◌≤◌, ◌∷◌, Err, OnOk};
+ghost use Rattle.std.specs.Prelude.{◌≡◌, ◌⊎◌, ◌≤◌, ◌∷◌, ℕ, List, Err, OnOk, IfErr};
 ghost use Rattle.site_model.specs.History.{on, synced};
 ghost use Rattle.site_model.specs.Calls.{HasRisen};
 ghost use Rattle.flow_syntax.specs.Views.{flows_of};
+ghost use Rattle.dura_value.specs.Items.{Entry};
+ghost use Rattle.part_files.specs.Kept.{keeps};
+ghost use Rattle.part_files.specs.Logs.{fault_of};
+ghost use Rattle.part_files.specs.Stands.{alone_with};
 ghost use Rattle.recover_core.specs.Files.{SaysFile, SaysFits};
+ghost use Rattle.recover_core.specs.Refusals.{Refuses};
 
 use crate::error::RecoverError;
 use crate::progress::Placing;
@@ -73,8 +78,29 @@ fn read_file<V: Site>(
     }))
 }
 
+/// Refuses a log of another number of partitions or of other flows, in this order.
+#[tactic(auto, using(crate::proofs::FilesFound::shape_fault, crate::proofs::FilesFound::flows_fault))]
+fn fit(header: Header, digest: u64) -> Result<(), RecoverError>
+    ensures fits { OnOk result ((header.partitions ≡ 1) × (header.digest ≡ digest)) }
+    ensures refused { (file : ℕ) (entries : List Entry) (gate : ℕ) → IfErr result (λ error. Refuses digest error (fault_of (alone_with digest) file (keeps header entries gate))) }
+    ensures no_fault { result ≡ Err RecoverError.SiteFault → ⊥ }
+{
+    if header.partitions != PARTITIONS {
+        return Err(RecoverError::OtherShape {
+            found: header.partitions,
+            asked: PARTITIONS,
+        });
+    }
+    if header.digest != digest {
+        return Err(RecoverError::OtherFlows {
+            found: header.digest,
+            given: digest,
+        });
+    }
+    Ok(())
+}
+
 /// Refuses a file that is damaged, of another number of partitions or of other flows, in this order.
-#[tactic(auto, using(crate::proofs::FilesFound::damaged_fault, crate::proofs::FilesFound::shape_fault, crate::proofs::FilesFound::flows_fault))]
 pub(crate) fn open_file<V: Site>(
     alloc: Global,
     site: &mut V,
@@ -97,17 +123,6 @@ pub(crate) fn open_file<V: Site>(
         Err(FrameError::SiteFault) => return Err(RecoverError::SiteFault),
         Err(FrameError::Memory) => return Err(RecoverError::Memory),
     };
-    if found.header.partitions != PARTITIONS {
-        return Err(RecoverError::OtherShape {
-            found: found.header.partitions,
-            asked: PARTITIONS,
-        });
-    }
-    if found.header.digest != digest {
-        return Err(RecoverError::OtherFlows {
-            found: found.header.digest,
-            given: digest,
-        });
-    }
+    fit(found.header, digest)?;
     Ok(LogFile::Log(found))
 }

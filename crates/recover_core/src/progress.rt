@@ -1,8 +1,6 @@
 // How far the entries of a log were placed.
 ghost use Rattle.std.specs.Prelude.{◌≡◌, []};
 ghost use Rattle.dura_model.specs.Partition.{fresh};
-ghost use Rattle.part_items.specs.Plain.{next_of};
-ghost use Rattle.part_items.specs.Numbered as numbered;
 ghost use Rattle.flow_syntax.specs.Syntax.{Flows};
 ghost use Rattle.recover_core.specs.Progress.{IsReady, IsProgress, position_in};
 
