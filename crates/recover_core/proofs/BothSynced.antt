@@ -21,7 +21,9 @@ module _ (old mid new : List Step) (first : mid ≡ on 16 synced ∷ old) (syncs
   first_still = ap reads first_changes ∙ ap (content_of 16) first
 
   pub second_content : content_of 17 new ≡ content_of 17 old
-  second_content = elim syncs [ inl is ↦ ap (content_of 17) is | inr is ↦ ap (content_of 17) is ] ∙ ap (content_of 17) first
+  second_content =
+      let here : content_of 17 new ≡ content_of 17 mid = elim syncs [ inl is ↦ ap (content_of 17) is | inr is ↦ ap (content_of 17) is ] in
+      here ∙ ap (content_of 17) first
 
   pub only_both : OnlySyncs old new
   only_both = elim syncs [ inl is ↦ inr (inr (is ∙ ap (λ (s : List Step). on 17 synced ∷ s) first)) | inr is ↦ inr (inl (is ∙ first)) ]

@@ -21,7 +21,7 @@ returns-in-Err-clause-reads g c tells size_is payloads entries has =
     gate_refused (flows_of c.args.flows.now) content reader.header payloads entries reader.gate c.args.reading.progress has reader c.in-Err.error refl (c.in-Err.ensures.found tells size_is payloads has.read)
 
 pub place_frame-requires : goal.place_frame-requires
-place_frame-requires c =
+place_frame-requires g c =
     let place = rw c.in-Ok-Frame.field-0-is at c.in-Ok-Frame.ensures.place in
     let further = place.3 in
     let below = c.in-Ok-Frame.behind.below in
