@@ -1,0 +1,4 @@
+pub mod Moments
+pub mod Origin
+pub mod Runs
+pub mod Trail
