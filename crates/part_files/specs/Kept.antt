@@ -34,6 +34,10 @@ entries_from (suc most) gate next bytes = at_gate gate (found_at gate bytes) (λ
     entries_from most (gate + 5 + length payload) (behind_all next entries) (drop (5 + length payload) bytes) >>= λ more.
     Ok (entries ++ more.0, more.1))
 
+-- what is kept from the gate at this offset of a file on, numbered from here
+abbrev pub left_from : List ℕ → (gate : ℕ) → Next → Result (List Entry × ℕ) ℕ
+left_from content gate next = entries_from (suc (length content)) gate next (drop gate content)
+
 abbrev pub kept_under : Header → Result (List Entry × ℕ) ℕ → Kept
 kept_under header (Ok found) = keeps header found.0 found.1
 kept_under header (Err offset) = broken offset
@@ -45,7 +49,7 @@ first_of header = record { position = header.base; incarnation = 0 }
 abbrev pub kept_from : List ℕ → Opening → Kept
 kept_from bytes logs.fresh = nothing
 kept_from bytes (logs.damaged offset) = broken offset
-kept_from bytes (headed header) = kept_under header (entries_from (suc (length bytes)) first_gate (first_of header) (drop first_gate bytes))
+kept_from bytes (headed header) = kept_under header (left_from bytes first_gate (first_of header))
 
 abbrev pub kept_in : (partition : ℕ) → List ℕ → Kept
 kept_in partition bytes = kept_from bytes (opening_of partition bytes)

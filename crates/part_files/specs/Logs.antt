@@ -1,5 +1,5 @@
 -- Which log a partition has in its two log files.
-use Rattle.std.specs.Prelude.{ℕ, ◌+◌, ◌*◌, ◌==◌, Bool, true, false, not, if◌then◌else◌, List, [], Option, Some, None}
+use Rattle.std.specs.Prelude.{ℕ, ◌+◌, ◌*◌, ◌==◌, not, if◌then◌else◌, List, [], Option, Some, None}
 use Rattle.dura_value.specs.Items.{Entry}
 use Rattle.part_files.specs.Kept.{Kept, nothing, broken, keeps, kept_in}
 

@@ -7,6 +7,11 @@ use Rattle.flow_syntax.specs.Syntax.{Flows}
 use Rattle.dura_model.specs.Partition.{Partition, enter, accepted, label_in}
 use Rattle.dura_model.specs.Placed.{IsGiven}
 use Rattle.dura_model.specs.Steps.{Label}
+use Rattle.part_items.specs.Numbered.{Next}
+
+-- where a partition's log goes on
+abbrev pub state_next : Partition → Next
+state_next p = record { position = p.position; incarnation = p.incarnation }
 
 -- the state that items make one after another, if each is accepted
 abbrev pub all_accepted : Flows → (count : ℕ) → Partition → List Item → Option Partition
