@@ -44,18 +44,26 @@ module _ (MayFollow : List Settled → List Said → ℕ → List Entry → Type
     pub gate : WroteGate changes
     pub keeps : Keeps log (of_part partition trail ++ going) image
 
-  -- Once this is settled: what was said are whole lines, and no more than a part of one further; a crash leaves of each log the
-  -- entries that it had and those settled, or one frame more; and nothing happened to any other file.
-  pub record Stands (o : Origin) (steps : List Step) (trail : List Settled) : Type 0 where
-    pub told : List Said
+  -- what a crash leaves of a partition's log: the entries that it had and those settled, or one frame more
+  abbrev pub LeavesLog : Log → ℕ → List Settled → List Said → List Change → List ℕ → Type 0
+  LeavesLog log partition trail told changes image = Keeps log (of_part partition trail) image ⊎ KeepsNext log partition trail told changes image
+
+  -- Once this is settled and said: what stands on the tape are whole lines and then this part of one, a crash leaves of each log
+  -- what it may, and nothing happened to any other file.
+  pub record StandsWith (o : Origin) (steps : List Step) (trail : List Settled) (told : List Said) (part : List ℕ) : Type 0 where
     pub lines : List ℕ
     pub rightly : Told trail told lines
-    pub part : List ℕ
     pub spoken : tape steps ≡ tape o.steps ++ lines ++ part
-    pub speaking : (part ≡ []) ⊎ SaysNext trail told steps part
     pub images : (partition : ℕ) → partition < o.count → (image : List ℕ) → Leaves (changes_of (o.logs partition).file steps) image
-        → Keeps (o.logs partition) (of_part partition trail) image ⊎ KeepsNext (o.logs partition) partition trail told (changes_of (o.logs partition).file steps) image
+        → LeavesLog (o.logs partition) partition trail told (changes_of (o.logs partition).file steps) image
     pub others : (file : ℕ) → IsNoLog o file → changes_of file steps ≡ changes_of file o.steps
+
+  -- Once this is settled it stands so with something that was said, and no more than a part of one further line.
+  pub record Stands (o : Origin) (steps : List Step) (trail : List Settled) : Type 0 where
+    pub told : List Said
+    pub part : List ℕ
+    pub stands : StandsWith o steps trail told part
+    pub speaking : (part ≡ []) ⊎ SaysNext trail told steps part
 
   -- at each moment from the beginning to now, with what is settled by then
   abbrev pub AtEveryMoment : Origin → List Step → List Settled → Type 0

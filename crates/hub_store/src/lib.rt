@@ -1,2 +1,15 @@
 //! The store: what owns the files and the tape while a call commits and says.
+//!
+//! It owns the site, what was settled, how far the frame of each partition has come, which requests' answers were said, and
+//! whether a device call failed. Each method makes one device call.
 #![tactic(auto)]
+
+mod start;
+mod store;
+mod trail;
+mod way;
+
+pub use start::Start;
+pub use store::Store;
+pub use trail::{Said, Settled};
+pub use way::Stage;
