@@ -1,3 +1,4 @@
+pub mod Changes
 pub mod Decoded
 pub mod Moments
 pub mod Origin

@@ -1,6 +1,6 @@
 -- How far the frame of each partition has come.
 use Rattle.std.specs.Prelude.{◌≡◌, ℕ, ◌<◌, List, [], ◌∷◌, ◌++◌, length, Option, Some, None, Ok, slice_index_or}
-use Rattle.site_model.specs.History.{Change}
+use Rattle.site_model.specs.History.{Change, wrote}
 use Rattle.commit_log.specs.declared.header.Header.{Header}
 use Rattle.commit_log.specs.Segment.{first_gate}
 use Rattle.commit_log.specs.States.{IsResting, IsBodied, IsSynced, IsGated, IsBroken}
@@ -13,7 +13,6 @@ use Rattle.hub_store.specs.declared.way.Way.TheVariants.{Resting, Bodied, Synced
 use Rattle.hub_store.specs.declared.way.Stage.{Stage}
 use Rattle.hub_store.specs.declared.way.Stage.TheVariants as stages
 use Rattle.hub_store.specs.Decoded.{decoded}
-use Rattle.hub_store.specs.Moments.{WroteGate}
 use Rattle.hub_store.specs.Origin.{Log}
 
 -- the call that the frame has come to
@@ -47,12 +46,16 @@ due_in Away = 0
 abbrev pub way_of : List Way → ℕ → Way
 way_of ways partition = slice_index_or ways partition Away
 
+-- the last change of the file was a write of the byte at this gate
+abbrev pub JustWrote : ℕ → List Change → Type 0
+JustWrote gate changes = (bytes : List ℕ) × (before : List Change) × (changes ≡ wrote gate 1 bytes ∷ before)
+
 -- how the file stands, where these payloads are settled in it
 abbrev pub WayFits : (file : ℕ) → Header → List (List ℕ) → List Change → Way → Type 0
 WayFits file h payloads changes (Resting log) = (log.file ≡ file) × IsResting changes h payloads log.gate
 WayFits file h payloads changes (Bodied log frame) = (log.file ≡ file) × IsBodied changes h payloads (spell_frame (entries_of frame)) log.gate log.next
 WayFits file h payloads changes (Synced log frame) = (log.file ≡ file) × IsSynced changes h payloads (spell_frame (entries_of frame)) log.gate log.next
-WayFits file h payloads changes (Gated log frame) = (log.file ≡ file) × IsGated changes h payloads (spell_frame (entries_of frame)) log.gate log.next × WroteGate changes
+WayFits file h payloads changes (Gated log frame) = (log.file ≡ file) × IsGated changes h payloads (spell_frame (entries_of frame)) log.gate log.next × JustWrote log.gate changes
 WayFits file h payloads changes (Broken log frame) = (log.file ≡ file) × IsBroken changes h payloads (spell_frame (entries_of frame)) log.gate log.next
 WayFits file h payloads changes Away = ⊥
 

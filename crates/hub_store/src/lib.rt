@@ -4,12 +4,19 @@
 //! whether a device call failed. Each method makes one device call.
 #![tactic(auto)]
 
+mod end;
+mod gate;
+mod refusal;
+mod say;
 mod start;
 mod store;
+mod sync;
 mod trail;
 mod way;
 
+pub use end::Ended;
+pub use refusal::{Refusal, SayError};
 pub use start::Start;
 pub use store::Store;
-pub use trail::{Said, Settled};
+pub use trail::{Said, Settled, Trail};
 pub use way::Stage;

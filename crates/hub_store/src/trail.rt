@@ -1,7 +1,11 @@
 //! What a call settled and said.
 
+ghost use Rattle.std.specs.Prelude.{◌≡◌};
+ghost use Rattle.hub_store.specs.Plain.{trail_of};
+
 use dura_value::Name;
 use part_items::Items;
+use std::marker::Model;
 
 /// An entry that was settled.
 #[derive(Debug, Drop)]
@@ -25,4 +29,36 @@ pub struct Said {
     pub client: Name,
     /// Its number.
     pub number: u32,
+}
+
+/// What was settled, the first first. A contract sees it as a list.
+#[derive(Debug, Drop)]
+pub struct Trail {
+    entries: Vec<Settled>,
+}
+
+impl Model for Trail {
+    ghost use Rattle.std.specs.Prelude.{List};
+    ghost use Rattle.hub_store.specs.Trail as plain;
+    ghost use Rattle.hub_store.specs.Plain.{trail_of};
+
+    ghost Value = { List plain.Settled };
+
+    ghost view = { λ t. trail_of t.entries.items };
+}
+
+impl Trail {
+    /// A trail of these.
+    pub(crate) fn of(entries: Vec<Settled>) -> Trail
+        ensures { result ≡ trail_of entries.items }
+    {
+        Trail { entries }
+    }
+
+    /// The entries, where they lie.
+    pub fn as_slice(&self) -> &[Settled]
+        ensures { trail_of result.now ≡ self.now }
+    {
+        &self.entries
+    }
 }
