@@ -1,5 +1,5 @@
 -- What each device call leaves of the log that it is made on.
-use Rattle.std.proofs.Common.{◌≡◌, ◌⊎◌, inl, inr, ℕ, ◌<◌, List, [], ◌∷◌, ◌++◌, Result, Some, Ok, refl, sym, ◌∙◌, ap, subst, append_assoc}
+use Rattle.std.proofs.Common.{◌≡◌, ◌⊎◌, inl, inr, ℕ, ◌<◌, List, [], ◌∷◌, ◌++◌, Result, Some, None, Ok, refl, sym, ◌∙◌, ap, subst, append_assoc}
 use Rattle.site_model.specs.History.{Change, wrote, synced, Step, on, changes_of, Leaves}
 use Rattle.site_model.specs.Calls.{Syncs}
 use Rattle.site_model.specs.Moments.{Always, Keeps, LeavesOnly}
@@ -8,12 +8,16 @@ use Rattle.commit_log.specs.declared.header.Header.{Header}
 use Rattle.commit_log.specs.declared.states.Bodied.{Bodied}
 use Rattle.commit_log.specs.declared.states.Synced.{Synced}
 use Rattle.commit_log.specs.declared.states.Gated.{Gated}
+use Rattle.commit_log.specs.declared.states.Resting.{Resting}
+use Rattle.commit_log.specs.declared.states.Broken.{Broken}
+use Rattle.commit_log.specs.Outcomes.{RestsAs, BreaksAs}
 use Rattle.commit_log.specs.Segment.{first_gate}
-use Rattle.commit_log.specs.States.{IsResting, IsBodied, IsSynced, IsSyncedThere, IsGated, HasFrames, HasFramesOrOneMore}
+use Rattle.commit_log.specs.States.{Rests, IsResting, IsBroken, IsBodied, IsSynced, IsSyncedThere, IsGated, HasFrames, HasFramesOrOneMore}
 use Rattle.commit_log.proofs.Steps.{synced_images}
 use Rattle.dura_value.specs.Items.{Entry}
 use Rattle.part_items.specs.declared.frames.Entry as rows
 use Rattle.part_items.specs.Plain.{entries_of}
+use Rattle.part_items.specs.Numbered.{behind_all, next_frame_in}
 use Rattle.part_items.specs.Spelling.{spell_frame}
 use Rattle.part_files.specs.Kept.{first_of}
 use Rattle.hub_store.specs.declared.way.Way.{Way}
@@ -24,7 +28,7 @@ use Rattle.hub_store.specs.Moments.{WroteGate, LeavesLog}
 use Rattle.hub_store.specs.Origin.{Log, Origin}
 use Rattle.hub_store.specs.Trail.{Settled, Said, of_part}
 use Rattle.hub_store.specs.Ways.{LogFits, WayFits, GoesOn, JustWrote, going_in}
-use Rattle.hub_store.proofs.Payloads.{kept_payloads}
+use Rattle.hub_store.proofs.Payloads.{kept_payloads, decoded_more}
 use Rattle.hub_store.proofs.Standing.{OnLog, one_step}
 
 -- a frame stands there, safe behind its gate
@@ -35,6 +39,15 @@ synced_there o p log frame trail steps fits = (
   fits.payloads,
   spell_frame (entries_of frame),
   subst (λ (f : ℕ). IsSynced (changes_of f steps) (o.logs p).header fits.payloads (spell_frame (entries_of frame)) log.gate log.next) (sym fits.fits.0) fits.fits.1,
+)
+
+-- a log rests there
+pub resting_there : (o : Origin) (p : ℕ) (log : Resting) (trail : List Settled) (steps : List Step) → LogFits (o.logs p) (of_part p trail) (changes_of (o.logs p).file steps) (ways.Resting log)
+    → Rests (changes_of log.file steps) log.gate
+resting_there o p log trail steps fits = (
+  (o.logs p).header,
+  fits.payloads,
+  subst (λ (f : ℕ). IsResting (changes_of f steps) (o.logs p).header fits.payloads log.gate) (sym fits.fits.0) fits.fits.1,
 )
 
 module _ (MayFollow : List Settled → List Said → ℕ → List Entry → Type 0) (MaySay : List Settled → List Said → Said → List ℕ → Type 0) (o : Origin) where
@@ -141,3 +154,58 @@ module _ (MayFollow : List Settled → List Said → ℕ → List Entry → Type
       (either_frames p trail told (entries_of frame) old old fits.payloads log.gate log.next fits.kept fits.next follows (log.gate, wrote_is.0, wrote_is.1, inl wrote_is.2) (first path))
       (λ is. either_frames p trail told (entries_of frame) old new fits.payloads log.gate log.next fits.kept fits.next follows
           (log.gate, wrote_is.0, wrote_is.1, inr (ap (changes_of file) is ∙ own_change file synced old ∙ ap (λ (changes : List Change). synced ∷ changes) wrote_is.2)) (last path))
+
+  -- behind it the log rests with the new frame
+  pub settle_rests : (p : ℕ) (log : Gated) (frame : List rows.Entry) (trail : List Settled) (old new : List Step) (now : Resting) → now.file ≡ log.file
+      → ((h : Header) (payloads : List (List ℕ)) (payload : List ℕ) → IsGated (changes_of log.file old) h payloads payload log.gate log.next → RestsAs new h (payloads ++ payload ∷ []) now)
+      → (fits : LogFits (o.logs p) (of_part p trail) (changes_of (o.logs p).file old) (ways.Gated log frame))
+      → (now.file ≡ (o.logs p).file) × IsResting (changes_of (o.logs p).file new) (o.logs p).header (fits.payloads ++ spell_frame (entries_of frame) ∷ []) now.gate
+  settle_rests p log frame trail old new now same after fits =
+      let h = (o.logs p).header in
+      let payload = spell_frame (entries_of frame) in
+      let is : now.file ≡ (o.logs p).file = same ∙ fits.fits.0 in (
+        is,
+        subst (λ (f : ℕ). IsResting (changes_of f new) h (fits.payloads ++ payload ∷ []) now.gate) is
+        (after h fits.payloads payload (subst (λ (f : ℕ). IsGated (changes_of f old) h fits.payloads payload log.gate log.next) (sym fits.fits.0) fits.fits.1)),
+      )
+
+  -- or it failed
+  pub settle_breaks : (p : ℕ) (log : Gated) (frame : List rows.Entry) (trail : List Settled) (old new : List Step) (now : Broken) → now.file ≡ log.file
+      → ((h : Header) (payloads : List (List ℕ)) (payload : List ℕ) → IsGated (changes_of log.file old) h payloads payload log.gate log.next → BreaksAs new h payloads payload now)
+      → LogFits (o.logs p) (of_part p trail) (changes_of (o.logs p).file old) (ways.Gated log frame) → LogFits (o.logs p) (of_part p trail) (changes_of (o.logs p).file new) (ways.Broken now frame)
+  settle_breaks p log frame trail old new now same after fits =
+      let h = (o.logs p).header in
+      let payload = spell_frame (entries_of frame) in
+      let is : now.file ≡ (o.logs p).file = same ∙ fits.fits.0 in
+      fits_on p trail old new (ways.Gated log frame) (ways.Broken now frame) fits refl (
+        is,
+        subst (λ (f : ℕ). IsBroken (changes_of f new) h fits.payloads payload now.gate now.next) is
+        (after h fits.payloads payload (subst (λ (f : ℕ). IsGated (changes_of f old) h fits.payloads payload log.gate log.next) (sym fits.fits.0) fits.fits.1)),
+      )
+
+  -- a frame is written, or nothing happened
+  pub body_goes : (p : ℕ) (log : Resting) (frame : List rows.Entry) (trail : List Settled) (told : List Said) (old new : List Step) (way : Way)
+      → ((h : Header) (payloads : List (List ℕ)) → IsResting (changes_of log.file old) h payloads log.gate → LeavesOnly log.file old new (HasFrames h payloads log.gate))
+      → ((h : Header) (payloads : List (List ℕ)) → IsResting (changes_of log.file old) h payloads log.gate → WayFits log.file h payloads (changes_of log.file new) way)
+      → (going_in way ≡ None) ⊎ (going_in way ≡ Some (entries_of frame))
+      → next_frame_in (behind_all (first_of (o.logs p).header) ((o.logs p).entries ++ of_part p trail)) (spell_frame (entries_of frame)) ≡ Ok (entries_of frame)
+      → LogFits (o.logs p) (of_part p trail) (changes_of (o.logs p).file old) (ways.Resting log)
+      → Always (OnLog MayFollow MaySay o p trail told old) old new × LogFits (o.logs p) (of_part p trail) (changes_of (o.logs p).file new) way
+  body_goes p log frame trail told old new way during after going again fits =
+      let h = (o.logs p).header in
+      let before = (o.logs p).entries ++ of_part p trail in
+      let path : LeavesOnly (o.logs p).file old new (HasFrames h fits.payloads log.gate) =
+      subst (λ (f : ℕ). IsResting (changes_of f old) h fits.payloads log.gate → LeavesOnly f old new (HasFrames h fits.payloads log.gate)) fits.fits.0 (during h fits.payloads) fits.fits.1 in
+      let stands : WayFits (o.logs p).file h fits.payloads (changes_of (o.logs p).file new) way =
+      subst (λ (f : ℕ). IsResting (changes_of f old) h fits.payloads log.gate → WayFits f h fits.payloads (changes_of f new) way) fits.fits.0 (after h fits.payloads) fits.fits.1 in (
+        weaker (λ steps kept. without p trail told old steps fits.payloads log.gate fits.kept kept) path,
+        record {
+          payloads = fits.payloads;
+          kept = fits.kept;
+          next = elim going [
+            | inl none ↦ subst (GoesOn h fits.payloads before) (sym none) tt
+            | inr some ↦ subst (GoesOn h fits.payloads before) (sym some) (decoded_more first_gate (first_of h) fits.payloads before (entries_of frame) (spell_frame (entries_of frame)) fits.kept again)
+          ];
+          fits = stands;
+        },
+      )

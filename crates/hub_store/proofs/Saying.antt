@@ -49,8 +49,7 @@ says_no_file line old new result call file = ap (changes_of file) call.steps ∙
 behind : (base lines part : List ℕ) → (base ++ lines ++ []) ++ part ≡ base ++ lines ++ part
 behind base lines part = ap (λ (l : List ℕ). l ++ part) (append-nil (base ++ lines))
 
-module _ (MayFollow : List Settled → List Said → ℕ → List Entry → Type 0) (MaySay : List Settled → List Said → Said → List ℕ → Type 0) (o : Origin)
-  (still : (trail more : List Settled) (told also : List Said) (partition : ℕ) (going : List Entry) → of_part partition more ≡ [] → MayFollow trail told partition going → MayFollow (trail ++ more) (told ++ also) partition going) where
+module _ (MayFollow : List Settled → List Said → ℕ → List Entry → Type 0) (MaySay : List Settled → List Said → Said → List ℕ → Type 0) (o : Origin) (still : (trail more : List Settled) (told also : List Said) (partition : ℕ) (going : List Entry) → of_part partition more ≡ [] → MayFollow trail told partition going → MayFollow (trail ++ more) (told ++ also) partition going) where
   -- while the line is being said
   stands_saying : (trail : List Settled) (told : List Said) (one : Said) (line : List ℕ) (old steps : List Step) → MaySay trail told one line → StandsWith MayFollow MaySay o old trail told []
       → SaysPart line old steps → Stands MayFollow MaySay o steps trail

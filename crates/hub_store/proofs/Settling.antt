@@ -62,8 +62,7 @@ all_at : (p at : ℕ) (going : List Entry) → AllByRecursion (λ one. one.at �
 all_at p at [] = tt
 all_at p at (entry ∷ going) = (refl, all_at p at going)
 
-module _ (MayFollow : List Settled → List Said → ℕ → List Entry → Type 0) (MaySay : List Settled → List Said → Said → List ℕ → Type 0) (o : Origin)
-  (still : (trail more : List Settled) (told also : List Said) (partition : ℕ) (going : List Entry) → of_part partition more ≡ [] → MayFollow trail told partition going → MayFollow (trail ++ more) (told ++ also) partition going) where
+module _ (MayFollow : List Settled → List Said → ℕ → List Entry → Type 0) (MaySay : List Settled → List Said → Said → List ℕ → Type 0) (o : Origin) (still : (trail more : List Settled) (told also : List Said) (partition : ℕ) (going : List Entry) → of_part partition more ≡ [] → MayFollow trail told partition going → MayFollow (trail ++ more) (told ++ also) partition going) where
   -- another partition's log, once more was settled
   log_more : (q : ℕ) (trail more : List Settled) (told : List Said) (changes : List Change) (image : List ℕ) → of_part q more ≡ [] → LeavesLog MayFollow MaySay (o.logs q) q trail told changes image
       → LeavesLog MayFollow MaySay (o.logs q) q (trail ++ more) told changes image
@@ -110,7 +109,7 @@ module _ (MayFollow : List Settled → List Said → ℕ → List Entry → Type
       record {
         runs = runs.settles more
             (runs_along stood.runs path (λ steps here. record { told = told; part = []; stands = stands_on MayFollow MaySay o p trail told old steps apart below before here; speaking = inl refl }))
-            (subst (λ (n : ℕ). All (λ one. one.at ≡ n) more) at_is (All-from_recursion (λ one. one.at ≡ at) more (all_at p at going)))
+            (subst (λ (n : ℕ). All (λ (one : Settled). one.at ≡ n) more) at_is (All-from_recursion (λ (one : Settled). one.at ≡ at) more (all_at p at going)))
             (record { told = told; part = []; stands = stands; speaking = inl refl });
         logs = λ q inside. elim (cases_eq q p) [
           | inl is ↦ subst (λ (r : ℕ). LogFits (o.logs r) (of_part r (trail ++ more)) (changes_of (o.logs r).file new) (way_of (set ways p (places.Resting log)) r)) (sym is)

@@ -1,9 +1,9 @@
 -- What a call changes of a store.
-use Rattle.std.specs.Prelude.{◌≡◌, ◌≢◌, ℕ, ◌≤◌, Bool, true, false, Option, List}
+use Rattle.std.specs.Prelude.{◌≡◌, ◌≢◌, ℕ, ◌≤◌, Bool, true, false, Option, Some, List, ◌++◌}
 use Rattle.site_model.specs.Calls.{HasRisen}
 use Rattle.site_model.specs.declared.site.Site as sites
 use Rattle.dura_value.specs.Items.{Entry}
-use Rattle.hub_store.specs.Trail.{Settled, Said}
+use Rattle.hub_store.specs.Trail.{Settled, Said, settling}
 use Rattle.hub_store.specs.Plain.{trail_of, told_of}
 use Rattle.hub_store.specs.Ways.{way_of, stage_of, going_in}
 use Rattle.hub_store.specs.declared.start.Start as starts
@@ -38,6 +38,14 @@ module _ {V N : Type 0} {G : sites.Ghosts V} {H : starts.Ghosts N} where
     pub trail : trail_in new ≡ trail_in old
     pub told : told_in new ≡ told_in old
     pub others : KeepsOthers partition old new
+
+-- the frame that was under way was settled at this moment
+pub record Settles (tells : Type 0) (moment partition : ℕ) (going : Option (List Entry)) (old new : List Settled) : Type 0 where
+  pub entries : List Entry
+  pub at : ℕ
+  pub frame : going ≡ Some entries
+  pub now : tells → at ≡ moment
+  pub trail : new ≡ old ++ settling partition at entries
 
 -- the count of the disk's faults rose where the call failed, and only there
 pub record HasHalted (before now : ℕ) (halted : Bool) : Type 0 where

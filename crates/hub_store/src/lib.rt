@@ -8,6 +8,7 @@ mod end;
 mod gate;
 mod refusal;
 mod say;
+mod settle;
 mod start;
 mod store;
 mod sync;

@@ -1,6 +1,6 @@
 //! Saying an answer.
 
-ghost use Rattle.std.specs.Prelude.{◌≡◌, ◌<◌, ◌++◌, [], ◌∷◌, false, length, Err, OnOk, OnErr};
+ghost use Rattle.std.specs.Prelude.{◌≡◌, ◌<◌, ◌++◌, [], ◌∷◌, false, length, Err, IfOk, OnOk, OnErr};
 ghost use Rattle.hub_store.specs.Changes.{trail_in, told_in, asked, HasHalted};
 ghost use Rattle.hub_store.specs.Sound.{IsSound};
 
@@ -10,6 +10,14 @@ use crate::store::Store;
 use crate::trail::Said;
 use dura_value::Name;
 use site_model::Site;
+use std::alloc::AllocError;
+
+/// A copy with memory of its own.
+fn copy_of(name: &Name) -> Result<Name, AllocError>
+    ensures { IfOk result (λ copy. copy ≡ name.now) }
+{
+    name.clone()
+}
 
 impl<V: Site, N: Start> Store<V, N> {
     /// Says a line, which isn't empty, as the answer to a request.
@@ -34,7 +42,7 @@ impl<V: Site, N: Start> Store<V, N> {
         ensures halted { HasHalted (V.say_faults self.old.site) (V.say_faults self.new.site) self.new.halted }
         ensures disk_faults { V.disk_faults self.new.site ≡ V.disk_faults self.old.site }
     {
-        let client = match client.clone() {
+        let client = match copy_of(client) {
             Ok(client) => client,
             Err(_) => return Err(SayError::Memory),
         };

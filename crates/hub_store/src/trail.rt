@@ -1,10 +1,13 @@
 //! What a call settled and said.
 
-ghost use Rattle.std.specs.Prelude.{◌≡◌};
+ghost use Rattle.std.specs.Prelude.{◌≡◌, ◌+◌, ◌≤◌, ◌++◌, length};
+ghost use Rattle.std.specs.Vec.{vec_len, vec_capacity};
+ghost use Rattle.part_items.specs.Plain.{entries_of};
 ghost use Rattle.hub_store.specs.Plain.{trail_of};
+ghost use Rattle.hub_store.specs.Trail.{settling};
 
 use dura_value::Name;
-use part_items::Items;
+use part_items::{Frame, Items};
 use std::marker::Model;
 
 /// An entry that was settled.
@@ -60,5 +63,25 @@ impl Trail {
         ensures { trail_of result.now ≡ self.now }
     {
         &self.entries
+    }
+}
+
+/// Puts the entries of a frame behind a trail that has room for them.
+pub(crate) fn settle_entries(trail: &mut Vec<Settled>, partition: u32, at: u64, frame: Frame)
+    requires { vec_len trail.old + length frame ≤ vec_capacity trail.old }
+    ensures trail { trail_of trail.new.items ≡ trail_of trail.old.items ++ settling partition at (entries_of frame) }
+    ensures len { vec_len trail.new ≡ vec_len trail.old + length frame }
+    ensures capacity { vec_capacity trail.new ≡ vec_capacity trail.old }
+{
+    let mut entries = frame.into_entries();
+    while !entries.is_empty() {
+        let entry = entries.remove(0);
+        trail.push_reserved(Settled {
+            partition,
+            position: entry.position,
+            incarnation: entry.incarnation,
+            items: entry.items,
+            at,
+        });
     }
 }

@@ -9,8 +9,8 @@ use Rattle.hub_store.proofs.Standing.{told_on}
 use Rattle.hub_store.proofs.Stores.{put_for, sound_on}
 use Rattle.hub_store.proofs.store.Store.gate.Goals as goal
 
-pub gate_log-requires : goal.gate_log-requires
-gate_log-requires g c tells =
+pub gate_log-way-requires : goal.gate_log-way-requires
+gate_log-way-requires g c tells =
     let o = g.N.Start.origin in
     let p = c.args.part in
     let old = c.args.self.now in
