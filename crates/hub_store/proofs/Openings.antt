@@ -47,21 +47,24 @@ module _ (MayFollow : List Settled → List Said → ℕ → List Entry → Type
   told_begun steps logs many origin begun =
       let fits : (p : ℕ) → p < o.count → LogFits (o.logs p) (of_part p []) (changes_of (o.logs p).file steps) (way_of (map places.Resting logs) p) =
       λ p below.
-          let found = way_at logs p (omega (arith, many, below)) in
-          subst (LogFits (o.logs p) [] (changes_of (o.logs p).file steps)) (sym found.2) (record {
-            payloads = (o.logs p).payloads;
-            kept = origin.kept p below ∙ ap (λ (l : List Entry). Ok l) (sym (append-nil (o.logs p).entries));
-            next = tt;
-            fits = begun.rests p found.0 found.1;
-          }) in
+      let found = way_at logs p (omega (arith, many, below)) in
+      subst (LogFits (o.logs p) [] (changes_of (o.logs p).file steps)) (sym found.2) (record {
+        payloads = (o.logs p).payloads;
+        kept = origin.kept p below ∙ ap (λ (l : List Entry). Ok l) (sym (append-nil (o.logs p).entries));
+        next = tt;
+        fits = begun.rests p found.0 found.1;
+      }) in
       let stands : StandsWith MayFollow MaySay o steps [] [] [] = record {
         lines = [];
         rightly = tolds.silent;
         spoken = ap tape begun.now ∙ sym (append-nil (tape o.steps)) ∙ sym (append-nil (tape o.steps ++ []));
         images = λ p below image left.
             let found = way_at logs p (omega (arith, many, below)) in
-            inl (found.0.gate, kept_payloads (o.logs p).header (o.logs p).payloads found.0.gate ((o.logs p).entries ++ []) image
-            (resting_images (o.logs p).header (o.logs p).payloads found.0.gate (changes_of (o.logs p).file steps) (begun.rests p found.0 found.1).1 image left) (origin.kept p below ∙ ap (λ (l : List Entry). Ok l) (sym (append-nil (o.logs p).entries))));
+            inl (
+              found.0.gate,
+              kept_payloads (o.logs p).header (o.logs p).payloads found.0.gate ((o.logs p).entries ++ []) image
+                  (resting_images (o.logs p).header (o.logs p).payloads found.0.gate (changes_of (o.logs p).file steps) (begun.rests p found.0 found.1).1 image left) (origin.kept p below ∙ ap (λ (l : List Entry). Ok l) (sym (append-nil (o.logs p).entries))),
+            );
         others = λ file none. ap (changes_of file) begun.now;
       } in
       record {

@@ -27,12 +27,7 @@ fn resting_ways(alloc: Global, logs: Vec<Resting>) -> Result<Vec<Way>, AllocErro
 impl<V: Site, N: Start> Store<V, N> {
     /// A store over this site and the logs of its partitions. No log may come to the segment's length. Where memory runs out
     /// the site comes back.
-    pub fn begin(
-        alloc: Global,
-        site: V,
-        logs: Vec<Resting>,
-        segment: u64,
-    ) -> Result<Store<V, N>, V>
+    pub fn begin(alloc: Global, site: V, logs: Vec<Resting>, segment: u64) -> Result<Store<V, N>, V>
         requires short { segment ≤ 2 ^ 31 }
         requires count { length logs.items ≡ N.origin.count }
         requires origin { IsOrigin N.origin }

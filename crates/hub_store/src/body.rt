@@ -74,12 +74,15 @@ fn body_log<V: Site>(
     match log.body(alloc, site, payload, limit) {
         Ok(log) => (Way::Bodied(log, frame), Ok(())),
         Err(BodyError::Full { length, log }) => {
-            (Way::Resting(log), Err(BodyRefusal::Full { partition: part, length }))
+            (
+                Way::Resting(log),
+                Err(BodyRefusal::Full {
+                    partition: part,
+                    length,
+                }),
+            )
         }
-        Err(BodyError::SiteFault(log)) => (
-            Way::Broken(log, frame),
-            Err(BodyRefusal::SiteFault),
-        ),
+        Err(BodyError::SiteFault(log)) => (Way::Broken(log, frame), Err(BodyRefusal::SiteFault)),
         Err(BodyError::Memory(log)) => (Way::Resting(log), Err(BodyRefusal::Memory)),
     }
 }
@@ -115,7 +118,15 @@ impl<V: Site, N: Start> Store<V, N> {
         let Way::Resting(log) = take_way(&mut self.ways, place) else {
             unreachable!()
         };
-        let (way, result) = body_log(alloc, &mut self.site, log, &payload, part, frame, self.segment);
+        let (way, result) = body_log(
+            alloc,
+            &mut self.site,
+            log,
+            &payload,
+            part,
+            frame,
+            self.segment,
+        );
         let more = due(&way);
         self.due += more;
         put_way(&mut self.ways, place, way);

@@ -38,10 +38,10 @@ returns-clause-sound g c =
     sound_any old _ p way trail c.requires.sound c.requires.place (put_for _ _ _ p way c.take_way.ensures.rest c.put_way.ensures) (omega (arith, none_due, c.due-more.ensures))
     (omega (arith, c.due-more.ensures, c.body_log-way.ensures.due, c.in_ok-reserve.ensures.ok, c.in-Some.ensures)) (ap trail_of c.reserve.ensures.items)
     (λ tells.
-        let stood = c.requires.sound.told (c.body_log-way.ensures.told tells) in
-        let fits = subst (λ (w : Way). LogFits (o.logs p) (of_part p trail) (changes_of (o.logs p).file before) w) (sym c.in-Resting.ensures.way) (stood.logs p c.requires.place) in
-        let goes = body_goes g.N.Start.may_follow g.N.Start.may_say o p c.in-Resting.log c.args.frame trail told before now way c.body_log-way.ensures.during c.body_log-way.ensures.fits c.body_log-way.ensures.going (c.requires.behind).again fits in
-        told_on g.N.Start.may_follow g.N.Start.may_say o p before now old.ways.items way trail told old.halted _ c.requires.sound.apart c.requires.sound.count c.requires.place c.requires.going stood goes.0 goes.1)
+    let stood = c.requires.sound.told (c.body_log-way.ensures.told tells) in
+    let fits = subst (λ (w : Way). LogFits (o.logs p) (of_part p trail) (changes_of (o.logs p).file before) w) (sym c.in-Resting.ensures.way) (stood.logs p c.requires.place) in
+    let goes = body_goes g.N.Start.may_follow g.N.Start.may_say o p c.in-Resting.log c.args.frame trail told before now way c.body_log-way.ensures.during c.body_log-way.ensures.fits c.body_log-way.ensures.going (c.requires.behind).again fits in
+    told_on g.N.Start.may_follow g.N.Start.may_say o p before now old.ways.items way trail told old.halted _ c.requires.sound.apart c.requires.sound.count c.requires.place c.requires.going stood goes.0 goes.1)
 
 pub returns-clause-full : goal.returns-clause-full
 returns-clause-full g c long =
