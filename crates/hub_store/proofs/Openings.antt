@@ -22,9 +22,9 @@ use Rattle.hub_store.specs.Origin.{Origin}
 use Rattle.hub_store.specs.Opened.{IsOrigin, HasBegun}
 use Rattle.hub_store.specs.Trail.{Settled, Said, of_part}
 use Rattle.hub_store.specs.Moments.{StandsWith, Stands}
-use Rattle.hub_store.specs.Moments.Told as tolds
+use Rattle.hub_store.specs.Moments.Told.{silent}
 use Rattle.hub_store.specs.Runs.{Runs}
-use Rattle.hub_store.specs.Runs.Runs as runs
+use Rattle.hub_store.specs.Runs.Runs.{starts as run_starts}
 use Rattle.hub_store.specs.Sound.{IsTold, IsSound}
 use Rattle.hub_store.specs.Ways.{LogFits, way_of, due_in}
 use Rattle.hub_store.proofs.Payloads.{kept_payloads}
@@ -56,7 +56,7 @@ module _ (MayFollow : List Settled → List Said → ℕ → List Entry → Type
       }) in
       let stands : StandsWith MayFollow MaySay o steps [] [] [] = record {
         lines = [];
-        rightly = tolds.silent;
+        rightly = silent;
         spoken = ap tape begun.now ∙ sym (append-nil (tape o.steps)) ∙ sym (append-nil (tape o.steps ++ []));
         images = λ p below image left.
             let found = way_at logs p (omega (arith, many, below)) in
@@ -69,7 +69,7 @@ module _ (MayFollow : List Settled → List Said → ℕ → List Entry → Type
       } in
       record {
         runs = subst (λ (now : List Step). Runs (Stands MayFollow MaySay o) o.steps now []) (sym begun.now)
-            (runs.starts (subst (λ (now : List Step). Stands MayFollow MaySay o now []) begun.now (record { told = []; part = []; stands = stands; speaking = inl refl })));
+            (run_starts (subst (λ (now : List Step). Stands MayFollow MaySay o now []) begun.now (record { told = []; part = []; stands = stands; speaking = inl refl })));
         logs = fits;
         rests = λ going. stands;
       }

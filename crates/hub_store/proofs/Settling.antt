@@ -24,9 +24,9 @@ use Rattle.hub_store.specs.Decoded.{decoded}
 use Rattle.hub_store.specs.Origin.{Log, Origin, AreApart}
 use Rattle.hub_store.specs.Trail.{Settled, Said, of_part, settling}
 use Rattle.hub_store.specs.Moments.{LeavesLog, Told, StandsWith, Stands}
-use Rattle.hub_store.specs.Moments.Told as tolds
+use Rattle.hub_store.specs.Moments.Told.{settles as told_settles}
 use Rattle.hub_store.specs.Runs.{Runs}
-use Rattle.hub_store.specs.Runs.Runs as runs
+use Rattle.hub_store.specs.Runs.Runs.{settles as run_settles}
 use Rattle.hub_store.specs.Ways.{LogFits, WayFits, way_of, going_in}
 use Rattle.hub_store.specs.Sound.{IsTold}
 use Rattle.hub_store.proofs.EveryMoment.{runs_along}
@@ -97,7 +97,7 @@ module _ (MayFollow : List Settled → List Said → ℕ → List Entry → Type
       λ image left. inl (log.gate, kept_payloads h (payloads ++ spell_frame going ∷ []) log.gate ((o.logs p).entries ++ of_part p (trail ++ more)) image (resting_images h (payloads ++ spell_frame going ∷ []) log.gate (changes_of file new) rests image left) all) in
       let stands : StandsWith MayFollow MaySay o new (trail ++ more) told [] = record {
         lines = there.lines;
-        rightly = tolds.settles there.rightly more;
+        rightly = told_settles there.rightly more;
         spoken = there.spoken;
         images = λ q inside. elim (cases_eq q p) [
           | inl is ↦ subst (λ (r : ℕ). (image : List ℕ) → Leaves (changes_of (o.logs r).file new) image → LeavesLog MayFollow MaySay (o.logs r) r (trail ++ more) told (changes_of (o.logs r).file new) image) (sym is) image_of
@@ -107,7 +107,7 @@ module _ (MayFollow : List Settled → List Said → ℕ → List Entry → Type
       } in
       let own_fits : LogFits (o.logs p) (of_part p (trail ++ more)) (changes_of file new) (places.Resting log) = record { payloads = payloads ++ spell_frame going ∷ []; kept = all; next = tt; fits = (file_is, rests) } in
       record {
-        runs = runs.settles more
+        runs = run_settles more
             (runs_along stood.runs path (λ steps here. record { told = told; part = []; stands = stands_on MayFollow MaySay o p trail told old steps apart below before here; speaking = inl refl }))
             (subst (λ (n : ℕ). All (λ (one : Settled). one.at ≡ n) more) at_is (All-from_recursion (λ (one : Settled). one.at ≡ at) more (all_at p at going)))
             (record { told = told; part = []; stands = stands; speaking = inl refl });
