@@ -78,7 +78,7 @@ module _ (MayFollow : List Settled → List Said → ℕ → List Entry → Type
             keeps = (
               next,
               kept_payloads (o.logs p).header (payloads ++ spell_frame going ∷ []) next ((o.logs p).entries ++ (of_part p trail ++ going)) image has
-              (more ∙ ap (λ (l : List Entry). Ok l) (append_assoc (o.logs p).entries (of_part p trail) going)),
+                  (more ∙ ap (λ (l : List Entry). Ok l) (append_assoc (o.logs p).entries (of_part p trail) going)),
             );
           })
     ];
@@ -130,8 +130,8 @@ module _ (MayFollow : List Settled → List Said → ℕ → List Entry → Type
       let write = subst (λ (f : ℕ). (new ≡ on f (wrote log.gate 1 bytes) ∷ old) ⊎ (new ≡ old)) fits.fits.0 step in
       let here : Keeps file old (HasFrames h fits.payloads log.gate) old = record { only = only_here file old; images = synced_images h fits.payloads payload log.gate log.next (changes_of file old) fits.fits.1 } in (
         one_step old new (on file (wrote log.gate 1 bytes)) write
-        (without p trail told old old fits.payloads log.gate fits.kept here)
-        (λ is. either_frames p trail told (entries_of frame) old new fits.payloads log.gate log.next fits.kept fits.next follows
+            (without p trail told old old fits.payloads log.gate fits.kept here)
+            (λ is. either_frames p trail told (entries_of frame) old new fits.payloads log.gate log.next fits.kept fits.next follows
             (log.gate, bytes, changes_of file old, inl (ap (changes_of file) is ∙ own_change file (wrote log.gate 1 bytes) old)) (last path)),
         fits_on p trail old new (ways.Synced log frame) way fits going stands,
       )
@@ -153,7 +153,7 @@ module _ (MayFollow : List Settled → List Said → ℕ → List Entry → Type
       one_step old new (on file synced) sync.either
       (either_frames p trail told (entries_of frame) old old fits.payloads log.gate log.next fits.kept fits.next follows (log.gate, wrote_is.0, wrote_is.1, inl wrote_is.2) (first path))
       (λ is. either_frames p trail told (entries_of frame) old new fits.payloads log.gate log.next fits.kept fits.next follows
-          (log.gate, wrote_is.0, wrote_is.1, inr (ap (changes_of file) is ∙ own_change file synced old ∙ ap (λ (changes : List Change). synced ∷ changes) wrote_is.2)) (last path))
+      (log.gate, wrote_is.0, wrote_is.1, inr (ap (changes_of file) is ∙ own_change file synced old ∙ ap (λ (changes : List Change). synced ∷ changes) wrote_is.2)) (last path))
 
   -- behind it the log rests with the new frame
   pub settle_rests : (p : ℕ) (log : Gated) (frame : List rows.Entry) (trail : List Settled) (old new : List Step) (now : Resting) → now.file ≡ log.file
@@ -166,7 +166,7 @@ module _ (MayFollow : List Settled → List Said → ℕ → List Entry → Type
       let is : now.file ≡ (o.logs p).file = same ∙ fits.fits.0 in (
         is,
         subst (λ (f : ℕ). IsResting (changes_of f new) h (fits.payloads ++ payload ∷ []) now.gate) is
-        (after h fits.payloads payload (subst (λ (f : ℕ). IsGated (changes_of f old) h fits.payloads payload log.gate log.next) (sym fits.fits.0) fits.fits.1)),
+            (after h fits.payloads payload (subst (λ (f : ℕ). IsGated (changes_of f old) h fits.payloads payload log.gate log.next) (sym fits.fits.0) fits.fits.1)),
       )
 
   -- or it failed
@@ -180,7 +180,7 @@ module _ (MayFollow : List Settled → List Said → ℕ → List Entry → Type
       fits_on p trail old new (ways.Gated log frame) (ways.Broken now frame) fits refl (
         is,
         subst (λ (f : ℕ). IsBroken (changes_of f new) h fits.payloads payload now.gate now.next) is
-        (after h fits.payloads payload (subst (λ (f : ℕ). IsGated (changes_of f old) h fits.payloads payload log.gate log.next) (sym fits.fits.0) fits.fits.1)),
+            (after h fits.payloads payload (subst (λ (f : ℕ). IsGated (changes_of f old) h fits.payloads payload log.gate log.next) (sym fits.fits.0) fits.fits.1)),
       )
 
   -- a frame is written, or nothing happened

@@ -1,5 +1,7 @@
+pub mod Bodies
 pub mod Calls
 pub mod EveryMoment
+pub mod Openings
 pub mod Payloads
 pub mod Saying
 pub mod Settling

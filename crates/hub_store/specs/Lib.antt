@@ -1,6 +1,8 @@
 pub mod Changes
 pub mod Decoded
+pub mod Frames
 pub mod Moments
+pub mod Opened
 pub mod Origin
 pub mod Plain
 pub mod Runs

@@ -4,6 +4,8 @@
 //! whether a device call failed. Each method makes one device call.
 #![tactic(auto)]
 
+mod begin;
+mod body;
 mod end;
 mod gate;
 mod refusal;
@@ -16,7 +18,7 @@ mod trail;
 mod way;
 
 pub use end::Ended;
-pub use refusal::{Refusal, SayError};
+pub use refusal::{BodyRefusal, Refusal, SayError};
 pub use start::Start;
 pub use store::Store;
 pub use trail::{Said, Settled, Trail};

@@ -21,12 +21,7 @@ fn copy_of(name: &Name) -> Result<Name, AllocError>
 
 impl<V: Site, N: Start> Store<V, N> {
     /// Says a line, which isn't empty, as the answer to a request.
-    pub fn say(
-        &mut self,
-        client: &Name,
-        number: u32,
-        line: &[u8],
-    ) -> Result<(), SayError>
+    pub fn say(&mut self, client: &Name, number: u32, line: &[u8]) -> Result<(), SayError>
         requires sound { IsSound self.old }
         requires going { self.old.halted ≡ false }
         requires some { 0 < length line.now }

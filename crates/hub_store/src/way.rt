@@ -1,7 +1,7 @@
 //! How far the frame of each partition has come.
 
 ghost use Rattle.std.specs.Prelude.{◌≡◌, ◌<◌, length, slice_set};
-ghost use Rattle.hub_store.specs.Ways.{stage_of, way_of};
+ghost use Rattle.hub_store.specs.Ways.{stage_of, way_of, due_in};
 
 use commit_log::{Bodied, Broken, Gated, Resting, Synced};
 use part_items::Frame;
@@ -49,6 +49,19 @@ pub(crate) fn reached(way: &Way) -> Stage
         Way::Synced(_, _) => Stage::Synced,
         Way::Gated(_, _) => Stage::Gated,
         Way::Broken(_, _) | Way::Away => Stage::Broken,
+    }
+}
+
+/// How many entries are in the frame that is under way.
+pub(crate) fn due(way: &Way) -> usize
+    ensures { result ≡ due_in way.now }
+{
+    match way {
+        Way::Bodied(_, frame)
+        | Way::Synced(_, frame)
+        | Way::Gated(_, frame)
+        | Way::Broken(_, frame) => frame.entries().len(),
+        Way::Resting(_) | Way::Away => 0,
     }
 }
 

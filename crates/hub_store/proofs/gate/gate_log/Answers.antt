@@ -26,7 +26,7 @@ returns-in-Ok-clause-fits g c h payloads synced =
         open_gate ∷ [],
         changes_of file old,
         ap (changes_of file) c.in-Ok.ensures.opened ∙ own_change file (wrote c.args.log.gate 1 (open_gate ∷ [])) old
-        ∙ ap (λ (gate : ℕ). wrote gate 1 (open_gate ∷ []) ∷ changes_of file old) (sym place.1),
+            ∙ ap (λ (gate : ℕ). wrote gate 1 (open_gate ∷ []) ∷ changes_of file old) (sym place.1),
       ),
     )
 
@@ -36,5 +36,5 @@ returns-in-Err-clause-fits g c h payloads synced =
     let payload = spell_frame (entries_of c.args.frame) in (
       place.0,
       subst (λ (f : ℕ). IsBroken (changes_of f (g.V.Site.history c.gate.new.site)) h payloads payload c.in-Err.log.gate c.in-Err.log.next) place.0
-      (c.in-Err.ensures.after h payloads payload synced),
+          (c.in-Err.ensures.after h payloads payload synced),
     )

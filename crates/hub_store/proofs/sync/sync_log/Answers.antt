@@ -11,5 +11,5 @@ returns-in-Err-clause-fits g c h payloads bodied =
     let payload = spell_frame (entries_of c.args.frame) in (
       place.0,
       subst (λ (f : ℕ). IsBroken (changes_of f (g.V.Site.history c.sync_body.new.site)) h payloads payload c.in-Err.log.gate c.in-Err.log.next) place.0
-      (c.in-Err.ensures.after h payloads payload bodied),
+          (c.in-Err.ensures.after h payloads payload bodied),
     )
