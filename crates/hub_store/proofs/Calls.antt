@@ -22,7 +22,7 @@ use Rattle.part_items.specs.Spelling.{spell_frame}
 use Rattle.part_files.specs.Kept.{first_of}
 use Rattle.hub_store.specs.declared.way.Way.{Way}
 use Rattle.hub_store.specs.declared.way.Way.TheVariants as ways
-use Rattle.hub_store.specs.Decoded.{decoded}
+use Rattle.part_files.specs.Kept.{decoded}
 use Rattle.hub_store.specs.Moments as moments
 use Rattle.hub_store.specs.Moments.{WroteGate, LeavesLog}
 use Rattle.hub_store.specs.Origin.{Log, Origin}

@@ -17,7 +17,7 @@ use Rattle.hub_store.specs.declared.way.Way.{Way}
 use Rattle.hub_store.specs.Plain.{trail_of, told_of}
 use Rattle.hub_store.specs.declared.way.Way.TheVariants as places
 use Rattle.hub_store.specs.declared.way.Way.TheVariants.{Away}
-use Rattle.hub_store.specs.Decoded.{decoded}
+use Rattle.part_files.specs.Kept.{decoded}
 use Rattle.hub_store.specs.Origin.{Origin}
 use Rattle.hub_store.specs.Opened.{IsOrigin, HasBegun}
 use Rattle.hub_store.specs.Trail.{Settled, Said, of_part}

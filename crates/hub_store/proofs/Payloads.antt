@@ -5,13 +5,14 @@ use Rattle.commit_log.specs.declared.header.Header.{Header}
 use Rattle.commit_log.specs.Segment.{◌>>=◌, segment, reading_of, first_gate}
 use Rattle.dura_value.specs.Items.{Entry}
 use Rattle.part_items.specs.Numbered.{Next, behind, behind_all, next_frame_in}
+use Rattle.part_files.proofs.PayloadsKept.{reading_kept}
 use Rattle.part_files.specs.Kept.{in_file, first_of, keeps, kept_in}
-use Rattle.hub_store.specs.Decoded.{decoded}
+use Rattle.part_files.specs.Kept.{decoded}
 
 -- an image with these payloads keeps their entries
 pub kept_payloads : (h : Header) (payloads : List (List ℕ)) (gate : ℕ) (entries : List Entry) (image : List ℕ) → reading_of image ≡ segment h payloads gate
     → decoded first_gate (first_of h) payloads ≡ Ok entries → kept_in h.partition image ≡ keeps h entries gate
-kept_payloads h payloads gate entries image reads kept = ?
+kept_payloads h payloads gate entries image reads kept = reading_kept h.partition image h payloads gate entries reads refl kept
 
 pub behind_more : (next : Next) (entries more : List Entry) → behind_all (behind_all next entries) more ≡ behind_all next (entries ++ more)
 behind_more next [] more = refl

@@ -20,7 +20,7 @@ use Rattle.part_files.specs.Kept.{first_of}
 use Rattle.hub_store.specs.declared.way.Way.{Way}
 use Rattle.hub_store.specs.declared.way.Way.TheVariants as places
 use Rattle.hub_store.specs.declared.way.Way.TheVariants.{Away}
-use Rattle.hub_store.specs.Decoded.{decoded}
+use Rattle.part_files.specs.Kept.{decoded}
 use Rattle.hub_store.specs.Origin.{Log, Origin, AreApart}
 use Rattle.hub_store.specs.Trail.{Settled, Said, of_part, settling}
 use Rattle.hub_store.specs.Moments.{LeavesLog, Told, StandsWith, Stands}

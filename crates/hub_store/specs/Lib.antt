@@ -1,5 +1,4 @@
 pub mod Changes
-pub mod Decoded
 pub mod Frames
 pub mod Moments
 pub mod Opened

@@ -5,7 +5,7 @@ use Rattle.commit_log.specs.declared.states.Resting.{Resting}
 use Rattle.commit_log.specs.Segment.{first_gate}
 use Rattle.commit_log.specs.States.{IsResting}
 use Rattle.part_files.specs.Kept.{first_of}
-use Rattle.hub_store.specs.Decoded.{decoded}
+use Rattle.part_files.specs.Kept.{decoded}
 use Rattle.hub_store.specs.Origin.{Origin, AreApart}
 
 -- each partition has a log of its own, whose payloads keep its entries
