@@ -28,8 +28,8 @@ loop-entry-preserved c =
     let i = c.loop-entry.entry-index in
     let entry = c.entry-item.result in
     let next = subst (IsNext (next_of c.loop-entry.progress.next)) (rest_is entry_of all i entry c.loop-entry-test.true c.entry-item.is) c.loop-entry.invariant.next in
-    let new = c.in_ok-place_entry.field-0 in
-    let one = c.in_ok-place_entry.ensures in
+    let new = c.in_ok-progress.progress in
+    let one = c.in_ok-progress.ensures in
     record {
       placed = subst (λ (l : List plain.Entry). GoesOn flows l c.args.progress new) (sym (front_is entry_of all i entry c.loop-entry-test.true c.entry-item.is))
           (more_placed flows (entries_of (take i all)) (entry_of entry ∷ []) c.args.progress c.loop-entry.progress new c.loop-entry.invariant.placed one);
