@@ -1,9 +1,0 @@
-pub mod Bodies
-pub mod Calls
-pub mod EveryMoment
-pub mod Openings
-pub mod Payloads
-pub mod Saying
-pub mod Settling
-pub mod Standing
-pub mod Stores
