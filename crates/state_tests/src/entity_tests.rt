@@ -39,21 +39,21 @@ fn held(rt: HostRuntime) -> Result<()> {
     let play = play
         .sends(ran(alloc, "Hold/h", "@Pot/a", 3)?, &[granted])?
         .refuses(ran(alloc, "Put/p", "@Pot/a", 3)?)?
-        .finds("@Pot/a", "Hold/h")?;
+        .finds(0, ran(alloc, "@Pot/a", "Hold/h", 3)?)?;
     let asked = said(alloc, "Hold/h", "@Pot/a", put(alloc, 5, 1)?)?;
     let play = play
         .sends(ran(alloc, "@Pot/a", "Hold/h", 3)?, &[asked])?
         .refuses(ran(alloc, "Put/p", "@Pot/a", 3)?)?
-        .finds("Hold/h", "@Pot/a")?;
+        .finds(0, ran(alloc, "Hold/h", "@Pot/a", 3)?)?;
     let became = said(alloc, "@Pot/a", "Hold/h", result(1, 5))?;
     let released = said(alloc, "Hold/h", "@Pot/a", Body::Release)?;
     let play = play
         .sends(ran(alloc, "Hold/h", "@Pot/a", 3)?, &[became])?
         .sends(ran(alloc, "@Pot/a", "Hold/h", 3)?, &[released])?
         .refuses(ran(alloc, "Put/p", "@Pot/a", 3)?)?
-        .finds("Hold/h", "@Pot/a")?
+        .finds(0, ran(alloc, "Hold/h", "@Pot/a", 3)?)?
         .sends(ran(alloc, "Hold/h", "@Pot/a", 3)?, &[])?
-        .finds("Put/p", "@Pot/a")?;
+        .finds(0, ran(alloc, "Put/p", "@Pot/a", 3)?)?;
     let became = said(alloc, "@Pot/a", "Put/p", result(0, 7))?;
     play.refuses(ran(alloc, "Put/p", "@Pot/a", 2)?)?
         .sends(ran(alloc, "Put/p", "@Pot/a", 3)?, &[became])?;

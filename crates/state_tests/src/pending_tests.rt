@@ -56,10 +56,8 @@ fn timers(rt: HostRuntime) -> Result<()> {
     let play = play.answers(ran(alloc, "Nap/x", "#a", 5)?, "a", 1, Answer::Started)?;
     assert!(rt; play.state.next_timer() == Some(15));
     assert!(rt; play.state.enabled(14)?.is_none());
-    assert!(rt;
-        matches!(play.state.enabled(16)?, Some(Item::Fired(nap, 0, 16)) if nap == id(alloc, "Nap/x")?)
-    );
     let play = play
+        .finds(16, fired(alloc, "Nap/x", 0, 16)?)?
         .refuses(fired(alloc, "Nap/x", 0, 14)?)?
         .refuses(fired(alloc, "Nap/x", 1, 15)?)?
         .refuses(fired(alloc, "Nap/y", 0, 15)?)?
@@ -85,10 +83,9 @@ fn moments(rt: HostRuntime) -> Result<()> {
     let (play, _) = play.makes(took(alloc, "#a", "Calls/x", Body::Query(2))?)?;
     let (play, _) = play.makes(took(alloc, "#a", "Calls/y", Body::Query(3))?)?;
     let (play, _) = play.makes(ran(alloc, "#a", "Calls/x", 8)?)?;
-    let play = play.refuses(ran(alloc, "#a", "Calls/x", 7)?)?;
-    assert!(rt;
-        matches!(play.state.enabled(7)?, Some(Item::Ran(_, to, 8)) if to == id(alloc, "Calls/x")?)
-    );
+    let play = play
+        .refuses(ran(alloc, "#a", "Calls/x", 7)?)?
+        .finds(7, ran(alloc, "#a", "Calls/x", 8)?)?;
     let running = told(alloc, "Calls/x", "#a", 2, Answer::Running)?;
     let missing = told(alloc, "Calls/y", "#a", 3, Answer::None)?;
     let play = play

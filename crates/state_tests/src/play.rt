@@ -3,7 +3,6 @@
 ghost use Rattle.std.specs.Prelude.{◌<◌, IfOk};
 ghost use Rattle.part_steps.specs.States.{IsSound, state_of};
 
-use crate::words::id;
 use anyhow::{Result, bail};
 use dura_value::{Answer, Answered, Message, Outputs};
 use flow_reader::read_flows;
@@ -46,17 +45,15 @@ impl Play {
             flows,
             state,
         } = self;
-        match state.apply(alloc, &flows, &item)? {
-            Verdict::Accepted(state, made) => Ok((
-                Play {
-                    alloc,
-                    flows,
-                    state,
-                },
-                made,
-            )),
-            Verdict::Refused(_) => bail!("refused: {item:?}"),
-        }
+        let (state, made) = accept(alloc, &flows, state, &item)?;
+        Ok((
+            Play {
+                alloc,
+                flows,
+                state,
+            },
+            made,
+        ))
     }
 
     /// The item is refused.
@@ -71,14 +68,12 @@ impl Play {
             flows,
             state,
         } = self;
-        match state.apply(alloc, &flows, &item)? {
-            Verdict::Accepted(_, _) => bail!("accepted: {item:?}"),
-            Verdict::Refused(state) => Ok(Play {
-                alloc,
-                flows,
-                state,
-            }),
-        }
+        let state = refuse(alloc, &flows, state, &item)?;
+        Ok(Play {
+            alloc,
+            flows,
+            state,
+        })
     }
 
     /// The item is accepted, sends these messages and brings no answer.
@@ -113,19 +108,70 @@ impl Play {
 }
 
 impl Play {
-    /// The delivery from one to the other is possible, and none of a message that has waited longer.
-    pub fn finds(self, from: &str, to: &str) -> Result<Play>
+    /// The item is possible now, and nothing that has waited longer.
+    pub fn finds(self, now: u64, wanted: Item) -> Result<Play>
         requires sound { IsSound self.state }
         requires begun { 0 < (state_of self.state).position }
         ensures sound { IfOk result (λ play. IsSound play.state) }
         ensures begun { IfOk result (λ play. 0 < (state_of play.state).position) }
     {
-        let sender = id(self.alloc, from)?;
-        let receiver = id(self.alloc, to)?;
-        match self.state.enabled(0)? {
-            Some(Item::Ran(from, to, _)) if from == sender && to == receiver => Ok(self),
-            other => bail!("possible: {other:?}"),
+        let found = self.state.enabled(now)?;
+        if !is_found(&found, &wanted) {
+            bail!("possible: {found:?}");
         }
+        Ok(self)
+    }
+}
+
+/// The state accepts an item.
+fn accept(
+    alloc: Global,
+    flows: &Flows,
+    state: PartState,
+    item: &Item,
+) -> Result<(PartState, Outputs)>
+    requires sound { IsSound state }
+    requires begun { 0 < (state_of state).position }
+    ensures sound { IfOk result (λ made. IsSound made.0) }
+    ensures begun { IfOk result (λ made. 0 < (state_of made.0).position) }
+{
+    match state.apply(alloc, flows, item)? {
+        Verdict::Accepted(state, made) => Ok((state, made)),
+        Verdict::Refused(_) => bail!("refused: {item:?}"),
+    }
+}
+
+/// The state refuses an item.
+fn refuse(alloc: Global, flows: &Flows, state: PartState, item: &Item) -> Result<PartState>
+    requires sound { IsSound state }
+    requires begun { 0 < (state_of state).position }
+    ensures sound { IfOk result (λ state. IsSound state) }
+    ensures begun { IfOk result (λ state. 0 < (state_of state).position) }
+{
+    match state.apply(alloc, flows, item)? {
+        Verdict::Accepted(_, _) => bail!("accepted: {item:?}"),
+        Verdict::Refused(state) => Ok(state),
+    }
+}
+
+/// Whether two items are the same delivery or the same timer.
+pub fn is_same(first: &Item, second: &Item) -> bool {
+    match (first, second) {
+        (Item::Ran(from, to, stamp), Item::Ran(sender, receiver, moment)) => {
+            *from == *sender && *to == *receiver && *stamp == *moment
+        }
+        (Item::Fired(id, task, stamp), Item::Fired(owner, number, moment)) => {
+            *id == *owner && *task == *number && *stamp == *moment
+        }
+        _ => false,
+    }
+}
+
+/// Whether an item was found, and is this one.
+fn is_found(found: &Option<Item>, wanted: &Item) -> bool {
+    match found {
+        Some(item) => is_same(item, wanted),
+        None => false,
     }
 }
 
