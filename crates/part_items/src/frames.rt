@@ -76,4 +76,11 @@ impl Frame {
     {
         &self.entries
     }
+
+    /// The entries.
+    pub fn into_entries(self) -> Vec<Entry>
+        ensures { result.items ≡ self }
+    {
+        self.entries
+    }
 }

@@ -1,0 +1,9 @@
+pub mod Bodies
+pub mod Calls
+pub mod EveryMoment
+pub mod Openings
+pub mod Payloads
+pub mod Saying
+pub mod Settling
+pub mod Standing
+pub mod Stores

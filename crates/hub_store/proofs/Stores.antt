@@ -1,0 +1,109 @@
+-- A store behind a call on one partition's log.
+use Rattle.std.proofs.Common.{◌≡◌, ℕ, ◌+◌, ◌<◌, ◌≤◌, Bool, List, [], ◌∷◌, ◌++◌, length, refl, sym, ◌∙◌, ap, subst, arith}
+use Rattle.std.proofs.Math.ListN.{set, get_or}
+use Rattle.std.proofs.lemmas.List.{set-set, length-set, map-append}
+use Rattle.std.proofs.lemmas.List.Sums.{sum_by-set}
+use Rattle.std.specs.List.{sum_by}
+use Rattle.std.specs.Vec.{vec_len, vec_capacity}
+use Rattle.std.specs.Global.{Vec}
+use Rattle.site_model.specs.declared.site.Site as sites
+use Rattle.hub_store.specs.declared.start.Start as starts
+use Rattle.hub_store.specs.declared.store.Store.{Store}
+use Rattle.hub_store.specs.declared.trail.Settled as rows
+use Rattle.hub_store.specs.declared.trail.Said as requests
+use Rattle.hub_store.specs.declared.way.Way.{Way}
+use Rattle.hub_store.specs.declared.way.Way.TheVariants.{Away}
+use Rattle.hub_store.specs.Changes.{asked}
+use Rattle.hub_store.specs.Plain.{trail_of, said_of, told_of}
+use Rattle.hub_store.specs.Trail.{Settled, Said}
+use Rattle.hub_store.specs.Sound.{IsTold, IsSound}
+use Rattle.hub_store.specs.Ways.{way_of, due_in}
+
+-- a way that was taken out, and another put in
+pub put_for : (old mid new : List Way) (p : ℕ) (way : Way) → mid ≡ set old p Away → new ≡ set mid p way → new ≡ set old p way
+put_for old mid new p way taken is = is ∙ ap (λ (l : List Way). set l p way) taken ∙ set-set old p Away way
+
+-- where only one partition's frame moved
+pub sound_on : {V N : Type 0} {G : sites.Ghosts V} {H : starts.Ghosts N} (old new : Store V N G H) (p : ℕ) (way : Way) → IsSound old → p < H.origin.count → new.ways.items ≡ set old.ways.items p way
+    → due_in way ≡ due_in (way_of old.ways.items p) → new.trail ≡ old.trail → new.due ≡ old.due
+    → (G.tells new.site → IsTold H.may_follow H.may_say H.origin (G.history new.site) (set old.ways.items p way) (trail_of old.trail.items) (told_of new.told.items) new.halted) → IsSound new
+sound_on {V} {N} {G} {H} old new p way sound below ways due trail dues told =
+    let inside : p < length old.ways.items = omega (arith, sound.count) in
+    let sums = sum_by-set due_in old.ways.items p way Away inside in
+    let same : sum_by due_in (set old.ways.items p way) ≡ old.due = omega (arith, sums, due, sound.due) in
+    record {
+      count = ap length ways ∙ length-set old.ways.items p way ∙ sound.count;
+      apart = sound.apart;
+      headers = sound.headers;
+      due = ap (sum_by due_in) ways ∙ same ∙ sym dues;
+      room = subst (λ (t : Vec rows.Settled). vec_len t + new.due ≤ vec_capacity t) (sym trail) (omega (arith, sound.room, dues));
+      told = λ tells.
+          subst (λ (w : List Way). IsTold H.may_follow H.may_say H.origin (G.history new.site) w (trail_of new.trail.items) (told_of new.told.items) new.halted) (sym ways)
+          (subst (λ (t : Vec rows.Settled). IsTold H.may_follow H.may_say H.origin (G.history new.site) (set old.ways.items p way) (trail_of t.items) (told_of new.told.items) new.halted) (sym trail) (told tells));
+    }
+
+-- the frame of one partition is one of those that the trail has room for
+pub due_of_one : {V N : Type 0} {G : sites.Ghosts V} {H : starts.Ghosts N} (store : Store V N G H) (p : ℕ) → IsSound store → p < H.origin.count → due_in (way_of store.ways.items p) ≤ store.due
+due_of_one store p sound below =
+    let inside : p < length store.ways.items = omega (arith, sound.count) in
+    let sums = sum_by-set due_in store.ways.items p Away Away inside in
+    omega (arith, sums, sound.due)
+
+-- where one partition's frame moved and the trail may have grown
+pub sound_any : {V N : Type 0} {G : sites.Ghosts V} {H : starts.Ghosts N} (old new : Store V N G H) (p : ℕ) (way : Way) (trail : List Settled) → IsSound old → p < H.origin.count → new.ways.items ≡ set old.ways.items p way
+    → due_in way + old.due ≡ new.due + due_in (way_of old.ways.items p) → vec_len new.trail + new.due ≤ vec_capacity new.trail → trail_of new.trail.items ≡ trail
+    → (G.tells new.site → IsTold H.may_follow H.may_say H.origin (G.history new.site) (set old.ways.items p way) trail (told_of new.told.items) new.halted) → IsSound new
+sound_any {V} {N} {G} {H} old new p way trail sound below ways due room grown told =
+    let inside : p < length old.ways.items = omega (arith, sound.count) in
+    let sums = sum_by-set due_in old.ways.items p way Away inside in
+    let same : sum_by due_in (set old.ways.items p way) ≡ new.due = omega (arith, sums, due, sound.due) in
+    record {
+      count = ap length ways ∙ length-set old.ways.items p way ∙ sound.count;
+      apart = sound.apart;
+      headers = sound.headers;
+      due = ap (sum_by due_in) ways ∙ same;
+      room = room;
+      told = λ tells.
+          subst (λ (w : List Way). IsTold H.may_follow H.may_say H.origin (G.history new.site) w (trail_of new.trail.items) (told_of new.told.items) new.halted) (sym ways)
+          (subst (λ (t : List Settled). IsTold H.may_follow H.may_say H.origin (G.history new.site) (set old.ways.items p way) t (told_of new.told.items) new.halted) (sym grown) (told tells));
+    }
+
+-- where only more was said
+pub sound_told : {V N : Type 0} {G : sites.Ghosts V} {H : starts.Ghosts N} (old new : Store V N G H) (told : List Said) → IsSound old → new.ways ≡ old.ways → new.trail ≡ old.trail → new.due ≡ old.due → told_of new.told.items ≡ told
+    → (G.tells new.site → IsTold H.may_follow H.may_say H.origin (G.history new.site) old.ways.items (trail_of old.trail.items) told new.halted) → IsSound new
+sound_told {V} {N} {G} {H} old new told sound ways trail due said stands = record {
+  count = ap (λ (w : Vec Way). length w.items) ways ∙ sound.count;
+  apart = sound.apart;
+  headers = sound.headers;
+  due = ap (λ (w : Vec Way). sum_by due_in w.items) ways ∙ sound.due ∙ sym due;
+  room = subst (λ (t : Vec rows.Settled). vec_len t + new.due ≤ vec_capacity t) (sym trail) (omega (arith, sound.room, due));
+  told = λ tells.
+      subst (λ (s : List Said). IsTold H.may_follow H.may_say H.origin (G.history new.site) new.ways.items (trail_of new.trail.items) s new.halted) (sym said)
+      (subst (λ (t : Vec rows.Settled). IsTold H.may_follow H.may_say H.origin (G.history new.site) new.ways.items (trail_of t.items) told new.halted) (sym trail)
+      (subst (λ (w : Vec Way). IsTold H.may_follow H.may_say H.origin (G.history new.site) w.items (trail_of old.trail.items) told new.halted) (sym ways) (stands tells)));
+}
+
+-- where the trail only got more room
+pub sound_roomier : {V N : Type 0} {G : sites.Ghosts V} {H : starts.Ghosts N} (old new : Store V N G H) → IsSound old → new.site ≡ old.site → new.ways ≡ old.ways → new.due ≡ old.due → new.told ≡ old.told → new.halted ≡ old.halted
+    → new.trail.items ≡ old.trail.items → vec_len new.trail ≡ vec_len old.trail → vec_capacity old.trail ≤ vec_capacity new.trail → IsSound new
+sound_roomier {V} {N} {G} {H} old new sound site ways due told halted items len roomier = record {
+  count = ap (λ (w : Vec Way). length w.items) ways ∙ sound.count;
+  apart = sound.apart;
+  headers = sound.headers;
+  due = ap (λ (w : Vec Way). sum_by due_in w.items) ways ∙ sound.due ∙ sym due;
+  room = omega (arith, sound.room, due, len, roomier);
+  told = λ tells.
+      let stands = sound.told (subst G.tells site tells) in
+      subst (λ (t : List Settled). IsTold H.may_follow H.may_say H.origin (G.history new.site) new.ways.items t (told_of new.told.items) new.halted) (sym (ap trail_of items))
+      (subst (λ (v : V). IsTold H.may_follow H.may_say H.origin (G.history v) new.ways.items (trail_of old.trail.items) (told_of new.told.items) new.halted) (sym site)
+      (subst (λ (w : Vec Way). IsTold H.may_follow H.may_say H.origin (G.history old.site) w.items (trail_of old.trail.items) (told_of new.told.items) new.halted) (sym ways)
+      (subst (λ (s : Vec requests.Said). IsTold H.may_follow H.may_say H.origin (G.history old.site) old.ways.items (trail_of old.trail.items) (told_of s.items) new.halted) (sym told)
+      (subst (λ (b : Bool). IsTold H.may_follow H.may_say H.origin (G.history old.site) old.ways.items (trail_of old.trail.items) (told_of old.told.items) b) (sym halted) stands))));
+}
+
+-- one request more was answered
+pub told_more : (old mid new : List requests.Said) (row : requests.Said) (client : List ℕ) (number : ℕ) → mid ≡ old → new ≡ mid ++ row ∷ [] → row.client ≡ client → row.number ≡ number
+    → told_of new ≡ told_of old ++ asked client number ∷ []
+told_more old mid new row client number same is client_is number_is =
+    ap told_of (is ∙ ap (λ (l : List requests.Said). l ++ row ∷ []) same) ∙ map-append said_of old (row ∷ [])
+    ∙ ap (λ (one : Said). told_of old ++ one ∷ []) (ap (λ (name : List ℕ). asked name row.number) client_is ∙ ap (asked client) number_is)

@@ -1,0 +1,48 @@
+use Rattle.std.proofs.Common.{length, inr, refl, sym, ◌∙◌, ap, subst, arith}
+use Rattle.site_model.specs.History.{changes_of}
+use Rattle.hub_store.specs.declared.way.Way.{Way}
+use Rattle.hub_store.specs.Plain.{trail_of, told_of}
+use Rattle.hub_store.specs.Trail.{of_part}
+use Rattle.hub_store.specs.Ways.{LogFits, due_in}
+use Rattle.part_items.specs.Plain.{entries_of}
+use Rattle.hub_store.proofs.Bodies.{full_of}
+use Rattle.hub_store.proofs.Calls.{resting_there, body_goes}
+use Rattle.hub_store.proofs.Standing.{told_on}
+use Rattle.hub_store.proofs.Stores.{put_for, sound_any, sound_roomier}
+use Rattle.hub_store.proofs.store.Store.body.Goals as goal
+
+pub body_log-way-requires-clause-rests : goal.body_log-way-requires-clause-rests
+body_log-way-requires-clause-rests g c tells =
+    let o = g.N.Start.origin in
+    let p = c.args.part in
+    let old = c.args.self.now in
+    let trail = trail_of old.trail.items in
+    let stood = c.requires.sound.told tells in
+    resting_there o p c.in-Resting.log trail (g.V.Site.history old.site)
+    (subst (λ (w : Way). LogFits (o.logs p) (of_part p trail) (changes_of (o.logs p).file (g.V.Site.history old.site)) w) (sym c.in-Resting.ensures.way) (stood.logs p c.requires.place))
+
+pub returns-in_err-reserve-clause-sound : goal.returns-in_err-reserve-clause-sound
+returns-in_err-reserve-clause-sound g c = sound_roomier c.args.self.now _ c.requires.sound refl refl refl refl refl c.reserve.ensures.items c.reserve.ensures.len c.reserve.ensures.capacity
+
+pub returns-clause-sound : goal.returns-clause-sound
+returns-clause-sound g c =
+    let o = g.N.Start.origin in
+    let p = c.args.part in
+    let old = c.args.self.now in
+    let trail = trail_of old.trail.items in
+    let told = told_of old.told.items in
+    let before = g.V.Site.history old.site in
+    let now = g.V.Site.history c.body_log-way.new.site in
+    let way = c.body_log-way.result.0 in
+    let none_due = ap due_in c.in-Resting.ensures.way in
+    sound_any old _ p way trail c.requires.sound c.requires.place (put_for _ _ _ p way c.take_way.ensures.rest c.put_way.ensures) (omega (arith, none_due, c.due-more.ensures))
+    (omega (arith, c.due-more.ensures, c.body_log-way.ensures.due, c.in_ok-reserve.ensures.ok, c.in-Some.ensures.1, ap length c.entries.ensures)) (ap trail_of c.reserve.ensures.items)
+    (λ tells.
+    let stood = c.requires.sound.told (c.body_log-way.ensures.told tells) in
+    let fits = subst (λ (w : Way). LogFits (o.logs p) (of_part p trail) (changes_of (o.logs p).file before) w) (sym c.in-Resting.ensures.way) (stood.logs p c.requires.place) in
+    let goes = body_goes g.N.Start.may_follow g.N.Start.may_say o p c.in-Resting.log c.args.frame trail told before now way c.body_log-way.ensures.during c.body_log-way.ensures.fits c.body_log-way.ensures.going (c.requires.behind).again fits in
+    told_on g.N.Start.may_follow g.N.Start.may_say o p before now old.ways.items way trail told old.halted _ c.requires.sound.apart c.requires.sound.count c.requires.place c.requires.going stood goes.0 goes.1)
+
+pub returns-clause-full : goal.returns-clause-full
+returns-clause-full g c long =
+    inr (full_of _ c.in-Resting.log (entries_of c.args.frame) c.deref.result.now c.args.self.now.segment c.args.part c.body_log-way.result.1 c.in-Resting.ensures.way (c.deref.ensures.value ∙ c.in_ok-payload.ensures) c.body_log-way.ensures.full long)

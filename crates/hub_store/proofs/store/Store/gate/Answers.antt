@@ -1,0 +1,37 @@
+use Rattle.std.proofs.Common.{Some, refl, sym, ◌∙◌, ap, subst}
+use Rattle.site_model.specs.History.{changes_of}
+use Rattle.hub_store.specs.declared.way.Way.{Way}
+use Rattle.hub_store.specs.Plain.{trail_of, told_of}
+use Rattle.hub_store.specs.Trail.{of_part}
+use Rattle.hub_store.specs.Ways.{LogFits, due_in, going_in}
+use Rattle.hub_store.proofs.Calls.{synced_there, gate_goes}
+use Rattle.hub_store.proofs.Standing.{told_on}
+use Rattle.hub_store.proofs.Stores.{put_for, sound_on}
+use Rattle.hub_store.proofs.store.Store.gate.Goals as goal
+
+pub gate_log-way-requires : goal.gate_log-way-requires
+gate_log-way-requires g c tells =
+    let o = g.N.Start.origin in
+    let p = c.args.part in
+    let old = c.args.self.now in
+    let stood = c.requires.sound.told tells in
+    synced_there o p c.in-Synced.log c.in-Synced.frame (trail_of old.trail.items) (g.V.Site.history old.site)
+    (subst (λ (w : Way). LogFits (o.logs p) (of_part p (trail_of old.trail.items)) (changes_of (o.logs p).file (g.V.Site.history old.site)) w) (sym c.in-Synced.ensures.way) (stood.logs p c.requires.place))
+
+pub returns-clause-sound : goal.returns-clause-sound
+returns-clause-sound g c =
+    let o = g.N.Start.origin in
+    let p = c.args.part in
+    let old = c.args.self.now in
+    let trail = trail_of old.trail.items in
+    let told = told_of old.told.items in
+    let before = g.V.Site.history old.site in
+    let now = g.V.Site.history c.gate_log-way.new.site in
+    let way = c.gate_log-way.result.0 in
+    sound_on old _ p way c.requires.sound c.requires.place (put_for _ _ _ p way c.take_way.ensures.rest c.put_way.ensures) (c.gate_log-way.ensures.due ∙ ap due_in c.in-Synced.ensures.way) refl refl
+    (λ tells.
+    let stood = c.requires.sound.told (c.gate_log-way.ensures.told tells) in
+    let fits = subst (λ (w : Way). LogFits (o.logs p) (of_part p trail) (changes_of (o.logs p).file before) w) (sym c.in-Synced.ensures.way) (stood.logs p c.requires.place) in
+    let follows = c.requires.follows _ (ap going_in (sym c.in-Synced.ensures.way)) in
+    let goes = gate_goes g.N.Start.may_follow g.N.Start.may_say o p c.in-Synced.log c.in-Synced.frame trail told before now way c.gate_log-way.ensures.step.0 c.gate_log-way.ensures.step.1 c.gate_log-way.ensures.during c.gate_log-way.ensures.fits c.gate_log-way.ensures.going follows fits in
+    told_on g.N.Start.may_follow g.N.Start.may_say o p before now old.ways.items way trail told old.halted _ c.requires.sound.apart c.requires.sound.count c.requires.place c.requires.going stood goes.0 goes.1)

@@ -1,0 +1,54 @@
+-- What a call changes of a store.
+use Rattle.std.specs.Prelude.{◌≡◌, ◌≢◌, ℕ, ◌≤◌, Bool, true, false, Option, Some, List, ◌++◌}
+use Rattle.site_model.specs.Calls.{HasRisen}
+use Rattle.site_model.specs.declared.site.Site as sites
+use Rattle.dura_value.specs.Items.{Entry}
+use Rattle.hub_store.specs.Trail.{Settled, Said, settling}
+use Rattle.hub_store.specs.Plain.{trail_of, told_of}
+use Rattle.hub_store.specs.Ways.{way_of, stage_of, going_in}
+use Rattle.hub_store.specs.declared.start.Start as starts
+use Rattle.hub_store.specs.declared.store.Store.{Store}
+use Rattle.hub_store.specs.declared.way.Stage.{Stage}
+
+-- a request by its client's name and its number
+abbrev pub asked : List ℕ → ℕ → Said
+asked client number = record { client = client; number = number }
+
+module _ {V N : Type 0} {G : sites.Ghosts V} {H : starts.Ghosts N} where
+  -- what was settled, and which requests were answered
+  abbrev pub trail_in : Store V N G H → List Settled
+  trail_in store = trail_of store.trail.items
+
+  abbrev pub told_in : Store V N G H → List Said
+  told_in store = told_of store.told.items
+
+  -- how far the frame of a partition has come, and what it has
+  abbrev pub stage_at : Store V N G H → ℕ → Stage
+  stage_at store partition = stage_of (way_of store.ways.items partition)
+
+  abbrev pub going_at : Store V N G H → ℕ → Option (List Entry)
+  going_at store partition = going_in (way_of store.ways.items partition)
+
+  -- the frames of the other partitions stay
+  abbrev pub KeepsOthers : ℕ → Store V N G H → Store V N G H → Type 0
+  KeepsOthers partition old new = (other : ℕ) → other ≢ partition → way_of new.ways.items other ≡ way_of old.ways.items other
+
+  -- nothing was settled or said, and only this partition's frame moved
+  pub record MovesOnly (partition : ℕ) (old new : Store V N G H) : Type 0 where
+    pub trail : trail_in new ≡ trail_in old
+    pub told : told_in new ≡ told_in old
+    pub others : KeepsOthers partition old new
+
+-- the frame that was under way was settled at this moment
+pub record Settles (tells : Type 0) (moment partition : ℕ) (going : Option (List Entry)) (old new : List Settled) : Type 0 where
+  pub entries : List Entry
+  pub at : ℕ
+  pub frame : going ≡ Some entries
+  pub now : tells → at ≡ moment
+  pub trail : new ≡ old ++ settling partition at entries
+
+-- the count of the disk's faults rose where the call failed, and only there
+pub record HasHalted (before now : ℕ) (halted : Bool) : Type 0 where
+  pub later : before ≤ now
+  pub same : halted ≡ false → now ≡ before
+  pub risen : halted ≡ true → HasRisen before now

@@ -1,0 +1,10 @@
+pub mod Changes
+pub mod Frames
+pub mod Moments
+pub mod Opened
+pub mod Origin
+pub mod Plain
+pub mod Runs
+pub mod Sound
+pub mod Trail
+pub mod Ways

@@ -1,0 +1,70 @@
+-- How things stand at each moment of a call.
+use Rattle.std.specs.Prelude.{◌≡◌, ◌⊎◌, ℕ, ◌<◌, ◌≤◌, List, [], ◌∷◌, ◌++◌, length}
+use Rattle.site_model.specs.History.{Change, wrote, synced, Step, said, changes_of, tape, back_to, Leaves}
+use Rattle.commit_log.specs.declared.header.Header.{Header}
+use Rattle.dura_value.specs.Items.{Entry}
+use Rattle.part_files.specs.Kept.{keeps, kept_in}
+use Rattle.hub_store.specs.Origin.{Log, Origin, IsNoLog}
+use Rattle.hub_store.specs.Trail.{Settled, Said, of_part, settled_at}
+
+-- a log file keeps the entries that it had, and then these
+abbrev pub Keeps : Log → List Entry → List ℕ → Type 0
+Keeps log entries image = (gate : ℕ) × (kept_in log.header.partition image ≡ keeps log.header (log.entries ++ entries) gate)
+
+-- the last change of a file was a write of one byte, or the first sync behind it
+abbrev pub WroteGate : List Change → Type 0
+WroteGate changes = (gate : ℕ) × (bytes : List ℕ) × (before : List Change) × ((changes ≡ wrote gate 1 bytes ∷ before) ⊎ (changes ≡ synced ∷ wrote gate 1 bytes ∷ before))
+
+-- the last thing that happened is that a byte was said
+abbrev pub IsSpeaking : List Step → Type 0
+IsSpeaking steps = (byte : ℕ) × (before : List Step) × (steps ≡ said byte ∷ before)
+
+abbrev pub IsFront : List ℕ → List ℕ → Type 0
+IsFront front whole = (rest : List ℕ) × (whole ≡ front ++ rest)
+
+module _ (MayFollow : List Settled → List Said → ℕ → List Entry → Type 0) (MaySay : List Settled → List Said → Said → List ℕ → Type 0) where
+  -- These requests were answered by these lines, each of which might be said once what was settled before it was.
+  pub data Told : List Settled → List Said → List ℕ → Type 0 where
+    silent : Told [] [] []
+    settles : {trail : List Settled} {told : List Said} {lines : List ℕ} → Told trail told lines → (more : List Settled) → Told (trail ++ more) told lines
+    says : {trail : List Settled} {told : List Said} {lines : List ℕ} → Told trail told lines → (one : Said) (line : List ℕ) → MaySay trail told one line → Told trail (told ++ one ∷ []) (lines ++ line)
+
+  -- a front of a line that may be said, while it is being said or after that failed
+  pub record SaysNext (trail : List Settled) (told : List Said) (steps : List Step) (part : List ℕ) : Type 0 where
+    pub speaking : IsSpeaking steps
+    pub one : Said
+    pub line : List ℕ
+    pub may : MaySay trail told one line
+    pub front : IsFront part line
+
+  -- one frame more than what is settled, which may follow it, and whose gate was just written
+  pub record KeepsNext (log : Log) (partition : ℕ) (trail : List Settled) (told : List Said) (changes : List Change) (image : List ℕ) : Type 0 where
+    pub going : List Entry
+    pub follows : MayFollow trail told partition going
+    pub gate : WroteGate changes
+    pub keeps : Keeps log (of_part partition trail ++ going) image
+
+  -- what a crash leaves of a partition's log: the entries that it had and those settled, or one frame more
+  abbrev pub LeavesLog : Log → ℕ → List Settled → List Said → List Change → List ℕ → Type 0
+  LeavesLog log partition trail told changes image = Keeps log (of_part partition trail) image ⊎ KeepsNext log partition trail told changes image
+
+  -- Once this is settled and said: what stands on the tape are whole lines and then this part of one, a crash leaves of each log
+  -- what it may, and nothing happened to any other file.
+  pub record StandsWith (o : Origin) (steps : List Step) (trail : List Settled) (told : List Said) (part : List ℕ) : Type 0 where
+    pub lines : List ℕ
+    pub rightly : Told trail told lines
+    pub spoken : tape steps ≡ tape o.steps ++ lines ++ part
+    pub images : (partition : ℕ) → partition < o.count → (image : List ℕ) → Leaves (changes_of (o.logs partition).file steps) image
+        → LeavesLog (o.logs partition) partition trail told (changes_of (o.logs partition).file steps) image
+    pub others : (file : ℕ) → IsNoLog o file → changes_of file steps ≡ changes_of file o.steps
+
+  -- Once this is settled it stands so with something that was said, and no more than a part of one further line.
+  pub record Stands (o : Origin) (steps : List Step) (trail : List Settled) : Type 0 where
+    pub told : List Said
+    pub part : List ℕ
+    pub stands : StandsWith o steps trail told part
+    pub speaking : (part ≡ []) ⊎ SaysNext trail told steps part
+
+  -- at each moment from the beginning to now, with what is settled by then
+  abbrev pub AtEveryMoment : Origin → List Step → List Settled → Type 0
+  AtEveryMoment o now trail = (moment : ℕ) → length o.steps ≤ moment → moment ≤ length now → Stands o (back_to moment now) (settled_at moment trail)

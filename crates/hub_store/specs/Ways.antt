@@ -1,0 +1,72 @@
+-- How far the frame of each partition has come.
+use Rattle.std.specs.Prelude.{◌≡◌, ℕ, ◌<◌, List, [], ◌∷◌, ◌++◌, length, Option, Some, None, Ok, slice_index_or}
+use Rattle.site_model.specs.History.{Change, wrote}
+use Rattle.commit_log.specs.declared.header.Header.{Header}
+use Rattle.commit_log.specs.Segment.{first_gate}
+use Rattle.commit_log.specs.States.{IsResting, IsBodied, IsSynced, IsGated, IsBroken}
+use Rattle.dura_value.specs.Items.{Entry}
+use Rattle.part_items.specs.Plain.{entries_of}
+use Rattle.part_items.specs.Spelling.{spell_frame}
+use Rattle.part_files.specs.Kept.{first_of}
+use Rattle.hub_store.specs.declared.way.Way.{Way}
+use Rattle.hub_store.specs.declared.way.Way.TheVariants.{Resting, Bodied, Synced, Gated, Broken, Away}
+use Rattle.hub_store.specs.declared.way.Stage.{Stage}
+use Rattle.hub_store.specs.declared.way.Stage.TheVariants as stages
+use Rattle.part_files.specs.Kept.{decoded}
+use Rattle.hub_store.specs.Origin.{Log}
+
+-- the call that the frame has come to
+abbrev pub stage_of : Way → Stage
+stage_of (Resting log) = stages.Resting
+stage_of (Bodied log frame) = stages.Bodied
+stage_of (Synced log frame) = stages.Synced
+stage_of (Gated log frame) = stages.Gated
+stage_of (Broken log frame) = stages.Broken
+stage_of Away = stages.Broken
+
+-- the entries of the frame that is under way
+abbrev pub going_in : Way → Option (List Entry)
+going_in (Resting log) = None
+going_in (Bodied log frame) = Some (entries_of frame)
+going_in (Synced log frame) = Some (entries_of frame)
+going_in (Gated log frame) = Some (entries_of frame)
+going_in (Broken log frame) = Some (entries_of frame)
+going_in Away = None
+
+-- how many they are
+abbrev pub due_in : Way → ℕ
+due_in (Resting log) = 0
+due_in (Bodied log frame) = length frame
+due_in (Synced log frame) = length frame
+due_in (Gated log frame) = length frame
+due_in (Broken log frame) = length frame
+due_in Away = 0
+
+-- how far the frame of a partition has come
+abbrev pub way_of : List Way → ℕ → Way
+way_of ways partition = slice_index_or ways partition Away
+
+-- the last change of the file was a write of the byte at this gate
+abbrev pub JustWrote : ℕ → List Change → Type 0
+JustWrote gate changes = (bytes : List ℕ) × (before : List Change) × (changes ≡ wrote gate 1 bytes ∷ before)
+
+-- how the file stands, where these payloads are settled in it
+abbrev pub WayFits : (file : ℕ) → Header → List (List ℕ) → List Change → Way → Type 0
+WayFits file h payloads changes (Resting log) = (log.file ≡ file) × IsResting changes h payloads log.gate
+WayFits file h payloads changes (Bodied log frame) = (log.file ≡ file) × IsBodied changes h payloads (spell_frame (entries_of frame)) log.gate log.next
+WayFits file h payloads changes (Synced log frame) = (log.file ≡ file) × IsSynced changes h payloads (spell_frame (entries_of frame)) log.gate log.next
+WayFits file h payloads changes (Gated log frame) = (log.file ≡ file) × IsGated changes h payloads (spell_frame (entries_of frame)) log.gate log.next × JustWrote log.gate changes
+WayFits file h payloads changes (Broken log frame) = (log.file ≡ file) × IsBroken changes h payloads (spell_frame (entries_of frame)) log.gate log.next
+WayFits file h payloads changes Away = ⊥
+
+-- with the frame that is under way these payloads keep its entries too
+abbrev pub GoesOn : Header → List (List ℕ) → List Entry → Option (List Entry) → Type 0
+GoesOn h payloads entries None = Unit {0}
+GoesOn h payloads entries (Some going) = decoded first_gate (first_of h) (payloads ++ spell_frame going ∷ []) ≡ Ok (entries ++ going)
+
+-- a log, where these entries are settled in this call: its payloads keep what it had and these
+pub record LogFits (log : Log) (entries : List Entry) (changes : List Change) (way : Way) : Type 0 where
+  pub payloads : List (List ℕ)
+  pub kept : decoded first_gate (first_of log.header) payloads ≡ Ok (log.entries ++ entries)
+  pub next : GoesOn log.header payloads (log.entries ++ entries) (going_in way)
+  pub fits : WayFits log.file log.header payloads changes way

@@ -1,0 +1,136 @@
+//! Writing a frame.
+
+ghost use Rattle.std.specs.Prelude.{◌≡◌, ◌⊎◌, ◌↔◌, IsTrue, ◌+◌, ◌≤◌, ◌<◌, ◌^◌, ℕ, List, true, false, Some, None, Err, OnOk, OnErr, IfOk, length};
+ghost use Rattle.site_model.specs.History.{changes_of};
+ghost use Rattle.site_model.specs.Calls.{HasRisen};
+ghost use Rattle.site_model.specs.Moments.{LeavesOnly};
+ghost use Rattle.commit_log.specs.declared.header.Header.{Header};
+ghost use Rattle.commit_log.specs.States.{IsResting, Rests, HasFrames};
+ghost use Rattle.part_items.specs.Plain.{entries_of};
+ghost use Rattle.part_items.specs.Spelling.{spell_frame, CanSpellFrame};
+ghost use Rattle.hub_store.specs.Changes.{stage_at, going_at, trail_in, MovesOnly};
+ghost use Rattle.hub_store.specs.Frames.{goes_on, GoesBehind, length_with};
+ghost use Rattle.hub_store.specs.Sound.{IsSound};
+ghost use Rattle.hub_store.specs.Trail.{of_part};
+ghost use Rattle.hub_store.specs.Ways.{WayFits, way_of, stage_of, going_in, due_in};
+
+use crate::refusal::BodyRefusal;
+use crate::start::Start;
+use crate::store::Store;
+use crate::way::{Stage, Way, due, put_way, take_way};
+use commit_log::{BodyError, Resting};
+use part_items::{Frame, write_frame};
+use site_model::Site;
+use std::alloc::{AllocError, Global};
+
+/// What a frame is written as.
+fn payload_of(alloc: Global, frame: &Frame) -> Result<Vec<u8>, AllocError>
+    requires { CanSpellFrame (entries_of frame.now) }
+    ensures { IfOk result (λ v. v.items ≡ spell_frame (entries_of frame.now)) }
+{
+    let mut payload = Vec::new(alloc);
+    write_frame(&mut payload, frame)?;
+    Ok(payload)
+}
+
+/// Whether the disk failed.
+fn has_failed(answer: Result<(), BodyRefusal>) -> bool
+    ensures { IsTrue result ↔ answer ≡ Err BodyRefusal.SiteFault }
+{
+    match answer {
+        Err(BodyRefusal::SiteFault) => true,
+        _ => false,
+    }
+}
+
+/// Writes a frame behind the closed gate of a log.
+fn body_log<V: Site>(
+    alloc: Global,
+    site: &mut V,
+    log: Resting,
+    payload: &[u8],
+    part: u32,
+    frame: Frame,
+    limit: u64,
+) -> (Way, Result<(), BodyRefusal>)
+    requires limit { limit ≤ 2 ^ 31 }
+    requires rests { V.tells site.old → Rests (changes_of log.file (V.history site.old)) log.gate }
+    requires spelled { payload.now ≡ spell_frame (entries_of frame) }
+    ensures told { V.tells site.new → V.tells site.old }
+    ensures during { (h : Header) (payloads : List (List ℕ)) → IsResting (changes_of log.file (V.history site.old)) h payloads log.gate
+        → LeavesOnly log.file (V.history site.old) (V.history site.new) (HasFrames h payloads log.gate) }
+    ensures fits { (h : Header) (payloads : List (List ℕ)) → IsResting (changes_of log.file (V.history site.old)) h payloads log.gate
+        → WayFits log.file h payloads (changes_of log.file (V.history site.new)) result.0 }
+    ensures going { (going_in result.0 ≡ None) ⊎ (going_in result.0 ≡ Some (entries_of frame)) }
+    ensures due { due_in result.0 ≤ length frame }
+    ensures ok { OnOk result.1 ((stage_of result.0 ≡ Stage.Bodied) × (going_in result.0 ≡ Some (entries_of frame))) }
+    ensures full { limit ≤ log.gate + 6 + length payload.now → result.1 ≡ Err (BodyRefusal.Full part (log.gate + 6 + length payload.now)) }
+    ensures untouched { (of n : ℕ) → result.1 ≡ Err (BodyRefusal.Full of n) → (of ≡ part) × (limit ≤ n) × (n ≡ log.gate + 6 + length payload.now) × (result.0 ≡ Way.Resting log) × (V.history site.new ≡ V.history site.old) }
+    ensures memory { result.1 ≡ Err BodyRefusal.Memory → (result.0 ≡ Way.Resting log) × (V.history site.new ≡ V.history site.old) }
+    ensures fault { result.1 ≡ Err BodyRefusal.SiteFault → HasRisen (V.disk_faults site.old) (V.disk_faults site.new) }
+    ensures later { V.disk_faults site.old ≤ V.disk_faults site.new }
+    ensures say_faults { V.say_faults site.new ≡ V.say_faults site.old }
+{
+    match log.body(alloc, site, payload, limit) {
+        Ok(log) => (Way::Bodied(log, frame), Ok(())),
+        Err(BodyError::Full { length, log }) => {
+            (
+                Way::Resting(log),
+                Err(BodyRefusal::Full {
+                    partition: part,
+                    length,
+                }),
+            )
+        }
+        Err(BodyError::SiteFault(log)) => (Way::Broken(log, frame), Err(BodyRefusal::SiteFault)),
+        Err(BodyError::Memory(log)) => (Way::Resting(log), Err(BodyRefusal::Memory)),
+    }
+}
+
+impl<V: Site, N: Start> Store<V, N> {
+    /// Writes a frame of a partition, which goes on its log, behind the closed gate, unless the file would come to the
+    /// segment's length or more. The trail is given room for it, so that settling it wants no memory.
+    pub fn body(&mut self, alloc: Global, part: u32, frame: Frame) -> Result<(), BodyRefusal>
+        requires sound { IsSound self.old }
+        requires going { self.old.halted ≡ false }
+        requires place { part < N.origin.count }
+        requires rests { stage_at self.old part ≡ Stage.Resting }
+        requires behind { GoesBehind (goes_on (N.origin.logs part) (of_part part (trail_in self.old))) (entries_of frame) }
+        ensures told { V.tells self.new.site → V.tells self.old.site }
+        ensures sound { IsSound self.new }
+        ensures ok { OnOk result ((stage_at self.new part ≡ Stage.Bodied) × (going_at self.new part ≡ Some (entries_of frame))) }
+        ensures only { MovesOnly part self.old self.new }
+        ensures full { self.old.segment ≤ length_with (way_of self.old.ways.items part) (entries_of frame)
+            → (result ≡ Err BodyRefusal.Memory) ⊎ (result ≡ Err (BodyRefusal.Full part (length_with (way_of self.old.ways.items part) (entries_of frame)))) }
+        ensures room { (of n : ℕ) → result ≡ Err (BodyRefusal.Full of n) → (of ≡ part) × (self.old.segment ≤ n) × (n ≡ length_with (way_of self.old.ways.items part) (entries_of frame)) × (V.history self.new.site ≡ V.history self.old.site) × (stage_at self.new part ≡ Stage.Resting) }
+        ensures memory { result ≡ Err BodyRefusal.Memory → (V.history self.new.site ≡ V.history self.old.site) × (stage_at self.new part ≡ Stage.Resting) }
+        ensures still { OnOk result (self.new.halted ≡ false) }
+        ensures fault { self.new.halted ≡ true → HasRisen (V.disk_faults self.old.site) (V.disk_faults self.new.site) }
+        ensures later { V.disk_faults self.old.site ≤ V.disk_faults self.new.site }
+        ensures say_faults { V.say_faults self.new.site ≡ V.say_faults self.old.site }
+    {
+        let payload = payload_of(alloc, &frame)?;
+        let Some(all_due) = self.due.checked_add(frame.entries().len()) else {
+            return Err(BodyRefusal::Memory);
+        };
+        self.trail.reserve(all_due)?;
+        let place = part as usize;
+        let Way::Resting(log) = take_way(&mut self.ways, place) else {
+            unreachable!()
+        };
+        let (way, result) = body_log(
+            alloc,
+            &mut self.site,
+            log,
+            &payload,
+            part,
+            frame,
+            self.segment,
+        );
+        let more = due(&way);
+        self.due += more;
+        put_way(&mut self.ways, place, way);
+        self.halted = has_failed(result);
+        result
+    }
+}

@@ -1,0 +1,44 @@
+//! The end of a call.
+
+ghost use Rattle.std.specs.Prelude.{◌≡◌};
+ghost use Rattle.hub_store.specs.Changes.{trail_in};
+ghost use Rattle.hub_store.specs.Moments.{AtEveryMoment};
+ghost use Rattle.hub_store.specs.Sound.{IsSound};
+
+use crate::start::Start;
+use crate::store::Store;
+use crate::trail::Trail;
+use site_model::Site;
+
+/// What a call leaves.
+pub struct Ended<V> {
+    /// The files and the tape.
+    pub site: V,
+    /// What was settled.
+    pub trail: Trail,
+}
+
+impl<V: Site, N: Start> Store<V, N> {
+    /// Gives the site back, and what was settled.
+    pub fn end(self) -> Ended<V>
+        requires { IsSound self }
+        ensures site { result.site ≡ self.site }
+        ensures trail { result.trail ≡ trail_in self }
+        ensures every { V.tells self.site → AtEveryMoment N.may_follow N.may_say N.origin (V.history self.site) (trail_in self) }
+    {
+        let Store {
+            site,
+            ways: _ways,
+            trail,
+            due: _,
+            told: _told,
+            segment: _,
+            halted: _,
+            start: _start,
+        } = self;
+        Ended {
+            site,
+            trail: Trail::of(trail),
+        }
+    }
+}

@@ -1,0 +1,25 @@
+//! The store: what owns the files and the tape while a call commits and says.
+//!
+//! It owns the site, what was settled, how far the frame of each partition has come, which requests' answers were said, and
+//! whether a device call failed. Each method makes one device call.
+#![tactic(auto)]
+
+mod begin;
+mod body;
+mod end;
+mod gate;
+mod refusal;
+mod say;
+mod settle;
+mod start;
+mod store;
+mod sync;
+mod trail;
+mod way;
+
+pub use end::Ended;
+pub use refusal::{BodyRefusal, Refusal, SayError};
+pub use start::Start;
+pub use store::Store;
+pub use trail::{Said, Settled, Trail};
+pub use way::Stage;

@@ -1,0 +1,48 @@
+//! Why a call did nothing, or failed.
+
+ghost use Rattle.std.specs.Prelude.{◌≡◌};
+ghost use Rattle.hub_store.specs.declared.refusal.BodyRefusal.TheVariants.{Memory};
+
+use std::alloc::AllocError;
+
+/// Why a frame did not go on.
+#[derive(Clone, Copy, Debug, PartialEq, Eq)]
+pub enum Refusal {
+    /// No frame of the partition has come to this call. Nothing was done.
+    NoFrame,
+    /// The disk failed.
+    SiteFault,
+}
+
+/// Why an answer was not said.
+#[derive(Clone, Copy, Debug, PartialEq, Eq)]
+pub enum SayError {
+    /// The tape failed.
+    SayFault,
+    /// Memory ran out. Nothing was said.
+    Memory,
+}
+
+/// Why no frame was written.
+#[derive(Clone, Copy, Debug, PartialEq, Eq)]
+pub enum BodyRefusal {
+    /// The partition's log would come to this length, which is not below the segment's. Nothing was written.
+    Full {
+        /// The partition.
+        partition: u32,
+        /// The length that its log would have.
+        length: u64,
+    },
+    /// The disk failed.
+    SiteFault,
+    /// Memory ran out. Nothing was written.
+    Memory,
+}
+
+impl From<AllocError> for BodyRefusal {
+    ghost from_gives = { λ _ refusal. refusal ≡ Memory };
+
+    fn from(_error: AllocError) -> BodyRefusal {
+        BodyRefusal::Memory
+    }
+}

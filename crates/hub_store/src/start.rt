@@ -1,0 +1,22 @@
+//! What is fixed when a call begins.
+
+ghost use Rattle.std.specs.Prelude.{◌≡◌, ℕ, List, [], ◌++◌};
+ghost use Rattle.dura_value.specs.Items.{Entry};
+ghost use Rattle.hub_store.specs.Origin.{Origin};
+ghost use Rattle.hub_store.specs.Trail.{Settled, Said, of_part};
+
+/// Where a call begins, and what it may commit and say: the type of a store carries it.
+pub trait Start: Drop {
+    /// Where the call begins.
+    ghost origin: { Origin };
+
+    /// Whether these entries of a partition may be committed, once this was settled and said.
+    ghost may_follow: { List Settled → List Said → ℕ → List Entry → Type 0 };
+
+    /// Whether this line may be said of a request, once this was settled and said.
+    ghost may_say: { List Settled → List Said → Said → List ℕ → Type 0 };
+
+    /// What may be committed may be committed still once more of other partitions was settled and more was said.
+    ghost still_follows: { (trail more : List Settled) (told also : List Said) (partition : ℕ) (going : List Entry) → of_part partition more ≡ [] → may_follow trail told partition going
+        → may_follow (trail ++ more) (told ++ also) partition going };
+}

@@ -1,0 +1,73 @@
+//! Making a frame safe on the disk.
+
+ghost use Rattle.std.specs.Prelude.{◌≡◌, ◌≢◌, ◌<◌, ◌↔◌, ℕ, List, false, Some, Err, OnOk, OnErr, length};
+ghost use Rattle.site_model.specs.History.{changes_of};
+ghost use Rattle.site_model.specs.Calls.{HasCause};
+ghost use Rattle.site_model.specs.Moments.{LeavesOnly};
+ghost use Rattle.commit_log.specs.declared.header.Header.{Header};
+ghost use Rattle.commit_log.specs.States.{IsBodied, HasFrames};
+ghost use Rattle.part_items.specs.Plain.{entries_of};
+ghost use Rattle.part_items.specs.Spelling.{spell_frame};
+ghost use Rattle.hub_store.specs.Changes.{stage_at, going_at, MovesOnly, HasHalted};
+ghost use Rattle.hub_store.specs.Sound.{IsSound};
+ghost use Rattle.hub_store.specs.Ways.{WayFits, stage_of, going_in, due_in};
+
+use crate::refusal::Refusal;
+use crate::start::Start;
+use crate::store::Store;
+use crate::way::{Stage, Way, put_way, reached, take_way};
+use commit_log::Bodied;
+use part_items::Frame;
+use site_model::Site;
+
+/// Makes a frame safe on the disk.
+fn sync_log<V: Site>(site: &mut V, log: Bodied, frame: Frame) -> (Way, Result<(), Refusal>)
+    ensures told { V.tells site.new → V.tells site.old }
+    ensures during { (h : Header) (payloads : List (List ℕ)) (payload : List ℕ) → IsBodied (changes_of log.file (V.history site.old)) h payloads payload log.gate log.next
+        → LeavesOnly log.file (V.history site.old) (V.history site.new) (HasFrames h payloads log.gate) }
+    ensures fits { (h : Header) (payloads : List (List ℕ)) → IsBodied (changes_of log.file (V.history site.old)) h payloads (spell_frame (entries_of frame)) log.gate log.next
+        → WayFits log.file h payloads (changes_of log.file (V.history site.new)) result.0 }
+    ensures going { going_in result.0 ≡ Some (entries_of frame) }
+    ensures due { due_in result.0 ≡ length frame }
+    ensures ok { OnOk result.1 (stage_of result.0 ≡ Stage.Synced) }
+    ensures err { OnErr result.1 (result.1 ≡ Err Refusal.SiteFault) }
+    ensures broken { OnErr result.1 (stage_of result.0 ≡ Stage.Broken) }
+    ensures cause { HasCause (V.disk_faults site.old) (V.disk_faults site.new) result.1 }
+    ensures say_faults { V.say_faults site.new ≡ V.say_faults site.old }
+{
+    match log.sync_body(site) {
+        Ok(log) => (Way::Synced(log, frame), Ok(())),
+        Err(log) => (Way::Broken(log, frame), Err(Refusal::SiteFault)),
+    }
+}
+
+impl<V: Site, N: Start> Store<V, N> {
+    /// Makes the written frame of a partition safe on the disk.
+    pub fn sync_body(&mut self, part: u32) -> Result<(), Refusal>
+        requires sound { IsSound self.old }
+        requires going { self.old.halted ≡ false }
+        requires place { part < N.origin.count }
+        ensures told { V.tells self.new.site → V.tells self.old.site }
+        ensures sound { IsSound self.new }
+        ensures ok { OnOk result (stage_at self.new part ≡ Stage.Synced) }
+        ensures frame { going_at self.new part ≡ going_at self.old part }
+        ensures only { MovesOnly part self.old self.new }
+        ensures no_frame { result ≡ Err Refusal.NoFrame ↔ stage_at self.old part ≢ Stage.Bodied }
+        ensures unchanged { result ≡ Err Refusal.NoFrame → self.new ≡ self.old }
+        ensures still { OnOk result (self.new.halted ≡ false) }
+        ensures halted { HasHalted (V.disk_faults self.old.site) (V.disk_faults self.new.site) self.new.halted }
+        ensures say_faults { V.say_faults self.new.site ≡ V.say_faults self.old.site }
+    {
+        let place = part as usize;
+        if reached(&self.ways[place]) != Stage::Bodied {
+            return Err(Refusal::NoFrame);
+        }
+        let Way::Bodied(log, frame) = take_way(&mut self.ways, place) else {
+            unreachable!()
+        };
+        let (way, result) = sync_log(&mut self.site, log, frame);
+        put_way(&mut self.ways, place, way);
+        self.halted = result.is_err();
+        result
+    }
+}
