@@ -12,6 +12,13 @@ use dura_value::{Answer, Id};
 use part_rows::Activity;
 
 impl PartState {
+    /// The place of its next entry.
+    pub fn position(&self) -> u64
+        ensures { result ≡ (state_of self.now).position }
+    {
+        self.rows.position
+    }
+
     /// Whether a request of a client was taken.
     pub fn has_taken(&self, client: &Id, number: u32) -> bool
         ensures { result ≡ is_some ((state_of self.now).taken (id_of client.now) number) }
