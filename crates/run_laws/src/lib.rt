@@ -1,0 +1,7 @@
+//! What a crash leaves at each moment of a call: the run that the files stand for. Definitions and laws of them alone.
+//!
+//! - `specs/Begins`: where a call of one partition begins, and what it may commit and say.
+//! - `specs/Leaves`: the run that a crash leaves, and the answers that were said.
+#![tactic(auto)]
+
+mod laws;
