@@ -1,6 +1,5 @@
 -- What was settled is accepted, entry by entry.
-use Rattle.std.proofs.Common.{◌≡◌, ◌⊎◌, inl, inr, ℕ, List, [], ◌∷◌, ◌++◌, Ok, refl, sym, ◌∙◌, ap, subst}
-use Rattle.std.proofs.lemmas.List.{append-nil}
+use Rattle.std.proofs.Common.{◌≡◌, ℕ, List, ◌++◌, Ok, refl, sym, ◌∙◌, ap, subst}
 use Rattle.dura_model.specs.Partition.{Partition}
 use Rattle.dura_value.specs.Items.{Entry}
 use Rattle.hub_store.specs.Moments.{Told}
@@ -8,7 +7,7 @@ use Rattle.hub_store.specs.Moments.Told.{silent, settles, says}
 use Rattle.hub_store.specs.Trail.{Settled, Said, of_part, settling}
 use Rattle.hub_store.proofs.Settling.{of_part-append, own_part}
 use Rattle.part_files.specs.Placing.{placed, AllGiven}
-use Rattle.run_rules.specs.Rules.{Rules, Follows}
+use Rattle.run_rules.specs.Rules.{Rules}
 use Rattle.run_rules.proofs.Going.{followed_made, followed_given}
 use Rattle.run_laws.specs.Begins.{pairs_of, may_follow, may_say}
 

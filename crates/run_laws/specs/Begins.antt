@@ -3,7 +3,7 @@ use Rattle.std.specs.Prelude.{◌≡◌, ◌⊎◌, ℕ, List, map, Ok}
 use Rattle.commit_log.specs.declared.header.Header.{Header}
 use Rattle.dura_model.specs.Partition.{fresh}
 use Rattle.dura_value.specs.Items.{Entry}
-use Rattle.hub_store.specs.Origin.{Log, Origin}
+use Rattle.hub_store.specs.Origin.{Origin}
 use Rattle.hub_store.specs.Trail.{Settled, Said, of_part}
 use Rattle.part_files.specs.Kept.{nothing, kept_in}
 use Rattle.part_files.specs.Logs.{first_log, second_log}
