@@ -1,5 +1,5 @@
 -- What a call may commit and say, by example.
-use Rattle.std.specs.Prelude.{ℕ, List, [], ◌∷◌, codes, Some}
+use Rattle.std.specs.Prelude.{[], ◌∷◌, codes, Some}
 use Rattle.dura_model.specs.Partition.{Partition, fresh}
 use Rattle.dura_model.specs.World.{at_number}
 use Rattle.dura_value.specs.Ids.{client, orchestration}

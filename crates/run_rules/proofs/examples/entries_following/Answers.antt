@@ -1,4 +1,4 @@
-use Rattle.std.proofs.Common.{◌≡◌, ℕ, [], ◌∷◌, Ok, codes, refl, ap, subst, arith}
+use Rattle.std.proofs.Common.{◌≡◌, [], ◌∷◌, Ok, codes, refl, subst, arith}
 use Rattle.std.proofs.lemmas.List.Elements.{All-from_recursion}
 use Rattle.dura_model.specs.Partition.{Partition, fresh}
 use Rattle.dura_value.specs.Items.{took}
@@ -16,13 +16,13 @@ returns-clause-first c = λ flows. record {
   accepted = refl;
   given = ((tt, λ next is. tt), λ next is. tt);
   ours = All-from_recursion (IsOurs (rules_with flows) []) (taking 0 ∷ []) (
-      record {
-        life = refl;
-        asked = All-from_recursion (IsAsked (rules_with flows) []) (took request ∷ [])
-            (record { name = codes "a"; place = 0; request = first_asked; asked = refl; sends = refl; answered = omega arith }, tt);
-      },
-      tt,
-    );
+    record {
+      life = refl;
+      asked = All-from_recursion (IsAsked (rules_with flows) []) (took request ∷ [])
+          (record { name = codes "a"; place = 0; request = first_asked; asked = refl; sends = refl; answered = omega arith }, tt);
+    },
+    tt,
+  );
 }
 
 pub returns-clause-twice : goal.returns-clause-twice

@@ -1,8 +1,8 @@
-use Rattle.std.proofs.Common.{◌≡◌, ℕ, Some, None, codes, refl, sym, ◌∙◌, ap, subst, arith}
+use Rattle.std.proofs.Common.{◌≡◌, Some, codes, refl, sym, ◌∙◌, ap, arith}
 use Rattle.answer_lines.specs.Lines.{line_of}
 use Rattle.dura_model.specs.Partition.{Partition, fresh}
 use Rattle.dura_value.specs.Ids.{client}
-use Rattle.dura_value.specs.Messages.{Answer, was_started}
+use Rattle.dura_value.specs.Messages.{was_started}
 use Rattle.request_reader.specs.Line.{Request}
 use Rattle.run_rules.specs.Examples.{first_asked, then_asked, started}
 use Rattle.run_rules.proofs.examples.lines_answering.Goals as goal
