@@ -56,6 +56,7 @@ impl<V: Site, N: Start> Store<V, N> {
         ensures ok { OnOk result (stage_at self.new part ≡ Stage.Gated) }
         ensures frame { going_at self.new part ≡ going_at self.old part }
         ensures only { MovesOnly part self.old self.new }
+        ensures segment { self.new.segment ≡ self.old.segment }
         ensures no_frame { result ≡ Err Refusal.NoFrame ↔ stage_at self.old part ≢ Stage.Synced }
         ensures unchanged { result ≡ Err Refusal.NoFrame → self.new ≡ self.old }
         ensures still { OnOk result (self.new.halted ≡ false) }

@@ -27,6 +27,7 @@ impl<V: Site, N: Start> Store<V, N> {
         ensures frame { OnErr result (going_at self.new part ≡ going_at self.old part) }
         ensures said { told_in self.new ≡ told_in self.old }
         ensures others { KeepsOthers part self.old self.new }
+        ensures segment { self.new.segment ≡ self.old.segment }
         ensures no_frame { result ≡ Err Refusal.NoFrame ↔ stage_at self.old part ≢ Stage.Gated }
         ensures unchanged { result ≡ Err Refusal.NoFrame → self.new ≡ self.old }
         ensures still { OnOk result (self.new.halted ≡ false) }
