@@ -1,11 +1,11 @@
 //! Round by round: what is possible is put into an entry, the entry is committed, and what it answers is said.
 //!
-//! - `commit` takes an entry to the log.
+//! - `committing` takes an entry to the log.
 //! - `stop` is why a call ends before all is done.
 #![tactic(auto)]
 
-mod commit;
+mod committing;
 mod stop;
 
-pub use commit::commit;
+pub use committing::commit;
 pub use stop::Stop;
