@@ -1,4 +1,4 @@
--- Why committing an entry stops.
+-- Why committing an entry stops, or saying an answer.
 use Rattle.std.specs.Prelude.{Bool, true, false}
 use Rattle.hub_store.specs.declared.refusal.BodyRefusal.{BodyRefusal}
 use Rattle.hub_store.specs.declared.refusal.BodyRefusal.TheVariants as refusals
@@ -18,3 +18,11 @@ is_of_disk SiteFault = true
 is_of_disk Memory = true
 is_of_disk SayFault = false
 is_of_disk ClockFault = false
+
+-- whether the tape is why, or want of memory
+abbrev pub is_of_tape : Stop → Bool
+is_of_tape (Full partition length) = false
+is_of_tape SiteFault = false
+is_of_tape Memory = true
+is_of_tape SayFault = true
+is_of_tape ClockFault = false

@@ -5,7 +5,10 @@
 #![tactic(auto)]
 
 mod committing;
+mod ruled;
+mod saying;
 mod stop;
 
 pub use committing::commit;
+pub use ruled::Ruled;
 pub use stop::Stop;
