@@ -81,10 +81,10 @@ module _ (MayFollow : List Settled → List Said → ℕ → List Entry → Type
 
   -- the log with its new frame, and the others
   pub told_settled : (p : ℕ) (log : Resting) (trail : List Settled) (told : List Said) (going : List Entry) (payloads : List (List ℕ)) (old new : List Step) (ways : List Way) (halted now_halted : Bool) (at : ℕ)
-      → AreApart o → length ways ≡ o.count → p < o.count → halted ≡ false → at ≡ length new → IsTold MayFollow MaySay o old ways trail told halted → Always (OnLog MayFollow MaySay o p trail told old) old new
+      → AreApart o → length ways ≡ o.count → p < o.count → halted ≡ false → at ≡ length new → MayFollow trail told p going → IsTold MayFollow MaySay o old ways trail told halted → Always (OnLog MayFollow MaySay o p trail told old) old new
       → decoded first_gate (first_of (o.logs p).header) (payloads ++ spell_frame going ∷ []) ≡ Ok ((o.logs p).entries ++ of_part p trail ++ going) → log.file ≡ (o.logs p).file
       → IsResting (changes_of (o.logs p).file new) (o.logs p).header (payloads ++ spell_frame going ∷ []) log.gate → IsTold MayFollow MaySay o new (set ways p (places.Resting log)) (trail ++ settling p at going) told now_halted
-  told_settled p log trail told going payloads old new ways halted now_halted at apart many below unhalted at_is stood path reads file_is rests =
+  told_settled p log trail told going payloads old new ways halted now_halted at apart many below unhalted at_is follows stood path reads file_is rests =
       let more = settling p at going in
       let h = (o.logs p).header in
       let file = (o.logs p).file in
@@ -97,7 +97,7 @@ module _ (MayFollow : List Settled → List Said → ℕ → List Entry → Type
       λ image left. inl (log.gate, kept_payloads h (payloads ++ spell_frame going ∷ []) log.gate ((o.logs p).entries ++ of_part p (trail ++ more)) image (resting_images h (payloads ++ spell_frame going ∷ []) log.gate (changes_of file new) rests image left) all) in
       let stands : StandsWith MayFollow MaySay o new (trail ++ more) told [] = record {
         lines = there.lines;
-        rightly = told_settles there.rightly more;
+        rightly = told_settles there.rightly p at going follows;
         spoken = there.spoken;
         images = λ q inside. elim (cases_eq q p) [
           | inl is ↦ subst (λ (r : ℕ). (image : List ℕ) → Leaves (changes_of (o.logs r).file new) image → LeavesLog MayFollow MaySay (o.logs r) r (trail ++ more) told (changes_of (o.logs r).file new) image) (sym is) image_of

@@ -5,7 +5,7 @@ use Rattle.commit_log.specs.declared.header.Header.{Header}
 use Rattle.dura_value.specs.Items.{Entry}
 use Rattle.part_files.specs.Kept.{keeps, kept_in}
 use Rattle.hub_store.specs.Origin.{Log, Origin, IsNoLog}
-use Rattle.hub_store.specs.Trail.{Settled, Said, of_part, settled_at}
+use Rattle.hub_store.specs.Trail.{Settled, Said, of_part, settled_at, settling}
 
 -- a log file keeps the entries that it had, and then these
 abbrev pub Keeps : Log → List Entry → List ℕ → Type 0
@@ -23,10 +23,11 @@ abbrev pub IsFront : List ℕ → List ℕ → Type 0
 IsFront front whole = (rest : List ℕ) × (whole ≡ front ++ rest)
 
 module _ (MayFollow : List Settled → List Said → ℕ → List Entry → Type 0) (MaySay : List Settled → List Said → Said → List ℕ → Type 0) where
-  -- These requests were answered by these lines, each of which might be said once what was settled before it was.
+  -- This was settled and these requests were answered by these lines, one after another: each frame might follow, and each line
+  -- might be said, once what came before it was settled and said.
   pub data Told : List Settled → List Said → List ℕ → Type 0 where
     silent : Told [] [] []
-    settles : {trail : List Settled} {told : List Said} {lines : List ℕ} → Told trail told lines → (more : List Settled) → Told (trail ++ more) told lines
+    settles : {trail : List Settled} {told : List Said} {lines : List ℕ} → Told trail told lines → (partition at : ℕ) (going : List Entry) → MayFollow trail told partition going → Told (trail ++ settling partition at going) told lines
     says : {trail : List Settled} {told : List Said} {lines : List ℕ} → Told trail told lines → (one : Said) (line : List ℕ) → MaySay trail told one line → Told trail (told ++ one ∷ []) (lines ++ line)
 
   -- a front of a line that may be said, while it is being said or after that failed

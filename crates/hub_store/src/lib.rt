@@ -8,6 +8,7 @@ mod begin;
 mod body;
 mod end;
 mod gate;
+mod laws;
 mod refusal;
 mod say;
 mod settle;

@@ -1,6 +1,6 @@
 //! Saying an answer.
 
-ghost use Rattle.std.specs.Prelude.{◌≡◌, ◌<◌, ◌++◌, [], ◌∷◌, false, length, Err, IfOk, OnOk, OnErr};
+ghost use Rattle.std.specs.Prelude.{◌≡◌, ◌<◌, ◌++◌, [], ◌∷◌, true, false, length, Err, IfOk, OnOk, OnErr};
 ghost use Rattle.hub_store.specs.Changes.{trail_in, told_in, asked, HasHalted};
 ghost use Rattle.hub_store.specs.Sound.{IsSound};
 
@@ -32,8 +32,10 @@ impl<V: Site, N: Start> Store<V, N> {
         ensures err { OnErr result (told_in self.new ≡ told_in self.old) }
         ensures trail { trail_in self.new ≡ trail_in self.old }
         ensures ways { self.new.ways ≡ self.old.ways }
+        ensures segment { self.new.segment ≡ self.old.segment }
         ensures memory { result ≡ Err SayError.Memory → (self.new.site ≡ self.old.site) × (self.new.halted ≡ false) }
         ensures still { OnOk result (self.new.halted ≡ false) }
+        ensures say_fault { result ≡ Err SayError.SayFault → self.new.halted ≡ true }
         ensures halted { HasHalted (V.say_faults self.old.site) (V.say_faults self.new.site) self.new.halted }
         ensures disk_faults { V.disk_faults self.new.site ≡ V.disk_faults self.old.site }
     {

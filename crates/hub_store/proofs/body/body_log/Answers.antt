@@ -15,5 +15,5 @@ returns-in-Err-SiteFault-clause-fits g c h payloads rests =
     let place = (c.body.ensures.broken log (let h1 = c.in-Err-SiteFault.is in let h2 = c.in-Err-SiteFault.field-0-is in cc)).0 in (
       place,
       subst (λ (file : ℕ). IsBroken (changes_of file now) h payloads (spell_frame (entries_of c.args.frame)) log.gate log.next) place
-      (subst (λ (payload : List ℕ). IsBroken (changes_of log.file now) h payloads payload log.gate log.next) c.requires.spelled broken),
+          (subst (λ (payload : List ℕ). IsBroken (changes_of log.file now) h payloads payload log.gate log.next) c.requires.spelled broken),
     )

@@ -35,7 +35,7 @@ returns-in-Ok-clause-sound g c =
     let follows = c.requires.follows _ (ap going_in (sym c.in-Gated.ensures.way)) in
     let path = settle_path g.N.Start.may_follow g.N.Start.may_say o p log frame trail told before now c.settle.result c.settle.ensures.syncs c.settle.ensures.during follows fits in
     let rests = settle_rests g.N.Start.may_follow g.N.Start.may_say o p log frame trail before now c.in-Ok.log (c.in-Ok.ensures.place).0 c.in-Ok.ensures.after fits in
-    told_settled g.N.Start.may_follow g.N.Start.may_say o g.N.Start.still_follows p c.in-Ok.log trail told (entries_of frame) fits.payloads before now old.ways.items old.halted _ at c.requires.sound.apart c.requires.sound.count c.requires.place c.requires.going (c.moment-at.ensures tells) stood path fits.next rests.0 rests.1)
+    told_settled g.N.Start.may_follow g.N.Start.may_say o g.N.Start.still_follows p c.in-Ok.log trail told (entries_of frame) fits.payloads before now old.ways.items old.halted _ at c.requires.sound.apart c.requires.sound.count c.requires.place c.requires.going (c.moment-at.ensures tells) follows stood path fits.next rests.0 rests.1)
 
 pub returns-in-Ok-clause-trail : goal.returns-in-Ok-clause-trail
 returns-in-Ok-clause-trail g c = record {

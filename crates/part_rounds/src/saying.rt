@@ -1,0 +1,73 @@
+//! Saying what is answered.
+
+ghost use Rattle.std.specs.Prelude.{◌≡◌, ◌<◌, ◌+◌, ℕ, true, false, None, Ok, Err, IfErr, IfOk, OnOk, length};
+ghost use Rattle.client_port.specs.Clients.{requests_of};
+ghost use Rattle.hub_store.specs.Changes.{trail_in, told_in};
+ghost use Rattle.hub_store.specs.Sound.{IsSound};
+ghost use Rattle.hub_store.specs.Trail.{of_part};
+ghost use Rattle.part_files.specs.Placing.{placed};
+ghost use Rattle.part_rounds.specs.Commits.{is_of_tape};
+ghost use Rattle.part_rounds.specs.Rounds.{pairs_of, HasSaid, next_answer};
+ghost use Rattle.part_steps.specs.States.{state_of};
+ghost use Rattle.run_rules.specs.Rules.{count_told};
+ghost use Rattle.site_model.specs.Calls.{HasRisen};
+
+use crate::ruled::Ruled;
+use crate::stop::Stop;
+use answer_lines::answer_line;
+use client_port::Port;
+use dura_value::{Id, Name};
+use hub_store::{SayError, Store};
+use part_steps::PartState;
+use site_model::Site;
+use std::alloc::{AllocError, Global};
+
+/// A client, with memory of its own.
+fn client_of(name: &Name) -> Result<Id, AllocError>
+    ensures { IfOk result (λ id. id ≡ Id.Client name.now) }
+{
+    Ok(Id::Client(name.clone()?))
+}
+
+/// Says the answer to a client's next request, if there are both.
+pub(crate) fn say_next<V: Site, N: Ruled>(
+    alloc: Global,
+    store: &mut Store<V, N>,
+    state: &PartState,
+    port: &mut Port,
+    client: &Name,
+) -> Result<bool, Stop>
+    requires sound { IsSound store.old }
+    requires going { store.old.halted ≡ false }
+    requires made { placed N.rules.flows 1 N.rules.begin (of_part 0 (trail_in store.old)) ≡ Ok (state_of state.now) }
+    requires said { HasSaid N.rules (told_in store.old) port.old.queues }
+    ensures tells { V.tells store.new.site → V.tells store.old.site }
+    ensures sound { IsSound store.new }
+    ensures trail { trail_in store.new ≡ trail_in store.old }
+    ensures ways { store.new.ways ≡ store.old.ways }
+    ensures segment { store.new.segment ≡ store.old.segment }
+    ensures still { OnOk result (store.new.halted ≡ false) }
+    ensures said { OnOk result (HasSaid N.rules (told_in store.new) port.new.queues) }
+    ensures more { result ≡ Ok true → (count_told (pairs_of (told_in store.old)) client.now < length (requests_of client.now N.rules.requests))
+        × (count_told (pairs_of (told_in store.new)) client.now ≡ count_told (pairs_of (told_in store.old)) client.now + 1) }
+    ensures none { result ≡ Ok false → (next_answer (state_of state.now) port.old.queues client.now ≡ None) × (port.new ≡ port.old) }
+    ensures stops { IfErr result (λ stop. is_of_tape stop ≡ true) }
+    ensures fault { result ≡ Err Stop.SayFault → HasRisen (V.say_faults store.old.site) (V.say_faults store.new.site) }
+    ensures disk_faults { V.disk_faults store.new.site ≡ V.disk_faults store.old.site }
+{
+    let Some(request) = port.next_of(client) else {
+        return Ok(false);
+    };
+    let number = request.number;
+    let Some(answer) = state.answer(&client_of(client)?, number) else {
+        return Ok(false);
+    };
+    let line = answer_line(alloc, client, number, answer)?;
+    match store.say(client, number, &line) {
+        Ok(()) => {}
+        Err(SayError::SayFault) => return Err(Stop::SayFault),
+        Err(SayError::Memory) => return Err(Stop::Memory),
+    }
+    port.said(alloc, client, Some(answer))?;
+    Ok(true)
+}

@@ -1,0 +1,4 @@
+pub mod Answered
+pub mod Images
+pub mod Trails
+pub mod Whole

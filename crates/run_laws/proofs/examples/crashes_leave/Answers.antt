@@ -1,0 +1,27 @@
+use Rattle.std.proofs.Common.{inl, [], refl}
+use Rattle.commit_log.specs.Segment.{header_at}
+use Rattle.dura_model.specs.Partition.{fresh}
+use Rattle.part_files.specs.Kept.{entries_from}
+use Rattle.run_laws.specs.Leaves.AllAnswered.{nothing_said}
+use Rattle.run_laws.proofs.examples.crashes_leave.Goals as goal
+
+pub returns-clause-empty : goal.returns-clause-empty
+unfolding header_at entries_from
+returns-clause-empty c = λ flows. record {
+  going = [];
+  stands = record { entries = []; kept = refl; state = fresh 0; all = refl; legal = refl };
+  writing = inl refl;
+  told = [];
+  lines = [];
+  part = [];
+  answered = nothing_said;
+  spoken = refl;
+  saying = inl refl;
+}
+
+pub returns-clause-damaged : goal.returns-clause-damaged
+unfolding header_at
+returns-clause-damaged c = λ flows left. cc left.stands.kept
+
+pub returns-clause-unsaid : goal.returns-clause-unsaid
+returns-clause-unsaid c = λ flows left. cc left.spoken

@@ -1,0 +1,59 @@
+-- What a crash leaves of a run, and which answers were said.
+use Rattle.std.specs.Prelude.{◌≡◌, ◌⊎◌, ℕ, List, [], ◌∷◌, ◌++◌, Some}
+use Rattle.answer_lines.specs.Lines.{line_of}
+use Rattle.dura_model.specs.Legal.{Legal}
+use Rattle.dura_model.specs.World.{World}
+use Rattle.dura_value.specs.Ids.{client}
+use Rattle.dura_value.specs.Items.{Entry}
+use Rattle.dura_value.specs.Messages.{Answer}
+use Rattle.hub_store.specs.Moments.{WroteGate, IsFront, IsSpeaking}
+use Rattle.hub_store.specs.Origin.{Origin}
+use Rattle.hub_store.specs.Trail.{Settled, Said, of_part}
+use Rattle.part_files.specs.Placing.{labels_in}
+use Rattle.part_files.specs.Stands.{Stands}
+use Rattle.request_reader.specs.Line.{Request}
+use Rattle.run_laws.specs.Begins.{pairs_of}
+use Rattle.run_rules.specs.Rules.{Rules, count_told, request_at}
+use Rattle.site_model.specs.History.{Step, changes_of, tape}
+
+-- The line answers its client's next request, once these were answered, as the run has it from a moment on at which the first of
+-- these entries were settled.
+pub record IsAnswered (rules : Rules) (o : Origin) (settled : List Entry) (told : List Said) (one : Said) (line : List ℕ) : Type 0 where
+  pub request : Request
+  pub next : request_at rules one.client (count_told (pairs_of told) one.client) ≡ Some request
+  pub number_is : request.number ≡ one.number
+  pub before : List Entry
+  pub behind : List Entry
+  pub front : settled ≡ before ++ behind
+  pub world : World
+  pub legal : Legal rules.flows (labels_in (o.logs 0).entries ++ labels_in before) world
+  pub answer : Answer
+  pub has : world.answers (client one.client) one.number ≡ Some answer
+  pub line_is : line ≡ line_of one.client one.number answer
+
+-- these requests were answered by these lines, one after another
+pub data AllAnswered (rules : Rules) (o : Origin) (settled : List Entry) : List Said → List ℕ → Type 0 where
+  nothing_said : AllAnswered rules o settled [] []
+  one_more : {told : List Said} {lines : List ℕ} → AllAnswered rules o settled told lines → (one : Said) (line : List ℕ) → IsAnswered rules o settled told one line
+      → AllAnswered rules o settled (told ++ one ∷ []) (lines ++ line)
+
+-- a front of one further line, while it is being said or after that failed
+pub record IsHalfSaid (rules : Rules) (o : Origin) (settled : List Entry) (told : List Said) (steps : List Step) (part : List ℕ) : Type 0 where
+  pub speaking : IsSpeaking steps
+  pub one : Said
+  pub line : List ℕ
+  pub answered : IsAnswered rules o settled told one line
+  pub front : IsFront part line
+
+-- The files stand for the run at the start, then what was settled, then no more than the one frame whose gate was being written. The
+-- tape goes on by lines that answer requests as that run does by what is settled, then no more than a front of one further.
+pub record StandsOn (rules : Rules) (digest : ℕ) (o : Origin) (steps : List Step) (trail : List Settled) (files : ℕ → List ℕ) : Type 0 where
+  pub going : List Entry
+  pub stands : Stands rules.flows digest files (labels_in (o.logs 0).entries ++ labels_in (of_part 0 trail) ++ labels_in going)
+  pub writing : (going ≡ []) ⊎ WroteGate (changes_of (o.logs 0).file steps)
+  pub told : List Said
+  pub lines : List ℕ
+  pub part : List ℕ
+  pub answered : AllAnswered rules o (of_part 0 trail) told lines
+  pub spoken : tape steps ≡ tape o.steps ++ lines ++ part
+  pub saying : (part ≡ []) ⊎ IsHalfSaid rules o (of_part 0 trail) told steps part

@@ -1,0 +1,61 @@
+-- What may follow goes on to, and what followed is given.
+use Rattle.std.proofs.Common.{◌≡◌, ℕ, ◌+◌, ◌≤◌, List, ◌++◌, length, Ok, ◌∙◌, ap, subst, arith}
+use Rattle.std.specs.List.{filter}
+use Rattle.std.specs.Prelude.{bytes_eq}
+use Rattle.std.proofs.lemmas.List.{length-append}
+use Rattle.std.proofs.lemmas.List.Elements.{filter-append}
+use Rattle.commit_log.specs.Segment.{◌>>=◌}
+use Rattle.dura_model.specs.Partition.{Partition}
+use Rattle.dura_value.specs.Items.{Item, Entry, took, got, ran, ended, fired, trim}
+use Rattle.dura_value.specs.Messages.{Message}
+use Rattle.part_files.specs.Placing.{placed, AllGiven}
+use Rattle.part_files.proofs.Appending.{placed_both, given_both}
+use Rattle.run_rules.specs.Rules.{Rules, Told, count_told, IsDue, IsAsked, IsOurs, Follows}
+
+count_more : (told more : Told) (name : List ℕ) → count_told told name ≤ count_told (told ++ more) name
+count_more told more name =
+    let is_of = λ (one : List ℕ × ℕ). bytes_eq one.0 name in
+    let both : count_told (told ++ more) name ≡ length (filter is_of told) + length (filter is_of more) =
+    ap length (filter-append is_of told more) ∙ length-append (filter is_of told) (filter is_of more) in
+    omega (arith, both)
+
+module _ (rules : Rules) (told more : Told) where
+  due_still : (message : Message) → IsDue rules told message → IsDue rules (told ++ more) message
+  due_still message due = let grown = count_more told more due.name in record {
+    name = due.name;
+    place = due.place;
+    request = due.request;
+    asked = due.asked;
+    sends = due.sends;
+    answered = omega (arith, grown, due.answered);
+  }
+
+  asked_still : (item : Item) → IsAsked rules told item → IsAsked rules (told ++ more) item
+  asked_still (took message) asked = due_still message asked
+  asked_still (got source number message) asked = asked
+  asked_still (ran from to stamp) asked = asked
+  asked_still (ended id task outcome) asked = asked
+  asked_still (fired id task stamp) asked = asked
+  asked_still (trim reader number) asked = asked
+
+  ours_still : (entry : Entry) → IsOurs rules told entry → IsOurs rules (told ++ more) entry
+  ours_still entry ours = record { life = ours.life; asked = λ k d inside. asked_still _ (ours.asked k d inside) }
+
+  pub follows_still : (settled going : List Entry) → Follows rules settled told going → Follows rules settled (told ++ more) going
+  follows_still settled going follows = record {
+    before = follows.before;
+    made = follows.made;
+    after = follows.after;
+    accepted = follows.accepted;
+    given = follows.given;
+    ours = λ k d inside. ours_still _ (follows.ours k d inside);
+  }
+
+module _ (rules : Rules) (settled going : List Entry) (told : Told) where
+  pub followed_made : (follows : Follows rules settled told going) → placed rules.flows 1 rules.begin (settled ++ going) ≡ Ok follows.after
+  followed_made follows =
+      placed_both rules.flows 1 rules.begin settled going ∙ ap (λ made. made >>= λ q. placed rules.flows 1 q going) follows.made ∙ follows.accepted
+
+  pub followed_given : AllGiven rules.flows 1 rules.begin settled → Follows rules settled told going → AllGiven rules.flows 1 rules.begin (settled ++ going)
+  followed_given given follows =
+      (given_both rules.flows 1 rules.begin settled going).1 (given, λ q is. let same : follows.before ≡ q = cc (follows.made, is) in subst (λ (p : Partition). AllGiven rules.flows 1 p going) same follows.given)

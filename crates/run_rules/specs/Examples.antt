@@ -1,0 +1,42 @@
+-- What a call may commit and say, by example.
+use Rattle.std.specs.Prelude.{[], ◌∷◌, codes, Some}
+use Rattle.dura_model.specs.Partition.{Partition, fresh}
+use Rattle.dura_model.specs.World.{at_number}
+use Rattle.dura_value.specs.Ids.{client, orchestration}
+use Rattle.dura_value.specs.Messages.{Message, wait, was_started}
+use Rattle.flow_syntax.specs.Syntax.{Flows}
+use Rattle.part_files.specs.Examples.{request}
+use Rattle.request_reader.specs.Line.{Request}
+use Rattle.run_rules.specs.Rules.{Rules, Told}
+
+-- client a asks to start Sum/x, and then waits for its end
+abbrev pub waiting : Message
+waiting = record { from = client (codes "a"); to = orchestration (codes "Sum") (codes "x"); body = wait 2 }
+
+abbrev pub first_asked : Request
+first_asked = record { client = codes "a"; number = 1; message = request }
+
+abbrev pub then_asked : Request
+then_asked = record { client = codes "a"; number = 2; message = waiting }
+
+-- a call in a first life, where nothing happened before
+abbrev pub rules_with : Flows → Rules
+rules_with flows = record { flows = flows; begin = fresh 0; life = 0; requests = first_asked ∷ then_asked ∷ [] }
+
+-- one more life, in which nobody asks for anything
+abbrev pub later_rules : Flows → Rules
+later_rules flows = record (rules_with flows) { life = 1 }
+
+abbrev pub silent_rules : Flows → Rules
+silent_rules flows = record (rules_with flows) { requests = [] }
+
+-- the first request was answered
+abbrev pub told_once : Told
+told_once = (codes "a", 1) ∷ []
+
+-- a call that finds the answer to it
+abbrev pub started : Partition
+started = record (fresh 0) { answers = at_number (fresh 0).answers (client (codes "a")) 1 (Some was_started) }
+
+abbrev pub answering_rules : Flows → Rules
+answering_rules flows = record (rules_with flows) { begin = started }

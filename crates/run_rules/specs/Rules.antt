@@ -1,0 +1,76 @@
+-- What a call may commit and say.
+use Rattle.std.specs.Prelude.{◌≡◌, ℕ, ◌≤◌, List, length, Option, Some, Ok}
+use Rattle.std.specs.List.{All, filter, slice_get}
+use Rattle.std.specs.Str.{bytes_eq}
+use Rattle.answer_lines.specs.Lines.{line_of}
+use Rattle.client_port.specs.Clients.{requests_of}
+use Rattle.dura_model.specs.Partition.{Partition}
+use Rattle.dura_value.specs.Ids.{client}
+use Rattle.dura_value.specs.Items.{Item, Entry, took, got, ran, ended, fired, trim}
+use Rattle.dura_value.specs.Messages.{Answer, Message}
+use Rattle.flow_syntax.specs.Syntax.{Flows}
+use Rattle.part_files.specs.Placing.{placed, AllGiven}
+use Rattle.request_reader.specs.Line.{Request}
+
+-- What is fixed when a call begins: the flows, the state that the entries of the log made, the life of the entries that come, and
+-- what clients ask.
+pub record Rules : Type 0 where
+  pub flows : Flows
+  pub begin : Partition
+  pub life : ℕ
+  pub requests : List Request
+
+-- Requests whose answers were said, the first first: their clients' names, and their numbers.
+abbrev pub Told : Type 0
+Told = List (List ℕ × ℕ)
+
+-- how many of them are a client's
+abbrev pub count_told : Told → List ℕ → ℕ
+count_told told name = length (filter (λ (one : List ℕ × ℕ). bytes_eq one.0 name) told)
+
+-- a client's request at a place among its own
+abbrev pub request_at : Rules → List ℕ → ℕ → Option Request
+request_at rules name place = slice_get (requests_of name rules.requests) place
+
+-- A client's request is taken only once those before it were answered.
+pub record IsDue (rules : Rules) (told : Told) (message : Message) : Type 0 where
+  pub name : List ℕ
+  pub place : ℕ
+  pub request : Request
+  pub asked : request_at rules name place ≡ Some request
+  pub sends : message ≡ request.message
+  pub answered : place ≤ count_told told name
+
+abbrev pub IsAsked : Rules → Told → Item → Type 0
+IsAsked rules told (took message) = IsDue rules told message
+IsAsked rules told (got source number message) = Unit {0}
+IsAsked rules told (ran from to stamp) = Unit {0}
+IsAsked rules told (ended id task outcome) = Unit {0}
+IsAsked rules told (fired id task stamp) = Unit {0}
+IsAsked rules told (trim reader number) = Unit {0}
+
+-- the items of an entry are asked for, and its life is this call's
+pub record IsOurs (rules : Rules) (told : Told) (entry : Entry) : Type 0 where
+  pub life : entry.incarnation ≡ rules.life
+  pub asked : All (IsAsked rules told) entry.items
+
+-- Entries that may be committed behind these: each is accepted in the state that those before it make, each outcome is one that its
+-- activity may give, and they are this call's.
+pub record Follows (rules : Rules) (settled : List Entry) (told : Told) (going : List Entry) : Type 0 where
+  pub before : Partition
+  pub made : placed rules.flows 1 rules.begin settled ≡ Ok before
+  pub after : Partition
+  pub accepted : placed rules.flows 1 before going ≡ Ok after
+  pub given : AllGiven rules.flows 1 before going
+  pub ours : All (IsOurs rules told) going
+
+-- A line that may be said, once these entries are settled: the answer to its client's next request, as the state has it.
+pub record Answers (rules : Rules) (settled : List Entry) (told : Told) (name : List ℕ) (number : ℕ) (line : List ℕ) : Type 0 where
+  pub state : Partition
+  pub made : placed rules.flows 1 rules.begin settled ≡ Ok state
+  pub answer : Answer
+  pub has : state.answers (client name) number ≡ Some answer
+  pub request : Request
+  pub next : request_at rules name (count_told told name) ≡ Some request
+  pub number_is : request.number ≡ number
+  pub line_is : line ≡ line_of name number answer

@@ -1,0 +1,34 @@
+//! Examples of what a call may commit and say. They are said of the definitions alone: the functions do nothing.
+
+ghost use Rattle.std.specs.Prelude.{◌≡◌, ℕ, List, [], ◌∷◌, codes};
+ghost use Rattle.answer_lines.specs.Lines.{line_of};
+ghost use Rattle.dura_value.specs.Messages.{was_started};
+ghost use Rattle.flow_syntax.specs.Syntax.{Flows};
+ghost use Rattle.part_files.specs.Examples.{request, taking};
+ghost use Rattle.run_rules.specs.Examples.{waiting, rules_with, later_rules, silent_rules, told_once, answering_rules};
+ghost use Rattle.run_rules.specs.Rules.{Told, IsDue, Follows, Answers};
+
+/// A client's first request is due, and its second once the first was answered.
+pub fn requests_due()
+    ensures first { (flows : Flows) → IsDue (rules_with flows) [] request }
+    ensures second { (flows : Flows) → IsDue (rules_with flows) told_once waiting }
+    ensures early { (flows : Flows) → IsDue (rules_with flows) [] waiting → ⊥ }
+    ensures unasked { (flows : Flows) (told : Told) → IsDue (silent_rules flows) told request → ⊥ }
+{}
+
+/// The entry by which the first request is taken may follow where nothing is settled; not behind itself, not in another life, and not
+/// where nobody asks.
+pub fn entries_following()
+    ensures first { (flows : Flows) → Follows (rules_with flows) [] [] (taking 0 ∷ []) }
+    ensures twice { (flows : Flows) (told : Told) → Follows (rules_with flows) (taking 0 ∷ []) told (taking 1 ∷ []) → ⊥ }
+    ensures later { (flows : Flows) (told : Told) → Follows (later_rules flows) [] told (taking 0 ∷ []) → ⊥ }
+    ensures unasked { (flows : Flows) (told : Told) → Follows (silent_rules flows) [] told (taking 0 ∷ []) → ⊥ }
+{}
+
+/// The line of the answer that is there may be said, once, and no other line, nor where there is no answer.
+pub fn lines_answering()
+    ensures there { (flows : Flows) → Answers (answering_rules flows) [] [] (codes "a") 1 (line_of (codes "a") 1 was_started) }
+    ensures only { (flows : Flows) (line : List ℕ) → Answers (answering_rules flows) [] [] (codes "a") 1 line → line ≡ line_of (codes "a") 1 was_started }
+    ensures again { (flows : Flows) (line : List ℕ) → Answers (answering_rules flows) [] told_once (codes "a") 1 line → ⊥ }
+    ensures nowhere { (flows : Flows) (line : List ℕ) → Answers (rules_with flows) [] [] (codes "a") 1 line → ⊥ }
+{}
