@@ -1,5 +1,5 @@
 -- Where a call begins.
-use Rattle.std.specs.Prelude.{◌≡◌, ◌≢◌, ℕ, ◌<◌, List}
+use Rattle.std.specs.Prelude.{◌≢◌, ℕ, ◌<◌, List}
 use Rattle.site_model.specs.History.{Step}
 use Rattle.commit_log.specs.declared.header.Header.{Header}
 use Rattle.dura_value.specs.Items.{Entry}

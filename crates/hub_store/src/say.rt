@@ -1,6 +1,6 @@
 //! Saying an answer.
 
-ghost use Rattle.std.specs.Prelude.{◌≡◌, ◌<◌, ◌++◌, [], ◌∷◌, false, length, Err, IfOk, OnOk, OnErr};
+ghost use Rattle.std.specs.Prelude.{◌≡◌, ◌<◌, ◌++◌, [], ◌∷◌, true, false, length, Err, IfOk, OnOk, OnErr};
 ghost use Rattle.hub_store.specs.Changes.{trail_in, told_in, asked, HasHalted};
 ghost use Rattle.hub_store.specs.Sound.{IsSound};
 
@@ -33,7 +33,9 @@ impl<V: Site, N: Start> Store<V, N> {
         ensures trail { trail_in self.new ≡ trail_in self.old }
         ensures ways { self.new.ways ≡ self.old.ways }
         ensures memory { result ≡ Err SayError.Memory → (self.new.site ≡ self.old.site) × (self.new.halted ≡ false) }
+        ensures segment { self.new.segment ≡ self.old.segment }
         ensures still { OnOk result (self.new.halted ≡ false) }
+        ensures halts { result ≡ Err SayError.SayFault → self.new.halted ≡ true }
         ensures halted { HasHalted (V.say_faults self.old.site) (V.say_faults self.new.site) self.new.halted }
         ensures disk_faults { V.disk_faults self.new.site ≡ V.disk_faults self.old.site }
     {

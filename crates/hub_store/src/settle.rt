@@ -1,6 +1,6 @@
 //! Settling a frame.
 
-ghost use Rattle.std.specs.Prelude.{◌≡◌, ◌≢◌, ◌<◌, ◌↔◌, ◌++◌, ℕ, List, false, Some, Err, OnOk, OnErr, length};
+ghost use Rattle.std.specs.Prelude.{◌≡◌, ◌≢◌, ◌<◌, ◌↔◌, ◌++◌, ℕ, List, true, false, Some, Err, OnOk, OnErr, length};
 ghost use Rattle.dura_value.specs.Items.{Entry};
 ghost use Rattle.hub_store.specs.Changes.{stage_at, going_at, trail_in, told_in, KeepsOthers, Settles, HasHalted};
 ghost use Rattle.hub_store.specs.Sound.{IsSound};
@@ -29,7 +29,9 @@ impl<V: Site, N: Start> Store<V, N> {
         ensures others { KeepsOthers part self.old self.new }
         ensures no_frame { result ≡ Err Refusal.NoFrame ↔ stage_at self.old part ≢ Stage.Gated }
         ensures unchanged { result ≡ Err Refusal.NoFrame → self.new ≡ self.old }
+        ensures segment { self.new.segment ≡ self.old.segment }
         ensures still { OnOk result (self.new.halted ≡ false) }
+        ensures halts { result ≡ Err Refusal.SiteFault → self.new.halted ≡ true }
         ensures halted { HasHalted (V.disk_faults self.old.site) (V.disk_faults self.new.site) self.new.halted }
         ensures say_faults { V.say_faults self.new.site ≡ V.say_faults self.old.site }
     {

@@ -1,6 +1,6 @@
 //! Making a frame safe on the disk.
 
-ghost use Rattle.std.specs.Prelude.{◌≡◌, ◌≢◌, ◌<◌, ◌↔◌, ℕ, List, false, Some, Err, OnOk, OnErr, length};
+ghost use Rattle.std.specs.Prelude.{◌≡◌, ◌≢◌, ◌<◌, ◌↔◌, ℕ, List, true, false, Some, Err, OnOk, OnErr, length};
 ghost use Rattle.site_model.specs.History.{changes_of};
 ghost use Rattle.site_model.specs.Calls.{HasCause};
 ghost use Rattle.site_model.specs.Moments.{LeavesOnly};
@@ -54,7 +54,9 @@ impl<V: Site, N: Start> Store<V, N> {
         ensures only { MovesOnly part self.old self.new }
         ensures no_frame { result ≡ Err Refusal.NoFrame ↔ stage_at self.old part ≢ Stage.Bodied }
         ensures unchanged { result ≡ Err Refusal.NoFrame → self.new ≡ self.old }
+        ensures segment { self.new.segment ≡ self.old.segment }
         ensures still { OnOk result (self.new.halted ≡ false) }
+        ensures halts { result ≡ Err Refusal.SiteFault → self.new.halted ≡ true }
         ensures halted { HasHalted (V.disk_faults self.old.site) (V.disk_faults self.new.site) self.new.halted }
         ensures say_faults { V.say_faults self.new.site ≡ V.say_faults self.old.site }
     {
