@@ -1,3 +1,4 @@
+pub mod AnswersWait
 pub mod Bodies
 pub mod Calls
 pub mod EveryMoment
