@@ -2,14 +2,14 @@
 use Rattle.std.specs.Prelude.{◌≡◌, ◌<◌, ℕ, List, [], ◌∷◌, length, codes}
 use Rattle.site_model.specs.History.{Step, on, said, synced}
 use Rattle.dura_value.specs.Items.{Entry}
-use Rattle.hub_store.specs.Origin.{Origin}
+use Rattle.hub_store.specs.Origin.{no_entry, Origin}
 use Rattle.hub_store.specs.Trail.{Settled, Said}
 use Rattle.hub_store.specs.Moments.{Told, StandsWith, Stands, AtEveryMoment}
 
 abbrev pub nowhere : Origin
 nowhere = record {
   count = 0;
-  logs = λ partition. record { file = 16; header = record { partition = 0; partitions = 1; digest = 0; base = 0 }; payloads = []; entries = [] };
+  logs = λ partition. no_entry 16;
   steps = [];
 }
 
