@@ -1,7 +1,9 @@
--- How things stand while an answer is said that waits for a commit, by example. No partition has a log.
+-- How things stand while an answer is said that waits for a commit, where no partition has a log, and how where one has, by
+-- example.
 use Rattle.std.specs.Prelude.{◌≡◌, ◌<◌, ℕ, List, [], ◌∷◌, length, codes}
-use Rattle.site_model.specs.History.{Step, on, said, synced}
+use Rattle.site_model.specs.History.{Step, on, said, synced, wrote}
 use Rattle.dura_value.specs.Items.{Entry}
+use Rattle.part_files.specs.Examples.{digest, empty_log}
 use Rattle.hub_store.specs.Origin.{no_entry, Origin}
 use Rattle.hub_store.specs.Trail.{Settled, Said}
 use Rattle.hub_store.specs.Moments.{Told, StandsWith, Stands, AtEveryMoment}
@@ -62,3 +64,23 @@ StandWith = StandsWith MayFollow MaySay nowhere
 
 abbrev pub StandAlways : List Step → List Settled → Type 0
 StandAlways = AtEveryMoment MayFollow MaySay nowhere
+
+-- ---- with a log
+
+-- the log was written, without entries, and made safe
+abbrev pub log_written : List Step
+log_written = on 16 synced ∷ on 16 (wrote 0 34 empty_log) ∷ []
+
+-- then its gate was opened, with no frame behind it
+abbrev pub gate_opened : List Step
+gate_opened = on 16 (wrote 33 1 (0xC3 ∷ [])) ∷ log_written
+
+abbrev pub one_log : Origin
+one_log = record {
+  count = 1;
+  logs = λ partition. record { file = 16; header = record { partition = 0; partitions = 1; digest = digest; base = 0 }; payloads = []; entries = [] };
+  steps = log_written;
+}
+
+abbrev pub LogStands : List Step → List Settled → Type 0
+LogStands steps trail = StandsWith MayFollow MaySay one_log steps trail [] []

@@ -2,7 +2,7 @@
 
 ghost use Rattle.std.specs.Prelude.{◌≡◌, ◌≢◌, ◌++◌, ◌∷◌, [], true, false, None, Some};
 ghost use Rattle.hub_store.specs.Changes.{trail_in, told_in, MovesOnly, Settles, HasHalted};
-ghost use Rattle.hub_store.specs.Examples.{frame, settled_in, settled_when, request, answer, speaking, spoken, other_file, IsTold, Stand, StandWith, StandAlways};
+ghost use Rattle.hub_store.specs.Examples.{frame, settled_in, settled_when, request, answer, speaking, spoken, other_file, IsTold, Stand, StandWith, StandAlways, log_written, gate_opened, LogStands};
 ghost use Rattle.hub_store.specs.Ways.{way_of};
 
 use crate::start::Start;
@@ -31,6 +31,14 @@ pub fn moments_stand()
     ensures first { StandAlways spoken (settled_when 0) }
     ensures last { StandAlways spoken (settled_when 2) → ⊥ }
     ensures end { Stand spoken (settled_when 2) }
+{}
+
+/// A log without entries stands where nothing is settled, and not where an entry is; nor where a crash leaves its gate open with
+/// no frame behind it.
+pub fn logs_stand()
+    ensures empty { LogStands log_written [] }
+    ensures settled { LogStands log_written (settled_when 0) → ⊥ }
+    ensures no_frame { LogStands gate_opened [] → ⊥ }
 {}
 
 /// A frame of one entry is settled: at this moment and no other, in its partition and no other, and only where it is under way.
