@@ -1,6 +1,6 @@
 -- What each device call leaves of the log that it is made on.
-use Rattle.std.proofs.Common.{◌≡◌, ◌⊎◌, inl, inr, ℕ, ◌<◌, List, [], ◌∷◌, ◌++◌, Result, Some, None, Ok, refl, sym, ◌∙◌, ap, subst, append_assoc}
-use Rattle.site_model.specs.History.{Change, wrote, synced, Step, on, changes_of, Leaves}
+use Rattle.std.proofs.Common.{◌≡◌, ◌⊎◌, inl, inr, ℕ, List, [], ◌∷◌, ◌++◌, Result, Some, None, Ok, refl, sym, ◌∙◌, ap, subst, append_assoc}
+use Rattle.site_model.specs.History.{Change, wrote, synced, Step, on, changes_of}
 use Rattle.site_model.specs.Calls.{Syncs}
 use Rattle.site_model.specs.Moments.{Always, Keeps, LeavesOnly}
 use Rattle.site_model.proofs.Paths.{first, last, weaker, only_here, own_change}
@@ -23,11 +23,10 @@ use Rattle.part_files.specs.Kept.{first_of}
 use Rattle.hub_store.specs.declared.way.Way.{Way}
 use Rattle.hub_store.specs.declared.way.Way.TheVariants as ways
 use Rattle.part_files.specs.Kept.{decoded}
-use Rattle.hub_store.specs.Moments as moments
-use Rattle.hub_store.specs.Moments.{WroteGate, LeavesLog}
-use Rattle.hub_store.specs.Origin.{Log, Origin}
+use Rattle.hub_store.specs.Moments.{WroteGate}
+use Rattle.hub_store.specs.Origin.{Origin}
 use Rattle.hub_store.specs.Trail.{Settled, Said, of_part}
-use Rattle.hub_store.specs.Ways.{LogFits, WayFits, GoesOn, JustWrote, going_in}
+use Rattle.hub_store.specs.Ways.{LogFits, WayFits, GoesOn, going_in}
 use Rattle.hub_store.proofs.Payloads.{kept_payloads, decoded_more}
 use Rattle.hub_store.proofs.Standing.{OnLog, one_step}
 

@@ -1,6 +1,9 @@
+pub mod AnswersWait
 pub mod Bodies
 pub mod Calls
 pub mod EveryMoment
+pub mod FramesGo
+pub mod LogsStand
 pub mod Openings
 pub mod Payloads
 pub mod Saying

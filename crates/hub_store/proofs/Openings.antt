@@ -1,23 +1,19 @@
 -- How things stand when a call begins.
 use Rattle.std.proofs.Common.{◌≡◌, inl, ℕ, zero, suc, ◌+◌, ◌<◌, Bool, false, List, [], ◌∷◌, ◌++◌, length, map, Some, Ok, slice_get, refl, sym, ◌∙◌, ap, subst, add-zero, arith}
 use Rattle.std.specs.List.{fold, sum_by}
-use Rattle.std.proofs.Math.ListN.{get_or}
 use Rattle.std.proofs.lemmas.List.{append-nil, length-map}
 use Rattle.std.specs.Vec.{vec_len}
 use Rattle.site_model.specs.declared.site.Site as sites
 use Rattle.site_model.specs.History.{Step, changes_of, tape}
 use Rattle.commit_log.specs.declared.states.Resting.{Resting}
-use Rattle.commit_log.specs.Segment.{first_gate}
 use Rattle.commit_log.proofs.Steps.{resting_images}
 use Rattle.dura_value.specs.Items.{Entry}
-use Rattle.part_files.specs.Kept.{first_of}
 use Rattle.hub_store.specs.declared.start.Start as starts
 use Rattle.hub_store.specs.declared.store.Store.{Store}
 use Rattle.hub_store.specs.declared.way.Way.{Way}
 use Rattle.hub_store.specs.Plain.{trail_of, told_of}
 use Rattle.hub_store.specs.declared.way.Way.TheVariants as places
 use Rattle.hub_store.specs.declared.way.Way.TheVariants.{Away}
-use Rattle.part_files.specs.Kept.{decoded}
 use Rattle.hub_store.specs.Origin.{Origin}
 use Rattle.hub_store.specs.Opened.{IsOrigin, HasBegun}
 use Rattle.hub_store.specs.Trail.{Settled, Said, of_part}

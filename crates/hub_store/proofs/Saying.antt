@@ -10,9 +10,8 @@ use Rattle.dura_value.specs.Items.{Entry}
 use Rattle.hub_store.specs.declared.way.Way.{Way}
 use Rattle.hub_store.specs.Origin.{Log, Origin}
 use Rattle.hub_store.specs.Trail.{Settled, Said, of_part}
-use Rattle.hub_store.specs.Moments.{IsSpeaking, IsFront, KeepsNext, LeavesLog, Told, StandsWith, Stands}
+use Rattle.hub_store.specs.Moments.{IsSpeaking, IsFront, LeavesLog, StandsWith, Stands}
 use Rattle.hub_store.specs.Moments.Told.{says}
-use Rattle.hub_store.specs.Runs.{Runs}
 use Rattle.hub_store.specs.Ways.{LogFits, way_of}
 use Rattle.hub_store.specs.Sound.{IsTold}
 use Rattle.hub_store.proofs.EveryMoment.{runs_along}

@@ -1,16 +1,16 @@
 -- What settling a frame leaves.
-use Rattle.std.proofs.Common.{◌≡◌, ◌⊎◌, inl, inr, ℕ, ◌==◌, ◌<◌, Bool, false, List, [], ◌∷◌, ◌++◌, cond, length, Ok, Some, refl, sym, ◌∙◌, ap, subst, append_assoc, arith}
+use Rattle.std.proofs.Common.{◌≡◌, inl, inr, ℕ, ◌<◌, Bool, false, List, [], ◌∷◌, ◌++◌, cond, length, Ok, refl, sym, ◌∙◌, ap, subst, append_assoc, arith}
 use Rattle.std.specs.List.{All}
 use Rattle.std.proofs.Math.ListN.{set}
 use Rattle.std.proofs.lemmas.Bool.{eq-eqb, ne_eqb, cases_eq}
 use Rattle.std.proofs.lemmas.List.{append-nil, get_or-set_same, get_or-set_other}
 use Rattle.std.proofs.lemmas.List.Elements.{All-from_recursion}
 use Rattle.std.specs.List.{AllByRecursion}
-use Rattle.site_model.specs.History.{Change, Step, changes_of, tape, Leaves}
-use Rattle.site_model.specs.Moments.{Always, OnlyFile}
+use Rattle.site_model.specs.History.{Change, Step, changes_of, Leaves}
+use Rattle.site_model.specs.Moments.{Always}
 use Rattle.site_model.proofs.Paths.{last}
 use Rattle.commit_log.specs.Segment.{first_gate}
-use Rattle.commit_log.specs.States.{IsResting, HasFrames}
+use Rattle.commit_log.specs.States.{IsResting}
 use Rattle.commit_log.proofs.Steps.{resting_images}
 use Rattle.commit_log.specs.declared.states.Resting.{Resting}
 use Rattle.dura_value.specs.Items.{Entry}
@@ -21,13 +21,12 @@ use Rattle.hub_store.specs.declared.way.Way.{Way}
 use Rattle.hub_store.specs.declared.way.Way.TheVariants as places
 use Rattle.hub_store.specs.declared.way.Way.TheVariants.{Away}
 use Rattle.part_files.specs.Kept.{decoded}
-use Rattle.hub_store.specs.Origin.{Log, Origin, AreApart}
+use Rattle.hub_store.specs.Origin.{Origin, AreApart}
 use Rattle.hub_store.specs.Trail.{Settled, Said, of_part, settling}
-use Rattle.hub_store.specs.Moments.{LeavesLog, Told, StandsWith, Stands}
+use Rattle.hub_store.specs.Moments.{LeavesLog, StandsWith}
 use Rattle.hub_store.specs.Moments.Told.{settles as told_settles}
-use Rattle.hub_store.specs.Runs.{Runs}
 use Rattle.hub_store.specs.Runs.Runs.{settles as run_settles}
-use Rattle.hub_store.specs.Ways.{LogFits, WayFits, way_of, going_in}
+use Rattle.hub_store.specs.Ways.{LogFits, way_of}
 use Rattle.hub_store.specs.Sound.{IsTold}
 use Rattle.hub_store.proofs.EveryMoment.{runs_along}
 use Rattle.hub_store.proofs.Payloads.{kept_payloads}

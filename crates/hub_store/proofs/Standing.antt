@@ -1,19 +1,18 @@
 -- Calls on one partition's log: the others stand as they stood.
-use Rattle.std.proofs.Common.{◌≡◌, ◌≢◌, ◌⊎◌, inl, inr, ℕ, ◌<◌, ◌≤◌, Bool, false, List, [], ◌∷◌, ◌++◌, length, refl, sym, ◌∙◌, ap, subst, arith}
-use Rattle.std.proofs.Math.ListN.{set, get_or}
+use Rattle.std.proofs.Common.{◌≡◌, ◌⊎◌, inl, inr, ℕ, ◌<◌, Bool, false, List, [], ◌∷◌, length, refl, sym, ◌∙◌, subst, arith}
+use Rattle.std.proofs.Math.ListN.{set}
 use Rattle.std.proofs.lemmas.Bool.{cases_eq}
 use Rattle.std.proofs.lemmas.List.{get_or-set_same, get_or-set_other}
-use Rattle.site_model.specs.History.{Change, Step, on, changes_of, tape, Leaves}
-use Rattle.site_model.specs.Moments.{Always, OnlyFile, Keeps, LeavesOnly}
+use Rattle.site_model.specs.History.{Change, Step, changes_of, Leaves}
+use Rattle.site_model.specs.Moments.{Always, OnlyFile}
 use Rattle.site_model.specs.Moments.Always.{begins, goes_on}
-use Rattle.site_model.proofs.Paths.{last, weaker, only_here}
+use Rattle.site_model.proofs.Paths.{last}
 use Rattle.dura_value.specs.Items.{Entry}
 use Rattle.hub_store.specs.declared.way.Way.{Way}
 use Rattle.hub_store.specs.declared.way.Way.TheVariants.{Away}
-use Rattle.hub_store.specs.Origin.{Log, Origin, AreApart, IsNoLog}
+use Rattle.hub_store.specs.Origin.{Origin, AreApart}
 use Rattle.hub_store.specs.Trail.{Settled, Said, of_part}
-use Rattle.hub_store.specs.Moments.{LeavesLog, StandsWith, Stands}
-use Rattle.hub_store.specs.Runs.{Runs}
+use Rattle.hub_store.specs.Moments.{LeavesLog, StandsWith}
 use Rattle.hub_store.specs.Ways.{LogFits, way_of}
 use Rattle.hub_store.specs.Sound.{IsTold}
 use Rattle.hub_store.proofs.EveryMoment.{runs_along}

@@ -1,4 +1,5 @@
 pub mod Changes
+pub mod Examples
 pub mod Frames
 pub mod Moments
 pub mod Opened

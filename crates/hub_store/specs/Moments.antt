@@ -1,7 +1,6 @@
 -- How things stand at each moment of a call.
 use Rattle.std.specs.Prelude.{◌≡◌, ◌⊎◌, ℕ, ◌<◌, ◌≤◌, List, [], ◌∷◌, ◌++◌, length}
 use Rattle.site_model.specs.History.{Change, wrote, synced, Step, said, changes_of, tape, back_to, Leaves}
-use Rattle.commit_log.specs.declared.header.Header.{Header}
 use Rattle.dura_value.specs.Items.{Entry}
 use Rattle.part_files.specs.Kept.{keeps, kept_in}
 use Rattle.hub_store.specs.Origin.{Log, Origin, IsNoLog}

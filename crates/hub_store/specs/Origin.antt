@@ -1,5 +1,5 @@
 -- Where a call begins.
-use Rattle.std.specs.Prelude.{◌≡◌, ◌≢◌, ℕ, ◌<◌, List}
+use Rattle.std.specs.Prelude.{◌≢◌, ℕ, ◌<◌, List, []}
 use Rattle.site_model.specs.History.{Step}
 use Rattle.commit_log.specs.declared.header.Header.{Header}
 use Rattle.dura_value.specs.Items.{Entry}
@@ -10,6 +10,10 @@ pub record Log : Type 0 where
   pub header : Header
   pub payloads : List (List ℕ)
   pub entries : List Entry
+
+-- a log of partition 0 without an entry
+abbrev pub no_entry : ℕ → Log
+no_entry file = record { file = file; header = record { partition = 0; partitions = 1; digest = 0; base = 0 }; payloads = []; entries = [] }
 
 -- how many partitions there are, the log of each, and what happened outside before
 pub record Origin : Type 0 where

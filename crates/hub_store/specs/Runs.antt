@@ -1,5 +1,5 @@
 -- A history and a trail that grow together, with a claim that holds all the way.
-use Rattle.std.specs.Prelude.{◌≡◌, ◌≤◌, ℕ, List, [], ◌∷◌, ◌++◌, length}
+use Rattle.std.specs.Prelude.{◌≡◌, List, [], ◌∷◌, ◌++◌, length}
 use Rattle.std.specs.List.{All}
 use Rattle.site_model.specs.History.{Step}
 use Rattle.hub_store.specs.Trail.{Settled}

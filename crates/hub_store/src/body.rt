@@ -100,13 +100,13 @@ impl<V: Site, N: Start> Store<V, N> {
         ensures sound { IsSound self.new }
         ensures ok { OnOk result ((stage_at self.new part ≡ Stage.Bodied) × (going_at self.new part ≡ Some (entries_of frame))) }
         ensures only { MovesOnly part self.old self.new }
-        ensures segment { self.new.segment ≡ self.old.segment }
         ensures full { self.old.segment ≤ length_with (way_of self.old.ways.items part) (entries_of frame)
             → (result ≡ Err BodyRefusal.Memory) ⊎ (result ≡ Err (BodyRefusal.Full part (length_with (way_of self.old.ways.items part) (entries_of frame)))) }
         ensures room { (of n : ℕ) → result ≡ Err (BodyRefusal.Full of n) → (of ≡ part) × (self.old.segment ≤ n) × (n ≡ length_with (way_of self.old.ways.items part) (entries_of frame)) × (V.history self.new.site ≡ V.history self.old.site) × (stage_at self.new part ≡ Stage.Resting) }
         ensures memory { result ≡ Err BodyRefusal.Memory → (V.history self.new.site ≡ V.history self.old.site) × (stage_at self.new part ≡ Stage.Resting) }
+        ensures segment { self.new.segment ≡ self.old.segment }
+        ensures halts { result ≡ Err BodyRefusal.SiteFault ↔ self.new.halted ≡ true }
         ensures still { OnOk result (self.new.halted ≡ false) }
-        ensures site_fault { result ≡ Err BodyRefusal.SiteFault → self.new.halted ≡ true }
         ensures fault { self.new.halted ≡ true → HasRisen (V.disk_faults self.old.site) (V.disk_faults self.new.site) }
         ensures later { V.disk_faults self.old.site ≤ V.disk_faults self.new.site }
         ensures say_faults { V.say_faults self.new.site ≡ V.say_faults self.old.site }

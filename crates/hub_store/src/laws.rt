@@ -7,7 +7,7 @@ ghost use Rattle.codec_laws.specs.ItemFits.{FitsFrame};
 ghost use Rattle.hub_store.specs.Frames.{GoesBehind};
 
 /// A frame within the limits of the format, whose entries are numbered on from where a log goes on, goes behind it.
-#[tactic(auto, using(codec_laws::proofs::Writable::frame_writable, codec_laws::proofs::NumberedFrames::numbered_again))]
+#[tactic(auto, using(crate::proofs::FramesGo::frame_goes))]
 pub fn frames_go_behind()
     ensures { (next : Next) (going : List Entry) → FitsFrame going → IsNumbered next going → GoesBehind next going }
 {}

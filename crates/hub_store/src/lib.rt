@@ -7,6 +7,7 @@
 mod begin;
 mod body;
 mod end;
+mod examples;
 mod gate;
 mod laws;
 mod refusal;

@@ -32,10 +32,10 @@ impl<V: Site, N: Start> Store<V, N> {
         ensures err { OnErr result (told_in self.new ≡ told_in self.old) }
         ensures trail { trail_in self.new ≡ trail_in self.old }
         ensures ways { self.new.ways ≡ self.old.ways }
-        ensures segment { self.new.segment ≡ self.old.segment }
         ensures memory { result ≡ Err SayError.Memory → (self.new.site ≡ self.old.site) × (self.new.halted ≡ false) }
+        ensures segment { self.new.segment ≡ self.old.segment }
         ensures still { OnOk result (self.new.halted ≡ false) }
-        ensures say_fault { result ≡ Err SayError.SayFault → self.new.halted ≡ true }
+        ensures halts { result ≡ Err SayError.SayFault → self.new.halted ≡ true }
         ensures halted { HasHalted (V.say_faults self.old.site) (V.say_faults self.new.site) self.new.halted }
         ensures disk_faults { V.disk_faults self.new.site ≡ V.disk_faults self.old.site }
     {

@@ -27,11 +27,11 @@ impl<V: Site, N: Start> Store<V, N> {
         ensures frame { OnErr result (going_at self.new part ≡ going_at self.old part) }
         ensures said { told_in self.new ≡ told_in self.old }
         ensures others { KeepsOthers part self.old self.new }
-        ensures segment { self.new.segment ≡ self.old.segment }
         ensures no_frame { result ≡ Err Refusal.NoFrame ↔ stage_at self.old part ≢ Stage.Gated }
         ensures unchanged { result ≡ Err Refusal.NoFrame → self.new ≡ self.old }
+        ensures segment { self.new.segment ≡ self.old.segment }
         ensures still { OnOk result (self.new.halted ≡ false) }
-        ensures site_fault { result ≡ Err Refusal.SiteFault → self.new.halted ≡ true }
+        ensures halts { result ≡ Err Refusal.SiteFault → self.new.halted ≡ true }
         ensures halted { HasHalted (V.disk_faults self.old.site) (V.disk_faults self.new.site) self.new.halted }
         ensures say_faults { V.say_faults self.new.site ≡ V.say_faults self.old.site }
     {

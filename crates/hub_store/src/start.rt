@@ -5,6 +5,8 @@ ghost use Rattle.dura_value.specs.Items.{Entry};
 ghost use Rattle.hub_store.specs.Origin.{Origin};
 ghost use Rattle.hub_store.specs.Trail.{Settled, Said, of_part};
 
+use std::marker::Brand;
+
 /// Where a call begins, and what it may commit and say: the type of a store carries it.
 pub trait Start: Drop {
     /// Where the call begins.
@@ -19,4 +21,18 @@ pub trait Start: Drop {
     /// What may be committed may be committed still once more of other partitions was settled and more was said.
     ghost still_follows: { (trail more : List Settled) (told also : List Said) (partition : ℕ) (going : List Entry) → of_part partition more ≡ [] → may_follow trail told partition going
         → may_follow (trail ++ more) (told ++ also) partition going };
+}
+
+/// The start that a call picks: without a pick it has no partition, and nothing may be committed or said.
+impl Start for Brand {
+    ghost use Rattle.std.specs.Prelude.{[]};
+    ghost use Rattle.hub_store.specs.Origin.{no_entry};
+
+    ghost origin = { record { count = 0; logs = λ partition. no_entry 16; steps = [] } };
+
+    ghost may_follow = { λ trail told partition going. ⊥ };
+
+    ghost may_say = { λ trail told one line. ⊥ };
+
+    ghost still_follows = { λ trail more told also partition going none may. may };
 }

@@ -1,5 +1,5 @@
-use Rattle.std.proofs.Common.{ℕ, List, [], ◌∷◌, ◌∙◌, sym, ap, subst}
-use Rattle.site_model.specs.History.{Change, wrote, changes_of}
+use Rattle.std.proofs.Common.{ℕ, [], ◌∷◌, ◌∙◌, sym, ap, subst}
+use Rattle.site_model.specs.History.{wrote, changes_of}
 use Rattle.site_model.proofs.Paths.{own_change}
 use Rattle.commit_log.specs.Segment.{open_gate}
 use Rattle.commit_log.specs.States.{IsGated, IsBroken}

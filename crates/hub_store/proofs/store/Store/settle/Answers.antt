@@ -5,7 +5,7 @@ use Rattle.hub_store.specs.declared.way.Way.TheVariants as ways
 use Rattle.part_items.specs.Plain.{entries_of}
 use Rattle.hub_store.specs.Plain.{trail_of, told_of}
 use Rattle.hub_store.specs.Trail.{of_part, settling}
-use Rattle.hub_store.specs.Ways.{LogFits, due_in, going_in, way_of}
+use Rattle.hub_store.specs.Ways.{LogFits, due_in, going_in}
 use Rattle.hub_store.proofs.Calls.{settle_path, settle_rests, settle_breaks}
 use Rattle.hub_store.proofs.Settling.{told_settled}
 use Rattle.hub_store.proofs.Standing.{told_on}

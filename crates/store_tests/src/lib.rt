@@ -1,0 +1,7 @@
+//! Tests of `hub_store`, on sites in memory.
+#![tactic(auto)]
+
+#[cfg(test)]
+mod commits;
+#[cfg(test)]
+mod stores;
