@@ -88,3 +88,15 @@ number_begun m n k fresh now number w absent empty updates changed =
 
 pub clears : {X : Type 0} (m n : BTreeMap Id (BTreeMap ℕ X)) (k : Id) → UpdatesBy id_cmp (id_cmp k) m n None → held n ≡ cleared (held m) (id_of k)
 clears m n k updates = λ i id number. (ap (λ f. numbered f number) (updates.0 (key_of id)) ∙ at_none (get id_cmp m (key_of id)) number (is_at (id_cmp k) (key_of id)) (plain.id_eq (id_of k) id) (is_key k id)) i
+
+emptied_at : {X : Type 0} (now : BTreeMap ℕ X) (kept : Option (BTreeMap ℕ X)) (q : ℕ) (a b : Bool) → a ≡ b → get nat_cmp now q ≡ None
+    → cond b None (numbered (cond a (Some now) kept) q) ≡ numbered (cond a (Some now) kept) q
+emptied_at now kept q a true is none = sym (ap (λ (c : Bool). numbered (cond c (Some now) kept) q) is ∙ none)
+emptied_at now kept q a false is none = refl
+
+-- where no number is left for a key, the key may go
+pub emptied : {X : Type 0} (m middle n : BTreeMap Id (BTreeMap ℕ X)) (k : Id) (now : BTreeMap ℕ X)
+    → UpdatesBy id_cmp (id_cmp k) m middle (Some now) → ((q : ℕ) → get nat_cmp now q ≡ None) → UpdatesBy id_cmp (id_cmp k) middle n None → held n ≡ held middle
+emptied m middle n k now puts none removes = clears middle n k removes ∙ (λ i id q. (ap (λ (f : _). cond (plain.id_eq (id_of k) id) None (numbered f q)) (puts.0 (key_of id))
+    ∙ emptied_at now (get id_cmp m (key_of id)) q (is_at (id_cmp k) (key_of id)) (plain.id_eq (id_of k) id) (is_key k id) (none q)
+    ∙ sym (ap (λ (f : _). numbered f q) (puts.0 (key_of id)))) i)

@@ -94,11 +94,18 @@ impl<V> NumberMap<V> {
 
     /// Takes out what is kept for this id and number.
     pub fn take(&mut self, id: &Id, number: u32) -> Option<V>
+    where
+        V: Drop,
         ensures value { result ≡ by_number self.old (id_of id.now) number }
         ensures taken { by_number self.new ≡ at_number (by_number self.old) (id_of id.now) number None }
         ensures count { count_of self.new (id_of id.now) + (if is_some result then 1 else 0) ≡ count_of self.old (id_of id.now) }
     {
-        self.entries.get_mut(id)?.remove(&number)
+        let numbers = self.entries.get_mut(id)?;
+        let value = numbers.remove(&number);
+        if numbers.is_empty() {
+            self.entries.remove(id);
+        }
+        value
     }
 
     /// Takes out what is kept for this id.

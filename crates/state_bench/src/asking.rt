@@ -9,37 +9,61 @@ use std::alloc::Global;
 /// What is added to the number of each instance.
 const ADDED: i64 = 3;
 
-/// The client of the instance with this number.
-pub fn client_of(alloc: Global, number: u32) -> Result<Id> {
-    let text = format!(in alloc; "#c{number}")?;
+/// How many instances there are, and how many clients, who ask for them in turn.
+#[derive(Clone, Copy)]
+pub struct Crowd {
+    /// How many instances.
+    pub instances: u32,
+    /// How many clients.
+    pub clients: u32,
+}
+
+/// The client that asks for an instance.
+fn client_of(alloc: Global, crowd: Crowd, number: u32) -> Result<Id> {
+    let Some(client) = number.checked_rem(crowd.clients) else {
+        bail!("no clients");
+    };
+    let text = format!(in alloc; "#c{client}")?;
     Ok(Id::read(alloc, text.as_bytes())?)
 }
 
+/// The number of the request by which an instance is started; the next one waits for it.
+fn first_request(crowd: Crowd, number: u32) -> Result<u32> {
+    let Some(round) = number.checked_div(crowd.clients) else {
+        bail!("no clients");
+    };
+    match round.checked_mul(2) {
+        Some(before) => Ok(before.saturating_add(1)),
+        None => bail!("too many requests"),
+    }
+}
+
 /// The instance with this number.
-pub fn instance_of(alloc: Global, number: u32) -> Result<Id> {
+fn instance_of(alloc: Global, number: u32) -> Result<Id> {
     let text = format!(in alloc; "Sum/k{number}")?;
     Ok(Id::read(alloc, text.as_bytes())?)
 }
 
-/// A request of the client of an instance.
-fn request(alloc: Global, number: u32, body: Body) -> Result<Item> {
+/// A request for an instance.
+fn request(alloc: Global, crowd: Crowd, number: u32, body: Body) -> Result<Item> {
     Ok(Item::Took(Message {
-        from: client_of(alloc, number)?,
+        from: client_of(alloc, crowd, number)?,
         to: instance_of(alloc, number)?,
         body,
     }))
 }
 
 /// The start of an instance.
-pub fn start(alloc: Global, number: u32) -> Result<Item> {
+pub fn start(alloc: Global, crowd: Crowd, number: u32) -> Result<Item> {
     let parts = Scalars::pair(alloc, Scalar::Int(number as i64), Scalar::Int(ADDED))?;
-    let body = Body::Start(Value::List(parts), Reply::Request(1));
-    request(alloc, number, body)
+    let reply = Reply::Request(first_request(crowd, number)?);
+    request(alloc, crowd, number, Body::Start(Value::List(parts), reply))
 }
 
 /// The wait for the end of an instance.
-pub fn wait(alloc: Global, number: u32) -> Result<Item> {
-    request(alloc, number, Body::Wait(2))
+pub fn wait(alloc: Global, crowd: Crowd, number: u32) -> Result<Item> {
+    let second = first_request(crowd, number)?.saturating_add(1);
+    request(alloc, crowd, number, Body::Wait(second))
 }
 
 /// The sum of the two integers that an activity was asked for.
@@ -68,11 +92,13 @@ pub fn end(state: &PartState) -> Result<Item> {
     Ok(Item::Done(id.clone()?, task, Outcome::Done(sum)))
 }
 
-/// Whether the client of the instance with this number was told its start and its sum.
-pub fn is_answered(state: &PartState, client: &Id, number: u32) -> bool {
-    let told = match state.answer(client, 2) {
+/// Whether the client of an instance was told its start and its sum.
+pub fn is_answered(alloc: Global, state: &PartState, crowd: Crowd, number: u32) -> Result<bool> {
+    let client = client_of(alloc, crowd, number)?;
+    let first = first_request(crowd, number)?;
+    let told = match state.answer(&client, first.saturating_add(1)) {
         Some(Answer::Done(Value::Int(sum))) => *sum == number as i64 + ADDED,
         _ => false,
     };
-    told && matches!(state.answer(client, 1), Some(Answer::Started))
+    Ok(told && matches!(state.answer(&client, first), Some(Answer::Started)))
 }

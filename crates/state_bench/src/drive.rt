@@ -3,7 +3,7 @@
 ghost use Rattle.std.specs.Prelude.{◌<◌, IfOk};
 ghost use Rattle.part_steps.specs.States.{IsSound, state_of};
 
-use crate::asking::{end, start, wait};
+use crate::asking::{Crowd, end, start, wait};
 use anyhow::{Result, bail};
 use flow_syntax::Flows;
 use part_items::Item;
@@ -32,27 +32,33 @@ fn apply(alloc: Global, flows: &Flows, state: PartState, item: &Item) -> Result<
 }
 
 /// An instance is started and waited for.
-fn ask(alloc: Global, flows: &Flows, state: PartState, number: u32) -> Result<PartState>
+fn ask(
+    alloc: Global,
+    flows: &Flows,
+    state: PartState,
+    crowd: Crowd,
+    number: u32,
+) -> Result<PartState>
     requires sound { IsSound state }
     requires begun { 0 < (state_of state).position }
     ensures sound { IfOk result (λ state. IsSound state) }
     ensures begun { IfOk result (λ state. 0 < (state_of state).position) }
 {
-    let state = apply(alloc, flows, state, &start(alloc, number)?)?;
-    let state = apply(alloc, flows, state, &wait(alloc, number)?)?;
+    let state = apply(alloc, flows, state, &start(alloc, crowd, number)?)?;
+    let state = apply(alloc, flows, state, &wait(alloc, crowd, number)?)?;
     Ok(state)
 }
 
-/// So many instances are started and waited for.
-pub fn ask_all(alloc: Global, flows: &Flows, state: PartState, instances: u32) -> Result<PartState>
+/// All instances are started and waited for.
+pub fn ask_all(alloc: Global, flows: &Flows, state: PartState, crowd: Crowd) -> Result<PartState>
     requires sound { IsSound state }
     requires begun { 0 < (state_of state).position }
     ensures sound { IfOk result (λ state. IsSound state) }
     ensures begun { IfOk result (λ state. 0 < (state_of state).position) }
 {
     let mut state = state;
-    for number in 0..instances {
-        state = ask(alloc, flows, state, number)?;
+    for number in 0..crowd.instances {
+        state = ask(alloc, flows, state, crowd, number)?;
     }
     Ok(state)
 }

@@ -1,7 +1,7 @@
-//! Runs many instances in the state of one partition, to be timed from outside. `state_bench 10000 1` has 10,000 instances of `Sum`
-//! started, run and waited for, all at once, and does so once. Each is started and waited for by a client of its own, which is 7 items: two
-//! requests that are taken, their deliveries and those of their answers, and an outcome. With no words it does a little. It says `ok`
-//! if each answer is right.
+//! Runs many instances in the state of one partition, to be timed from outside. `state_bench 10000 1 4` has 10,000 instances of `Sum`
+//! started, run and waited for, all at once, by 4 clients in turn, and does so once. That is 7 items for each instance: two requests
+//! that are taken, their deliveries and those of their answers, and an outcome. With no words it does a little. It says `ok` if each
+//! answer is right.
 //!
 //! - `drive` applies items, and `asking` makes them.
 #![tactic(auto)]
@@ -10,7 +10,7 @@ mod asking;
 mod drive;
 
 use anyhow::{Result, bail};
-use asking::{client_of, is_answered};
+use asking::{Crowd, is_answered};
 use drive::{ask_all, begin, finish_all, settle};
 use flow_reader::read_flows;
 use flow_syntax::Flows;
@@ -22,38 +22,42 @@ use std::env;
 const SUM: &[u8] = br#"{"flows":{"Sum":[["call","x","add",{"v":"arg"}],["return",{"v":"x"}]]}}"#;
 
 /// Whether each client has its answers.
-fn check_all(alloc: Global, state: &PartState, instances: u32) -> Result<()> {
-    for number in 0..instances {
-        if !is_answered(state, &client_of(alloc, number)?, number) {
-            bail!("a wrong answer to client {number}");
+fn check_all(alloc: Global, state: &PartState, crowd: Crowd) -> Result<()> {
+    for number in 0..crowd.instances {
+        if !is_answered(alloc, state, crowd, number)? {
+            bail!("a wrong answer of instance {number}");
         }
     }
     Ok(())
 }
 
 /// So many instances are started, run and waited for in one state.
-fn run_all(alloc: Global, flows: &Flows, instances: u32) -> Result<()> {
+fn run_all(alloc: Global, flows: &Flows, crowd: Crowd) -> Result<()> {
     let state = begin(alloc);
-    let state = ask_all(alloc, flows, state, instances)?;
+    let state = ask_all(alloc, flows, state, crowd)?;
     let state = settle(alloc, flows, state, 1)?;
-    let state = finish_all(alloc, flows, state, instances)?;
+    let state = finish_all(alloc, flows, state, crowd.instances)?;
     let state = settle(alloc, flows, state, 2)?;
     if !state.is_quiet() {
         bail!("something is still possible");
     }
-    check_all(alloc, &state, instances)
+    check_all(alloc, &state, crowd)
 }
 
 fn main(rt: HostRuntime) -> Result<()> {
     let alloc = rt.alloc();
     let flows = read_flows(alloc, SUM)?;
     let mut words = env::args(&rt)?.skip(1);
-    let (instances, times) = match (words.next(), words.next()) {
-        (Some(instances), Some(times)) => (instances.parse::<u32>()?, times.parse::<u32>()?),
-        _ => (10, 2),
+    let (instances, times, clients) = match (words.next(), words.next(), words.next()) {
+        (Some(instances), Some(times), Some(clients)) => (
+            instances.parse::<u32>()?,
+            times.parse::<u32>()?,
+            clients.parse::<u32>()?,
+        ),
+        _ => (10, 2, 4),
     };
     for _ in 0..times {
-        run_all(alloc, &flows, instances)?;
+        run_all(alloc, &flows, Crowd { instances, clients })?;
     }
     println!(rt; "ok")?;
     Ok(())
