@@ -46,6 +46,19 @@ refuses_first digest (Spent partition number) fault rest is = is
 refuses_first digest SiteFault fault rest is = tt
 refuses_first digest Memory fault rest is = tt
 
+-- the log that one file has can't begin where it does
+module _ (digest : ℕ) (error : RecoverError) (first second : LogFile) (found : Found) (some more : List Entry) where
+  pub first_alone : first ≡ Log found → second ≡ Fresh → Refuses digest error (late_base 16 (kept_as some (Log found))) → Refuses digest error (tied_fault (kept_as some first) (kept_as more second))
+  first_alone one two is =
+      subst (λ (f : LogFile). Refuses digest error (tied_fault (kept_as some f) (kept_as more second))) (sym one)
+      (subst (λ (f : LogFile). Refuses digest error (tied_fault (kept_as some (Log found)) (kept_as more f))) (sym two)
+      (refuses_first digest error (late_base 16 (kept_as some (Log found))) None is))
+
+  pub second_alone : first ≡ Fresh → second ≡ Log found → Refuses digest error (late_base 17 (kept_as more (Log found))) → Refuses digest error (tied_fault (kept_as some first) (kept_as more second))
+  second_alone one two is =
+      subst (λ (f : LogFile). Refuses digest error (tied_fault (kept_as some f) (kept_as more second))) (sym one)
+      (subst (λ (f : LogFile). Refuses digest error (tied_fault nothing (kept_as more f))) (sym two) is)
+
 refuses_behind : (digest : ℕ) (error : RecoverError) (fault rest : Option Refusal) → fault ≡ None → Refuses digest error rest → Refuses digest error (or_else fault rest)
 refuses_behind digest error fault rest none is = subst (λ (f : Option Refusal). Refuses digest error (or_else f rest)) (sym none) is
 

@@ -53,7 +53,6 @@ fn both_there(first: &Found, second: &Found) -> RecoverError
 }
 
 /// The log that two files have, each of which suits, if one of them has it.
-#[tactic(auto, using(crate::proofs::LogsFound::refuses_first))]
 pub(crate) fn choose(first: LogFile, second: LogFile) -> Result<Option<Found>, RecoverError>
     ensures chosen { IfOk result (λ chosen. Chooses first second chosen) }
     ensures refused { (digest : ℕ) (some more : List Entry) → IfErr result (λ error. Refuses digest error (tied_fault (kept_as some first) (kept_as more second))) }

@@ -40,7 +40,7 @@ frames-preserved g c =
       unchanged = c.read_step.ensures.unchanged ∙ inv.unchanged;
       read = λ tells opened.
           let was = inv.read (c.read_step.ensures.told tells) opened in
-          let on = reads_over flows old steps c.args.reader reading c.read_step.result was.0 was.1 inv.file inv.header inv.size inv.unchanged opened was.2 (c.read_step.ensures.reads tells) in
+          let on = reads_over flows old steps c.args.reader reading (Ok c.in_ok-more.field-0) was.0 was.1 inv.file inv.header inv.size inv.unchanged opened was.2 (c.in_ok-more.ensures.reads tells) in
           let more = subst (λ (turn : Turn). ReadsOn flows (content_of c.args.reader.file old) c.args.reader.header was.0 was.1 (Ok turn)) c.in-More.is on in
           (_, _, more.2);
       later = let before = inv.later in let now = c.read_step.ensures.later in omega (arith, before, now);
@@ -63,8 +63,8 @@ returns-in-End-clause-reads g c tells opened =
     let old = g.V.Site.history c.args.site.now in
     let reader = c.args.reader in
     let was = inv.read (c.read_step.ensures.told tells) opened in
-    let on = reads_over flows old steps reader reading c.read_step.result was.0 was.1 inv.file inv.header inv.size inv.unchanged opened was.2 (c.read_step.ensures.reads tells) in
+    let on = reads_over flows old steps reader reading (Ok c.in_ok-more.field-0) was.0 was.1 inv.file inv.header inv.size inv.unchanged opened was.2 (c.in_ok-more.ensures.reads tells) in
     let end = subst (λ (turn : Turn). ReadsOn flows (content_of reader.file old) reader.header was.0 was.1 (Ok turn)) c.in-End.is on in
-    let rest = rests_over flows old steps reader reading c.read_step.result was.0 was.1 inv.file inv.header inv.size inv.unchanged opened (g.V.Site.history c.read_step.new.site) c.read_step.ensures.unchanged was.2.read (c.read_step.ensures.rests tells) in
+    let rest = rests_over flows old steps reader reading (Ok c.in_ok-more.field-0) was.0 was.1 inv.file inv.header inv.size inv.unchanged opened (g.V.Site.history c.read_step.new.site) c.read_step.ensures.unchanged was.2.read (c.in_ok-more.ensures.rests tells) in
     let rests = subst (λ (turn : Turn). RestsAfter old reader.header was.0 (Ok turn)) c.in-End.is rest in
     (was.0, was.1, was.2.decoded, end.0, rests, end.1)

@@ -1,6 +1,10 @@
-use Rattle.std.proofs.Common.{◌≡◌, ◌+◌, ◌*◌, List, ℕ, length, refl, sym, ap, subst, arith}
+use Rattle.std.proofs.Common.{◌≡◌, ◌+◌, ◌*◌, List, ℕ, length, Ok, Err, refl, ap, subst, arith}
+use Rattle.std.proofs.lemmas.Result.{err_from_is_err_and}
 use Rattle.site_model.specs.History.{content_of}
 use Rattle.flow_syntax.specs.Views.{flows_of}
+use Rattle.part_items.specs.Numbered.{next_frame_in}
+use Rattle.part_items.specs.Plain.{next_of}
+use Rattle.recover_core.specs.Files.{PlacesFrame}
 use Rattle.recover_core.proofs.FramesRead.{more_read, end_read, gate_refused, frame_refused}
 use Rattle.recover_core.proofs.reading.read_step.Goals as goal
 
@@ -38,11 +42,24 @@ returns-clause-reads g c tells size_is payloads entries has =
     let content = content_of reader.file (g.V.Site.history c.args.site.now) in
     let goes = rw c.in-Ok-Frame.field-0-is at (c.in-Ok-Frame.ensures.found tells size_is payloads has.read) in
     let place = rw c.in-Ok-Frame.field-0-is at c.in-Ok-Frame.ensures.place in
-    let placed = c.in_ok-progress.ensures in (
+    let placed = c.in_ok-progress.ensures in
+    let read = subst (λ (bytes : List ℕ). next_frame_in (next_of c.args.reading.progress.next) bytes ≡ Ok placed.0) c.as_bytes.ensures placed.1 in (
       c.in-Ok-Frame.payload,
       placed.0,
-      more_read (flows_of c.args.flows.now) content reader.header payloads entries reader.gate c.args.reading.progress has c.in-Ok-Frame.payload c.in-Ok-Frame.behind.gate placed.0 c.in_ok-progress.progress goes.0 goes.1 place.3 placed.1 placed.2,
+      more_read (flows_of c.args.flows.now) content reader.header payloads entries reader.gate c.args.reading.progress has c.in-Ok-Frame.payload c.in-Ok-Frame.behind.gate placed.0 c.in_ok-progress.progress goes.0 goes.1 place.3 read placed.2,
     )
+
+pub returns-in_err-progress-clause-reads : goal.returns-in_err-progress-clause-reads
+returns-in_err-progress-clause-reads g c tells size_is payloads entries has =
+    let flows = flows_of c.args.flows.now in
+    let reader = c.args.reading.reader in
+    let progress = c.args.reading.progress in
+    let error = c.in_err-progress.field-0.0 in
+    let content = content_of reader.file (g.V.Site.history c.args.site.now) in
+    let goes = rw c.in-Ok-Frame.field-0-is at (c.in-Ok-Frame.ensures.found tells size_is payloads has.read) in
+    let places = subst (λ (bytes : List ℕ). PlacesFrame flows progress reader.gate (next_frame_in (next_of progress.next) bytes) (Err error)) c.as_bytes.ensures c.in_err-progress.ensures in
+    let p = err_from_is_err_and c.from_residual.result c.from_residual.ensures.1 in
+    rw (p.1, p.2) (frame_refused flows content reader.header payloads entries reader.gate progress has c.in-Ok-Frame.payload error goes.0 places)
 
 pub returns-clause-there : goal.returns-clause-there
 returns-clause-there g c =

@@ -29,7 +29,7 @@ returns-in_err-second-clause-recovers g c tells =
     let synced_first = c.in_ok-first.ensures.synced in
     let syncs = c.open_file-2.ensures.syncs in
     let first = suits_moved one two flows c.args.digest 16 c.in_ok-first.first (first_changes old one two synced_first syncs) (c.in_ok-first.ensures.says (c.open_file-2.ensures.told tells)) in
-    let p = err_from_is_err_and c.from_residual-in_err-second.result c.from_residual.ensures.1 in
+    let p = err_from_is_err_and c.from_residual-in_err-second.result c.from_residual-in_err-second.ensures.1 in
     rw (p.1, p.2) (second_refused flows c.args.digest old two (first_still old one two synced_first syncs) (second_content old one two synced_first syncs) c.in_ok-first.first first c.in_err-second.field-0.0 (c.in_err-second.ensures.says tells))
 
 pub returns-in_err-second-clause-syncs : goal.returns-in_err-second-clause-syncs
@@ -45,7 +45,7 @@ returns-in_err-found-clause-recovers g c tells =
     let syncs = c.open_file-2.ensures.syncs in
     let first = suits_moved one two flows c.args.digest 16 c.in_ok-first.first (first_changes old one two synced_first syncs) (c.in_ok-first.ensures.says (c.open_file-2.ensures.told tells)) in
     let second = c.in_ok-second.ensures.says tells in
-    let p = err_from_is_err_and c.from_residual-in_err-found.result c.from_residual.ensures.1 in
+    let p = err_from_is_err_and c.from_residual-in_err-found.result c.from_residual-in_err-found.ensures.1 in
     rw (p.1, p.2) (both_refused flows c.args.digest old two (first_still old one two synced_first syncs) (second_content old one two synced_first syncs) c.in_ok-first.first first c.in_ok-second.second second c.in_err-found.field-0.0 (λ some more. c.in_err-found.ensures.refused c.args.digest some more))
 
 pub returns-in_err-found-clause-syncs : goal.returns-in_err-found-clause-syncs
