@@ -1,7 +1,7 @@
 -- What syncs of the two log files leave as it is.
 use Rattle.std.proofs.Common.{◌≡◌, ◌∙◌, ◌⊎◌, inl, inr, ◌∷◌, List, ap}
 use Rattle.site_model.specs.History.{Step, on, synced, reads, changes_of, content_of}
-use Rattle.recover_core.specs.Recovering.{one_synced, both_synced, OnlySyncs}
+use Rattle.recover_core.specs.Recovering.{OnlySyncs}
 
 module _ (old new : List Step) (syncs : (new ≡ on 16 synced ∷ old) ⊎ (new ≡ old)) where
   pub first_content : content_of 16 new ≡ content_of 16 old

@@ -1,28 +1,24 @@
 -- What was read of a file is what it keeps.
-use Rattle.std.proofs.Common.{◌≡◌, ◌≢◌, ◌∙◌, inl, inr, ℕ, List, [], ◌∷◌, length, Bool, true, false, ◌==◌, not, if◌then◌else◌, Option, Some, None, Result, Ok, Err, refl, sym, ap, subst, eqb-true, arith}
+use Rattle.std.proofs.Common.{◌≡◌, ◌≢◌, ◌∙◌, inl, inr, ℕ, List, [], ◌∷◌, length, true, false, ◌==◌, Some, None, Ok, Err, refl, sym, ap, subst, eqb-true, arith}
 use Rattle.std.proofs.lemmas.Bool.{cases_Bool}
 use Rattle.std.proofs.lemmas.Bool.Decides.{nat_tests}
-use Rattle.site_model.specs.History.{Step, Change, on, synced, reads, changes_of, content_of, IsKept}
+use Rattle.site_model.specs.History.{Step, on, synced, reads, changes_of, content_of, IsKept}
 use Rattle.site_model.proofs.Paths.{own_change}
 use Rattle.commit_log.specs.declared.header.Header.{Header}
 use Rattle.commit_log.specs.declared.states.Resting.{Resting}
-use Rattle.commit_log.specs.Segment.{◌>>=◌, first_gate}
+use Rattle.commit_log.specs.Segment.{first_gate}
 use Rattle.log_reader.specs.declared.reader.LogReader.{LogReader}
 use Rattle.log_reader.specs.declared.reader.FrameError.{FrameError}
 use Rattle.log_reader.specs.declared.reader.FrameError.TheVariants as unread
-use Rattle.log_reader.specs.Frames.{fresh, damaged, headed, opening_of, HasRead}
+use Rattle.log_reader.specs.Frames.{fresh, damaged, opening_of, HasRead}
 use Rattle.log_reader.specs.Outcomes.{Opens}
 use Rattle.dura_value.specs.Items.{Entry}
 use Rattle.flow_syntax.specs.Syntax.{Flows}
 use Rattle.part_files.specs.Kept.{Kept, nothing, broken, keeps, kept_under, kept_from, left_from, first_of, kept_in}
-use Rattle.part_files.specs.Logs.{Refusal, damaged_at, other_shape, other_flows, fault_of}
+use Rattle.part_files.specs.Logs.{damaged_at, other_shape, other_flows, fault_of}
 use Rattle.part_files.specs.Stands.{alone_with}
-use Rattle.recover_core.specs.declared.error.RecoverError.TheVariants as refusals
-use Rattle.recover_core.specs.declared.files.Found.{Found}
-use Rattle.recover_core.specs.declared.files.LogFile.{LogFile}
-use Rattle.recover_core.specs.declared.files.LogFile.TheVariants.{Fresh, Log}
 use Rattle.recover_core.specs.declared.progress.Progress.{Progress}
-use Rattle.recover_core.specs.Files.{IsOpened, ReadsAll, IsFound, SaysFile, Suits}
+use Rattle.recover_core.specs.Files.{IsOpened, ReadsAll, IsFound, SaysFile}
 use Rattle.recover_core.proofs.HeadersRead.{own_partition}
 
 module _ (file : ℕ) (old new : List Step) (is : new ≡ on file synced ∷ old) where

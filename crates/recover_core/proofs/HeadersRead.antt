@@ -1,9 +1,9 @@
 -- A header that was read of a partition's log is that partition's.
-use Rattle.std.proofs.Common.{◌≡◌, ◌∙◌, ℕ, ◌+◌, ◌^◌, List, [], ◌∷◌, Bool, true, false, cond, eqb, eqb-true, nat_lt, if◌then◌else◌, Result, Ok, Err, refl, sym, ap, subst}
+use Rattle.std.proofs.Common.{◌≡◌, ◌∙◌, ℕ, ◌^◌, List, [], ◌∷◌, Bool, true, false, cond, eqb, eqb-true, nat_lt, if◌then◌else◌, Result, Ok, Err, refl, sym, ap, subst}
 use Rattle.std.specs.Int.{w32, w64}
 use Rattle.commit_log.specs.declared.header.Header.{Header}
 use Rattle.commit_log.specs.Segment.{◌>>=◌, open_gate, signature, constant_at, number_at, header_at}
-use Rattle.log_reader.specs.Frames.{Opening, fresh, damaged, headed, header_for, opening_from, opening_of}
+use Rattle.log_reader.specs.Frames.{fresh, headed, header_for, opening_from, opening_of}
 
 -- a step that went well had something to go on from
 step : {A B : Type 0} (r : Result A ℕ) (f : A → Result B ℕ) (b : B) → (r >>= f) ≡ Ok b → (a : A) × (r ≡ Ok a) × (f a ≡ Ok b)

@@ -1,5 +1,5 @@
 -- What two files have is what is answered of them.
-use Rattle.std.proofs.Common.{◌≡◌, ◌∙◌, ◌⊎◌, inl, inr, ℕ, ◌+◌, ◌<◌, ◌≤◌, ◌^◌, lit<, List, [], ◌∷◌, Bool, true, false, ◌==◌, Option, Some, None, Result, Ok, Err, refl, sym, ap, subst, arith}
+use Rattle.std.proofs.Common.{◌≡◌, ◌∙◌, ◌⊎◌, inl, inr, ℕ, ◌≤◌, lit<, List, [], true, ◌==◌, Option, Some, None, Result, Ok, Err, refl, sym, ap, subst, arith}
 use Rattle.std.specs.Prelude.{IfOk, IfSome}
 use Rattle.std.proofs.lemmas.Bool.{cases_lt}
 use Rattle.site_model.specs.History.{Step, changes_of, content_of, reads}
@@ -13,8 +13,8 @@ use Rattle.flow_syntax.specs.Syntax.{Flows}
 use Rattle.dura_model.specs.Partition.{Partition, fresh}
 use Rattle.part_steps.specs.declared.state.PartState.{PartState}
 use Rattle.part_steps.specs.States.{IsSound, state_of, count_of}
-use Rattle.part_files.specs.Kept.{Kept, nothing, broken, keeps, first_of, kept_in}
-use Rattle.part_files.specs.Logs.{Asked, Refusal, Logs, refused, no_log, log_in, fault_of, same_base, late_base, or_else, first_fault, the_log, unless, logs_of, logs_in, entries_in}
+use Rattle.part_files.specs.Kept.{Kept, nothing, keeps, first_of, kept_in}
+use Rattle.part_files.specs.Logs.{Refusal, Logs, no_log, log_in, fault_of, late_base, or_else, first_fault, the_log, unless, logs_of, logs_in, entries_in}
 use Rattle.part_files.specs.Placing.{placed, next_life}
 use Rattle.part_files.specs.Stands.{alone_with}
 use Rattle.recover_core.specs.declared.error.RecoverError.{RecoverError}

@@ -1,5 +1,5 @@
 -- What stands in one log file.
-use Rattle.std.specs.Prelude.{◌≡◌, ℕ, ◌+◌, ◌*◌, ◌≤◌, ◌<◌, List, [], ◌∷◌, ◌++◌, length, Option, None, Result, Ok, Err}
+use Rattle.std.specs.Prelude.{◌≡◌, ℕ, ◌+◌, ◌*◌, ◌≤◌, ◌<◌, List, [], ◌∷◌, ◌++◌, length, Result, Ok, Err}
 use Rattle.site_model.specs.History.{Step, changes_of, content_of, IsKept}
 use Rattle.commit_log.specs.declared.header.Header.{Header}
 use Rattle.commit_log.specs.Segment.{◌>>=◌, first_gate}
@@ -14,7 +14,7 @@ use Rattle.flow_syntax.specs.Syntax.{Flows}
 use Rattle.dura_model.specs.Partition.{fresh}
 use Rattle.part_items.specs.Numbered.{Next, behind_all, next_frame_in}
 use Rattle.part_items.specs.Plain.{next_of}
-use Rattle.part_files.specs.Kept.{Kept, nothing, broken, keeps, in_file, left_from, first_of, kept_in}
+use Rattle.part_files.specs.Kept.{nothing, broken, keeps, in_file, left_from, first_of, kept_in}
 use Rattle.part_files.specs.Logs.{fault_of}
 use Rattle.part_files.specs.Placing.{placed, next_life}
 use Rattle.part_files.specs.Stands.{alone_with}

@@ -1,6 +1,6 @@
 -- What the two log files of a partition that is alone stand for, as recovery answers it.
-use Rattle.std.specs.Prelude.{◌≡◌, ◌⊎◌, ℕ, ◌<◌, ◌≤◌, ◌^◌, List, ◌∷◌, Option, Some, None, Result, Ok, Err, IfOk, IfSome}
-use Rattle.site_model.specs.History.{Step, on, synced, content_of}
+use Rattle.std.specs.Prelude.{◌≡◌, ◌⊎◌, ℕ, ◌<◌, ◌≤◌, ◌^◌, List, ◌∷◌, Option, Some, None, Result, Ok, Err, IfOk}
+use Rattle.site_model.specs.History.{Step, on, synced}
 use Rattle.commit_log.specs.declared.header.Header.{Header}
 use Rattle.commit_log.specs.declared.states.Resting.{Resting}
 use Rattle.commit_log.specs.Outcomes.{RestsAs}

@@ -64,8 +64,8 @@ fn read_file<V: Site>(
 {
     let reader = match open_log(site, file, PARTITION) {
         Ok(reader) => reader,
-        Err(OpenError::Damaged { offset }) => return Err(FrameError::Damaged { offset }),
         Err(OpenError::Fresh) => return Ok(LogFile::Fresh),
+        Err(OpenError::Damaged { offset }) => return Err(FrameError::Damaged { offset }),
         Err(OpenError::SiteFault) => return Err(FrameError::SiteFault),
     };
     let header = reader.header;

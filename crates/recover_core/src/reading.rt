@@ -53,12 +53,12 @@ fn place_frame(
 {
     let frame = match read_next_frame(alloc, progress.next, payload) {
         Ok(frame) => frame,
+        Err(ReadError::Memory) => return Err(FrameError::Memory),
         Err(ReadError::Bad { offset }) => {
             return Err(FrameError::Damaged {
                 offset: gate + 5 + offset as u64,
             });
         }
-        Err(ReadError::Memory) => return Err(FrameError::Memory),
     };
     match place_entries(alloc, flows, progress, frame.entries()) {
         Ok(placed) => Ok(placed),

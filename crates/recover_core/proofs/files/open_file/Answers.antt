@@ -1,7 +1,6 @@
-use Rattle.std.proofs.Common.{◌≡◌, ℕ, Ok, Err, sym, subst}
+use Rattle.std.proofs.Common.{sym, subst}
 use Rattle.std.proofs.lemmas.Result.{err_from_is_err_and}
 use Rattle.site_model.specs.History.{content_of}
-use Rattle.flow_syntax.specs.Views.{flows_of}
 use Rattle.part_files.specs.Kept.{Kept, kept_in}
 use Rattle.part_files.specs.Logs.{fault_of}
 use Rattle.part_files.specs.Stands.{alone_with}

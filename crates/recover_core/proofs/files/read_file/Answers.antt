@@ -1,6 +1,6 @@
-use Rattle.std.proofs.Common.{◌≡◌, ◌∙◌, ◌∷◌, inl, Ok, Err, refl, sym, subst, rules, List}
+use Rattle.std.proofs.Common.{◌≡◌, ◌∙◌, inl, Err, sym, subst, rules, List}
 use Rattle.std.proofs.lemmas.Result.{err_from_is_err_and}
-use Rattle.site_model.specs.History.{Step, on, synced, content_of}
+use Rattle.site_model.specs.History.{Step, content_of}
 use Rattle.flow_syntax.specs.Views.{flows_of}
 use Rattle.log_reader.specs.declared.reader.OpenError.{OpenError}
 use Rattle.log_reader.specs.declared.reader.OpenError.TheVariants as unopened
@@ -21,7 +21,7 @@ returns-in-Err-Damaged-clause-says g c tells =
     let old = g.V.Site.history c.args.site.now in
     let is : c.open_log.result ≡ Err (unopened.Damaged c.in-Err-Damaged.offset) = search rules in
     let opens = subst (λ (e : OpenError). Opens 0 (content_of c.args.file old) (Err e)) c.in-Err-Damaged.field-0-is (c.in-Err-Damaged.ensures.opens tells) in
-    damaged_front c.args.file old (g.V.Site.history c.open_log.new.site) (c.open_log.ensures.synced_damaged c.in-Err-Damaged.offset is) c.in-Err-Damaged.offset opens
+    rw c.in-Err-Damaged.field-0-is (damaged_front c.args.file old (g.V.Site.history c.open_log.new.site) (c.open_log.ensures.synced_damaged c.in-Err-Damaged.offset is) c.in-Err-Damaged.offset opens)
 
 pub returns-clause-says : goal.returns-clause-says
 returns-clause-says g c tells =

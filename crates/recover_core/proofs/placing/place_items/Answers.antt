@@ -1,4 +1,4 @@
-use Rattle.std.proofs.Common.{◌≡◌, ◌<◌, ◌+◌, List, drop, Option, subst, arith}
+use Rattle.std.proofs.Common.{◌<◌, ◌+◌, List, drop, subst, arith}
 use Rattle.flow_syntax.specs.Views.{flows_of}
 use Rattle.dura_value.specs.Items as plain
 use Rattle.part_items.specs.Plain.{item_of, items_of}

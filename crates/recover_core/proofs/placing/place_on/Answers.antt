@@ -1,4 +1,4 @@
-use Rattle.std.proofs.Common.{◌≡◌, ◌<◌, ◌^◌, Option, sym, ap, subst, arith}
+use Rattle.std.proofs.Common.{◌<◌, ◌^◌, Option, sym, ap, subst, arith}
 use Rattle.flow_syntax.specs.Views.{flows_of}
 use Rattle.dura_model.specs.Partition.{Partition}
 use Rattle.part_items.specs.Plain.{items_of, entry_of}

@@ -5,13 +5,13 @@ use Rattle.part_items.specs.declared.frames.Entry.{Entry}
 use Rattle.part_items.specs.Plain.{entry_of, entries_of, next_of}
 use Rattle.part_files.specs.Kept.{in_file}
 use Rattle.recover_core.specs.Progress.{GoesOn, IsNext}
-use Rattle.recover_core.proofs.NextFrames.{next_frame, fault_inside}
+use Rattle.recover_core.proofs.NextFrames.{next_frame}
 use Rattle.recover_core.proofs.reading.place_frame.Goals as goal
 
 pub returns-in-Err-Bad : goal.returns-in-Err-Bad
 returns-in-Err-Bad c =
     let is = rw c.in-Err-Bad.field-0-is at c.in-Err-Bad.ensures in
-    ap (in_file (c.args.gate + 5)) is
+    rw c.in-Err-Bad.field-0-is (ap (in_file (c.args.gate + 5)) is)
 
 pub place_entries-requires : goal.place_entries-requires
 place_entries-requires c =

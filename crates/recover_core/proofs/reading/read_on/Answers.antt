@@ -1,9 +1,9 @@
-use Rattle.std.proofs.Common.{◌≡◌, ◌∙◌, ◌+◌, List, ℕ, [], Ok, refl, subst, arith}
+use Rattle.std.proofs.Common.{◌∙◌, [], Ok, refl, subst, arith}
 use Rattle.site_model.specs.History.{content_of}
 use Rattle.flow_syntax.specs.Views.{flows_of}
 use Rattle.recover_core.specs.declared.reading.Turn.{Turn}
-use Rattle.recover_core.specs.Files.{HasReadTo, ReadsOn, RestsAfter, StaysThere}
-use Rattle.recover_core.proofs.FramesRead.{none_read, reads_over, rests_over, all_refused}
+use Rattle.recover_core.specs.Files.{ReadsOn, RestsAfter, StaysThere}
+use Rattle.recover_core.proofs.FramesRead.{none_read, reads_over, rests_over}
 use Rattle.recover_core.proofs.reading.read_on.Goals as goal
 
 pub frames-init : goal.frames-init

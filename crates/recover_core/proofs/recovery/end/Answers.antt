@@ -1,4 +1,4 @@
-use Rattle.std.proofs.Common.{◌≡◌, ◌≤◌, sym, subst, refl}
+use Rattle.std.proofs.Common.{subst, refl}
 use Rattle.recover_core.specs.declared.progress.Placing.{Placing}
 use Rattle.recover_core.specs.Progress.{Shows}
 use Rattle.dura_model.specs.Partition.{fresh}

@@ -1,10 +1,9 @@
-use Rattle.std.proofs.Common.{◌≡◌, ◌∙◌, ◌∷◌, inl, inr, List, Option, ap, subst}
+use Rattle.std.proofs.Common.{subst}
 use Rattle.std.proofs.lemmas.Result.{err_from_is_err_and}
-use Rattle.site_model.specs.History.{Step, on, synced, content_of}
+use Rattle.site_model.specs.History.{content_of}
 use Rattle.flow_syntax.specs.Views.{flows_of}
 use Rattle.part_files.specs.Logs.{logs_in}
 use Rattle.part_files.specs.Stands.{alone_with}
-use Rattle.recover_core.specs.declared.files.Found.{Found}
 use Rattle.recover_core.specs.Chosen.{Chooses}
 use Rattle.recover_core.proofs.BothSynced.{first_content, second_untouched, only_first, first_changes, first_still, second_content, only_both}
 use Rattle.recover_core.proofs.LogsFound.{suits_moved, first_refused, second_refused, both_refused, none_recovered, one_found, end_recovered, end_rests}

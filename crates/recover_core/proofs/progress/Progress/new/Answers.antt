@@ -1,4 +1,4 @@
-use Rattle.std.proofs.Common.{◌≡◌, ℕ, ◌≤◌, Ok, refl, sym, ap, subst, arith}
+use Rattle.std.proofs.Common.{◌≡◌, Ok, refl, sym, ap, arith}
 use Rattle.dura_model.specs.Partition.{Partition}
 use Rattle.part_steps.specs.States.{state_of}
 use Rattle.recover_core.proofs.progress.Progress.new.Goals as goal
