@@ -36,7 +36,7 @@ const FIRST: [u8; 38] = [
 fn with<const N: usize>(bytes: [u8; N], at: usize, other: &[u8]) -> [u8; N] {
     let mut changed = bytes;
     for (i, byte) in other.iter().enumerate() {
-        if let Some(place) = changed.get_mut(at + i) {
+        if let Some(place) = changed.get_mut(at.saturating_add(i)) {
             *place = *byte;
         }
     }
@@ -90,6 +90,10 @@ fn check_refused(
     }
 }
 
+fn client(rt: &impl Abort, alloc: Global) -> Id {
+    Id::Client(Name::of(alloc, b"a").expect(rt, "memory"))
+}
+
 #[test]
 fn nothing_yet(rt: HostRuntime) {
     let alloc = rt.alloc();
@@ -97,7 +101,7 @@ fn nothing_yet(rt: HostRuntime) {
         let found = recovered(&rt, first, second, alloc).expect(&rt, "a state");
         assert!(rt; found.log.is_none());
         assert!(rt; found.incarnation == 0);
-        assert!(rt; found.state.is_quiet());
+        assert!(rt; !found.state.has_taken(&client(&rt, alloc), 1));
     }
 }
 
@@ -106,7 +110,7 @@ fn check_first(rt: &impl Abort, alloc: Global, found: &Recovered, file: u32, gat
         Some(log) => assert!(rt; (log.file, log.gate) == (file, gate)),
         None => panic!(rt; "no log"),
     }
-    let client = Id::Client(Name::of(alloc, b"a").expect(rt, "memory"));
+    let client = client(rt, alloc);
     assert!(rt; found.state.has_taken(&client, 1));
     assert!(rt; !found.state.has_taken(&client, 2));
 }
