@@ -1,0 +1,11 @@
+pub mod BothSynced
+pub mod EntriesPlaced
+pub mod FilesFound
+pub mod FramesRead
+pub mod HeadersRead
+pub mod LogsFound
+pub mod NextFrames
+pub mod SameLife
+pub mod Standing
+pub mod Ties
+pub mod Walks

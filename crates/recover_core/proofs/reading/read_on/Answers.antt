@@ -1,0 +1,70 @@
+use Rattle.std.proofs.Common.{◌∙◌, [], Ok, refl, subst, arith}
+use Rattle.site_model.specs.History.{content_of}
+use Rattle.flow_syntax.specs.Views.{flows_of}
+use Rattle.recover_core.specs.declared.reading.Turn.{Turn}
+use Rattle.recover_core.specs.Files.{ReadsOn, RestsAfter, StaysThere}
+use Rattle.recover_core.proofs.FramesRead.{none_read, reads_over, rests_over}
+use Rattle.recover_core.proofs.reading.read_on.Goals as goal
+
+pub frames-init : goal.frames-init
+frames-init g c =
+    let reader = c.args.reader in
+    let flows = flows_of c.args.flows.now in
+    let progress = c.new-progress.result in
+    record {
+      can = record { ready = c.new-progress.ensures.ready; room = let none = c.new-progress.ensures.first in omega (arith, none) };
+      file = refl;
+      header = refl;
+      size = refl;
+      told = λ tells. tells;
+      unchanged = refl;
+      read = λ tells opened. ([], [], none_read flows (content_of reader.file (g.V.Site.history c.args.site.now)) reader.header reader.gate progress opened.read opened.first (c.new-progress.ensures.begins flows));
+      later = omega arith;
+      say_faults = refl;
+    }
+
+pub frames-preserved : goal.frames-preserved
+frames-preserved g c =
+    let inv = c.frames.invariant in
+    let flows = flows_of c.args.flows.now in
+    let reading = c.frames.reading in
+    let steps = g.V.Site.history c.frames.site in
+    let old = g.V.Site.history c.args.site.now in
+    let there = subst (λ (turn : Turn). StaysThere reading (Ok turn)) c.in-More.is c.in_ok-more.ensures.there in
+    record {
+      can = there.can;
+      file = there.file ∙ inv.file;
+      header = there.header ∙ inv.header;
+      size = there.size ∙ inv.size;
+      told = λ tells. inv.told (c.read_step.ensures.told tells);
+      unchanged = c.read_step.ensures.unchanged ∙ inv.unchanged;
+      read = λ tells opened.
+          let was = inv.read (c.read_step.ensures.told tells) opened in
+          let on = reads_over flows old steps c.args.reader reading (Ok c.in_ok-more.field-0) was.0 was.1 inv.file inv.header inv.size inv.unchanged opened was.2 (c.in_ok-more.ensures.reads tells) in
+          let more = subst (λ (turn : Turn). ReadsOn flows (content_of c.args.reader.file old) c.args.reader.header was.0 was.1 (Ok turn)) c.in-More.is on in
+          (_, _, more.2);
+      later = let before = inv.later in let now = c.read_step.ensures.later in omega (arith, before, now);
+      say_faults = c.read_step.ensures.say_faults ∙ inv.say_faults;
+    }
+
+pub frames-smaller : goal.frames-smaller
+frames-smaller g c =
+    let there = subst (λ (turn : Turn). StaysThere c.frames.reading (Ok turn)) c.in-More.is c.in_ok-more.ensures.there in
+    let further = there.further in
+    let below = c.in-More.more.reader.below in
+    omega (arith, further, below)
+
+pub returns-in-End-clause-reads : goal.returns-in-End-clause-reads
+returns-in-End-clause-reads g c tells opened =
+    let inv = c.frames.invariant in
+    let flows = flows_of c.args.flows.now in
+    let reading = c.frames.reading in
+    let steps = g.V.Site.history c.frames.site in
+    let old = g.V.Site.history c.args.site.now in
+    let reader = c.args.reader in
+    let was = inv.read (c.read_step.ensures.told tells) opened in
+    let on = reads_over flows old steps reader reading (Ok c.in_ok-more.field-0) was.0 was.1 inv.file inv.header inv.size inv.unchanged opened was.2 (c.in_ok-more.ensures.reads tells) in
+    let end = subst (λ (turn : Turn). ReadsOn flows (content_of reader.file old) reader.header was.0 was.1 (Ok turn)) c.in-End.is on in
+    let rest = rests_over flows old steps reader reading (Ok c.in_ok-more.field-0) was.0 was.1 inv.file inv.header inv.size inv.unchanged opened (g.V.Site.history c.read_step.new.site) c.read_step.ensures.unchanged was.2.read (c.in_ok-more.ensures.rests tells) in
+    let rests = subst (λ (turn : Turn). RestsAfter old reader.header was.0 (Ok turn)) c.in-End.is rest in
+    (was.0, was.1, was.2.decoded, end.0, rests, end.1)

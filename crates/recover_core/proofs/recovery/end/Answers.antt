@@ -1,0 +1,9 @@
+use Rattle.std.proofs.Common.{subst, refl}
+use Rattle.recover_core.specs.declared.progress.Placing.{Placing}
+use Rattle.recover_core.specs.Progress.{Shows}
+use Rattle.dura_model.specs.Partition.{fresh}
+use Rattle.part_files.specs.Placing.{placed}
+use Rattle.recover_core.proofs.recovery.end.Goals as goal
+
+pub returns-in-Stuck-clause-ends : goal.returns-in-Stuck-clause-ends
+returns-in-Stuck-clause-ends c flows entries shows life = (refl, subst (λ (p : Placing). Shows p (placed flows 1 (fresh 0) entries)) c.in-Stuck.is shows)

@@ -1,0 +1,98 @@
+use Rattle.std.proofs.Common.{subst}
+use Rattle.std.proofs.lemmas.Result.{err_from_is_err_and}
+use Rattle.site_model.specs.History.{content_of}
+use Rattle.flow_syntax.specs.Views.{flows_of}
+use Rattle.part_files.specs.Logs.{logs_in}
+use Rattle.part_files.specs.Stands.{alone_with}
+use Rattle.recover_core.specs.Chosen.{Chooses}
+use Rattle.recover_core.proofs.BothSynced.{first_content, second_untouched, only_first, first_changes, first_still, second_content, only_both}
+use Rattle.recover_core.proofs.LogsFound.{suits_moved, first_refused, second_refused, both_refused, none_recovered, one_found, end_recovered, end_rests}
+use Rattle.recover_core.proofs.recovery.recover.Goals as goal
+
+pub returns-in_err-first-clause-recovers : goal.returns-in_err-first-clause-recovers
+returns-in_err-first-clause-recovers g c tells =
+    let old = g.V.Site.history c.args.site.now in
+    let one = g.V.Site.history c.open_file.new.site in
+    let p = err_from_is_err_and c.from_residual.result c.from_residual.ensures.1 in
+    rw (p.1, p.2) (first_refused (flows_of c.args.flows.now) c.args.digest old one (first_content old one c.open_file.ensures.syncs) (second_untouched old one c.open_file.ensures.syncs) c.in_err-first.field-0.0 (c.in_err-first.ensures.says tells))
+
+pub returns-in_err-first-clause-syncs : goal.returns-in_err-first-clause-syncs
+returns-in_err-first-clause-syncs g c = only_first (g.V.Site.history c.args.site.now) (g.V.Site.history c.open_file.new.site) c.open_file.ensures.syncs
+
+pub returns-in_err-second-clause-recovers : goal.returns-in_err-second-clause-recovers
+returns-in_err-second-clause-recovers g c tells =
+    let flows = flows_of c.args.flows.now in
+    let old = g.V.Site.history c.args.site.now in
+    let one = g.V.Site.history c.open_file.new.site in
+    let two = g.V.Site.history c.open_file-2.new.site in
+    let synced_first = c.in_ok-first.ensures.synced in
+    let syncs = c.open_file-2.ensures.syncs in
+    let first = suits_moved one two flows c.args.digest 16 c.in_ok-first.first (first_changes old one two synced_first syncs) (c.in_ok-first.ensures.says (c.open_file-2.ensures.told tells)) in
+    let p = err_from_is_err_and c.from_residual-in_err-second.result c.from_residual-in_err-second.ensures.1 in
+    rw (p.1, p.2) (second_refused flows c.args.digest old two (first_still old one two synced_first syncs) (second_content old one two synced_first syncs) c.in_ok-first.first first c.in_err-second.field-0.0 (c.in_err-second.ensures.says tells))
+
+pub returns-in_err-second-clause-syncs : goal.returns-in_err-second-clause-syncs
+returns-in_err-second-clause-syncs g c = only_both (g.V.Site.history c.args.site.now) (g.V.Site.history c.open_file.new.site) (g.V.Site.history c.open_file-2.new.site) c.in_ok-first.ensures.synced c.open_file-2.ensures.syncs
+
+pub returns-in_err-found-clause-recovers : goal.returns-in_err-found-clause-recovers
+returns-in_err-found-clause-recovers g c tells =
+    let flows = flows_of c.args.flows.now in
+    let old = g.V.Site.history c.args.site.now in
+    let one = g.V.Site.history c.open_file.new.site in
+    let two = g.V.Site.history c.open_file-2.new.site in
+    let synced_first = c.in_ok-first.ensures.synced in
+    let syncs = c.open_file-2.ensures.syncs in
+    let first = suits_moved one two flows c.args.digest 16 c.in_ok-first.first (first_changes old one two synced_first syncs) (c.in_ok-first.ensures.says (c.open_file-2.ensures.told tells)) in
+    let second = c.in_ok-second.ensures.says tells in
+    let p = err_from_is_err_and c.from_residual-in_err-found.result c.from_residual-in_err-found.ensures.1 in
+    rw (p.1, p.2) (both_refused flows c.args.digest old two (first_still old one two synced_first syncs) (second_content old one two synced_first syncs) c.in_ok-first.first first c.in_ok-second.second second c.in_err-found.field-0.0 (λ some more. c.in_err-found.ensures.refused c.args.digest some more))
+
+pub returns-in_err-found-clause-syncs : goal.returns-in_err-found-clause-syncs
+returns-in_err-found-clause-syncs g c = only_both (g.V.Site.history c.args.site.now) (g.V.Site.history c.open_file.new.site) (g.V.Site.history c.open_file-2.new.site) c.in_ok-first.ensures.synced c.open_file-2.ensures.syncs
+
+pub returns-in-Some-clause-recovers : goal.returns-in-Some-clause-recovers
+returns-in-Some-clause-recovers g c tells =
+    let flows = flows_of c.args.flows.now in
+    let old = g.V.Site.history c.args.site.now in
+    let one = g.V.Site.history c.open_file.new.site in
+    let two = g.V.Site.history c.open_file-2.new.site in
+    let synced_first = c.in_ok-first.ensures.synced in
+    let syncs = c.open_file-2.ensures.syncs in
+    let first = suits_moved one two flows c.args.digest 16 c.in_ok-first.first (first_changes old one two synced_first syncs) (c.in_ok-first.ensures.says (c.open_file-2.ensures.told tells)) in
+    let second = c.in_ok-second.ensures.says tells in
+    let chosen = subst (Chooses c.in_ok-first.first c.in_ok-second.second) c.in-Some.is c.in_ok-found.ensures.chosen in
+    let has = one_found flows c.args.digest old two (first_still old one two synced_first syncs) (second_content old one two synced_first syncs) c.in_ok-first.first first c.in_ok-second.second second c.in-Some.found chosen in
+    end_recovered two flows c.args.digest (logs_in (alone_with c.args.digest) (λ file. content_of file old)) c.in-Some.found c.end.result has (c.end.ensures.ends flows has.entries has.placed has.life)
+
+pub returns-in-Some-clause-rests : goal.returns-in-Some-clause-rests
+returns-in-Some-clause-rests g c tells =
+    let flows = flows_of c.args.flows.now in
+    let old = g.V.Site.history c.args.site.now in
+    let one = g.V.Site.history c.open_file.new.site in
+    let two = g.V.Site.history c.open_file-2.new.site in
+    let synced_first = c.in_ok-first.ensures.synced in
+    let syncs = c.open_file-2.ensures.syncs in
+    let first = suits_moved one two flows c.args.digest 16 c.in_ok-first.first (first_changes old one two synced_first syncs) (c.in_ok-first.ensures.says (c.open_file-2.ensures.told tells)) in
+    let second = c.in_ok-second.ensures.says tells in
+    let chosen = subst (Chooses c.in_ok-first.first c.in_ok-second.second) c.in-Some.is c.in_ok-found.ensures.chosen in
+    let has = one_found flows c.args.digest old two (first_still old one two synced_first syncs) (second_content old one two synced_first syncs) c.in_ok-first.first first c.in_ok-second.second second c.in-Some.found chosen in
+    end_rests two flows c.args.digest (logs_in (alone_with c.args.digest) (λ file. content_of file old)) c.in-Some.found c.end.result has (c.end.ensures.ends flows has.entries has.placed has.life)
+
+pub returns-in-Some-clause-syncs : goal.returns-in-Some-clause-syncs
+returns-in-Some-clause-syncs g c = only_both (g.V.Site.history c.args.site.now) (g.V.Site.history c.open_file.new.site) (g.V.Site.history c.open_file-2.new.site) c.in_ok-first.ensures.synced c.open_file-2.ensures.syncs
+
+pub returns-in-None-clause-recovers : goal.returns-in-None-clause-recovers
+returns-in-None-clause-recovers g c tells =
+    let flows = flows_of c.args.flows.now in
+    let old = g.V.Site.history c.args.site.now in
+    let one = g.V.Site.history c.open_file.new.site in
+    let two = g.V.Site.history c.open_file-2.new.site in
+    let synced_first = c.in_ok-first.ensures.synced in
+    let syncs = c.open_file-2.ensures.syncs in
+    let first = suits_moved one two flows c.args.digest 16 c.in_ok-first.first (first_changes old one two synced_first syncs) (c.in_ok-first.ensures.says (c.open_file-2.ensures.told tells)) in
+    let second = c.in_ok-second.ensures.says tells in
+    let chosen = subst (Chooses c.in_ok-first.first c.in_ok-second.second) c.in-None.is c.in_ok-found.ensures.chosen in
+    none_recovered flows c.args.digest old two (first_still old one two synced_first syncs) (second_content old one two synced_first syncs) c.in_ok-first.first first c.in_ok-second.second second chosen c.new.result c.new.ensures.fresh c.new.ensures.partitions c.new.ensures.sound
+
+pub returns-in-None-clause-syncs : goal.returns-in-None-clause-syncs
+returns-in-None-clause-syncs g c = only_both (g.V.Site.history c.args.site.now) (g.V.Site.history c.open_file.new.site) (g.V.Site.history c.open_file-2.new.site) c.in_ok-first.ensures.synced c.open_file-2.ensures.syncs

@@ -1,0 +1,66 @@
+-- How far the entries of a log were placed.
+use Rattle.std.specs.Prelude.{◌≡◌, ℕ, ◌+◌, ◌≤◌, ◌<◌, List, [], ◌∷◌, length, Option, Some, None, Result, Ok, Err}
+use Rattle.commit_log.specs.Segment.{◌>>=◌}
+use Rattle.dura_value.specs.Items.{Entry}
+use Rattle.dura_value.specs.Limits.{number_limit}
+use Rattle.flow_syntax.specs.Syntax.{Flows}
+use Rattle.dura_model.specs.Partition.{Partition, fresh}
+use Rattle.part_items.specs.Numbered.{Next, behind, behind_all}
+use Rattle.part_items.specs.Plain.{next_of}
+use Rattle.part_steps.specs.declared.state.PartState.{PartState}
+use Rattle.part_steps.specs.States.{IsSound, state_of, count_of}
+use Rattle.part_files.specs.Placing.{placed, life_behind, next_life}
+use Rattle.recover_core.specs.declared.progress.Placing.{Placing}
+use Rattle.recover_core.specs.declared.progress.Placing.TheVariants.{On, Stuck}
+use Rattle.recover_core.specs.declared.progress.Progress.{Progress}
+
+-- Items made another state of the same entry, or one of them isn't accepted.
+abbrev pub Makes : Option PartState → (old : PartState) → Option Partition → Type 0
+Makes (Some new) old made = (made ≡ Some (state_of new)) × IsSound new × (count_of new ≡ count_of old)
+    × ((state_of new).position ≡ (state_of old).position) × ((state_of new).incarnation ≡ (state_of old).incarnation)
+Makes None old made = made ≡ None
+
+-- Entries made this state of the one partition, or the one at this position isn't accepted.
+abbrev pub Shows : Placing → Result Partition ℕ → Type 0
+Shows (On state) made = (made ≡ Ok (state_of state)) × (count_of state ≡ 1) × IsSound state
+Shows (Stuck position) made = made ≡ Err position
+
+-- how many entries the state has
+abbrev pub position_in : Placing → ℕ
+position_in (On state) = (state_of state).position
+position_in (Stuck position) = 0
+
+-- an entry of this life may begin
+abbrev pub IsReadyFor : (life : ℕ) → Placing → Type 0
+IsReadyFor life (On state) = IsSound state × (count_of state ≡ 1) × ((state_of state).incarnation ≤ life)
+IsReadyFor life (Stuck position) = Unit {0}
+
+-- an entry that is numbered on may begin
+abbrev pub IsReady : Progress → Type 0
+IsReady p = IsReadyFor p.next.incarnation p.placing
+
+-- These are a log's next entries, whose numbers are below the limit.
+abbrev pub IsNext : Next → List Entry → Type 0
+IsNext next [] = Unit {0}
+IsNext next (entry ∷ entries) = (entry.position ≡ next.position) × (next.incarnation ≤ entry.incarnation)
+    × (entry.position < number_limit) × (entry.incarnation < number_limit) × IsNext (behind entry) entries
+
+-- what an entry makes of what those before it made
+pub record GoesOnAs (flows : Flows) (entry : Entry) (old new : Placing) : Type 0 where
+  pub placed : (made : Result Partition ℕ) → Shows old made → Shows new (made >>= λ p. placed flows 1 p (entry ∷ []))
+  pub ready : IsReadyFor entry.incarnation new
+  pub room : position_in new ≤ position_in old + 1
+
+-- what entries make of how far those before them came
+pub record GoesOn (flows : Flows) (entries : List Entry) (old new : Progress) : Type 0 where
+  pub next : next_of new.next ≡ behind_all (next_of old.next) entries
+  pub life : new.life ≡ life_behind old.life entries
+  pub placed : (made : Result Partition ℕ) → Shows old.placing made → Shows new.placing (made >>= λ p. placed flows 1 p entries)
+  pub ready : IsReady new
+  pub room : position_in new.placing ≤ position_in old.placing + length entries
+
+-- these entries of a log that begins here were placed
+pub record IsProgress (flows : Flows) (first : Next) (entries : List Entry) (p : Progress) : Type 0 where
+  pub next : next_of p.next ≡ behind_all first entries
+  pub life : p.life ≡ next_life entries
+  pub placed : Shows p.placing (placed flows 1 (fresh 0) entries)

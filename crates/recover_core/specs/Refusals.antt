@@ -1,0 +1,15 @@
+-- Why log files are refused, as an error says it.
+use Rattle.std.specs.Prelude.{◌≡◌, ℕ, Option, Some}
+use Rattle.part_files.specs.Logs.{Refusal, damaged_at, other_shape, other_flows}
+use Rattle.recover_core.specs.declared.error.RecoverError.{RecoverError}
+use Rattle.recover_core.specs.declared.error.RecoverError.TheVariants.{Damaged, OtherShape, OtherFlows, Illegal, Spent, SiteFault, Memory}
+
+-- the first fault of the files is the one that this error names, unless the disk failed or memory ran out
+abbrev pub Refuses : (digest : ℕ) → RecoverError → Option Refusal → Type 0
+Refuses digest (Damaged file offset) fault = fault ≡ Some (damaged_at file offset)
+Refuses digest (OtherShape found asked) fault = (fault ≡ Some (other_shape found)) × (asked ≡ 1)
+Refuses digest (OtherFlows found given) fault = (fault ≡ Some (other_flows found)) × (given ≡ digest)
+Refuses digest (Illegal partition position) fault = ⊥
+Refuses digest (Spent partition number) fault = ⊥
+Refuses digest SiteFault fault = Unit {0}
+Refuses digest Memory fault = Unit {0}

@@ -1,0 +1,47 @@
+// How far the entries of a log were placed.
+ghost use Rattle.std.specs.Prelude.{◌≡◌, []};
+ghost use Rattle.dura_model.specs.Partition.{fresh};
+ghost use Rattle.flow_syntax.specs.Syntax.{Flows};
+ghost use Rattle.recover_core.specs.Progress.{IsReady, IsProgress, position_in};
+
+use part_items::Next;
+use part_steps::PartState;
+use std::alloc::Global;
+
+/// What the entries so far make of the state.
+#[derive(Drop)]
+pub(crate) enum Placing {
+    /// Each was accepted, and this is the state.
+    On(PartState),
+    /// The one at this position isn't accepted.
+    Stuck(u64),
+}
+
+/// How far the entries of a log were placed.
+#[derive(Drop)]
+pub(crate) struct Progress {
+    /// Where the log goes on.
+    pub next: Next,
+    /// The life that goes on behind the entries.
+    pub life: u64,
+    /// What they make of the state.
+    pub placing: Placing,
+}
+
+impl Progress {
+    /// No entry of a log that begins at this position.
+    pub fn new(alloc: Global, base: u64) -> Progress
+        ensures begins { (flows : Flows) → IsProgress flows (record { position = base; incarnation = 0 }) [] result }
+        ensures ready { IsReady result }
+        ensures first { position_in result.placing ≡ 0 }
+    {
+        Progress {
+            next: Next {
+                position: base,
+                incarnation: 0,
+            },
+            life: 0,
+            placing: Placing::On(PartState::new(alloc, 1, 0)),
+        }
+    }
+}

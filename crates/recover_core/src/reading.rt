@@ -1,0 +1,126 @@
+// Reading a log on, frame by frame, and placing its entries.
+ghost use Rattle.std.specs.Prelude.{◌≡◌, ◌≤◌, ◌<◌, ◌+◌, ◌*◌, ◌^◌, ℕ, List, Err, IfOk, length};
+ghost use Rattle.site_model.specs.History.{changes_of, content_of, IsKept};
+ghost use Rattle.site_model.specs.Calls.{HasRisen};
+ghost use Rattle.dura_value.specs.Items.{Entry};
+ghost use Rattle.flow_syntax.specs.Views.{flows_of};
+ghost use Rattle.log_reader.specs.Frames.{HasRead};
+ghost use Rattle.part_items.specs.Numbered.{next_frame_in};
+ghost use Rattle.part_items.specs.Plain.{next_of};
+ghost use Rattle.recover_core.specs.Files.{PlacesFrame, IsOpened, HasReadTo, CanGoOn, ReadsOn, RestsAfter, StaysThere, ReadsAll};
+ghost use Rattle.recover_core.specs.Progress.{IsReady, position_in};
+
+use crate::placing::place_entries;
+use crate::progress::Progress;
+use commit_log::Resting;
+use dura_value::ReadError;
+use flow_syntax::Flows;
+use log_reader::{FrameError, LogReader, Next};
+use part_items::read_next_frame;
+use site_model::Site;
+use std::alloc::Global;
+
+/// A log that is read, and how far its entries were placed.
+#[derive(Drop)]
+pub(crate) struct Reading {
+    /// The log behind the frames so far.
+    pub reader: LogReader,
+    /// How far their entries were placed.
+    pub progress: Progress,
+}
+
+/// What came of one step of reading.
+#[derive(Drop)]
+pub(crate) enum Turn {
+    /// There was a frame.
+    More(Reading),
+    /// There are no more.
+    End(Resting, Progress),
+}
+
+/// The entries of the frame behind the gate at this offset are placed.
+fn place_frame(
+    alloc: Global,
+    flows: &Flows,
+    progress: Progress,
+    gate: u64,
+    payload: &[u8],
+) -> Result<Progress, FrameError>
+    requires ready { IsReady progress }
+    requires room { position_in progress.placing ≤ 64 * gate }
+    requires below { gate + 5 + length payload.now < 2 ^ 31 }
+    ensures { PlacesFrame (flows_of flows.now) progress gate (next_frame_in (next_of progress.next) payload.now) result }
+{
+    let frame = match read_next_frame(alloc, progress.next, payload) {
+        Ok(frame) => frame,
+        Err(ReadError::Memory) => return Err(FrameError::Memory),
+        Err(ReadError::Bad { offset }) => {
+            return Err(FrameError::Damaged {
+                offset: gate + 5 + offset as u64,
+            });
+        }
+    };
+    match place_entries(alloc, flows, progress, frame.entries()) {
+        Ok(placed) => Ok(placed),
+        Err(_) => Err(FrameError::Memory),
+    }
+}
+
+/// Reads the next frame, if there is one, and places its entries.
+fn read_step<V: Site>(
+    alloc: Global,
+    site: &mut V,
+    flows: &Flows,
+    reading: Reading,
+) -> Result<Turn, FrameError>
+    requires { CanGoOn reading }
+    ensures told { V.tells site.new → V.tells site.old }
+    ensures reads { V.tells site.new → reading.reader.size ≡ length (content_of reading.reader.file (V.history site.old)) → (payloads : List (List ℕ)) (entries : List Entry)
+        → HasReadTo (flows_of flows.now) (content_of reading.reader.file (V.history site.old)) reading.reader.header payloads entries reading.reader.gate reading.progress
+        → ReadsOn (flows_of flows.now) (content_of reading.reader.file (V.history site.old)) reading.reader.header payloads entries result }
+    ensures rests { V.tells site.new → (payloads : List (List ℕ)) → HasRead (content_of reading.reader.file (V.history site.old)) reading.reader.header payloads reading.reader.gate
+        → IsKept (changes_of reading.reader.file (V.history site.old)) → RestsAfter (V.history site.new) reading.reader.header payloads result }
+    ensures there { StaysThere reading result }
+    ensures unchanged { V.history site.new ≡ V.history site.old }
+    ensures fault { result ≡ Err FrameError.SiteFault → HasRisen (V.disk_faults site.old) (V.disk_faults site.new) }
+    ensures later { V.disk_faults site.old ≤ V.disk_faults site.new }
+    ensures say_faults { V.say_faults site.new ≡ V.say_faults site.old }
+{
+    let Reading { reader, progress } = reading;
+    let gate = reader.gate;
+    let (payload, behind) = match reader.next(alloc, site) {
+        Ok(Next::Frame(payload, behind)) => (payload, behind),
+        Ok(Next::End(log)) => return Ok(Turn::End(log, progress)),
+        Err(error) => return Err(error),
+    };
+    let progress = place_frame(alloc, flows, progress, gate, payload.as_bytes())?;
+    Ok(Turn::More(Reading {
+        reader: behind,
+        progress,
+    }))
+}
+
+/// Reads all frames of a log that was opened, and places their entries.
+pub(crate) fn read_on<V: Site>(
+    alloc: Global,
+    site: &mut V,
+    flows: &Flows,
+    reader: LogReader,
+) -> Result<(Resting, Progress), FrameError>
+    ensures told { V.tells site.new → V.tells site.old }
+    ensures reads { V.tells site.new → IsOpened (V.history site.old) reader → ReadsAll (V.history site.old) (flows_of flows.now) reader result }
+    ensures there { IfOk result (λ end. end.0.file ≡ reader.file) }
+    ensures unchanged { V.history site.new ≡ V.history site.old }
+    ensures fault { result ≡ Err FrameError.SiteFault → HasRisen (V.disk_faults site.old) (V.disk_faults site.new) }
+    ensures later { V.disk_faults site.old ≤ V.disk_faults site.new }
+    ensures say_faults { V.say_faults site.new ≡ V.say_faults site.old }
+{
+    let progress = Progress::new(alloc, reader.header.base);
+    let mut reading = Reading { reader, progress };
+    'frames: loop {
+        match read_step(alloc, site, flows, reading)? {
+            Turn::More(more) => reading = more,
+            Turn::End(log, progress) => return Ok((log, progress)),
+        }
+    }
+}

@@ -1,0 +1,102 @@
+// What the two log files of a partition that is alone stand for.
+ghost use Rattle.std.specs.Prelude.{◌≡◌, ◌≤◌, ℕ, List, Err, OnOk, IfOk, IfSome};
+ghost use Rattle.site_model.specs.History.{content_of};
+ghost use Rattle.site_model.specs.Calls.{HasRisen};
+ghost use Rattle.dura_value.specs.Items.{Entry};
+ghost use Rattle.flow_syntax.specs.Syntax.{Flows as PlainFlows};
+ghost use Rattle.flow_syntax.specs.Views.{flows_of};
+ghost use Rattle.dura_model.specs.Partition.{fresh};
+ghost use Rattle.part_files.specs.Logs.{logs_in};
+ghost use Rattle.part_files.specs.Placing.{placed, next_life};
+ghost use Rattle.part_files.specs.Stands.{alone_with};
+ghost use Rattle.recover_core.specs.Chosen.{Ends};
+ghost use Rattle.recover_core.specs.Progress.{Shows};
+ghost use Rattle.recover_core.specs.Recovering.{Recovers, RestsFor, OnlySyncs, both_synced};
+
+use crate::choosing::{FIRST_LOG, SECOND_LOG, choose};
+use crate::error::RecoverError;
+use crate::files::{Found, open_file};
+use crate::progress::Placing;
+use commit_log::Resting;
+use flow_syntax::Flows;
+use part_steps::PartState;
+use site_model::Site;
+use std::alloc::Global;
+
+/// The lives that no partition has.
+const LIVES: u64 = 1 << 62;
+
+/// What was recovered.
+#[derive(Debug, Drop)]
+pub struct Recovered {
+    /// The state that the log's entries make, one after another.
+    pub state: PartState,
+    /// The log, or none where there is none yet.
+    pub log: Option<Resting>,
+    /// The life that begins now: one more than that of the last entry, 0 where there is none.
+    pub incarnation: u64,
+}
+
+/// What the entries of a log stand for.
+fn end(found: Found) -> Result<Recovered, RecoverError>
+    ensures ends { (flows : PlainFlows) (entries : List Entry) → Shows found.placing (placed flows 1 (fresh 0) entries) → found.life ≡ next_life entries → Ends flows entries found result }
+    ensures no_fault { result ≡ Err RecoverError.SiteFault → ⊥ }
+{
+    let Found {
+        header: _,
+        log,
+        life,
+        placing,
+    } = found;
+    let state = match placing {
+        Placing::On(state) => state,
+        Placing::Stuck(position) => {
+            return Err(RecoverError::Illegal {
+                partition: 0,
+                position,
+            });
+        }
+    };
+    if life >= LIVES {
+        return Err(RecoverError::Spent {
+            partition: 0,
+            number: life,
+        });
+    }
+    Ok(Recovered {
+        state,
+        log: Some(log),
+        incarnation: life,
+    })
+}
+
+/// Opens the log of the one partition, and says what its two files stand for. Each file is synced, and nothing is written.
+/// Of each file the bytes are looked at first, then of how many partitions and of which flows it is; then whether both can
+/// stand; then the entries, one after another; and then whether a life is left.
+#[tactic(auto, using(crate::proofs::LogsFound::risen_later))]
+pub fn recover<V: Site>(
+    alloc: Global,
+    site: &mut V,
+    flows: &Flows,
+    digest: u64,
+) -> Result<Recovered, RecoverError>
+    ensures told { V.tells site.new → V.tells site.old }
+    ensures recovers { V.tells site.new → Recovers (flows_of flows.now) digest (λ file. content_of file (V.history site.old)) result }
+    ensures syncs { OnlySyncs (V.history site.old) (V.history site.new) }
+    ensures synced { OnOk result (V.history site.new ≡ both_synced (V.history site.old)) }
+    ensures rests { V.tells site.new → IfOk result (λ r. IfSome r.log (λ log. RestsFor (V.history site.new) digest (logs_in (alone_with digest) (λ file. content_of file (V.history site.old))) log)) }
+    ensures fault { result ≡ Err RecoverError.SiteFault → HasRisen (V.disk_faults site.old) (V.disk_faults site.new) }
+    ensures later { V.disk_faults site.old ≤ V.disk_faults site.new }
+    ensures say_faults { V.say_faults site.new ≡ V.say_faults site.old }
+{
+    let first = open_file(alloc, site, flows, digest, FIRST_LOG)?;
+    let second = open_file(alloc, site, flows, digest, SECOND_LOG)?;
+    match choose(first, second)? {
+        Some(found) => end(found),
+        None => Ok(Recovered {
+            state: PartState::new(alloc, 1, 0),
+            log: None,
+            incarnation: 0,
+        }),
+    }
+}
