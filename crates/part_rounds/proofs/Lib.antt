@@ -1,3 +1,4 @@
 pub mod Faults
+pub mod Fillings
 pub mod Queues
 pub mod Trails

@@ -5,9 +5,11 @@
 #![tactic(auto)]
 
 mod committing;
+mod filling;
 mod ruled;
 mod saying;
 mod stop;
+mod taking;
 
 pub use committing::commit;
 pub use ruled::Ruled;

@@ -23,7 +23,7 @@ use site_model::Site;
 use std::alloc::{AllocError, Global};
 
 /// A client, with memory of its own.
-fn client_of(name: &Name) -> Result<Id, AllocError>
+pub(crate) fn client_of(name: &Name) -> Result<Id, AllocError>
     ensures { IfOk result (λ id. id ≡ Id.Client name.now) }
 {
     Ok(Id::Client(name.clone()?))

@@ -1,0 +1,45 @@
+-- What an entry is filled with.
+use Rattle.std.specs.Prelude.{◌≡◌, ◌⊎◌, ◌<◌, ◌≤◌, ℕ, true, is_some, List, [], ◌∷◌, ◌++◌, Some, None, length}
+use Rattle.std.specs.List.{All}
+use Rattle.client_port.specs.Ports.{Queue, due_of}
+use Rattle.dura_model.specs.Partition.{Partition, accepted}
+use Rattle.dura_value.specs.Ids.{client}
+use Rattle.dura_value.specs.Items.{Item, took}
+use Rattle.flow_syntax.specs.Syntax.{Flows}
+use Rattle.part_files.specs.Placing.{all_accepted, AreGiven}
+use Rattle.part_items.specs.Plain.{item_of, items_of}
+use Rattle.part_items.specs.declared.items.Item.{Item as OwnItem}
+use Rattle.part_steps.specs.States.{state_of, count_of, IsSound}
+use Rattle.part_rounds.specs.declared.filling.Filling.{Filling}
+use Rattle.request_reader.specs.Line.{Request}
+use Rattle.run_rules.specs.Rules.{Rules, Told, IsAsked}
+
+-- These items are accepted one after another from the first state on and make the other; each outcome among them is one that its
+-- activity may give, and each request is due.
+pub record Fills (rules : Rules) (told : Told) (from : Partition) (items : List Item) (to : Partition) : Type 0 where
+  pub accepted : all_accepted rules.flows 1 from items ≡ Some to
+  pub given : AreGiven rules.flows 1 from items
+  pub asked : All (IsAsked rules told) items
+
+-- its state is the one partition's, in an entry that has begun
+pub record IsUnderWay (filling : Filling) : Type 0 where
+  pub sound : IsSound filling.state
+  pub one : count_of filling.state ≡ 1
+  pub begun : 0 < (state_of filling.state).position
+
+-- an entry that is filled so far goes on to be filled so, and its state stays in that entry
+pub record GoesOn (rules : Rules) (told : Told) (old new : Filling) : Type 0 where
+  pub way : IsUnderWay new
+  pub position : (state_of new.state).position ≡ (state_of old.state).position
+  pub fills : (from : Partition) → Fills rules told from (items_of old.items.items) (state_of old.state) → Fills rules told from (items_of new.items.items) (state_of new.state)
+  pub longer : length old.items.items ≤ length new.items.items
+
+-- an item is put behind the others where it is accepted; else nothing changes
+abbrev pub Puts : Flows → (old : Filling) → OwnItem → (new : Filling) → Type 0
+Puts flows old item new = IsUnderWay new × ((state_of new.state).position ≡ (state_of old.state).position)
+    × (((accepted flows 1 (state_of old.state) (item_of item) ≡ Some (state_of new.state)) × (items_of new.items.items ≡ items_of old.items.items ++ item_of item ∷ []))
+    ⊎ ((accepted flows 1 (state_of old.state) (item_of item) ≡ None) × (state_of new.state ≡ state_of old.state) × (new.items ≡ old.items)))
+
+-- what is due of a client can't be taken: it was, or it isn't accepted
+abbrev pub CantTake : Flows → Partition → List Queue → (name : List ℕ) → Type 0
+CantTake flows p queues name = (r : Request) → due_of name queues ≡ Some r → (is_some (p.taken (client name) r.number) ≡ true) ⊎ (accepted flows 1 p (took r.message) ≡ None)

@@ -1,0 +1,62 @@
+//! Taking what clients ask.
+
+ghost use Rattle.std.specs.Prelude.{◌≡◌, ◌≤◌, ◌+◌, ℕ, List, true, is_some, Some, IfOk, IfSome, IfNone, length};
+ghost use Rattle.dura_value.specs.Views.{message_of};
+ghost use Rattle.client_port.specs.Ports.{due_of};
+ghost use Rattle.dura_value.specs.Ids.{client as a_client};
+ghost use Rattle.dura_value.specs.Items.{took};
+ghost use Rattle.flow_syntax.specs.Views.{flows_of};
+ghost use Rattle.hub_store.specs.Trail.{Said};
+ghost use Rattle.part_items.specs.Plain.{item_of, items_of};
+ghost use Rattle.part_rounds.specs.Fills.{IsUnderWay, GoesOn, CantTake};
+ghost use Rattle.part_rounds.specs.Rounds.{pairs_of, HasSaid};
+ghost use Rattle.part_steps.specs.States.{state_of};
+ghost use Rattle.request_reader.specs.Line.{Request, request_of};
+ghost use Rattle.run_rules.specs.Rules.{Rules};
+
+use crate::filling::{Filling, put};
+use crate::saying::client_of;
+use client_port::Port;
+use dura_value::{Message, Name};
+use flow_syntax::Flows;
+use part_items::Item;
+use part_rows::copy_message;
+use part_steps::PartState;
+use std::alloc::{AllocError, Global};
+
+/// What is due of a client, unless it was taken.
+fn due_message(
+    state: &PartState,
+    port: &Port,
+    client: &Name,
+) -> Result<Option<Message>, AllocError>
+    ensures some { IfOk result (λ message. IfSome message (λ one. (r : Request) × (due_of client.now port.now.queues ≡ Some r) × (message_of one ≡ r.message))) }
+    ensures none { IfOk result (λ message. IfNone message ((r : Request) → due_of client.now port.now.queues ≡ Some r → is_some ((state_of state.now).taken (a_client client.now) r.number) ≡ true)) }
+{
+    let Some(request) = port.next_of(client) else {
+        return Ok(None);
+    };
+    if state.has_taken(&client_of(client)?, request.number) {
+        return Ok(None);
+    }
+    Ok(Some(copy_message(&request.message)?))
+}
+
+/// Takes what is due of a client, if it is accepted.
+fn take_of(
+    alloc: Global,
+    flows: &Flows,
+    filling: Filling,
+    port: &Port,
+    client: &Name,
+) -> Result<Filling, AllocError>
+    requires way { IsUnderWay filling }
+    ensures goes_on { (rules : Rules) (told : List Said) → rules.flows ≡ flows_of flows.now → HasSaid rules told port.now.queues → IfOk result (λ next. GoesOn rules (pairs_of told) filling next) }
+    ensures one { IfOk result (λ next. length next.items.items ≤ length filling.items.items + 1) }
+    ensures none { IfOk result (λ next. next.items ≡ filling.items → (state_of next.state ≡ state_of filling.state) × CantTake (flows_of flows.now) (state_of filling.state) port.now.queues client.now) }
+{
+    match due_message(&filling.state, port, client)? {
+        Some(message) => put(alloc, flows, filling, Item::Took(message)),
+        None => Ok(filling),
+    }
+}
