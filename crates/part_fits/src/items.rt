@@ -26,7 +26,7 @@ fn identity_fits(partition: u32, incarnation: u64, position: u64) -> bool
 }
 
 /// Whether an item is within the limits of the format, so that it can be written and is read again.
-/// It takes time in the size of the item, and no memory.
+/// It goes over the item once, and takes no memory.
 pub fn item_fits(item: &Item) -> bool
     ensures fits { result ≡ true → FitsItem (item_of item.now) }
     ensures misfit { result ≡ false → FitsItem (item_of item.now) → ⊥ }

@@ -27,7 +27,7 @@ pub(crate) fn every_id_fits(id: &Id)
     }
 }
 
-/// No entity does.
+/// No entity passes a limit either.
 fn every_spot_fits(spot: &Spot)
     ensures { FitsSpot (spot_of spot.now) }
 {

@@ -1,6 +1,6 @@
 //! Which values are within the limits of the format.
 
-ghost use Rattle.std.specs.Prelude.{◌≡◌, ◌≤◌, length};
+ghost use Rattle.std.specs.Prelude.{◌≡◌, length};
 ghost use Rattle.std.specs.Bool.{Decides};
 ghost use Rattle.dura_codec.specs.Spelling.{spell_scalar};
 ghost use Rattle.codec_laws.specs.Fits.{FitsScalar, FitsList, FitsValue};
@@ -10,7 +10,6 @@ use dura_value::{MOST_SCALARS, MOST_SCALARS_BYTES, Scalar, Value};
 /// How many bytes a scalar takes where it is written. No scalar by itself passes a limit.
 fn spelled_size(scalar: &Scalar) -> usize
     ensures size { result ≡ length (spell_scalar scalar.now) }
-    ensures small { result ≤ 4099 }
     ensures fits { FitsScalar scalar.now }
 {
     match scalar {
