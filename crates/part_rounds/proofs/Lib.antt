@@ -1,4 +1,5 @@
 pub mod Faults
 pub mod Fillings
+pub mod Puttings
 pub mod Queues
 pub mod Trails

@@ -56,7 +56,10 @@ fn take_of(
     ensures none { IfOk result (λ next. next.items ≡ filling.items → (state_of next.state ≡ state_of filling.state) × CantTake (flows_of flows.now) (state_of filling.state) port.now.queues client.now) }
 {
     match due_message(&filling.state, port, client)? {
-        Some(message) => put(alloc, flows, filling, Item::Took(message)),
+        Some(message) => {
+            let next = put(alloc, flows, filling, Item::Took(message))?;
+            Ok(next)
+        }
         None => Ok(filling),
     }
 }
