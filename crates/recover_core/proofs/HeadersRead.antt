@@ -17,6 +17,15 @@ passed : {A : Type 0} (test : Bool) (a : Result A ℕ) (e : ℕ) (b : A) → (if
 passed true a e b h = (refl, h)
 passed false a e b h = absurd (cc h)
 
+-- the last number of a header, behind the others
+last_number : (partition partitions digest : ℕ) (bytes : List ℕ) (found : Header × List ℕ)
+    → (number_at w64 25 bytes >>= λ base. if nat_lt base.0 (2 ^ 63) then Ok (record { partition = partition; partitions = partitions; digest = digest; base = base.0 }, base.1) else Err 25) ≡ Ok found → partition ≡ found.0.partition
+last_number partition partitions digest bytes found h =
+    let base = step (number_at w64 25 bytes) _ found h in
+    let read : Header × List ℕ = (record { partition = partition; partitions = partitions; digest = digest; base = base.0.0 }, base.0.1) in
+    let end = passed (nat_lt base.0.0 (2 ^ 63)) (Ok read) 25 found base.2 in
+    ap (λ (f : Header × List ℕ). f.0.partition) (same_ok (Ok read) read found refl end.1)
+
 -- the number that stands first behind the signature
 header_number : (bytes rest : List ℕ) (number : ℕ × List ℕ) (found : Header × List ℕ) → constant_at signature 1 bytes ≡ Ok rest → number_at w32 9 rest ≡ Ok number → header_at bytes ≡ Ok found → number.0 ≡ found.0.partition
 unfolding header_at
@@ -25,12 +34,9 @@ header_number bytes rest number found constant first h =
     let partition = step (number_at w32 9 start.0) _ found start.2 in
     let partitions = step (number_at w32 13 partition.0.1) _ found partition.2 in
     let digest = step (number_at w64 17 partitions.0.1) _ found partitions.2 in
-    let base = step (number_at w64 25 digest.0.1) _ found digest.2 in
-    let end = passed (nat_lt base.0.0 (2 ^ 63)) _ 25 found base.2 in
     let there : rest ≡ start.0 = same_ok (constant_at signature 1 bytes) rest start.0 constant start.1 in
     let number_is : number ≡ partition.0 = same_ok (number_at w32 9 start.0) number partition.0 (subst (λ (r : List ℕ). number_at w32 9 r ≡ Ok number) there first) partition.1 in
-    let made : Path (Header × List ℕ) (record { partition = partition.0.0; partitions = partitions.0.0; digest = digest.0.0; base = base.0.0 }, base.0.1) found = same_ok (Ok _) _ found refl end.1 in
-    ap (λ (n : ℕ × List ℕ). n.0) number_is ∙ ap (λ (f : Header × List ℕ). f.0.partition) made
+    ap (λ (n : ℕ × List ℕ). n.0) number_is ∙ last_number partition.0.0 partitions.0.0 digest.0.0 digest.0.1 found digest.2
 
 own_header : (partition : ℕ) (bytes : List ℕ) (found : Header × List ℕ) → header_for partition bytes ≡ Ok found → found.0.partition ≡ partition
 own_header partition bytes found h =
