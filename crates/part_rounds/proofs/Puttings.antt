@@ -1,6 +1,6 @@
 -- What putting an item behind the others makes of a filling.
-use Rattle.std.proofs.Common.{◌≡◌, ◌⊎◌, inl, inr, ℕ, ◌≤◌, ◌+◌, List, [], ◌∷◌, ◌++◌, length, map, is_some, true, Option, Some, None, refl, sym, ◌∙◌, ap, subst, arith}
-use Rattle.std.proofs.lemmas.List.{length-append, length-map}
+use Rattle.std.proofs.Common.{◌≡◌, ◌⊎◌, inl, inr, ℕ, suc, ◌≤◌, ◌+◌, List, [], ◌∷◌, ◌++◌, length, map, is_some, true, Option, Some, None, refl, sym, ◌∙◌, ap, subst, arith}
+use Rattle.std.proofs.lemmas.List.{length-append, length-map, map-append}
 use Rattle.client_port.specs.Ports.{Queue, due_of}
 use Rattle.dura_model.specs.Partition.{Partition, accepted}
 use Rattle.dura_model.specs.Placed.{IsGiven}
@@ -13,10 +13,13 @@ use Rattle.part_items.specs.declared.items.Item.{Item as OwnItem}
 use Rattle.part_steps.specs.States.{state_of}
 use Rattle.request_reader.specs.Line.{Request}
 use Rattle.run_rules.specs.Rules.{Rules, Told, count_told, IsDue, IsAsked}
-use Rattle.part_rounds.specs.Fills.{Fills, GoesOn, Puts, CantTake}
+use Rattle.part_rounds.specs.Fills.{Fills, IsUnderWay, GoesOn, Puts, CantTake}
 use Rattle.part_rounds.specs.Rounds.{pairs_of, HasSaid}
 use Rattle.part_rounds.specs.declared.filling.Filling.{Filling}
-use Rattle.part_rounds.proofs.Fillings.{fills_more}
+use Rattle.part_rounds.proofs.Fillings.{fills_more, fills_all, makes_fills}
+use Rattle.part_steps.specs.Enabled.{Makes, NoneEnabled, moment_at}
+use Rattle.part_steps.specs.Enabled.Makes.{nothing, one_more}
+use Rattle.part_steps.specs.Outputs.{Outputs}
 use Rattle.part_rounds.proofs.Queues.{next_due}
 
 -- one item more is one longer
@@ -57,13 +60,12 @@ due_asked rules told queues name r message said due is = record {
 }
 
 -- a request that was put in vain can't be taken
-pub put_in_vain : (flows : Flows) (old new : Filling) (item : OwnItem) (queues : List Queue) (name : List ℕ) (r : Request) → Puts flows old item new → item_of item ≡ took r.message → due_of name queues ≡ Some r → new.items ≡ old.items
+pub put_in_vain : (flows : Flows) (old new : Filling) (item : OwnItem) (queues : List Queue) (name : List ℕ) (r : Request) → Puts flows old item new → item_of item ≡ took r.message → due_of name queues ≡ Some r → length new.items.items ≡ length old.items.items
     → (state_of new.state ≡ state_of old.state) × CantTake flows (state_of old.state) queues name
 put_in_vain flows old new item queues name r puts is due same = elim puts.2 [
   | inl put ↦
       let grown = longer_by old.items.items new.items.items (item_of item) put.1 in
-      let kept : length new.items.items ≡ length old.items.items = ap (λ v. length v.items) same in
-      absurd (omega (arith, grown, kept))
+      absurd (omega (arith, grown, same))
   | inr refused ↦ (
     refused.1,
     λ other other_due.
@@ -71,3 +73,44 @@ put_in_vain flows old new item queues name r puts is due same = elim puts.2 [
         inr (ap (λ (i : Item). accepted flows 1 (state_of old.state) i) (ap (λ (q : Request). took q.message) (sym one) ∙ sym is) ∙ refused.0),
   )
 ]
+
+-- deliveries and timers behind the others
+pub filled_goes_on : (rules : Rules) (told : Told) (flows : Flows) (old new : Filling) (count now : ℕ) (more : List OwnItem) (made : List Outputs) → rules.flows ≡ flows → count ≡ 1
+    → Makes flows count now (state_of old.state) (items_of more) made (state_of new.state) → new.items.items ≡ old.items.items ++ more → IsUnderWay new → (state_of new.state).position ≡ (state_of old.state).position → GoesOn rules told old new
+filled_goes_on rules told flows old new count now more made same one makes items way position =
+    let all : items_of new.items.items ≡ items_of old.items.items ++ items_of more = ap items_of items ∙ map-append item_of old.items.items more in
+    let own = subst (λ (f : Flows). Makes f 1 now (state_of old.state) (items_of more) made (state_of new.state)) (sym same) (subst (λ (n : ℕ). Makes flows n now (state_of old.state) (items_of more) made (state_of new.state)) one makes) in
+    record {
+      way = way;
+      position = position;
+      fills = λ from fills. subst (λ (l : List Item). Fills rules told from l (state_of new.state)) (sym all)
+          (fills_all rules told from (state_of old.state) (state_of new.state) (items_of old.items.items) (items_of more) fills (makes_fills rules told own));
+      longer = let lengths : length new.items.items ≡ length old.items.items + length more = ap length items ∙ length-append old.items.items more in omega (arith, lengths);
+    }
+
+nothing_more : (a b : List OwnItem) → a ++ b ≡ a → b ≡ []
+nothing_more a [] is = refl
+nothing_more a (item ∷ b) is = let lengths : length a + suc (length b) ≡ length a = sym (length-append a (item ∷ b)) ∙ ap length is in absurd (omega (arith, lengths))
+
+made_nothing : {flows : Flows} {count now : ℕ} {first p : Partition} {items : List Item} {made : List Outputs} → Makes flows count now first items made p → items ≡ [] → p ≡ first
+made_nothing nothing is = refl
+made_nothing (one_more {items} before item at taken) is = let lengths : length items + 1 ≡ 0 = sym (length-append items (item ∷ [])) ∙ ap length is in absurd (omega (arith, lengths))
+
+-- where nothing came behind the others, nothing was possible
+pub filled_in_vain : (flows : Flows) (count now : ℕ) (p q : Partition) (old more all : List OwnItem) (made : List Outputs) → count ≡ 1 → Makes flows count now p (items_of more) made q → all ≡ old ++ more → all ≡ old
+    → (more ≡ [] → NoneEnabled flows count p (moment_at p now)) → (q ≡ p) × NoneEnabled flows 1 p (moment_at p now)
+filled_in_vain flows count now p q old more all made one makes items same none =
+    let empty : more ≡ [] = nothing_more old more (sym items ∙ same) in
+    (made_nothing makes (ap items_of empty), subst (λ (n : ℕ). NoneEnabled flows n p (moment_at p now)) one (none empty))
+
+-- nothing more came in
+pub goes_on_still : (rules : Rules) (told : Told) (filling : Filling) → IsUnderWay filling → GoesOn rules told filling filling
+goes_on_still rules told filling way = record { way = way; position = refl; fills = λ from fills. fills; longer = omega arith }
+
+pub goes_on_both : (rules : Rules) (told : Told) (a b c : Filling) → GoesOn rules told a b → GoesOn rules told b c → GoesOn rules told a c
+goes_on_both rules told a b c first then = record {
+  way = then.way;
+  position = then.position ∙ first.position;
+  fills = λ from fills. then.fills from (first.fills from fills);
+  longer = omega (arith, first.longer, then.longer);
+}

@@ -136,11 +136,10 @@ module _ (rules : Rules) (told : List Said) (qs : List Queue) (m : List ℕ) (r 
           let mine = queue_found m qs r due in
           let both : Some mine.0 ≡ Some before = sym mine.1 ∙ ap (λ (c : List ℕ). of_client c qs) (same_bytes m n test) ∙ there in
           let own : mine.0 ≡ before = cc both in
-          let one_due : first_due before ≡ Some r = ap first_due (sym own) ∙ mine.2 in
-          (
+          let one_due : first_due before ≡ Some r = ap first_due (sym own) ∙ mine.2 in (
             ap (λ (x : Queue). x.requests) (sym is) ∙ same_requests before ∙ was.0,
             ap (λ (x : Queue). x.said) (sym is) ∙ one_said before r one_due ∙ ap (λ (k : ℕ). k + 1) was.1
-            ∙ sym (count_on told m n number ∙ ap (λ (c : Bool). count_told (pairs_of told) n + cond c 1 0) test),
+                ∙ sym (count_on told m n number ∙ ap (λ (c : Bool). count_told (pairs_of told) n + cond c 1 0) test),
           )
       by n q false test found o there =
           let kept : of_client n qs ≡ Some q = sym (ap (λ (c : Bool). cond c (option_map with_said (of_client n qs)) (of_client n qs)) test) ∙ found in

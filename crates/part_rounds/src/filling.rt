@@ -1,12 +1,15 @@
 //! Filling an entry.
 
-ghost use Rattle.std.specs.Prelude.{IfOk};
+ghost use Rattle.std.specs.Prelude.{◌≡◌, ◌<◌, ◌≤◌, ◌-◌, IfOk, length};
 ghost use Rattle.flow_syntax.specs.Views.{flows_of};
-ghost use Rattle.part_rounds.specs.Fills.{IsUnderWay, Puts};
+ghost use Rattle.part_rounds.specs.Fills.{IsUnderWay, GoesOn, Puts};
+ghost use Rattle.part_steps.specs.Enabled.{NoneEnabled, moment_at};
+ghost use Rattle.part_steps.specs.States.{state_of};
+ghost use Rattle.run_rules.specs.Rules.{Rules, Told};
 
 use flow_syntax::Flows;
 use part_items::Item;
-use part_steps::{PartState, Verdict};
+use part_steps::{PartState, Verdict, next_items};
 use std::alloc::{AllocError, Global};
 
 /// The items that an entry is filled with so far, and the state that they make.
@@ -36,4 +39,29 @@ pub(crate) fn put(
         }
         Verdict::Refused(state) => Ok(Filling { state, items }),
     }
+}
+
+/// Puts the deliveries and timers that are possible now behind the others, up to so many items in all.
+pub(crate) fn fill(
+    alloc: Global,
+    flows: &Flows,
+    filling: Filling,
+    now: u64,
+    limit: u32,
+) -> Result<Filling, AllocError>
+    requires way { IsUnderWay filling }
+    requires room { length filling.items.items ≤ limit }
+    ensures goes_on { (rules : Rules) (told : Told) → rules.flows ≡ flows_of flows.now → IfOk result (λ next. GoesOn rules told filling next) }
+    ensures few { IfOk result (λ next. length next.items.items ≤ limit) }
+    ensures none { length filling.items.items < limit → IfOk result (λ next. next.items.items ≡ filling.items.items
+        → (state_of next.state ≡ state_of filling.state) × NoneEnabled (flows_of flows.now) 1 (state_of filling.state) (moment_at (state_of filling.state) now)) }
+{
+    let Filling { state, mut items } = filling;
+    let room = limit.saturating_sub(items.len() as u32);
+    let mut batch = next_items(alloc, flows, state, now, room)?;
+    items.append(&mut batch.items)?;
+    Ok(Filling {
+        state: batch.state,
+        items,
+    })
 }

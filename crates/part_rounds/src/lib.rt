@@ -6,6 +6,7 @@
 
 mod committing;
 mod filling;
+mod gathering;
 mod ruled;
 mod saying;
 mod stop;

@@ -1,6 +1,7 @@
 //! Taking what clients ask.
 
-ghost use Rattle.std.specs.Prelude.{◌≡◌, ◌≤◌, ◌+◌, ℕ, List, true, is_some, Some, IfOk, IfSome, IfNone, length};
+ghost use Rattle.std.specs.List.{All};
+ghost use Rattle.std.specs.Prelude.{◌≡◌, ◌<◌, ◌≤◌, ◌+◌, ℕ, List, true, is_some, Some, IfOk, IfSome, IfNone, length};
 ghost use Rattle.dura_value.specs.Views.{message_of};
 ghost use Rattle.client_port.specs.Ports.{due_of};
 ghost use Rattle.dura_value.specs.Ids.{client as a_client};
@@ -25,11 +26,7 @@ use part_steps::PartState;
 use std::alloc::{AllocError, Global};
 
 /// What is due of a client, unless it was taken.
-fn due_message(
-    state: &PartState,
-    port: &Port,
-    client: &Name,
-) -> Result<Option<Message>, AllocError>
+fn due_message(state: &PartState, port: &Port, client: &Name) -> Result<Option<Message>, AllocError>
     ensures some { IfOk result (λ message. IfSome message (λ one. (r : Request) × (due_of client.now port.now.queues ≡ Some r) × (message_of one ≡ r.message))) }
     ensures none { IfOk result (λ message. IfNone message ((r : Request) → due_of client.now port.now.queues ≡ Some r → is_some ((state_of state.now).taken (a_client client.now) r.number) ≡ true)) }
 {
@@ -53,7 +50,7 @@ fn take_of(
     requires way { IsUnderWay filling }
     ensures goes_on { (rules : Rules) (told : List Said) → rules.flows ≡ flows_of flows.now → HasSaid rules told port.now.queues → IfOk result (λ next. GoesOn rules (pairs_of told) filling next) }
     ensures one { IfOk result (λ next. length next.items.items ≤ length filling.items.items + 1) }
-    ensures none { IfOk result (λ next. next.items ≡ filling.items → (state_of next.state ≡ state_of filling.state) × CantTake (flows_of flows.now) (state_of filling.state) port.now.queues client.now) }
+    ensures none { IfOk result (λ next. length next.items.items ≡ length filling.items.items → (state_of next.state ≡ state_of filling.state) × CantTake (flows_of flows.now) (state_of filling.state) port.now.queues client.now) }
 {
     match due_message(&filling.state, port, client)? {
         Some(message) => {
@@ -62,4 +59,30 @@ fn take_of(
         }
         None => Ok(filling),
     }
+}
+
+/// Takes what is due of these clients, up to so many items in all.
+pub(crate) fn take_due(
+    alloc: Global,
+    flows: &Flows,
+    filling: Filling,
+    port: &Port,
+    clients: &[Name],
+    limit: u32,
+) -> Result<Filling, AllocError>
+    requires way { IsUnderWay filling }
+    requires room { length filling.items.items ≤ limit }
+    ensures goes_on { (rules : Rules) (told : List Said) → rules.flows ≡ flows_of flows.now → HasSaid rules told port.now.queues → IfOk result (λ next. GoesOn rules (pairs_of told) filling next) }
+    ensures few { IfOk result (λ next. length next.items.items ≤ limit) }
+    ensures none { length filling.items.items < limit → IfOk result (λ next. length next.items.items ≡ length filling.items.items
+        → (state_of next.state ≡ state_of filling.state) × All (λ name. CantTake (flows_of flows.now) (state_of filling.state) port.now.queues name) clients.now) }
+{
+    let mut filling = filling;
+    for client in clients {
+        if filling.items.len() as u64 == limit as u64 {
+            break;
+        }
+        filling = take_of(alloc, flows, filling, port, client)?;
+    }
+    Ok(filling)
 }

@@ -46,8 +46,7 @@ returns-clause-more g c = λ is.
     let told = told_in c.args.store.now in
     let name = c.args.client.now in
     let r = request_of c.in-Some.request.now in
-    let due : due_of name c.args.port.now.queues ≡ Some r = sym c.next_of.ensures ∙ ap (option_map (λ x. request_of x.now)) c.in-Some.is in
-    (
+    let due : due_of name c.args.port.now.queues ≡ Some r = sym c.next_of.ensures ∙ ap (option_map (λ x. request_of x.now)) c.in-Some.is in (
       before_last rules told c.args.port.now.queues name r c.requires.said due,
       ap (λ (l : List Said). count_told (pairs_of l) name) c.in-Ok.ensures.ok ∙ counted_on rules told c.args.port.now.queues name r c.requires.said due r.number,
     )

@@ -1,0 +1,17 @@
+use Rattle.std.proofs.Common.{◌≡◌, ◌≤◌, ◌<◌, ℕ, List, length, take}
+use Rattle.std.specs.List.{All}
+use Rattle.flow_syntax.specs.Views.{flows_of}
+use Rattle.hub_store.specs.Trail.{Said}
+use Rattle.part_rounds.specs.Fills.{IsUnderWay, GoesOn, CantTake}
+use Rattle.part_rounds.specs.Rounds.{pairs_of, HasSaid}
+use Rattle.part_steps.specs.States.{state_of}
+use Rattle.run_rules.specs.Rules.{Rules}
+use Rattle.part_rounds.proofs.taking.take_due.Given as goal
+
+-- where nothing came in so far, of none of those before anything can be taken
+abbrev pub invariant-loop-client : goal.invariant-loop-client
+invariant-loop-client l =
+    IsUnderWay l.filling × (length l.filling.items.items ≤ l.limit) × (length l.fn.filling.items.items ≤ length l.filling.items.items)
+    × ((rules : Rules) (told : List Said) → rules.flows ≡ flows_of l.flows → HasSaid rules told l.port.queues → GoesOn rules (pairs_of told) l.fn.filling l.filling)
+    × (length l.filling.items.items ≡ length l.fn.filling.items.items → (state_of l.filling.state ≡ state_of l.fn.filling.state)
+    × All (λ name. CantTake (flows_of l.flows) (state_of l.fn.filling.state) l.port.queues name) (take l.client-index l.clients))
