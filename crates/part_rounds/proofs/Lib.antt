@@ -1,3 +1,4 @@
+pub mod Entries
 pub mod Faults
 pub mod Fillings
 pub mod Puttings

@@ -5,6 +5,7 @@ use Rattle.client_port.specs.Clients.{clients_of, requests_of}
 use Rattle.client_port.specs.Ports.{Queue, is_of, due_of}
 use Rattle.dura_model.specs.Partition.{Partition}
 use Rattle.dura_value.specs.Ids.{client}
+use Rattle.dura_value.specs.Items.{Item, Entry}
 use Rattle.dura_value.specs.Messages.{Answer}
 use Rattle.hub_store.specs.Trail.{Said}
 use Rattle.run_rules.specs.Rules.{Rules, Told, count_told}
@@ -26,3 +27,7 @@ pub record HasSaid (rules : Rules) (told : List Said) (queues : List Queue) : Ty
 -- the answer to a client's next request, where there are both
 abbrev pub next_answer : Partition → List Queue → List ℕ → Option Answer
 next_answer state queues name = option_and_then (λ r. state.answers (client name) r.number) (due_of name queues)
+
+-- an entry of this call with these items, in this state
+abbrev pub entry_at : Rules → Partition → List Item → Entry
+entry_at rules p items = record { position = p.position; incarnation = rules.life; items = items }

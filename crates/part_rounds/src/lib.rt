@@ -7,6 +7,7 @@
 mod committing;
 mod filling;
 mod gathering;
+mod laws;
 mod ruled;
 mod saying;
 mod stop;
