@@ -80,7 +80,7 @@ pub(crate) fn take_due(
     let mut filling = filling;
     for client in clients {
         if filling.items.len() as u64 == limit as u64 {
-            break;
+            return Ok(filling);
         }
         filling = take_of(alloc, flows, filling, port, client)?;
     }
