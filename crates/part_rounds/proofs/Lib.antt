@@ -4,3 +4,4 @@ pub mod Fillings
 pub mod Puttings
 pub mod Queues
 pub mod Trails
+pub mod Walks

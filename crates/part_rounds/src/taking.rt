@@ -49,6 +49,8 @@ fn take_of(
 ) -> Result<Filling, AllocError>
     requires way { IsUnderWay filling }
     ensures goes_on { (rules : Rules) (told : List Said) → rules.flows ≡ flows_of flows.now → HasSaid rules told port.now.queues → IfOk result (λ next. GoesOn rules (pairs_of told) filling next) }
+    ensures way { IfOk result (λ next. IsUnderWay next) }
+    ensures longer { IfOk result (λ next. length filling.items.items ≤ length next.items.items) }
     ensures one { IfOk result (λ next. length next.items.items ≤ length filling.items.items + 1) }
     ensures none { IfOk result (λ next. length next.items.items ≡ length filling.items.items → (state_of next.state ≡ state_of filling.state) × CantTake (flows_of flows.now) (state_of filling.state) port.now.queues client.now) }
 {
@@ -80,7 +82,7 @@ pub(crate) fn take_due(
     let mut filling = filling;
     for client in clients {
         if filling.items.len() as u64 == limit as u64 {
-            break;
+            return Ok(filling);
         }
         filling = take_of(alloc, flows, filling, port, client)?;
     }

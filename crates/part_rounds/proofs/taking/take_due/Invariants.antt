@@ -1,4 +1,4 @@
-use Rattle.std.proofs.Common.{◌≡◌, ◌≤◌, ◌<◌, ℕ, List, length, take}
+use Rattle.std.proofs.Common.{◌≡◌, ◌≤◌, List, length, take}
 use Rattle.std.specs.List.{All}
 use Rattle.flow_syntax.specs.Views.{flows_of}
 use Rattle.hub_store.specs.Trail.{Said}
@@ -10,8 +10,11 @@ use Rattle.part_rounds.proofs.taking.take_due.Given as goal
 
 -- where nothing came in so far, of none of those before anything can be taken
 abbrev pub invariant-loop-client : goal.invariant-loop-client
-invariant-loop-client l =
-    IsUnderWay l.filling × (length l.filling.items.items ≤ l.limit) × (length l.fn.filling.items.items ≤ length l.filling.items.items)
-    × ((rules : Rules) (told : List Said) → rules.flows ≡ flows_of l.flows → HasSaid rules told l.port.queues → GoesOn rules (pairs_of told) l.fn.filling l.filling)
-    × (length l.filling.items.items ≡ length l.fn.filling.items.items → (state_of l.filling.state ≡ state_of l.fn.filling.state)
-    × All (λ name. CantTake (flows_of l.flows) (state_of l.fn.filling.state) l.port.queues name) (take l.client-index l.clients))
+invariant-loop-client l = record {
+  way : IsUnderWay l.filling;
+  few : length l.filling.items.items ≤ l.limit;
+  longer : length l.fn.filling.items.items ≤ length l.filling.items.items;
+  goes_on : (rules : Rules) (told : List Said) → rules.flows ≡ flows_of l.flows → HasSaid rules told l.port.queues → GoesOn rules (pairs_of told) l.fn.filling l.filling;
+  still : length l.filling.items.items ≡ length l.fn.filling.items.items → (state_of l.filling.state ≡ state_of l.fn.filling.state)
+      × All (λ name. CantTake (flows_of l.flows) (state_of l.fn.filling.state) l.port.queues name) (take l.client-index l.clients);
+}
