@@ -6,6 +6,7 @@
 
 mod committing;
 mod filling;
+mod filling_on;
 mod gathering;
 mod laws;
 mod ruled;

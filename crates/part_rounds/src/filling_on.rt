@@ -1,0 +1,50 @@
+//! What an entry is filled with besides outcomes.
+
+ghost use Rattle.std.specs.Prelude.{◌≡◌, ◌<◌, ◌≤◌, List, IfOk, IfErr, length};
+ghost use Rattle.std.specs.List.{All};
+ghost use Rattle.codec_laws.specs.ItemFits.{FitsItem};
+ghost use Rattle.flow_syntax.specs.Views.{flows_of};
+ghost use Rattle.hub_store.specs.Trail.{Said};
+ghost use Rattle.part_items.specs.Plain.{items_of};
+ghost use Rattle.part_rounds.specs.Fills.{IsUnderWay, GoesOn, CantTake};
+ghost use Rattle.part_rounds.specs.Rounds.{pairs_of, HasSaid};
+ghost use Rattle.part_steps.specs.Enabled.{NoneEnabled, moment_at};
+ghost use Rattle.part_steps.specs.States.{state_of};
+ghost use Rattle.run_rules.specs.Rules.{Rules};
+
+use crate::filling::{Filling, fill};
+use crate::gathering::all_fit;
+use crate::stop::Stop;
+use crate::taking::take_due;
+use client_port::Port;
+use dura_value::Name;
+use flow_syntax::Flows;
+use std::alloc::Global;
+
+/// Fills an entry on with what is due of clients, and then with the deliveries and timers that are possible now, up to so many items
+/// in all. Items that can't be written are taken for want of memory: values are within the limits by the rules of the language.
+pub(crate) fn fill_on(
+    alloc: Global,
+    flows: &Flows,
+    filling: Filling,
+    port: &Port,
+    clients: &[Name],
+    now: u64,
+    limit: u32,
+) -> Result<Filling, Stop>
+    requires way { IsUnderWay filling }
+    requires room { length filling.items.items < limit }
+    ensures goes_on { (rules : Rules) (told : List Said) → rules.flows ≡ flows_of flows.now → HasSaid rules told port.now.queues → IfOk result (λ next. GoesOn rules (pairs_of told) filling next) }
+    ensures few { IfOk result (λ next. length next.items.items ≤ limit) }
+    ensures fit { IfOk result (λ next. All FitsItem (items_of next.items.items)) }
+    ensures none { IfOk result (λ next. length next.items.items ≡ length filling.items.items → (state_of next.state ≡ state_of filling.state)
+        × All (λ name. CantTake (flows_of flows.now) (state_of filling.state) port.now.queues name) clients.now × NoneEnabled (flows_of flows.now) 1 (state_of filling.state) (moment_at (state_of filling.state) now)) }
+    ensures stops { IfErr result (λ stop. stop ≡ Stop.Memory) }
+{
+    let taken = take_due(alloc, flows, filling, port, clients, limit)?;
+    let filled = fill(alloc, flows, taken, now, limit)?;
+    if !all_fit(&filled.items) {
+        return Err(Stop::Memory);
+    }
+    Ok(filled)
+}
