@@ -1,13 +1,13 @@
 //! Saying what is answered.
 
-ghost use Rattle.std.specs.Prelude.{◌≡◌, ◌<◌, ◌+◌, ℕ, true, false, None, Ok, Err, IfErr, IfOk, OnOk, length};
+ghost use Rattle.std.specs.Prelude.{◌≡◌, ◌<◌, ◌≤◌, ◌+◌, ℕ, true, false, None, Ok, Err, IfErr, IfOk, OnOk, length};
 ghost use Rattle.client_port.specs.Clients.{requests_of};
 ghost use Rattle.hub_store.specs.Changes.{trail_in, told_in};
 ghost use Rattle.hub_store.specs.Sound.{IsSound};
 ghost use Rattle.hub_store.specs.Trail.{of_part};
 ghost use Rattle.part_files.specs.Placing.{placed};
 ghost use Rattle.part_rounds.specs.Commits.{is_of_tape};
-ghost use Rattle.part_rounds.specs.Rounds.{pairs_of, HasSaid, next_answer};
+ghost use Rattle.part_rounds.specs.Rounds.{pairs_of, HasSaid, KeepsDue, next_answer};
 ghost use Rattle.part_steps.specs.States.{state_of};
 ghost use Rattle.run_rules.specs.Rules.{count_told};
 ghost use Rattle.site_model.specs.Calls.{HasRisen};
@@ -53,7 +53,9 @@ pub(crate) fn say_next<V: Site, N: Ruled>(
     ensures none { result ≡ Ok false → (next_answer (state_of state.now) port.old.queues client.now ≡ None) × (port.new ≡ port.old) }
     ensures stops { IfErr result (λ stop. is_of_tape stop ≡ true) }
     ensures fault { result ≡ Err Stop.SayFault → HasRisen (V.say_faults store.old.site) (V.say_faults store.new.site) }
+    ensures later { V.say_faults store.old.site ≤ V.say_faults store.new.site }
     ensures disk_faults { V.disk_faults store.new.site ≡ V.disk_faults store.old.site }
+    ensures others { OnOk result (KeepsDue client.now port.old.queues port.new.queues) }
 {
     let Some(request) = port.next_of(client) else {
         return Ok(false);
