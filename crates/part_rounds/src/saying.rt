@@ -73,3 +73,33 @@ pub(crate) fn say_next<V: Site, N: Ruled>(
     port.said(alloc, client, Some(answer))?;
     Ok(true)
 }
+
+/// Says the answers to a client's requests until the next has none.
+fn say_all<V: Site, N: Ruled>(
+    alloc: Global,
+    store: &mut Store<V, N>,
+    state: &PartState,
+    port: &mut Port,
+    client: &Name,
+) -> Result<(), Stop>
+    requires sound { IsSound store.old }
+    requires going { store.old.halted ≡ false }
+    requires made { placed N.rules.flows 1 N.rules.begin (of_part 0 (trail_in store.old)) ≡ Ok (state_of state.now) }
+    requires said { HasSaid N.rules (told_in store.old) port.old.queues }
+    ensures tells { V.tells store.new.site → V.tells store.old.site }
+    ensures sound { IsSound store.new }
+    ensures trail { trail_in store.new ≡ trail_in store.old }
+    ensures ways { store.new.ways ≡ store.old.ways }
+    ensures segment { store.new.segment ≡ store.old.segment }
+    ensures still { OnOk result (store.new.halted ≡ false) }
+    ensures said { OnOk result (HasSaid N.rules (told_in store.new) port.new.queues) }
+    ensures none { OnOk result (next_answer (state_of state.now) port.new.queues client.now ≡ None) }
+    ensures others { OnOk result (KeepsDue client.now port.old.queues port.new.queues) }
+    ensures stops { IfErr result (λ stop. is_of_tape stop ≡ true) }
+    ensures fault { result ≡ Err Stop.SayFault → HasRisen (V.say_faults store.old.site) (V.say_faults store.new.site) }
+    ensures later { V.say_faults store.old.site ≤ V.say_faults store.new.site }
+    ensures disk_faults { V.disk_faults store.new.site ≡ V.disk_faults store.old.site }
+{
+    'answers: while say_next(alloc, store, state, port, client)? {}
+    Ok(())
+}
