@@ -23,7 +23,7 @@ use Rattle.part_steps.specs.Outputs.{Outputs}
 use Rattle.part_rounds.proofs.Queues.{next_due}
 
 -- one item more is one longer
-longer_by : (old new : List OwnItem) (item : Item) → items_of new ≡ items_of old ++ item ∷ [] → length new ≡ length old + 1
+pub longer_by : (old new : List OwnItem) (item : Item) → items_of new ≡ items_of old ++ item ∷ [] → length new ≡ length old + 1
 longer_by old new item is = sym (length-map new item_of) ∙ ap length is ∙ length-append (items_of old) (item ∷ []) ∙ ap (λ (n : ℕ). n + 1) (length-map old item_of)
 
 -- an item that is given where it is put, and asked for

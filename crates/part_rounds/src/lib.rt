@@ -7,6 +7,7 @@
 mod committing;
 mod filling;
 mod gathering;
+mod outcomes;
 mod ruled;
 mod saying;
 mod stop;
