@@ -8,7 +8,7 @@ use Rattle.std.proofs.lemmas.List.Elements.{All-append, All-cons}
 pub all_none : {X : Type 0} (P : X → Type 0) → All P []
 all_none P = λ k d inside. absurd (omega (arith, inside))
 
-pub all_last : {X : Type 0} (P : X → Type 0) (xs : List X) (x : X) → All P xs → P x → All P (xs ++ x ∷ [])
+all_last : {X : Type 0} (P : X → Type 0) (xs : List X) (x : X) → All P xs → P x → All P (xs ++ x ∷ [])
 all_last P xs x all one = All-append P xs (x ∷ []) all (All-cons P x [] one (all_none P))
 
 -- one element more

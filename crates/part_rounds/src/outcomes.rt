@@ -5,7 +5,7 @@ ghost use Rattle.std.specs.Prelude.{◌≡◌, ◌≤◌, [], true, IfOk, IfSome
 ghost use Rattle.activity_table.specs.Table.{may};
 ghost use Rattle.flow_syntax.specs.Views.{flows_of};
 ghost use Rattle.part_items.specs.Plain.{item_of, items_of};
-ghost use Rattle.part_rounds.specs.Fills.{IsUnderWay, GoesOn, IsOfPending};
+ghost use Rattle.part_rounds.specs.Fills.{IsUnderWay, GoesOn, IsOfPending, CantEnd};
 ghost use Rattle.part_steps.specs.Quiet.{NoActivity};
 ghost use Rattle.part_steps.specs.States.{state_of};
 ghost use Rattle.run_rules.specs.Rules.{Rules, Told};
@@ -68,6 +68,7 @@ pub(crate) fn run_pending<A: Activities>(
     ensures goes_on { (rules : Rules) (told : Told) → rules.flows ≡ flows_of flows.now → IfOk result (λ next. GoesOn rules told filling next) }
     ensures few { IfOk result (λ next. length next.items.items ≤ 1) }
     ensures none { IfOk result (λ next. next.items.items ≡ [] → state_of next.state ≡ state_of filling.state) }
+    ensures idle { IfOk result (λ next. next.items.items ≡ [] → CantEnd (state_of filling.state)) }
     ensures settled { IfOk result (λ next. All (IsOfPending (state_of filling.state)) (items_of next.items.items)) }
 {
     match outcome_of_pending(alloc, acts, &filling.state, word)? {
