@@ -8,7 +8,7 @@ use Rattle.dura_value.proofs.Ids.{same_bytes, bytes_self}
 use Rattle.std.proofs.lemmas.List.{length-append, map-append}
 use Rattle.std.proofs.lemmas.List.Elements.{filter-append}
 use Rattle.std.proofs.lemmas.Option.{slice_get_within}
-use Rattle.client_port.specs.Clients.{clients_of, requests_of}
+use Rattle.client_port.specs.Clients.{requests_of}
 use Rattle.client_port.specs.Ports.{Queue, is_of, at_client, first_due, with_said, due_of}
 use Rattle.request_reader.specs.Line.{Request}
 use Rattle.hub_store.specs.Changes.{asked}

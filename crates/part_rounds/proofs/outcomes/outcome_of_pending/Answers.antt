@@ -1,4 +1,4 @@
-use Rattle.std.proofs.Common.{◌≡◌, ◌∙◌, sym, ap}
+use Rattle.std.proofs.Common.{◌∙◌, sym, ap}
 use Rattle.std.specs.Option.{option_map}
 use Rattle.dura_value.specs.Views.{id_of}
 use Rattle.dura_value.specs.declared.addresses.Id.{Id as OwnId}
