@@ -1,4 +1,5 @@
 pub mod Entries
+pub mod Endings
 pub mod Faults
 pub mod Fillings
 pub mod Puttings

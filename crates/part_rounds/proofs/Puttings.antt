@@ -1,5 +1,5 @@
 -- What putting an item behind the others makes of a filling.
-use Rattle.std.proofs.Common.{◌≡◌, ◌⊎◌, inl, inr, ℕ, suc, ◌≤◌, ◌+◌, List, [], ◌∷◌, ◌++◌, length, map, is_some, true, Option, Some, None, refl, sym, ◌∙◌, ap, subst, arith}
+use Rattle.std.proofs.Common.{◌≡◌, inl, inr, ℕ, suc, ◌≤◌, ◌+◌, List, [], ◌∷◌, ◌++◌, length, Some, refl, sym, ◌∙◌, ap, subst, arith}
 use Rattle.std.proofs.lemmas.List.{length-append, length-map, map-append}
 use Rattle.client_port.specs.Ports.{Queue, due_of}
 use Rattle.dura_model.specs.Partition.{Partition, accepted}
@@ -23,7 +23,7 @@ use Rattle.part_steps.specs.Outputs.{Outputs}
 use Rattle.part_rounds.proofs.Queues.{next_due}
 
 -- one item more is one longer
-longer_by : (old new : List OwnItem) (item : Item) → items_of new ≡ items_of old ++ item ∷ [] → length new ≡ length old + 1
+pub longer_by : (old new : List OwnItem) (item : Item) → items_of new ≡ items_of old ++ item ∷ [] → length new ≡ length old + 1
 longer_by old new item is = sym (length-map new item_of) ∙ ap length is ∙ length-append (items_of old) (item ∷ []) ∙ ap (λ (n : ℕ). n + 1) (length-map old item_of)
 
 -- an item that is given where it is put, and asked for

@@ -1,5 +1,5 @@
 -- One more request of a client was said.
-use Rattle.std.proofs.Common.{◌≡◌, ◌⊎◌, inl, inr, ℕ, ◌<◌, ◌+◌, Bool, true, false, List, [], ◌∷◌, ◌++◌, length, map, Option, Some, None, cond, refl, sym, ◌∙◌, ap, subst, arith}
+use Rattle.std.proofs.Common.{◌≡◌, ◌≢◌, ◌⊎◌, inl, inr, ℕ, ◌<◌, ◌+◌, Bool, true, false, List, [], ◌∷◌, ◌++◌, length, map, Option, Some, None, cond, refl, sym, ◌∙◌, ap, subst, arith}
 use Rattle.std.specs.List.{filter, slice_get}
 use Rattle.std.specs.Option.{option_and_then, option_map}
 use Rattle.std.specs.Prelude.{nat_lt, bytes_eq}
@@ -8,13 +8,15 @@ use Rattle.dura_value.proofs.Ids.{same_bytes, bytes_self}
 use Rattle.std.proofs.lemmas.List.{length-append, map-append}
 use Rattle.std.proofs.lemmas.List.Elements.{filter-append}
 use Rattle.std.proofs.lemmas.Option.{slice_get_within}
-use Rattle.client_port.specs.Clients.{clients_of, requests_of}
+use Rattle.client_port.specs.Clients.{requests_of}
 use Rattle.client_port.specs.Ports.{Queue, is_of, at_client, first_due, with_said, due_of}
 use Rattle.request_reader.specs.Line.{Request}
 use Rattle.hub_store.specs.Changes.{asked}
 use Rattle.hub_store.specs.Trail.{Said}
 use Rattle.run_rules.specs.Rules.{Rules, Told, count_told, request_at}
-use Rattle.part_rounds.specs.Rounds.{pairs_of, of_client, HasSaid}
+use Rattle.dura_model.specs.Partition.{Partition}
+use Rattle.dura_value.specs.Ids.{client}
+use Rattle.part_rounds.specs.Rounds.{pairs_of, of_client, HasSaid, KeepsDue, next_answer}
 
 -- what is due of a client is what is due of its queue
 pub due_is : (name : List ℕ) (qs : List Queue) → due_of name qs ≡ option_and_then first_due (of_client name qs)
@@ -91,6 +93,25 @@ found_after m n (q ∷ qs) = elim (either (is_of m q)) [
     apart true false none = refl
     apart false true none = refl
     apart false false none = refl
+
+-- what is due of another client stays
+pub due_stays : (m n : List ℕ) (qs : List Queue) → n ≢ m → due_of n (at_client with_said m qs) ≡ due_of n qs
+due_stays m n qs apart = elim (either (bytes_eq m n)) [
+  | inl same ↦ absurd (apart (sym (same_bytes m n same)))
+  | inr other ↦
+      due_is n (at_client with_said m qs)
+      ∙ ap (option_and_then first_due) (found_after m n qs ∙ ap (λ (b : Bool). cond b (option_map with_said (of_client n qs)) (of_client n qs)) other)
+      ∙ sym (due_is n qs)
+]
+
+-- nothing is left to be said of a client once nothing is left of this one, where nothing was left before
+pub still_none : (state : Partition) (m n : List ℕ) (old new : List Queue) → KeepsDue m old new → next_answer state new m ≡ None → next_answer state old n ≡ None → next_answer state new n ≡ None
+still_none state m n old new keeps here before = elim (either (bytes_eq m n)) [
+  | inl same ↦ subst (λ (c : List ℕ). next_answer state new c ≡ None) (same_bytes m n same) here
+  | inr other ↦
+      ap (option_and_then (λ (r : Request). state.answers (client n) r.number)) (keeps n (λ same. let own : bytes_eq m n ≡ true = subst (λ (c : List ℕ). bytes_eq m c ≡ true) (sym same) (bytes_self m) in cc (own, other)))
+      ∙ before
+]
 
 pub count_on : (told : List Said) (m n : List ℕ) (number : ℕ) → count_told (pairs_of (told ++ asked m number ∷ [])) n ≡ count_told (pairs_of told) n + cond (bytes_eq m n) 1 0
 count_on told m n number =

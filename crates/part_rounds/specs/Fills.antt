@@ -1,14 +1,17 @@
 -- What an entry is filled with.
-use Rattle.std.specs.Prelude.{◌≡◌, ◌⊎◌, ◌<◌, ◌≤◌, ℕ, true, is_some, List, [], ◌∷◌, ◌++◌, Some, None, length}
+use Rattle.std.specs.Prelude.{◌≡◌, ◌⊎◌, ◌<◌, ◌≤◌, ℕ, true, is_some, IsSome, List, [], ◌∷◌, ◌++◌, Some, None, length}
 use Rattle.std.specs.List.{All}
 use Rattle.client_port.specs.Ports.{Queue, due_of}
+use Rattle.activity_table.specs.Table.{may}
 use Rattle.dura_model.specs.Partition.{Partition, accepted}
-use Rattle.dura_value.specs.Ids.{client}
-use Rattle.dura_value.specs.Items.{Item, took}
+use Rattle.dura_model.specs.World.{Activity}
+use Rattle.dura_value.specs.Ids.{Id, client}
+use Rattle.dura_value.specs.Items.{Item, took, got, ran, ended, fired, trim}
 use Rattle.flow_syntax.specs.Syntax.{Flows}
 use Rattle.part_files.specs.Placing.{all_accepted, AreGiven}
 use Rattle.part_items.specs.Plain.{item_of, items_of}
 use Rattle.part_items.specs.declared.items.Item.{Item as OwnItem}
+use Rattle.part_steps.specs.Quiet.{NoActivity}
 use Rattle.part_steps.specs.States.{state_of, count_of, IsSound}
 use Rattle.part_rounds.specs.declared.filling.Filling.{Filling}
 use Rattle.request_reader.specs.Line.{Request}
@@ -39,6 +42,19 @@ abbrev pub Puts : Flows → (old : Filling) → OwnItem → (new : Filling) → 
 Puts flows old item new = IsUnderWay new × ((state_of new.state).position ≡ (state_of old.state).position)
     × (((accepted flows 1 (state_of old.state) (item_of item) ≡ Some (state_of new.state)) × (items_of new.items.items ≡ items_of old.items.items ++ item_of item ∷ []))
     ⊎ ((accepted flows 1 (state_of old.state) (item_of item) ≡ None) × (state_of new.state ≡ state_of old.state) × (new.items ≡ old.items)))
+
+-- an outcome that an activity may give which is pending in this state
+abbrev pub IsOfPending : Partition → Item → Type 0
+IsOfPending p (ended id task outcome) = (activity : Activity) × (p.activities id task ≡ Some activity) × (may activity.name activity.argument outcome ≡ true)
+IsOfPending p (took message) = ⊥
+IsOfPending p (got source number message) = ⊥
+IsOfPending p (ran from to stamp) = ⊥
+IsOfPending p (fired id task stamp) = ⊥
+IsOfPending p (trim reader number) = ⊥
+
+-- no activity is pending, or there is one whose instance isn't there
+abbrev pub CantEnd : Partition → Type 0
+CantEnd p = NoActivity p ⊎ ((id : Id) × (task : ℕ) × IsSome (p.activities id task) × (p.instances id ≡ None))
 
 -- what is due of a client can't be taken: it was, or it isn't accepted
 abbrev pub CantTake : Flows → Partition → List Queue → (name : List ℕ) → Type 0

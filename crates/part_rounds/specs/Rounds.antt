@@ -1,5 +1,5 @@
 -- What holds between the rounds of a call.
-use Rattle.std.specs.Prelude.{◌≡◌, ℕ, List, [], ◌∷◌, map, Option, None, Some, if◌then◌else◌}
+use Rattle.std.specs.Prelude.{◌≡◌, ◌≢◌, ℕ, List, [], ◌∷◌, map, Option, None, Some, if◌then◌else◌}
 use Rattle.std.specs.Option.{option_and_then}
 use Rattle.client_port.specs.Clients.{clients_of, requests_of}
 use Rattle.client_port.specs.Ports.{Queue, is_of, due_of}
@@ -23,6 +23,10 @@ of_client name (q ∷ qs) = if is_of name q then Some q else of_client name qs
 pub record HasSaid (rules : Rules) (told : List Said) (queues : List Queue) : Type 0 where
   pub clients : map (λ q. q.client) queues ≡ clients_of rules.requests
   pub each : (name : List ℕ) (q : Queue) → of_client name queues ≡ Some q → (q.requests ≡ requests_of name rules.requests) × (q.said ≡ count_told (pairs_of told) name)
+
+-- what is due of the other clients stays
+abbrev pub KeepsDue : (name : List ℕ) → List Queue → List Queue → Type 0
+KeepsDue name old new = (other : List ℕ) → other ≢ name → due_of other new ≡ due_of other old
 
 -- the answer to a client's next request, where there are both
 abbrev pub next_answer : Partition → List Queue → List ℕ → Option Answer

@@ -1,6 +1,10 @@
 //! Round by round: what is possible is put into an entry, the entry is committed, and what it answers is said.
 //!
+//! - `ruled` is the rules that a call goes by.
+//! - `filling` puts what is possible into an entry, `taking` what clients ask, and `outcomes` how activities end.
+//! - `gathering` tells whether all of it can be written.
 //! - `committing` takes an entry to the log.
+//! - `saying` says what is answered.
 //! - `stop` is why a call ends before all is done.
 #![tactic(auto)]
 
@@ -9,6 +13,7 @@ mod filling;
 mod filling_on;
 mod gathering;
 mod laws;
+mod outcomes;
 mod ruled;
 mod saying;
 mod stop;

@@ -1,13 +1,14 @@
 //! Saying what is answered.
 
-ghost use Rattle.std.specs.Prelude.{◌≡◌, ◌<◌, ◌+◌, ℕ, true, false, None, Ok, Err, IfErr, IfOk, OnOk, length};
+ghost use Rattle.std.specs.List.{All};
+ghost use Rattle.std.specs.Prelude.{◌≡◌, ◌<◌, ◌≤◌, ◌+◌, ℕ, true, false, None, Ok, Err, IfErr, IfOk, OnOk, length};
 ghost use Rattle.client_port.specs.Clients.{requests_of};
 ghost use Rattle.hub_store.specs.Changes.{trail_in, told_in};
 ghost use Rattle.hub_store.specs.Sound.{IsSound};
 ghost use Rattle.hub_store.specs.Trail.{of_part};
 ghost use Rattle.part_files.specs.Placing.{placed};
 ghost use Rattle.part_rounds.specs.Commits.{is_of_tape};
-ghost use Rattle.part_rounds.specs.Rounds.{pairs_of, HasSaid, next_answer};
+ghost use Rattle.part_rounds.specs.Rounds.{pairs_of, HasSaid, KeepsDue, next_answer};
 ghost use Rattle.part_steps.specs.States.{state_of};
 ghost use Rattle.run_rules.specs.Rules.{count_told};
 ghost use Rattle.site_model.specs.Calls.{HasRisen};
@@ -53,7 +54,9 @@ pub(crate) fn say_next<V: Site, N: Ruled>(
     ensures none { result ≡ Ok false → (next_answer (state_of state.now) port.old.queues client.now ≡ None) × (port.new ≡ port.old) }
     ensures stops { IfErr result (λ stop. is_of_tape stop ≡ true) }
     ensures fault { result ≡ Err Stop.SayFault → HasRisen (V.say_faults store.old.site) (V.say_faults store.new.site) }
+    ensures later { V.say_faults store.old.site ≤ V.say_faults store.new.site }
     ensures disk_faults { V.disk_faults store.new.site ≡ V.disk_faults store.old.site }
+    ensures others { OnOk result (KeepsDue client.now port.old.queues port.new.queues) }
 {
     let Some(request) = port.next_of(client) else {
         return Ok(false);
@@ -70,4 +73,65 @@ pub(crate) fn say_next<V: Site, N: Ruled>(
     }
     port.said(alloc, client, Some(answer))?;
     Ok(true)
+}
+
+/// Says the answers to a client's requests until the next has none.
+fn say_all<V: Site, N: Ruled>(
+    alloc: Global,
+    store: &mut Store<V, N>,
+    state: &PartState,
+    port: &mut Port,
+    client: &Name,
+) -> Result<(), Stop>
+    requires sound { IsSound store.old }
+    requires going { store.old.halted ≡ false }
+    requires made { placed N.rules.flows 1 N.rules.begin (of_part 0 (trail_in store.old)) ≡ Ok (state_of state.now) }
+    requires said { HasSaid N.rules (told_in store.old) port.old.queues }
+    ensures tells { V.tells store.new.site → V.tells store.old.site }
+    ensures sound { IsSound store.new }
+    ensures trail { trail_in store.new ≡ trail_in store.old }
+    ensures ways { store.new.ways ≡ store.old.ways }
+    ensures segment { store.new.segment ≡ store.old.segment }
+    ensures still { OnOk result (store.new.halted ≡ false) }
+    ensures said { OnOk result (HasSaid N.rules (told_in store.new) port.new.queues) }
+    ensures none { OnOk result (next_answer (state_of state.now) port.new.queues client.now ≡ None) }
+    ensures others { OnOk result (KeepsDue client.now port.old.queues port.new.queues) }
+    ensures stops { IfErr result (λ stop. is_of_tape stop ≡ true) }
+    ensures fault { result ≡ Err Stop.SayFault → HasRisen (V.say_faults store.old.site) (V.say_faults store.new.site) }
+    ensures later { V.say_faults store.old.site ≤ V.say_faults store.new.site }
+    ensures disk_faults { V.disk_faults store.new.site ≡ V.disk_faults store.old.site }
+{
+    'answers: while say_next(alloc, store, state, port, client)? {}
+    Ok(())
+}
+
+/// Says the answers to the requests of these clients, of each until the next has none.
+pub(crate) fn say_due<V: Site, N: Ruled>(
+    alloc: Global,
+    store: &mut Store<V, N>,
+    state: &PartState,
+    port: &mut Port,
+    clients: &[Name],
+) -> Result<(), Stop>
+    requires sound { IsSound store.old }
+    requires going { store.old.halted ≡ false }
+    requires made { placed N.rules.flows 1 N.rules.begin (of_part 0 (trail_in store.old)) ≡ Ok (state_of state.now) }
+    requires said { HasSaid N.rules (told_in store.old) port.old.queues }
+    ensures tells { V.tells store.new.site → V.tells store.old.site }
+    ensures sound { IsSound store.new }
+    ensures trail { trail_in store.new ≡ trail_in store.old }
+    ensures ways { store.new.ways ≡ store.old.ways }
+    ensures segment { store.new.segment ≡ store.old.segment }
+    ensures still { OnOk result (store.new.halted ≡ false) }
+    ensures said { OnOk result (HasSaid N.rules (told_in store.new) port.new.queues) }
+    ensures none { OnOk result (All (λ name. next_answer (state_of state.now) port.new.queues name ≡ None) clients.now) }
+    ensures stops { IfErr result (λ stop. is_of_tape stop ≡ true) }
+    ensures fault { result ≡ Err Stop.SayFault → HasRisen (V.say_faults store.old.site) (V.say_faults store.new.site) }
+    ensures later { V.say_faults store.old.site ≤ V.say_faults store.new.site }
+    ensures disk_faults { V.disk_faults store.new.site ≡ V.disk_faults store.old.site }
+{
+    for client in clients {
+        say_all(alloc, store, state, port, client)?;
+    }
+    Ok(())
 }

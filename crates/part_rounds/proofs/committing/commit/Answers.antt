@@ -1,5 +1,5 @@
 use Rattle.hub_store.specs.Changes.{trail_in}
-use Rattle.part_items.specs.Plain.{entry_of, entries_of}
+use Rattle.part_items.specs.Plain.{entry_of}
 use Rattle.part_rounds.proofs.Trails.{settled_one}
 use Rattle.part_rounds.proofs.committing.commit.Goals as goal
 

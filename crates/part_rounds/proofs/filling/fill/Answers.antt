@@ -1,7 +1,6 @@
-use Rattle.std.proofs.Common.{◌≡◌, ◌∙◌, ◌++◌, ◌<◌, List, cond, map, sym, ap, subst, arith}
+use Rattle.std.proofs.Common.{◌≡◌, ◌∙◌, ◌++◌, map, arith}
 use Rattle.std.proofs.Math.Facts.{Fits-le}
 use Rattle.flow_syntax.specs.Views.{flows_of}
-use Rattle.part_items.specs.declared.items.Item.{Item}
 use Rattle.part_steps.specs.Outputs.{outputs_of}
 use Rattle.part_steps.specs.States.{state_of, count_of}
 use Rattle.part_rounds.proofs.Puttings.{filled_goes_on, filled_in_vain}

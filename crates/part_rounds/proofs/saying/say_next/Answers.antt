@@ -1,4 +1,4 @@
-use Rattle.std.proofs.Common.{◌≡◌, ℕ, List, Option, Some, refl, sym, ◌∙◌, ap, subst}
+use Rattle.std.proofs.Common.{◌≡◌, List, Some, refl, sym, ◌∙◌, ap, subst}
 use Rattle.std.specs.Option.{option_map}
 use Rattle.client_port.specs.Ports.{Ports, at_client, with_said, due_of}
 use Rattle.dura_value.specs.declared.addresses.Id.{Id as OwnId}
@@ -6,10 +6,10 @@ use Rattle.dura_value.specs.Views.{answer_of, id_of}
 use Rattle.hub_store.specs.Changes.{asked, trail_in, told_in}
 use Rattle.part_steps.specs.States.{state_of}
 use Rattle.request_reader.specs.Line.{request_of}
-use Rattle.part_rounds.specs.Rounds.{pairs_of, HasSaid}
+use Rattle.part_rounds.specs.Rounds.{pairs_of, HasSaid, KeepsDue}
 use Rattle.run_rules.specs.Rules.{count_told}
 use Rattle.hub_store.specs.Trail.{Said}
-use Rattle.part_rounds.proofs.Queues.{next_due, before_last, said_on, counted_on}
+use Rattle.part_rounds.proofs.Queues.{next_due, due_stays, before_last, said_on, counted_on}
 use Rattle.part_rounds.proofs.saying.say_next.Goals as goal
 
 pub say-requires-clause-may : goal.say-requires-clause-may
@@ -50,3 +50,8 @@ returns-clause-more g c = λ is.
       before_last rules told c.args.port.now.queues name r c.requires.said due,
       ap (λ (l : List Said). count_told (pairs_of l) name) c.in-Ok.ensures.ok ∙ counted_on rules told c.args.port.now.queues name r c.requires.said due r.number,
     )
+
+pub returns-clause-others : goal.returns-clause-others
+returns-clause-others g c =
+    let old = c.args.port.now.queues in
+    subst (λ (port : Ports). KeepsDue c.args.client.now old port.queues) (sym c.in_ok-said.ensures.ok) (λ other apart. due_stays c.args.client.now other old apart)

@@ -1,10 +1,10 @@
-use Rattle.std.proofs.Common.{◌≡◌, ◌∙◌, ℕ, List, length, subst, arith}
+use Rattle.std.proofs.Common.{◌∙◌, ℕ, List, subst, arith}
 use Rattle.dura_model.specs.Partition.{Partition}
 use Rattle.flow_syntax.specs.Views.{flows_of}
 use Rattle.part_rounds.specs.Fills.{CantTake}
 use Rattle.part_rounds.specs.Rounds.{pairs_of}
-use Rattle.part_rounds.proofs.Puttings.{goes_on_still, goes_on_both}
-use Rattle.part_rounds.proofs.Walks.{all_none, all_next, all_whole}
+use Rattle.part_rounds.proofs.Puttings.{goes_on_both}
+use Rattle.part_rounds.proofs.Walks.{all_next, all_whole}
 use Rattle.part_steps.specs.States.{state_of}
 use Rattle.part_rounds.proofs.taking.take_due.Goals as goal
 

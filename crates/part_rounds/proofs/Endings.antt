@@ -1,0 +1,73 @@
+-- The outcome of an activity that was pending.
+use Rattle.std.proofs.Common.{◌≡◌, inl, inr, ℕ, ◌<◌, ◌&&◌, Bool, true, false, List, [], ◌∷◌, length, Option, Some, None, refl, ap, arith}
+use Rattle.std.specs.Char.{is_ascii_alphabetic}
+use Rattle.std.specs.List.{list_all}
+use Rattle.std.specs.Option.{option_map}
+use Rattle.std.specs.Prelude.{nat_le, is_some}
+use Rattle.std.specs.Str.{IsUtf8, IsAscii}
+use Rattle.std.proofs.lemmas.Bool.Decides.{nat_tests}
+use Rattle.std.proofs.lemmas.Str.{IsUtf8-from_ascii}
+use Rattle.std.proofs.lemmas.Str.Ascii.{IsAscii-nil, IsAscii-cons}
+use Rattle.dura_model.specs.Partition.{Partition, accepted, ended_in, instance_in, instance_at}
+use Rattle.dura_model.specs.World.{Activity, Orchestration}
+use Rattle.dura_value.specs.Ids.{Id}
+use Rattle.dura_value.specs.Items.{Item, took, got, ran, ended, fired, trim}
+use Rattle.dura_value.specs.Limits.{most_word_bytes}
+use Rattle.dura_value.specs.Names.{is_name, goes_on_name}
+use Rattle.dura_value.specs.declared.outcome.Outcome.{Outcome}
+use Rattle.flow_syntax.specs.Syntax.{Flows}
+use Rattle.part_items.specs.Plain.{item_of}
+use Rattle.part_items.specs.declared.items.Item.{Item as OwnItem}
+use Rattle.part_steps.specs.States.{state_of}
+use Rattle.part_rounds.specs.Fills.{Puts, IsOfPending, CantEnd}
+use Rattle.part_rounds.specs.declared.filling.Filling.{Filling}
+use Rattle.part_rounds.proofs.Puttings.{longer_by}
+
+both : (a b : Bool) → (a && b) ≡ true → (a ≡ true) × (b ≡ true)
+both true true h = (refl, refl)
+both true false h = absurd (cc h)
+both false b h = absurd (cc h)
+
+first_below : (b : ℕ) → is_ascii_alphabetic b ≡ true → b < 128
+first_below b h = grind (arith, nat_tests)
+
+next_below : (b : ℕ) → goes_on_name b ≡ true → b < 128
+next_below b h = grind (arith, nat_tests)
+
+rest_ascii : (bs : List ℕ) → list_all goes_on_name bs ≡ true → IsAscii bs
+rest_ascii [] h = IsAscii-nil
+rest_ascii (b ∷ bs) h = let parts = both (goes_on_name b) (list_all goes_on_name bs) h in IsAscii-cons b bs (next_below b parts.0) (rest_ascii bs parts.1)
+
+-- a name is ASCII
+pub name_utf8 : (name : List ℕ) → is_name name ≡ true → IsUtf8 name
+name_utf8 [] h = absurd (cc h)
+name_utf8 (b ∷ bs) h =
+    let named = both (nat_le (length (b ∷ bs)) most_word_bytes) (is_ascii_alphabetic b && list_all goes_on_name bs) h in
+    let parts = both (is_ascii_alphabetic b) (list_all goes_on_name bs) named.1 in
+    IsUtf8-from_ascii (b ∷ bs) (IsAscii-cons b bs (first_below b parts.0) (rest_ascii bs parts.1))
+
+not_there : {A B : Type 0} (f : A → B) (o : Option A) → option_map f o ≡ None → o ≡ None
+not_there f None h = refl
+not_there f (Some a) h = absurd (cc h)
+
+-- the outcome of a pending activity is refused only where its instance isn't there
+no_instance : (flows : Flows) (p : Partition) (id : Id) (task : ℕ) (outcome : Outcome) (instance : Option Orchestration) (pending : Option Activity) (activity : Activity)
+    → pending ≡ Some activity → ended_in flows 1 p id task outcome instance pending ≡ None → instance ≡ None
+no_instance flows p id task outcome None pending activity there refused = refl
+no_instance flows p id task outcome (Some o) (Some other) activity there refused = absurd (cc refused)
+no_instance flows p id task outcome (Some o) None activity there refused = absurd (cc there)
+
+refused_end : (flows : Flows) (p : Partition) (item : Item) → IsOfPending p item → accepted flows 1 p item ≡ None → CantEnd p
+refused_end flows p (ended id task outcome) pending refused =
+    inr (id, task, ap is_some pending.1, not_there (instance_in flows id) (p.instances id) (no_instance flows p id task outcome (instance_at flows p id) (p.activities id task) pending.0 pending.1 refused))
+refused_end flows p (took message) pending refused = absurd pending
+refused_end flows p (got source number message) pending refused = absurd pending
+refused_end flows p (ran from to stamp) pending refused = absurd pending
+refused_end flows p (fired id task stamp) pending refused = absurd pending
+refused_end flows p (trim reader number) pending refused = absurd pending
+
+pub put_idle : (flows : Flows) (old new : Filling) (item : OwnItem) → Puts flows old item new → IsOfPending (state_of old.state) (item_of item) → new.items.items ≡ [] → CantEnd (state_of old.state)
+put_idle flows old new item puts pending empty = elim puts.2 [
+  | inl put ↦ let grown = longer_by old.items.items new.items.items (item_of item) put.1 in absurd (omega (arith, grown, ap length empty))
+  | inr refused ↦ refused_end flows (state_of old.state) (item_of item) pending refused.0
+]

@@ -1,0 +1,33 @@
+use Rattle.std.proofs.Common.{◌≡◌, ◌∙◌, ℕ, List, None, get_or, take, arith}
+use Rattle.part_steps.specs.States.{state_of}
+use Rattle.part_rounds.specs.Rounds.{next_answer}
+use Rattle.part_rounds.proofs.Queues.{still_none}
+use Rattle.part_rounds.proofs.Walks.{all_next, all_whole}
+use Rattle.part_rounds.proofs.saying.say_due.Goals as goal
+
+pub loop-client-preserved : goal.loop-client-preserved
+loop-client-preserved g c =
+    let state = state_of c.args.state.now in
+    let clients = c.args.clients.now in
+    let place = c.loop-client.client-index in
+    let name = c.client-item.result in
+    let before = c.loop-client.port.queues in
+    let after = c.say_all.new.port.queues in
+    record {
+      tells = λ t. c.loop-client.invariant.tells (c.say_all.ensures.tells t);
+      sound = c.say_all.ensures.sound;
+      trail = c.say_all.ensures.trail ∙ c.loop-client.invariant.trail;
+      ways = c.say_all.ensures.ways ∙ c.loop-client.invariant.ways;
+      segment = c.say_all.ensures.segment ∙ c.loop-client.invariant.segment;
+      still = c.in_ok-say_all.ensures.still;
+      said = c.in_ok-say_all.ensures.said;
+      none = all_next (λ (n : List ℕ). next_answer state after n ≡ None) clients place name c.loop-client-test.true c.client-item.is
+          (λ k d inside. still_none state name (get_or (take place clients) k d) before after c.in_ok-say_all.ensures.others c.in_ok-say_all.ensures.none (c.loop-client.invariant.none k d inside))
+          c.in_ok-say_all.ensures.none;
+      later = omega (arith, c.say_all.ensures.later, c.loop-client.invariant.later);
+      disk_faults = c.say_all.ensures.disk_faults ∙ c.loop-client.invariant.disk_faults;
+    }
+
+pub returns-clause-none : goal.returns-clause-none
+returns-clause-none g c =
+    all_whole (λ (n : List ℕ). next_answer (state_of c.args.state.now) c.loop-client.port.queues n ≡ None) c.args.clients.now c.loop-client.client-index c.loop-client-test.false c.loop-client.invariant.none

@@ -1,0 +1,81 @@
+//! Running the activities that are pending.
+
+ghost use Rattle.std.specs.List.{All};
+ghost use Rattle.std.specs.Prelude.{◌≡◌, ◌≤◌, [], true, IfOk, IfSome, IfNone, length};
+ghost use Rattle.activity_table.specs.Table.{may};
+ghost use Rattle.flow_syntax.specs.Views.{flows_of};
+ghost use Rattle.part_items.specs.Plain.{item_of, items_of};
+ghost use Rattle.part_rounds.specs.Fills.{IsUnderWay, GoesOn, IsOfPending, CantEnd};
+ghost use Rattle.part_steps.specs.Quiet.{NoActivity};
+ghost use Rattle.part_steps.specs.States.{state_of};
+ghost use Rattle.run_rules.specs.Rules.{Rules, Told};
+
+use crate::filling::{Filling, put};
+use activity_table::Activities;
+use dura_value::Outcome;
+use flow_messages::copy_id;
+use flow_syntax::Flows;
+use part_items::Item;
+use part_rows::Activity;
+use part_steps::PartState;
+use std::alloc::{AllocError, Global};
+
+/// Runs an activity.
+fn run<A: Activities>(
+    alloc: Global,
+    acts: &A,
+    activity: &Activity,
+    word: u64,
+) -> Result<Outcome, AllocError>
+    ensures { IfOk result (λ outcome. may activity.now.name activity.now.argument outcome ≡ true) }
+{
+    let Ok(name) = str::from_utf8(activity.name.as_bytes()) else {
+        unreachable!()
+    };
+    acts.run(alloc, name, &activity.argument, word)
+}
+
+/// Runs the activity that is pending first, if there is one.
+fn outcome_of_pending<A: Activities>(
+    alloc: Global,
+    acts: &A,
+    state: &PartState,
+    word: u64,
+) -> Result<Option<Item>, AllocError>
+    ensures some { IfOk result (λ item. IfSome item (λ one. IsOfPending (state_of state.now) (item_of one))) }
+    ensures none { IfOk result (λ item. IfNone item (NoActivity (state_of state.now))) }
+{
+    let Some((id, task)) = state.pending_task() else {
+        return Ok(None);
+    };
+    let Some(activity) = state.activity(id, task) else {
+        unreachable!()
+    };
+    let outcome = run(alloc, acts, activity, word)?;
+    Ok(Some(Item::Done(copy_id(id)?, task, outcome)))
+}
+
+/// Runs the activity that is pending first, and puts its outcome.
+pub(crate) fn run_pending<A: Activities>(
+    alloc: Global,
+    flows: &Flows,
+    acts: &A,
+    filling: Filling,
+    word: u64,
+) -> Result<Filling, AllocError>
+    requires way { IsUnderWay filling }
+    requires empty { filling.items.items ≡ [] }
+    ensures goes_on { (rules : Rules) (told : Told) → rules.flows ≡ flows_of flows.now → IfOk result (λ next. GoesOn rules told filling next) }
+    ensures few { IfOk result (λ next. length next.items.items ≤ 1) }
+    ensures none { IfOk result (λ next. next.items.items ≡ [] → state_of next.state ≡ state_of filling.state) }
+    ensures idle { IfOk result (λ next. next.items.items ≡ [] → CantEnd (state_of filling.state)) }
+    ensures settled { IfOk result (λ next. All (IsOfPending (state_of filling.state)) (items_of next.items.items)) }
+{
+    match outcome_of_pending(alloc, acts, &filling.state, word)? {
+        Some(item) => {
+            let next = put(alloc, flows, filling, item)?;
+            Ok(next)
+        }
+        None => Ok(filling),
+    }
+}
