@@ -88,19 +88,19 @@ filled_goes_on rules told flows old new count now more made same one makes items
       longer = let lengths : length new.items.items ≡ length old.items.items + length more = ap length items ∙ length-append old.items.items more in omega (arith, lengths);
     }
 
-nothing_more : (a b : List OwnItem) → a ++ b ≡ a → b ≡ []
+nothing_more : (a b : List OwnItem) → length (a ++ b) ≡ length a → b ≡ []
 nothing_more a [] is = refl
-nothing_more a (item ∷ b) is = let lengths : length a + suc (length b) ≡ length a = sym (length-append a (item ∷ b)) ∙ ap length is in absurd (omega (arith, lengths))
+nothing_more a (item ∷ b) is = let lengths : length a + suc (length b) ≡ length a = sym (length-append a (item ∷ b)) ∙ is in absurd (omega (arith, lengths))
 
 made_nothing : {flows : Flows} {count now : ℕ} {first p : Partition} {items : List Item} {made : List Outputs} → Makes flows count now first items made p → items ≡ [] → p ≡ first
 made_nothing nothing is = refl
 made_nothing (one_more {items} before item at taken) is = let lengths : length items + 1 ≡ 0 = sym (length-append items (item ∷ [])) ∙ ap length is in absurd (omega (arith, lengths))
 
 -- where nothing came behind the others, nothing was possible
-pub filled_in_vain : (flows : Flows) (count now : ℕ) (p q : Partition) (old more all : List OwnItem) (made : List Outputs) → count ≡ 1 → Makes flows count now p (items_of more) made q → all ≡ old ++ more → all ≡ old
+pub filled_in_vain : (flows : Flows) (count now : ℕ) (p q : Partition) (old more all : List OwnItem) (made : List Outputs) → count ≡ 1 → Makes flows count now p (items_of more) made q → all ≡ old ++ more → length all ≡ length old
     → (more ≡ [] → NoneEnabled flows count p (moment_at p now)) → (q ≡ p) × NoneEnabled flows 1 p (moment_at p now)
 filled_in_vain flows count now p q old more all made one makes items same none =
-    let empty : more ≡ [] = nothing_more old more (sym items ∙ same) in
+    let empty : more ≡ [] = nothing_more old more (ap length (sym items) ∙ same) in
     (made_nothing makes (ap items_of empty), subst (λ (n : ℕ). NoneEnabled flows n p (moment_at p now)) one (none empty))
 
 -- nothing more came in

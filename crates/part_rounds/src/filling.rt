@@ -54,7 +54,7 @@ pub(crate) fn fill(
     ensures goes_on { (rules : Rules) (told : Told) → rules.flows ≡ flows_of flows.now → IfOk result (λ next. GoesOn rules told filling next) }
     ensures under_way { IfOk result (λ next. IsUnderWay next) }
     ensures few { IfOk result (λ next. length next.items.items ≤ limit) }
-    ensures none { length filling.items.items < limit → IfOk result (λ next. next.items.items ≡ filling.items.items
+    ensures none { length filling.items.items < limit → IfOk result (λ next. length next.items.items ≡ length filling.items.items
         → (state_of next.state ≡ state_of filling.state) × NoneEnabled (flows_of flows.now) 1 (state_of filling.state) (moment_at (state_of filling.state) now)) }
 {
     let Filling { state, mut items } = filling;

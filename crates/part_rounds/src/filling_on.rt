@@ -1,25 +1,37 @@
 //! What an entry is filled with besides outcomes.
 
-ghost use Rattle.std.specs.Prelude.{◌≡◌, ◌<◌, ◌≤◌, List, IfOk, IfErr, length};
+ghost use Rattle.std.specs.Prelude.{◌≡◌, ◌<◌, ◌≤◌, List, [], IfOk, IfErr, length};
 ghost use Rattle.std.specs.List.{All};
 ghost use Rattle.codec_laws.specs.ItemFits.{FitsItem};
 ghost use Rattle.flow_syntax.specs.Views.{flows_of};
 ghost use Rattle.hub_store.specs.Trail.{Said};
 ghost use Rattle.part_items.specs.Plain.{items_of};
-ghost use Rattle.part_rounds.specs.Fills.{IsUnderWay, GoesOn, CantTake};
+ghost use Rattle.part_rounds.specs.Fills.{IsUnderWay, Fills, GoesOn, CantTake, IsIdle};
 ghost use Rattle.part_rounds.specs.Rounds.{pairs_of, HasSaid};
 ghost use Rattle.part_steps.specs.Enabled.{NoneEnabled, moment_at};
-ghost use Rattle.part_steps.specs.States.{state_of};
+ghost use Rattle.part_steps.specs.States.{state_of, count_of, IsSound};
 ghost use Rattle.run_rules.specs.Rules.{Rules};
 
 use crate::filling::{Filling, fill};
 use crate::gathering::all_fit;
+use crate::outcomes::run_pending;
 use crate::stop::Stop;
 use crate::taking::take_due;
+use activity_table::Activities;
 use client_port::Port;
 use dura_value::Name;
 use flow_syntax::Flows;
+use part_steps::PartState;
 use std::alloc::Global;
+
+/// What a round reads of the outside: the moment, and a word for an activity that wants chance.
+#[derive(Clone, Copy)]
+pub(crate) struct Chance {
+    /// The moment, in milliseconds.
+    pub(crate) now: u64,
+    /// The word.
+    pub(crate) word: u64,
+}
 
 /// Fills an entry on with what is due of clients, and then with the deliveries and timers that are possible now, up to so many items
 /// in all. Items that can't be written are taken for want of memory: values are within the limits by the rules of the language.
@@ -33,11 +45,12 @@ pub(crate) fn fill_on(
     limit: u32,
 ) -> Result<Filling, Stop>
     requires way { IsUnderWay filling }
-    requires room { length filling.items.items < limit }
+    requires room { length filling.items.items ≤ limit }
     ensures goes_on { (rules : Rules) (told : List Said) → rules.flows ≡ flows_of flows.now → HasSaid rules told port.now.queues → IfOk result (λ next. GoesOn rules (pairs_of told) filling next) }
     ensures few { IfOk result (λ next. length next.items.items ≤ limit) }
     ensures fit { IfOk result (λ next. All FitsItem (items_of next.items.items)) }
-    ensures none { IfOk result (λ next. length next.items.items ≡ length filling.items.items → (state_of next.state ≡ state_of filling.state)
+    ensures under_way { IfOk result (λ next. IsUnderWay next) }
+    ensures none { length filling.items.items < limit → IfOk result (λ next. length next.items.items ≡ length filling.items.items → (state_of next.state ≡ state_of filling.state)
         × All (λ name. CantTake (flows_of flows.now) (state_of filling.state) port.now.queues name) clients.now × NoneEnabled (flows_of flows.now) 1 (state_of filling.state) (moment_at (state_of filling.state) now)) }
     ensures stops { IfErr result (λ stop. stop ≡ Stop.Memory) }
 {
@@ -46,5 +59,38 @@ pub(crate) fn fill_on(
     if !all_fit(&filled.items) {
         return Err(Stop::Memory);
     }
+    Ok(filled)
+}
+
+/// Fills an entry that has begun: with the outcome of an activity that is pending, then with what is due of clients, then with the
+/// deliveries and timers that are possible now.
+pub(crate) fn gather<A: Activities>(
+    alloc: Global,
+    flows: &Flows,
+    acts: &A,
+    state: PartState,
+    port: &Port,
+    clients: &[Name],
+    chance: Chance,
+    limit: u32,
+) -> Result<Filling, Stop>
+    requires sound { IsSound state }
+    requires one { count_of state ≡ 1 }
+    requires begun { 0 < (state_of state).position }
+    requires some { 0 < limit }
+    ensures fills { (rules : Rules) (told : List Said) → rules.flows ≡ flows_of flows.now → HasSaid rules told port.now.queues → IfOk result (λ next. Fills rules (pairs_of told) (state_of state) (items_of next.items.items) (state_of next.state)) }
+    ensures under_way { IfOk result (λ next. IsUnderWay next) }
+    ensures few { IfOk result (λ next. length next.items.items ≤ limit) }
+    ensures fit { IfOk result (λ next. All FitsItem (items_of next.items.items)) }
+    ensures none { IfOk result (λ next. next.items.items ≡ [] → (state_of next.state ≡ state_of state)
+        × IsIdle (flows_of flows.now) (state_of state) port.now.queues clients.now chance.now) }
+    ensures stops { IfErr result (λ stop. stop ≡ Stop.Memory) }
+{
+    let begun = Filling {
+        state,
+        items: Vec::new(alloc),
+    };
+    let ended = run_pending(alloc, flows, acts, begun, chance.word)?;
+    let filled = fill_on(alloc, flows, ended, port, clients, chance.now, limit)?;
     Ok(filled)
 }

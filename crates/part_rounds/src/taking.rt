@@ -51,7 +51,6 @@ fn take_of(
     ensures goes_on { (rules : Rules) (told : List Said) → rules.flows ≡ flows_of flows.now → HasSaid rules told port.now.queues → IfOk result (λ next. GoesOn rules (pairs_of told) filling next) }
     ensures under_way { IfOk result (λ next. IsUnderWay next) }
     ensures longer { IfOk result (λ next. length filling.items.items ≤ length next.items.items) }
-    ensures under_way { IfOk result (λ next. IsUnderWay next) }
     ensures one { IfOk result (λ next. length next.items.items ≤ length filling.items.items + 1) }
     ensures none { IfOk result (λ next. length next.items.items ≡ length filling.items.items → (state_of next.state ≡ state_of filling.state) × CantTake (flows_of flows.now) (state_of filling.state) port.now.queues client.now) }
 {
@@ -77,6 +76,7 @@ pub(crate) fn take_due(
     requires room { length filling.items.items ≤ limit }
     ensures goes_on { (rules : Rules) (told : List Said) → rules.flows ≡ flows_of flows.now → HasSaid rules told port.now.queues → IfOk result (λ next. GoesOn rules (pairs_of told) filling next) }
     ensures under_way { IfOk result (λ next. IsUnderWay next) }
+    ensures longer { IfOk result (λ next. length filling.items.items ≤ length next.items.items) }
     ensures few { IfOk result (λ next. length next.items.items ≤ limit) }
     ensures none { length filling.items.items < limit → IfOk result (λ next. length next.items.items ≡ length filling.items.items
         → (state_of next.state ≡ state_of filling.state) × All (λ name. CantTake (flows_of flows.now) (state_of filling.state) port.now.queues name) clients.now) }
