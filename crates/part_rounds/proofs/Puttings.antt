@@ -10,7 +10,7 @@ use Rattle.flow_syntax.specs.Syntax.{Flows}
 use Rattle.hub_store.specs.Trail.{Said}
 use Rattle.part_items.specs.Plain.{item_of, items_of}
 use Rattle.part_items.specs.declared.items.Item.{Item as OwnItem}
-use Rattle.part_steps.specs.States.{state_of}
+use Rattle.part_steps.specs.States.{state_of, count_of, IsSound}
 use Rattle.request_reader.specs.Line.{Request}
 use Rattle.run_rules.specs.Rules.{Rules, Told, count_told, IsDue, IsAsked}
 use Rattle.part_rounds.specs.Fills.{Fills, IsUnderWay, GoesOn, Puts, CantTake}
@@ -25,6 +25,18 @@ use Rattle.part_rounds.proofs.Queues.{next_due}
 -- one item more is one longer
 pub longer_by : (old new : List OwnItem) (item : Item) → items_of new ≡ items_of old ++ item ∷ [] → length new ≡ length old + 1
 longer_by old new item is = sym (length-map new item_of) ∙ ap length is ∙ length-append (items_of old) (item ∷ []) ∙ ap (λ (n : ℕ). n + 1) (length-map old item_of)
+
+-- an item that is accepted is put
+pub accepted_puts : (flows : Flows) (old new : Filling) (item : OwnItem) → IsUnderWay old → accepted flows (count_of old.state) (state_of old.state) (item_of item) ≡ Some (state_of new.state)
+    → count_of new.state ≡ count_of old.state → (state_of new.state).position ≡ (state_of old.state).position → IsSound new.state → new.items.items ≡ old.items.items ++ item ∷ [] → Puts flows old item new
+accepted_puts flows old new item way made count position sound items = (
+  record { sound = sound; one = count ∙ way.one; begun = omega (arith, position, way.begun) },
+  position,
+  inl (
+    subst (λ (n : ℕ). accepted flows n (state_of old.state) (item_of item) ≡ Some (state_of new.state)) way.one made,
+    ap items_of items ∙ map-append item_of old.items.items (item ∷ []),
+  ),
+)
 
 -- an item that is given where it is put, and asked for
 pub puts_goes_on : (rules : Rules) (told : Told) (flows : Flows) (old new : Filling) (item : OwnItem) → rules.flows ≡ flows → Puts flows old item new → IsGiven (state_of old.state) (item_of item) → IsAsked rules told (item_of item) → GoesOn rules told old new
