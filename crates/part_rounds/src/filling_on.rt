@@ -50,6 +50,7 @@ pub(crate) fn fill_on(
     ensures few { IfOk result (λ next. length next.items.items ≤ limit) }
     ensures fit { IfOk result (λ next. All FitsItem (items_of next.items.items)) }
     ensures under_way { IfOk result (λ next. IsUnderWay next) }
+    ensures longer { IfOk result (λ next. length filling.items.items ≤ length next.items.items) }
     ensures none { length filling.items.items < limit → IfOk result (λ next. length next.items.items ≡ length filling.items.items → (state_of next.state ≡ state_of filling.state)
         × All (λ name. CantTake (flows_of flows.now) (state_of filling.state) port.now.queues name) clients.now × NoneEnabled (flows_of flows.now) 1 (state_of filling.state) (moment_at (state_of filling.state) now)) }
     ensures stops { IfErr result (λ stop. stop ≡ Stop.Memory) }

@@ -18,3 +18,8 @@ returns-clause-none c = λ less same.
     let taken = c.in_ok-taken.ensures.none less first in
     let filled = c.in_ok-filled.ensures.none (omega (arith, less, first)) then in
     (filled.0 ∙ taken.0, taken.1, subst (λ (p : Partition). NoneEnabled (flows_of c.args.flows.now) 1 p (moment_at p c.args.now)) taken.0 filled.1)
+
+pub returns-clause-longer : goal.returns-clause-longer
+returns-clause-longer c =
+    let grown = (c.in_ok-filled.ensures.goes_on (record { flows = flows_of c.args.flows.now; begin = fresh 0; life = 0; requests = [] }) [] refl).longer in
+    omega (arith, grown, c.in_ok-taken.ensures.longer)

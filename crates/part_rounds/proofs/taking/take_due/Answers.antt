@@ -14,7 +14,7 @@ loop-client-preserved c =
     let queues = c.args.port.now.queues in
     let first = state_of c.args.filling.state in
     record {
-      way = c.in_ok-filling.ensures.way;
+      way = c.in_ok-filling.ensures.under_way;
       few = omega (arith, c.in_ok-filling.ensures.one, c.loop-client.invariant.few, c.if-len-limit.false, c.len.ensures);
       longer = omega (arith, c.in_ok-filling.ensures.longer, c.loop-client.invariant.longer);
       goes_on = λ rules told same said. goes_on_both rules (pairs_of told) c.args.filling c.loop-client.filling c.in_ok-filling.filling
