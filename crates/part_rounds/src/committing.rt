@@ -3,17 +3,19 @@
 ghost use Rattle.std.specs.Prelude.{◌≡◌, ◌⊎◌, ◌≤◌, ◌<◌, ℕ, List, [], ◌∷◌, ◌++◌, true, false, Some, Err, IfOk, IfErr, OnOk, OnErr, length};
 ghost use Rattle.dura_value.specs.Items.{Entry as PlainEntry};
 ghost use Rattle.site_model.specs.Calls.{HasRisen};
-ghost use Rattle.part_items.specs.Plain.{entry_of, entries_of};
+ghost use Rattle.part_items.specs.Plain.{entry_of, entries_of, items_of};
 ghost use Rattle.hub_store.specs.Changes.{stage_at, going_at, trail_in, told_in, KeepsOthers, MovesOnly, Settles};
 ghost use Rattle.hub_store.specs.Frames.{goes_on, GoesBehind, length_with};
 ghost use Rattle.hub_store.specs.Sound.{IsSound};
 ghost use Rattle.hub_store.specs.Trail.{of_part};
 ghost use Rattle.hub_store.specs.Ways.{way_of};
 ghost use Rattle.part_rounds.specs.Commits.{is_of_disk};
+ghost use Rattle.part_rounds.specs.Rounds.{pairs_of, BeginsWith, IsFilled};
 
+use crate::ruled::Ruled;
 use crate::stop::{Stop, of_body};
 use hub_store::{Stage, Start, Store};
-use part_items::{Entry, Frame};
+use part_items::{Entry, Frame, Item, Items};
 use site_model::Site;
 use std::alloc::{AllocError, Global};
 
@@ -131,6 +133,43 @@ pub fn commit<V: Site, N: Start>(
         Err(stop) => return Err(stop),
     }
     match open(store) {
+        Ok(()) => Ok(()),
+        Err(stop) => Err(stop),
+    }
+}
+
+/// Commits what an entry was filled with, at this place and in this life.
+pub(crate) fn commit_items<V: Site, N: Ruled>(
+    alloc: Global,
+    store: &mut Store<V, N>,
+    position: u64,
+    life: u64,
+    items: Vec<Item>,
+) -> Result<(), Stop>
+    requires sound { IsSound store.old }
+    requires going { store.old.halted ≡ false }
+    requires rests { stage_at store.old 0 ≡ Stage.Resting }
+    requires begins { BeginsWith N.rules (N.origin.logs 0) }
+    requires filled { IsFilled N.rules (N.origin.logs 0) (of_part 0 (trail_in store.old)) (pairs_of (told_in store.old)) position life (items_of items.items) }
+    ensures tells { V.tells store.new.site → V.tells store.old.site }
+    ensures sound { IsSound store.new }
+    ensures stage { OnOk result (stage_at store.new 0 ≡ Stage.Resting) }
+    ensures trail { OnOk result (of_part 0 (trail_in store.new) ≡ of_part 0 (trail_in store.old) ++ record { position = position; incarnation = life; items = items_of items.items } ∷ []) }
+    ensures no_trail { OnErr result (trail_in store.new ≡ trail_in store.old) }
+    ensures said { told_in store.new ≡ told_in store.old }
+    ensures still { OnOk result (store.new.halted ≡ false) }
+    ensures segment { store.new.segment ≡ store.old.segment }
+    ensures stops { IfErr result (λ stop. is_of_disk stop ≡ true) }
+    ensures fault { result ≡ Err Stop.SiteFault → HasRisen (V.disk_faults store.old.site) (V.disk_faults store.new.site) }
+    ensures later { V.disk_faults store.old.site ≤ V.disk_faults store.new.site }
+    ensures say_faults { V.say_faults store.new.site ≡ V.say_faults store.old.site }
+{
+    let entry = Entry {
+        position,
+        incarnation: life,
+        items: Items::of(items),
+    };
+    match commit(alloc, store, entry) {
         Ok(()) => Ok(()),
         Err(stop) => Err(stop),
     }
