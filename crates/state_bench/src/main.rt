@@ -44,8 +44,7 @@ fn main(rt: HostRuntime) -> Result<()> {
     let alloc = rt.alloc();
     let flows = read_flows(alloc, SUM)?;
     let mut words = env::args(&rt)?.skip(1);
-    let words = (words.next(), words.next(), words.next(), words.next());
-    let (times, crowd) = match words {
+    let (times, crowd) = match (words.next(), words.next(), words.next(), words.next()) {
         (Some(instances), Some(times), Some(clients), Some(flight)) => {
             (
                 times.parse::<u32>()?,
