@@ -9,13 +9,15 @@ use std::alloc::Global;
 /// What is added to the number of each instance.
 const ADDED: i64 = 3;
 
-/// How many instances there are, and how many clients, who ask for them in turn.
+/// How many instances there are, how many clients, who ask for them in turn, and how many instances are under way at a time.
 #[derive(Clone, Copy)]
 pub struct Crowd {
     /// How many instances.
     pub instances: u32,
     /// How many clients.
     pub clients: u32,
+    /// How many instances are under way at a time.
+    pub flight: u32,
 }
 
 /// The client that asks for an instance.

@@ -49,27 +49,29 @@ fn ask(
     Ok(state)
 }
 
-/// All instances are started and waited for.
-pub fn ask_all(alloc: Global, flows: &Flows, state: PartState, crowd: Crowd) -> Result<PartState>
+/// The instances from one number up to another are started and waited for.
+fn ask_all(
+    alloc: Global,
+    flows: &Flows,
+    state: PartState,
+    crowd: Crowd,
+    first: u32,
+    end: u32,
+) -> Result<PartState>
     requires sound { IsSound state }
     requires begun { 0 < (state_of state).position }
     ensures sound { IfOk result (λ state. IsSound state) }
     ensures begun { IfOk result (λ state. 0 < (state_of state).position) }
 {
     let mut state = state;
-    for number in 0..crowd.instances {
+    for number in first..end {
         state = ask(alloc, flows, state, crowd, number)?;
     }
     Ok(state)
 }
 
 /// Each activity comes to its end.
-pub fn finish_all(
-    alloc: Global,
-    flows: &Flows,
-    state: PartState,
-    instances: u32,
-) -> Result<PartState>
+fn finish_all(alloc: Global, flows: &Flows, state: PartState, instances: u32) -> Result<PartState>
     requires sound { IsSound state }
     requires begun { 0 < (state_of state).position }
     ensures sound { IfOk result (λ state. IsSound state) }
@@ -84,7 +86,7 @@ pub fn finish_all(
 }
 
 /// All that is possible by itself is done, in its order.
-pub fn settle(alloc: Global, flows: &Flows, state: PartState, now: u64) -> Result<PartState>
+fn settle(alloc: Global, flows: &Flows, state: PartState, now: u64) -> Result<PartState>
     requires sound { IsSound state }
     requires begun { 0 < (state_of state).position }
     ensures sound { IfOk result (λ state. IsSound state) }
@@ -96,6 +98,46 @@ pub fn settle(alloc: Global, flows: &Flows, state: PartState, now: u64) -> Resul
             Some(item) => state = apply(alloc, flows, state, &item)?,
             None => break,
         }
+    }
+    Ok(state)
+}
+
+/// The instances from one number up to another are started, run and waited for, all at once.
+fn run_wave(
+    alloc: Global,
+    flows: &Flows,
+    state: PartState,
+    crowd: Crowd,
+    first: u32,
+    end: u32,
+) -> Result<PartState>
+    requires sound { IsSound state }
+    requires begun { 0 < (state_of state).position }
+    ensures sound { IfOk result (λ state. IsSound state) }
+    ensures begun { IfOk result (λ state. 0 < (state_of state).position) }
+{
+    let state = ask_all(alloc, flows, state, crowd, first, end)?;
+    let state = settle(alloc, flows, state, 1)?;
+    let state = finish_all(alloc, flows, state, end.saturating_sub(first))?;
+    let state = settle(alloc, flows, state, 2)?;
+    Ok(state)
+}
+
+/// All instances are started, run and waited for, so many at a time.
+pub fn run_waves(alloc: Global, flows: &Flows, state: PartState, crowd: Crowd) -> Result<PartState>
+    requires sound { IsSound state }
+    requires begun { 0 < (state_of state).position }
+    ensures sound { IfOk result (λ state. IsSound state) }
+    ensures begun { IfOk result (λ state. 0 < (state_of state).position) }
+{
+    let Some(waves) = crowd.instances.checked_div(crowd.flight) else {
+        bail!("none at a time");
+    };
+    let mut state = state;
+    for wave in 0..=waves {
+        let first = wave.saturating_mul(crowd.flight);
+        let end = first.saturating_add(crowd.flight).min(crowd.instances);
+        state = run_wave(alloc, flows, state, crowd, first, end)?;
     }
     Ok(state)
 }

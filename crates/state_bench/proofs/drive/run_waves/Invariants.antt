@@ -1,0 +1,7 @@
+use Rattle.std.proofs.Common.{◌<◌}
+use Rattle.part_steps.specs.States.{IsSound, state_of}
+use Rattle.state_bench.proofs.drive.run_waves.Given as goal
+
+-- its state is sound, in an entry that has begun
+abbrev pub invariant-loop-wave : goal.invariant-loop-wave
+invariant-loop-wave l = IsSound l.state × (0 < (state_of l.state).position)
