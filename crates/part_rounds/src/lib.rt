@@ -1,9 +1,9 @@
 //! Round by round: what is possible is put into an entry, the entry is committed, and what it answers is said.
 //!
 //! - `ruled` is the rules that a call goes by.
-//! - `filling` puts what is possible into an entry, `taking` what clients ask, and `outcomes` how activities end.
-//! - `gathering` tells whether all of it can be written.
-//! - `committing` takes an entry to the log.
+//! - `filling` puts what is possible into an entry, `taking` what clients ask, and `outcomes` how activities end; `filling_on` puts
+//!   all of it together, and `gathering` tells whether it can be written.
+//! - `committing` takes an entry to the log, and `laws` says of an entry that was filled that it may follow.
 //! - `saying` says what is answered.
 //! - `stop` is why a call ends before all is done.
 #![tactic(auto)]
