@@ -1,9 +1,7 @@
 -- An entry that was filled may follow, and stands where its log goes on.
-use Rattle.std.proofs.Common.{◌≡◌, ℕ, List, [], ◌∷◌, ◌++◌, Ok, Some, refl, sym, ◌∙◌, ap, subst, append_assoc, arith}
-use Rattle.std.specs.List.{All}
+use Rattle.std.proofs.Common.{◌≡◌, ℕ, List, [], ◌∷◌, ◌++◌, Ok, refl, sym, ◌∙◌, ap, subst, append_assoc, arith}
 use Rattle.std.proofs.lemmas.List.Elements.{All-cons}
 use Rattle.commit_log.specs.Segment.{◌>>=◌}
-use Rattle.commit_log.specs.declared.header.Header.{Header}
 use Rattle.dura_model.specs.Partition.{Partition, fresh, enter}
 use Rattle.dura_model.proofs.Kept.{fresh_shown}
 use Rattle.dura_value.specs.Items.{Item, Entry}
