@@ -126,3 +126,7 @@ goes_on_both rules told a b c first then = record {
   fills = λ from fills. then.fills from (first.fills from fills);
   longer = omega (arith, first.longer, then.longer);
 }
+
+pub no_items : (items : List OwnItem) → length items ≤ 0 → items ≡ []
+no_items [] few = refl
+no_items (item ∷ items) few = absurd (omega (arith, few))

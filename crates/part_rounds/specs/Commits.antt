@@ -1,4 +1,4 @@
--- Why committing an entry stops, or saying an answer.
+-- Why committing an entry stops, or saying an answer, or waiting for what comes next.
 use Rattle.std.specs.Prelude.{Bool, true, false}
 use Rattle.hub_store.specs.declared.refusal.BodyRefusal.{BodyRefusal}
 use Rattle.hub_store.specs.declared.refusal.BodyRefusal.TheVariants as refusals
@@ -26,3 +26,11 @@ is_of_tape SiteFault = false
 is_of_tape Memory = true
 is_of_tape SayFault = true
 is_of_tape ClockFault = false
+
+-- whether the clock is why, or want of memory
+abbrev pub is_of_clock : Stop → Bool
+is_of_clock (Full partition length) = false
+is_of_clock SiteFault = false
+is_of_clock Memory = true
+is_of_clock SayFault = false
+is_of_clock ClockFault = true

@@ -1,3 +1,4 @@
+pub mod Comes
 pub mod Commits
 pub mod Fills
 pub mod Rounds

@@ -8,6 +8,7 @@
 //! - `stop` is why a call ends before all is done.
 #![tactic(auto)]
 
+mod coming;
 mod committing;
 mod filling;
 mod filling_on;

@@ -9,7 +9,7 @@ use Rattle.part_rounds.specs.Rounds.{pairs_of}
 use Rattle.part_steps.specs.Enabled.{NoneEnabled, moment_at}
 use Rattle.part_steps.specs.States.{state_of}
 use Rattle.part_rounds.proofs.Fillings.{fills_nothing}
-use Rattle.part_rounds.proofs.Puttings.{goes_on_both}
+use Rattle.part_rounds.proofs.Puttings.{goes_on_both, no_items}
 use Rattle.part_rounds.proofs.filling_on.gather.Goals as goal
 
 pub fill_on-requires-clause-way : goal.fill_on-requires-clause-way
@@ -19,10 +19,6 @@ pub returns-clause-fills : goal.returns-clause-fills
 returns-clause-fills g c = λ rules told same said.
     (goes_on_both rules (pairs_of told) _ c.in_ok-ended.ended c.in_ok-filled.filled (c.in_ok-ended.ensures.goes_on rules (pairs_of told) same) (c.in_ok-filled.ensures.goes_on rules told same said)).fills (state_of c.args.state)
     (subst (λ (l : List Item). Fills rules (pairs_of told) (state_of c.args.state) (items_of l) (state_of c.args.state)) (sym c.new.ensures.items) (fills_nothing rules (pairs_of told) (state_of c.args.state)))
-
-no_items : (items : List Item) → length items ≤ 0 → items ≡ []
-no_items [] few = refl
-no_items (item ∷ items) few = absurd (omega (arith, few))
 
 pub returns-clause-none : goal.returns-clause-none
 returns-clause-none g c = λ empty.

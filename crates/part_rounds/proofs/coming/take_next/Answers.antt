@@ -1,0 +1,20 @@
+use Rattle.std.proofs.Common.{◌≡◌, ◌∙◌, ◌≤◌, length, sym, subst, arith}
+use Rattle.std.proofs.lemmas.Bool.{eqb-true}
+use Rattle.std.specs.Vec.{vec_len}
+use Rattle.dura_model.specs.Partition.{Partition}
+use Rattle.timer_row.specs.Timers.{NoTimer}
+use Rattle.part_rounds.proofs.Puttings.{no_items}
+use Rattle.part_rounds.proofs.coming.take_next.Goals as goal
+
+
+pub returns-in_default-clause-comes : goal.returns-in_default-clause-comes
+returns-in_default-clause-comes g c =
+    let empty = eqb-true (vec_len c.in_ok-first.first.items) 0 (sym c.is_empty.ensures ∙ c.if-not-is_empty.false) in
+    let none = c.in_ok-first.ensures.none (no_items c.in_ok-first.first.items.items (omega (arith, empty))) in
+    (c.in_ok-first.ensures.under_way.sound, c.in_ok-first.ensures.under_way.one, none.0, (c.in-Ok.now, none.1), subst (λ (p : Partition). NoTimer p.timers) none.0 c.in_default.ensures.none)
+
+pub returns-in-Ok-wait_until-clause-comes : goal.returns-in-Ok-wait_until-clause-comes
+returns-in-Ok-wait_until-clause-comes g c =
+    let empty = eqb-true (vec_len c.in_ok-first.first.items) 0 (sym c.is_empty.ensures ∙ c.if-not-is_empty.false) in
+    let none = c.in_ok-first.ensures.none (no_items c.in_ok-first.first.items.items (omega (arith, empty))) in
+    (c.in_ok-first.ensures.under_way.sound, c.in_ok-first.ensures.under_way.one, none.0)

@@ -1,0 +1,80 @@
+//! What comes next.
+
+ghost use Rattle.std.specs.Prelude.{◌≡◌, ◌<◌, ◌≤◌, List, true, Err, IfOk, IfErr};
+ghost use Rattle.flow_syntax.specs.Views.{flows_of};
+ghost use Rattle.hub_store.specs.Trail.{Said};
+ghost use Rattle.part_rounds.specs.Comes.{Comes, FillsNext};
+ghost use Rattle.part_rounds.specs.Commits.{is_of_clock};
+ghost use Rattle.part_rounds.specs.Rounds.{pairs_of, HasSaid};
+ghost use Rattle.part_steps.specs.States.{state_of, count_of, IsSound};
+ghost use Rattle.run_rules.specs.Rules.{Rules};
+ghost use Rattle.site_model.specs.Calls.{HasRisen};
+
+use crate::filling::Filling;
+use crate::filling_on::{Chance, gather};
+use crate::stop::Stop;
+use activity_table::Activities;
+use client_port::Port;
+use dura_value::Name;
+use flow_syntax::Flows;
+use part_steps::PartState;
+use site_model::{Clock, LAST_MOMENT};
+use std::alloc::Global;
+
+/// What comes next.
+pub(crate) enum Coming {
+    /// An entry with these items.
+    Filled(Filling),
+    /// Nothing yet: a timer was waited for.
+    Again(PartState),
+    /// Nothing, without more requests.
+    Rest(PartState),
+}
+
+/// Reads the clock and fills an entry that has begun, or waits until the first timer is due where nothing else is possible.
+pub(crate) fn take_next<A: Activities, C: Clock>(
+    alloc: Global,
+    flows: &Flows,
+    acts: &A,
+    clock: &mut C,
+    state: PartState,
+    port: &Port,
+    clients: &[Name],
+    word: u64,
+    limit: u32,
+) -> Result<Coming, Stop>
+    requires sound { IsSound state }
+    requires one { count_of state ≡ 1 }
+    requires begun { 0 < (state_of state).position }
+    requires some { 0 < limit }
+    ensures fills { (rules : Rules) (told : List Said) → rules.flows ≡ flows_of flows.now → HasSaid rules told port.now.queues → IfOk result (λ next. FillsNext rules (pairs_of told) (state_of state) next) }
+    ensures comes { IfOk result (λ next. Comes (flows_of flows.now) (state_of state) port.now.queues clients.now limit next) }
+    ensures stops { IfErr result (λ stop. is_of_clock stop ≡ true) }
+    ensures fault { result ≡ Err Stop.ClockFault → HasRisen (C.clock_faults clock.old) (C.clock_faults clock.new) }
+    ensures later { C.clock_faults clock.old ≤ C.clock_faults clock.new }
+{
+    let now = match clock.now() {
+        Ok(now) => now,
+        Err(_) => return Err(Stop::ClockFault),
+    };
+    let first = gather(
+        alloc,
+        flows,
+        acts,
+        state,
+        port,
+        clients,
+        Chance { now, word },
+        limit,
+    )?;
+    if !first.items.is_empty() {
+        return Ok(Coming::Filled(first));
+    }
+    let Some(due) = first.state.next_timer() else {
+        return Ok(Coming::Rest(first.state));
+    };
+    match clock.wait_until(due.min(LAST_MOMENT)) {
+        Ok(_) => Ok(Coming::Again(first.state)),
+        Err(_) => Err(Stop::ClockFault),
+    }
+}
