@@ -1,5 +1,5 @@
 -- An entry that was filled may follow, and stands where its log goes on.
-use Rattle.std.proofs.Common.{◌≡◌, ℕ, List, [], ◌∷◌, ◌++◌, Ok, refl, sym, ◌∙◌, ap, subst, append_assoc, arith}
+use Rattle.std.proofs.Common.{◌≡◌, ℕ, ◌+◌, List, [], ◌∷◌, ◌++◌, Ok, refl, sym, ◌∙◌, ap, subst, append_assoc, arith}
 use Rattle.std.proofs.lemmas.List.Elements.{All-cons}
 use Rattle.commit_log.specs.Segment.{◌>>=◌}
 use Rattle.dura_model.specs.Partition.{Partition, fresh, enter}
@@ -50,6 +50,21 @@ module _ (rules : Rules) (log : Log) (settled : List Entry) (p : Partition) (beg
   pub entry_numbered : (items : List Item) → IsNumbered (goes_on log settled) (entry_at rules p items ∷ [])
   entry_numbered items = subst (λ (n : Next). IsNumbered n (entry_at rules p items ∷ [])) (sym goes_on_is) (refl, stands.younger, tt)
 
+  pub place_behind : (told : Told) (items : List Item) (q : Partition) → Fills rules told (enter rules.life p) items q → q.position ≡ p.position + 1
+  unfolding filled_follows
+  place_behind told items q fills =
+      let entry = entry_at rules p items in
+      let follows = filled_follows rules settled p stands.made told items q fills in
+      let made : placed rules.flows 1 rules.begin (settled ++ entry ∷ []) ≡ Ok q = followed_made rules settled (entry ∷ []) told follows in
+      let given = followed_given rules settled (entry ∷ []) told stands.given follows in
+      let numbered : IsNumbered (first_of log.header) (log.entries ++ (settled ++ entry ∷ [])) =
+      subst (IsNumbered (first_of log.header)) (append_assoc log.entries settled (entry ∷ []))
+      ((numbered_both (first_of log.header) (log.entries ++ settled) (entry ∷ [])).1 (stands.numbered, entry_numbered items)) in
+      let next : goes_on log (settled ++ entry ∷ []) ≡ state_next q = log_goes_on rules (settled ++ entry ∷ []) q made log begins.first begins.begun begins.given given numbered in
+      let last : goes_on log (settled ++ entry ∷ []) ≡ behind entry =
+      ap (behind_all (first_of log.header)) (sym (append_assoc log.entries settled (entry ∷ []))) ∙ behind_both (first_of log.header) (log.entries ++ settled) (entry ∷ []) in
+      ap (λ (n : Next). n.position) (sym next ∙ last)
+
   pub stands_behind : (told : Told) (items : List Item) (q : Partition) → Fills rules told (enter rules.life p) items q → Stands rules log (settled ++ entry_at rules p items ∷ []) q
   unfolding filled_follows
   stands_behind told items q fills =
@@ -83,3 +98,9 @@ module _ (rules : Rules) (log : Log) (settled : List Entry) (told : Told) (posit
         each = All-cons FitsEntry entry [] (record { position_fits = filled.position_fits; incarnation_fits = filled.life_fits; some = filled.some; few = filled.few; each = filled.fit }) (λ k d inside. absurd (omega (arith, inside)));
       })
       (subst (λ (e : Entry). IsNumbered (goes_on log settled) (e ∷ [])) same_entry (entry_numbered rules log settled filled.before begins filled.stands items))
+
+  pub stands_after : Stands rules log (settled ++ record { position = position; incarnation = life; items = items } ∷ []) filled.after
+  stands_after = subst (λ (e : Entry). Stands rules log (settled ++ e ∷ []) filled.after) same_entry (stands_behind rules log settled filled.before begins filled.stands told items filled.after filled.fills)
+
+  pub place_after : filled.after.position ≡ position + 1
+  place_after = place_behind rules log settled filled.before begins filled.stands told items filled.after filled.fills ∙ ap (λ (n : ℕ). n + 1) (sym filled.position_is)

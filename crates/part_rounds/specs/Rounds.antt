@@ -73,3 +73,8 @@ pub record IsFilled (rules : Rules) (log : Log) (settled : List Entry) (told : T
   pub few : length items ≤ most_members
   pub position_fits : FitsCount position
   pub life_fits : FitsCount life
+
+-- what it was filled with makes this state
+pub record IsFilledTo (rules : Rules) (log : Log) (settled : List Entry) (told : Told) (position life : ℕ) (items : List Item) (q : Partition) : Type 0 where
+  pub filled : IsFilled rules log settled told position life items
+  pub after_is : filled.after ≡ q

@@ -15,6 +15,7 @@ mod filling_on;
 mod gathering;
 mod laws;
 mod outcomes;
+mod rounds;
 mod ruled;
 mod saying;
 mod stop;

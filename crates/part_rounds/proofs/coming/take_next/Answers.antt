@@ -6,7 +6,6 @@ use Rattle.timer_row.specs.Timers.{NoTimer}
 use Rattle.part_rounds.proofs.Puttings.{no_items}
 use Rattle.part_rounds.proofs.coming.take_next.Goals as goal
 
-
 pub returns-in_default-clause-comes : goal.returns-in_default-clause-comes
 returns-in_default-clause-comes g c =
     let empty = eqb-true (vec_len c.in_ok-first.first.items) 0 (sym c.is_empty.ensures ∙ c.if-not-is_empty.false) in

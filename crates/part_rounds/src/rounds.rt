@@ -1,0 +1,76 @@
+//! One round after the other.
+
+ghost use Rattle.std.specs.Prelude.{◌≡◌, ◌<◌, ◌≤◌, ◌^◌, ℕ, false, Err, IfOk, OnOk};
+ghost use Rattle.flow_syntax.specs.Views.{flows_of};
+ghost use Rattle.hub_store.specs.Changes.{stage_at, trail_in, told_in};
+ghost use Rattle.hub_store.specs.Sound.{IsSound};
+ghost use Rattle.hub_store.specs.Trail.{of_part};
+ghost use Rattle.part_rounds.specs.Comes.{Entered, LeavesRound};
+ghost use Rattle.part_rounds.specs.Rounds.{pairs_of, BeginsWith, HasSaid, IsFilledTo};
+ghost use Rattle.part_items.specs.Plain.{items_of};
+ghost use Rattle.part_rounds.specs.Fills.{IsUnderWay};
+ghost use Rattle.part_steps.specs.States.{state_of};
+ghost use Rattle.site_model.specs.Calls.{HasRisen};
+
+use crate::coming::{Coming, take_next};
+use crate::committing::commit_items;
+use crate::filling::Filling;
+use crate::ruled::Ruled;
+use crate::saying::say_due;
+use crate::stop::Stop;
+use activity_table::Activities;
+use client_port::Port;
+use dura_value::Name;
+use flow_syntax::Flows;
+use hub_store::{Stage, Store};
+use part_steps::PartState;
+use site_model::{Clock, Site};
+use std::alloc::Global;
+
+/// The place that no entry has.
+const PLACES: u64 = 1 << 61;
+
+/// What a round came to.
+pub(crate) enum Round {
+    /// It goes on, in the entry that comes.
+    On(PartState),
+    /// Nothing is possible any more.
+    Over(PartState),
+}
+
+/// Commits what an entry was filled with, and says what it answers. The state is then in the entry that comes.
+fn settle_filling<V: Site, N: Ruled>(
+    alloc: Global,
+    store: &mut Store<V, N>,
+    port: &mut Port,
+    clients: &[Name],
+    position: u64,
+    life: u64,
+    filling: Filling,
+) -> Result<PartState, Stop>
+    requires sound { IsSound store.old }
+    requires going { store.old.halted ≡ false }
+    requires rests { stage_at store.old 0 ≡ Stage.Resting }
+    requires begins { BeginsWith N.rules (N.origin.logs 0) }
+    requires room { position < 2 ^ 61 }
+    requires filled { IsFilledTo N.rules (N.origin.logs 0) (of_part 0 (trail_in store.old)) (pairs_of (told_in store.old)) position life (items_of filling.items.items) (state_of filling.state) }
+    requires way { IsUnderWay filling }
+    requires said { HasSaid N.rules (told_in store.old) port.old.queues }
+    ensures tells { V.tells store.new.site → V.tells store.old.site }
+    ensures sound { IsSound store.new }
+    ensures segment { store.new.segment ≡ store.old.segment }
+    ensures stage { OnOk result (stage_at store.new 0 ≡ Stage.Resting) }
+    ensures still { OnOk result (store.new.halted ≡ false) }
+    ensures said { OnOk result (HasSaid N.rules (told_in store.new) port.new.queues) }
+    ensures entered { IfOk result (λ state. Entered N.rules (N.origin.logs 0) (of_part 0 (trail_in store.new)) state) }
+    ensures fault { result ≡ Err Stop.SiteFault → HasRisen (V.disk_faults store.old.site) (V.disk_faults store.new.site) }
+    ensures say_fault { result ≡ Err Stop.SayFault → HasRisen (V.say_faults store.old.site) (V.say_faults store.new.site) }
+    ensures no_clock { result ≡ Err Stop.ClockFault → ⊥ }
+    ensures later { V.disk_faults store.old.site ≤ V.disk_faults store.new.site }
+    ensures say_later { V.say_faults store.old.site ≤ V.say_faults store.new.site }
+{
+    let Filling { state, items } = filling;
+    commit_items(alloc, store, position, life, items)?;
+    say_due(alloc, store, &state, port, clients)?;
+    Ok(state.enter(life))
+}
