@@ -18,7 +18,7 @@ use crate::filling::Filling;
 use crate::ruled::Ruled;
 use crate::saying::say_due;
 use crate::stop::Stop;
-use activity_table::Activities;
+use activity_table::{Activities, word};
 use client_port::Port;
 use dura_value::Name;
 use flow_syntax::Flows;
@@ -73,4 +73,58 @@ fn settle_filling<V: Site, N: Ruled>(
     commit_items(alloc, store, position, life, items)?;
     say_due(alloc, store, &state, port, clients)?;
     Ok(state.enter(life))
+}
+
+/// One round in an entry that has begun: what comes next is committed, and what it answers is said. Each activity runs with another word.
+fn go_round<V: Site, N: Ruled, A: Activities, C: Clock>(
+    alloc: Global,
+    flows: &Flows,
+    acts: &A,
+    clock: &mut C,
+    store: &mut Store<V, N>,
+    port: &mut Port,
+    clients: &[Name],
+    state: PartState,
+    life: u64,
+    limit: u32,
+) -> Result<Round, Stop>
+    requires sound { IsSound store.old }
+    requires going { store.old.halted ≡ false }
+    requires rests { stage_at store.old 0 ≡ Stage.Resting }
+    requires begins { BeginsWith N.rules (N.origin.logs 0) }
+    requires flows { N.rules.flows ≡ flows_of flows.now }
+    requires life { life ≡ N.rules.life }
+    requires short { life < 2 ^ 62 }
+    requires some { 0 < limit }
+    requires few { limit ≤ 64 }
+    requires entered { Entered N.rules (N.origin.logs 0) (of_part 0 (trail_in store.old)) state }
+    requires said { HasSaid N.rules (told_in store.old) port.old.queues }
+    ensures tells { V.tells store.new.site → V.tells store.old.site }
+    ensures sound { IsSound store.new }
+    ensures segment { store.new.segment ≡ store.old.segment }
+    ensures stage { OnOk result (stage_at store.new 0 ≡ Stage.Resting) }
+    ensures still { OnOk result (store.new.halted ≡ false) }
+    ensures said { OnOk result (HasSaid N.rules (told_in store.new) port.new.queues) }
+    ensures leaves { IfOk result (λ round. LeavesRound N.rules (N.origin.logs 0) (of_part 0 (trail_in store.new)) port.new.queues clients.now round) }
+    ensures fault { result ≡ Err Stop.SiteFault → HasRisen (V.disk_faults store.old.site) (V.disk_faults store.new.site) }
+    ensures say_fault { result ≡ Err Stop.SayFault → HasRisen (V.say_faults store.old.site) (V.say_faults store.new.site) }
+    ensures clock_fault { result ≡ Err Stop.ClockFault → HasRisen (C.clock_faults clock.old) (C.clock_faults clock.new) }
+    ensures later { V.disk_faults store.old.site ≤ V.disk_faults store.new.site }
+    ensures say_later { V.say_faults store.old.site ≤ V.say_faults store.new.site }
+    ensures clock_later { C.clock_faults clock.old ≤ C.clock_faults clock.new }
+{
+    let position = state.position() - 1;
+    if position >= PLACES {
+        return Err(Stop::Memory);
+    }
+    match take_next(
+        alloc, flows, acts, clock, state, port, clients, position, limit,
+    )? {
+        Coming::Filled(filling) => {
+            let state = settle_filling(alloc, store, port, clients, position, life, filling)?;
+            Ok(Round::On(state))
+        }
+        Coming::Again(state) => Ok(Round::On(state)),
+        Coming::Rest(state) => Ok(Round::Over(state)),
+    }
 }

@@ -1,0 +1,56 @@
+use Rattle.std.proofs.Common.{◌≡◌, ◌∙◌, ◌<◌, ◌-◌, ℕ, List, length, refl, sym, ap, subst, arith}
+use Rattle.std.proofs.lemmas.List.{length-map}
+use Rattle.dura_model.specs.Partition.{Partition, enter}
+use Rattle.flow_syntax.specs.Syntax.{Flows}
+use Rattle.flow_syntax.specs.Views.{flows_of}
+use Rattle.hub_store.specs.Changes.{trail_in, told_in}
+use Rattle.hub_store.specs.Trail.{of_part}
+use Rattle.part_items.specs.Plain.{item_of, items_of}
+use Rattle.part_rounds.specs.Comes.{Comes, FillsNext}
+use Rattle.part_rounds.specs.Fills.{Fills, IsIdle}
+use Rattle.part_rounds.specs.Rounds.{pairs_of}
+use Rattle.part_rounds.proofs.rounds.go_round.Goals as goal
+use Rattle.part_steps.specs.States.{state_of}
+use Rattle.timer_row.specs.Timers.{NoTimer}
+
+pub settle_filling-requires-clause-filled : goal.settle_filling-requires-clause-filled
+settle_filling-requires-clause-filled g c =
+    let rules = g.N.Ruled.rules in
+    let told = told_in c.args.store.now in
+    let filling = c.in-Filled.filling in
+    let entered = c.requires.entered in
+    let comes = subst (Comes (flows_of c.args.flows.now) (state_of c.args.state) c.args.port.now.queues c.args.clients.now c.args.limit) c.in-Filled.is c.in_ok-filling.ensures.comes in
+    let fills = subst (FillsNext rules (pairs_of told) (state_of c.args.state)) c.in-Filled.is (c.in_ok-filling.ensures.fills rules told c.requires.flows c.requires.said) in
+    let place = ap (λ (p : Partition). p.position) entered.entered in
+    let many = length-map filling.items.items item_of in
+    let room : c.position-position.result - 1 < 2305843009213693952 = search in
+    record {
+      filled = record {
+        before = entered.before;
+        stands = entered.stands;
+        position_is = omega (arith, c.position-position.ensures, place);
+        life_is = c.requires.life;
+        after = state_of filling.state;
+        fills = subst (λ (p : Partition). Fills rules (pairs_of told) p (items_of filling.items.items) (state_of filling.state)) entered.entered fills;
+        fit = comes.3;
+        some = omega (arith, comes.1, many);
+        few = omega (arith, comes.2, c.requires.few, many);
+        position_fits = omega (arith, room);
+        life_fits = omega (arith, c.requires.short);
+      };
+      after_is = refl;
+    }
+
+pub returns-in-Rest-clause-leaves : goal.returns-in-Rest-clause-leaves
+returns-in-Rest-clause-leaves g c =
+    let entered = c.requires.entered in
+    let queues = c.args.port.now.queues in
+    let comes = subst (Comes (flows_of c.args.flows.now) (state_of c.args.state) queues c.args.clients.now c.args.limit) c.in-Rest.is c.in_ok-filling.ensures.comes in (
+      record { before = entered.before; stands = entered.stands; entered = comes.2 ∙ entered.entered; sound = comes.0; one = comes.1 },
+      (
+        comes.3.0,
+        subst (λ (p : Partition). IsIdle g.N.Ruled.rules.flows p queues c.args.clients.now comes.3.0) (sym comes.2)
+            (subst (λ (f : Flows). IsIdle f (state_of c.args.state) queues c.args.clients.now comes.3.0) (sym c.requires.flows) comes.3.1),
+      ),
+      subst (λ (p : Partition). NoTimer p.timers) (sym comes.2) comes.4,
+    )
