@@ -22,5 +22,6 @@ mod stop;
 mod taking;
 
 pub use committing::commit;
+pub use rounds::{Round, drive};
 pub use ruled::Ruled;
 pub use stop::Stop;

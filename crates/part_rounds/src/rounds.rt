@@ -6,10 +6,10 @@ ghost use Rattle.hub_store.specs.Changes.{stage_at, trail_in, told_in};
 ghost use Rattle.hub_store.specs.Sound.{IsSound};
 ghost use Rattle.hub_store.specs.Trail.{of_part};
 ghost use Rattle.part_rounds.specs.Comes.{Entered, LeavesRound};
-ghost use Rattle.part_rounds.specs.Rounds.{pairs_of, BeginsWith, HasSaid, IsFilledTo};
+ghost use Rattle.part_rounds.specs.Rounds.{pairs_of, BeginsWith, HasSaid, IsFilledTo, Stands};
 ghost use Rattle.part_items.specs.Plain.{items_of};
 ghost use Rattle.part_rounds.specs.Fills.{IsUnderWay};
-ghost use Rattle.part_steps.specs.States.{state_of};
+ghost use Rattle.part_steps.specs.States.{state_of, count_of, IsSound as IsOwnSound};
 ghost use Rattle.site_model.specs.Calls.{HasRisen};
 
 use crate::coming::{Coming, take_next};
@@ -30,8 +30,8 @@ use std::alloc::Global;
 /// The place that no entry has.
 const PLACES: u64 = 1 << 61;
 
-/// What a round came to.
-pub(crate) enum Round {
+/// What a round came to, or several.
+pub enum Round {
     /// It goes on, in the entry that comes.
     On(PartState),
     /// Nothing is possible any more.
@@ -127,4 +127,60 @@ fn go_round<V: Site, N: Ruled, A: Activities, C: Clock>(
         Coming::Again(state) => Ok(Round::On(state)),
         Coming::Rest(state) => Ok(Round::Over(state)),
     }
+}
+
+/// Goes on round by round from a settled state, until nothing is possible any more, or for so many rounds: first what is answered already
+/// is said; the state that comes back is in the entry that would come.
+pub fn drive<V: Site, N: Ruled, A: Activities, C: Clock>(
+    alloc: Global,
+    flows: &Flows,
+    acts: &A,
+    clock: &mut C,
+    store: &mut Store<V, N>,
+    port: &mut Port,
+    clients: &[Name],
+    state: PartState,
+    life: u64,
+    limit: u32,
+    rounds: u64,
+) -> Result<Round, Stop>
+    requires sound { IsSound store.old }
+    requires going { store.old.halted ≡ false }
+    requires rests { stage_at store.old 0 ≡ Stage.Resting }
+    requires begins { BeginsWith N.rules (N.origin.logs 0) }
+    requires flows { N.rules.flows ≡ flows_of flows.now }
+    requires life { life ≡ N.rules.life }
+    requires short { life < 2 ^ 62 }
+    requires some { 0 < limit }
+    requires few { limit ≤ 64 }
+    requires stands { Stands N.rules (N.origin.logs 0) (of_part 0 (trail_in store.old)) (state_of state) }
+    requires own { IsOwnSound state }
+    requires one { count_of state ≡ 1 }
+    requires room { (state_of state).position < 2 ^ 61 }
+    requires said { HasSaid N.rules (told_in store.old) port.old.queues }
+    ensures tells { V.tells store.new.site → V.tells store.old.site }
+    ensures sound { IsSound store.new }
+    ensures segment { store.new.segment ≡ store.old.segment }
+    ensures stage { OnOk result (stage_at store.new 0 ≡ Stage.Resting) }
+    ensures still { OnOk result (store.new.halted ≡ false) }
+    ensures said { OnOk result (HasSaid N.rules (told_in store.new) port.new.queues) }
+    ensures leaves { IfOk result (λ round. LeavesRound N.rules (N.origin.logs 0) (of_part 0 (trail_in store.new)) port.new.queues clients.now round) }
+    ensures fault { result ≡ Err Stop.SiteFault → HasRisen (V.disk_faults store.old.site) (V.disk_faults store.new.site) }
+    ensures say_fault { result ≡ Err Stop.SayFault → HasRisen (V.say_faults store.old.site) (V.say_faults store.new.site) }
+    ensures clock_fault { result ≡ Err Stop.ClockFault → HasRisen (C.clock_faults clock.old) (C.clock_faults clock.new) }
+    ensures later { V.disk_faults store.old.site ≤ V.disk_faults store.new.site }
+    ensures say_later { V.say_faults store.old.site ≤ V.say_faults store.new.site }
+    ensures clock_later { C.clock_faults clock.old ≤ C.clock_faults clock.new }
+{
+    say_due(alloc, store, &state, port, clients)?;
+    let mut state = state.enter(life);
+    for _ in 0..rounds {
+        match go_round(
+            alloc, flows, acts, clock, store, port, clients, state, life, limit,
+        )? {
+            Round::On(next) => state = next,
+            Round::Over(last) => return Ok(Round::Over(last)),
+        }
+    }
+    Ok(Round::On(state))
 }

@@ -1,10 +1,9 @@
-use Rattle.std.proofs.Common.{◌≡◌, ◌∙◌, ◌<◌, ◌-◌, ℕ, List, length, refl, sym, ap, subst, arith}
+use Rattle.std.proofs.Common.{◌∙◌, ◌<◌, ◌-◌, refl, sym, ap, subst, arith}
 use Rattle.std.proofs.lemmas.List.{length-map}
-use Rattle.dura_model.specs.Partition.{Partition, enter}
+use Rattle.dura_model.specs.Partition.{Partition}
 use Rattle.flow_syntax.specs.Syntax.{Flows}
 use Rattle.flow_syntax.specs.Views.{flows_of}
-use Rattle.hub_store.specs.Changes.{trail_in, told_in}
-use Rattle.hub_store.specs.Trail.{of_part}
+use Rattle.hub_store.specs.Changes.{told_in}
 use Rattle.part_items.specs.Plain.{item_of, items_of}
 use Rattle.part_rounds.specs.Comes.{Comes, FillsNext}
 use Rattle.part_rounds.specs.Fills.{Fills, IsIdle}
