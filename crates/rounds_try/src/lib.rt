@@ -1,5 +1,0 @@
-//! Scratch.
-#![tactic(auto)]
-
-#[cfg(test)]
-mod runs;
