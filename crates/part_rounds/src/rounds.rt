@@ -75,7 +75,8 @@ fn settle_filling<V: Site, N: Ruled>(
     Ok(state.enter(life))
 }
 
-/// One round in an entry that has begun: what comes next is committed, and what it answers is said. Each activity runs with another word.
+/// One round in an entry that has begun: what comes next is committed, and what it answers is said. The word that an activity
+/// runs with is a digest of this life and the entry's place.
 fn go_round<V: Site, N: Ruled, A: Activities, C: Clock>(
     alloc: Global,
     flows: &Flows,
@@ -117,8 +118,9 @@ fn go_round<V: Site, N: Ruled, A: Activities, C: Clock>(
     if position >= PLACES {
         return Err(Stop::Memory);
     }
+    let chance = word(life, 0, position);
     match take_next(
-        alloc, flows, acts, clock, state, port, clients, position, limit,
+        alloc, flows, acts, clock, state, port, clients, chance, limit,
     )? {
         Coming::Filled(filling) => {
             let state = settle_filling(alloc, store, port, clients, position, life, filling)?;

@@ -4,7 +4,7 @@ ghost use Rattle.std.specs.Prelude.{◌≡◌};
 ghost use Rattle.part_rounds.specs.Commits.{stop_of_body};
 ghost use Rattle.part_rounds.specs.declared.stop.Stop.TheVariants.{Memory};
 
-use hub_store::{BodyRefusal, Refusal};
+use hub_store::BodyRefusal;
 use std::alloc::AllocError;
 
 /// Why a call ends before all is done.
