@@ -2,9 +2,9 @@
 use Rattle.std.proofs.Common.{List}
 use Rattle.dura_value.specs.Items.{Entry}
 use Rattle.part_items.specs.Numbered.{Next, IsNumbered}
-use Rattle.codec_laws.specs.ItemFits.{FitsFrame}
-use Rattle.codec_laws.proofs.Writable.{frame_writable}
-use Rattle.codec_laws.proofs.NumberedFrames.{numbered_again}
+use Rattle.part_items.specs.ItemFits.{FitsFrame}
+use Rattle.part_items.proofs.Writable.{frame_writable}
+use Rattle.part_items.proofs.NumberedFrames.{numbered_again}
 use Rattle.hub_store.specs.Frames.{GoesBehind}
 
 pub frame_goes : (next : Next) (going : List Entry) → FitsFrame going → IsNumbered next going → GoesBehind next going

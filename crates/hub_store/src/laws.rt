@@ -3,7 +3,7 @@
 ghost use Rattle.std.specs.Prelude.{List};
 ghost use Rattle.dura_value.specs.Items.{Entry};
 ghost use Rattle.part_items.specs.Numbered.{Next, IsNumbered};
-ghost use Rattle.codec_laws.specs.ItemFits.{FitsFrame};
+ghost use Rattle.part_items.specs.ItemFits.{FitsFrame};
 ghost use Rattle.hub_store.specs.Frames.{GoesBehind};
 
 /// A frame within the limits of the format, whose entries are numbered on from where a log goes on, goes behind it.

@@ -8,8 +8,8 @@ use Rattle.commit_log.proofs.Written.{length-framed}
 use Rattle.dura_value.specs.Items.{Entry}
 use Rattle.part_items.specs.Numbered.{Next, behind_all, IsNumbered, next_frame_in}
 use Rattle.part_items.specs.Spelling.{spell_frame}
-use Rattle.codec_laws.specs.ItemFits.{FitsFrame}
-use Rattle.codec_laws.proofs.NumberedFrames.{numbered_is, numbered_again}
+use Rattle.part_items.specs.ItemFits.{FitsFrame}
+use Rattle.part_items.proofs.NumberedFrames.{numbered_is, numbered_again}
 use Rattle.part_files.specs.Kept.{in_file, decoded}
 use Rattle.part_files.proofs.Appending.{behind_both, numbered_both}
 use Rattle.part_files.proofs.Bytes.{both_ok, good, same_ok}

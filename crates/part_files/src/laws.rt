@@ -11,7 +11,7 @@ ghost use Rattle.dura_model.specs.Partition.{Partition, fresh};
 ghost use Rattle.dura_model.specs.Placed.{AreShown};
 ghost use Rattle.part_items.specs.Numbered.{Next, behind_all, IsNumbered, next_frame_in};
 ghost use Rattle.part_items.specs.Spelling.{spell_frame};
-ghost use Rattle.codec_laws.specs.ItemFits.{FitsFrame};
+ghost use Rattle.part_items.specs.ItemFits.{FitsFrame};
 ghost use Rattle.log_reader.specs.Frames.{closed, frame, wrong, found_at};
 ghost use Rattle.part_files.specs.Kept.{nothing, keeps, in_file, left_from, first_of, kept_in, decoded};
 ghost use Rattle.part_files.specs.Logs.{Asked, logs_in, entries_in};

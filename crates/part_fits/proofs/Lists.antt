@@ -8,7 +8,7 @@ use Rattle.std.proofs.lemmas.List.Sums.{sum_by_more}
 use Rattle.dura_value.specs.declared.data.Scalar.{Scalar}
 use Rattle.dura_value.specs.Limits.{most_scalars_bytes}
 use Rattle.dura_codec.specs.Spelling.{spell_scalar}
-use Rattle.codec_laws.specs.Fits.{FitsScalar, FitsList}
+use Rattle.part_items.specs.Fits.{FitsScalar, FitsList}
 
 abbrev spelled : List Scalar → List ℕ
 spelled = flat_map spell_scalar

@@ -5,7 +5,7 @@ use Rattle.std.proofs.lemmas.List.{take_all}
 use Rattle.std.proofs.lemmas.List.Elements.{All-more, All-map}
 use Rattle.dura_value.specs.declared.spots.Spot.{Spot}
 use Rattle.dura_value.specs.Views.{spot_of, spots_of}
-use Rattle.codec_laws.specs.Fits.{FitsSpot}
+use Rattle.part_items.specs.Fits.{FitsSpot}
 
 abbrev pub Fits : Spot → Type 0
 Fits spot = FitsSpot (spot_of spot)

@@ -4,8 +4,8 @@ ghost use Rattle.std.specs.Prelude.{◌≡◌, true, false};
 ghost use Rattle.std.specs.Bool.{Decides};
 ghost use Rattle.dura_value.specs.Items.{Identity};
 ghost use Rattle.part_items.specs.Plain.{item_of};
-ghost use Rattle.codec_laws.specs.Fits.{FitsCount};
-ghost use Rattle.codec_laws.specs.ItemFits.{FitsIdentity, FitsItem};
+ghost use Rattle.part_items.specs.Fits.{FitsCount};
+ghost use Rattle.part_items.specs.ItemFits.{FitsIdentity, FitsItem};
 
 use crate::messages::{every_id_fits, message_fits, outcome_fits};
 use dura_value::NUMBER_LIMIT;

@@ -3,7 +3,7 @@
 ghost use Rattle.std.specs.List.{All};
 ghost use Rattle.std.specs.Bool.{Decides};
 ghost use Rattle.dura_value.specs.Views.{id_of, reply_of, answer_of, spot_of, spots_of, body_of, message_of};
-ghost use Rattle.codec_laws.specs.Fits.{FitsId, FitsRequest, FitsReply, FitsAnswer, FitsOutcome, FitsSpot, FitsBody, FitsMessage};
+ghost use Rattle.part_items.specs.Fits.{FitsId, FitsRequest, FitsReply, FitsAnswer, FitsOutcome, FitsSpot, FitsBody, FitsMessage};
 
 use crate::values::value_fits;
 use dura_value::{Answer, Body, Id, MOST_SPOTS, Message, Outcome, Reply, Spot};

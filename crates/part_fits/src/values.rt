@@ -3,7 +3,7 @@
 ghost use Rattle.std.specs.Prelude.{◌≡◌, length};
 ghost use Rattle.std.specs.Bool.{Decides};
 ghost use Rattle.dura_codec.specs.Spelling.{spell_scalar};
-ghost use Rattle.codec_laws.specs.Fits.{FitsScalar, FitsList, FitsValue};
+ghost use Rattle.part_items.specs.Fits.{FitsScalar, FitsList, FitsValue};
 
 use dura_value::{MOST_SCALARS, MOST_SCALARS_BYTES, Scalar, Value};
 

@@ -1,2 +1,16 @@
 pub mod Each
+pub mod EntryLemmas
+pub mod Ids
+pub mod ItemLemmas
+pub mod Messages
 pub mod NextEntries
+pub mod NumberedFrames
+pub mod Numbers
+pub mod OnlyItems
+pub mod OnlyMessages
+pub mod OnlyValues
+pub mod Prefixes
+pub mod Steps
+pub mod Values
+pub mod Words
+pub mod Writable

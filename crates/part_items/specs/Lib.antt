@@ -1,4 +1,6 @@
+pub mod Fits
 pub mod Grammar
+pub mod ItemFits
 pub mod Numbered
 pub mod Plain
 pub mod Spelling

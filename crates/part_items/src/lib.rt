@@ -1,9 +1,23 @@
-//! Items, entries and frames of a partition's log, as bytes and back.
+//! Items, entries and frames of a partition's log, as bytes and back; and laws of the written forms: what was written is read again,
+//! whatever follows, no spelling goes on as another's, and nothing is read but what is spelled.
+//!
+//! - `items` and `frames` are what is written; `writing` writes it, `reading` reads it, and `numbered` reads a log's next frame.
+//!   `tags` are the first bytes of items.
+//! - `specs/Grammar` and `specs/Spelling` are the format, `specs/Fits` and `specs/ItemFits` what is within its limits.
+//! - `again` says that values, ids, messages and their parts are read again, `apart` that their spellings stand apart, and
+//!   `frames_again` says both of items and frames; `only` says that nothing else is read, `may_write` that what is within the
+//!   limits may be written, and `next_frames` says of a log's next frame what its numbers add.
 #![tactic(auto)]
 
+mod again;
+mod apart;
 mod frames;
+mod frames_again;
 mod items;
+mod may_write;
+mod next_frames;
 mod numbered;
+mod only;
 mod reading;
 mod tags;
 mod writing;

@@ -5,7 +5,7 @@ use Rattle.commit_log.specs.Segment.{◌>>=◌}
 use Rattle.dura_model.specs.Partition.{Partition, fresh, enter}
 use Rattle.dura_model.proofs.Kept.{fresh_shown}
 use Rattle.dura_value.specs.Items.{Item, Entry}
-use Rattle.codec_laws.specs.ItemFits.{FitsEntry}
+use Rattle.part_items.specs.ItemFits.{FitsEntry}
 use Rattle.hub_store.specs.Frames.{goes_on, GoesBehind}
 use Rattle.hub_store.proofs.FramesGo.{frame_goes}
 use Rattle.hub_store.specs.Origin.{Log}

@@ -2,7 +2,7 @@
 use Rattle.std.specs.Prelude.{◌≡◌, ◌<◌, ◌≤◌, ℕ, List, length}
 use Rattle.std.specs.List.{All}
 use Rattle.client_port.specs.Ports.{Queue}
-use Rattle.codec_laws.specs.ItemFits.{FitsItem}
+use Rattle.part_items.specs.ItemFits.{FitsItem}
 use Rattle.dura_model.specs.Partition.{Partition, enter}
 use Rattle.dura_value.specs.Items.{Entry}
 use Rattle.flow_syntax.specs.Syntax.{Flows}

@@ -12,8 +12,8 @@ use Rattle.hub_store.specs.Origin.{Log}
 use Rattle.hub_store.specs.Trail.{Said}
 use Rattle.part_files.specs.Kept.{first_of}
 use Rattle.part_files.specs.Placing.{placed, AllGiven, state_next}
-use Rattle.codec_laws.specs.Fits.{FitsCount}
-use Rattle.codec_laws.specs.ItemFits.{FitsItem}
+use Rattle.part_items.specs.Fits.{FitsCount}
+use Rattle.part_items.specs.ItemFits.{FitsItem}
 use Rattle.part_items.specs.Numbered.{IsNumbered}
 use Rattle.part_items.specs.Tags.{most_members}
 use Rattle.part_rounds.specs.Fills.{Fills}

@@ -2,7 +2,7 @@
 
 ghost use Rattle.std.specs.Prelude.{◌≡◌, ◌<◌, ◌≤◌, List, [], IfOk, IfErr, length};
 ghost use Rattle.std.specs.List.{All};
-ghost use Rattle.codec_laws.specs.ItemFits.{FitsItem};
+ghost use Rattle.part_items.specs.ItemFits.{FitsItem};
 ghost use Rattle.flow_syntax.specs.Views.{flows_of};
 ghost use Rattle.hub_store.specs.Trail.{Said};
 ghost use Rattle.part_items.specs.Plain.{items_of};

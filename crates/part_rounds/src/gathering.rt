@@ -2,7 +2,7 @@
 
 ghost use Rattle.std.specs.Prelude.{◌≡◌, true, false};
 ghost use Rattle.std.specs.List.{All};
-ghost use Rattle.codec_laws.specs.ItemFits.{FitsItem};
+ghost use Rattle.part_items.specs.ItemFits.{FitsItem};
 ghost use Rattle.part_items.specs.Plain.{items_of};
 
 use part_fits::item_fits;

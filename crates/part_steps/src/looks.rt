@@ -1,14 +1,14 @@
 //! What the engine reads off the state of a partition.
 
 ghost use Rattle.std.specs.Prelude.{◌≡◌, true, false, is_some, IsSome, IfSome, IfNone, option_map};
-ghost use Rattle.dura_value.specs.Views.{id_of, answer_of};
+ghost use Rattle.dura_value.specs.Views.{id_of, answer_of, message_of};
 ghost use Rattle.timer_row.specs.Timers.{IsNext, NoTimer};
 ghost use Rattle.part_rows.specs.Views.{activity_of};
 ghost use Rattle.part_steps.specs.Quiet.{NoActivity, IsQuiet};
 ghost use Rattle.part_steps.specs.States.{IsSound, state_of};
 
 use crate::state::PartState;
-use dura_value::{Answer, Id};
+use dura_value::{Answer, Id, Message};
 use part_rows::Activity;
 
 impl PartState {
@@ -24,6 +24,14 @@ impl PartState {
         ensures { result ≡ is_some ((state_of self.now).taken (id_of client.now) number) }
     {
         self.rows.has_taken(client, number)
+    }
+
+    /// The request of a client that was taken under a number, if one was.
+    #[tactic(auto, using(crate::proofs::Looking::seen_through))]
+    pub fn taken(&self, client: &Id, number: u32) -> Option<&Message>
+        ensures { option_map (λ message. message_of message.now) result ≡ (state_of self.now).taken (id_of client.now) number }
+    {
+        self.rows.taken.get(client, number)
     }
 
     /// The answer to a request of a client, if it came.

@@ -2,7 +2,7 @@
 use Rattle.std.proofs.Common.{take}
 use Rattle.std.specs.List.{All}
 use Rattle.dura_value.specs.Views.{spot_of}
-use Rattle.codec_laws.specs.Fits.{FitsSpot}
+use Rattle.part_items.specs.Fits.{FitsSpot}
 use Rattle.part_fits.proofs.messages.all_spots_fit.Given as goal
 
 abbrev pub invariant-loop-spot : goal.invariant-loop-spot

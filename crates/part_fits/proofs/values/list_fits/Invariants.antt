@@ -3,7 +3,7 @@ use Rattle.std.proofs.Common.{◌≡◌, ◌+◌, length, take}
 use Rattle.std.specs.List.{All, flat_map}
 use Rattle.dura_value.specs.Limits.{most_scalars_bytes}
 use Rattle.dura_codec.specs.Spelling.{spell_scalar}
-use Rattle.codec_laws.specs.Fits.{FitsScalar}
+use Rattle.part_items.specs.Fits.{FitsScalar}
 use Rattle.part_fits.proofs.values.list_fits.Given as goal
 
 abbrev pub invariant-loop-part : goal.invariant-loop-part

@@ -1,6 +1,6 @@
 use Rattle.std.proofs.Common.{take}
 use Rattle.std.specs.List.{All}
-use Rattle.codec_laws.specs.ItemFits.{FitsItem}
+use Rattle.part_items.specs.ItemFits.{FitsItem}
 use Rattle.part_items.specs.Plain.{items_of}
 use Rattle.part_rounds.proofs.gathering.all_fit.Given as goal
 

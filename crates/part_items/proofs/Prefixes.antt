@@ -6,10 +6,10 @@ use Rattle.dura_value.specs.Messages.{Message}
 use Rattle.dura_codec.specs.Fields.{Read}
 use Rattle.dura_codec.specs.Grammar.{value_at, id_at, message_at}
 use Rattle.dura_codec.specs.Spelling.{spell_value, spell_id, spell_message}
-use Rattle.codec_laws.specs.Fits.{FitsValue, FitsId, FitsMessage}
-use Rattle.codec_laws.proofs.Values.{value_again}
-use Rattle.codec_laws.proofs.Ids.{id_again}
-use Rattle.codec_laws.proofs.Messages.{message_again}
+use Rattle.part_items.specs.Fits.{FitsValue, FitsId, FitsMessage}
+use Rattle.part_items.proofs.Values.{value_again}
+use Rattle.part_items.proofs.Ids.{id_again}
+use Rattle.part_items.proofs.Messages.{message_again}
 
 -- what was read, or another pair
 pair_of : {X : Type 0} → X × List ℕ → Read X → X × List ℕ

@@ -5,9 +5,9 @@ use Rattle.dura_value.specs.Names.{is_name}
 use Rattle.dura_value.specs.Messages.{Reply, to_nobody, to_task, to_request}
 use Rattle.dura_codec.specs.Grammar.{id_at, reply_at}
 use Rattle.dura_codec.specs.Spelling.{spell_word, spell_id, spell_reply}
-use Rattle.codec_laws.specs.Fits.{FitsPair, FitsId, FitsReply}
-use Rattle.codec_laws.proofs.Numbers.{number_again_4, request_again}
-use Rattle.codec_laws.proofs.Words.{name_again, key_again}
+use Rattle.part_items.specs.Fits.{FitsPair, FitsId, FitsReply}
+use Rattle.part_items.proofs.Numbers.{number_again_4, request_again}
+use Rattle.part_items.proofs.Words.{name_again, key_again}
 
 pair_again : (tag : ℕ) (name key rest : List ℕ) → (tag ∷ spell_word name ++ spell_word key) ++ rest ≡ tag ∷ (spell_word name ++ (spell_word key ++ rest))
 pair_again tag name key rest = ap (λ (bytes : List ℕ). tag ∷ bytes) (append_assoc (spell_word name) (spell_word key) rest)

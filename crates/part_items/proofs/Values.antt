@@ -11,9 +11,9 @@ use Rattle.dura_value.specs.declared.data.Value.TheVariants as values
 use Rattle.dura_codec.specs.Fields.{Read, number_at, several_at}
 use Rattle.dura_codec.specs.Grammar.{scalar_at, scalars_at, value_front, of_front, value_at}
 use Rattle.dura_codec.specs.Spelling.{spell_scalar, spell_value}
-use Rattle.codec_laws.specs.Fits.{FitsScalar, FitsList, FitsValue}
-use Rattle.codec_laws.proofs.Numbers.{is_within, number_again_2, number_again_8}
-use Rattle.codec_laws.proofs.Words.{text_again}
+use Rattle.part_items.specs.Fits.{FitsScalar, FitsList, FitsValue}
+use Rattle.part_items.proofs.Numbers.{is_within, number_again_2, number_again_8}
+use Rattle.part_items.proofs.Words.{text_again}
 
 -- what holds of each holds of those behind the first
 rest_of : {X : Type 0} (P : X → Type 0) (x : X) (xs : List X) → All P (x ∷ xs) → All P xs

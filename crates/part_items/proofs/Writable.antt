@@ -8,8 +8,8 @@ use Rattle.dura_value.specs.Messages.{Answer, is_done, has_failed, was_started, 
 use Rattle.dura_value.specs.Items.{Item, took, got, ran, ended, fired, trim, Entry}
 use Rattle.dura_codec.specs.Spelling.{CanSpell, CanSpellAnswer, CanSpellOutcome, CanSpellBody}
 use Rattle.part_items.specs.Spelling.{CanSpellItem, CanSpellEntry, CanSpellFrame}
-use Rattle.codec_laws.specs.Fits.{FitsValue, FitsAnswer, FitsOutcome, FitsBody}
-use Rattle.codec_laws.specs.ItemFits.{FitsItem, FitsEntry, FitsFrame}
+use Rattle.part_items.specs.Fits.{FitsValue, FitsAnswer, FitsOutcome, FitsBody}
+use Rattle.part_items.specs.ItemFits.{FitsItem, FitsEntry, FitsFrame}
 
 pub value_writable : (value : Value) → FitsValue value → CanSpell value
 value_writable values.Null fits = tt

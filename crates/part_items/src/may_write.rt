@@ -8,8 +8,8 @@ ghost use Rattle.dura_value.specs.Messages.{Answer, Body};
 ghost use Rattle.dura_value.specs.Items.{Entry};
 ghost use Rattle.dura_codec.specs.Spelling.{CanSpell, CanSpellAnswer, CanSpellOutcome, CanSpellBody};
 ghost use Rattle.part_items.specs.Spelling.{CanSpellFrame};
-ghost use Rattle.codec_laws.specs.Fits.{FitsValue, FitsAnswer, FitsOutcome, FitsBody};
-ghost use Rattle.codec_laws.specs.ItemFits.{FitsFrame};
+ghost use Rattle.part_items.specs.Fits.{FitsValue, FitsAnswer, FitsOutcome, FitsBody};
+ghost use Rattle.part_items.specs.ItemFits.{FitsFrame};
 
 /// Values, answers, outcomes, bodies and frames.
 #[tactic(auto, using(crate::proofs::Writable::value_writable, crate::proofs::Writable::answer_writable, crate::proofs::Writable::outcome_writable, crate::proofs::Writable::body_writable, crate::proofs::Writable::frame_writable))]

@@ -15,8 +15,8 @@ use Rattle.dura_codec.specs.Fields.{Read, byte_at, number_at, run_at, several_at
 use Rattle.dura_value.specs.Values.{value_of}
 use Rattle.dura_codec.specs.Grammar.{word_size_at, name_at, key_at, text_at, scalar_at, scalars_at, value_front, of_front, value_at}
 use Rattle.dura_codec.specs.Spelling.{spell_word, spell_text, spell_scalar, spell_value}
-use Rattle.codec_laws.specs.Fits.{AreBytes}
-use Rattle.codec_laws.proofs.Steps.{ok_is, step, passed, either, rest_are, byte_only, number_only_2, number_only_8, number_bound_8, run_only, several_only, tagged, join_1, join_2}
+use Rattle.part_items.specs.Fits.{AreBytes}
+use Rattle.part_items.proofs.Steps.{ok_is, step, passed, either, rest_are, byte_only, number_only_2, number_only_8, number_bound_8, run_only, several_only, tagged, join_1, join_2}
 
 size_only : (bytes : List ℕ) (read : ℕ × List ℕ) → word_size_at bytes ≡ Ok read → bytes ≡ read.0 ∷ read.1
 unfolding word_size_at

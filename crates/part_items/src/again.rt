@@ -10,7 +10,7 @@ ghost use Rattle.dura_value.specs.Names.{is_name, is_key};
 ghost use Rattle.dura_value.specs.Text.{IsText};
 ghost use Rattle.dura_codec.specs.Spelling.{spell_word, spell_text, spell_scalar, spell_value, spell_id, spell_reply, spell_answer, spell_outcome, spell_spot, spell_body, spell_message};
 ghost use Rattle.dura_codec.specs.Grammar.{name_at, key_at, text_at, scalar_at, value_at, id_at, reply_at, answer_at, outcome_at, spot_at, body_at, message_at};
-ghost use Rattle.codec_laws.specs.Fits.{FitsScalar, FitsValue, FitsId, FitsReply, FitsAnswer, FitsOutcome, FitsSpot, FitsBody, FitsMessage};
+ghost use Rattle.part_items.specs.Fits.{FitsScalar, FitsValue, FitsId, FitsReply, FitsAnswer, FitsOutcome, FitsSpot, FitsBody, FitsMessage};
 
 /// Names, keys and texts are read again.
 #[tactic(auto, using(crate::proofs::Words::name_again, crate::proofs::Words::key_again, crate::proofs::Words::text_again))]

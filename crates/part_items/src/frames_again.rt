@@ -5,7 +5,7 @@ ghost use Rattle.std.specs.Prelude.{◌≡◌, ℕ, ◌∷◌, ◌++◌, List, O
 ghost use Rattle.dura_value.specs.Items.{Item, Entry};
 ghost use Rattle.part_items.specs.Grammar.{item_at, entry_at, frame_in};
 ghost use Rattle.part_items.specs.Spelling.{spell_item, spell_entry, spell_frame};
-ghost use Rattle.codec_laws.specs.ItemFits.{FitsItem, FitsEntry, FitsFrame};
+ghost use Rattle.part_items.specs.ItemFits.{FitsItem, FitsEntry, FitsFrame};
 
 /// An item is read again, whatever follows, and so is an entry.
 #[tactic(auto, using(crate::proofs::ItemLemmas::item_again, crate::proofs::EntryLemmas::entry_again))]

@@ -6,11 +6,11 @@ use Rattle.dura_codec.specs.Fields.{Read, count_at, several_at}
 use Rattle.part_items.specs.Grammar.{members_at, entry_items_at, entry_at, frame_at, whole, frame_in}
 use Rattle.part_items.specs.Numbered.{Next, behind, IsNumbered, place_at, life_at, next_entry_at, next_entries_at, next_frame_at, next_frame_in}
 use Rattle.part_items.specs.Spelling.{spell_frame}
-use Rattle.codec_laws.specs.ItemFits.{FitsFrame}
-use Rattle.codec_laws.proofs.Numbers.{is_within}
-use Rattle.codec_laws.proofs.Steps.{ok_is, step, passed}
-use Rattle.codec_laws.proofs.OnlyItems.{alone_ok}
-use Rattle.codec_laws.proofs.EntryLemmas.{frame_again}
+use Rattle.part_items.specs.ItemFits.{FitsFrame}
+use Rattle.part_items.proofs.Numbers.{is_within}
+use Rattle.part_items.proofs.Steps.{ok_is, step, passed}
+use Rattle.part_items.proofs.OnlyItems.{alone_ok}
+use Rattle.part_items.proofs.EntryLemmas.{frame_again}
 
 place_is : (next : Next) (bytes : List ℕ) (read : ℕ × List ℕ) → place_at next bytes ≡ Ok read → (count_at bytes ≡ Ok read) × (read.0 ≡ next.position)
 unfolding place_at

@@ -10,9 +10,9 @@ use Rattle.dura_value.specs.Reading.{◌>>=◌}
 use Rattle.dura_codec.specs.Fields.{byte_at, number_at, request_number_at, several_at}
 use Rattle.dura_codec.specs.Grammar.{name_at, key_at, text_at, value_at, id_at, reply_at, word_of, word_or_fault, answer_at, outcome_at, spot_at, spot_count_at, lock_at, start_at, raise_at, query_at, wait_at, result_at, operate_at, granted_at, body_at, message_at}
 use Rattle.dura_codec.specs.Spelling.{spell_word, spell_text, spell_value, spell_id, spell_reply, spell_answer, spell_outcome, spell_spot, spell_body, spell_message}
-use Rattle.codec_laws.specs.Fits.{AreBytes}
-use Rattle.codec_laws.proofs.Steps.{ok_is, step, passed, either, rest_are, byte_only, number_only_4, request_only, several_only, tagged, join_1, join_2, join_3, join_4}
-use Rattle.codec_laws.proofs.OnlyValues.{name_only, key_only, text_only, value_only}
+use Rattle.part_items.specs.Fits.{AreBytes}
+use Rattle.part_items.proofs.Steps.{ok_is, step, passed, either, rest_are, byte_only, number_only_4, request_only, several_only, tagged, join_1, join_2, join_3, join_4}
+use Rattle.part_items.proofs.OnlyValues.{name_only, key_only, text_only, value_only}
 
 spelled_id : {bytes : List ℕ} (one read : Id × List ℕ) → bytes ≡ spell_id one.0 ++ one.1 → one ≡ read → bytes ≡ spell_id read.0 ++ read.1
 spelled_id one read is e = is ∙ ap (λ (q : Id × List ℕ). spell_id q.0 ++ q.1) e

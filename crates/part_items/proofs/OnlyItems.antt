@@ -8,9 +8,9 @@ use Rattle.dura_codec.specs.Grammar.{id_at, message_at, outcome_at}
 use Rattle.dura_codec.specs.Spelling.{spell_id, spell_outcome, spell_message}
 use Rattle.part_items.specs.Grammar.{took_at, got_at, ran_at, done_at, fired_at, trim_at, item_at, members_at, entry_items_at, entry_at, alone, frame_at, frame_in}
 use Rattle.part_items.specs.Spelling.{spell_three, spell_item, spell_heading, spell_entry, spell_frame}
-use Rattle.codec_laws.specs.Fits.{AreBytes}
-use Rattle.codec_laws.proofs.Steps.{ok_is, step, passed, either, rest_are, byte_only, number_only_2, number_only_4, count_only, several_only, tagged, join_1, join_2, join_3}
-use Rattle.codec_laws.proofs.OnlyMessages.{id_only, outcome_only, message_only, chain_2}
+use Rattle.part_items.specs.Fits.{AreBytes}
+use Rattle.part_items.proofs.Steps.{ok_is, step, passed, either, rest_are, byte_only, number_only_2, number_only_4, count_only, several_only, tagged, join_1, join_2, join_3}
+use Rattle.part_items.proofs.OnlyMessages.{id_only, outcome_only, message_only, chain_2}
 
 spelled_item : {bytes : List ℕ} (one read : Item × List ℕ) → bytes ≡ spell_item one.0 ++ one.1 → one ≡ read → bytes ≡ spell_item read.0 ++ read.1
 spelled_item one read is e = is ∙ ap (λ (q : Item × List ℕ). spell_item q.0 ++ q.1) e

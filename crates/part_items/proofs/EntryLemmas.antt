@@ -7,11 +7,11 @@ use Rattle.dura_value.specs.Reading.{◌>>=◌}
 use Rattle.dura_codec.specs.Fields.{Read, several_at}
 use Rattle.part_items.specs.Grammar.{item_at, members_at, entry_items_at, entry_at, alone, frame_at, frame_in}
 use Rattle.part_items.specs.Spelling.{spell_item, spell_heading, spell_entry, spell_frame}
-use Rattle.codec_laws.proofs.Numbers.{is_below, is_within, number_again_2, count_again}
-use Rattle.codec_laws.proofs.Values.{several_again}
-use Rattle.codec_laws.proofs.Prefixes.{apart}
-use Rattle.codec_laws.specs.ItemFits.{FitsItem, FitsEntry, FitsFrame}
-use Rattle.codec_laws.proofs.ItemLemmas.{item_again}
+use Rattle.part_items.proofs.Numbers.{is_below, is_within, number_again_2, count_again}
+use Rattle.part_items.proofs.Values.{several_again}
+use Rattle.part_items.proofs.Prefixes.{apart}
+use Rattle.part_items.specs.ItemFits.{FitsItem, FitsEntry, FitsFrame}
+use Rattle.part_items.proofs.ItemLemmas.{item_again}
 
 members_again : (count : ℕ) (rest : List ℕ) → 0 < count → count ≤ 64 → members_at (to_be_bytes w16 count ++ rest) ≡ Ok (count, rest)
 unfolding members_at

@@ -3,7 +3,7 @@ use Rattle.std.specs.Prelude.{◌<◌, ◌≤◌, List, length}
 use Rattle.std.specs.List.{All}
 use Rattle.dura_value.specs.Items.{Identity, Item, took, got, ran, ended, fired, trim, Entry}
 use Rattle.part_items.specs.Tags.{most_members}
-use Rattle.codec_laws.specs.Fits.{FitsNumber, FitsCount, FitsId, FitsOutcome, FitsMessage}
+use Rattle.part_items.specs.Fits.{FitsNumber, FitsCount, FitsId, FitsOutcome, FitsMessage}
 
 -- another partition's entry
 pub record FitsIdentity (identity : Identity) : Type 0 where

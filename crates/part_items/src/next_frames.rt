@@ -6,7 +6,7 @@ ghost use Rattle.dura_value.specs.Items.{Entry};
 ghost use Rattle.part_items.specs.Grammar.{frame_in};
 ghost use Rattle.part_items.specs.Numbered.{Next, IsNumbered, next_frame_in};
 ghost use Rattle.part_items.specs.Spelling.{spell_frame};
-ghost use Rattle.codec_laws.specs.ItemFits.{FitsFrame};
+ghost use Rattle.part_items.specs.ItemFits.{FitsFrame};
 
 /// A frame is read with its numbering exactly where it is read without and its entries are numbered. So what was written of
 /// numbered entries is read again.

@@ -8,10 +8,10 @@ use Rattle.dura_value.specs.Items.{Identity, Item, took, got, ran, ended, fired,
 use Rattle.dura_codec.specs.Spelling.{spell_id, spell_outcome, spell_message}
 use Rattle.part_items.specs.Grammar.{took_at, got_at, ran_at, done_at, fired_at, trim_at, item_at}
 use Rattle.part_items.specs.Spelling.{spell_three, spell_item}
-use Rattle.codec_laws.proofs.Numbers.{number_again_4, count_again}
-use Rattle.codec_laws.proofs.Ids.{id_again}
-use Rattle.codec_laws.proofs.Messages.{outcome_again, message_again, regroup, two, three}
-use Rattle.codec_laws.specs.ItemFits.{FitsItem}
+use Rattle.part_items.proofs.Numbers.{number_again_4, count_again}
+use Rattle.part_items.proofs.Ids.{id_again}
+use Rattle.part_items.proofs.Messages.{outcome_again, message_again, regroup, two, three}
+use Rattle.part_items.specs.ItemFits.{FitsItem}
 
 took_again : (message : Message) (rest : List ℕ) → FitsItem (took message) → took_at (spell_message message ++ rest) ≡ Ok (took message, rest)
 unfolding took_at

@@ -7,7 +7,7 @@ use Rattle.std.proofs.lemmas.List.Elements.{All-drop, All-take}
 use Rattle.std.proofs.lemmas.Bool.Decides.{nat_tests}
 use Rattle.std.proofs.Math.Seq.{drop-append_seam}
 use Rattle.dura_value.specs.Reading.{◌>>=◌}
-use Rattle.codec_laws.specs.Fits.{AreBytes}
+use Rattle.part_items.specs.Fits.{AreBytes}
 use Rattle.dura_codec.specs.Fields.{Read, byte_at, number_at, count_at, request_number_at, run_at, several_at}
 
 ok_or : {A : Type 0} → A → Result A ℕ → A

@@ -12,7 +12,7 @@ ghost use Rattle.dura_codec.specs.Grammar.{name_at, key_at, text_at, scalar_at, 
 ghost use Rattle.dura_codec.specs.Spelling.{spell_word, spell_text, spell_scalar, spell_value, spell_id, spell_reply, spell_answer, spell_outcome, spell_spot, spell_body, spell_message};
 ghost use Rattle.part_items.specs.Grammar.{item_at, entry_at, frame_in};
 ghost use Rattle.part_items.specs.Spelling.{spell_item, spell_entry, spell_frame};
-ghost use Rattle.codec_laws.specs.Fits.{AreBytes};
+ghost use Rattle.part_items.specs.Fits.{AreBytes};
 
 /// Values and their parts.
 #[tactic(auto, using(crate::proofs::OnlyValues::name_only, crate::proofs::OnlyValues::key_only, crate::proofs::OnlyValues::text_only, crate::proofs::OnlyValues::scalar_only, crate::proofs::OnlyValues::value_only))]

@@ -9,11 +9,11 @@ use Rattle.dura_value.specs.declared.outcome.Outcome.TheVariants as outcomes
 use Rattle.dura_value.specs.Messages.{Reply, Answer, is_done, has_failed, was_started, was_there, is_unknown, was_raised, has_ended, is_missing, is_running, is_value, Spot, Body, start, raise, query, wait, result, operate, lock, granted, release, Message}
 use Rattle.dura_codec.specs.Grammar.{answer_at, outcome_at, spot_at, spot_count_at, lock_at, start_at, raise_at, query_at, wait_at, result_at, operate_at, granted_at, body_at, message_at}
 use Rattle.dura_codec.specs.Spelling.{spell_word, spell_id, spell_reply, spell_value, spell_answer, spell_outcome, spell_spot, spell_body, spell_message}
-use Rattle.codec_laws.specs.Fits.{FitsAnswer, FitsOutcome, FitsSpot, FitsLock, FitsBody, FitsMessage}
-use Rattle.codec_laws.proofs.Numbers.{is_within, number_again_4, request_again}
-use Rattle.codec_laws.proofs.Words.{name_again, key_again, text_again}
-use Rattle.codec_laws.proofs.Values.{several_again, value_again}
-use Rattle.codec_laws.proofs.Ids.{id_again, reply_again}
+use Rattle.part_items.specs.Fits.{FitsAnswer, FitsOutcome, FitsSpot, FitsLock, FitsBody, FitsMessage}
+use Rattle.part_items.proofs.Numbers.{is_within, number_again_4, request_again}
+use Rattle.part_items.proofs.Words.{name_again, key_again, text_again}
+use Rattle.part_items.proofs.Values.{several_again, value_again}
+use Rattle.part_items.proofs.Ids.{id_again, reply_again}
 
 pub answer_again : (answer : Answer) (rest : List ℕ) → FitsAnswer answer → answer_at (spell_answer answer ++ rest) ≡ Ok (answer, rest)
 unfolding answer_at

@@ -6,7 +6,7 @@ ghost use Rattle.dura_value.specs.declared.data.Value.{Value};
 ghost use Rattle.dura_value.specs.Ids.{Id};
 ghost use Rattle.dura_value.specs.Messages.{Message};
 ghost use Rattle.dura_codec.specs.Spelling.{spell_value, spell_id, spell_message};
-ghost use Rattle.codec_laws.specs.Fits.{FitsValue, FitsId, FitsMessage};
+ghost use Rattle.part_items.specs.Fits.{FitsValue, FitsId, FitsMessage};
 
 /// Values whose spellings begin the same bytes are the same, and so is what follows.
 #[tactic(auto, using(crate::proofs::Prefixes::value_apart))]

@@ -6,7 +6,7 @@ use Rattle.dura_value.specs.Text.{IsText}
 use Rattle.dura_codec.specs.Fields.{run_at}
 use Rattle.dura_codec.specs.Grammar.{word_size_at, name_at, key_at, text_at}
 use Rattle.dura_codec.specs.Spelling.{spell_word, spell_text}
-use Rattle.codec_laws.proofs.Numbers.{is_below, is_within, enough, taken, behind, number_again_2}
+use Rattle.part_items.proofs.Numbers.{is_below, is_within, enough, taken, behind, number_again_2}
 
 -- of two tests that are passed together each is
 pub both : (a b : Bool) → (a && b) ≡ true → (a ≡ true) × (b ≡ true)
