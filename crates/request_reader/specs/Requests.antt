@@ -6,7 +6,7 @@ use Rattle.std.specs.Str.{bytes_eq}
 use Rattle.dura_value.specs.declared.data.Value.{Value}
 use Rattle.dura_value.specs.contracts.data.ValuePartialEq.TheImpl as values
 use Rattle.dura_value.specs.Ids.{id_eq}
-use Rattle.dura_value.specs.Messages.{Body, start, raise, query, wait}
+use Rattle.dura_value.specs.Messages.{Body, Message, start, raise, query, wait}
 use Rattle.request_reader.specs.declared.error.RequestsError.{RequestsError}
 use Rattle.request_reader.specs.declared.error.RequestsError.TheVariants.{BadLine, Clash, Memory}
 use Rattle.request_reader.specs.Line.{Request, request_on}
@@ -44,9 +44,12 @@ body_eq (query number) (query other_number) = true
 body_eq (wait number) (wait other_number) = true
 body_eq a b = false
 
--- whether requests of one client with one number are the same
+-- whether two messages of one client with one number ask the same
+abbrev pub asks_same : Message → Message → Bool
+asks_same a b = id_eq a.to b.to && body_eq a.body b.body
+
 abbrev pub request_eq : Request → Request → Bool
-request_eq a b = id_eq a.message.to b.message.to && body_eq a.message.body b.message.body
+request_eq a b = asks_same a.message b.message
 
 -- of this client and with this number
 abbrev pub is_by : List ℕ → ℕ → Request → Bool

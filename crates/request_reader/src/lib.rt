@@ -13,4 +13,4 @@ mod requests;
 mod values;
 
 pub use error::RequestsError;
-pub use requests::read_requests;
+pub use requests::{asks_same, read_requests};

@@ -2,16 +2,16 @@
 
 ghost use Rattle.std.specs.Prelude.{◌≡◌, ◌^◌, ◌<◌, [], ◌∷◌, length, map, None, IfOk, MatchOption, option_map};
 ghost use Rattle.std.specs.List.{find, position};
-ghost use Rattle.dura_value.specs.Views.{id_of, body_of};
+ghost use Rattle.dura_value.specs.Views.{id_of, body_of, message_of};
 ghost use Rattle.dura_value.specs.Ids.{id_eq};
 ghost use Rattle.request_reader.specs.Line.{request_of};
 ghost use Rattle.request_reader.specs.Progress.{seen, Stands};
-ghost use Rattle.request_reader.specs.Requests.{Answers, body_eq, request_eq, is_by, with_new, with_request, is_blank, after_line, after_lines, is_line_feed, lines_of, requests_in};
+ghost use Rattle.request_reader.specs.Requests.{Answers, asks_same, body_eq, request_eq, is_by, with_new, with_request, is_blank, after_line, after_lines, is_line_feed, lines_of, requests_in};
 
 use crate::error::{ReadError, RequestsError};
 use crate::line::request_on;
 use crate::progress::{Progress, copy_of};
-use dura_value::{Body, Id, Name, Request};
+use dura_value::{Body, Id, Message, Name, Request};
 use std::alloc::Global;
 
 #[tactic(auto, using(crate::proofs::Ids::derived_id_eq))]
@@ -36,10 +36,17 @@ fn is_same_body(a: &Body, b: &Body) -> bool
     }
 }
 
+/// Whether two messages of one client with one number ask the same.
+pub fn asks_same(a: &Message, b: &Message) -> bool
+    ensures { result ≡ asks_same (message_of a.now) (message_of b.now) }
+{
+    is_same_id(&a.to, &b.to) && is_same_body(&a.body, &b.body)
+}
+
 fn is_same(a: &Request, b: &Request) -> bool
     ensures { result ≡ request_eq (request_of a.now) (request_of b.now) }
 {
-    is_same_id(&a.message.to, &b.message.to) && is_same_body(&a.message.body, &b.message.body)
+    asks_same(&a.message, &b.message)
 }
 
 /// The request of the line with this number, which no earlier line has, comes behind those of the lines before.
