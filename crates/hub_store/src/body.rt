@@ -102,7 +102,7 @@ impl<V: Site, N: Start> Store<V, N> {
         ensures only { MovesOnly part self.old self.new }
         ensures full { self.old.segment ≤ length_with (way_of self.old.ways.items part) (entries_of frame)
             → (result ≡ Err BodyRefusal.Memory) ⊎ (result ≡ Err (BodyRefusal.Full part (length_with (way_of self.old.ways.items part) (entries_of frame)))) }
-        ensures room { (of n : ℕ) → result ≡ Err (BodyRefusal.Full of n) → (of ≡ part) × (self.old.segment ≤ n) × (n ≡ length_with (way_of self.old.ways.items part) (entries_of frame)) × (V.history self.new.site ≡ V.history self.old.site) × (stage_at self.new part ≡ Stage.Resting) }
+        ensures room { (of n : ℕ) → result ≡ Err (BodyRefusal.Full of n) → (of ≡ part) × (self.old.segment ≤ n) × (n ≡ length_with (way_of self.old.ways.items part) (entries_of frame)) × (V.history self.new.site ≡ V.history self.old.site) × (way_of self.new.ways.items part ≡ way_of self.old.ways.items part) }
         ensures memory { result ≡ Err BodyRefusal.Memory → (V.history self.new.site ≡ V.history self.old.site) × (stage_at self.new part ≡ Stage.Resting) }
         ensures segment { self.new.segment ≡ self.old.segment }
         ensures halts { result ≡ Err BodyRefusal.SiteFault ↔ self.new.halted ≡ true }

@@ -24,8 +24,8 @@ use Rattle.recover_core.specs.declared.files.LogFile.{LogFile}
 use Rattle.recover_core.specs.declared.files.LogFile.TheVariants.{Fresh, Log}
 use Rattle.recover_core.specs.declared.recovery.Recovered.{Recovered}
 use Rattle.recover_core.specs.Chosen.{kept_as, tied_fault, Chooses, Ends}
-use Rattle.recover_core.specs.Files.{frames_in, IsFound, Suits}
-use Rattle.recover_core.specs.Progress.{Shows}
+use Rattle.recover_core.specs.Files.{frames_in, IsFound, Suits, IsReadyFile}
+use Rattle.recover_core.specs.Progress.{Shows, IsReadyFor}
 use Rattle.recover_core.specs.Recovering.{IsLogOf, RecoversLogs, Recovers, RestsFor}
 use Rattle.recover_core.specs.Refusals.{Refuses}
 use Rattle.recover_core.proofs.FilesFound.{is_one, no_fault}
@@ -34,6 +34,10 @@ use Rattle.recover_core.proofs.FilesFound.{is_one, no_fault}
 pub risen_later : (before mid now : ℕ) → before ≤ mid → mid ≤ now → HasRisen mid now → HasRisen before now
 risen_later before mid now first second (inl rose) = inl (omega arith)
 risen_later before mid now first second (inr full) = elim (cases_lt before mid) [ inl rose ↦ inl (omega arith) | inr same ↦ inr (omega arith) ]
+
+-- what was chosen is ready where both files are
+pub ready_chosen : (first second : LogFile) (found : Found) → IsReadyFile first → IsReadyFile second → Chooses first second (Some found) → IsReadyFor found.life found.placing
+ready_chosen first second found one two chosen = elim chosen.1 [ inl is ↦ subst IsReadyFile is.0 one | inr is ↦ subst IsReadyFile is.1 two ]
 
 -- ---- refusals
 

@@ -26,7 +26,7 @@ use Rattle.recover_core.specs.declared.progress.Progress.{Progress}
 use Rattle.recover_core.specs.declared.reading.Reading.{Reading}
 use Rattle.recover_core.specs.declared.reading.Turn.{Turn}
 use Rattle.recover_core.specs.declared.reading.Turn.TheVariants.{More, End}
-use Rattle.recover_core.specs.Progress.{Shows, GoesOn, IsProgress, IsReady, position_in}
+use Rattle.recover_core.specs.Progress.{Shows, GoesOn, IsProgress, IsReady, IsReadyFor, position_in}
 use Rattle.recover_core.specs.Refusals.{Refuses}
 
 -- the entries of the payloads of a log that begins here, one frame behind another
@@ -90,7 +90,7 @@ pub record IsBehindStep (old new : Reading) : Type 0 where
 
 abbrev pub StaysThere : Reading → Result Turn FrameError → Type 0
 StaysThere old (Ok (More new)) = IsBehindStep old new
-StaysThere old (Ok (End log progress)) = log.file ≡ old.reader.file
+StaysThere old (Ok (End log progress)) = (log.file ≡ old.reader.file) × IsReady progress
 StaysThere old (Err error) = Unit {0}
 
 -- what all steps came to
@@ -103,6 +103,11 @@ ReadsAll steps flows reader (Err unread.SiteFault) = Unit {0}
 ReadsAll steps flows reader (Err unread.Memory) = Unit {0}
 
 -- ---- a file that was read
+
+-- an entry of the life that goes on may begin behind what a file holds
+abbrev pub IsReadyFile : LogFile → Type 0
+IsReadyFile Fresh = Unit {0}
+IsReadyFile (Log found) = IsReadyFor found.life found.placing
 
 -- A log was found in a file: this is what it keeps, its entries were placed, and it rests.
 pub record IsFound (steps : List Step) (flows : Flows) (file : ℕ) (found : Found) : Type 0 where

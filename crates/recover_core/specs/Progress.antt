@@ -35,9 +35,9 @@ abbrev pub IsReadyFor : (life : ℕ) → Placing → Type 0
 IsReadyFor life (On state) = IsSound state × (count_of state ≡ 1) × ((state_of state).incarnation ≤ life)
 IsReadyFor life (Stuck position) = Unit {0}
 
--- an entry that is numbered on may begin
+-- an entry that is numbered on may begin, and one of the life that goes on
 abbrev pub IsReady : Progress → Type 0
-IsReady p = IsReadyFor p.next.incarnation p.placing
+IsReady p = IsReadyFor p.next.incarnation p.placing × (p.next.incarnation ≤ p.life)
 
 -- These are a log's next entries, whose numbers are below the limit.
 abbrev pub IsNext : Next → List Entry → Type 0

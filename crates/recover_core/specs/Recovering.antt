@@ -35,6 +35,13 @@ pub record IsRecovered (flows : Flows) (logs : Logs) (r : Recovered) : Type 0 wh
   pub young : r.incarnation < 2 ^ 62
   pub log : IsLogOf entries r.log logs
 
+-- an entry of the life that begins may be begun in the state
+pub record CanBegin (r : Recovered) : Type 0 where
+  pub sound : IsSound r.state
+  pub alone : count_of r.state ≡ 1
+  pub younger : (state_of r.state).incarnation ≤ r.incarnation
+  pub young : r.incarnation < 2 ^ 62
+
 -- the first entry that isn't accepted is the one at this position
 pub record IsIllegal (flows : Flows) (logs : Logs) (partition position : ℕ) : Type 0 where
   pub alone : partition ≡ 0

@@ -1,5 +1,5 @@
 // What one log file of the partition holds.
-ghost use Rattle.std.specs.Prelude.{◌≡◌, ◌⊎◌, ◌≤◌, ◌∷◌, ℕ, List, Err, OnOk, IfErr};
+ghost use Rattle.std.specs.Prelude.{◌≡◌, ◌⊎◌, ◌≤◌, ◌∷◌, ℕ, List, Err, OnOk, IfOk, IfErr};
 ghost use Rattle.site_model.specs.History.{on, synced};
 ghost use Rattle.site_model.specs.Calls.{HasRisen};
 ghost use Rattle.flow_syntax.specs.Views.{flows_of};
@@ -7,7 +7,7 @@ ghost use Rattle.dura_value.specs.Items.{Entry};
 ghost use Rattle.part_files.specs.Kept.{keeps};
 ghost use Rattle.part_files.specs.Logs.{fault_of};
 ghost use Rattle.part_files.specs.Stands.{alone_with};
-ghost use Rattle.recover_core.specs.Files.{SaysFile, SaysFits};
+ghost use Rattle.recover_core.specs.Files.{IsReadyFile, SaysFile, SaysFits};
 ghost use Rattle.recover_core.specs.Refusals.{Refuses};
 
 use crate::error::RecoverError;
@@ -56,6 +56,7 @@ fn read_file<V: Site>(
 ) -> Result<LogFile, FrameError>
     ensures told { V.tells site.new → V.tells site.old }
     ensures says { V.tells site.new → SaysFile (V.history site.new) (flows_of flows.now) file result }
+    ensures ready { IfOk result IsReadyFile }
     ensures syncs { (V.history site.new ≡ on file synced ∷ V.history site.old) ⊎ (V.history site.new ≡ V.history site.old) }
     ensures synced { OnOk result (V.history site.new ≡ on file synced ∷ V.history site.old) }
     ensures fault { result ≡ Err FrameError.SiteFault → HasRisen (V.disk_faults site.old) (V.disk_faults site.new) }
@@ -110,6 +111,7 @@ pub(crate) fn open_file<V: Site>(
 ) -> Result<LogFile, RecoverError>
     ensures told { V.tells site.new → V.tells site.old }
     ensures says { V.tells site.new → SaysFits (V.history site.new) (flows_of flows.now) digest file result }
+    ensures ready { IfOk result IsReadyFile }
     ensures syncs { (V.history site.new ≡ on file synced ∷ V.history site.old) ⊎ (V.history site.new ≡ V.history site.old) }
     ensures synced { OnOk result (V.history site.new ≡ on file synced ∷ V.history site.old) }
     ensures fault { result ≡ Err RecoverError.SiteFault → HasRisen (V.disk_faults site.old) (V.disk_faults site.new) }

@@ -110,6 +110,7 @@ pub(crate) fn read_on<V: Site>(
     ensures told { V.tells site.new → V.tells site.old }
     ensures reads { V.tells site.new → IsOpened (V.history site.old) reader → ReadsAll (V.history site.old) (flows_of flows.now) reader result }
     ensures there { IfOk result (λ end. end.0.file ≡ reader.file) }
+    ensures ready { IfOk result (λ end. IsReady end.1) }
     ensures unchanged { V.history site.new ≡ V.history site.old }
     ensures fault { result ≡ Err FrameError.SiteFault → HasRisen (V.disk_faults site.old) (V.disk_faults site.new) }
     ensures later { V.disk_faults site.old ≤ V.disk_faults site.new }

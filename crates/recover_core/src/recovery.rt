@@ -10,8 +10,8 @@ ghost use Rattle.part_files.specs.Logs.{logs_in};
 ghost use Rattle.part_files.specs.Placing.{placed, next_life};
 ghost use Rattle.part_files.specs.Stands.{alone_with};
 ghost use Rattle.recover_core.specs.Chosen.{Ends};
-ghost use Rattle.recover_core.specs.Progress.{Shows};
-ghost use Rattle.recover_core.specs.Recovering.{Recovers, RestsFor, OnlySyncs, both_synced};
+ghost use Rattle.recover_core.specs.Progress.{Shows, IsReadyFor};
+ghost use Rattle.recover_core.specs.Recovering.{CanBegin, Recovers, RestsFor, OnlySyncs, both_synced};
 
 use crate::choosing::{FIRST_LOG, SECOND_LOG, choose};
 use crate::error::RecoverError;
@@ -40,6 +40,7 @@ pub struct Recovered {
 /// What the entries of a log stand for.
 fn end(found: Found) -> Result<Recovered, RecoverError>
     ensures ends { (flows : PlainFlows) (entries : List Entry) → Shows found.placing (placed flows 1 (fresh 0) entries) → found.life ≡ next_life entries → Ends flows entries found result }
+    ensures begins { IsReadyFor found.life found.placing → IfOk result CanBegin }
     ensures no_fault { result ≡ Err RecoverError.SiteFault → ⊥ }
 {
     let Found {
@@ -82,6 +83,7 @@ pub fn recover<V: Site>(
 ) -> Result<Recovered, RecoverError>
     ensures told { V.tells site.new → V.tells site.old }
     ensures recovers { V.tells site.new → Recovers (flows_of flows.now) digest (λ file. content_of file (V.history site.old)) result }
+    ensures begins { IfOk result CanBegin }
     ensures syncs { OnlySyncs (V.history site.old) (V.history site.new) }
     ensures synced { OnOk result (V.history site.new ≡ both_synced (V.history site.old)) }
     ensures rests { V.tells site.new → IfOk result (λ r. IfSome r.log (λ log. RestsFor (V.history site.new) digest (logs_in (alone_with digest) (λ file. content_of file (V.history site.old))) log)) }

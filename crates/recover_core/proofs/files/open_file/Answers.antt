@@ -26,3 +26,6 @@ pub returns-clause-says : goal.returns-clause-says
 returns-clause-says g c tells =
     let found = rw c.in-Ok-Log.field-0-is at (c.in-Ok-Log.ensures.says tells) in
     (found, c.in_ok-fit.ensures.fits.0, c.in_ok-fit.ensures.fits.1)
+
+pub returns-clause-ready : goal.returns-clause-ready
+returns-clause-ready g c = rw c.in-Ok-Log.field-0-is at c.in-Ok-Log.ensures.ready

@@ -6,6 +6,7 @@ use Rattle.log_reader.specs.declared.reader.OpenError.{OpenError}
 use Rattle.log_reader.specs.declared.reader.OpenError.TheVariants as unopened
 use Rattle.log_reader.specs.Outcomes.{Opens}
 use Rattle.recover_core.specs.Files.{IsFound, SaysFile}
+use Rattle.recover_core.proofs.EntriesPlaced.{ready_later}
 use Rattle.recover_core.proofs.FilesFound.{fresh_file, damaged_front, is_opened, is_found, file_refused}
 use Rattle.recover_core.proofs.files.read_file.Goals as goal
 
@@ -54,3 +55,9 @@ returns-in_err-log-clause-syncs g c = inl (c.read_on.ensures.unchanged ∙ c.in-
 
 pub returns-clause-synced : goal.returns-clause-synced
 returns-clause-synced g c = c.read_on.ensures.unchanged ∙ c.in-Ok.ensures.synced
+
+pub returns-clause-ready : goal.returns-clause-ready
+returns-clause-ready g c =
+    let progress = c.in_ok-log.progress in
+    let ready = c.in_ok-log.ensures.ready in
+    ready_later progress.placing progress.next.incarnation progress.life ready.1 ready.0

@@ -68,3 +68,13 @@ returns-in-End-clause-reads g c tells opened =
     let rest = rests_over flows old steps reader reading (Ok c.in_ok-more.field-0) was.0 was.1 inv.file inv.header inv.size inv.unchanged opened (g.V.Site.history c.read_step.new.site) c.read_step.ensures.unchanged was.2.read (c.in_ok-more.ensures.rests tells) in
     let rests = subst (λ (turn : Turn). RestsAfter old reader.header was.0 (Ok turn)) c.in-End.is rest in
     (was.0, was.1, was.2.decoded, end.0, rests, end.1)
+
+pub returns-in-End-clause-there : goal.returns-in-End-clause-there
+returns-in-End-clause-there g c =
+    let there = subst (λ (turn : Turn). StaysThere c.frames.reading (Ok turn)) c.in-End.is c.in_ok-more.ensures.there in
+    there.0 ∙ c.frames.invariant.file
+
+pub returns-in-End-clause-ready : goal.returns-in-End-clause-ready
+returns-in-End-clause-ready g c =
+    let there = subst (λ (turn : Turn). StaysThere c.frames.reading (Ok turn)) c.in-End.is c.in_ok-more.ensures.there in
+    there.1

@@ -1,9 +1,14 @@
-use Rattle.std.proofs.Common.{subst, refl}
+use Rattle.std.proofs.Common.{subst, refl, arith}
 use Rattle.recover_core.specs.declared.progress.Placing.{Placing}
-use Rattle.recover_core.specs.Progress.{Shows}
+use Rattle.recover_core.specs.Progress.{Shows, IsReadyFor}
 use Rattle.dura_model.specs.Partition.{fresh}
 use Rattle.part_files.specs.Placing.{placed}
 use Rattle.recover_core.proofs.recovery.end.Goals as goal
 
 pub returns-in-Stuck-clause-ends : goal.returns-in-Stuck-clause-ends
 returns-in-Stuck-clause-ends c flows entries shows life = (refl, subst (λ (p : Placing). Shows p (placed flows 1 (fresh 0) entries)) c.in-Stuck.is shows)
+
+pub returns-clause-begins : goal.returns-clause-begins
+returns-clause-begins c ready =
+    let on = subst (IsReadyFor c.args.found.life) c.in-On.is ready in
+    record { sound = on.0; alone = on.1; younger = on.2; young = omega (arith, c.if-not-life.false) }

@@ -1,12 +1,14 @@
-use Rattle.std.proofs.Common.{subst}
+use Rattle.std.proofs.Common.{◌≡◌, subst, arith, ap}
 use Rattle.std.proofs.lemmas.Result.{err_from_is_err_and}
+use Rattle.dura_model.specs.Partition.{Partition}
+use Rattle.part_steps.specs.States.{state_of}
 use Rattle.site_model.specs.History.{content_of}
 use Rattle.flow_syntax.specs.Views.{flows_of}
 use Rattle.part_files.specs.Logs.{logs_in}
 use Rattle.part_files.specs.Stands.{alone_with}
 use Rattle.recover_core.specs.Chosen.{Chooses}
 use Rattle.recover_core.proofs.BothSynced.{first_content, second_untouched, only_first, first_changes, first_still, second_content, only_both}
-use Rattle.recover_core.proofs.LogsFound.{suits_moved, first_refused, second_refused, both_refused, none_recovered, one_found, end_recovered, end_rests}
+use Rattle.recover_core.proofs.LogsFound.{ready_chosen, suits_moved, first_refused, second_refused, both_refused, none_recovered, one_found, end_recovered, end_rests}
 use Rattle.recover_core.proofs.recovery.recover.Goals as goal
 
 pub returns-in_err-first-clause-recovers : goal.returns-in_err-first-clause-recovers
@@ -96,3 +98,13 @@ returns-in-None-clause-recovers g c tells =
 
 pub returns-in-None-clause-syncs : goal.returns-in-None-clause-syncs
 returns-in-None-clause-syncs g c = only_both (g.V.Site.history c.args.site.now) (g.V.Site.history c.open_file.new.site) (g.V.Site.history c.open_file-2.new.site) c.in_ok-first.ensures.synced c.open_file-2.ensures.syncs
+
+pub returns-in-Some-clause-begins : goal.returns-in-Some-clause-begins
+returns-in-Some-clause-begins g c =
+    let chosen = subst (Chooses c.in_ok-first.first c.in_ok-second.second) c.in-Some.is c.in_ok-found.ensures.chosen in
+    c.end.ensures.begins (ready_chosen c.in_ok-first.first c.in_ok-second.second c.in-Some.found c.in_ok-first.ensures.ready c.in_ok-second.ensures.ready chosen)
+
+pub returns-in-None-clause-begins : goal.returns-in-None-clause-begins
+returns-in-None-clause-begins g c =
+    let none : (state_of c.new.result).incarnation ≡ 0 = ap (λ (p : Partition). p.incarnation) c.new.ensures.fresh in
+    record { sound = c.new.ensures.sound; alone = c.new.ensures.partitions; younger = omega (arith, none); young = omega arith }

@@ -9,7 +9,7 @@ returns-clause-begins c = λ flows. record { next = refl; life = refl; placed = 
 pub returns-clause-ready : goal.returns-clause-ready
 returns-clause-ready c =
     let none : (state_of c.new.result).incarnation ≡ 0 = ap (λ (p : Partition). p.incarnation) c.new.ensures.fresh in
-    (c.new.ensures.sound, c.new.ensures.partitions, omega (arith, none))
+    ((c.new.ensures.sound, c.new.ensures.partitions, omega (arith, none)), omega arith)
 
 pub returns-clause-first : goal.returns-clause-first
 returns-clause-first c = ap (λ (p : Partition). p.position) c.new.ensures.fresh
