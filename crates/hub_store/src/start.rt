@@ -23,16 +23,16 @@ pub trait Start: Drop {
         → may_follow (trail ++ more) (told ++ also) partition going };
 }
 
-/// The start that a call picks: without a pick it has no partition, and nothing may be committed or said.
+/// The start that a call picks: without a pick it has one partition without entries, and anything may be committed and said.
 impl Start for Brand {
     ghost use Rattle.std.specs.Prelude.{[]};
     ghost use Rattle.hub_store.specs.Origin.{no_entry};
 
-    ghost origin = { record { count = 0; logs = λ partition. no_entry 16; steps = [] } };
+    ghost origin = { record { count = 1; logs = λ partition. no_entry 16; steps = [] } };
 
-    ghost may_follow = { λ trail told partition going. ⊥ };
+    ghost may_follow = { λ trail told partition going. Unit {0} };
 
-    ghost may_say = { λ trail told one line. ⊥ };
+    ghost may_say = { λ trail told one line. Unit {0} };
 
     ghost still_follows = { λ trail more told also partition going none may. may };
 }

@@ -1,9 +1,21 @@
 -- Why committing an entry stops, or saying an answer, or waiting for what comes next.
-use Rattle.std.specs.Prelude.{Bool, true, false}
+use Rattle.std.specs.Prelude.{◌≡◌, ◌≤◌, ℕ, List, [], ◌∷◌, Bool, true, false}
+use Rattle.dura_value.specs.Items.{Entry}
+use Rattle.hub_store.specs.Frames.{length_with}
+use Rattle.hub_store.specs.declared.way.Way.{Way}
+use Rattle.run_rules.specs.Rules.{Rules, Told, Follows}
 use Rattle.hub_store.specs.declared.refusal.BodyRefusal.{BodyRefusal}
 use Rattle.hub_store.specs.declared.refusal.BodyRefusal.TheVariants as refusals
 use Rattle.part_rounds.specs.declared.stop.Stop.{Stop}
 use Rattle.part_rounds.specs.declared.stop.Stop.TheVariants.{Full, SiteFault, SayFault, ClockFault, Memory}
+
+-- An entry that may follow would bring the log to this length, which isn't below the segment's.
+pub record IsFull (rules : Rules) (settled : List Entry) (told : Told) (segment : ℕ) (way : Way) (partition length : ℕ) : Type 0 where
+  pub alone : partition ≡ 0
+  pub entry : Entry
+  pub follows : Follows rules settled told (entry ∷ [])
+  pub length_is : length ≡ length_with way (entry ∷ [])
+  pub reaches : segment ≤ length
 
 -- why a frame was not written
 abbrev pub stop_of_body : BodyRefusal → Stop

@@ -1,20 +1,20 @@
 -- What holds between the rounds of a call.
-use Rattle.std.specs.Prelude.{◌≡◌, ◌≢◌, ℕ, List, [], ◌∷◌, map, Option, None, Some, if◌then◌else◌, ◌++◌, ◌≤◌, Ok, ◌<◌, length}
+use Rattle.std.specs.Prelude.{◌≡◌, ◌≢◌, ℕ, List, [], ◌∷◌, map, Option, None, Some, if◌then◌else◌, ◌≤◌, Ok, ◌<◌, length}
 use Rattle.std.specs.List.{All}
 use Rattle.std.specs.Option.{option_and_then}
 use Rattle.client_port.specs.Clients.{clients_of, requests_of}
 use Rattle.client_port.specs.Ports.{Queue, is_of, due_of}
-use Rattle.dura_model.specs.Partition.{Partition, fresh, enter}
+use Rattle.dura_model.specs.Partition.{Partition, enter}
+use Rattle.dura_model.specs.Placed.{AreShown}
 use Rattle.dura_value.specs.Ids.{client}
 use Rattle.dura_value.specs.Items.{Item, Entry}
 use Rattle.dura_value.specs.Messages.{Answer}
+use Rattle.hub_store.specs.Frames.{goes_on}
 use Rattle.hub_store.specs.Origin.{Log}
 use Rattle.hub_store.specs.Trail.{Said}
-use Rattle.part_files.specs.Kept.{first_of}
-use Rattle.part_files.specs.Placing.{placed, AllGiven, state_next}
+use Rattle.part_files.specs.Placing.{placed}
 use Rattle.part_items.specs.Fits.{FitsCount}
 use Rattle.part_items.specs.ItemFits.{FitsItem}
-use Rattle.part_items.specs.Numbered.{IsNumbered}
 use Rattle.part_items.specs.Tags.{most_members}
 use Rattle.part_rounds.specs.Fills.{Fills}
 use Rattle.run_rules.specs.Rules.{Rules, Told, count_told}
@@ -45,18 +45,17 @@ next_answer state queues name = option_and_then (λ r. state.answers (client nam
 abbrev pub entry_at : Rules → Partition → List Item → Entry
 entry_at rules p items = record { position = p.position; incarnation = rules.life; items = items }
 
--- The log of a call of one partition: its entries made the state at which the call begins.
-pub record BeginsWith (rules : Rules) (log : Log) : Type 0 where
-  pub first : first_of log.header ≡ state_next (fresh 0)
-  pub begun : placed rules.flows 1 (fresh 0) log.entries ≡ Ok rules.begin
-  pub given : AllGiven rules.flows 1 (fresh 0) log.entries
+-- no answer to a client's next request is there
+abbrev pub NoneUnsaid : Partition → List Queue → (clients : List (List ℕ)) → Type 0
+NoneUnsaid p queues clients = All (λ name. next_answer p queues name ≡ None) clients
 
--- Behind these entries of the call the state is this, and each outcome among them is one that its activity may give; they are numbered
--- behind those of the log, and of no later life than the call's.
+-- Behind these entries of the call the state is this, which shows a world; the log goes on where the state does, and both are of no
+-- later life than the call's.
 pub record Stands (rules : Rules) (log : Log) (settled : List Entry) (p : Partition) : Type 0 where
   pub made : placed rules.flows 1 rules.begin settled ≡ Ok p
-  pub given : AllGiven rules.flows 1 rules.begin settled
-  pub numbered : IsNumbered (first_of log.header) (log.entries ++ settled)
+  pub shown : AreShown 1 (λ place. p)
+  pub place : (goes_on log settled).position ≡ p.position
+  pub follows : (goes_on log settled).incarnation ≤ rules.life
   pub younger : p.incarnation ≤ rules.life
 
 -- What an entry was filled with, at this place and in this life: from the state behind what is settled on, 1 to 64 items that can be
