@@ -1,6 +1,6 @@
 //! What a call settled and said.
 
-ghost use Rattle.std.specs.Prelude.{◌≡◌, ◌+◌, ◌≤◌, ◌++◌, length};
+ghost use Rattle.std.specs.Prelude.{◌≡◌, ◌+◌, ◌≤◌, ◌++◌, [], length};
 ghost use Rattle.std.specs.Vec.{vec_len, vec_capacity};
 ghost use Rattle.part_items.specs.Plain.{entries_of};
 ghost use Rattle.hub_store.specs.Plain.{trail_of};
@@ -8,6 +8,7 @@ ghost use Rattle.hub_store.specs.Trail.{settling};
 
 use dura_value::Name;
 use part_items::{Frame, Items};
+use std::alloc::Global;
 use std::marker::Model;
 
 /// An entry that was settled.
@@ -51,6 +52,15 @@ impl Model for Trail {
 }
 
 impl Trail {
+    /// Nothing was settled.
+    pub fn none(alloc: Global) -> Trail
+        ensures { result ≡ [] }
+    {
+        Trail {
+            entries: Vec::new(alloc),
+        }
+    }
+
     /// A trail of these.
     pub(crate) fn of(entries: Vec<Settled>) -> Trail
         ensures { result ≡ trail_of entries.items }

@@ -25,13 +25,12 @@ use std::alloc::Global;
 pub(crate) enum Coming {
     /// An entry with these items.
     Filled(Filling),
-    /// Nothing yet: a timer was waited for.
-    Again(PartState),
     /// Nothing, without more requests.
     Rest(PartState),
 }
 
-/// Reads the clock and fills an entry that has begun, or waits until the first timer is due where nothing else is possible.
+/// Reads the clock and fills an entry that has begun. Where nothing is possible it waits until the first timer is due, and fills it
+/// then; a timer that is due behind the last moment is never reached, which ends in `Memory`.
 pub(crate) fn take_next<A: Activities, C: Clock>(
     alloc: Global,
     flows: &Flows,
@@ -57,24 +56,22 @@ pub(crate) fn take_next<A: Activities, C: Clock>(
         Ok(now) => now,
         Err(_) => return Err(Stop::ClockFault),
     };
-    let first = gather(
-        alloc,
-        flows,
-        acts,
-        state,
-        port,
-        clients,
-        Chance { now, word },
-        limit,
-    )?;
+    let chance = Chance { now, word };
+    let first = gather(alloc, flows, acts, state, port, clients, chance, limit)?;
     if !first.items.is_empty() {
         return Ok(Coming::Filled(first));
     }
     let Some(due) = first.state.next_timer() else {
         return Ok(Coming::Rest(first.state));
     };
-    match clock.wait_until(due.min(LAST_MOMENT)) {
-        Ok(_) => Ok(Coming::Again(first.state)),
-        Err(_) => Err(Stop::ClockFault),
+    let later = match clock.wait_until(due.min(LAST_MOMENT)) {
+        Ok(later) => later,
+        Err(_) => return Err(Stop::ClockFault),
+    };
+    let chance = Chance { now: later, word };
+    let second = gather(alloc, flows, acts, first.state, port, clients, chance, limit)?;
+    if second.items.is_empty() {
+        return Err(Stop::Memory);
     }
+    Ok(Coming::Filled(second))
 }

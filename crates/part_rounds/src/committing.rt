@@ -1,6 +1,6 @@
 //! Committing an entry.
 
-ghost use Rattle.std.specs.Prelude.{◌≡◌, ◌⊎◌, ◌≤◌, ◌<◌, ℕ, List, [], ◌∷◌, ◌++◌, true, false, Some, Err, IfOk, IfErr, OnOk, OnErr, length};
+ghost use Rattle.std.specs.Prelude.{◌≡◌, ◌⊎◌, ◌≤◌, ◌<◌, ◌+◌, ℕ, List, [], ◌∷◌, ◌++◌, true, false, Some, Err, IfOk, IfErr, OnOk, OnErr, length};
 ghost use Rattle.dura_value.specs.Items.{Entry as PlainEntry};
 ghost use Rattle.site_model.specs.Calls.{HasRisen};
 ghost use Rattle.part_items.specs.Plain.{entry_of, entries_of, items_of};
@@ -9,8 +9,9 @@ ghost use Rattle.hub_store.specs.Frames.{goes_on, GoesBehind, length_with};
 ghost use Rattle.hub_store.specs.Sound.{IsSound};
 ghost use Rattle.hub_store.specs.Trail.{of_part};
 ghost use Rattle.hub_store.specs.Ways.{way_of};
-ghost use Rattle.part_rounds.specs.Commits.{is_of_disk};
-ghost use Rattle.part_rounds.specs.Rounds.{pairs_of, BeginsWith, IsFilled};
+ghost use Rattle.part_rounds.specs.Comes.{count_labels};
+ghost use Rattle.part_rounds.specs.Commits.{IsFull, is_of_disk};
+ghost use Rattle.part_rounds.specs.Rounds.{pairs_of, IsFilled};
 
 use crate::ruled::Ruled;
 use crate::stop::{Stop, of_body};
@@ -42,7 +43,7 @@ fn write<V: Site, N: Start>(
     ensures segment { store.new.segment ≡ store.old.segment }
     ensures full { store.old.segment ≤ length_with (way_of store.old.ways.items 0) (entries_of frame)
         → (result ≡ Err Stop.Memory) ⊎ (result ≡ Err (Stop.Full 0 (length_with (way_of store.old.ways.items 0) (entries_of frame)))) }
-    ensures room { (of n : ℕ) → result ≡ Err (Stop.Full of n) → (of ≡ 0) × (store.old.segment ≤ n) × (n ≡ length_with (way_of store.old.ways.items 0) (entries_of frame)) × (V.history store.new.site ≡ V.history store.old.site) }
+    ensures room { (of n : ℕ) → result ≡ Err (Stop.Full of n) → (of ≡ 0) × (store.old.segment ≤ n) × (n ≡ length_with (way_of store.old.ways.items 0) (entries_of frame)) × (V.history store.new.site ≡ V.history store.old.site) × (way_of store.new.ways.items 0 ≡ way_of store.old.ways.items 0) }
     ensures stops { IfErr result (λ stop. is_of_disk stop ≡ true) }
     ensures fault { result ≡ Err Stop.SiteFault → HasRisen (V.disk_faults store.old.site) (V.disk_faults store.new.site) }
     ensures later { V.disk_faults store.old.site ≤ V.disk_faults store.new.site }
@@ -121,7 +122,7 @@ pub fn commit<V: Site, N: Start>(
     ensures segment { store.new.segment ≡ store.old.segment }
     ensures full { store.old.segment ≤ length_with (way_of store.old.ways.items 0) (entry_of entry ∷ [])
         → (result ≡ Err Stop.Memory) ⊎ (result ≡ Err (Stop.Full 0 (length_with (way_of store.old.ways.items 0) (entry_of entry ∷ [])))) }
-    ensures room { (of n : ℕ) → result ≡ Err (Stop.Full of n) → (of ≡ 0) × (store.old.segment ≤ n) × (n ≡ length_with (way_of store.old.ways.items 0) (entry_of entry ∷ [])) × (V.history store.new.site ≡ V.history store.old.site) }
+    ensures room { (of n : ℕ) → result ≡ Err (Stop.Full of n) → (of ≡ 0) × (store.old.segment ≤ n) × (n ≡ length_with (way_of store.old.ways.items 0) (entry_of entry ∷ [])) × (V.history store.new.site ≡ V.history store.old.site) × (way_of store.new.ways.items 0 ≡ way_of store.old.ways.items 0) }
     ensures stops { IfErr result (λ stop. is_of_disk stop ≡ true) }
     ensures fault { result ≡ Err Stop.SiteFault → HasRisen (V.disk_faults store.old.site) (V.disk_faults store.new.site) }
     ensures later { V.disk_faults store.old.site ≤ V.disk_faults store.new.site }
@@ -149,7 +150,6 @@ pub(crate) fn commit_items<V: Site, N: Ruled>(
     requires sound { IsSound store.old }
     requires going { store.old.halted ≡ false }
     requires rests { stage_at store.old 0 ≡ Stage.Resting }
-    requires begins { BeginsWith N.rules (N.origin.logs 0) }
     requires filled { IsFilled N.rules (N.origin.logs 0) (of_part 0 (trail_in store.old)) (pairs_of (told_in store.old)) position life (items_of items.items) }
     ensures tells { V.tells store.new.site → V.tells store.old.site }
     ensures sound { IsSound store.new }
@@ -159,6 +159,8 @@ pub(crate) fn commit_items<V: Site, N: Ruled>(
     ensures said { told_in store.new ≡ told_in store.old }
     ensures still { OnOk result (store.new.halted ≡ false) }
     ensures segment { store.new.segment ≡ store.old.segment }
+    ensures full { (of n : ℕ) → result ≡ Err (Stop.Full of n) → IsFull N.rules (of_part 0 (trail_in store.new)) (pairs_of (told_in store.new)) store.new.segment (way_of store.new.ways.items 0) of n }
+    ensures labels { OnOk result (count_labels (of_part 0 (trail_in store.new)) ≡ count_labels (of_part 0 (trail_in store.old)) + length items.items) }
     ensures stops { IfErr result (λ stop. is_of_disk stop ≡ true) }
     ensures fault { result ≡ Err Stop.SiteFault → HasRisen (V.disk_faults store.old.site) (V.disk_faults store.new.site) }
     ensures later { V.disk_faults store.old.site ≤ V.disk_faults store.new.site }

@@ -22,6 +22,6 @@ mod stop;
 mod taking;
 
 pub use committing::commit;
-pub use rounds::{Round, drive};
+pub use rounds::{End, drive};
 pub use ruled::Ruled;
 pub use stop::Stop;

@@ -1,12 +1,14 @@
 //! One round after the other.
 
-ghost use Rattle.std.specs.Prelude.{◌≡◌, ◌<◌, ◌≤◌, ◌^◌, ℕ, false, Err, IfOk, OnOk};
+ghost use Rattle.std.specs.Prelude.{◌≡◌, ◌<◌, ◌≤◌, ◌+◌, ◌^◌, ℕ, [], false, Err, IfOk, OnOk, length};
 ghost use Rattle.flow_syntax.specs.Views.{flows_of};
 ghost use Rattle.hub_store.specs.Changes.{stage_at, trail_in, told_in};
 ghost use Rattle.hub_store.specs.Sound.{IsSound};
 ghost use Rattle.hub_store.specs.Trail.{of_part};
-ghost use Rattle.part_rounds.specs.Comes.{Entered, LeavesRound};
-ghost use Rattle.part_rounds.specs.Rounds.{pairs_of, BeginsWith, HasSaid, IsFilledTo, Stands};
+ghost use Rattle.hub_store.specs.Ways.{way_of};
+ghost use Rattle.part_rounds.specs.Comes.{Entered, LeavesRound, Leaves, count_labels};
+ghost use Rattle.part_rounds.specs.Commits.{IsFull};
+ghost use Rattle.part_rounds.specs.Rounds.{pairs_of, HasSaid, NoneUnsaid, IsFilledTo, Stands};
 ghost use Rattle.part_items.specs.Plain.{items_of};
 ghost use Rattle.part_rounds.specs.Fills.{IsUnderWay};
 ghost use Rattle.part_steps.specs.States.{state_of, count_of, IsSound as IsOwnSound};
@@ -30,12 +32,20 @@ use std::alloc::Global;
 /// The place that no entry has.
 const PLACES: u64 = 1 << 61;
 
-/// What a round came to, or several.
-pub enum Round {
-    /// It goes on, in the entry that comes.
-    On(PartState),
+/// What a round came to.
+pub(crate) enum Round {
+    /// It goes on, in the entry that comes, with so many labels more.
+    On(PartState, u64),
     /// Nothing is possible any more.
     Over(PartState),
+}
+
+/// What all rounds came to.
+pub enum End {
+    /// Nothing is possible any more; the state is in the entry that would come.
+    Rest(PartState),
+    /// So many labels were settled, which are as many as there may be, or more.
+    Long(u64),
 }
 
 /// Commits what an entry was filled with, and says what it answers. The state is then in the entry that comes.
@@ -51,7 +61,6 @@ fn settle_filling<V: Site, N: Ruled>(
     requires sound { IsSound store.old }
     requires going { store.old.halted ≡ false }
     requires rests { stage_at store.old 0 ≡ Stage.Resting }
-    requires begins { BeginsWith N.rules (N.origin.logs 0) }
     requires room { position < 2 ^ 61 }
     requires filled { IsFilledTo N.rules (N.origin.logs 0) (of_part 0 (trail_in store.old)) (pairs_of (told_in store.old)) position life (items_of filling.items.items) (state_of filling.state) }
     requires way { IsUnderWay filling }
@@ -63,6 +72,9 @@ fn settle_filling<V: Site, N: Ruled>(
     ensures still { OnOk result (store.new.halted ≡ false) }
     ensures said { OnOk result (HasSaid N.rules (told_in store.new) port.new.queues) }
     ensures entered { IfOk result (λ state. Entered N.rules (N.origin.logs 0) (of_part 0 (trail_in store.new)) state) }
+    ensures unsaid { IfOk result (λ state. NoneUnsaid (state_of state) port.new.queues clients.now) }
+    ensures labels { OnOk result (count_labels (of_part 0 (trail_in store.new)) ≡ count_labels (of_part 0 (trail_in store.old)) + length filling.items.items) }
+    ensures full { (of n : ℕ) → result ≡ Err (Stop.Full of n) → IsFull N.rules (of_part 0 (trail_in store.new)) (pairs_of (told_in store.new)) store.new.segment (way_of store.new.ways.items 0) of n }
     ensures fault { result ≡ Err Stop.SiteFault → HasRisen (V.disk_faults store.old.site) (V.disk_faults store.new.site) }
     ensures say_fault { result ≡ Err Stop.SayFault → HasRisen (V.say_faults store.old.site) (V.say_faults store.new.site) }
     ensures no_clock { result ≡ Err Stop.ClockFault → ⊥ }
@@ -92,13 +104,13 @@ fn go_round<V: Site, N: Ruled, A: Activities, C: Clock>(
     requires sound { IsSound store.old }
     requires going { store.old.halted ≡ false }
     requires rests { stage_at store.old 0 ≡ Stage.Resting }
-    requires begins { BeginsWith N.rules (N.origin.logs 0) }
     requires flows { N.rules.flows ≡ flows_of flows.now }
     requires life { life ≡ N.rules.life }
     requires short { life < 2 ^ 62 }
     requires some { 0 < limit }
     requires few { limit ≤ 64 }
     requires entered { Entered N.rules (N.origin.logs 0) (of_part 0 (trail_in store.old)) state }
+    requires unsaid { NoneUnsaid (state_of state) port.old.queues clients.now }
     requires said { HasSaid N.rules (told_in store.old) port.old.queues }
     ensures tells { V.tells store.new.site → V.tells store.old.site }
     ensures sound { IsSound store.new }
@@ -106,7 +118,8 @@ fn go_round<V: Site, N: Ruled, A: Activities, C: Clock>(
     ensures stage { OnOk result (stage_at store.new 0 ≡ Stage.Resting) }
     ensures still { OnOk result (store.new.halted ≡ false) }
     ensures said { OnOk result (HasSaid N.rules (told_in store.new) port.new.queues) }
-    ensures leaves { IfOk result (λ round. LeavesRound N.rules (N.origin.logs 0) (of_part 0 (trail_in store.new)) port.new.queues clients.now round) }
+    ensures leaves { IfOk result (λ round. LeavesRound N.rules (N.origin.logs 0) (of_part 0 (trail_in store.old)) (of_part 0 (trail_in store.new)) port.new.queues clients.now round) }
+    ensures full { (of n : ℕ) → result ≡ Err (Stop.Full of n) → IsFull N.rules (of_part 0 (trail_in store.new)) (pairs_of (told_in store.new)) store.new.segment (way_of store.new.ways.items 0) of n }
     ensures fault { result ≡ Err Stop.SiteFault → HasRisen (V.disk_faults store.old.site) (V.disk_faults store.new.site) }
     ensures say_fault { result ≡ Err Stop.SayFault → HasRisen (V.say_faults store.old.site) (V.say_faults store.new.site) }
     ensures clock_fault { result ≡ Err Stop.ClockFault → HasRisen (C.clock_faults clock.old) (C.clock_faults clock.new) }
@@ -123,16 +136,16 @@ fn go_round<V: Site, N: Ruled, A: Activities, C: Clock>(
         alloc, flows, acts, clock, state, port, clients, chance, limit,
     )? {
         Coming::Filled(filling) => {
+            let more = filling.items.len() as u64;
             let state = settle_filling(alloc, store, port, clients, position, life, filling)?;
-            Ok(Round::On(state))
+            Ok(Round::On(state, more))
         }
-        Coming::Again(state) => Ok(Round::On(state)),
         Coming::Rest(state) => Ok(Round::Over(state)),
     }
 }
 
-/// Goes on round by round from a settled state, until nothing is possible any more, or for so many rounds: first what is answered already
-/// is said; the state that comes back is in the entry that would come.
+/// Goes on round by round from a settled state, until nothing is possible any more, or until there are as many labels as there may be:
+/// first what is answered already is said.
 pub fn drive<V: Site, N: Ruled, A: Activities, C: Clock>(
     alloc: Global,
     flows: &Flows,
@@ -144,18 +157,18 @@ pub fn drive<V: Site, N: Ruled, A: Activities, C: Clock>(
     state: PartState,
     life: u64,
     limit: u32,
-    rounds: u64,
-) -> Result<Round, Stop>
+    steps: u32,
+) -> Result<End, Stop>
     requires sound { IsSound store.old }
     requires going { store.old.halted ≡ false }
     requires rests { stage_at store.old 0 ≡ Stage.Resting }
-    requires begins { BeginsWith N.rules (N.origin.logs 0) }
     requires flows { N.rules.flows ≡ flows_of flows.now }
     requires life { life ≡ N.rules.life }
     requires short { life < 2 ^ 62 }
     requires some { 0 < limit }
     requires few { limit ≤ 64 }
     requires stands { Stands N.rules (N.origin.logs 0) (of_part 0 (trail_in store.old)) (state_of state) }
+    requires new { trail_in store.old ≡ [] }
     requires own { IsOwnSound state }
     requires one { count_of state ≡ 1 }
     requires room { (state_of state).position < 2 ^ 61 }
@@ -166,7 +179,8 @@ pub fn drive<V: Site, N: Ruled, A: Activities, C: Clock>(
     ensures stage { OnOk result (stage_at store.new 0 ≡ Stage.Resting) }
     ensures still { OnOk result (store.new.halted ≡ false) }
     ensures said { OnOk result (HasSaid N.rules (told_in store.new) port.new.queues) }
-    ensures leaves { IfOk result (λ round. LeavesRound N.rules (N.origin.logs 0) (of_part 0 (trail_in store.new)) port.new.queues clients.now round) }
+    ensures leaves { IfOk result (λ end. Leaves N.rules (N.origin.logs 0) (of_part 0 (trail_in store.new)) port.new.queues clients.now steps end) }
+    ensures full { (of n : ℕ) → result ≡ Err (Stop.Full of n) → IsFull N.rules (of_part 0 (trail_in store.new)) (pairs_of (told_in store.new)) store.new.segment (way_of store.new.ways.items 0) of n }
     ensures fault { result ≡ Err Stop.SiteFault → HasRisen (V.disk_faults store.old.site) (V.disk_faults store.new.site) }
     ensures say_fault { result ≡ Err Stop.SayFault → HasRisen (V.say_faults store.old.site) (V.say_faults store.new.site) }
     ensures clock_fault { result ≡ Err Stop.ClockFault → HasRisen (C.clock_faults clock.old) (C.clock_faults clock.new) }
@@ -176,13 +190,17 @@ pub fn drive<V: Site, N: Ruled, A: Activities, C: Clock>(
 {
     say_due(alloc, store, &state, port, clients)?;
     let mut state = state.enter(life);
-    for _ in 0..rounds {
+    let mut labels = 0u64;
+    'rounds: while labels < steps as u64 {
         match go_round(
             alloc, flows, acts, clock, store, port, clients, state, life, limit,
         )? {
-            Round::On(next) => state = next,
-            Round::Over(last) => return Ok(Round::Over(last)),
+            Round::On(next, more) => {
+                state = next;
+                labels += more;
+            }
+            Round::Over(last) => return Ok(End::Rest(last)),
         }
     }
-    Ok(Round::On(state))
+    Ok(End::Long(labels))
 }

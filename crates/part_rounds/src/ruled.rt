@@ -7,6 +7,7 @@ ghost use Rattle.part_rounds.specs.Rounds.{pairs_of};
 ghost use Rattle.run_rules.specs.Rules.{Rules, Follows, Answers};
 
 use hub_store::Start;
+use std::marker::Brand;
 
 /// Where a call of one partition begins whose rules are known.
 pub trait Ruled: Start {
@@ -21,4 +22,18 @@ pub trait Ruled: Start {
 
     /// What answers by the rules may be said.
     ghost answers: { (trail : List Settled) (told : List Said) (one : Said) (line : List ℕ) → Answers rules (of_part 0 trail) (pairs_of told) one.client one.number line → Self.may_say trail told one line };
+}
+
+/// The rules that a call picks: without a pick nobody asks for anything.
+impl Ruled for Brand {
+    ghost use Rattle.std.specs.Prelude.{[]};
+    ghost use Rattle.dura_model.specs.Partition.{fresh};
+
+    ghost rules = { record { flows = record { flows = []; classes = [] }; begin = fresh 0; life = 0; requests = [] } };
+
+    ghost one = { ? };
+
+    ghost follows = { λ trail told going may. tt };
+
+    ghost answers = { λ trail told one line may. tt };
 }
