@@ -11,9 +11,3 @@ returns-in_default-clause-comes g c =
     let empty = eqb-true (vec_len c.in_ok-first.first.items) 0 (sym c.is_empty.ensures ∙ c.if-not-is_empty.false) in
     let none = c.in_ok-first.ensures.none (no_items c.in_ok-first.first.items.items (omega (arith, empty))) in
     (c.in_ok-first.ensures.under_way.sound, c.in_ok-first.ensures.under_way.one, none.0, (c.in-Ok.now, none.1), subst (λ (p : Partition). NoTimer p.timers) none.0 c.in_default.ensures.none)
-
-pub returns-in-Ok-wait_until-clause-comes : goal.returns-in-Ok-wait_until-clause-comes
-returns-in-Ok-wait_until-clause-comes g c =
-    let empty = eqb-true (vec_len c.in_ok-first.first.items) 0 (sym c.is_empty.ensures ∙ c.if-not-is_empty.false) in
-    let none = c.in_ok-first.ensures.none (no_items c.in_ok-first.first.items.items (omega (arith, empty))) in
-    (c.in_ok-first.ensures.under_way.sound, c.in_ok-first.ensures.under_way.one, none.0)

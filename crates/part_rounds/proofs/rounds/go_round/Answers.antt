@@ -7,7 +7,7 @@ use Rattle.hub_store.specs.Changes.{told_in}
 use Rattle.part_items.specs.Plain.{item_of, items_of}
 use Rattle.part_rounds.specs.Comes.{Comes, FillsNext}
 use Rattle.part_rounds.specs.Fills.{Fills, IsIdle}
-use Rattle.part_rounds.specs.Rounds.{pairs_of}
+use Rattle.part_rounds.specs.Rounds.{pairs_of, NoneUnsaid}
 use Rattle.part_rounds.proofs.rounds.go_round.Goals as goal
 use Rattle.part_steps.specs.States.{state_of}
 use Rattle.timer_row.specs.Timers.{NoTimer}
@@ -46,10 +46,11 @@ returns-in-Rest-clause-leaves g c =
     let queues = c.args.port.now.queues in
     let comes = subst (Comes (flows_of c.args.flows.now) (state_of c.args.state) queues c.args.clients.now c.args.limit) c.in-Rest.is c.in_ok-filling.ensures.comes in (
       record { before = entered.before; stands = entered.stands; entered = comes.2 ∙ entered.entered; sound = comes.0; one = comes.1 },
-      (
-        comes.3.0,
-        subst (λ (p : Partition). IsIdle g.N.Ruled.rules.flows p queues c.args.clients.now comes.3.0) (sym comes.2)
-            (subst (λ (f : Flows). IsIdle f (state_of c.args.state) queues c.args.clients.now comes.3.0) (sym c.requires.flows) comes.3.1),
-      ),
-      subst (λ (p : Partition). NoTimer p.timers) (sym comes.2) comes.4,
+      record {
+        now = comes.3.0;
+        idle = subst (λ (p : Partition). IsIdle g.N.Ruled.rules.flows p queues c.args.clients.now comes.3.0) (sym comes.2)
+            (subst (λ (f : Flows). IsIdle f (state_of c.args.state) queues c.args.clients.now comes.3.0) (sym c.requires.flows) comes.3.1);
+        timers = subst (λ (p : Partition). NoTimer p.timers) (sym comes.2) comes.4;
+        said = subst (λ (p : Partition). NoneUnsaid p queues c.args.clients.now) (sym comes.2) c.requires.unsaid;
+      },
     )

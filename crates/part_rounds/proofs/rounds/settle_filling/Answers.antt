@@ -4,7 +4,8 @@ use Rattle.dura_value.specs.Items.{Entry}
 use Rattle.hub_store.specs.Changes.{trail_in, told_in}
 use Rattle.hub_store.specs.Trail.{Settled, of_part}
 use Rattle.part_items.specs.Plain.{items_of}
-use Rattle.part_rounds.specs.Rounds.{pairs_of, Stands}
+use Rattle.part_rounds.specs.Comes.{count_labels}
+use Rattle.part_rounds.specs.Rounds.{pairs_of, Stands, NoneUnsaid}
 use Rattle.part_rounds.proofs.Entries.{stands_after, place_after}
 use Rattle.part_steps.specs.States.{state_of}
 use Rattle.part_rounds.proofs.rounds.settle_filling.Goals as goal
@@ -41,3 +42,11 @@ returns-clause-entered g c =
       sound = c.enter.ensures.sound;
       one = c.enter.ensures.partitions ∙ c.requires.way.one;
     }
+
+pub returns-clause-unsaid : goal.returns-clause-unsaid
+returns-clause-unsaid g c =
+    let entered = c.enter.ensures.entered in
+    subst (λ (p : Partition). NoneUnsaid p c.say_due.new.port.queues c.args.clients.now) (sym entered) c.in_ok-say_due.ensures.none
+
+pub returns-clause-labels : goal.returns-clause-labels
+returns-clause-labels g c = ap (λ (t : List Settled). count_labels (of_part 0 t)) c.say_due.ensures.trail ∙ c.in_ok-commit_items.ensures.labels
