@@ -6,7 +6,7 @@ ghost use Rattle.client_port.specs.Views.{lines_of, queue_of};
 ghost use Rattle.dura_value.specs.Views.{answer_of};
 ghost use Rattle.request_reader.specs.Line.{request_of};
 
-use crate::queues::{Queue, Queues, all_due, first_due, queues_of};
+use crate::queues::{Queue, Queues, all_clients, all_due, first_due, queues_of};
 use answer_lines::answer_line;
 use dura_value::{Answer, Name, Request};
 use std::alloc::{AllocError, Global};
@@ -74,6 +74,13 @@ impl Port {
             queues,
             lines: Vec::new(alloc),
         })
+    }
+
+    /// The clients, in the order of their first requests.
+    pub fn clients(&self, alloc: Global) -> Result<Vec<Name>, AllocError>
+        ensures { IfOk result (λ names. names.items ≡ map (λ q. q.client) self.now.queues) }
+    {
+        all_clients(alloc, &self.queues.all)
     }
 
     /// Each client's first request that wasn't said.

@@ -53,6 +53,17 @@ pub(crate) fn all_due(alloc: Global, queues: &[Queue]) -> Result<Vec<&Request>, 
     Ok(due)
 }
 
+/// The clients of the queues.
+pub(crate) fn all_clients(alloc: Global, queues: &[Queue]) -> Result<Vec<Name>, AllocError>
+    ensures { IfOk result (λ names. names.items ≡ map (λ q. q.client) (map queue_of queues.now)) }
+{
+    let mut names = Vec::new(alloc);
+    for queue in queues {
+        names.push(copy_of(&queue.client)?)?;
+    }
+    Ok(names)
+}
+
 /// One more was said, where there is one.
 #[tactic(auto, using(crate::proofs::Dues::counted, crate::proofs::Dues::all_said))]
 fn count_said(queue: &mut Queue)
