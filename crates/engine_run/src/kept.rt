@@ -1,14 +1,14 @@
 //! Whether what was taken before is what is asked for.
 
-ghost use Rattle.std.specs.Prelude.{◌≡◌, map, IfOk, IfSome, IfNone};
-ghost use Rattle.std.specs.List.{All, Contains};
-ghost use Rattle.engine_run.specs.Kept.{Clashes};
+ghost use Rattle.std.specs.Prelude.{◌≡◌, map, IfOk, IfSome, IfNone, IfErr, OnOk};
+ghost use Rattle.engine_run.specs.Kept.{clashes, IsClash, NoClash, Refuses};
 ghost use Rattle.part_steps.specs.States.{state_of};
 ghost use Rattle.request_reader.specs.Line.{request_of};
 
 use dura_value::{Id, Request};
 use part_steps::PartState;
 use request_reader::asks_same;
+use run_causes::Cause;
 use std::alloc::AllocError;
 
 /// Whether another request was taken under the client's name and number.
@@ -19,5 +19,48 @@ fn clashes(state: &PartState, request: &Request) -> Result<bool, AllocError>
     match state.taken(&client, request.number) {
         Some(message) => Ok(!asks_same(message, &request.message)),
         None => Ok(false),
+    }
+}
+
+/// The first request, by its client's name and its number, under whose name and number another was taken.
+fn first_clash<'a>(
+    state: &PartState,
+    requests: &'a [Request],
+) -> Result<Option<&'a Request>, AllocError>
+    ensures none { IfOk result (λ found. IfNone found (NoClash (state_of state.now) (map request_of requests.now))) }
+    ensures some { IfOk result (λ found. IfSome found (λ r. IsClash (state_of state.now) (map request_of requests.now) r.now.client r.now.number)) }
+{
+    let mut first: Option<&Request> = None;
+    for request in requests {
+        if clashes(state, request)? {
+            first = match first {
+                Some(other) if comes_before(other, request) => Some(other),
+                _ => Some(request),
+            };
+        }
+    }
+    Ok(first)
+}
+
+/// Whether a request comes before another, by its client's name and its number.
+fn comes_before(one: &Request, other: &Request) -> bool {
+    one.client < other.client || one.client == other.client && one.number <= other.number
+}
+
+/// Refuses requests where another was taken under the name and the number of one of them.
+pub(crate) fn refuse_clash(state: &PartState, requests: &[Request]) -> Result<(), Cause>
+    ensures ok { OnOk result (NoClash (state_of state.now) (map request_of requests.now)) }
+    ensures err { IfErr result (Refuses (state_of state.now) (map request_of requests.now)) }
+{
+    match first_clash(state, requests) {
+        Ok(None) => Ok(()),
+        Ok(Some(request)) => match request.client.clone() {
+            Ok(client) => Err(Cause::Clash {
+                client,
+                number: request.number,
+            }),
+            Err(_) => Err(Cause::Memory),
+        },
+        Err(_) => Err(Cause::Memory),
     }
 }

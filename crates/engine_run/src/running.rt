@@ -1,16 +1,17 @@
 //! Going on from what was recovered.
 
-ghost use Rattle.std.specs.Prelude.{◌≡◌, ◌<◌, ◌≤◌, ◌^◌, [], ◌∷◌, List, map, false, IfOk, IfSome, IfNone};
+ghost use Rattle.std.specs.Prelude.{◌≡◌, ◌⊎◌, ◌<◌, ◌≤◌, ◌^◌, ℕ, [], ◌∷◌, List, map, false, Some, None, IfOk, IfSome, IfNone};
 ghost use Rattle.std.specs.List.{All};
 ghost use Rattle.client_port.specs.Clients.{clients_of};
 ghost use Rattle.client_port.specs.Ports.{due_of, queues_of};
-ghost use Rattle.engine_run.specs.Ends.{EndsAs, IsFirst};
-ghost use Rattle.engine_run.specs.Picks.{IsGoing};
+ghost use Rattle.engine_run.specs.Ends.{EndsAs, GoesOn, Stays, IsLateCause, IsRestCause, cause_of_stop};
+ghost use Rattle.engine_run.specs.Picks.{rules_with};
+ghost use Rattle.engine_run.specs.Prepared.{job_of, CanGoOn};
 ghost use Rattle.flow_syntax.specs.Views.{flows_of};
 ghost use Rattle.hub_store.specs.Changes.{stage_at, trail_in, told_in};
-ghost use Rattle.hub_store.specs.Moments.{AtEveryMoment};
 ghost use Rattle.hub_store.specs.Opened.{IsOrigin, HasBegun};
 ghost use Rattle.hub_store.specs.Sound.{IsSound};
+ghost use Rattle.hub_store.specs.Trail.{of_part};
 ghost use Rattle.part_rounds.specs.Rounds.{HasSaid, Stands};
 ghost use Rattle.part_steps.specs.States.{state_of, count_of, IsSound as IsOwnSound};
 ghost use Rattle.request_reader.specs.Line.{request_of};
@@ -35,7 +36,9 @@ use std::alloc::{AllocError, Global};
 const PLACES: u64 = 1 << 61;
 
 /// Why a run ends that goes on no more.
-fn cause_of(stop: Stop) -> Cause {
+fn cause_of(stop: Stop) -> Cause
+    ensures { result ≡ cause_of_stop stop }
+{
     match stop {
         Stop::Full { partition, length } => Cause::Full { partition, length },
         Stop::SiteFault => Cause::SiteFault,
@@ -46,7 +49,10 @@ fn cause_of(stop: Stop) -> Cause {
 }
 
 /// The first request whose answer wasn't said, by its client's name.
-fn first_unsaid<'a>(port: &'a Port, clients: &[Name]) -> Option<&'a Request> {
+fn first_unsaid<'a>(port: &'a Port, clients: &[Name]) -> Option<&'a Request>
+    ensures none { IfNone result (All (λ name. due_of name port.now.queues ≡ None) clients.now) }
+    ensures some { IfSome result (λ r. (name : List ℕ) × (due_of name port.now.queues ≡ Some (request_of r.now))) }
+{
     let mut first: Option<&Request> = None;
     for client in clients {
         if let Some(request) = port.next_of(client) {
@@ -60,7 +66,9 @@ fn first_unsaid<'a>(port: &'a Port, clients: &[Name]) -> Option<&'a Request> {
 }
 
 /// Why a run ends where nothing is possible any more.
-fn rest_cause(port: &Port, clients: &[Name]) -> Result<Cause, AllocError> {
+fn rest_cause(port: &Port, clients: &[Name]) -> Result<Cause, AllocError>
+    ensures { IfOk result (IsRestCause port.now.queues clients.now) }
+{
     match first_unsaid(port, clients) {
         Some(request) => Ok(Cause::Waiting {
             client: request.client.clone()?,
@@ -82,7 +90,35 @@ fn drive_on<V: Site, N: Ruled, C: Clock, A: Activities>(
     state: PartState,
     life: u64,
     options: RunOptions,
-) -> Cause {
+) -> Cause
+    requires sound { IsSound store.old }
+    requires going { store.old.halted ≡ false }
+    requires rests { stage_at store.old 0 ≡ Stage.Resting }
+    requires new { trail_in store.old ≡ [] }
+    requires segment { store.old.segment ≡ options.segment }
+    requires fits { 0 < options.segment }
+    requires flows { N.rules.flows ≡ flows_of flows.now }
+    requires life { life ≡ N.rules.life }
+    requires short { life < 2 ^ 62 }
+    requires some { 0 < options.batch }
+    requires few { options.batch ≤ 64 }
+    requires stands { Stands N.rules (N.origin.logs 0) (of_part 0 (trail_in store.old)) (state_of state) }
+    requires own { IsOwnSound state }
+    requires one { count_of state ≡ 1 }
+    requires room { (state_of state).position < 2 ^ 61 }
+    requires said { HasSaid N.rules (told_in store.old) port.old.queues }
+    requires clients { clients.now ≡ clients_of N.rules.requests }
+    ensures tells { V.tells store.new.site → V.tells store.old.site }
+    ensures sound { IsSound store.new }
+    ensures ends { V.tells store.new.site → EndsAs N.may_follow N.may_say N.rules N.origin (V.history store.new.site) (trail_in store.new) options.steps options.segment result }
+    ensures late { IsLateCause result }
+    ensures fault { result ≡ Cause.SiteFault → HasRisen (V.disk_faults store.old.site) (V.disk_faults store.new.site) }
+    ensures say_fault { result ≡ Cause.SayFault → HasRisen (V.say_faults store.old.site) (V.say_faults store.new.site) }
+    ensures clock_fault { result ≡ Cause.ClockFault → HasRisen (C.clock_faults clock.old) (C.clock_faults clock.new) }
+    ensures later { V.disk_faults store.old.site ≤ V.disk_faults store.new.site }
+    ensures say_later { V.say_faults store.old.site ≤ V.say_faults store.new.site }
+    ensures clock_later { C.clock_faults clock.old ≤ C.clock_faults clock.new }
+{
     match drive(
         alloc,
         flows,
@@ -96,14 +132,20 @@ fn drive_on<V: Site, N: Ruled, C: Clock, A: Activities>(
         options.batch,
         options.steps,
     ) {
-        Ok(End::Rest(_)) => rest_cause(port, clients).unwrap_or(Cause::Memory),
+        Ok(End::Rest(_)) => match rest_cause(port, clients) {
+            Ok(cause) => cause,
+            Err(_) => Cause::Memory,
+        },
         Ok(End::Long(labels)) => Cause::Long { labels },
         Err(stop) => cause_of(stop),
     }
 }
 
 /// What clients ask, client by client, and the clients.
-fn ports_of(alloc: Global, requests: Vec<Request>) -> Result<(Port, Vec<Name>), AllocError> {
+fn ports_of(alloc: Global, requests: Vec<Request>) -> Result<(Port, Vec<Name>), AllocError>
+    ensures queues { IfOk result (λ both. both.0.queues ≡ queues_of (map request_of requests.items)) }
+    ensures clients { IfOk result (λ both. both.1.items ≡ map (λ q. q.client) both.0.queues) }
+{
     let port = Port::new(alloc, requests)?;
     let clients = port.clients(alloc)?;
     Ok((port, clients))
@@ -117,7 +159,27 @@ pub(crate) fn go<V: Site, N: Ruled, C: Clock, A: Activities>(
     acts: &A,
     prepared: Prepared,
     options: RunOptions,
-) -> Ended<V, C> {
+) -> Ended<V, C>
+    requires can { CanGoOn prepared }
+    requires some { 0 < options.batch }
+    requires few { options.batch ≤ 64 }
+    requires fits { 0 < options.segment }
+    requires short { options.segment ≤ 2 ^ 31 }
+    requires rules { N.rules ≡ rules_with (job_of prepared) (state_of prepared.state) prepared.life }
+    requires stands { Stands N.rules (N.origin.logs 0) [] (state_of prepared.state) }
+    requires origin { IsOrigin N.origin }
+    requires begun { V.tells site → HasBegun N.origin (V.history site) (prepared.log ∷ []) }
+    ensures told { V.tells result.site → V.tells site }
+    ensures status { result.status ≡ status_of result.cause }
+    ensures late { IsLateCause result.cause }
+    ensures goes { V.tells result.site → GoesOn N.may_follow N.may_say N.rules N.origin (V.history result.site) result.trail options.steps options.segment result.cause ⊎ Stays (V.history site) (V.history result.site) result.trail result.cause }
+    ensures fault { result.cause ≡ Cause.SiteFault → HasRisen (V.disk_faults site) (V.disk_faults result.site) }
+    ensures say_fault { result.cause ≡ Cause.SayFault → HasRisen (V.say_faults site) (V.say_faults result.site) }
+    ensures clock_fault { result.cause ≡ Cause.ClockFault → HasRisen (C.clock_faults clock) (C.clock_faults result.clock) }
+    ensures later { V.disk_faults site ≤ V.disk_faults result.site }
+    ensures say_later { V.say_faults site ≤ V.say_faults result.site }
+    ensures clock_later { C.clock_faults clock ≤ C.clock_faults result.clock }
+{
     let Prepared {
         flows,
         digest: _,

@@ -1,0 +1,38 @@
+-- What a run promises of every moment.
+use Rattle.std.specs.Prelude.{◌≡◌, ◌⊎◌, ◌≤◌, ◌<◌, ℕ, List, [], length}
+use Rattle.dura_model.specs.Partition.{Partition}
+use Rattle.dura_value.specs.Items.{Entry}
+use Rattle.engine_run.specs.Ends.{RunEndsAs}
+use Rattle.engine_run.specs.Job.{Job, Keeps, AreGivenIn}
+use Rattle.engine_run.specs.Picks.{rules_with}
+use Rattle.engine_run.specs.Prepared.{IsOpening}
+use Rattle.hub_store.specs.Origin.{Origin}
+use Rattle.hub_store.specs.Trail.{Settled, settled_at}
+use Rattle.part_files.specs.Placing.{next_life}
+use Rattle.run_causes.specs.declared.cause.Cause.{Cause}
+use Rattle.run_laws.specs.Leaves.{StandsOn}
+use Rattle.site_model.specs.History.{Step, tape, back_to, IsImage}
+use Rattle.site_model.specs.Moments.{Always}
+
+-- From where the logs are opened on, at each moment, a crash leaves files that stand for the run at the start, then what was settled
+-- by then, then no more than the one frame whose gate was being written; and what was said by then answers requests as that run does.
+pub record RunsOn (job : Job) (entries : List Entry) (begin : Partition) (old new : List Step) (trail : List Settled) (most_labels segment_length : ℕ) (cause : Cause) : Type 0 where
+  pub origin : Origin
+  pub kept : (origin.logs 0).entries ≡ entries
+  pub silent : tape origin.steps ≡ tape old
+  pub opening : Always (IsOpening job entries old) old origin.steps
+  pub further : Always (λ steps. Unit {0}) origin.steps new
+  pub nothing : (moment : ℕ) → moment < length origin.steps → settled_at moment trail ≡ []
+  pub stands : (moment : ℕ) → length origin.steps ≤ moment → moment ≤ length new → (image : ℕ → List ℕ) → IsImage (back_to moment new) image
+      → StandsOn (rules_with job begin (next_life entries)) job.digest origin (back_to moment new) (settled_at moment trail) image
+  pub ends : RunEndsAs (rules_with job begin (next_life entries)) origin new trail most_labels segment_length cause
+
+-- it ends before the logs are opened: nothing was settled
+pub record EndsEarly (job : Job) (entries : List Entry) (old new : List Step) (trail : List Settled) : Type 0 where
+  pub nothing : trail ≡ []
+  pub opening : Always (IsOpening job entries old) old new
+
+-- Where the files as they were read at the start stood for a run, by these entries: each crash leaves what it may.
+abbrev pub Headline : Job → (files : ℕ → List ℕ) → (old new : List Step) → List Settled → (most_labels segment_length : ℕ) → Cause → Type 0
+Headline job files old new trail most_labels segment_length cause = (entries : List Entry) (begin : Partition) → Keeps job files entries begin → AreGivenIn job entries
+    → RunsOn job entries begin old new trail most_labels segment_length cause ⊎ EndsEarly job entries old new trail
