@@ -5,7 +5,7 @@ use Rattle.dura_value.specs.Items.{Entry}
 use Rattle.engine_run.specs.Ends.{RunEndsAs}
 use Rattle.engine_run.specs.Job.{Job, Keeps, AreGivenIn}
 use Rattle.engine_run.specs.Picks.{rules_with}
-use Rattle.engine_run.specs.Prepared.{IsOpening}
+use Rattle.engine_run.specs.Opened.{IsOpening}
 use Rattle.hub_store.specs.Origin.{Origin}
 use Rattle.hub_store.specs.Trail.{Settled, settled_at}
 use Rattle.part_files.specs.Placing.{next_life}

@@ -1,24 +1,16 @@
 -- What a run begins with.
-use Rattle.std.specs.Prelude.{◌≡◌, ◌⊎◌, ℕ, ◌≤◌, ◌<◌, ◌^◌, List, map, Ok}
-use Rattle.commit_log.specs.declared.states.Resting.{Resting}
-use Rattle.commit_log.specs.Outcomes.{RestsAs}
-use Rattle.commit_log.specs.Segment.{first_gate}
-use Rattle.dura_model.specs.Partition.{Partition}
+use Rattle.std.specs.Prelude.{◌≡◌, ℕ, ◌≤◌, ◌<◌, ◌^◌, List, map}
 use Rattle.dura_value.specs.Items.{Entry}
-use Rattle.engine_run.specs.Job.{Job, Keeps, AreGivenIn}
+use Rattle.engine_run.specs.Job.{Job, Keeps}
+use Rattle.engine_run.specs.Opened.{IsOpened}
 use Rattle.engine_run.specs.declared.prepared.Prepared.{Prepared}
 use Rattle.flow_syntax.specs.Views.{flows_of}
-use Rattle.part_files.specs.Kept.{nothing, kept_in, first_of, decoded}
-use Rattle.part_files.specs.Logs.{first_log, second_log}
-use Rattle.part_files.specs.Placing.{labels_in, next_life}
-use Rattle.part_files.specs.Stands.{Stands}
+use Rattle.part_files.specs.Placing.{next_life}
 use Rattle.part_steps.specs.States.{state_of, count_of, IsSound}
 use Rattle.request_reader.specs.Line.{request_of}
 use Rattle.run_causes.specs.declared.cause.Cause.{Cause}
 use Rattle.run_causes.specs.declared.cause.Cause.TheVariants.{Done, Usage, Waiting, Long, SayFault, ClockFault, Unclosed, Full}
-use Rattle.run_laws.specs.Begins.{header_with}
-use Rattle.site_model.specs.History.{Step, changes_of, content_of, tape, Leaves, IsImage}
-use Rattle.site_model.specs.Moments.{Always}
+use Rattle.site_model.specs.History.{Step}
 
 -- what the input asks for
 abbrev pub job_of : Prepared → Job
@@ -31,32 +23,12 @@ pub record CanGoOn (p : Prepared) : Type 0 where
   pub younger : (state_of p.state).incarnation ≤ p.life
   pub young : p.life < 2 ^ 62
 
--- Until the logs are opened nothing is said, and a crash leaves what it could have left at the start, or files that stand for the run
--- at the start, by these entries.
-pub record IsOpening (job : Job) (entries : List Entry) (old steps : List Step) : Type 0 where
-  pub silent : tape steps ≡ tape old
-  pub images : (image : ℕ → List ℕ) → IsImage steps image → IsImage old image ⊎ Stands job.flows job.digest image (labels_in entries)
-
--- The log rests in one of the two files of the one partition, with the entries that the files kept, and the other keeps nothing; all of
--- it is on the disk.
-pub record IsOpened (digest : ℕ) (entries : List Entry) (steps : List Step) (log : Resting) : Type 0 where
-  pub payloads : List (List ℕ)
-  pub read : decoded first_gate (first_of (header_with digest)) payloads ≡ Ok entries
-  pub rests : RestsAs steps (header_with digest) payloads log
-  pub other : ℕ
-  pub files : ((log.file ≡ first_log 0) × (other ≡ second_log 0)) ⊎ ((log.file ≡ second_log 0) × (other ≡ first_log 0))
-  pub empty : (image : List ℕ) → Leaves (changes_of other steps) image → kept_in 0 image ≡ nothing
-
 -- What the files held made the state; the life that begins is one later than the last; and the log is opened.
 pub record IsPrepared (files : ℕ → List ℕ) (steps : List Step) (p : Prepared) : Type 0 where
   pub entries : List Entry
   pub keeps : Keeps (job_of p) files entries (state_of p.state)
   pub life_is : p.life ≡ next_life entries
   pub opened : IsOpened p.digest entries steps p.log
-
--- so it goes from one moment to another, where the files stood for a run
-abbrev pub OpensOnly : Job → (old new : List Step) → Type 0
-OpensOnly job old new = (entries : List Entry) (state : Partition) → Keeps job (λ file. content_of file old) entries state → AreGivenIn job entries → Always (IsOpening job entries old) old new
 
 -- why a run may end before it goes on
 abbrev pub IsEarlyCause : Cause → Type 0

@@ -36,7 +36,7 @@ module _ (digest : ℕ) (entries : List Entry) (gate : ℕ) where
   in_second : entries_in (logs_of (alone_with digest) nothing (keeps (header_with digest) entries gate)) ≡ Some entries
   in_second = ap (λ (f : Option Refusal). entries_in (unless (or_else f None) (log_in (second_log 0) entries gate))) (faultless (second_log 0))
 
-  entries_alone : (files : ℕ → List ℕ) (file other : ℕ) → ((file ≡ first_log 0) × (other ≡ second_log 0)) ⊎ ((file ≡ second_log 0) × (other ≡ first_log 0))
+  pub entries_alone : (files : ℕ → List ℕ) (file other : ℕ) → ((file ≡ first_log 0) × (other ≡ second_log 0)) ⊎ ((file ≡ second_log 0) × (other ≡ first_log 0))
       → kept_in 0 (files file) ≡ keeps (header_with digest) entries gate → kept_in 0 (files other) ≡ nothing → entries_in (logs_in (alone_with digest) files) ≡ Some entries
   entries_alone files file other places here none = elim places [
     | inl first ↦

@@ -1,0 +1,5 @@
+pub mod Picked
+pub mod Opens
+pub mod Standing
+pub mod Words
+pub mod Queues

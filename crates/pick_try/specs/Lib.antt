@@ -1,0 +1,5 @@
+pub mod Job
+pub mod Picks
+pub mod Opened
+pub mod Rec
+pub mod Rnd
