@@ -1,5 +1,5 @@
 -- What reading the input files answers.
-use Rattle.std.specs.Prelude.{◌≡◌, ℕ, List, length, map, Bool, false, true, Option, Some, None, Result, Ok, Err, Vec}
+use Rattle.std.specs.Prelude.{◌≡◌, ℕ, List, length, map, false, true, Option, Some, None, Result, Ok, Err, Vec}
 use Rattle.std.specs.declared.alloc.Global.{Global}
 use Rattle.dura_value.specs.Digest.{fnv}
 use Rattle.dura_value.specs.declared.messages.Request.{Request as OwnRequest}
