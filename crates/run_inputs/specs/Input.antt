@@ -85,10 +85,12 @@ RequestsRead bytes (Err (Clash client number)) = requests_cause (requests_in byt
 RequestsRead bytes (Err Memory) = Unit {0}
 RequestsRead bytes (Err other) = ⊥
 
+-- the requests of a whole file 1
 abbrev pub ReadsRequestFile : List ℕ → Result (Vec OwnRequest Global) Cause → Type 0
 ReadsRequestFile bytes (Ok requests) = (requests_refused bytes ≡ None) × (requests_in bytes ≡ Ok (map request_of requests.items))
 ReadsRequestFile bytes (Err cause) = Refuses (requests_refused bytes) cause
 
+-- whether file 2 is empty
 abbrev pub ReadsPlan : List ℕ → Result (Unit {0}) Cause → Type 0
 ReadsPlan bytes (Ok done) = plan_refused bytes ≡ None
 ReadsPlan bytes (Err cause) = Refuses (plan_refused bytes) cause
@@ -98,14 +100,15 @@ ReadsPlan bytes (Err cause) = Refuses (plan_refused bytes) cause
 -- File 0 is accepted, and these are its flows and its digest.
 pub record HasFlows (files : ℕ → List ℕ) (flows : Flows) (digest : ℕ) : Type 0 where
   pub accepted : flows_refusal files ≡ None
-  pub in_file : flows_in (files 0) ≡ Ok flows
-  pub of_bytes : digest ≡ fnv (files 0)
+  pub flows_in_file : flows_in (files 0) ≡ Ok flows
+  pub digest_of_file : digest ≡ fnv (files 0)
 
+-- what reading the flows file answers
 abbrev pub ReadsFlowFile : (ℕ → List ℕ) → Result FlowFile Cause → Type 0
 ReadsFlowFile files (Ok file) = HasFlows files (flows_of file.flows) file.digest
 ReadsFlowFile files (Err cause) = Refuses (flows_refusal files) cause
 
--- the requests of file 1, where file 2 is empty
+-- the requests of file 1, unless it is refused, or file 2
 abbrev pub ReadsRest : (ℕ → List ℕ) → Result (Vec OwnRequest Global) Cause → Type 0
 ReadsRest files (Ok requests) = (rest_refusal files ≡ None) × (requests_in (files 1) ≡ Ok (map request_of requests.items))
 ReadsRest files (Err cause) = Refuses (rest_refusal files) cause
@@ -117,6 +120,7 @@ pub record HasInput (files : ℕ → List ℕ) (flows : Flows) (digest : ℕ) (r
   pub requests_in_file : requests_in (files 1) ≡ Ok requests
   pub digest_of_file : digest ≡ fnv (files 0)
 
+-- what reading the input files answers
 abbrev pub ReadsInput : (ℕ → List ℕ) → Result Input Cause → Type 0
 ReadsInput files (Ok input) = HasInput files (flows_of input.file.flows) input.file.digest (map request_of input.requests.items)
 ReadsInput files (Err cause) = Refuses (refusal_of files) cause

@@ -17,6 +17,7 @@ use Rattle.run_causes.specs.declared.cause.PlanPlace.TheVariants as places
 abbrev pub most_input : ℕ
 most_input = 16_777_216
 
+-- more bytes than that
 abbrev pub is_too_long : List ℕ → Bool
 is_too_long bytes = nat_lt most_input (length bytes)
 
@@ -24,16 +25,18 @@ is_too_long bytes = nat_lt most_input (length bytes)
 abbrev pub too_long_or : ℕ → List ℕ → Option Cause → Option Cause
 too_long_or file bytes reason = if is_too_long bytes then Some (TooLong file) else reason
 
+-- a fault of the flows as a cause has it
 abbrev pub flows_fault : flows.Fault → FlowsFault
 flows_fault flows.not_json = NotJson
 flows_fault (flows.bad_shape path) = BadShape path
 flows_fault (flows.unknown_name path) = UnknownName path
 
--- why what was read is refused
+-- why the flows are refused, by what reading them gives
 abbrev pub flows_cause : Result Flows flows.Fault → Option Cause
 flows_cause (Ok read) = None
 flows_cause (Err fault) = Some (BadFlows (flows_fault fault))
 
+-- why the requests are
 abbrev pub requests_cause : Result (List Request) requests.Fault → Option Cause
 requests_cause (Ok read) = None
 requests_cause (Err (requests.bad_line line)) = Some (BadRequests line)
@@ -43,7 +46,7 @@ requests_cause (Err (requests.clash client number)) = Some (Clash client number)
 abbrev pub plan_cause : List ℕ → Option Cause
 plan_cause bytes = if length bytes == 0 then None else Some (BadPlan places.Whole)
 
--- why a file is refused, from its bytes
+-- why a file with these bytes is refused: its length comes first
 abbrev pub flows_refused : List ℕ → Option Cause
 flows_refused bytes = too_long_or 0 bytes (flows_cause (flows_in bytes))
 

@@ -2,7 +2,8 @@
 //!
 //! - `files` reads a file that isn't too long.
 //! - `flows` reads the flows, and `input` all three files.
-//! - `specs/Refusal` says what files are refused for, and `examples` has some that are.
+//! - `specs/Refusal` says why files are refused, and `specs/Input` what a call answers.
+//! - `examples` is what these say of single files (`specs/Examples`).
 #![tactic(auto)]
 
 mod examples;
