@@ -1,0 +1,126 @@
+-- What reading the input files answers.
+use Rattle.std.specs.Prelude.{◌≡◌, ℕ, List, length, map, false, true, Option, Some, None, Result, Ok, Err, Vec}
+use Rattle.std.specs.declared.alloc.Global.{Global}
+use Rattle.dura_value.specs.Digest.{fnv}
+use Rattle.dura_value.specs.declared.messages.Request.{Request as OwnRequest}
+use Rattle.flow_syntax.specs.Syntax.{Flows}
+use Rattle.flow_syntax.specs.Views.{flows_of}
+use Rattle.flow_reader.specs.Files.{flows_in}
+use Rattle.request_reader.specs.Line.{Request, request_of}
+use Rattle.request_reader.specs.Requests.{requests_in}
+use Rattle.run_causes.specs.declared.cause.Cause.{Cause}
+use Rattle.run_causes.specs.declared.cause.Cause.TheVariants.{BadFlows, BadRequests, Clash, BadPlan, TooLong, SiteFault, Memory}
+use Rattle.run_inputs.specs.declared.flows.FlowFile.{FlowFile}
+use Rattle.run_inputs.specs.declared.input.Input.{Input}
+use Rattle.run_inputs.specs.Refusal.{is_too_long, flows_cause, requests_cause, requests_refused, plan_refused, flows_refusal, rest_refusal, refusal_of}
+
+-- ---- why nothing is read
+
+-- what reading a file may end with
+abbrev pub IsFileCause : Cause → Type 0
+IsFileCause (TooLong file) = Unit {0}
+IsFileCause SiteFault = Unit {0}
+IsFileCause Memory = Unit {0}
+IsFileCause other = ⊥
+
+-- what reading the flows file may end with
+abbrev pub IsFlowsCause : Cause → Type 0
+IsFlowsCause (BadFlows fault) = Unit {0}
+IsFlowsCause (TooLong file) = Unit {0}
+IsFlowsCause SiteFault = Unit {0}
+IsFlowsCause Memory = Unit {0}
+IsFlowsCause other = ⊥
+
+-- what reading the input files may end with
+abbrev pub IsInputCause : Cause → Type 0
+IsInputCause (BadFlows fault) = Unit {0}
+IsInputCause (BadRequests line) = Unit {0}
+IsInputCause (Clash client number) = Unit {0}
+IsInputCause (BadPlan place) = Unit {0}
+IsInputCause (TooLong file) = Unit {0}
+IsInputCause SiteFault = Unit {0}
+IsInputCause Memory = Unit {0}
+IsInputCause other = ⊥
+
+-- the reason why the files are refused, or a fault of the outside, or want of memory
+abbrev pub Refuses : Option Cause → Cause → Type 0
+Refuses refusal (BadFlows fault) = refusal ≡ Some (BadFlows fault)
+Refuses refusal (BadRequests line) = refusal ≡ Some (BadRequests line)
+Refuses refusal (Clash client number) = refusal ≡ Some (Clash client number)
+Refuses refusal (BadPlan place) = refusal ≡ Some (BadPlan place)
+Refuses refusal (TooLong file) = refusal ≡ Some (TooLong file)
+Refuses refusal SiteFault = Unit {0}
+Refuses refusal Memory = Unit {0}
+Refuses refusal other = ⊥
+
+-- ---- one file
+
+-- its length, unless it is too long
+abbrev pub LengthRead : List ℕ → ℕ → Result ℕ Cause → Type 0
+LengthRead content file (Ok n) = (n ≡ length content) × (is_too_long content ≡ false)
+LengthRead content file (Err (TooLong other)) = (other ≡ file) × (is_too_long content ≡ true)
+LengthRead content file (Err SiteFault) = Unit {0}
+LengthRead content file (Err other) = ⊥
+
+-- the whole file, unless it is too long
+abbrev pub FileRead : List ℕ → ℕ → Result (Vec ℕ Global) Cause → Type 0
+FileRead content file (Ok bytes) = (bytes.items ≡ content) × (is_too_long content ≡ false)
+FileRead content file (Err (TooLong other)) = (other ≡ file) × (is_too_long content ≡ true)
+FileRead content file (Err SiteFault) = Unit {0}
+FileRead content file (Err Memory) = Unit {0}
+FileRead content file (Err other) = ⊥
+
+-- the flows that the bytes give, and their digest
+abbrev pub FlowsRead : List ℕ → Result FlowFile Cause → Type 0
+FlowsRead bytes (Ok file) = (flows_in bytes ≡ Ok (flows_of file.flows)) × (file.digest ≡ fnv bytes)
+FlowsRead bytes (Err (BadFlows fault)) = flows_cause (flows_in bytes) ≡ Some (BadFlows fault)
+FlowsRead bytes (Err Memory) = Unit {0}
+FlowsRead bytes (Err other) = ⊥
+
+-- the requests that the bytes give
+abbrev pub RequestsRead : List ℕ → Result (Vec OwnRequest Global) Cause → Type 0
+RequestsRead bytes (Ok requests) = requests_in bytes ≡ Ok (map request_of requests.items)
+RequestsRead bytes (Err (BadRequests line)) = requests_cause (requests_in bytes) ≡ Some (BadRequests line)
+RequestsRead bytes (Err (Clash client number)) = requests_cause (requests_in bytes) ≡ Some (Clash client number)
+RequestsRead bytes (Err Memory) = Unit {0}
+RequestsRead bytes (Err other) = ⊥
+
+-- the requests of a whole file 1
+abbrev pub ReadsRequestFile : List ℕ → Result (Vec OwnRequest Global) Cause → Type 0
+ReadsRequestFile bytes (Ok requests) = (requests_refused bytes ≡ None) × (requests_in bytes ≡ Ok (map request_of requests.items))
+ReadsRequestFile bytes (Err cause) = Refuses (requests_refused bytes) cause
+
+-- whether file 2 is empty
+abbrev pub ReadsPlan : List ℕ → Result (Unit {0}) Cause → Type 0
+ReadsPlan bytes (Ok done) = plan_refused bytes ≡ None
+ReadsPlan bytes (Err cause) = Refuses (plan_refused bytes) cause
+
+-- ---- the files
+
+-- File 0 is accepted, and these are its flows and its digest.
+pub record HasFlows (files : ℕ → List ℕ) (flows : Flows) (digest : ℕ) : Type 0 where
+  pub accepted : flows_refusal files ≡ None
+  pub flows_in_file : flows_in (files 0) ≡ Ok flows
+  pub digest_of_file : digest ≡ fnv (files 0)
+
+-- what reading the flows file answers
+abbrev pub ReadsFlowFile : (ℕ → List ℕ) → Result FlowFile Cause → Type 0
+ReadsFlowFile files (Ok file) = HasFlows files (flows_of file.flows) file.digest
+ReadsFlowFile files (Err cause) = Refuses (flows_refusal files) cause
+
+-- the requests of file 1, unless it is refused, or file 2
+abbrev pub ReadsRest : (ℕ → List ℕ) → Result (Vec OwnRequest Global) Cause → Type 0
+ReadsRest files (Ok requests) = (rest_refusal files ≡ None) × (requests_in (files 1) ≡ Ok (map request_of requests.items))
+ReadsRest files (Err cause) = Refuses (rest_refusal files) cause
+
+-- The input files are accepted, and these are their flows, the digest of the flows file, and their requests.
+pub record HasInput (files : ℕ → List ℕ) (flows : Flows) (digest : ℕ) (requests : List Request) : Type 0 where
+  pub accepted : refusal_of files ≡ None
+  pub flows_in_file : flows_in (files 0) ≡ Ok flows
+  pub requests_in_file : requests_in (files 1) ≡ Ok requests
+  pub digest_of_file : digest ≡ fnv (files 0)
+
+-- what reading the input files answers
+abbrev pub ReadsInput : (ℕ → List ℕ) → Result Input Cause → Type 0
+ReadsInput files (Ok input) = HasInput files (flows_of input.file.flows) input.file.digest (map request_of input.requests.items)
+ReadsInput files (Err cause) = Refuses (refusal_of files) cause
