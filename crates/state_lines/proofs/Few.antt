@@ -1,5 +1,5 @@
 -- Lists of no id and of one, and the tables of the examples.
-use Rattle.std.proofs.Common.{◌≡◌, Bool, true, false, List, [], ◌∷◌, ◌++◌, codes, ℕ, Option, Some, None, is_some, cond, refl, sym, subst}
+use Rattle.std.proofs.Common.{◌≡◌, Bool, true, false, [], ◌∷◌, ◌++◌, codes, Some, None, is_some, cond, refl, sym, subst}
 use Rattle.std.specs.Fmt.{digits}
 use Rattle.dura_model.specs.Partition.{fresh}
 use Rattle.dura_model.specs.World.{at_id}

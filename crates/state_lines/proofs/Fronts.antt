@@ -1,9 +1,9 @@
 -- What follows of tables from their definition: there is one, and what is said first is its front.
-use Rattle.std.proofs.Common.{◌≡◌, ◌∙◌, ◌⊎◌, inl, inr, ℕ, Bool, true, List, [], ◌∷◌, ◌++◌, Option, Some, None, refl, sym, ap, subst, append_assoc}
+use Rattle.std.proofs.Common.{◌≡◌, ◌∙◌, ◌⊎◌, inl, inr, ℕ, Bool, List, [], ◌∷◌, ◌++◌, Option, Some, None, refl, sym, ap, subst, append_assoc}
 use Rattle.std.proofs.lemmas.List.{append-nil}
 use Rattle.dura_value.specs.Ids.{Id}
 use Rattle.dura_value.specs.Messages.{Answer}
-use Rattle.id_maps.specs.Order.{is_before, is_behind, IsNextBehind, NoneBehind}
+use Rattle.id_maps.specs.Order.{NoneBehind}
 use Rattle.state_lines.specs.Table.{table_line, table_lines, last_of, AreNext, AreAll}
 use Rattle.state_lines.specs.Fronts.{IsPartOfNext, AreFirst}
 use Rattle.state_lines.proofs.Next.{table_lines-append}

@@ -7,7 +7,7 @@ use Rattle.site_model.specs.Calls.{Says}
 use Rattle.site_model.proofs.Tape.{tape-saying, changes_of-saying}
 use Rattle.state_lines.specs.declared.error.ShowError.{ShowError}
 use Rattle.state_lines.specs.declared.error.ShowError.TheVariants.{SayFault, Memory}
-use Rattle.state_lines.specs.Fronts.{SaysPart}
+use Rattle.state_lines.specs.Steps.{SaysPart}
 
 pub said_whole : (line : List ℕ) (old new : List Step) → new ≡ saying line old → tape new ≡ tape old ++ line
 said_whole line old new is = ap tape is ∙ tape-saying line old

@@ -1,11 +1,10 @@
 -- Ids one after another, and their lines.
-use Rattle.std.proofs.Common.{◌≡◌, ◌∙◌, ◌⊎◌, ℕ, Bool, true, List, [], ◌∷◌, ◌++◌, Option, Some, None, refl, sym, ap, subst, append_assoc}
+use Rattle.std.proofs.Common.{◌≡◌, ◌∙◌, ℕ, Bool, List, [], ◌∷◌, ◌++◌, Option, Some, refl, sym, ap, append_assoc}
 use Rattle.std.proofs.lemmas.List.{append-nil}
 use Rattle.dura_value.specs.Ids.{Id}
 use Rattle.dura_value.specs.Messages.{Answer}
-use Rattle.id_maps.specs.Order.{is_before, is_behind, IsNextBehind, NoneBehind}
-use Rattle.state_lines.specs.Table.{table_line, table_lines, last_of, AreNext, AreAll}
-use Rattle.state_lines.proofs.Order.{one_next, not_itself, before_trans, behind_more}
+use Rattle.id_maps.specs.Order.{IsNextBehind}
+use Rattle.state_lines.specs.Table.{table_line, table_lines, last_of, AreNext}
 
 pub last_of-one_more : (last : Option Id) (ids : List Id) (id : Id) → last_of last (ids ++ id ∷ []) ≡ Some id
 last_of-one_more last [] id = refl

@@ -9,7 +9,8 @@ use Rattle.id_maps.specs.Order.{IsNextBehind, NoneBehind}
 use Rattle.part_steps.specs.Listing.{entity_standing, instance_standing}
 use Rattle.state_lines.specs.declared.error.ShowError.{ShowError}
 use Rattle.state_lines.specs.Table.{table_line, table_lines, last_of, AreNext, has_entity, has_instance}
-use Rattle.state_lines.specs.Fronts.{SaysNext, SaysNone, SaysAll, IsPartOfNext, StopsAtNext, StopsAt, SaysTable, StopsInTable}
+use Rattle.state_lines.specs.Fronts.{IsPartOfNext, SaysTable, StopsInTable}
+use Rattle.state_lines.specs.Steps.{SaysNext, SaysNone, SaysAll, StopsAtNext, StopsAt}
 use Rattle.state_lines.proofs.Next.{last_of-one_more, table_lines-one_more, one_more}
 
 -- The lines of all ids up to the last one were said.

@@ -1,5 +1,5 @@
 -- A state has one table, and what is said of it first is its front.
-use Rattle.std.proofs.Common.{◌≡◌, ◌∙◌, ◌⊎◌, inl, inr, ℕ, List, ◌++◌, refl, sym, ap, append_assoc}
+use Rattle.std.proofs.Common.{◌≡◌, ◌∙◌, inl, inr, ℕ, List, ◌++◌, refl, sym, ap, append_assoc}
 use Rattle.dura_model.specs.Partition.{Partition}
 use Rattle.dura_value.specs.Ids.{Id}
 use Rattle.flow_messages.specs.Views.{entity_of}
@@ -9,7 +9,7 @@ use Rattle.part_steps.specs.Listing.{entity_standing, instance_standing}
 use Rattle.part_steps.specs.States.{state_of}
 use Rattle.part_steps.specs.declared.state.PartState.{PartState}
 use Rattle.state_lines.specs.Table.{table_lines, has_entity, has_instance, AreAll, IsTable}
-use Rattle.state_lines.specs.Fronts.{AreFirst, AreInInstances, IsFront}
+use Rattle.state_lines.specs.Fronts.{IsFront}
 use Rattle.state_lines.proofs.Fronts.{one_list, front_of_all}
 use Rattle.state_lines.proofs.Listed.{all_seen}
 

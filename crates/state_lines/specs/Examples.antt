@@ -1,5 +1,5 @@
 -- Tables, by example.
-use Rattle.std.specs.Prelude.{[], ◌∷◌, codes, Some, None, pos}
+use Rattle.std.specs.Prelude.{[], codes, Some, None, pos}
 use Rattle.dura_model.specs.Partition.{Partition, Row, fresh}
 use Rattle.dura_model.specs.World.{at_id}
 use Rattle.dura_value.specs.Ids.{Id, entity, orchestration}

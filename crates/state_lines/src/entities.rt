@@ -6,7 +6,7 @@ ghost use Rattle.part_steps.specs.Listing.{entity_standing};
 ghost use Rattle.part_steps.specs.States.{state_of};
 ghost use Rattle.site_model.specs.History.{changes_of, tape};
 ghost use Rattle.site_model.specs.Calls.{HasRisen};
-ghost use Rattle.state_lines.specs.Fronts.{SaysNext, SaysNone, SaysAll, StopsAtNext, StopsAt};
+ghost use Rattle.state_lines.specs.Steps.{SaysNext, SaysNone, SaysAll, StopsAtNext, StopsAt};
 ghost use Rattle.state_lines.specs.Table.{has_entity};
 
 use crate::error::ShowError;

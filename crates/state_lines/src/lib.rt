@@ -5,7 +5,8 @@
 //! - `entities`, `instances`: the lines of each kind, in the order of their ids. `row`: one line.
 //! - `error`: why a table was not said to its end.
 //! - `laws`: what the definitions say, and `examples` of them.
-//! - `specs/Table` says what the table is, and `specs/Fronts` what of it a call that failed has said.
+//! - `specs/Table` says what the table is, `specs/Fronts` what of it a call that failed has said, and `specs/Steps` how each step
+//!   goes on.
 #![tactic(auto)]
 
 mod entities;

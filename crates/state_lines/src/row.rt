@@ -4,7 +4,7 @@ ghost use Rattle.std.specs.Prelude.{◌≡◌, ◌<◌, ◌≤◌, ◌++◌, ℕ
 ghost use Rattle.dura_value.specs.Views.{id_of, answer_of};
 ghost use Rattle.site_model.specs.History.{changes_of, tape};
 ghost use Rattle.site_model.specs.Calls.{HasRisen};
-ghost use Rattle.state_lines.specs.Fronts.{SaysPart};
+ghost use Rattle.state_lines.specs.Steps.{SaysPart};
 ghost use Rattle.state_lines.specs.Table.{table_line};
 
 use crate::error::ShowError;

@@ -1,4 +1,4 @@
-use Rattle.std.proofs.Common.{◌≡◌, ◌++◌, ℕ, List, [], ◌∷◌, length, slice_index, codes, ap, arith}
+use Rattle.std.proofs.Common.{◌≡◌, ℕ, List, length, slice_index, ap, arith}
 use Rattle.state_lines.specs.Examples.{both_kinds}
 use Rattle.state_lines.proofs.Few.{table_of_both}
 use Rattle.state_lines.proofs.Tables.{one_table}

@@ -1,4 +1,4 @@
-use Rattle.std.proofs.Common.{◌≡◌, ◌++◌, ℕ, List, [], ◌∷◌, length, slice_index, codes, ap, arith}
+use Rattle.std.proofs.Common.{◌≡◌, ℕ, List, length, slice_index, ap, arith}
 use Rattle.state_lines.specs.Examples.{one_entity}
 use Rattle.state_lines.proofs.Few.{entity_table}
 use Rattle.state_lines.proofs.Tables.{one_table}
