@@ -6,4 +6,4 @@
 mod json;
 mod lines;
 
-pub use lines::answer_line;
+pub use lines::{answer_line, write_answer};

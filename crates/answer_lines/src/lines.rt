@@ -8,7 +8,8 @@ use crate::json::{quoted_text, value_text};
 use dura_value::{Answer, Name};
 use std::alloc::{AllocError, Global};
 
-fn write_answer(alloc: Global, out: &mut Vec<u8>, answer: &Answer) -> Result<(), AllocError>
+/// Appends an answer as it is said: `done` or `failed` and what it came to, `value` and a value, or the word for it.
+pub fn write_answer(alloc: Global, out: &mut Vec<u8>, answer: &Answer) -> Result<(), AllocError>
     ensures { OnOk result (out.new.items ≡ out.old.items ++ answer_text (answer_of answer.now)) }
 {
     match answer {

@@ -1,0 +1,10 @@
+pub mod Behind
+pub mod Few
+pub mod Fronts
+pub mod Lines
+pub mod Listed
+pub mod Next
+pub mod Order
+pub mod Saying
+pub mod Tables
+pub mod Whole

@@ -1,0 +1,34 @@
+-- What saying a line leaves on the tape.
+use Rattle.std.proofs.Common.{◌≡◌, ◌∙◌, ℕ, List, [], ◌++◌, take, drop, Result, Ok, Err, IfErr, refl, sym, ap, subst}
+use Rattle.std.proofs.lemmas.List.{take-append-drop, append-nil}
+use Rattle.std.specs.Result.{IsErrAnd}
+use Rattle.site_model.specs.History.{Step, saying, tape, changes_of}
+use Rattle.site_model.specs.Calls.{Says}
+use Rattle.site_model.proofs.Tape.{tape-saying, changes_of-saying}
+use Rattle.state_lines.specs.declared.error.ShowError.{ShowError}
+use Rattle.state_lines.specs.declared.error.ShowError.TheVariants.{SayFault, Memory}
+use Rattle.state_lines.specs.Steps.{SaysPart}
+
+pub said_whole : (line : List ℕ) (old new : List Step) → new ≡ saying line old → tape new ≡ tape old ++ line
+said_whole line old new is = ap tape is ∙ tape-saying line old
+
+pub said_part : {T E : Type 0} (line : List ℕ) (old new : List Step) (result : Result T E) → Says line old new result → SaysPart line SayFault (tape old) (tape new)
+said_part line old new result call = record {
+  part = take call.count line;
+  rest = drop call.count line;
+  said = ap tape call.steps ∙ tape-saying (take call.count line) old;
+  front = sym (take-append-drop call.count line);
+  whole = λ is. absurd (cc is);
+}
+
+-- where memory ran out before it was said
+pub nothing_said : (line before : List ℕ) → SaysPart line Memory before before
+nothing_said line before = record { part = []; rest = line; said = sym (append-nil before); front = refl; whole = λ is. refl }
+
+pub no_file : {T E : Type 0} (line : List ℕ) (old new : List Step) (result : Result T E) → Says line old new result → (file : ℕ) → changes_of file new ≡ changes_of file old
+no_file line old new result call file = ap (changes_of file) call.steps ∙ changes_of-saying file (take call.count line) old
+
+-- where the error is that of memory, what holds at it holds of the result
+pub by_memory : {T : Type 0} (result : Result T ShowError) (P : ShowError → Type 0) → IsErrAnd result (λ error. error ≡ Memory) → P Memory → IfErr result P
+by_memory (Ok value) P is holds = tt
+by_memory (Err error) P is holds = subst P (sym is) holds

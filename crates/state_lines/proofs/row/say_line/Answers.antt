@@ -1,0 +1,5 @@
+use Rattle.state_lines.proofs.Lines.{nothing_said, by_memory}
+use Rattle.state_lines.proofs.row.say_line.Goals as goal
+
+pub returns-in_err-line-clause-part : goal.returns-in_err-line-clause-part
+returns-in_err-line-clause-part g c = by_memory c.from_residual.result _ c.from_residual.ensures.1 (nothing_said _ _)

@@ -1,0 +1,48 @@
+-- The table of a partition's state: a line for each entity that was delivered to, then one for each instance of an orchestration.
+use Rattle.std.specs.Prelude.{◌≡◌, ℕ, Bool, List, [], ◌∷◌, ◌++◌, Option, Some, None, is_some}
+use Rattle.answer_lines.specs.Lines.{answer_text}
+use Rattle.dura_model.specs.Partition.{Partition}
+use Rattle.dura_value.specs.Ids.{Id, written}
+use Rattle.dura_value.specs.Messages.{Answer}
+use Rattle.flow_syntax.specs.Syntax.{Flows}
+use Rattle.id_maps.specs.Order.{IsNextBehind, NoneBehind}
+use Rattle.part_steps.specs.Listing.{entity_standing, instance_standing}
+
+-- ID ANSWER, and a line feed; no line where there is no answer
+abbrev pub table_line : Id → Option Answer → List ℕ
+table_line id None = []
+table_line id (Some answer) = written id ++ 32 ∷ [] ++ answer_text answer ++ 10 ∷ []
+
+-- the lines of these ids, each with the answer that it has
+abbrev pub table_lines : (Id → Option Answer) → List Id → List ℕ
+table_lines standing [] = []
+table_lines standing (id ∷ ids) = table_line id (standing id) ++ table_lines standing ids
+
+-- the last of these ids, or the one before them
+abbrev pub last_of : Option Id → List Id → Option Id
+last_of last [] = last
+last_of last (id ∷ ids) = last_of (Some id) ids
+
+-- the first of these ids is the next behind the last one, and each other the next behind the one before
+abbrev pub AreNext : (there : Id → Bool) → Option Id → List Id → Type 0
+AreNext there last [] = Unit {0}
+AreNext there last (id ∷ ids) = IsNextBehind there last id × AreNext there (Some id) ids
+
+-- These are all ids that something is there for, in order.
+pub record AreAll (there : Id → Bool) (ids : List Id) : Type 0 where
+  pub next : AreNext there None ids
+  pub end : NoneBehind there (last_of None ids)
+
+abbrev pub has_entity : Partition → Id → Bool
+has_entity p id = is_some (p.entities id)
+
+abbrev pub has_instance : Partition → Id → Bool
+has_instance p id = is_some (p.instances id)
+
+-- The lines of all entities, and behind them those of all instances.
+pub record IsTable (flows : Flows) (p : Partition) (table : List ℕ) : Type 0 where
+  pub entities : List Id
+  pub instances : List Id
+  pub all_entities : AreAll (has_entity p) entities
+  pub all_instances : AreAll (has_instance p) instances
+  pub lines : table ≡ table_lines (entity_standing p) entities ++ table_lines (instance_standing flows p) instances
