@@ -1,10 +1,9 @@
 //! Going on from what was recovered.
 
-ghost use Rattle.std.specs.Prelude.{◌≡◌, ◌⊎◌, ◌<◌, ◌≤◌, ◌^◌, ℕ, [], ◌∷◌, List, map, false, Some, None, IfOk, IfSome, IfNone};
-ghost use Rattle.std.specs.List.{All};
+ghost use Rattle.std.specs.Prelude.{◌≡◌, ◌⊎◌, ◌<◌, ◌≤◌, ◌^◌, [], ◌∷◌, map, false, IfOk, IfSome, IfNone};
 ghost use Rattle.client_port.specs.Clients.{clients_of};
-ghost use Rattle.client_port.specs.Ports.{due_of, queues_of};
-ghost use Rattle.engine_run.specs.Ends.{EndsAs, GoesOn, Stays, IsLateCause, IsRestCause, cause_of_stop};
+ghost use Rattle.client_port.specs.Ports.{queues_of};
+ghost use Rattle.engine_run.specs.Ends.{AreAllSaid, IsFirstUnsaid, EndsAs, GoesOn, Stays, IsLateCause, IsRestCause, cause_of_stop};
 ghost use Rattle.engine_run.specs.Picks.{rules_with};
 ghost use Rattle.engine_run.specs.Prepared.{job_of, CanGoOn};
 ghost use Rattle.flow_syntax.specs.Views.{flows_of};
@@ -48,17 +47,17 @@ fn cause_of(stop: Stop) -> Cause
     }
 }
 
-/// The first request whose answer wasn't said, by its client's name.
-fn first_unsaid<'a>(port: &'a Port, clients: &[Name]) -> Option<&'a Request>
-    ensures none { IfNone result (All (λ name. due_of name port.now.queues ≡ None) clients.now) }
-    ensures some { IfSome result (λ r. (name : List ℕ) × (due_of name port.now.queues ≡ Some (request_of r.now))) }
+/// The first client, by its name, with a request whose answer wasn't said, and the number of its first such request.
+fn first_unsaid<'a>(port: &Port, clients: &'a [Name]) -> Option<(&'a Name, u32)>
+    ensures none { IfNone result (AreAllSaid port.now.queues clients.now) }
+    ensures some { IfSome result (λ one. IsFirstUnsaid port.now.queues one.0.now one.1) }
 {
-    let mut first: Option<&Request> = None;
+    let mut first: Option<(&Name, u32)> = None;
     for client in clients {
         if let Some(request) = port.next_of(client) {
             first = match first {
-                Some(other) if other.client <= request.client => Some(other),
-                _ => Some(request),
+                Some((other, number)) if *other <= *client => Some((other, number)),
+                _ => Some((client, request.number)),
             };
         }
     }
@@ -70,9 +69,9 @@ fn rest_cause(port: &Port, clients: &[Name]) -> Result<Cause, AllocError>
     ensures { IfOk result (IsRestCause port.now.queues clients.now) }
 {
     match first_unsaid(port, clients) {
-        Some(request) => Ok(Cause::Waiting {
-            client: request.client.clone()?,
-            number: request.number,
+        Some((client, number)) => Ok(Cause::Waiting {
+            client: client.clone()?,
+            number,
         }),
         None => Ok(Cause::Done),
     }

@@ -1,18 +1,21 @@
 //! The top call.
 
-ghost use Rattle.std.specs.Prelude.{◌≡◌, ◌≢◌, ◌≤◌, ◌<◌, ◌^◌, None, Some};
+ghost use Rattle.std.specs.Prelude.{◌≡◌, ◌≢◌, ◌⊎◌, ◌≤◌, ◌<◌, ◌^◌, ℕ, [], None, Some};
 ghost use Rattle.command_words.specs.Command.{call_in};
 ghost use Rattle.command_words.specs.declared.words.Call.TheVariants as calls;
+ghost use Rattle.command_words.specs.declared.words.RunOptions.{RunOptions as AnyOptions};
 ghost use Rattle.engine_run.specs.Causes.{AsksFor, Answers, Untouched};
 ghost use Rattle.engine_run.specs.Headline.{Headline};
 ghost use Rattle.engine_run.specs.Job.{Job};
+ghost use Rattle.engine_run.specs.Showing.{ShowsAs, WritesNothing};
 ghost use Rattle.run_causes.specs.Causes.{status_of};
 ghost use Rattle.site_model.specs.Calls.{HasRisen};
-ghost use Rattle.site_model.specs.History.{content_of};
+ghost use Rattle.site_model.specs.History.{content_of, tape};
 
 use crate::ended::{Ended, ended};
 use crate::prepared::prepare;
 use crate::running::go;
+use crate::showing::show;
 use activity_table::Activities;
 use command_words::{Call, RunOptions, WordsError, read_words};
 use dura_value::Text;
@@ -21,6 +24,8 @@ use run_causes::Cause;
 use site_model::{Clock, Site};
 use std::alloc::Global;
 use std::marker::Brand;
+use std::sync::Wait;
+use std::thread::Threads;
 
 /// Runs the requests of the site's files.
 fn run_requests<V: Site, C: Clock, A: Activities>(
@@ -52,4 +57,104 @@ fn run_requests<V: Site, C: Clock, A: Activities>(
         Ok(prepared) => go::<V, Brand, C, A>(alloc, site, clock, acts, prepared, options),
         Err(cause) => ended(cause, Trail::none(alloc), site, clock),
     }
+}
+
+/// [`run`] without threads. It returns for every input, once each wait of the clock does.
+pub fn run_alone<V: Site, C: Clock, A: Activities>(
+    alloc: Global,
+    words: &[Text],
+    mut site: V,
+    clock: C,
+    acts: &A,
+) -> Ended<V, C>
+    ensures told { V.tells result.site → V.tells site }
+    ensures status { result.status ≡ status_of result.cause }
+
+    // The words alone decide on a usage fault, and then nothing happens.
+    ensures usage { call_in words.now ≡ None → (result.cause ≡ Cause.Usage) ⊎ (result.cause ≡ Cause.Memory) }
+    ensures only_usage { result.cause ≡ Cause.Usage → call_in words.now ≡ None }
+    ensures idle { call_in words.now ≡ None → V.history result.site ≡ V.history site }
+
+    // Which other causes a run may end with, by what the files held at the start, and that a refusal writes and says nothing.
+    ensures answers { V.tells result.site → (options : AnyOptions) → call_in words.now ≡ Some (calls.Run options) → Answers (λ file. content_of file (V.history site)) result.cause }
+    ensures untouched { (options : AnyOptions) → call_in words.now ≡ Some (calls.Run options) → Untouched (V.history site) (V.history result.site) result.cause }
+
+    // At every moment of a run, inside each call of the site too, a crash leaves files that stand for a legal run of the
+    // failure-free machine: the one at the start, then what is settled by then, then at most the one frame whose gate is being
+    // written; and what was said by then answers requests as that run does. And why it ends.
+    ensures headline { V.tells result.site → (options : AnyOptions) → call_in words.now ≡ Some (calls.Run options) → (job : Job) → AsksFor (λ file. content_of file (V.history site)) job
+        → Headline job (λ file. content_of file (V.history site)) (V.history site) (V.history result.site) result.trail options.steps options.segment result.cause }
+
+    // What is shown, and that nothing is written then.
+    ensures shows { V.tells result.site → (partitions : ℕ) → call_in words.now ≡ Some (calls.Show partitions) → ShowsAs (λ file. content_of file (V.history site)) (tape (V.history site)) (tape (V.history result.site)) result.cause }
+    ensures writes_nothing { (partitions : ℕ) → call_in words.now ≡ Some (calls.Show partitions) → WritesNothing (V.history site) (V.history result.site) }
+
+    // A fault has its cause.
+    ensures fault { result.cause ≡ Cause.SiteFault → HasRisen (V.disk_faults site) (V.disk_faults result.site) }
+    ensures say_fault { result.cause ≡ Cause.SayFault → HasRisen (V.say_faults site) (V.say_faults result.site) }
+    ensures clock_fault { result.cause ≡ Cause.ClockFault → HasRisen (C.clock_faults clock) (C.clock_faults result.clock) }
+    ensures later { V.disk_faults site ≤ V.disk_faults result.site }
+    ensures say_later { V.say_faults site ≤ V.say_faults result.site }
+    ensures clock_later { C.clock_faults clock ≤ C.clock_faults result.clock }
+{
+    match read_words(alloc, words) {
+        Ok(Call::Run(options)) => run_requests(alloc, site, clock, acts, options),
+        Ok(Call::Show(_)) => {
+            let cause = show(alloc, &mut site);
+            ended(cause, Trail::none(alloc), site, clock)
+        }
+        Err(WordsError::Usage) => ended(Cause::Usage, Trail::none(alloc), site, clock),
+        Err(WordsError::Memory) => ended(Cause::Memory, Trail::none(alloc), site, clock),
+    }
+}
+
+/// Runs the requests that the site's files hold, or shows what is there, as the words say.
+///
+/// `run` reads files 0, 1 and 2 (the flows, the requests and the plan), recovers what the logs keep, commits each step before the
+/// next, and says each answer once what it answers is committed, until nothing is possible any more or as many labels were
+/// settled as may be. `show` reads file 0, recovers, and says a line for each entity and each instance. `rt` may start and join
+/// threads; until there are any it isn't used.
+///
+/// A refusal is the first of these: the words, then files 0, 1 and 2 in this order, each one's length before its bytes, then the
+/// logs, then a request under whose client and number another was taken.
+pub fn run<R: Threads + Wait + Sync, V: Site + Send, C: Clock + Send, A: Activities + Sync>(
+    rt: &R,
+    alloc: Global,
+    words: &[Text],
+    site: V,
+    clock: C,
+    acts: &A,
+) -> Ended<V, C>
+    ensures told { V.tells result.site → V.tells site }
+    ensures status { result.status ≡ status_of result.cause }
+
+    // The words alone decide on a usage fault, and then nothing happens.
+    ensures usage { call_in words.now ≡ None → (result.cause ≡ Cause.Usage) ⊎ (result.cause ≡ Cause.Memory) }
+    ensures only_usage { result.cause ≡ Cause.Usage → call_in words.now ≡ None }
+    ensures idle { call_in words.now ≡ None → V.history result.site ≡ V.history site }
+
+    // Which other causes a run may end with, by what the files held at the start, and that a refusal writes and says nothing.
+    ensures answers { V.tells result.site → (options : AnyOptions) → call_in words.now ≡ Some (calls.Run options) → Answers (λ file. content_of file (V.history site)) result.cause }
+    ensures untouched { (options : AnyOptions) → call_in words.now ≡ Some (calls.Run options) → Untouched (V.history site) (V.history result.site) result.cause }
+
+    // At every moment of a run, inside each call of the site too, a crash leaves files that stand for a legal run of the
+    // failure-free machine: the one at the start, then what is settled by then, then at most the one frame whose gate is being
+    // written; and what was said by then answers requests as that run does. And why it ends.
+    ensures headline { V.tells result.site → (options : AnyOptions) → call_in words.now ≡ Some (calls.Run options) → (job : Job) → AsksFor (λ file. content_of file (V.history site)) job
+        → Headline job (λ file. content_of file (V.history site)) (V.history site) (V.history result.site) result.trail options.steps options.segment result.cause }
+
+    // What is shown, and that nothing is written then.
+    ensures shows { V.tells result.site → (partitions : ℕ) → call_in words.now ≡ Some (calls.Show partitions) → ShowsAs (λ file. content_of file (V.history site)) (tape (V.history site)) (tape (V.history result.site)) result.cause }
+    ensures writes_nothing { (partitions : ℕ) → call_in words.now ≡ Some (calls.Show partitions) → WritesNothing (V.history site) (V.history result.site) }
+
+    // A fault has its cause.
+    ensures fault { result.cause ≡ Cause.SiteFault → HasRisen (V.disk_faults site) (V.disk_faults result.site) }
+    ensures say_fault { result.cause ≡ Cause.SayFault → HasRisen (V.say_faults site) (V.say_faults result.site) }
+    ensures clock_fault { result.cause ≡ Cause.ClockFault → HasRisen (C.clock_faults clock) (C.clock_faults result.clock) }
+    ensures later { V.disk_faults site ≤ V.disk_faults result.site }
+    ensures say_later { V.say_faults site ≤ V.say_faults result.site }
+    ensures clock_later { C.clock_faults clock ≤ C.clock_faults result.clock }
+{
+    let _ = rt;
+    run_alone(alloc, words, site, clock, acts)
 }

@@ -3,3 +3,4 @@ pub mod Opens
 pub mod Standing
 pub mod Words
 pub mod Queues
+pub mod Runs

@@ -1,0 +1,55 @@
+-- Why rounds end.
+use Rattle.std.proofs.Common.{◌≡◌, ◌<◌, ◌≤◌, ℕ, List, [], ◌∷◌, length, refl, sym, ◌∙◌, ap, subst, arith}
+use Rattle.client_port.specs.Clients.{clients_of}
+use Rattle.client_port.specs.Ports.{Queue}
+use Rattle.commit_log.specs.Segment.{reading_of}
+use Rattle.commit_log.proofs.Written.{reads_closed}
+use Rattle.dura_model.specs.Partition.{Partition, enter}
+use Rattle.dura_value.specs.Items.{Entry}
+use Rattle.engine_run.specs.Ends.{IsAtRest, WouldFill}
+use Rattle.hub_store.specs.Moments.{StandsWith}
+use Rattle.hub_store.specs.Origin.{Log, Origin}
+use Rattle.hub_store.specs.Trail.{Settled, Said, of_part}
+use Rattle.hub_store.specs.Ways.{LogFits}
+use Rattle.hub_store.specs.declared.way.Way.{Way}
+use Rattle.hub_store.specs.declared.way.Way.TheVariants.{Resting, Bodied, Synced, Gated, Broken, Away}
+use Rattle.part_rounds.specs.Comes.{Entered, IsOver}
+use Rattle.part_rounds.specs.Commits.{IsFull}
+use Rattle.part_rounds.specs.Rounds.{pairs_of, HasSaid}
+use Rattle.part_steps.specs.declared.state.PartState.{PartState}
+use Rattle.part_steps.specs.States.{state_of}
+use Rattle.run_rules.specs.Rules.{Rules}
+use Rattle.site_model.specs.History.{Step, changes_of}
+
+module _ (MayFollow : List Settled → List Said → ℕ → List Entry → Type 0) (MaySay : List Settled → List Said → Said → List ℕ → Type 0) (rules : Rules) (o : Origin) (steps : List Step) (trail : List Settled) (told : List Said) where
+  -- nothing is possible any more
+  pub at_rest : (queues : List Queue) (clients : List (List ℕ)) (state : PartState) → StandsWith MayFollow MaySay o steps trail told [] → HasSaid rules told queues → clients ≡ clients_of rules.requests
+      → Entered rules (o.logs 0) (of_part 0 trail) state → IsOver rules (state_of state) queues clients → IsAtRest MayFollow MaySay rules o steps trail queues
+  at_rest queues clients state stands said names entered over = record {
+    told = told;
+    stands = stands;
+    said = said;
+    state = entered.before;
+    made = entered.stands.made;
+    over = subst (λ (p : Partition). IsOver rules p queues (clients_of rules.requests)) entered.entered (subst (λ (l : List (List ℕ)). IsOver rules (state_of state) queues l) names over);
+  }
+
+  -- the next entry doesn't fit
+  pub would_fill : (segment_length : ℕ) (way : Way) (partition length_then : ℕ) → 0 < segment_length → IsFull rules (of_part 0 trail) (pairs_of told) segment_length way partition length_then
+      → LogFits (o.logs 0) (of_part 0 trail) (changes_of (o.logs 0).file steps) way → WouldFill rules o steps trail segment_length length_then
+  would_fill segment_length (Resting log) partition length_then some full fits = record {
+    told = told;
+    entry = full.entry;
+    follows = full.follows;
+    header = (o.logs 0).header;
+    payloads = fits.payloads;
+    gate = log.gate;
+    stands = let rests = fits.fits.1 in ap reading_of rests.content ∙ reads_closed (o.logs 0).header fits.payloads log.gate rests.byte rests.rest rests.ends rests.closed;
+    length_is = full.length_is;
+    reaches = full.reaches;
+  }
+  would_fill segment_length (Bodied log frame) partition length_then some full fits = absurd (omega (arith, some, full.reaches, full.length_is))
+  would_fill segment_length (Synced log frame) partition length_then some full fits = absurd (omega (arith, some, full.reaches, full.length_is))
+  would_fill segment_length (Gated log frame) partition length_then some full fits = absurd (omega (arith, some, full.reaches, full.length_is))
+  would_fill segment_length (Broken log frame) partition length_then some full fits = absurd (omega (arith, some, full.reaches, full.length_is))
+  would_fill segment_length Away partition length_then some full fits = absurd (omega (arith, some, full.reaches, full.length_is))

@@ -1,0 +1,56 @@
+-- A run that goes on from what was prepared stands as it may.
+use Rattle.std.proofs.Common.{◌≡◌, ◌≤◌, ℕ, List, [], ◌++◌, length, map, refl, sym, ◌∙◌, ap, subst}
+use Rattle.std.proofs.lemmas.List.{map-append, append-nil}
+use Rattle.dura_model.specs.Partition.{Partition}
+use Rattle.dura_value.specs.Items.{Entry}
+use Rattle.engine_run.specs.Ends.{GoesOn, RunEndsAs}
+use Rattle.engine_run.specs.Headline.{RunsOn}
+use Rattle.engine_run.specs.Job.{Job, Keeps, AreGivenIn}
+use Rattle.engine_run.specs.Opened.{IsOpening, IsOpened, OpensOnly}
+use Rattle.engine_run.specs.Picks.{log_in_file, origin_with, rules_with}
+use Rattle.engine_run.proofs.Standing.{begins_alone, picked_entries}
+use Rattle.commit_log.specs.declared.states.Resting.{Resting}
+use Rattle.hub_store.specs.Trail.{Settled, Said, of_part, settled_at}
+use Rattle.hub_store.proofs.Settling.{of_part-append}
+use Rattle.part_files.specs.Placing.{next_life}
+use Rattle.run_causes.specs.declared.cause.Cause.{Cause}
+use Rattle.run_laws.specs.Begins.{pairs_of, may_follow, may_say}
+use Rattle.run_laws.proofs.Images.{moment_stands}
+use Rattle.run_laws.specs.Leaves.{StandsOn}
+use Rattle.run_rules.specs.Rules.{Rules, Told, Follows}
+use Rattle.run_rules.proofs.Going.{follows_still}
+use Rattle.site_model.specs.History.{Step, content_of, back_to}
+use Rattle.site_model.proofs.Paths.{last}
+
+-- what may follow may follow still
+pub still_may : (rules : Rules) (trail more : List Settled) (told also : List Said) (partition : ℕ) (going : List Entry) → of_part partition more ≡ [] → may_follow rules trail told partition going
+    → may_follow rules (trail ++ more) (told ++ also) partition going
+still_may rules trail more told also partition going none may =
+    let none_here : of_part 0 more ≡ [] = subst (λ (p : ℕ). of_part p more ≡ []) may.0 none in
+    let same : of_part 0 trail ≡ of_part 0 (trail ++ more) = sym (of_part-append 0 trail more ∙ ap (λ (l : List Entry). of_part 0 trail ++ l) none_here ∙ append-nil (of_part 0 trail)) in
+    let longer : pairs_of told ++ pairs_of also ≡ pairs_of (told ++ also) = sym (map-append (λ (one : Said). (one.client, one.number)) told also) in
+    (may.0, subst (λ (l : List Entry). Follows rules l (pairs_of (told ++ also)) going) same
+        (subst (λ (t : Told). Follows rules (of_part 0 trail) t going) longer (follows_still rules (pairs_of told) (pairs_of also) (of_part 0 trail) going may.1)))
+
+module _ (job : Job) (old steps new : List Step) (entries : List Entry) (state : Partition) (keeps : Keeps job (λ file. content_of file old) entries state) (given : AreGivenIn job entries)
+    (log : Resting) (opened : IsOpened job.digest entries steps log) (opens : OpensOnly job old steps) where
+  -- the rest of a run that goes on
+  pub runs_on : (life : ℕ) → life ≡ next_life entries → state.incarnation ≤ life → (trail : List Settled) (most_labels segment_length : ℕ) (cause : Cause)
+      → GoesOn (may_follow (rules_with job state life)) (may_say (rules_with job state life)) (rules_with job state life) (origin_with (log_in_file job.digest log.file steps state life) steps) new trail most_labels segment_length cause
+      → RunsOn job entries state old new trail most_labels segment_length cause
+  runs_on life life_is young trail most_labels segment_length cause goes =
+      let log_is = log_in_file job.digest log.file steps state life in
+      let begins = begins_alone job entries steps log opened state keeps.made life young given in
+      let opening = opens entries state keeps given in
+      record {
+        origin = origin_with log_is steps;
+        kept = picked_entries job entries steps log opened state keeps.made life young;
+        silent = (last opening).silent;
+        opening = opening;
+        further = goes.further;
+        nothing = goes.nothing;
+        stands = λ moment low high image is.
+            subst (λ (n : ℕ). StandsOn (rules_with job state n) job.digest (origin_with log_is steps) (back_to moment new) (settled_at moment trail) image) life_is
+            (moment_stands (origin_with log_is steps) (rules_with job state life) job.digest begins (back_to moment new) (settled_at moment trail) image (goes.every moment low high) is);
+        ends = subst (λ (n : ℕ). RunEndsAs (rules_with job state n) (origin_with log_is steps) new trail most_labels segment_length cause) life_is goes.ends;
+      }

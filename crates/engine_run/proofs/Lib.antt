@@ -1,0 +1,9 @@
+pub mod Asked
+pub mod Ending
+pub mod Going
+pub mod Opens
+pub mod Picked
+pub mod Queues
+pub mod Runs
+pub mod Standing
+pub mod Words
