@@ -2,23 +2,28 @@
 use Rattle.std.proofs.Common.{◌≡◌, ◌≤◌, ℕ, List, [], ◌++◌, length, map, refl, sym, ◌∙◌, ap, subst}
 use Rattle.std.proofs.lemmas.List.{map-append, append-nil}
 use Rattle.dura_model.specs.Partition.{Partition}
+use Rattle.dura_model.proofs.Outcomes.{never_twice}
 use Rattle.dura_value.specs.Items.{Entry}
 use Rattle.engine_run.specs.Ends.{GoesOn, RunEndsAs}
-use Rattle.engine_run.specs.Headline.{RunsOn}
+use Rattle.engine_run.specs.Headline.{StandsOrderly, RunsOn}
 use Rattle.engine_run.specs.Job.{Job, Keeps, AreGivenIn}
 use Rattle.engine_run.specs.Opened.{IsOpening, IsOpened, OpensOnly}
 use Rattle.engine_run.specs.Picks.{log_in_file, origin_with, rules_with}
 use Rattle.engine_run.proofs.Standing.{begins_alone, picked_entries}
 use Rattle.commit_log.specs.declared.states.Resting.{Resting}
+use Rattle.hub_store.specs.Moments.{AtEveryMoment}
+use Rattle.hub_store.specs.Origin.{Origin}
 use Rattle.hub_store.specs.Trail.{Settled, Said, of_part, settled_at}
 use Rattle.hub_store.proofs.Settling.{of_part-append}
-use Rattle.part_files.specs.Placing.{next_life}
+use Rattle.part_files.specs.Placing.{next_life, labels_in}
+use Rattle.part_files.specs.Stands.{shown_by}
 use Rattle.run_causes.specs.declared.cause.Cause.{Cause}
 use Rattle.run_laws.specs.Begins.{pairs_of, may_follow, may_say}
 use Rattle.run_laws.proofs.Images.{moment_stands}
 use Rattle.run_laws.specs.Leaves.{StandsOn}
 use Rattle.run_rules.specs.Rules.{Rules, Told, Follows}
 use Rattle.run_rules.proofs.Going.{follows_still}
+use Rattle.section_laws.proofs.Ordered.{never_overlaps}
 use Rattle.site_model.specs.History.{Step, content_of, back_to}
 use Rattle.site_model.proofs.Paths.{last}
 
@@ -31,6 +36,16 @@ still_may rules trail more told also partition going none may =
     let longer : pairs_of told ++ pairs_of also ≡ pairs_of (told ++ also) = sym (map-append (λ (one : Said). (one.client, one.number)) told also) in
     (may.0, subst (λ (l : List Entry). Follows rules l (pairs_of (told ++ also)) going) same
         (subst (λ (t : Told). Follows rules (of_part 0 trail) t going) longer (follows_still rules (pairs_of told) (pairs_of also) (of_part 0 trail) going may.1)))
+
+-- a run for which files stand is legal
+in_order : (rules : Rules) (digest : ℕ) (o : Origin) (steps : List Step) (trail : List Settled) (image : ℕ → List ℕ) → StandsOn rules digest o steps trail image → StandsOrderly rules digest o steps trail image
+in_order rules digest o steps trail image on = record {
+  on = on;
+  orderly = record {
+    once = λ id task. never_twice rules.flows (labels_in (o.logs 0).entries ++ labels_in (of_part 0 trail) ++ labels_in on.going) (shown_by rules.flows on.stands.state) on.stands.legal id task;
+    apart = λ front rest world split legal overlap. never_overlaps rules.flows front world legal overlap;
+  };
+}
 
 module _ (job : Job) (old steps new : List Step) (entries : List Entry) (state : Partition) (keeps : Keeps job (λ file. content_of file old) entries state) (given : AreGivenIn job entries)
     (log : Resting) (opened : IsOpened job.digest entries steps log) (opens : OpensOnly job old steps) where
@@ -50,7 +65,9 @@ module _ (job : Job) (old steps new : List Step) (entries : List Entry) (state :
         further = goes.further;
         nothing = goes.nothing;
         stands = λ moment low high image is.
-            subst (λ (n : ℕ). StandsOn (rules_with job state n) job.digest (origin_with log_is steps) (back_to moment new) (settled_at moment trail) image) life_is
-            (moment_stands (origin_with log_is steps) (rules_with job state life) job.digest begins (back_to moment new) (settled_at moment trail) image (goes.every moment low high) is);
+            subst (λ (n : ℕ). StandsOrderly (rules_with job state n) job.digest (origin_with log_is steps) (back_to moment new) (settled_at moment trail) image) life_is
+            (in_order (rules_with job state life) job.digest (origin_with log_is steps) (back_to moment new) (settled_at moment trail) image
+                (moment_stands (origin_with log_is steps) (rules_with job state life) job.digest begins (back_to moment new) (settled_at moment trail) image (goes.every moment low high) is));
+        every = subst (λ (n : ℕ). AtEveryMoment (may_follow (rules_with job state n)) (may_say (rules_with job state n)) (origin_with log_is steps) new trail) life_is goes.every;
         ends = subst (λ (n : ℕ). RunEndsAs (rules_with job state n) (origin_with log_is steps) new trail most_labels segment_length cause) life_is goes.ends;
       }

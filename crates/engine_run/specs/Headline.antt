@@ -1,21 +1,40 @@
 -- What a run promises of every moment.
-use Rattle.std.specs.Prelude.{◌≡◌, ◌⊎◌, ◌≤◌, ◌<◌, ℕ, List, [], length}
+use Rattle.std.specs.Prelude.{◌≡◌, ◌⊎◌, ◌≤◌, ◌<◌, ℕ, List, [], ◌++◌, length}
+use Rattle.dura_model.specs.Legal.{Legal, Overlap, finishes}
 use Rattle.dura_model.specs.Partition.{Partition}
+use Rattle.dura_model.specs.Steps.{Label}
+use Rattle.dura_model.specs.World.{World}
+use Rattle.dura_value.specs.Ids.{Id}
 use Rattle.dura_value.specs.Items.{Entry}
 use Rattle.engine_run.specs.Ends.{RunEndsAs}
 use Rattle.engine_run.specs.Job.{Job, Keeps, AreGivenIn}
 use Rattle.engine_run.specs.Picks.{rules_with}
 use Rattle.engine_run.specs.Opened.{IsOpening}
+use Rattle.flow_syntax.specs.Syntax.{Flows}
+use Rattle.hub_store.specs.Moments.{AtEveryMoment}
 use Rattle.hub_store.specs.Origin.{Origin}
-use Rattle.hub_store.specs.Trail.{Settled, settled_at}
-use Rattle.part_files.specs.Placing.{next_life}
+use Rattle.hub_store.specs.Trail.{Settled, of_part, settled_at}
+use Rattle.part_files.specs.Placing.{next_life, labels_in}
 use Rattle.run_causes.specs.declared.cause.Cause.{Cause}
+use Rattle.run_laws.specs.Begins.{may_follow, may_say}
 use Rattle.run_laws.specs.Leaves.{StandsOn}
+use Rattle.run_rules.specs.Rules.{Rules}
 use Rattle.site_model.specs.History.{Step, tape, back_to, IsImage}
 use Rattle.site_model.specs.Moments.{Always}
 
+-- No task is ended twice, and no two critical sections ever overlap.
+pub record IsOrderly (flows : Flows) (run : List Label) : Type 0 where
+  pub once : (id : Id) (task : ℕ) → finishes id task run ≤ 1
+  pub apart : (front rest : List Label) (world : World) → run ≡ front ++ rest → Legal flows front world → Overlap world → ⊥
+
+-- what a crash leaves at a moment, and what the run for which it stands never does
+pub record StandsOrderly (rules : Rules) (digest : ℕ) (o : Origin) (steps : List Step) (trail : List Settled) (image : ℕ → List ℕ) : Type 0 where
+  pub on : StandsOn rules digest o steps trail image
+  pub orderly : IsOrderly rules.flows (labels_in (o.logs 0).entries ++ labels_in (of_part 0 trail) ++ labels_in on.going)
+
 -- From where the logs are opened on, at each moment, a crash leaves files that stand for the run at the start, then what was settled
 -- by then, then no more than the one frame whose gate was being written; and what was said by then answers requests as that run does.
+-- Each entry is of the life that the call began, and takes only what was due of its client then; and it ends for its cause.
 pub record RunsOn (job : Job) (entries : List Entry) (begin : Partition) (old new : List Step) (trail : List Settled) (most_labels segment_length : ℕ) (cause : Cause) : Type 0 where
   pub origin : Origin
   pub kept : (origin.logs 0).entries ≡ entries
@@ -24,7 +43,8 @@ pub record RunsOn (job : Job) (entries : List Entry) (begin : Partition) (old ne
   pub further : Always (λ steps. Unit {0}) origin.steps new
   pub nothing : (moment : ℕ) → moment < length origin.steps → settled_at moment trail ≡ []
   pub stands : (moment : ℕ) → length origin.steps ≤ moment → moment ≤ length new → (image : ℕ → List ℕ) → IsImage (back_to moment new) image
-      → StandsOn (rules_with job begin (next_life entries)) job.digest origin (back_to moment new) (settled_at moment trail) image
+      → StandsOrderly (rules_with job begin (next_life entries)) job.digest origin (back_to moment new) (settled_at moment trail) image
+  pub every : AtEveryMoment (may_follow (rules_with job begin (next_life entries))) (may_say (rules_with job begin (next_life entries))) origin new trail
   pub ends : RunEndsAs (rules_with job begin (next_life entries)) origin new trail most_labels segment_length cause
 
 -- it ends before the logs are opened: nothing was settled
