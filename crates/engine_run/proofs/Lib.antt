@@ -3,6 +3,7 @@ pub mod Ending
 pub mod Going
 pub mod Opens
 pub mod Picked
+pub mod Preparing
 pub mod Queues
 pub mod Runs
 pub mod Standing

@@ -1,6 +1,0 @@
-pub mod Picked
-pub mod Opens
-pub mod Standing
-pub mod Words
-pub mod Queues
-pub mod Runs
