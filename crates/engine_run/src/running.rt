@@ -17,7 +17,7 @@ ghost use Rattle.request_reader.specs.Line.{request_of};
 ghost use Rattle.run_causes.specs.Causes.{status_of};
 ghost use Rattle.site_model.specs.Calls.{HasRisen};
 
-use crate::ended::{Ended, ended};
+use crate::ended::{Ended, end_with};
 use crate::prepared::Prepared;
 use activity_table::Activities;
 use client_port::Port;
@@ -189,21 +189,21 @@ pub(crate) fn go<V: Site, N: Ruled, C: Clock, A: Activities>(
     } = prepared;
     let nothing = Trail::none(alloc);
     if state.position() >= PLACES {
-        return ended(Cause::Memory, nothing, site, clock);
+        return end_with(Cause::Memory, nothing, site, clock);
     }
     let Ok((mut port, clients)) = ports_of(alloc, requests) else {
-        return ended(Cause::Memory, nothing, site, clock);
+        return end_with(Cause::Memory, nothing, site, clock);
     };
     let Ok(logs) = vec![in alloc; log] else {
-        return ended(Cause::Memory, nothing, site, clock);
+        return end_with(Cause::Memory, nothing, site, clock);
     };
     let mut store = match Store::<V, N>::begin(alloc, site, logs, options.segment) {
         Ok(store) => store,
-        Err(site) => return ended(Cause::Memory, nothing, site, clock),
+        Err(site) => return end_with(Cause::Memory, nothing, site, clock),
     };
     let cause = drive_on(
         alloc, &mut store, &mut clock, acts, &flows, &mut port, &clients, state, life, options,
     );
     let Settled { site, trail } = store.end();
-    ended(cause, trail, site, clock)
+    end_with(cause, trail, site, clock)
 }

@@ -12,7 +12,7 @@ ghost use Rattle.run_causes.specs.Causes.{status_of};
 ghost use Rattle.site_model.specs.Calls.{HasRisen};
 ghost use Rattle.site_model.specs.History.{content_of, tape};
 
-use crate::ended::{Ended, ended};
+use crate::ended::{Ended, end_with};
 use crate::prepared::prepare;
 use crate::running::go;
 use crate::showing::show;
@@ -55,7 +55,7 @@ fn run_requests<V: Site, C: Clock, A: Activities>(
 {
     match prepare(alloc, &mut site) {
         Ok(prepared) => go::<V, Brand, C, A>(alloc, site, clock, acts, prepared, options),
-        Err(cause) => ended(cause, Trail::none(alloc), site, clock),
+        Err(cause) => end_with(cause, Trail::none(alloc), site, clock),
     }
 }
 
@@ -101,10 +101,10 @@ pub fn run_alone<V: Site, C: Clock, A: Activities>(
         Ok(Call::Run(options)) => run_requests(alloc, site, clock, acts, options),
         Ok(Call::Show(_)) => {
             let cause = show(alloc, &mut site);
-            ended(cause, Trail::none(alloc), site, clock)
+            end_with(cause, Trail::none(alloc), site, clock)
         }
-        Err(WordsError::Usage) => ended(Cause::Usage, Trail::none(alloc), site, clock),
-        Err(WordsError::Memory) => ended(Cause::Memory, Trail::none(alloc), site, clock),
+        Err(WordsError::Usage) => end_with(Cause::Usage, Trail::none(alloc), site, clock),
+        Err(WordsError::Memory) => end_with(Cause::Memory, Trail::none(alloc), site, clock),
     }
 }
 
