@@ -3,7 +3,11 @@ use Rattle.std.proofs.lemmas.Bool.{eqb-true}
 use Rattle.std.specs.Vec.{vec_len}
 use Rattle.dura_model.specs.Partition.{Partition}
 use Rattle.timer_row.specs.Timers.{NoTimer}
+use Rattle.part_items.specs.Plain.{items_of}
+use Rattle.part_rounds.specs.Fills.{Fills}
+use Rattle.part_rounds.specs.Rounds.{pairs_of}
 use Rattle.part_rounds.proofs.Puttings.{no_items}
+use Rattle.part_steps.specs.States.{state_of}
 use Rattle.part_rounds.proofs.coming.take_next.Goals as goal
 
 pub returns-in_default-clause-comes : goal.returns-in_default-clause-comes
@@ -11,3 +15,9 @@ returns-in_default-clause-comes g c =
     let empty = eqb-true (vec_len c.in_ok-first.first.items) 0 (sym c.is_empty.ensures ∙ c.if-not-is_empty.false) in
     let none = c.in_ok-first.ensures.none (no_items c.in_ok-first.first.items.items (omega (arith, empty))) in
     (c.in_ok-first.ensures.under_way.sound, c.in_ok-first.ensures.under_way.one, none.0, (c.in-Ok.now, none.1), subst (λ (p : Partition). NoTimer p.timers) none.0 c.in_default.ensures.none)
+
+pub returns-clause-fills : goal.returns-clause-fills
+returns-clause-fills g c = λ rules told same said.
+    let empty = eqb-true (vec_len c.in_ok-first.first.items) 0 (sym c.is_empty.ensures ∙ c.if-not-is_empty.false) in
+    let none = c.in_ok-first.ensures.none (no_items c.in_ok-first.first.items.items (omega (arith, empty))) in
+    subst (λ (p : Partition). Fills rules (pairs_of told) p (items_of c.in_ok-second.second.items.items) (state_of c.in_ok-second.second.state)) none.0 (c.in_ok-second.ensures.fills rules told same said)

@@ -1,12 +1,17 @@
-use Rattle.std.proofs.Common.{List, [], ◌∷◌, sym, subst, arith}
+use Rattle.std.proofs.Common.{◌≡◌, ℕ, ◌+◌, List, [], ◌∷◌, ◌++◌, length, sym, ◌∙◌, ap, subst, arith}
+use Rattle.std.proofs.lemmas.List.{length-map}
+use Rattle.dura_value.specs.Items.{Entry}
 use Rattle.hub_store.specs.Changes.{trail_in, told_in}
-use Rattle.hub_store.specs.Frames.{goes_on, GoesBehind}
-use Rattle.hub_store.specs.Trail.{of_part}
-use Rattle.part_items.specs.Plain.{items_of}
+use Rattle.hub_store.specs.Frames.{goes_on, GoesBehind, length_with}
+use Rattle.hub_store.specs.Trail.{Settled, Said, of_part}
+use Rattle.hub_store.specs.declared.way.Way.{Way}
+use Rattle.part_items.specs.Plain.{item_of, items_of}
 use Rattle.part_items.specs.declared.items.Item.{Item}
+use Rattle.part_rounds.specs.Comes.{count_labels}
 use Rattle.part_rounds.specs.Rounds.{pairs_of}
 use Rattle.part_rounds.proofs.Entries.{entry_follows, entry_goes, labels_after}
 use Rattle.part_rounds.proofs.committing.commit_items.Goals as goal
+use Rattle.run_rules.specs.Rules.{Follows}
 
 pub commit-requires-clause-one : goal.commit-requires-clause-one
 commit-requires-clause-one g c = omega (arith, g.met.N.Ruled.one)
@@ -22,7 +27,27 @@ commit-requires-clause-follows g c =
     (g.met.N.Ruled.follows (trail_in c.args.store.now) (told_in c.args.store.now) _
     (entry_follows g.N.Ruled.rules (g.N.Start.origin.logs 0) (of_part 0 (trail_in c.args.store.now)) (pairs_of (told_in c.args.store.now)) c.args.position c.args.life (items_of c.args.items.items) c.requires.filled))
 
-pub returns-clause-labels : goal.returns-clause-labels
-returns-clause-labels g c =
-    let all = labels_after g.N.Ruled.rules (g.N.Start.origin.logs 0) (of_part 0 (trail_in c.args.store.now)) (pairs_of (told_in c.args.store.now)) c.args.position c.args.life (items_of c.args.items.items) c.requires.filled in
-    ?
+pub returns-in-Ok-clause-labels : goal.returns-in-Ok-clause-labels
+returns-in-Ok-clause-labels g c =
+    let before = of_part 0 (trail_in c.args.store.now) in
+    let all = labels_after g.N.Ruled.rules (g.N.Start.origin.logs 0) before (pairs_of (told_in c.args.store.now)) c.args.position c.args.life (items_of c.args.items.items) c.requires.filled in
+    let count = ap (λ (n : ℕ). count_labels before + n) (length-map c.args.items.items item_of) in
+    ap count_labels c.in-Ok.ensures.trail
+    ∙ subst (λ (items : List Item). count_labels (before ++ record { position = c.args.position; incarnation = c.args.life; items = items_of items } ∷ []) ≡ count_labels before + length c.args.items.items) (sym c.of.ensures) (all ∙ count)
+
+pub returns-in-Err-clause-full : goal.returns-in-Err-clause-full
+returns-in-Err-clause-full g c of n is =
+    let rules = g.N.Ruled.rules in
+    let old = c.args.store.now in
+    let entry : Entry = record { position = c.args.position; incarnation = c.args.life; items = items_of c.of.result } in
+    let room = c.commit.ensures.room of n (c.in-Err.is ∙ is) in
+    let asked = entry_follows rules (g.N.Start.origin.logs 0) (of_part 0 (trail_in old)) (pairs_of (told_in old)) c.args.position c.args.life (items_of c.args.items.items) c.requires.filled in
+    let there = subst (λ (items : List Item). Follows rules (of_part 0 (trail_in old)) (pairs_of (told_in old)) (record { position = c.args.position; incarnation = c.args.life; items = items_of items } ∷ [])) (sym c.of.ensures) asked in
+    let then = subst (λ (t : List Settled). Follows rules (of_part 0 t) (pairs_of (told_in old)) (entry ∷ [])) (sym c.in-Err.ensures.no_trail) there in
+    record {
+      alone = room.0;
+      entry = entry;
+      follows = subst (λ (t : List Said). Follows rules (of_part 0 (trail_in c.commit.new.store)) (pairs_of t) (entry ∷ [])) (sym c.commit.ensures.said) then;
+      length_is = room.2 ∙ ap (λ (way : Way). length_with way (entry ∷ [])) (sym room.4);
+      reaches = let reaches = room.1 in omega (arith, reaches, c.commit.ensures.segment);
+    }

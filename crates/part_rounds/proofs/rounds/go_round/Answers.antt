@@ -1,4 +1,5 @@
-use Rattle.std.proofs.Common.{◌∙◌, ◌<◌, ◌-◌, refl, sym, ap, subst, arith}
+use Rattle.std.proofs.Common.{◌≡◌, ◌∙◌, ◌<◌, ◌-◌, Err, refl, sym, ap, subst, arith}
+use Rattle.std.proofs.lemmas.Result.{err_from_is_err_and}
 use Rattle.std.proofs.lemmas.List.{length-map}
 use Rattle.dura_model.specs.Partition.{Partition}
 use Rattle.flow_syntax.specs.Syntax.{Flows}
@@ -8,6 +9,8 @@ use Rattle.part_items.specs.Plain.{item_of, items_of}
 use Rattle.part_rounds.specs.Comes.{Comes, FillsNext}
 use Rattle.part_rounds.specs.Fills.{Fills, IsIdle}
 use Rattle.part_rounds.specs.Rounds.{pairs_of, NoneUnsaid}
+use Rattle.part_rounds.specs.declared.stop.Stop.{Stop}
+use Rattle.part_rounds.specs.declared.stop.Stop.TheVariants.{Full}
 use Rattle.part_rounds.proofs.rounds.go_round.Goals as goal
 use Rattle.part_steps.specs.States.{state_of}
 use Rattle.timer_row.specs.Timers.{NoTimer}
@@ -54,3 +57,9 @@ returns-in-Rest-clause-leaves g c =
         said = subst (λ (p : Partition). NoneUnsaid p queues c.args.clients.now) (sym comes.2) c.requires.unsaid;
       },
     )
+
+pub returns-in_err-state-in-Filled-clause-full : goal.returns-in_err-state-in-Filled-clause-full
+returns-in_err-state-in-Filled-clause-full g c of n is =
+    let p = err_from_is_err_and c.from_residual-in_err-state-in-Filled.result c.from_residual-in_err-state-in-Filled.ensures.1 in
+    let same : c.in_err-state-in-Filled.field-0.0 ≡ Full of n = cc (rw (p.1, p.2) at is) in
+    c.in_err-state-in-Filled.ensures.full of n (ap (λ (stop : Stop). Err stop) same)

@@ -1,4 +1,5 @@
-use Rattle.std.proofs.Common.{◌∙◌, ℕ, List, sym, ap, subst, arith}
+use Rattle.std.proofs.Common.{◌≡◌, ◌∙◌, ℕ, List, Err, sym, ap, subst, arith}
+use Rattle.std.proofs.lemmas.Result.{err_from_is_err_and}
 use Rattle.dura_model.specs.Partition.{Partition, enter}
 use Rattle.dura_value.specs.Items.{Entry}
 use Rattle.hub_store.specs.Changes.{trail_in, told_in}
@@ -6,6 +7,8 @@ use Rattle.hub_store.specs.Trail.{Settled, of_part}
 use Rattle.part_items.specs.Plain.{items_of}
 use Rattle.part_rounds.specs.Comes.{count_labels}
 use Rattle.part_rounds.specs.Rounds.{pairs_of, Stands, NoneUnsaid}
+use Rattle.part_rounds.specs.declared.stop.Stop.{Stop}
+use Rattle.part_rounds.specs.declared.stop.Stop.TheVariants.{Full}
 use Rattle.part_rounds.proofs.Entries.{stands_after, place_after}
 use Rattle.part_steps.specs.States.{state_of}
 use Rattle.part_rounds.proofs.rounds.settle_filling.Goals as goal
@@ -50,3 +53,9 @@ returns-clause-unsaid g c =
 
 pub returns-clause-labels : goal.returns-clause-labels
 returns-clause-labels g c = ap (λ (t : List Settled). count_labels (of_part 0 t)) c.say_due.ensures.trail ∙ c.in_ok-commit_items.ensures.labels
+
+pub returns-in_err-commit_items-clause-full : goal.returns-in_err-commit_items-clause-full
+returns-in_err-commit_items-clause-full g c of n is =
+    let p = err_from_is_err_and c.from_residual.result c.from_residual.ensures.1 in
+    let same : c.in_err-commit_items.field-0.0 ≡ Full of n = cc (rw (p.1, p.2) at is) in
+    c.in_err-commit_items.ensures.full of n (ap (λ (stop : Stop). Err stop) same)

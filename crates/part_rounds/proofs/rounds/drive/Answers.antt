@@ -1,0 +1,43 @@
+use Rattle.std.proofs.Common.{◌≡◌, ◌∙◌, ℕ, List, Err, sym, ap, subst, arith}
+use Rattle.std.proofs.lemmas.Result.{err_from_is_err_and}
+use Rattle.dura_model.specs.Partition.{Partition, enter}
+use Rattle.hub_store.specs.Trail.{Settled, of_part}
+use Rattle.hub_store.specs.Ways.{stage_of, way_of}
+use Rattle.part_rounds.specs.Comes.{count_labels}
+use Rattle.part_rounds.specs.Rounds.{Stands, NoneUnsaid}
+use Rattle.part_rounds.specs.declared.stop.Stop.{Stop}
+use Rattle.part_rounds.specs.declared.stop.Stop.TheVariants.{Full}
+use Rattle.part_rounds.proofs.rounds.drive.Goals as goal
+use Rattle.part_steps.specs.States.{state_of}
+
+pub rounds-init : goal.rounds-init
+rounds-init g c =
+    let log = g.N.Start.origin.logs 0 in
+    let state = state_of c.args.state in
+    record {
+      tells = c.say_due.ensures.tells;
+      sound = c.say_due.ensures.sound;
+      segment = c.say_due.ensures.segment;
+      stage = ap (λ ways. stage_of (way_of ways.items 0)) c.say_due.ensures.ways ∙ c.requires.rests;
+      still = c.in_ok-say_due.ensures.still;
+      said = c.in_ok-say_due.ensures.said;
+      entered = record {
+        before = state;
+        stands = subst (λ (t : List Settled). Stands g.N.Ruled.rules log (of_part 0 t) state) (sym c.say_due.ensures.trail) c.requires.stands;
+        entered = c.enter-state.ensures.entered ∙ ap (λ (life : ℕ). enter life state) c.requires.life;
+        sound = c.enter-state.ensures.sound;
+        one = c.enter-state.ensures.partitions ∙ c.requires.one;
+      };
+      unsaid = subst (λ (p : Partition). NoneUnsaid p c.say_due.new.port.queues c.args.clients.now) (sym c.enter-state.ensures.entered) c.in_ok-say_due.ensures.none;
+      count = sym (ap (λ (t : List Settled). count_labels (of_part 0 t)) (c.say_due.ensures.trail ∙ c.requires.new));
+      few = omega arith;
+      later = let same = c.say_due.ensures.disk_faults in omega (arith, same);
+      say_later = c.say_due.ensures.later;
+      clock_later = omega arith;
+    }
+
+pub returns-in_err-next-clause-full : goal.returns-in_err-next-clause-full
+returns-in_err-next-clause-full g c of n is =
+    let p = err_from_is_err_and c.from_residual-in_err-next.result c.from_residual-in_err-next.ensures.1 in
+    let same : c.in_err-next.field-0.0 ≡ Full of n = cc (rw (p.1, p.2) at is) in
+    c.in_err-next.ensures.full of n (ap (λ (stop : Stop). Err stop) same)
