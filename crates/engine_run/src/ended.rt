@@ -22,7 +22,7 @@ pub struct Ended<V, C> {
 }
 
 /// A call that ended for this cause.
-pub(crate) fn ended<V, C>(cause: Cause, trail: Trail, site: V, clock: C) -> Ended<V, C>
+pub(crate) fn end_with<V, C>(cause: Cause, trail: Trail, site: V, clock: C) -> Ended<V, C>
     ensures status { result.status ≡ status_of cause }
     ensures cause { result.cause ≡ cause }
     ensures trail { result.trail ≡ trail }

@@ -14,7 +14,7 @@ ghost use Rattle.run_rules.specs.Rules.{Rules, Told, Follows};
 
 /// An entry that was filled from the settled state on may follow.
 pub fn filled_entries_follow()
-    ensures follows { (rules : Rules) (settled : List Entry) (p q : Partition) (told : Told) (items : List Item) → placed rules.flows 1 rules.begin settled ≡ Ok p → Fills rules told (enter rules.life p) items q → Follows rules settled told (entry_at rules p items ∷ []) }
+    ensures { (rules : Rules) (settled : List Entry) (p q : Partition) (told : Told) (items : List Item) → placed rules.flows 1 rules.begin settled ≡ Ok p → Fills rules told (enter rules.life p) items q → Follows rules settled told (entry_at rules p items ∷ []) }
 {}
 
 /// Behind an entry that was filled stands the state that it makes, and the entry stands where the log goes on. Each of its items is a

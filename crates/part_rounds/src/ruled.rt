@@ -26,12 +26,12 @@ pub trait Ruled: Start {
 
 /// The rules that a call picks: without a pick nobody asks for anything.
 impl Ruled for Brand {
-    ghost use Rattle.std.specs.Prelude.{[]};
+    ghost use Rattle.std.specs.Prelude.{[], refl};
     ghost use Rattle.dura_model.specs.Partition.{fresh};
 
     ghost rules = { record { flows = record { flows = []; classes = [] }; begin = fresh 0; life = 0; requests = [] } };
 
-    ghost one = { ? };
+    ghost one = { refl };
 
     ghost follows = { λ trail told going may. tt };
 

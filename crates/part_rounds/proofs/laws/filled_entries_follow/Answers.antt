@@ -1,5 +1,5 @@
 use Rattle.part_rounds.proofs.Entries.{filled_follows}
 use Rattle.part_rounds.proofs.laws.filled_entries_follow.Goals as goal
 
-pub returns-clause-follows : goal.returns-clause-follows
-returns-clause-follows c = λ rules settled p q told items made fills. filled_follows rules settled p made told items q fills
+pub returns : goal.returns
+returns c rules settled p q told items made fills = filled_follows rules settled p made told items q fills

@@ -19,7 +19,7 @@ pub returns-in-Ok-End-clause-rests : goal.returns-in-Ok-End-clause-rests
 returns-in-Ok-End-clause-rests g c tells payloads read kept = rw c.in-Ok-End.field-0-is at (c.in-Ok-End.ensures.rests tells payloads read kept)
 
 pub returns-in-Ok-End-clause-there : goal.returns-in-Ok-End-clause-there
-returns-in-Ok-End-clause-there g c = ((rw c.in-Ok-End.field-0-is at c.in-Ok-End.ensures.place), c.requires.ready)
+returns-in-Ok-End-clause-there g c = let place = rw c.in-Ok-End.field-0-is at c.in-Ok-End.ensures.place in (place.0, c.requires.ready)
 
 pub returns-in-Err-clause-reads : goal.returns-in-Err-clause-reads
 returns-in-Err-clause-reads g c tells size_is payloads entries has =

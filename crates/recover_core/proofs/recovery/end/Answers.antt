@@ -11,4 +11,4 @@ returns-in-Stuck-clause-ends c flows entries shows life = (refl, subst (λ (p : 
 pub returns-clause-begins : goal.returns-clause-begins
 returns-clause-begins c ready =
     let on = subst (IsReadyFor c.args.found.life) c.in-On.is ready in
-    record { sound = on.0; alone = on.1; younger = on.2; young = omega (arith, c.if-not-life.false) }
+    record { sound = on.0; alone = on.1; younger = on.2; young = omega (arith, c.if-life-ge-LIVES.false) }
