@@ -31,6 +31,6 @@ NoClash p requests = All (λ r. clashes p r ≡ false) requests
 
 -- it is refused for a clash, or memory ran out
 abbrev pub Refuses : Partition → List Request → Cause → Type 0
-Refuses p requests (Clash client number) = IsClash p requests client number
+Refuses p requests (Clash name number) = IsClash p requests name number
 Refuses p requests Memory = Unit {0}
 Refuses p requests other = ⊥
