@@ -1,12 +1,9 @@
-//! What a call gives back.
+//! What a run gives back.
 
-ghost use Rattle.std.specs.Prelude.{◌≡◌};
-ghost use Rattle.run_causes.specs.Causes.{status_of};
+use input_reader::Cause;
+use part_driver::Trail;
 
-use hub_store::Trail;
-use run_causes::Cause;
-
-/// What a call gives back.
+/// What a run gives back.
 #[derive(Drop)]
 pub struct Ended<V, C> {
     /// The exit status.
@@ -19,21 +16,4 @@ pub struct Ended<V, C> {
     pub site: V,
     /// The clock, whatever happened.
     pub clock: C,
-}
-
-/// A call that ended for this cause.
-pub(crate) fn end_with<V, C>(cause: Cause, trail: Trail, site: V, clock: C) -> Ended<V, C>
-    ensures status { result.status ≡ status_of cause }
-    ensures cause { result.cause ≡ cause }
-    ensures trail { result.trail ≡ trail }
-    ensures site { result.site ≡ site }
-    ensures clock { result.clock ≡ clock }
-{
-    Ended {
-        status: cause.status(),
-        cause,
-        trail,
-        site,
-        clock,
-    }
 }

@@ -1,0 +1,14 @@
+pub mod Asked
+pub mod Folds
+pub mod Forms
+pub mod Foundations
+pub mod LinesSaid
+pub mod Logs
+pub mod Moments
+pub mod Opened
+pub mod Runs
+pub mod Sections
+pub mod Sound
+pub mod Stand
+pub mod Telling
+pub mod TellsLines

@@ -1,0 +1,3 @@
+pub mod Log
+pub mod Spelling
+pub mod Stands

@@ -1,0 +1,5 @@
+//! Tests of values, activities and readers.
+#![tactic(auto)]
+
+#[cfg(test)]
+mod reader_tests;

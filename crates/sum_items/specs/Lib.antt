@@ -1,0 +1,4 @@
+pub mod Items
+pub mod Keeping
+pub mod Replay
+pub mod Replayed
