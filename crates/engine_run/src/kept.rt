@@ -1,6 +1,6 @@
 //! Whether what was taken before is what is asked for.
 
-ghost use Rattle.std.specs.Prelude.{◌≡◌, map, IfOk, IfSome, IfNone, IfErr, OnOk};
+ghost use Rattle.std.specs.Prelude.{◌≡◌, map, IfOk, IfSome, IfNone, IfErr, OnOk, IsSomeAnd, ◌⊎◌};
 ghost use Rattle.engine_run.specs.Kept.{clashes, IsClash, NoClash, Refuses};
 ghost use Rattle.part_steps.specs.States.{state_of};
 ghost use Rattle.request_reader.specs.Line.{request_of};
@@ -22,6 +22,21 @@ fn clashes(state: &PartState, request: &Request) -> Result<bool, AllocError>
     }
 }
 
+/// Whether a request comes before another, by its client's name and its number.
+fn comes_before(one: &Request, other: &Request) -> bool {
+    one.client < other.client || one.client == other.client && one.number <= other.number
+}
+
+/// Of what was found first and a request the one that comes first, by its client's name and its number.
+fn earlier<'a>(first: Option<&'a Request>, request: &'a Request) -> &'a Request
+    ensures { (result.now ≡ request.now) ⊎ IsSomeAnd first (λ one. result.now ≡ one.now) }
+{
+    match first {
+        Some(other) if comes_before(other, request) => other,
+        _ => request,
+    }
+}
+
 /// The first request, by its client's name and its number, under whose name and number another was taken.
 fn first_clash<'a>(
     state: &PartState,
@@ -33,18 +48,10 @@ fn first_clash<'a>(
     let mut first: Option<&Request> = None;
     for request in requests {
         if clashes(state, request)? {
-            first = match first {
-                Some(other) if comes_before(other, request) => Some(other),
-                _ => Some(request),
-            };
+            first = Some(earlier(first, request));
         }
     }
     Ok(first)
-}
-
-/// Whether a request comes before another, by its client's name and its number.
-fn comes_before(one: &Request, other: &Request) -> bool {
-    one.client < other.client || one.client == other.client && one.number <= other.number
 }
 
 /// Refuses requests where another was taken under the name and the number of one of them.

@@ -1,6 +1,6 @@
 //! Going on from what was recovered.
 
-ghost use Rattle.std.specs.Prelude.{◌≡◌, ◌⊎◌, ◌<◌, ◌≤◌, ◌^◌, [], ◌∷◌, map, false, IfOk, IfSome, IfNone};
+ghost use Rattle.std.specs.Prelude.{◌≡◌, ◌⊎◌, ◌<◌, ◌≤◌, ◌^◌, [], ◌∷◌, map, false, IsSomeAnd, IfOk, IfSome, IfNone};
 ghost use Rattle.client_port.specs.Clients.{clients_of};
 ghost use Rattle.client_port.specs.Ports.{queues_of};
 ghost use Rattle.engine_run.specs.Ends.{AreAllSaid, IsFirstUnsaid, EndsAs, GoesOn, Stays, IsLateCause, IsRestCause, cause_of_stop};
@@ -47,6 +47,16 @@ fn cause_of(stop: Stop) -> Cause
     }
 }
 
+/// Of what was found first and a client with a number the one whose client comes first by its name.
+fn earlier<'a>(first: Option<(&'a Name, u32)>, client: &'a Name, number: u32) -> (&'a Name, u32)
+    ensures { ((result.0.now ≡ client.now) × (result.1 ≡ number)) ⊎ IsSomeAnd first (λ one. (result.0.now ≡ one.0.now) × (result.1 ≡ one.1)) }
+{
+    match first {
+        Some((other, least)) if *other <= *client => (other, least),
+        _ => (client, number),
+    }
+}
+
 /// The first client, by its name, with a request whose answer wasn't said, and the number of its first such request.
 fn first_unsaid<'a>(port: &Port, clients: &'a [Name]) -> Option<(&'a Name, u32)>
     ensures none { IfNone result (AreAllSaid port.now.queues clients.now) }
@@ -55,10 +65,7 @@ fn first_unsaid<'a>(port: &Port, clients: &'a [Name]) -> Option<(&'a Name, u32)>
     let mut first: Option<(&Name, u32)> = None;
     for client in clients {
         if let Some(request) = port.next_of(client) {
-            first = match first {
-                Some((other, number)) if *other <= *client => Some((other, number)),
-                _ => Some((client, request.number)),
-            };
+            first = Some(earlier(first, client, request.number));
         }
     }
     first
