@@ -1,5 +1,6 @@
 pub mod Asked
 pub mod Ending
+pub mod Found
 pub mod Going
 pub mod Opens
 pub mod Picked

@@ -29,7 +29,7 @@ fn comes_before(one: &Request, other: &Request) -> bool {
 
 /// Of what was found first and a request the one that comes first, by its client's name and its number.
 fn earlier<'a>(first: Option<&'a Request>, request: &'a Request) -> &'a Request
-    ensures { (result.now ≡ request.now) ⊎ IsSomeAnd first (λ one. result.now ≡ one.now) }
+    ensures { (result.now ≡ request.now) ⊎ IsSomeAnd first.entry (λ one. result.now ≡ one.now) }
 {
     match first {
         Some(other) if comes_before(other, request) => other,

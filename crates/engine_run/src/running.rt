@@ -49,7 +49,7 @@ fn cause_of(stop: Stop) -> Cause
 
 /// Of what was found first and a client with a number the one whose client comes first by its name.
 fn earlier<'a>(first: Option<(&'a Name, u32)>, client: &'a Name, number: u32) -> (&'a Name, u32)
-    ensures { ((result.0.now ≡ client.now) × (result.1 ≡ number)) ⊎ IsSomeAnd first (λ one. (result.0.now ≡ one.0.now) × (result.1 ≡ one.1)) }
+    ensures { ((result.0.now ≡ client.now) × (result.1 ≡ number)) ⊎ IsSomeAnd first.entry (λ one. (result.0.now ≡ one.0.now) × (result.1 ≡ one.1)) }
 {
     match first {
         Some((other, least)) if *other <= *client => (other, least),
