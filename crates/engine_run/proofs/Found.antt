@@ -16,3 +16,7 @@ if_none (Some x) T f = tt
 pub shown_there : {X Y : Type 0} (f : X → Y) (xs : List X) (i : ℕ) (x : X) → i < length xs → x ≡ get_or xs i x → Contains (map f xs) (f x)
 shown_there f xs i x lt at =
     subst (Contains (map f xs)) (get_or-map f xs i x (f x) lt ∙ ap f (sym at)) (Contains-get_or (map f xs) i (f x) (omega (arith, lt, length-map xs f)))
+
+pub some_with : {A : Type 0} (o : Option A) (P Q : A → Type 0) → ((x : A) → P x → Q x) → IfSome o P → IfSome o Q
+some_with None P Q f is = tt
+some_with (Some x) P Q f is = f x is

@@ -6,6 +6,7 @@ pub mod Opens
 pub mod Picked
 pub mod Preparing
 pub mod Queues
+pub mod Refusing
 pub mod Runs
 pub mod Standing
 pub mod Words

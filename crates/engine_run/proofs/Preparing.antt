@@ -1,5 +1,6 @@
 -- What was read and recovered is what a run begins with.
-use Rattle.std.proofs.Common.{◌≡◌, ◌+◌, inl, inr, ℕ, List, [], ◌∷◌, ◌++◌, length, true, Some, Result, Ok, Err, refl, sym, ◌∙◌, ap, subst, arith}
+use Rattle.std.proofs.Common.{◌≡◌, ◌+◌, inl, inr, ℕ, List, [], ◌∷◌, ◌++◌, length, true, Option, Some, None, Result, Ok, Err, refl, sym, ◌∙◌, ap, subst, arith}
+use Rattle.std.specs.Prelude.{IfSome}
 use Rattle.commit_log.specs.declared.header.Header.{Header}
 use Rattle.commit_log.specs.declared.states.Resting.{Resting}
 use Rattle.commit_log.specs.Outcomes.{RestsAs}
@@ -15,7 +16,7 @@ use Rattle.part_files.specs.Logs.{Logs, no_log, log_in, logs_in, entries_in}
 use Rattle.part_files.specs.Stands.{alone_with}
 use Rattle.part_items.specs.Numbered.{Next, behind_all, next_frame_in}
 use Rattle.recover_core.specs.Files.{frames_in}
-use Rattle.recover_core.specs.Recovering.{RestsFor, both_synced}
+use Rattle.recover_core.specs.Recovering.{IsLogOf, RestsFor, both_synced}
 use Rattle.run_laws.specs.Begins.{header_with}
 use Rattle.site_model.specs.History.{Step, changes_of, content_of, writes_inside, Leaves}
 use Rattle.site_model.specs.Moments.{Always, LeavesOnly}
@@ -88,3 +89,20 @@ module _ (digest : ℕ) (old : List Step) where
       let empty : [] ≡ entries = cc (ap entries_in is, kept) in
       let formatting = subst (λ (d : ℕ). LeavesOnly 16 (both_synced old) new (IsFormatting (content_of 16 (both_synced old)) (header_with d))) (sym same) leaves in
       subst (λ (l : List Entry). Always (IsOpening job l old) old new) empty (together (opening_both job [] old inside) (opening_new job old none.0 none.1 new formatting))
+
+  -- ---- either
+
+  -- the log that was there, or the new one
+  pub opened_from : (new : List Step) (entries : List Entry) (found : Option Resting) (log : Resting) → entries_in logs ≡ Some entries → IsLogOf entries found logs → IfSome found (λ l. RestsFor (both_synced old) digest logs l)
+      → IfSome found (λ l. (log ≡ l) × (new ≡ both_synced old)) → (found ≡ None → log.file ≡ 16) → (found ≡ None → RestsAs new (header_with digest) [] log)
+      → (found ≡ None → LeavesOnly 16 (both_synced old) new (IsFormatting (content_of 16 (both_synced old)) (header_with digest))) → IsOpened digest entries new log
+  opened_from new entries (Some l) log kept is rests there file none leaves =
+      subst (λ (r : Resting). IsOpened digest entries new r) (sym there.0) (subst (λ (s : List Step). IsOpened digest entries s l) (sym there.1) (log_there entries l kept is rests))
+  opened_from new entries None log kept is rests there file none leaves =
+      let empty : [] ≡ entries = cc (ap entries_in is, kept) in
+      subst (λ (l : List Entry). IsOpened digest l new log) empty (log_new new log is (file refl) (none refl) (leaves refl))
+
+  pub opens_from : (job : Job) → job.digest ≡ digest → (new : List Step) (entries : List Entry) (found : Option Resting) → IsLogOf entries found logs → ((f : ℕ) → writes_inside (changes_of f old) ≡ true)
+      → IfSome found (λ l. new ≡ both_synced old) → (found ≡ None → LeavesOnly 16 (both_synced old) new (IsFormatting (content_of 16 (both_synced old)) (header_with digest))) → entries_in logs ≡ Some entries → Always (IsOpening job entries old) old new
+  opens_from job same new entries (Some l) is inside there leaves kept = subst (Always (IsOpening job entries old) old) (sym there) (opening_both job entries old inside)
+  opens_from job same new entries None is inside there leaves kept = new_opening job same new is inside (leaves refl) entries kept

@@ -21,3 +21,14 @@ cause_of_recovery errors.Memory = Memory
 abbrev pub RecoversAs : Flows → (digest : ℕ) → (files : ℕ → List ℕ) → Result Recovered Cause → Type 0
 RecoversAs flows digest files (Ok r) = Recovers flows digest files (Ok r)
 RecoversAs flows digest files (Err cause) = (error : RecoverError) × (cause ≡ cause_of_recovery error) × Recovers flows digest files (Err error)
+
+-- why logs are refused, or what may come at any time
+abbrev pub IsLogCause : Cause → Type 0
+IsLogCause SiteFault = Unit {0}
+IsLogCause Memory = Unit {0}
+IsLogCause (Damaged file offset) = Unit {0}
+IsLogCause (Illegal partition position) = Unit {0}
+IsLogCause (OtherShape found asked) = Unit {0}
+IsLogCause (OtherFlows found given) = Unit {0}
+IsLogCause (Spent partition number) = Unit {0}
+IsLogCause other = ⊥

@@ -3,8 +3,7 @@
 ghost use Rattle.std.specs.Prelude.{◌≡◌, ◌≤◌, [], None, Ok, Err, OnOk, OnErr, IfOk, IfErr, IfSome};
 ghost use Rattle.commit_log.specs.Outcomes.{RestsAs};
 ghost use Rattle.commit_log.specs.States.{IsFormatting};
-ghost use Rattle.engine_run.specs.Opening.{cause_of_recovery, RecoversAs};
-ghost use Rattle.engine_run.specs.Prepared.{IsEarlyCause};
+ghost use Rattle.engine_run.specs.Opening.{cause_of_recovery, IsLogCause, RecoversAs};
 ghost use Rattle.flow_syntax.specs.Views.{flows_of};
 ghost use Rattle.part_files.specs.Logs.{logs_in};
 ghost use Rattle.part_files.specs.Stands.{alone_with};
@@ -55,7 +54,7 @@ pub(crate) fn recover_logs<V: Site>(
     ensures told { V.tells site.new → V.tells site.old }
     ensures recovers { V.tells site.new → RecoversAs (flows_of flows.now) digest (λ file. content_of file (V.history site.old)) result }
     ensures begins { IfOk result CanBegin }
-    ensures early { IfErr result IsEarlyCause }
+    ensures early { IfErr result IsLogCause }
     ensures syncs { OnlySyncs (V.history site.old) (V.history site.new) }
     ensures synced { OnOk result (V.history site.new ≡ both_synced (V.history site.old)) }
     ensures rests { V.tells site.new → IfOk result (λ r. IfSome r.log (λ log. RestsFor (V.history site.new) digest (logs_in (alone_with digest) (λ file. content_of file (V.history site.old))) log)) }
