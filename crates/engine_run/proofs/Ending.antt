@@ -6,7 +6,7 @@ use Rattle.commit_log.specs.Segment.{reading_of}
 use Rattle.commit_log.proofs.Written.{reads_closed}
 use Rattle.dura_model.specs.Partition.{Partition, enter}
 use Rattle.dura_value.specs.Items.{Entry}
-use Rattle.engine_run.specs.Ends.{IsAtRest, WouldFill}
+use Rattle.engine_run.specs.Ends.{IsAtRest, WouldFill, EndsAs, cause_of_stop}
 use Rattle.hub_store.specs.Moments.{StandsWith}
 use Rattle.hub_store.specs.Origin.{Log, Origin}
 use Rattle.hub_store.specs.Trail.{Settled, Said, of_part}
@@ -16,6 +16,8 @@ use Rattle.hub_store.specs.declared.way.Way.TheVariants.{Resting, Bodied, Synced
 use Rattle.part_rounds.specs.Comes.{Entered, IsOver}
 use Rattle.part_rounds.specs.Commits.{IsFull}
 use Rattle.part_rounds.specs.Rounds.{pairs_of, HasSaid}
+use Rattle.part_rounds.specs.declared.stop.Stop.{Stop}
+use Rattle.part_rounds.specs.declared.stop.Stop.TheVariants as stops
 use Rattle.part_steps.specs.declared.state.PartState.{PartState}
 use Rattle.part_steps.specs.States.{state_of}
 use Rattle.run_rules.specs.Rules.{Rules}
@@ -53,3 +55,15 @@ module _ (MayFollow : List Settled → List Said → ℕ → List Entry → Type
   would_fill segment_length (Gated log frame) partition length_then some full fits = absurd (omega (arith, some, full.reaches, full.length_is))
   would_fill segment_length (Broken log frame) partition length_then some full fits = absurd (omega (arith, some, full.reaches, full.length_is))
   would_fill segment_length Away partition length_then some full fits = absurd (omega (arith, some, full.reaches, full.length_is))
+
+  -- rounds that stop
+  pub stop_ends : (most_labels segment_length : ℕ) (way : Way) (stop : Stop) → 0 < segment_length
+      → ((partition length_then : ℕ) → stop ≡ stops.Full partition length_then → IsFull rules (of_part 0 trail) (pairs_of told) segment_length way partition length_then)
+      → LogFits (o.logs 0) (of_part 0 trail) (changes_of (o.logs 0).file steps) way → EndsAs MayFollow MaySay rules o steps trail most_labels segment_length (cause_of_stop stop)
+  stop_ends most_labels segment_length way (stops.Full partition length_then) some full fits =
+      let is = full partition length_then refl in
+      (is.alone, would_fill segment_length way partition length_then some is fits)
+  stop_ends most_labels segment_length way stops.SiteFault some full fits = tt
+  stop_ends most_labels segment_length way stops.SayFault some full fits = tt
+  stop_ends most_labels segment_length way stops.ClockFault some full fits = tt
+  stop_ends most_labels segment_length way stops.Memory some full fits = tt

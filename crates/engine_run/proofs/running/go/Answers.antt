@@ -1,30 +1,49 @@
-use Rattle.std.proofs.Common.{rules, ◌≡◌, ◌⊎◌, ◌<◌, ◌≤◌, ◌^◌, [], ◌∷◌, map, false, IsSomeAnd, IfOk, IfSome, IfNone, ℕ, ◌+◌, ◌-◌, ◌*◌, length, ◌/◌, ◌%◌, Bool, true, nat_eq, nat_lt, List, ◌++◌, slice_index_or, slice_set, bit_and, bit_or, Fits, w8, w32, w64, Bor, MutBor}
+use Rattle.std.proofs.Common.{◌≡◌, ◌∙◌, inl, ℕ, List, [], map, sym, ap, subst}
 use Rattle.client_port.specs.Clients.{clients_of}
-use Rattle.client_port.specs.Ports.{queues_of}
-use Rattle.engine_run.specs.Ends.{AreAllSaid, IsFirstUnsaid, EndsAs, GoesOn, Stays, IsLateCause, IsRestCause, cause_of_stop}
-use Rattle.engine_run.specs.Picks.{rules_with}
-use Rattle.engine_run.specs.Prepared.{job_of, CanGoOn}
-use Rattle.flow_syntax.specs.Views.{flows_of}
-use Rattle.hub_store.specs.Changes.{stage_at, trail_in, told_in}
-use Rattle.hub_store.specs.Opened.{IsOrigin, HasBegun}
-use Rattle.hub_store.specs.Sound.{IsSound}
-use Rattle.hub_store.specs.Trail.{of_part}
-use Rattle.part_rounds.specs.Rounds.{HasSaid, Stands}
-use Rattle.part_steps.specs.States.{state_of, count_of}
-use Rattle.part_steps.specs.States.{IsSound as IsOwnSound}
-use Rattle.request_reader.specs.Line.{request_of}
-use Rattle.run_causes.specs.Causes.{status_of}
-use Rattle.site_model.specs.Calls.{HasRisen}
+use Rattle.client_port.specs.Ports.{Queue, queues_of}
+use Rattle.engine_run.specs.Ends.{GoesOn}
+use Rattle.engine_run.proofs.Queues.{clients_named, nothing_said}
+use Rattle.engine_run.proofs.Runs.{run_further, nothing_before}
 use Rattle.engine_run.proofs.running.go.Goals as goal
+use Rattle.hub_store.specs.Changes.{trail_in, told_in}
+use Rattle.hub_store.specs.Trail.{Settled, Said}
+use Rattle.part_rounds.specs.Rounds.{HasSaid}
+use Rattle.request_reader.specs.Line.{Request, request_of}
+use Rattle.run_causes.specs.declared.cause.Cause.{Cause}
+use Rattle.run_rules.specs.Rules.{Rules}
 
--- src/running.rt:211:9
 pub drive_on-cause-requires-clause-said : goal.drive_on-cause-requires-clause-said
-drive_on-cause-requires-clause-said g c = ?
+drive_on-cause-requires-clause-said g c =
+    let rules = g.N.Ruled.rules in
+    let asked : rules.requests ≡ map request_of c.args.prepared.requests.items = ap (λ (r : Rules). r.requests) c.requires.rules in
+    subst (λ (q : List Queue). HasSaid rules (told_in c.in-Ok-begin.store) q) (ap queues_of asked ∙ sym c.in-Ok.ensures.queues)
+    (subst (λ (t : List Said). HasSaid rules t (queues_of rules.requests)) (sym c.in-Ok-begin.ensures.told) (nothing_said rules))
 
--- src/running.rt:211:9
 pub drive_on-cause-requires-clause-clients : goal.drive_on-cause-requires-clause-clients
-drive_on-cause-requires-clause-clients g c = ?
+drive_on-cause-requires-clause-clients g c =
+    let asked : g.N.Ruled.rules.requests ≡ map request_of c.args.prepared.requests.items = ap (λ (r : Rules). r.requests) c.requires.rules in
+    c.deref.ensures.value
+    ∙ c.in-Ok.ensures.clients
+    ∙ ap (map (λ (q : Queue). q.client)) c.in-Ok.ensures.queues
+    ∙ clients_named (map request_of c.args.prepared.requests.items)
+    ∙ sym (ap clients_of asked)
 
--- src/running.rt:161:1
 pub returns-clause-goes : goal.returns-clause-goes
-returns-clause-goes g c = ?
+returns-clause-goes g c tells =
+    let end = c.end_with-2 in
+    let store = c.drive_on-cause.new.store in
+    let site_is = end.ensures.site ∙ c.end-site.ensures.site in
+    let trail_is = end.ensures.trail ∙ c.end-site.ensures.trail in
+    let tells_then = subst g.V.Site.tells site_is tells in
+    let told = c.drive_on-cause.ensures.sound.told tells_then in
+    let most = c.args.options.steps in
+    let segment = c.args.options.segment in
+    let goes : GoesOn g.N.Start.may_follow g.N.Start.may_say g.N.Ruled.rules g.N.Start.origin (g.V.Site.history store.site) (trail_in store) most segment c.drive_on-cause.result = record {
+      every = c.end-site.ensures.every tells_then;
+      further = run_further told.runs;
+      nothing = nothing_before told.runs;
+      ends = c.drive_on-cause.ensures.ends tells_then;
+    } in
+    inl (subst (λ (cause : Cause). GoesOn g.N.Start.may_follow g.N.Start.may_say g.N.Ruled.rules g.N.Start.origin (g.V.Site.history end.result.site) end.result.trail most segment cause) (sym end.ensures.cause)
+        (subst (λ (t : List Settled). GoesOn g.N.Start.may_follow g.N.Start.may_say g.N.Ruled.rules g.N.Start.origin (g.V.Site.history end.result.site) t most segment c.drive_on-cause.result) (sym trail_is)
+        (subst (λ site. GoesOn g.N.Start.may_follow g.N.Start.may_say g.N.Ruled.rules g.N.Start.origin (g.V.Site.history site) (trail_in store) most segment c.drive_on-cause.result) (sym site_is) goes)))
