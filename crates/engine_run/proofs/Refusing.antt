@@ -2,7 +2,8 @@
 use Rattle.std.proofs.Common.{◌≡◌, inl, inr, ℕ, List, Ok, Err, refl}
 use Rattle.dura_model.specs.Partition.{Partition}
 use Rattle.dura_value.specs.Items.{Entry}
-use Rattle.engine_run.specs.Causes.{AsksFor, Answers, Untouched}
+use Rattle.engine_run.specs.Causes.{AsksFor, IsReady, Answers, Untouched}
+use Rattle.engine_run.specs.Ends.{IsLateCause}
 use Rattle.engine_run.specs.Job.{Job, Keeps}
 use Rattle.engine_run.specs.Kept.{Refuses}
 use Rattle.engine_run.specs.Opening.{cause_of_recovery, IsLogCause}
@@ -68,3 +69,27 @@ logs_untouched old new SayFault is syncs = absurd is
 logs_untouched old new ClockFault is syncs = absurd is
 logs_untouched old new (Unclosed partition position src seq) is syncs = absurd is
 logs_untouched old new (Full partition length) is syncs = absurd is
+
+-- ---- a run that went on
+
+pub late_answers : (files : ℕ → List ℕ) (cause : Cause) → IsLateCause cause → IsReady files → Answers files cause
+late_answers files Done is ready = ready
+late_answers files (Waiting name number) is ready = ready
+late_answers files (Long labels) is ready = ready
+late_answers files (Full partition length) is ready = ready
+late_answers files SayFault is ready = ready
+late_answers files ClockFault is ready = ready
+late_answers files SiteFault is ready = tt
+late_answers files Memory is ready = tt
+late_answers files Usage is ready = absurd is
+late_answers files (BadFlows fault) is ready = absurd is
+late_answers files (BadRequests line) is ready = absurd is
+late_answers files (Clash name number) is ready = absurd is
+late_answers files (BadPlan place) is ready = absurd is
+late_answers files (TooLong file) is ready = absurd is
+late_answers files (Damaged file offset) is ready = absurd is
+late_answers files (Illegal partition position) is ready = absurd is
+late_answers files (Unclosed partition position src seq) is ready = absurd is
+late_answers files (OtherShape found asked) is ready = absurd is
+late_answers files (OtherFlows found given) is ready = absurd is
+late_answers files (Spent partition number) is ready = absurd is

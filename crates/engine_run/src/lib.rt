@@ -9,6 +9,7 @@
 
 mod ended;
 mod kept;
+mod named;
 mod opening;
 mod prepared;
 mod recorded;

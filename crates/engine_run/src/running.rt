@@ -4,7 +4,7 @@ ghost use Rattle.std.specs.Prelude.{◌≡◌, ◌⊎◌, ◌<◌, ◌≤◌, �
 ghost use Rattle.client_port.specs.Clients.{clients_of};
 ghost use Rattle.client_port.specs.Ports.{queues_of};
 ghost use Rattle.engine_run.specs.Ends.{AreAllSaid, IsFirstUnsaid, EndsAs, GoesOn, Stays, IsLateCause, IsRestCause, cause_of_stop};
-ghost use Rattle.engine_run.specs.Picks.{rules_with};
+ghost use Rattle.engine_run.specs.Picks.{origin_with, rules_with};
 ghost use Rattle.engine_run.specs.Prepared.{job_of, CanGoOn};
 ghost use Rattle.flow_syntax.specs.Views.{flows_of};
 ghost use Rattle.hub_store.specs.Changes.{stage_at, trail_in, told_in};
@@ -15,9 +15,11 @@ ghost use Rattle.part_rounds.specs.Rounds.{HasSaid, Stands};
 ghost use Rattle.part_steps.specs.States.{state_of, count_of, IsSound as IsOwnSound};
 ghost use Rattle.request_reader.specs.Line.{request_of};
 ghost use Rattle.run_causes.specs.Causes.{status_of};
+ghost use Rattle.run_laws.specs.Begins.{may_follow, may_say};
 ghost use Rattle.site_model.specs.Calls.{HasRisen};
 
 use crate::ended::{Ended, end_with};
+use crate::named::{Going, Named};
 use crate::prepared::Prepared;
 use activity_table::Activities;
 use client_port::Port;
@@ -213,4 +215,36 @@ pub(crate) fn go<V: Site, N: Ruled, C: Clock, A: Activities>(
     );
     let Settled { site, trail } = store.end();
     end_with(cause, trail, site, clock)
+}
+
+/// [`go`], from where and by which rules its name says.
+pub(crate) fn go_named<V: Site, M: Named, C: Clock, A: Activities>(
+    alloc: Global,
+    site: V,
+    clock: C,
+    acts: &A,
+    prepared: Prepared,
+    options: RunOptions,
+) -> Ended<V, C>
+    requires can { CanGoOn prepared }
+    requires some { 0 < options.batch }
+    requires few { options.batch ≤ 64 }
+    requires fits { 0 < options.segment }
+    requires short { options.segment ≤ 2 ^ 31 }
+    requires rules { M.rules ≡ rules_with (job_of prepared) (state_of prepared.state) prepared.life }
+    requires stands { Stands M.rules M.log [] (state_of prepared.state) }
+    requires origin { IsOrigin (origin_with M.log M.steps) }
+    requires begun { V.tells site → HasBegun (origin_with M.log M.steps) (V.history site) (prepared.log ∷ []) }
+    ensures told { V.tells result.site → V.tells site }
+    ensures status { result.status ≡ status_of result.cause }
+    ensures late { IsLateCause result.cause }
+    ensures goes { V.tells result.site → GoesOn (may_follow M.rules) (may_say M.rules) M.rules (origin_with M.log M.steps) (V.history result.site) result.trail options.steps options.segment result.cause ⊎ Stays (V.history site) (V.history result.site) result.trail result.cause }
+    ensures fault { result.cause ≡ Cause.SiteFault → HasRisen (V.disk_faults site) (V.disk_faults result.site) }
+    ensures say_fault { result.cause ≡ Cause.SayFault → HasRisen (V.say_faults site) (V.say_faults result.site) }
+    ensures clock_fault { result.cause ≡ Cause.ClockFault → HasRisen (C.clock_faults clock) (C.clock_faults result.clock) }
+    ensures later { V.disk_faults site ≤ V.disk_faults result.site }
+    ensures say_later { V.say_faults site ≤ V.say_faults result.site }
+    ensures clock_later { C.clock_faults clock ≤ C.clock_faults result.clock }
+{
+    go::<V, Going<M>, C, A>(alloc, site, clock, acts, prepared, options)
 }

@@ -14,7 +14,7 @@ ghost use Rattle.site_model.specs.History.{content_of, tape};
 
 use crate::ended::{Ended, end_with};
 use crate::prepared::prepare;
-use crate::running::go;
+use crate::running::go_named;
 use crate::showing::show;
 use activity_table::Activities;
 use command_words::{Call, RunOptions, WordsError, read_words};
@@ -54,7 +54,7 @@ fn run_requests<V: Site, C: Clock, A: Activities>(
     ensures clock_later { C.clock_faults clock ≤ C.clock_faults result.clock }
 {
     match prepare(alloc, &mut site) {
-        Ok(prepared) => go::<V, Brand, C, A>(alloc, site, clock, acts, prepared, options),
+        Ok(prepared) => go_named::<V, Brand, C, A>(alloc, site, clock, acts, prepared, options),
         Err(cause) => end_with(cause, Trail::none(alloc), site, clock),
     }
 }
