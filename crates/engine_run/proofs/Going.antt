@@ -57,7 +57,7 @@ module _ (job : Job) (old steps new : List Step) (entries : List Entry) (state :
         stands = λ moment low high image is.
             subst (λ (n : ℕ). StandsOrderly (rules_with job state n) job.digest (origin_with log_is steps) (back_to moment new) (settled_at moment trail) image) life_is
             (in_order (rules_with job state life) job.digest (origin_with log_is steps) (back_to moment new) (settled_at moment trail) image
-                (moment_stands (origin_with log_is steps) (rules_with job state life) job.digest begins (back_to moment new) (settled_at moment trail) image (goes.every moment low high) is));
+            (moment_stands (origin_with log_is steps) (rules_with job state life) job.digest begins (back_to moment new) (settled_at moment trail) image (goes.every moment low high) is));
         every = subst (λ (n : ℕ). AtEveryMoment (may_follow (rules_with job state n)) (may_say (rules_with job state n)) (origin_with log_is steps) new trail) life_is goes.every;
         ends = subst (λ (n : ℕ). RunEndsAs (rules_with job state n) (origin_with log_is steps) new trail most_labels segment_length cause) life_is goes.ends;
       }

@@ -149,8 +149,8 @@ module _ (job : Job) (old : List Step) (one : kept_in 0 (content_of 16 old) ≡ 
       let none : kept_in 0 (image 17) ≡ nothing = ap (kept_in 0) second ∙ two in
       let stands = λ (is : entries_in (logs_in (alone_with job.digest) image) ≡ Some []). labels_stand job.flows job.digest image [] (fresh 0) is refl tt in
       let empty = λ (is : reading_of (image 16) ≡ is_fresh).
-          let first : kept_in 0 (image 16) ≡ nothing = (nothing_yet 0 (image 16)).0 is in
-          stands (ap (λ (k : Kept). entries_in (logs_of (alone_with job.digest) k (kept_in 0 (image 17)))) first ∙ ap (λ (k : Kept). entries_in (logs_of (alone_with job.digest) nothing k)) none) in
+      let first : kept_in 0 (image 16) ≡ nothing = (nothing_yet 0 (image 16)).0 is in
+      stands (ap (λ (k : Kept). entries_in (logs_of (alone_with job.digest) k (kept_in 0 (image 17)))) first ∙ ap (λ (k : Kept). entries_in (logs_of (alone_with job.digest) nothing k)) none) in
       elim formatting [
         | inl same ↦ empty (same ∙ (nothing_yet 0 (content_of 16 old)).1 one)
         | inr new ↦ elim new [

@@ -14,6 +14,8 @@ pub still_may : (rules : Rules) (trail more : List Settled) (told also : List Sa
 still_may rules trail more told also partition going none may =
     let none_here : of_part 0 more ≡ [] = subst (λ (p : ℕ). of_part p more ≡ []) may.0 none in
     let same : of_part 0 trail ≡ of_part 0 (trail ++ more) = sym (of_part-append 0 trail more ∙ ap (λ (l : List Entry). of_part 0 trail ++ l) none_here ∙ append-nil (of_part 0 trail)) in
-    let longer : pairs_of told ++ pairs_of also ≡ pairs_of (told ++ also) = sym (map-append (λ (one : Said). (one.client, one.number)) told also) in
-    (may.0, subst (λ (l : List Entry). Follows rules l (pairs_of (told ++ also)) going) same
-        (subst (λ (t : Told). Follows rules (of_part 0 trail) t going) longer (follows_still rules (pairs_of told) (pairs_of also) (of_part 0 trail) going may.1)))
+    let longer : pairs_of told ++ pairs_of also ≡ pairs_of (told ++ also) = sym (map-append (λ (one : Said). (one.client, one.number)) told also) in (
+      may.0,
+      subst (λ (l : List Entry). Follows rules l (pairs_of (told ++ also)) going) same
+          (subst (λ (t : Told). Follows rules (of_part 0 trail) t going) longer (follows_still rules (pairs_of told) (pairs_of also) (of_part 0 trail) going may.1)),
+    )

@@ -90,9 +90,9 @@ returns-in_err-log-clause-opens g c tells job asks =
     let kept = subst (λ (s : List Step). IsKept (changes_of 16 s)) (sym synced) (first_kept old) in
     let leaves = subst (λ (s : List Step). LeavesOnly 16 s now (IsFormatting (content_of 16 s) (header_with file.digest))) synced (c.in_err-log.ensures.during none tells kept) in
     let opens : OpensOnly own old now = λ entries state keeps given.
-        let same = same_entries own (λ f. content_of f old) recovered.entries entries (state_of found.state) state (record { kept = recovered.kept; made = recovered.placed }) keeps in
-        opens_from file.digest old own refl now entries None (subst (λ l. IsLogOf l None (logs_in (alone_with file.digest) (λ f. content_of f old))) same (subst (λ l. IsLogOf recovered.entries l (logs_in (alone_with file.digest) (λ f. content_of f old))) none recovered.log))
-        (λ f. g.met.V.Site.inside c.args.site.now f (c.read_input.ensures.told (c.recover_logs.ensures.told tells_then))) tt (λ is. leaves) keeps.kept in
+    let same = same_entries own (λ f. content_of f old) recovered.entries entries (state_of found.state) state (record { kept = recovered.kept; made = recovered.placed }) keeps in
+    opens_from file.digest old own refl now entries None (subst (λ l. IsLogOf l None (logs_in (alone_with file.digest) (λ f. content_of f old))) same (subst (λ l. IsLogOf recovered.entries l (logs_in (alone_with file.digest) (λ f. content_of f old))) none recovered.log))
+    (λ f. g.met.V.Site.inside c.args.site.now f (c.read_input.ensures.told (c.recover_logs.ensures.told tells_then))) tt (λ is. leaves) keeps.kept in
     subst (λ (j : Job). OpensOnly j old now) (same_job (λ f. content_of f old) own job asked asks) opens
 
 pub returns-clause-prepared : goal.returns-clause-prepared
@@ -108,7 +108,7 @@ returns-clause-prepared g c tells =
     let synced = c.in_ok-state.ensures.synced ∙ ap both_synced c.read_input.ensures.unchanged in
     let kept = subst (λ (s : List Step). IsKept (changes_of 16 s)) (sym synced) (first_kept old) in
     let rests = subst (λ (s : List Step). IfSome found.log (λ l. RestsFor s file.digest (logs old) l)) synced
-        (subst (λ (s : List Step). IfSome found.log (λ l. RestsFor (g.V.Site.history c.recover_logs.new.site) file.digest (logs s) l)) c.read_input.ensures.unchanged (c.in_ok-state.ensures.rests tells_then)) in
+    (subst (λ (s : List Step). IfSome found.log (λ l. RestsFor (g.V.Site.history c.recover_logs.new.site) file.digest (logs s) l)) c.read_input.ensures.unchanged (c.in_ok-state.ensures.rests tells_then)) in
     record {
       entries = recovered.entries;
       keeps = record { kept = recovered.kept; made = recovered.placed };
@@ -133,9 +133,9 @@ returns-clause-opens g c tells job asks =
     let synced = c.in_ok-state.ensures.synced ∙ ap both_synced c.read_input.ensures.unchanged in
     let kept = subst (λ (s : List Step). IsKept (changes_of 16 s)) (sym synced) (first_kept old) in
     let opens : OpensOnly own old now = λ entries state keeps given.
-        let same = same_entries own (λ f. content_of f old) recovered.entries entries (state_of found.state) state (record { kept = recovered.kept; made = recovered.placed }) keeps in
-        opens_from file.digest old own refl now entries found.log (subst (λ l. IsLogOf l found.log (logs_in (alone_with file.digest) (λ f. content_of f old))) same recovered.log)
-        (λ f. g.met.V.Site.inside c.args.site.now f (c.read_input.ensures.told (c.recover_logs.ensures.told tells_then)))
-        (some_with found.log (λ l. (Ok c.in_ok-log.log ≡ Ok l) × (now ≡ g.V.Site.history c.recover_logs.new.site)) (λ l. now ≡ both_synced old) (λ l is. is.1 ∙ synced) c.in_ok-log.ensures.there)
-        (λ is. subst (λ (s : List Step). LeavesOnly 16 s now (IsFormatting (content_of 16 s) (header_with file.digest))) synced (c.in_ok-log.ensures.during is tells kept)) keeps.kept in
+    let same = same_entries own (λ f. content_of f old) recovered.entries entries (state_of found.state) state (record { kept = recovered.kept; made = recovered.placed }) keeps in
+    opens_from file.digest old own refl now entries found.log (subst (λ l. IsLogOf l found.log (logs_in (alone_with file.digest) (λ f. content_of f old))) same recovered.log)
+    (λ f. g.met.V.Site.inside c.args.site.now f (c.read_input.ensures.told (c.recover_logs.ensures.told tells_then)))
+    (some_with found.log (λ l. (Ok c.in_ok-log.log ≡ Ok l) × (now ≡ g.V.Site.history c.recover_logs.new.site)) (λ l. now ≡ both_synced old) (λ l is. is.1 ∙ synced) c.in_ok-log.ensures.there)
+    (λ is. subst (λ (s : List Step). LeavesOnly 16 s now (IsFormatting (content_of 16 s) (header_with file.digest))) synced (c.in_ok-log.ensures.during is tells kept)) keeps.kept in
     subst (λ (j : Job). OpensOnly j old now) (same_job (λ f. content_of f old) own job asked asks) opens

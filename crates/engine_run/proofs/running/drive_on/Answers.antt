@@ -21,5 +21,5 @@ returns-in-Err-clause-ends g c tells =
     subst (λ (cause : Cause). EndsAs g.N.Start.may_follow g.N.Start.may_say rules g.N.Start.origin steps (trail_in new) c.args.options.steps c.args.options.segment cause) (sym c.cause_of.ensures)
     (stop_ends g.N.Start.may_follow g.N.Start.may_say rules g.N.Start.origin steps (trail_in new) (told_in new) c.args.options.steps c.args.options.segment (way_of new.ways.items 0) c.in-Err.stop c.requires.fits
     (λ partition length_then is. subst (λ (n : ℕ). IsFull rules (of_part 0 (trail_in new)) (pairs_of (told_in new)) n (way_of new.ways.items 0) partition length_then) segment
-        (c.in-Err.ensures.full partition length_then (ap (λ (stop : Stop). Err stop) is)))
+    (c.in-Err.ensures.full partition length_then (ap (λ (stop : Stop). Err stop) is)))
     fits)

@@ -45,5 +45,5 @@ returns-clause-goes g c tells =
       ends = c.drive_on-cause.ensures.ends tells_then;
     } in
     inl (subst (λ (cause : Cause). GoesOn g.N.Start.may_follow g.N.Start.may_say g.N.Ruled.rules g.N.Start.origin (g.V.Site.history end.result.site) end.result.trail most segment cause) (sym end.ensures.cause)
-        (subst (λ (t : List Settled). GoesOn g.N.Start.may_follow g.N.Start.may_say g.N.Ruled.rules g.N.Start.origin (g.V.Site.history end.result.site) t most segment c.drive_on-cause.result) (sym trail_is)
-        (subst (λ site. GoesOn g.N.Start.may_follow g.N.Start.may_say g.N.Ruled.rules g.N.Start.origin (g.V.Site.history site) (trail_in store) most segment c.drive_on-cause.result) (sym site_is) goes)))
+    (subst (λ (t : List Settled). GoesOn g.N.Start.may_follow g.N.Start.may_say g.N.Ruled.rules g.N.Start.origin (g.V.Site.history end.result.site) t most segment c.drive_on-cause.result) (sym trail_is)
+    (subst (λ site. GoesOn g.N.Start.may_follow g.N.Start.may_say g.N.Ruled.rules g.N.Start.origin (g.V.Site.history site) (trail_in store) most segment c.drive_on-cause.result) (sym site_is) goes)))

@@ -59,15 +59,15 @@ returns-in-Ok-clause-headline g c tells job asks =
     let asked = c.in-Ok.ensures.asks told in
     let opens = c.in-Ok.ensures.opens told own asked in
     let core : Headline own (λ file. content_of file old) old new end.trail c.args.options.steps c.args.options.segment end.cause = λ entries begin keeps given.
-        let same = same_entries own (λ file. content_of file old) prepared.entries entries state begin prepared.keeps keeps in
-        let same_begin = same_state own (λ file. content_of file old) prepared.entries entries state begin prepared.keeps keeps in
-        elim (c.go_named.ensures.goes tells) [
-          | inl goes ↦
-              let runs = runs_on own old steps new prepared.entries state prepared.keeps (subst (AreGivenIn own) (sym same) given) p.log prepared.opened opens p.life prepared.life_is c.in-Ok.ensures.can.younger end.trail c.args.options.steps c.args.options.segment end.cause goes in
-              inl (subst (λ (l : List Entry). RunsOn own l begin old new end.trail c.args.options.steps c.args.options.segment end.cause) same
-                  (subst (λ (q : Partition). RunsOn own prepared.entries q old new end.trail c.args.options.steps c.args.options.segment end.cause) same_begin runs))
-          | inr stays ↦ inr (record { nothing = stays.nothing; opening = subst (Always (IsOpening own entries old) old) (sym stays.same) (opens entries begin keeps given) })
-        ] in
+    let same = same_entries own (λ file. content_of file old) prepared.entries entries state begin prepared.keeps keeps in
+    let same_begin = same_state own (λ file. content_of file old) prepared.entries entries state begin prepared.keeps keeps in
+    elim (c.go_named.ensures.goes tells) [
+      | inl goes ↦
+          let runs = runs_on own old steps new prepared.entries state prepared.keeps (subst (AreGivenIn own) (sym same) given) p.log prepared.opened opens p.life prepared.life_is c.in-Ok.ensures.can.younger end.trail c.args.options.steps c.args.options.segment end.cause goes in
+          inl (subst (λ (l : List Entry). RunsOn own l begin old new end.trail c.args.options.steps c.args.options.segment end.cause) same
+          (subst (λ (q : Partition). RunsOn own prepared.entries q old new end.trail c.args.options.steps c.args.options.segment end.cause) same_begin runs))
+      | inr stays ↦ inr (record { nothing = stays.nothing; opening = subst (Always (IsOpening own entries old) old) (sym stays.same) (opens entries begin keeps given) })
+    ] in
     subst (λ (j : Job). Headline j (λ file. content_of file old) old new end.trail c.args.options.steps c.args.options.segment end.cause) (same_job (λ file. content_of file old) own job asked asks) core
 
 pub returns-in-Err-clause-headline : goal.returns-in-Err-clause-headline
