@@ -69,7 +69,16 @@ pub(crate) fn take_next<A: Activities, C: Clock>(
         Err(_) => return Err(Stop::ClockFault),
     };
     let chance = Chance { now: later, word };
-    let second = gather(alloc, flows, acts, first.state, port, clients, chance, limit)?;
+    let second = gather(
+        alloc,
+        flows,
+        acts,
+        first.state,
+        port,
+        clients,
+        chance,
+        limit,
+    )?;
     if second.items.is_empty() {
         return Err(Stop::Memory);
     }
