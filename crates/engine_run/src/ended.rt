@@ -1,9 +1,12 @@
-//! What a run gives back.
+//! What a call gives back.
 
-use input_reader::Cause;
-use part_driver::Trail;
+ghost use Rattle.std.specs.Prelude.{◌≡◌};
+ghost use Rattle.run_causes.specs.Causes.{status_of};
 
-/// What a run gives back.
+use hub_store::Trail;
+use run_causes::Cause;
+
+/// What a call gives back.
 #[derive(Drop)]
 pub struct Ended<V, C> {
     /// The exit status.
@@ -16,4 +19,21 @@ pub struct Ended<V, C> {
     pub site: V,
     /// The clock, whatever happened.
     pub clock: C,
+}
+
+/// A call that ended for this cause.
+pub(crate) fn end_with<V, C>(cause: Cause, trail: Trail, site: V, clock: C) -> Ended<V, C>
+    ensures status { result.status ≡ status_of cause }
+    ensures cause { result.cause ≡ cause }
+    ensures trail { result.trail ≡ trail }
+    ensures site { result.site ≡ site }
+    ensures clock { result.clock ≡ clock }
+{
+    Ended {
+        status: cause.status(),
+        cause,
+        trail,
+        site,
+        clock,
+    }
 }

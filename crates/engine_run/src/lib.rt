@@ -1,15 +1,24 @@
-//! The engine. `run` reads what it is asked for, recovers what the log keeps, commits each step of the workflow before
-//! the next, and says each answer once what it answers is committed.
+//! The engine. `run` reads what it is asked for, recovers what the logs keep, commits each step before the next, and says each
+//! answer once what it answers is committed; or it shows what is there.
 //!
-//! - `words` is the command, `ended` what a run gives back, and `top` the call that a program makes. `specs/Headline` is
-//!   what it promises of every moment.
-//! - `recorded` is that call over recorded calls of the system, which is what the program makes.
+//! - `ended` is what a call gives back, and `top` the call that a program makes; `recorded` is that call over recorded calls of the
+//!   system, which is what the program makes. `specs/Headline` is what it promises of every moment.
+//! - `examples`: what the definitions of its clauses say of single cases (`specs/Examples`).
+//! - `prepared` is what a run begins with: what was read, and what was recovered (`opening`), which is no other than what is asked
+//!   for (`kept`); `order`: which request comes first. `running` goes on from there, under rules that are picked where it is called (`specs/Picks`).
 #![tactic(auto)]
 
 mod ended;
+mod examples;
+mod kept;
+mod named;
+mod opening;
+mod order;
+mod prepared;
 mod recorded;
+mod running;
+mod showing;
 mod top;
-mod words;
 
 pub use ended::Ended;
 pub use recorded::run_recorded;

@@ -1,25 +1,25 @@
 //! The top call over calls of the system that are recorded.
 
-ghost use Rattle.std.specs.Prelude.{◌≡◌, ◌≢◌, ◌≤◌, [], length};
-ghost use Rattle.std.specs.List.{All};
-ghost use Rattle.site_model.specs.History.{tape};
-ghost use Rattle.site_model.specs.Calls.{HasRisen};
-ghost use Rattle.site_model.specs.Moments.{Always};
+ghost use Rattle.std.specs.Prelude.{◌≡◌, ◌⊎◌, ◌≤◌, ℕ, [], None, Some};
+ghost use Rattle.command_words.specs.Command.{call_in};
+ghost use Rattle.command_words.specs.declared.words.Call.TheVariants as calls;
+ghost use Rattle.command_words.specs.declared.words.RunOptions.{RunOptions as AnyOptions};
+ghost use Rattle.engine_run.specs.Causes.{AsksFor, Answers, Untouched};
+ghost use Rattle.engine_run.specs.Headline.{Headline};
+ghost use Rattle.engine_run.specs.Job.{Job};
+ghost use Rattle.engine_run.specs.Recorded.{files_before, steps_before, steps_after};
+ghost use Rattle.engine_run.specs.Showing.{ShowsAs, WritesNothing};
+ghost use Rattle.run_causes.specs.Causes.{status_of};
 ghost use Rattle.site_calls.specs.Events.{Tells};
 ghost use Rattle.site_calls.specs.Site.{calls_of, disk_faults_of, say_faults_of};
-ghost use Rattle.engine_run.specs.Causes.{Answers};
-ghost use Rattle.input_reader.specs.Refusal.{status_of};
-ghost use Rattle.engine_run.specs.Headline.{Headline, IsDone};
-ghost use Rattle.engine_run.specs.Recorded.{files_before, steps_before, steps_after};
-ghost use Rattle.engine_run.specs.Run.{Says, Untouched};
-ghost use Rattle.part_driver.specs.Trail.{Rises};
-ghost use Rattle.engine_run.specs.Words.{run_words};
+ghost use Rattle.site_model.specs.Calls.{HasRisen};
+ghost use Rattle.site_model.specs.History.{tape};
 
 use crate::ended::Ended;
 use crate::top::run;
-use activity_table::SumActivities;
+use activity_table::Activities;
 use dura_value::Text;
-use input_reader::Cause;
+use run_causes::Cause;
 use site_calls::{CalledSite, Calls, Start};
 use site_model::Clock;
 use std::alloc::Global;
@@ -35,7 +35,7 @@ pub fn run_recorded<
     C: Calls + Send,
     S: Start + Send,
     K: Clock + Send,
-    A: SumActivities + Sync,
+    A: Activities + Sync,
 >(
     rt: &R,
     alloc: Global,
@@ -47,30 +47,32 @@ pub fn run_recorded<
     requires { C.events (calls_of site) ≡ [] }
     ensures status { result.status ≡ status_of result.cause }
 
-    // The words alone decide on a usage fault.
-    ensures usage { words.now ≢ run_words → result.cause ≡ Cause.Usage }
-    ensures only_usage { result.cause ≡ Cause.Usage → words.now ≢ run_words }
+    // The words alone decide on a usage fault, and then nothing happens.
+    ensures usage { call_in words.now ≡ None → (result.cause ≡ Cause.Usage) ⊎ (result.cause ≡ Cause.Memory) }
+    ensures only_usage { result.cause ≡ Cause.Usage → call_in words.now ≡ None }
+    ensures idle { call_in words.now ≡ None → (steps_after S.unseen (C.events (calls_of result.site))) ≡ (steps_before S.unseen) }
 
-    // Which other causes there may be, by what the files held at the start.
-    ensures answers { Tells S.unseen (C.events (calls_of result.site)) → words.now ≡ run_words → Answers (files_before S.unseen) result.cause }
+    // Which other causes a run may end with, by what the files held at the start, and that a refusal writes and says nothing.
+    ensures answers { Tells S.unseen (C.events (calls_of result.site)) → (options : AnyOptions) → call_in words.now ≡ Some (calls.Run options) → Answers (files_before S.unseen) result.cause }
+    ensures untouched { (options : AnyOptions) → call_in words.now ≡ Some (calls.Run options) → Untouched (steps_before S.unseen) (steps_after S.unseen (C.events (calls_of result.site))) result.cause }
+
+    // At every moment of a run, inside each call of the site too, a crash leaves files that stand for a legal run of the
+    // failure-free machine: the one at the start, then what is settled by then, then at most the one frame whose gate is being
+    // written; and what was said by then answers requests as that run does. And why it ends.
+    ensures headline { Tells S.unseen (C.events (calls_of result.site)) → (options : AnyOptions) → call_in words.now ≡ Some (calls.Run options) → (job : Job) → AsksFor (files_before S.unseen) job
+        → Headline job (files_before S.unseen) (steps_before S.unseen) (steps_after S.unseen (C.events (calls_of result.site))) result.trail options.steps options.segment (K.latest result.clock) result.cause }
+
+    // What is shown, and that nothing is written then.
+    ensures shows { Tells S.unseen (C.events (calls_of result.site)) → (partitions : ℕ) → call_in words.now ≡ Some (calls.Show partitions) → ShowsAs (files_before S.unseen) (tape (steps_before S.unseen)) (tape (steps_after S.unseen (C.events (calls_of result.site)))) result.cause }
+    ensures writes_nothing { (partitions : ℕ) → call_in words.now ≡ Some (calls.Show partitions) → WritesNothing (steps_before S.unseen) (steps_after S.unseen (C.events (calls_of result.site))) }
 
     // A fault has its cause.
-    ensures site_fault { result.cause ≡ Cause.SiteFault → HasRisen (disk_faults_of site) (disk_faults_of result.site) }
+    ensures fault { result.cause ≡ Cause.SiteFault → HasRisen (disk_faults_of site) (disk_faults_of result.site) }
     ensures say_fault { result.cause ≡ Cause.SayFault → HasRisen (say_faults_of site) (say_faults_of result.site) }
-    ensures disk_later { disk_faults_of site ≤ disk_faults_of result.site }
+    ensures clock_fault { result.cause ≡ Cause.ClockFault → HasRisen (K.clock_faults clock) (K.clock_faults result.clock) }
+    ensures later { disk_faults_of site ≤ disk_faults_of result.site }
     ensures say_later { say_faults_of site ≤ say_faults_of result.site }
-
-    // What was said, and that a refusal changes nothing.
-    ensures says { Tells S.unseen (C.events (calls_of result.site)) → Says (files_before S.unseen) (tape (steps_before S.unseen)) (tape (steps_after S.unseen (C.events (calls_of result.site)))) result.cause }
-    ensures untouched { Tells S.unseen (C.events (calls_of result.site)) → Untouched (steps_before S.unseen) (steps_after S.unseen (C.events (calls_of result.site))) result.cause }
-
-    // At every moment, inside each call of the system too, a crash leaves files that stand for a legal run.
-    ensures headline { Tells S.unseen (C.events (calls_of result.site))
-        → Always (Headline (files_before S.unseen) (steps_before S.unseen) result.trail) (steps_before S.unseen) (steps_after S.unseen (C.events (calls_of result.site))) }
-    ensures rises { Tells S.unseen (C.events (calls_of result.site)) → Rises (length (steps_before S.unseen)) result.trail (length (steps_after S.unseen (C.events (calls_of result.site)))) }
-    ensures homes { All (λ e. e.partition ≡ 0) result.trail }
-    ensures done { Tells S.unseen (C.events (calls_of result.site)) → result.cause ≡ Cause.Done → IsDone (files_before S.unseen) (steps_before S.unseen) result.trail (steps_after S.unseen (C.events (calls_of result.site))) }
-    ensures clock { result.clock ≡ clock }
+    ensures clock_later { K.clock_faults clock ≤ K.clock_faults result.clock }
 {
     run(rt, alloc, words, site, clock, acts)
 }

@@ -1,112 +1,123 @@
 //! The top call.
 
-ghost use Rattle.std.specs.Prelude.{◌≡◌, ◌≢◌, ◌≤◌, [], length};
-ghost use Rattle.std.specs.List.{All};
-ghost use Rattle.site_model.specs.History.{content_of, tape};
+ghost use Rattle.std.specs.Prelude.{◌≡◌, ◌≢◌, ◌⊎◌, ◌≤◌, ◌<◌, ◌^◌, ℕ, [], None, Some};
+ghost use Rattle.command_words.specs.Command.{call_in};
+ghost use Rattle.command_words.specs.declared.words.Call.TheVariants as calls;
+ghost use Rattle.command_words.specs.declared.words.RunOptions.{RunOptions as AnyOptions};
+ghost use Rattle.engine_run.specs.Causes.{AsksFor, Answers, Untouched};
+ghost use Rattle.engine_run.specs.Headline.{Headline};
+ghost use Rattle.engine_run.specs.Job.{Job};
+ghost use Rattle.engine_run.specs.Showing.{ShowsAs, WritesNothing};
+ghost use Rattle.run_causes.specs.Causes.{status_of};
 ghost use Rattle.site_model.specs.Calls.{HasRisen};
-ghost use Rattle.site_model.specs.Moments.{Always};
-ghost use Rattle.engine_run.specs.Causes.{Answers};
-ghost use Rattle.input_reader.specs.Refusal.{status_of};
-ghost use Rattle.engine_run.specs.Headline.{Headline, IsDone};
-ghost use Rattle.engine_run.specs.Run.{Says, Untouched};
-ghost use Rattle.part_driver.specs.Trail.{Rises};
-ghost use Rattle.engine_run.specs.Words.{run_words};
+ghost use Rattle.site_model.specs.History.{content_of, tape};
 
-use crate::ended::Ended;
-use crate::words::is_run_command;
-use activity_table::SumActivities;
+use crate::ended::{Ended, end_with};
+use crate::prepared::prepare;
+use crate::running::go_named;
+use crate::showing::show;
+use activity_table::Activities;
+use command_words::{Call, RunOptions, WordsError, read_words};
 use dura_value::Text;
-use input_reader::{Cause, read_input};
-use part_driver::{Entry, Trail, drive, recover};
+use hub_store::Trail;
+use run_causes::Cause;
 use site_model::{Clock, Site};
 use std::alloc::Global;
+use std::marker::Brand;
 use std::sync::Wait;
 use std::thread::Threads;
 
-/// Reads the input, recovers, and drives the labels, in this order.
-fn perform<V: Site, A: SumActivities>(
+/// Runs the requests of the site's files.
+fn run_requests<V: Site, C: Clock, A: Activities>(
     alloc: Global,
-    site: &mut V,
+    mut site: V,
+    clock: C,
     acts: &A,
-    entries: &mut Vec<Entry>,
-) -> Cause
-    requires { entries.old.items ≡ [] }
-    ensures told { V.tells site.new → V.tells site.old }
-    ensures answers { V.tells site.new → Answers (λ file. content_of file (V.history site.old)) result }
-    ensures says { V.tells site.new → Says (λ file. content_of file (V.history site.old)) (tape (V.history site.old)) (tape (V.history site.new)) result }
-    ensures untouched { V.tells site.new → Untouched (V.history site.old) (V.history site.new) result }
-    ensures headline { V.tells site.new → Always (Headline (λ file. content_of file (V.history site.old)) (V.history site.old) entries.new.items) (V.history site.old) (V.history site.new) }
-    ensures rises { V.tells site.new → Rises (length (V.history site.old)) entries.new.items (length (V.history site.new)) }
-    ensures homes { All (λ e. e.partition ≡ 0) entries.new.items }
-    ensures done { V.tells site.new → result ≡ Cause.Done → IsDone (λ file. content_of file (V.history site.old)) (V.history site.old) entries.new.items (V.history site.new) }
-    ensures no_usage { result ≢ Cause.Usage }
-    ensures site_fault { result ≡ Cause.SiteFault → HasRisen (V.disk_faults site.old) (V.disk_faults site.new) }
-    ensures say_fault { result ≡ Cause.SayFault → HasRisen (V.say_faults site.old) (V.say_faults site.new) }
-    ensures disk_later { V.disk_faults site.old ≤ V.disk_faults site.new }
-    ensures say_later { V.say_faults site.old ≤ V.say_faults site.new }
+    options: RunOptions,
+) -> Ended<V, C>
+    requires some { 0 < options.batch }
+    requires few { options.batch ≤ 64 }
+    requires fits { 0 < options.segment }
+    requires short { options.segment ≤ 2 ^ 31 }
+    ensures told { V.tells result.site → V.tells site }
+    ensures status { result.status ≡ status_of result.cause }
+    ensures no_usage { result.cause ≢ Cause.Usage }
+    ensures answers { V.tells result.site → Answers (λ file. content_of file (V.history site)) result.cause }
+    ensures untouched { Untouched (V.history site) (V.history result.site) result.cause }
+    ensures headline { V.tells result.site → (job : Job) → AsksFor (λ file. content_of file (V.history site)) job
+        → Headline job (λ file. content_of file (V.history site)) (V.history site) (V.history result.site) result.trail options.steps options.segment (C.latest result.clock) result.cause }
+    ensures fault { result.cause ≡ Cause.SiteFault → HasRisen (V.disk_faults site) (V.disk_faults result.site) }
+    ensures say_fault { result.cause ≡ Cause.SayFault → HasRisen (V.say_faults site) (V.say_faults result.site) }
+    ensures clock_fault { result.cause ≡ Cause.ClockFault → HasRisen (C.clock_faults clock) (C.clock_faults result.clock) }
+    ensures later { V.disk_faults site ≤ V.disk_faults result.site }
+    ensures say_later { V.say_faults site ≤ V.say_faults result.site }
+    ensures clock_later { C.clock_faults clock ≤ C.clock_faults result.clock }
 {
-    let input = match read_input(alloc, site) {
-        Ok(input) => input,
-        Err(cause) => return cause,
-    };
-    let recovered = match recover(alloc, site, &input) {
-        Ok(recovered) => recovered,
-        Err(cause) => return cause,
-    };
-    match drive(alloc, site, acts, &input, recovered, entries) {
-        Ok(()) => Cause::Done,
-        Err(cause) => cause,
+    match prepare(alloc, &mut site) {
+        Ok(prepared) => go_named::<V, Brand, C, A>(alloc, site, clock, acts, prepared, options),
+        Err(cause) => end_with(cause, Trail::none(alloc), site, clock),
     }
 }
 
-/// `run` without threads. It returns for every input.
-pub fn run_alone<V: Site, C: Clock, A: SumActivities>(
+/// [`run`] without threads. It returns for every input, once each wait of the clock does.
+pub fn run_alone<V: Site, C: Clock, A: Activities>(
     alloc: Global,
     words: &[Text],
-    site: V,
+    mut site: V,
     clock: C,
     acts: &A,
 ) -> Ended<V, C>
     ensures told { V.tells result.site → V.tells site }
     ensures status { result.status ≡ status_of result.cause }
-    ensures usage { words.now ≢ run_words → result.cause ≡ Cause.Usage }
-    ensures only_usage { result.cause ≡ Cause.Usage → words.now ≢ run_words }
-    ensures answers { V.tells result.site → words.now ≡ run_words → Answers (λ file. content_of file (V.history site)) result.cause }
-    ensures says { V.tells result.site → Says (λ file. content_of file (V.history site)) (tape (V.history site)) (tape (V.history result.site)) result.cause }
-    ensures untouched { V.tells result.site → Untouched (V.history site) (V.history result.site) result.cause }
-    ensures headline { V.tells result.site → Always (Headline (λ file. content_of file (V.history site)) (V.history site) result.trail) (V.history site) (V.history result.site) }
-    ensures rises { V.tells result.site → Rises (length (V.history site)) result.trail (length (V.history result.site)) }
-    ensures homes { All (λ e. e.partition ≡ 0) result.trail }
-    ensures done { V.tells result.site → result.cause ≡ Cause.Done → IsDone (λ file. content_of file (V.history site)) (V.history site) result.trail (V.history result.site) }
-    ensures site_fault { result.cause ≡ Cause.SiteFault → HasRisen (V.disk_faults site) (V.disk_faults result.site) }
+
+    // The words alone decide on a usage fault, and then nothing happens.
+    ensures usage { call_in words.now ≡ None → (result.cause ≡ Cause.Usage) ⊎ (result.cause ≡ Cause.Memory) }
+    ensures only_usage { result.cause ≡ Cause.Usage → call_in words.now ≡ None }
+    ensures idle { call_in words.now ≡ None → V.history result.site ≡ V.history site }
+
+    // Which other causes a run may end with, by what the files held at the start, and that a refusal writes and says nothing.
+    ensures answers { V.tells result.site → (options : AnyOptions) → call_in words.now ≡ Some (calls.Run options) → Answers (λ file. content_of file (V.history site)) result.cause }
+    ensures untouched { (options : AnyOptions) → call_in words.now ≡ Some (calls.Run options) → Untouched (V.history site) (V.history result.site) result.cause }
+
+    // At every moment of a run, inside each call of the site too, a crash leaves files that stand for a legal run of the
+    // failure-free machine: the one at the start, then what is settled by then, then at most the one frame whose gate is being
+    // written; and what was said by then answers requests as that run does. And why it ends.
+    ensures headline { V.tells result.site → (options : AnyOptions) → call_in words.now ≡ Some (calls.Run options) → (job : Job) → AsksFor (λ file. content_of file (V.history site)) job
+        → Headline job (λ file. content_of file (V.history site)) (V.history site) (V.history result.site) result.trail options.steps options.segment (C.latest result.clock) result.cause }
+
+    // What is shown, and that nothing is written then.
+    ensures shows { V.tells result.site → (partitions : ℕ) → call_in words.now ≡ Some (calls.Show partitions) → ShowsAs (λ file. content_of file (V.history site)) (tape (V.history site)) (tape (V.history result.site)) result.cause }
+    ensures writes_nothing { (partitions : ℕ) → call_in words.now ≡ Some (calls.Show partitions) → WritesNothing (V.history site) (V.history result.site) }
+
+    // A fault has its cause.
+    ensures fault { result.cause ≡ Cause.SiteFault → HasRisen (V.disk_faults site) (V.disk_faults result.site) }
     ensures say_fault { result.cause ≡ Cause.SayFault → HasRisen (V.say_faults site) (V.say_faults result.site) }
-    ensures disk_later { V.disk_faults site ≤ V.disk_faults result.site }
+    ensures clock_fault { result.cause ≡ Cause.ClockFault → HasRisen (C.clock_faults clock) (C.clock_faults result.clock) }
+    ensures later { V.disk_faults site ≤ V.disk_faults result.site }
     ensures say_later { V.say_faults site ≤ V.say_faults result.site }
-    ensures clock { result.clock ≡ clock }
+    ensures clock_later { C.clock_faults clock ≤ C.clock_faults result.clock }
 {
-    let mut site = site;
-    let mut entries = Vec::new(alloc);
-    let cause = if is_run_command(words) {
-        perform(alloc, &mut site, acts, &mut entries)
-    } else {
-        Cause::Usage
-    };
-    Ended {
-        status: cause.status(),
-        cause,
-        trail: Trail::of(entries),
-        site,
-        clock,
+    match read_words(alloc, words) {
+        Ok(Call::Run(options)) => run_requests(alloc, site, clock, acts, options),
+        Ok(Call::Show(_)) => {
+            let cause = show(alloc, &mut site);
+            end_with(cause, Trail::none(alloc), site, clock)
+        }
+        Err(WordsError::Usage) => end_with(Cause::Usage, Trail::none(alloc), site, clock),
+        Err(WordsError::Memory) => end_with(Cause::Memory, Trail::none(alloc), site, clock),
     }
 }
 
-/// Runs the workflow that the site's files ask for, and remembers it there: reads the words and files 0, 1 and 2,
-/// recovers what file 16 keeps, commits each step of the workflow before the next, and says each answer once what it
-/// answers is committed. `rt` may start and join threads; until there are any it isn't used. The clock isn't read yet.
+/// Runs the requests that the site's files hold, or shows what is there, as the words say.
 ///
-/// A refusal is the first of these: the words, then files 0, 1 and 2 in this order, each one's length before its bytes,
-/// then file 16.
-pub fn run<R: Threads + Wait + Sync, V: Site + Send, C: Clock + Send, A: SumActivities + Sync>(
+/// `run` reads files 0, 1 and 2 (the flows, the requests and the plan), recovers what the logs keep, commits each step before the
+/// next, and says each answer once what it answers is committed, until nothing is possible any more or as many labels were
+/// settled as may be. `show` reads file 0, recovers, and says a line for each entity and each instance. `rt` may start and join
+/// threads; until there are any it isn't used.
+///
+/// A refusal is the first of these: the words, then files 0, 1 and 2 in this order, each one's length before its bytes, then the
+/// logs, then a request under whose client and number another was taken.
+pub fn run<R: Threads + Wait + Sync, V: Site + Send, C: Clock + Send, A: Activities + Sync>(
     rt: &R,
     alloc: Global,
     words: &[Text],
@@ -117,32 +128,32 @@ pub fn run<R: Threads + Wait + Sync, V: Site + Send, C: Clock + Send, A: SumActi
     ensures told { V.tells result.site → V.tells site }
     ensures status { result.status ≡ status_of result.cause }
 
-    // The words alone decide on a usage fault.
-    ensures usage { words.now ≢ run_words → result.cause ≡ Cause.Usage }
-    ensures only_usage { result.cause ≡ Cause.Usage → words.now ≢ run_words }
+    // The words alone decide on a usage fault, and then nothing happens.
+    ensures usage { call_in words.now ≡ None → (result.cause ≡ Cause.Usage) ⊎ (result.cause ≡ Cause.Memory) }
+    ensures only_usage { result.cause ≡ Cause.Usage → call_in words.now ≡ None }
+    ensures idle { call_in words.now ≡ None → V.history result.site ≡ V.history site }
 
-    // Which other causes there may be, by what the files read at the start.
-    ensures answers { V.tells result.site → words.now ≡ run_words → Answers (λ file. content_of file (V.history site)) result.cause }
+    // Which other causes a run may end with, by what the files held at the start, and that a refusal writes and says nothing.
+    ensures answers { V.tells result.site → (options : AnyOptions) → call_in words.now ≡ Some (calls.Run options) → Answers (λ file. content_of file (V.history site)) result.cause }
+    ensures untouched { (options : AnyOptions) → call_in words.now ≡ Some (calls.Run options) → Untouched (V.history site) (V.history result.site) result.cause }
+
+    // At every moment of a run, inside each call of the site too, a crash leaves files that stand for a legal run of the
+    // failure-free machine: the one at the start, then what is settled by then, then at most the one frame whose gate is being
+    // written; and what was said by then answers requests as that run does. And why it ends.
+    ensures headline { V.tells result.site → (options : AnyOptions) → call_in words.now ≡ Some (calls.Run options) → (job : Job) → AsksFor (λ file. content_of file (V.history site)) job
+        → Headline job (λ file. content_of file (V.history site)) (V.history site) (V.history result.site) result.trail options.steps options.segment (C.latest result.clock) result.cause }
+
+    // What is shown, and that nothing is written then.
+    ensures shows { V.tells result.site → (partitions : ℕ) → call_in words.now ≡ Some (calls.Show partitions) → ShowsAs (λ file. content_of file (V.history site)) (tape (V.history site)) (tape (V.history result.site)) result.cause }
+    ensures writes_nothing { (partitions : ℕ) → call_in words.now ≡ Some (calls.Show partitions) → WritesNothing (V.history site) (V.history result.site) }
 
     // A fault has its cause.
-    ensures site_fault { result.cause ≡ Cause.SiteFault → HasRisen (V.disk_faults site) (V.disk_faults result.site) }
+    ensures fault { result.cause ≡ Cause.SiteFault → HasRisen (V.disk_faults site) (V.disk_faults result.site) }
     ensures say_fault { result.cause ≡ Cause.SayFault → HasRisen (V.say_faults site) (V.say_faults result.site) }
-    ensures disk_later { V.disk_faults site ≤ V.disk_faults result.site }
+    ensures clock_fault { result.cause ≡ Cause.ClockFault → HasRisen (C.clock_faults clock) (C.clock_faults result.clock) }
+    ensures later { V.disk_faults site ≤ V.disk_faults result.site }
     ensures say_later { V.say_faults site ≤ V.say_faults result.site }
-
-    // What was said, and that a refusal changes nothing.
-    ensures says { V.tells result.site → Says (λ file. content_of file (V.history site)) (tape (V.history site)) (tape (V.history result.site)) result.cause }
-    ensures untouched { V.tells result.site → Untouched (V.history site) (V.history result.site) result.cause }
-
-    // At every moment, inside each call of the site too, a crash leaves files that stand for a legal run of the
-    // failure-free machine: the one at the start, then what is settled by then, then at most the one entry whose gate is
-    // being written. What was said by then is that run's, and nothing else that a run must never do is in it. The moments on
-    // the trail rise. At the end of a run that is done nothing is left to do, and every request is answered and said.
-    ensures headline { V.tells result.site → Always (Headline (λ file. content_of file (V.history site)) (V.history site) result.trail) (V.history site) (V.history result.site) }
-    ensures rises { V.tells result.site → Rises (length (V.history site)) result.trail (length (V.history result.site)) }
-    ensures homes { All (λ e. e.partition ≡ 0) result.trail }
-    ensures done { V.tells result.site → result.cause ≡ Cause.Done → IsDone (λ file. content_of file (V.history site)) (V.history site) result.trail (V.history result.site) }
-    ensures clock { result.clock ≡ clock }
+    ensures clock_later { C.clock_faults clock ≤ C.clock_faults result.clock }
 {
     let _ = rt;
     run_alone(alloc, words, site, clock, acts)

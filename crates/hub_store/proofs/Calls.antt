@@ -1,6 +1,6 @@
 -- What each device call leaves of the log that it is made on.
 use Rattle.std.proofs.Common.{◌≡◌, ◌⊎◌, inl, inr, ℕ, List, [], ◌∷◌, ◌++◌, Result, Some, None, Ok, refl, sym, ◌∙◌, ap, subst, append_assoc}
-use Rattle.site_model.specs.History.{Change, wrote, synced, Step, on, changes_of}
+use Rattle.site_model.specs.History.{Change, wrote, synced, Step, on, changes_of, reads}
 use Rattle.site_model.specs.Calls.{Syncs}
 use Rattle.site_model.specs.Moments.{Always, Keeps, LeavesOnly}
 use Rattle.site_model.proofs.Paths.{first, last, weaker, only_here, own_change}
@@ -27,7 +27,7 @@ use Rattle.hub_store.specs.Moments.{WroteGate}
 use Rattle.hub_store.specs.Origin.{Origin}
 use Rattle.hub_store.specs.Trail.{Settled, Said, of_part}
 use Rattle.hub_store.specs.Ways.{LogFits, WayFits, GoesOn, going_in}
-use Rattle.hub_store.proofs.Payloads.{kept_payloads, decoded_more}
+use Rattle.hub_store.proofs.Payloads.{kept_payloads, decoded_more, synced_reads}
 use Rattle.hub_store.proofs.Standing.{OnLog, one_step}
 
 -- a frame stands there, safe behind its gate
@@ -63,7 +63,7 @@ module _ (MayFollow : List Settled → List Said → ℕ → List Entry → Type
   either_frames : (p : ℕ) (trail : List Settled) (told : List Said) (going : List Entry) (old steps : List Step) (payloads : List (List ℕ)) (gate next : ℕ)
       → decoded first_gate (first_of (o.logs p).header) payloads ≡ Ok ((o.logs p).entries ++ of_part p trail)
       → decoded first_gate (first_of (o.logs p).header) (payloads ++ spell_frame going ∷ []) ≡ Ok ((o.logs p).entries ++ of_part p trail ++ going)
-      → MayFollow trail told p going → WroteGate (changes_of (o.logs p).file steps)
+      → MayFollow trail told p going → WroteGate (o.logs p) (of_part p trail) (changes_of (o.logs p).file steps)
       → Keeps (o.logs p).file old (HasFramesOrOneMore (o.logs p).header payloads (spell_frame going) gate next) steps → OnLog MayFollow MaySay o p trail told old steps
   either_frames p trail told going old steps payloads gate next kept more follows written keeps = record {
     only = keeps.only;
@@ -131,7 +131,13 @@ module _ (MayFollow : List Settled → List Said → ℕ → List Entry → Type
         one_step old new (on file (wrote log.gate 1 bytes)) write
             (without p trail told old old fits.payloads log.gate fits.kept here)
             (λ is. either_frames p trail told (entries_of frame) old new fits.payloads log.gate log.next fits.kept fits.next follows
-            (log.gate, bytes, changes_of file old, inl (ap (changes_of file) is ∙ own_change file (wrote log.gate 1 bytes) old)) (last path)),
+            (record {
+              gate = log.gate;
+              bytes = bytes;
+              before = changes_of file old;
+              last = inl (ap (changes_of file) is ∙ own_change file (wrote log.gate 1 bytes) old);
+              kept = kept_payloads h fits.payloads log.gate ((o.logs p).entries ++ of_part p trail) (reads (changes_of file old)) (synced_reads h fits.payloads payload log.gate log.next (changes_of file old) fits.fits.1) fits.kept;
+            }) (last path)),
         fits_on p trail old new (ways.Synced log frame) way fits going stands,
       )
 
@@ -149,10 +155,13 @@ module _ (MayFollow : List Settled → List Said → ℕ → List Entry → Type
       subst (λ (f : ℕ). IsGated (changes_of f old) h fits.payloads payload log.gate log.next → LeavesOnly f old new (HasFramesOrOneMore h fits.payloads payload log.gate log.next)) fits.fits.0 (during h fits.payloads payload) fits.fits.1 in
       let sync : Syncs file old new result = subst (λ (f : ℕ). Syncs f old new result) fits.fits.0 syncs in
       let wrote_is = fits.fits.2 in
+      let kept_before = kept_payloads h fits.payloads log.gate ((o.logs p).entries ++ of_part p trail) (reads wrote_is.1) wrote_is.3 fits.kept in
+      let wrote_it : (changes : List Change) → (changes ≡ wrote log.gate 1 wrote_is.0 ∷ wrote_is.1) ⊎ (changes ≡ synced ∷ wrote log.gate 1 wrote_is.0 ∷ wrote_is.1) → WroteGate (o.logs p) (of_part p trail) changes =
+      λ changes is. record { gate = log.gate; bytes = wrote_is.0; before = wrote_is.1; last = is; kept = kept_before } in
       one_step old new (on file synced) sync.either
-      (either_frames p trail told (entries_of frame) old old fits.payloads log.gate log.next fits.kept fits.next follows (log.gate, wrote_is.0, wrote_is.1, inl wrote_is.2) (first path))
+      (either_frames p trail told (entries_of frame) old old fits.payloads log.gate log.next fits.kept fits.next follows (wrote_it (changes_of file old) (inl wrote_is.2)) (first path))
       (λ is. either_frames p trail told (entries_of frame) old new fits.payloads log.gate log.next fits.kept fits.next follows
-      (log.gate, wrote_is.0, wrote_is.1, inr (ap (changes_of file) is ∙ own_change file synced old ∙ ap (λ (changes : List Change). synced ∷ changes) wrote_is.2)) (last path))
+      (wrote_it (changes_of file new) (inr (ap (changes_of file) is ∙ own_change file synced old ∙ ap (λ (changes : List Change). synced ∷ changes) wrote_is.2))) (last path))
 
   -- behind it the log rests with the new frame
   pub settle_rests : (p : ℕ) (log : Gated) (frame : List rows.Entry) (trail : List Settled) (old new : List Step) (now : Resting) → now.file ≡ log.file

@@ -3,6 +3,7 @@ pub mod Bodies
 pub mod Calls
 pub mod EveryMoment
 pub mod FramesGo
+pub mod Later
 pub mod LogsStand
 pub mod Openings
 pub mod Payloads

@@ -72,17 +72,18 @@ module _ (MayFollow : List Settled → List Said → ℕ → List Entry → Type
 
 -- a store of these is sound
 pub sound_begun : {V N : Type 0} {G : sites.Ghosts V} {H : starts.Ghosts N} (store : Store V N G H) (logs : List Resting) → length logs ≡ H.origin.count → IsOrigin H.origin → store.ways.items ≡ map places.Resting logs → store.trail.items ≡ []
-    → store.told.items ≡ [] → store.due ≡ 0 → vec_len store.trail ≡ 0 → store.halted ≡ false → (G.tells store.site → HasBegun H.origin (G.history store.site) logs) → IsSound store
-sound_begun {V} {N} {G} {H} store logs many origin ways trail told due none halted begun = record {
+    → store.told.items ≡ [] → store.due ≡ 0 → vec_len store.trail ≡ 0 → store.cut ≡ false → (G.tells store.site → HasBegun H.origin (G.history store.site) logs) → IsSound store
+sound_begun {V} {N} {G} {H} store logs many origin ways trail told due none uncut begun = record {
   count = ap length ways ∙ length-map logs places.Resting ∙ many;
   apart = origin.apart;
   headers = origin.headers;
   due = ap (sum_by due_in) ways ∙ none_due logs ∙ sym due;
   room = omega (arith, due, none);
+  uncut = λ still. uncut;
   told = λ tells.
-      let stands = told_begun H.may_follow H.may_say H.origin (G.history store.site) logs many origin (begun tells) in
-      subst (λ (b : Bool). IsTold H.may_follow H.may_say H.origin (G.history store.site) store.ways.items (trail_of store.trail.items) (told_of store.told.items) b) (sym halted)
-      (subst (λ (w : List Way). IsTold H.may_follow H.may_say H.origin (G.history store.site) w (trail_of store.trail.items) (told_of store.told.items) false) (sym ways)
-      (subst (λ (t : List Settled). IsTold H.may_follow H.may_say H.origin (G.history store.site) (map places.Resting logs) t (told_of store.told.items) false) (sym (ap trail_of trail))
-      (subst (λ (s : List Said). IsTold H.may_follow H.may_say H.origin (G.history store.site) (map places.Resting logs) [] s false) (sym (ap told_of told)) stands)));
+      let stands = told_begun (H.may_follow store.latest) H.may_say H.origin (G.history store.site) logs many origin (begun tells) in
+      subst (λ (b : Bool). IsTold (H.may_follow store.latest) H.may_say H.origin (G.history store.site) store.ways.items (trail_of store.trail.items) (told_of store.told.items) b) (sym uncut)
+      (subst (λ (w : List Way). IsTold (H.may_follow store.latest) H.may_say H.origin (G.history store.site) w (trail_of store.trail.items) (told_of store.told.items) false) (sym ways)
+      (subst (λ (t : List Settled). IsTold (H.may_follow store.latest) H.may_say H.origin (G.history store.site) (map places.Resting logs) t (told_of store.told.items) false) (sym (ap trail_of trail))
+      (subst (λ (s : List Said). IsTold (H.may_follow store.latest) H.may_say H.origin (G.history store.site) (map places.Resting logs) [] s false) (sym (ap told_of told)) stands)));
 }

@@ -2,7 +2,10 @@
 use Rattle.std.proofs.Common.{◌≡◌, ℕ, ◌+◌, List, [], ◌∷◌, ◌++◌, length, Result, Ok, Err, refl, sym, ◌∙◌, ap, subst, append_assoc}
 use Rattle.std.proofs.lemmas.List.{append-nil}
 use Rattle.commit_log.specs.declared.header.Header.{Header}
-use Rattle.commit_log.specs.Segment.{◌>>=◌, segment, reading_of, first_gate}
+use Rattle.site_model.specs.History.{Change, reads}
+use Rattle.commit_log.specs.Segment.{◌>>=◌, segment, reading_of, first_gate, framed, segment_bytes}
+use Rattle.commit_log.specs.States.{IsSynced}
+use Rattle.commit_log.proofs.Written.{reads_closed}
 use Rattle.dura_value.specs.Items.{Entry}
 use Rattle.part_items.specs.Numbered.{Next, behind, behind_all, next_frame_in}
 use Rattle.part_files.proofs.PayloadsKept.{reading_kept}
@@ -13,6 +16,12 @@ use Rattle.part_files.specs.Kept.{decoded}
 pub kept_payloads : (h : Header) (payloads : List (List ℕ)) (gate : ℕ) (entries : List Entry) (image : List ℕ) → reading_of image ≡ segment h payloads gate
     → decoded first_gate (first_of h) payloads ≡ Ok entries → kept_in h.partition image ≡ keeps h entries gate
 kept_payloads h payloads gate entries image reads kept = reading_kept h.partition image h payloads gate entries reads refl kept
+
+-- before the gate of a safe frame is opened the file reads as the payloads before
+pub synced_reads : (h : Header) (payloads : List (List ℕ)) (payload : List ℕ) (gate next : ℕ) (changes : List Change) → IsSynced changes h payloads payload gate next → reading_of (reads changes) ≡ segment h payloads gate
+synced_reads h payloads payload gate next changes stands =
+    let there : reads changes ≡ segment_bytes h payloads ++ stands.byte ∷ (framed payload ++ 0 ∷ stands.tail) = stands.content ∙ append_assoc (segment_bytes h payloads) (stands.byte ∷ framed payload) (0 ∷ stands.tail) in
+    subst (λ (l : List ℕ). reading_of l ≡ segment h payloads gate) (sym there) (reads_closed h payloads gate stands.byte (framed payload ++ 0 ∷ stands.tail) stands.ends stands.closed)
 
 pub behind_more : (next : Next) (entries more : List Entry) → behind_all (behind_all next entries) more ≡ behind_all next (entries ++ more)
 behind_more next [] more = refl

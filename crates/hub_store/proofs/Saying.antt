@@ -96,9 +96,9 @@ module _ (MayFollow : List Settled → List Said → ℕ → List Entry → Type
       → ((p : ℕ) → p < o.count → LogFits (o.logs p) (of_part p trail) (changes_of (o.logs p).file old) (way_of ways p)) → (p : ℕ) → p < o.count → LogFits (o.logs p) (of_part p trail) (changes_of (o.logs p).file new) (way_of ways p)
   logs_stay old new ways trail files logs p below = subst (λ (changes : List Change). LogFits (o.logs p) (of_part p trail) changes (way_of ways p)) (sym (files (o.logs p).file)) (logs p below)
 
-  pub told_said : {T E : Type 0} (ways : List Way) (trail : List Settled) (told : List Said) (one : Said) (line : List ℕ) (old new : List Step) (result : Result T E) (halted now_halted : Bool) → MaySay trail told one line → halted ≡ false
-      → IsTold MayFollow MaySay o old ways trail told halted → Says line old new result → new ≡ saying line old → IsTold MayFollow MaySay o new ways trail (told ++ one ∷ []) now_halted
-  told_said ways trail told one line old new result halted now_halted may going stood call done =
+  pub told_said : {T E : Type 0} (ways : List Way) (trail : List Settled) (told : List Said) (one : Said) (line : List ℕ) (old new : List Step) (result : Result T E) (cut now_cut : Bool) → MaySay trail told one line → cut ≡ false
+      → IsTold MayFollow MaySay o old ways trail told cut → Says line old new result → new ≡ saying line old → IsTold MayFollow MaySay o new ways trail (told ++ one ∷ []) now_cut
+  told_said ways trail told one line old new result cut now_cut may going stood call done =
       let files = says_no_file line old new result call in
       record {
         runs = runs_along stood.runs (says_during line old new result call) (λ steps here. stands_saying trail told one line old steps may (stood.rests going) here);
@@ -106,9 +106,9 @@ module _ (MayFollow : List Settled → List Said → ℕ → List Entry → Type
         rests = λ rests. stands_said trail told one line old new may (stood.rests going) files (ap tape done ∙ tape-saying line old);
       }
 
-  pub told_failed : {T E : Type 0} (ways : List Way) (trail : List Settled) (told : List Said) (one : Said) (line : List ℕ) (old new : List Step) (result : Result T E) (halted now_halted : Bool) → MaySay trail told one line → halted ≡ false
-      → now_halted ≡ true → IsTold MayFollow MaySay o old ways trail told halted → Says line old new result → IsTold MayFollow MaySay o new ways trail told now_halted
-  told_failed ways trail told one line old new result halted now_halted may going fell stood call = record {
+  pub told_failed : {T E : Type 0} (ways : List Way) (trail : List Settled) (told : List Said) (one : Said) (line : List ℕ) (old new : List Step) (result : Result T E) (cut now_cut : Bool) → MaySay trail told one line → cut ≡ false
+      → now_cut ≡ true → IsTold MayFollow MaySay o old ways trail told cut → Says line old new result → IsTold MayFollow MaySay o new ways trail told now_cut
+  told_failed ways trail told one line old new result cut now_cut may going fell stood call = record {
     runs = runs_along stood.runs (says_during line old new result call) (λ steps here. stands_saying trail told one line old steps may (stood.rests going) here);
     logs = logs_stay old new ways trail (says_no_file line old new result call) stood.logs;
     rests = λ rests. let fell_not : true ≡ false = sym fell ∙ rests in cc;

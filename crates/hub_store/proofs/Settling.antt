@@ -23,7 +23,7 @@ use Rattle.hub_store.specs.declared.way.Way.TheVariants.{Away}
 use Rattle.part_files.specs.Kept.{decoded}
 use Rattle.hub_store.specs.Origin.{Origin, AreApart}
 use Rattle.hub_store.specs.Trail.{Settled, Said, of_part, settling}
-use Rattle.hub_store.specs.Moments.{LeavesLog, StandsWith}
+use Rattle.hub_store.specs.Moments.{WroteGate, LeavesLog, StandsWith}
 use Rattle.hub_store.specs.Moments.Told.{settles as told_settles}
 use Rattle.hub_store.specs.Runs.Runs.{settles as run_settles}
 use Rattle.hub_store.specs.Ways.{LogFits, way_of}
@@ -73,24 +73,24 @@ module _ (MayFollow : List Settled → List Said → ℕ → List Entry → Type
             inr (record {
               going = next.going;
               follows = subst (λ (l : List Said). MayFollow (trail ++ more) l q next.going) (append-nil told) (still trail more told [] q next.going none next.follows);
-              gate = next.gate;
+              gate = subst (λ (l : List Entry). WroteGate (o.logs q) l changes) (sym same) next.gate;
               keeps = (next.keeps.0, next.keeps.1 ∙ ap (λ (l : List Entry). kept.keeps (o.logs q).header ((o.logs q).entries ++ (l ++ next.going)) next.keeps.0) (sym same));
             })
       ]
 
   -- the log with its new frame, and the others
-  pub told_settled : (p : ℕ) (log : Resting) (trail : List Settled) (told : List Said) (going : List Entry) (payloads : List (List ℕ)) (old new : List Step) (ways : List Way) (halted now_halted : Bool) (at : ℕ)
-      → AreApart o → length ways ≡ o.count → p < o.count → halted ≡ false → at ≡ length new → MayFollow trail told p going → IsTold MayFollow MaySay o old ways trail told halted → Always (OnLog MayFollow MaySay o p trail told old) old new
+  pub told_settled : (p : ℕ) (log : Resting) (trail : List Settled) (told : List Said) (going : List Entry) (payloads : List (List ℕ)) (old new : List Step) (ways : List Way) (cut now_cut : Bool) (at : ℕ)
+      → AreApart o → length ways ≡ o.count → p < o.count → cut ≡ false → at ≡ length new → MayFollow trail told p going → IsTold MayFollow MaySay o old ways trail told cut → Always (OnLog MayFollow MaySay o p trail told old) old new
       → decoded first_gate (first_of (o.logs p).header) (payloads ++ spell_frame going ∷ []) ≡ Ok ((o.logs p).entries ++ of_part p trail ++ going) → log.file ≡ (o.logs p).file
-      → IsResting (changes_of (o.logs p).file new) (o.logs p).header (payloads ++ spell_frame going ∷ []) log.gate → IsTold MayFollow MaySay o new (set ways p (places.Resting log)) (trail ++ settling p at going) told now_halted
-  told_settled p log trail told going payloads old new ways halted now_halted at apart many below unhalted at_is follows stood path reads file_is rests =
+      → IsResting (changes_of (o.logs p).file new) (o.logs p).header (payloads ++ spell_frame going ∷ []) log.gate → IsTold MayFollow MaySay o new (set ways p (places.Resting log)) (trail ++ settling p at going) told now_cut
+  told_settled p log trail told going payloads old new ways cut now_cut at apart many below uncut at_is follows stood path reads file_is rests =
       let more = settling p at going in
       let h = (o.logs p).header in
       let file = (o.logs p).file in
       let own : of_part p (trail ++ more) ≡ of_part p trail ++ going = of_part-append p trail more ∙ ap (λ (l : List Entry). of_part p trail ++ l) (own_part p at going) in
       let all : decoded first_gate (first_of h) (payloads ++ spell_frame going ∷ []) ≡ Ok ((o.logs p).entries ++ of_part p (trail ++ more)) =
       reads ∙ ap (λ (l : List Entry). Ok l) (append_assoc (o.logs p).entries (of_part p trail) going ∙ ap (λ (l : List Entry). (o.logs p).entries ++ l) (sym own)) in
-      let before = stood.rests unhalted in
+      let before = stood.rests uncut in
       let there : StandsWith MayFollow MaySay o new trail told [] = stands_on MayFollow MaySay o p trail told old new apart below before (last path) in
       let image_of : (image : List ℕ) → Leaves (changes_of file new) image → LeavesLog MayFollow MaySay (o.logs p) p (trail ++ more) told (changes_of file new) image =
       λ image left. inl (log.gate, kept_payloads h (payloads ++ spell_frame going ∷ []) log.gate ((o.logs p).entries ++ of_part p (trail ++ more)) image (resting_images h (payloads ++ spell_frame going ∷ []) log.gate (changes_of file new) rests image left) all) in

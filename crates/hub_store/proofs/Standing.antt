@@ -49,10 +49,10 @@ module _ (MayFollow : List Settled → List Said → ℕ → List Entry → Type
   }
 
   -- a call on one log, which then stands as its new way says
-  pub told_on : (p : ℕ) (old new : List Step) (ways : List Way) (way : Way) (trail : List Settled) (told : List Said) (halted now_halted : Bool) → AreApart o → length ways ≡ o.count → p < o.count
-      → halted ≡ false → IsTold MayFollow MaySay o old ways trail told halted → Always (OnLog p trail told old) old new
-      → LogFits (o.logs p) (of_part p trail) (changes_of (o.logs p).file new) way → IsTold MayFollow MaySay o new (set ways p way) trail told now_halted
-  told_on p old new ways way trail told halted now_halted apart many below going stood path fits = record {
+  pub told_on : (p : ℕ) (old new : List Step) (ways : List Way) (way : Way) (trail : List Settled) (told : List Said) (cut now_cut : Bool) → AreApart o → length ways ≡ o.count → p < o.count
+      → cut ≡ false → IsTold MayFollow MaySay o old ways trail told cut → Always (OnLog p trail told old) old new
+      → LogFits (o.logs p) (of_part p trail) (changes_of (o.logs p).file new) way → IsTold MayFollow MaySay o new (set ways p way) trail told now_cut
+  told_on p old new ways way trail told cut now_cut apart many below going stood path fits = record {
     runs = runs_along stood.runs path (λ steps here. record { told = told; part = []; stands = stands_on p trail told old steps apart below (stood.rests going) here; speaking = inl refl });
     logs = λ q there. elim (cases_eq q p) [
       | inl is ↦ subst (λ (r : ℕ). LogFits (o.logs r) (of_part r trail) (changes_of (o.logs r).file new) (way_of (set ways p way) r)) (sym is)

@@ -1,5 +1,5 @@
 -- A store behind a call on one partition's log.
-use Rattle.std.proofs.Common.{◌≡◌, ℕ, ◌+◌, ◌<◌, ◌≤◌, Bool, List, [], ◌∷◌, ◌++◌, length, sym, ◌∙◌, ap, subst, arith}
+use Rattle.std.proofs.Common.{◌≡◌, ℕ, ◌+◌, ◌<◌, ◌≤◌, Bool, false, List, [], ◌∷◌, ◌++◌, length, sym, ◌∙◌, ap, subst, arith}
 use Rattle.std.proofs.Math.ListN.{set}
 use Rattle.std.proofs.lemmas.List.{set-set, length-set, map-append}
 use Rattle.std.proofs.lemmas.List.Sums.{sum_by-set}
@@ -25,9 +25,9 @@ put_for old mid new p way taken is = is ∙ ap (λ (l : List Way). set l p way) 
 
 -- where only one partition's frame moved
 pub sound_on : {V N : Type 0} {G : sites.Ghosts V} {H : starts.Ghosts N} (old new : Store V N G H) (p : ℕ) (way : Way) → IsSound old → p < H.origin.count → new.ways.items ≡ set old.ways.items p way
-    → due_in way ≡ due_in (way_of old.ways.items p) → new.trail ≡ old.trail → new.due ≡ old.due
-    → (G.tells new.site → IsTold H.may_follow H.may_say H.origin (G.history new.site) (set old.ways.items p way) (trail_of old.trail.items) (told_of new.told.items) new.halted) → IsSound new
-sound_on {V} {N} {G} {H} old new p way sound below ways due trail dues told =
+    → due_in way ≡ due_in (way_of old.ways.items p) → new.trail ≡ old.trail → new.due ≡ old.due → old.halted ≡ false → new.cut ≡ old.cut
+    → (G.tells new.site → IsTold (H.may_follow new.latest) H.may_say H.origin (G.history new.site) (set old.ways.items p way) (trail_of old.trail.items) (told_of new.told.items) new.cut) → IsSound new
+sound_on {V} {N} {G} {H} old new p way sound below ways due trail dues going same_cut told =
     let inside : p < length old.ways.items = omega (arith, sound.count) in
     let sums = sum_by-set due_in old.ways.items p way Away inside in
     let same : sum_by due_in (set old.ways.items p way) ≡ old.due = omega (arith, sums, due, sound.due) in
@@ -37,9 +37,10 @@ sound_on {V} {N} {G} {H} old new p way sound below ways due trail dues told =
       headers = sound.headers;
       due = ap (sum_by due_in) ways ∙ same ∙ sym dues;
       room = subst (λ (t : Vec rows.Settled). vec_len t + new.due ≤ vec_capacity t) (sym trail) (omega (arith, sound.room, dues));
+      uncut = λ still. same_cut ∙ sound.uncut going;
       told = λ tells.
-          subst (λ (w : List Way). IsTold H.may_follow H.may_say H.origin (G.history new.site) w (trail_of new.trail.items) (told_of new.told.items) new.halted) (sym ways)
-          (subst (λ (t : Vec rows.Settled). IsTold H.may_follow H.may_say H.origin (G.history new.site) (set old.ways.items p way) (trail_of t.items) (told_of new.told.items) new.halted) (sym trail) (told tells));
+          subst (λ (w : List Way). IsTold (H.may_follow new.latest) H.may_say H.origin (G.history new.site) w (trail_of new.trail.items) (told_of new.told.items) new.cut) (sym ways)
+          (subst (λ (t : Vec rows.Settled). IsTold (H.may_follow new.latest) H.may_say H.origin (G.history new.site) (set old.ways.items p way) (trail_of t.items) (told_of new.told.items) new.cut) (sym trail) (told tells));
     }
 
 -- the frame of one partition is one of those that the trail has room for
@@ -51,9 +52,9 @@ due_of_one store p sound below =
 
 -- where one partition's frame moved and the trail may have grown
 pub sound_any : {V N : Type 0} {G : sites.Ghosts V} {H : starts.Ghosts N} (old new : Store V N G H) (p : ℕ) (way : Way) (trail : List Settled) → IsSound old → p < H.origin.count → new.ways.items ≡ set old.ways.items p way
-    → due_in way + old.due ≡ new.due + due_in (way_of old.ways.items p) → vec_len new.trail + new.due ≤ vec_capacity new.trail → trail_of new.trail.items ≡ trail
-    → (G.tells new.site → IsTold H.may_follow H.may_say H.origin (G.history new.site) (set old.ways.items p way) trail (told_of new.told.items) new.halted) → IsSound new
-sound_any {V} {N} {G} {H} old new p way trail sound below ways due room grown told =
+    → due_in way + old.due ≡ new.due + due_in (way_of old.ways.items p) → vec_len new.trail + new.due ≤ vec_capacity new.trail → trail_of new.trail.items ≡ trail → old.halted ≡ false → new.cut ≡ old.cut
+    → (G.tells new.site → IsTold (H.may_follow new.latest) H.may_say H.origin (G.history new.site) (set old.ways.items p way) trail (told_of new.told.items) new.cut) → IsSound new
+sound_any {V} {N} {G} {H} old new p way trail sound below ways due room grown going same_cut told =
     let inside : p < length old.ways.items = omega (arith, sound.count) in
     let sums = sum_by-set due_in old.ways.items p way Away inside in
     let same : sum_by due_in (set old.ways.items p way) ≡ new.due = omega (arith, sums, due, sound.due) in
@@ -63,42 +64,46 @@ sound_any {V} {N} {G} {H} old new p way trail sound below ways due room grown to
       headers = sound.headers;
       due = ap (sum_by due_in) ways ∙ same;
       room = room;
+      uncut = λ still. same_cut ∙ sound.uncut going;
       told = λ tells.
-          subst (λ (w : List Way). IsTold H.may_follow H.may_say H.origin (G.history new.site) w (trail_of new.trail.items) (told_of new.told.items) new.halted) (sym ways)
-          (subst (λ (t : List Settled). IsTold H.may_follow H.may_say H.origin (G.history new.site) (set old.ways.items p way) t (told_of new.told.items) new.halted) (sym grown) (told tells));
+          subst (λ (w : List Way). IsTold (H.may_follow new.latest) H.may_say H.origin (G.history new.site) w (trail_of new.trail.items) (told_of new.told.items) new.cut) (sym ways)
+          (subst (λ (t : List Settled). IsTold (H.may_follow new.latest) H.may_say H.origin (G.history new.site) (set old.ways.items p way) t (told_of new.told.items) new.cut) (sym grown) (told tells));
     }
 
 -- where only more was said
-pub sound_told : {V N : Type 0} {G : sites.Ghosts V} {H : starts.Ghosts N} (old new : Store V N G H) (told : List Said) → IsSound old → new.ways ≡ old.ways → new.trail ≡ old.trail → new.due ≡ old.due → told_of new.told.items ≡ told
-    → (G.tells new.site → IsTold H.may_follow H.may_say H.origin (G.history new.site) old.ways.items (trail_of old.trail.items) told new.halted) → IsSound new
-sound_told {V} {N} {G} {H} old new told sound ways trail due said stands = record {
+pub sound_told : {V N : Type 0} {G : sites.Ghosts V} {H : starts.Ghosts N} (old new : Store V N G H) (told : List Said) → IsSound old → new.ways ≡ old.ways → new.trail ≡ old.trail → new.due ≡ old.due → told_of new.told.items ≡ told → (new.halted ≡ false → new.cut ≡ false)
+    → (G.tells new.site → IsTold (H.may_follow new.latest) H.may_say H.origin (G.history new.site) old.ways.items (trail_of old.trail.items) told new.cut) → IsSound new
+sound_told {V} {N} {G} {H} old new told sound ways trail due said uncut stands = record {
   count = ap (λ (w : Vec Way). length w.items) ways ∙ sound.count;
   apart = sound.apart;
   headers = sound.headers;
   due = ap (λ (w : Vec Way). sum_by due_in w.items) ways ∙ sound.due ∙ sym due;
   room = subst (λ (t : Vec rows.Settled). vec_len t + new.due ≤ vec_capacity t) (sym trail) (omega (arith, sound.room, due));
+  uncut = uncut;
   told = λ tells.
-      subst (λ (s : List Said). IsTold H.may_follow H.may_say H.origin (G.history new.site) new.ways.items (trail_of new.trail.items) s new.halted) (sym said)
-      (subst (λ (t : Vec rows.Settled). IsTold H.may_follow H.may_say H.origin (G.history new.site) new.ways.items (trail_of t.items) told new.halted) (sym trail)
-      (subst (λ (w : Vec Way). IsTold H.may_follow H.may_say H.origin (G.history new.site) w.items (trail_of old.trail.items) told new.halted) (sym ways) (stands tells)));
+      subst (λ (s : List Said). IsTold (H.may_follow new.latest) H.may_say H.origin (G.history new.site) new.ways.items (trail_of new.trail.items) s new.cut) (sym said)
+      (subst (λ (t : Vec rows.Settled). IsTold (H.may_follow new.latest) H.may_say H.origin (G.history new.site) new.ways.items (trail_of t.items) told new.cut) (sym trail)
+      (subst (λ (w : Vec Way). IsTold (H.may_follow new.latest) H.may_say H.origin (G.history new.site) w.items (trail_of old.trail.items) told new.cut) (sym ways) (stands tells)));
 }
 
 -- where the trail only got more room
-pub sound_roomier : {V N : Type 0} {G : sites.Ghosts V} {H : starts.Ghosts N} (old new : Store V N G H) → IsSound old → new.site ≡ old.site → new.ways ≡ old.ways → new.due ≡ old.due → new.told ≡ old.told → new.halted ≡ old.halted
+pub sound_roomier : {V N : Type 0} {G : sites.Ghosts V} {H : starts.Ghosts N} (old new : Store V N G H) → IsSound old → new.site ≡ old.site → new.ways ≡ old.ways → new.due ≡ old.due → new.told ≡ old.told → new.halted ≡ old.halted → new.cut ≡ old.cut → new.latest ≡ old.latest
     → new.trail.items ≡ old.trail.items → vec_len new.trail ≡ vec_len old.trail → vec_capacity old.trail ≤ vec_capacity new.trail → IsSound new
-sound_roomier {V} {N} {G} {H} old new sound site ways due told halted items len roomier = record {
+sound_roomier {V} {N} {G} {H} old new sound site ways due told halted same_cut latest items len roomier = record {
   count = ap (λ (w : Vec Way). length w.items) ways ∙ sound.count;
   apart = sound.apart;
   headers = sound.headers;
   due = ap (λ (w : Vec Way). sum_by due_in w.items) ways ∙ sound.due ∙ sym due;
   room = omega (arith, sound.room, due, len, roomier);
+  uncut = λ still. same_cut ∙ sound.uncut (sym halted ∙ still);
   told = λ tells.
       let stands = sound.told (subst G.tells site tells) in
-      subst (λ (t : List Settled). IsTold H.may_follow H.may_say H.origin (G.history new.site) new.ways.items t (told_of new.told.items) new.halted) (sym (ap trail_of items))
-      (subst (λ (v : V). IsTold H.may_follow H.may_say H.origin (G.history v) new.ways.items (trail_of old.trail.items) (told_of new.told.items) new.halted) (sym site)
-      (subst (λ (w : Vec Way). IsTold H.may_follow H.may_say H.origin (G.history old.site) w.items (trail_of old.trail.items) (told_of new.told.items) new.halted) (sym ways)
-      (subst (λ (s : Vec requests.Said). IsTold H.may_follow H.may_say H.origin (G.history old.site) old.ways.items (trail_of old.trail.items) (told_of s.items) new.halted) (sym told)
-      (subst (λ (b : Bool). IsTold H.may_follow H.may_say H.origin (G.history old.site) old.ways.items (trail_of old.trail.items) (told_of old.told.items) b) (sym halted) stands))));
+      subst (λ (t : List Settled). IsTold (H.may_follow new.latest) H.may_say H.origin (G.history new.site) new.ways.items t (told_of new.told.items) new.cut) (sym (ap trail_of items))
+      (subst (λ (v : V). IsTold (H.may_follow new.latest) H.may_say H.origin (G.history v) new.ways.items (trail_of old.trail.items) (told_of new.told.items) new.cut) (sym site)
+      (subst (λ (w : Vec Way). IsTold (H.may_follow new.latest) H.may_say H.origin (G.history old.site) w.items (trail_of old.trail.items) (told_of new.told.items) new.cut) (sym ways)
+      (subst (λ (s : Vec requests.Said). IsTold (H.may_follow new.latest) H.may_say H.origin (G.history old.site) old.ways.items (trail_of old.trail.items) (told_of s.items) new.cut) (sym told)
+      (subst (λ (b : Bool). IsTold (H.may_follow new.latest) H.may_say H.origin (G.history old.site) old.ways.items (trail_of old.trail.items) (told_of old.told.items) b) (sym same_cut)
+      (subst (λ (n : ℕ). IsTold (H.may_follow n) H.may_say H.origin (G.history old.site) old.ways.items (trail_of old.trail.items) (told_of old.told.items) old.cut) (sym latest) stands)))));
 }
 
 -- one request more was answered

@@ -1,6 +1,6 @@
 -- How things stand at each moment of a call.
 use Rattle.std.specs.Prelude.{◌≡◌, ◌⊎◌, ℕ, ◌<◌, ◌≤◌, List, [], ◌∷◌, ◌++◌, length}
-use Rattle.site_model.specs.History.{Change, wrote, synced, Step, said, changes_of, tape, back_to, Leaves}
+use Rattle.site_model.specs.History.{Change, wrote, synced, Step, said, changes_of, reads, tape, back_to, Leaves}
 use Rattle.dura_value.specs.Items.{Entry}
 use Rattle.part_files.specs.Kept.{keeps, kept_in}
 use Rattle.hub_store.specs.Origin.{Log, Origin, IsNoLog}
@@ -10,9 +10,14 @@ use Rattle.hub_store.specs.Trail.{Settled, Said, of_part, settled_at, settling}
 abbrev pub Keeps : Log → List Entry → List ℕ → Type 0
 Keeps log entries image = (gate : ℕ) × (kept_in log.header.partition image ≡ keeps log.header (log.entries ++ entries) gate)
 
--- the last change of a file was a write of one byte, or the first sync behind it
-abbrev pub WroteGate : List Change → Type 0
-WroteGate changes = (gate : ℕ) × (bytes : List ℕ) × (before : List Change) × ((changes ≡ wrote gate 1 bytes ∷ before) ⊎ (changes ≡ synced ∷ wrote gate 1 bytes ∷ before))
+-- The last change of a log's file was a write of one byte, or the first sync behind it: of the gate up to which the file kept just the
+-- entries that the log had and these.
+pub record WroteGate (log : Log) (settled : List Entry) (changes : List Change) : Type 0 where
+  pub gate : ℕ
+  pub bytes : List ℕ
+  pub before : List Change
+  pub last : (changes ≡ wrote gate 1 bytes ∷ before) ⊎ (changes ≡ synced ∷ wrote gate 1 bytes ∷ before)
+  pub kept : kept_in log.header.partition (reads before) ≡ keeps log.header (log.entries ++ settled) gate
 
 -- the last thing that happened is that a byte was said
 abbrev pub IsSpeaking : List Step → Type 0
@@ -41,7 +46,7 @@ module _ (MayFollow : List Settled → List Said → ℕ → List Entry → Type
   pub record KeepsNext (log : Log) (partition : ℕ) (trail : List Settled) (told : List Said) (changes : List Change) (image : List ℕ) : Type 0 where
     pub going : List Entry
     pub follows : MayFollow trail told partition going
-    pub gate : WroteGate changes
+    pub gate : WroteGate log (of_part partition trail) changes
     pub keeps : Keeps log (of_part partition trail ++ going) image
 
   -- what a crash leaves of a partition's log: the entries that it had and those settled, or one frame more

@@ -16,17 +16,19 @@ use Rattle.hub_store.specs.declared.way.Way.{Way}
 use Rattle.hub_store.specs.declared.store.Store.{Store}
 
 module _ (MayFollow : List Settled → List Said → ℕ → List Entry → Type 0) (MaySay : List Settled → List Said → Said → List ℕ → Type 0) (o : Origin) where
-  -- History and trail grew together, and each log stands as its way says. Where no call failed, whole lines were said.
-  pub record IsTold (now : List Step) (ways : List Way) (trail : List Settled) (told : List Said) (halted : Bool) : Type 0 where
+  -- History and trail grew together, and each log stands as its way says. Where no line was cut, whole lines were said.
+  pub record IsTold (now : List Step) (ways : List Way) (trail : List Settled) (told : List Said) (cut : Bool) : Type 0 where
     pub runs : Runs (Stands MayFollow MaySay o) o.steps now trail
     pub logs : (partition : ℕ) → partition < o.count → LogFits (o.logs partition) (of_part partition trail) (changes_of (o.logs partition).file now) (way_of ways partition)
-    pub rests : halted ≡ false → StandsWith MayFollow MaySay o now trail told []
+    pub rests : cut ≡ false → StandsWith MayFollow MaySay o now trail told []
 
--- Each partition has a log of its own, the trail has room for the frames under way, and where the site tells, all is told.
+-- Each partition has a log of its own, the trail has room for the frames under way, no line was cut before a call failed, and where the
+-- site tells, all is told.
 pub record IsSound {V N : Type 0} {G : sites.Ghosts V} {H : starts.Ghosts N} (store : Store V N G H) : Type 0 where
   pub count : length store.ways.items ≡ H.origin.count
   pub apart : AreApart H.origin
   pub headers : (partition : ℕ) → partition < H.origin.count → (H.origin.logs partition).header.partition ≡ partition
   pub due : sum_by due_in store.ways.items ≡ store.due
   pub room : vec_len store.trail + store.due ≤ vec_capacity store.trail
-  pub told : G.tells store.site → IsTold H.may_follow H.may_say H.origin (G.history store.site) store.ways.items (trail_of store.trail.items) (told_of store.told.items) store.halted
+  pub uncut : store.halted ≡ false → store.cut ≡ false
+  pub told : G.tells store.site → IsTold (H.may_follow store.latest) H.may_say H.origin (G.history store.site) store.ways.items (trail_of store.trail.items) (told_of store.told.items) store.cut

@@ -1,8 +1,8 @@
 -- How far the frame of each partition has come.
 use Rattle.std.specs.Prelude.{◌≡◌, ℕ, List, [], ◌∷◌, ◌++◌, length, Option, Some, None, Ok, slice_index_or}
-use Rattle.site_model.specs.History.{Change, wrote}
+use Rattle.site_model.specs.History.{Change, wrote, reads}
 use Rattle.commit_log.specs.declared.header.Header.{Header}
-use Rattle.commit_log.specs.Segment.{first_gate}
+use Rattle.commit_log.specs.Segment.{first_gate, segment, reading_of}
 use Rattle.commit_log.specs.States.{IsResting, IsBodied, IsSynced, IsGated, IsBroken}
 use Rattle.dura_value.specs.Items.{Entry}
 use Rattle.part_items.specs.Plain.{entries_of}
@@ -46,16 +46,16 @@ due_in Away = 0
 abbrev pub way_of : List Way → ℕ → Way
 way_of ways partition = slice_index_or ways partition Away
 
--- the last change of the file was a write of the byte at this gate
-abbrev pub JustWrote : ℕ → List Change → Type 0
-JustWrote gate changes = (bytes : List ℕ) × (before : List Change) × (changes ≡ wrote gate 1 bytes ∷ before)
+-- the last change of the file was a write of the byte at this gate, up to which it read as these payloads
+abbrev pub JustWrote : Header → List (List ℕ) → ℕ → List Change → Type 0
+JustWrote h payloads gate changes = (bytes : List ℕ) × (before : List Change) × (changes ≡ wrote gate 1 bytes ∷ before) × (reading_of (reads before) ≡ segment h payloads gate)
 
 -- how the file stands, where these payloads are settled in it
 abbrev pub WayFits : (file : ℕ) → Header → List (List ℕ) → List Change → Way → Type 0
 WayFits file h payloads changes (Resting log) = (log.file ≡ file) × IsResting changes h payloads log.gate
 WayFits file h payloads changes (Bodied log frame) = (log.file ≡ file) × IsBodied changes h payloads (spell_frame (entries_of frame)) log.gate log.next
 WayFits file h payloads changes (Synced log frame) = (log.file ≡ file) × IsSynced changes h payloads (spell_frame (entries_of frame)) log.gate log.next
-WayFits file h payloads changes (Gated log frame) = (log.file ≡ file) × IsGated changes h payloads (spell_frame (entries_of frame)) log.gate log.next × JustWrote log.gate changes
+WayFits file h payloads changes (Gated log frame) = (log.file ≡ file) × IsGated changes h payloads (spell_frame (entries_of frame)) log.gate log.next × JustWrote h payloads log.gate changes
 WayFits file h payloads changes (Broken log frame) = (log.file ≡ file) × IsBroken changes h payloads (spell_frame (entries_of frame)) log.gate log.next
 WayFits file h payloads changes Away = ⊥
 

@@ -39,7 +39,9 @@ impl<V: Site, N: Start> Store<V, N> {
         ensures told { IfOk result (λ store. told_in store ≡ []) }
         ensures rest { IfOk result (λ store. (part : ℕ) → part < N.origin.count → stage_at store part ≡ Stage.Resting) }
         ensures going { IfOk result (λ store. store.halted ≡ false) }
+        ensures whole { IfOk result (λ store. store.cut ≡ false) }
         ensures segment { IfOk result (λ store. store.segment ≡ segment) }
+        ensures latest { IfOk result (λ store. store.latest ≡ 0) }
     {
         match resting_ways(alloc, logs) {
             Ok(ways) => {
@@ -52,7 +54,9 @@ impl<V: Site, N: Start> Store<V, N> {
                     due: 0,
                     told,
                     segment,
+                    latest: 0,
                     halted: false,
+                    cut: false,
                     start: PhantomData,
                 })
             }

@@ -105,6 +105,8 @@ impl<V: Site, N: Start> Store<V, N> {
         ensures room { (of n : ℕ) → result ≡ Err (BodyRefusal.Full of n) → (of ≡ part) × (self.old.segment ≤ n) × (n ≡ length_with (way_of self.old.ways.items part) (entries_of frame)) × (V.history self.new.site ≡ V.history self.old.site) × (way_of self.new.ways.items part ≡ way_of self.old.ways.items part) }
         ensures memory { result ≡ Err BodyRefusal.Memory → (V.history self.new.site ≡ V.history self.old.site) × (stage_at self.new part ≡ Stage.Resting) }
         ensures segment { self.new.segment ≡ self.old.segment }
+        ensures latest { self.new.latest ≡ self.old.latest }
+        ensures whole { self.new.cut ≡ self.old.cut }
         ensures halts { result ≡ Err BodyRefusal.SiteFault ↔ self.new.halted ≡ true }
         ensures still { OnOk result (self.new.halted ≡ false) }
         ensures fault { self.new.halted ≡ true → HasRisen (V.disk_faults self.old.site) (V.disk_faults self.new.site) }

@@ -1,8 +1,8 @@
 //! The end of a call.
 
-ghost use Rattle.std.specs.Prelude.{◌≡◌};
-ghost use Rattle.hub_store.specs.Changes.{trail_in};
-ghost use Rattle.hub_store.specs.Moments.{AtEveryMoment};
+ghost use Rattle.std.specs.Prelude.{◌≡◌, [], false};
+ghost use Rattle.hub_store.specs.Changes.{trail_in, told_in};
+ghost use Rattle.hub_store.specs.Moments.{StandsWith, AtEveryMoment};
 ghost use Rattle.hub_store.specs.Sound.{IsSound};
 
 use crate::start::Start;
@@ -24,7 +24,8 @@ impl<V: Site, N: Start> Store<V, N> {
         requires { IsSound self }
         ensures site { result.site ≡ self.site }
         ensures trail { result.trail ≡ trail_in self }
-        ensures every { V.tells self.site → AtEveryMoment N.may_follow N.may_say N.origin (V.history self.site) (trail_in self) }
+        ensures whole { V.tells self.site → self.cut ≡ false → StandsWith (N.may_follow self.latest) N.may_say N.origin (V.history self.site) (trail_in self) (told_in self) [] }
+        ensures every { V.tells self.site → AtEveryMoment (N.may_follow self.latest) N.may_say N.origin (V.history self.site) (trail_in self) }
     {
         let Store {
             site,
@@ -33,7 +34,9 @@ impl<V: Site, N: Start> Store<V, N> {
             due: _,
             told: _told,
             segment: _,
+            latest: _,
             halted: _,
+            cut: _,
             start: _start,
         } = self;
         Ended {

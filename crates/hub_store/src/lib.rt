@@ -10,6 +10,7 @@ mod end;
 mod examples;
 mod gate;
 mod laws;
+mod raise;
 mod refusal;
 mod say;
 mod settle;

@@ -1,6 +1,6 @@
 //! Saying an answer.
 
-ghost use Rattle.std.specs.Prelude.{◌≡◌, ◌<◌, ◌++◌, [], ◌∷◌, true, false, length, Err, IfOk, OnOk, OnErr};
+ghost use Rattle.std.specs.Prelude.{◌≡◌, ◌≢◌, ◌<◌, ◌++◌, [], ◌∷◌, true, false, length, Err, IfOk, OnOk, OnErr};
 ghost use Rattle.hub_store.specs.Changes.{trail_in, told_in, asked, HasHalted};
 ghost use Rattle.hub_store.specs.Sound.{IsSound};
 
@@ -34,6 +34,8 @@ impl<V: Site, N: Start> Store<V, N> {
         ensures ways { self.new.ways ≡ self.old.ways }
         ensures memory { result ≡ Err SayError.Memory → (self.new.site ≡ self.old.site) × (self.new.halted ≡ false) }
         ensures segment { self.new.segment ≡ self.old.segment }
+        ensures latest { self.new.latest ≡ self.old.latest }
+        ensures whole { result ≢ Err SayError.SayFault → self.new.cut ≡ self.old.cut }
         ensures still { OnOk result (self.new.halted ≡ false) }
         ensures halts { result ≡ Err SayError.SayFault → self.new.halted ≡ true }
         ensures halted { HasHalted (V.say_faults self.old.site) (V.say_faults self.new.site) self.new.halted }
@@ -53,6 +55,7 @@ impl<V: Site, N: Start> Store<V, N> {
             }
             Err(_) => {
                 self.halted = true;
+                self.cut = true;
                 Err(SayError::SayFault)
             }
         }

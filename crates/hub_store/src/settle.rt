@@ -18,7 +18,7 @@ impl<V: Site, N: Start> Store<V, N> {
         requires sound { IsSound self.old }
         requires going { self.old.halted ≡ false }
         requires place { part < N.origin.count }
-        requires follows { (going : List Entry) → going_at self.old part ≡ Some going → N.may_follow (trail_in self.old) (told_in self.old) part going }
+        requires follows { (going : List Entry) → going_at self.old part ≡ Some going → N.may_follow self.old.latest (trail_in self.old) (told_in self.old) part going }
         ensures told { V.tells self.new.site → V.tells self.old.site }
         ensures sound { IsSound self.new }
         ensures ok { OnOk result (stage_at self.new part ≡ Stage.Resting) }
@@ -30,6 +30,8 @@ impl<V: Site, N: Start> Store<V, N> {
         ensures no_frame { result ≡ Err Refusal.NoFrame ↔ stage_at self.old part ≢ Stage.Gated }
         ensures unchanged { result ≡ Err Refusal.NoFrame → self.new ≡ self.old }
         ensures segment { self.new.segment ≡ self.old.segment }
+        ensures latest { self.new.latest ≡ self.old.latest }
+        ensures whole { self.new.cut ≡ self.old.cut }
         ensures still { OnOk result (self.new.halted ≡ false) }
         ensures halts { result ≡ Err Refusal.SiteFault → self.new.halted ≡ true }
         ensures halted { HasHalted (V.disk_faults self.old.site) (V.disk_faults self.new.site) self.new.halted }

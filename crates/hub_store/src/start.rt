@@ -1,6 +1,6 @@
 //! What is fixed when a call begins.
 
-ghost use Rattle.std.specs.Prelude.{◌≡◌, ℕ, List, [], ◌++◌};
+ghost use Rattle.std.specs.Prelude.{◌≡◌, ◌≤◌, ℕ, List, [], ◌++◌};
 ghost use Rattle.dura_value.specs.Items.{Entry};
 ghost use Rattle.hub_store.specs.Origin.{Origin};
 ghost use Rattle.hub_store.specs.Trail.{Settled, Said, of_part};
@@ -12,15 +12,19 @@ pub trait Start: Drop {
     /// Where the call begins.
     ghost origin: { Origin };
 
-    /// Whether these entries of a partition may be committed, once this was settled and said.
-    ghost may_follow: { List Settled → List Said → ℕ → List Entry → Type 0 };
+    /// Whether these entries of a partition may be committed, up to a moment, once this was settled and said.
+    ghost may_follow: { ℕ → List Settled → List Said → ℕ → List Entry → Type 0 };
 
     /// Whether this line may be said of a request, once this was settled and said.
     ghost may_say: { List Settled → List Said → Said → List ℕ → Type 0 };
 
     /// What may be committed may be committed still once more of other partitions was settled and more was said.
-    ghost still_follows: { (trail more : List Settled) (told also : List Said) (partition : ℕ) (going : List Entry) → of_part partition more ≡ [] → may_follow trail told partition going
-        → may_follow (trail ++ more) (told ++ also) partition going };
+    ghost still_follows: { (latest : ℕ) (trail more : List Settled) (told also : List Said) (partition : ℕ) (going : List Entry) → of_part partition more ≡ [] → may_follow latest trail told partition going
+        → may_follow latest (trail ++ more) (told ++ also) partition going };
+
+    /// What may be committed up to a moment may be committed up to a later one.
+    ghost later_follows: { (latest later : ℕ) (trail : List Settled) (told : List Said) (partition : ℕ) (going : List Entry) → latest ≤ later → may_follow latest trail told partition going
+        → may_follow later trail told partition going };
 }
 
 /// The start that a call picks: without a pick it has one partition without entries, and anything may be committed and said.
@@ -30,9 +34,11 @@ impl Start for Brand {
 
     ghost origin = { record { count = 1; logs = λ partition. no_entry 16; steps = [] } };
 
-    ghost may_follow = { λ trail told partition going. Unit {0} };
+    ghost may_follow = { λ latest trail told partition going. Unit {0} };
 
     ghost may_say = { λ trail told one line. Unit {0} };
 
-    ghost still_follows = { λ trail more told also partition going none may. may };
+    ghost still_follows = { λ latest trail more told also partition going none may. may };
+
+    ghost later_follows = { λ latest later trail told partition going above may. may };
 }

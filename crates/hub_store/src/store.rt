@@ -22,8 +22,12 @@ pub struct Store<V: Site, N: Start> {
     pub(crate) told: Vec<Said>,
     /// The length that no log reaches.
     pub(crate) segment: u64,
+    /// The greatest moment that was handed in: no entry that is committed is of a later one.
+    pub(crate) latest: u64,
     /// Whether a device call failed.
     pub(crate) halted: bool,
+    /// Whether saying a line failed: then a front of it may stand at the end of the tape.
+    pub(crate) cut: bool,
     /// Where the call began.
     pub(crate) start: PhantomData<N>,
     ghost short: { segment ≤ 2 ^ 31 },

@@ -55,6 +55,8 @@ impl<V: Site, N: Start> Store<V, N> {
         ensures no_frame { result ≡ Err Refusal.NoFrame ↔ stage_at self.old part ≢ Stage.Bodied }
         ensures unchanged { result ≡ Err Refusal.NoFrame → self.new ≡ self.old }
         ensures segment { self.new.segment ≡ self.old.segment }
+        ensures latest { self.new.latest ≡ self.old.latest }
+        ensures whole { self.new.cut ≡ self.old.cut }
         ensures still { OnOk result (self.new.halted ≡ false) }
         ensures halts { result ≡ Err Refusal.SiteFault → self.new.halted ≡ true }
         ensures halted { HasHalted (V.disk_faults self.old.site) (V.disk_faults self.new.site) self.new.halted }

@@ -1,33 +1,31 @@
 // What a person is told beside the cause, on lines of standard error that begin with two blanks. Where that can't be
 // written, the status alone tells the cause.
-use commit_log::read_log;
-use input_reader::{Cause, read_input};
+use run_causes::Cause;
 use site_calls::{Fault, FaultPlace, FileName, Reason};
-use site_model::Site;
 use std::{fmt, fs};
 
 /// Tells which words are understood.
 pub(crate) fn hint_command(rt: &impl Eprint) {
-    let _ = eprintln!(rt; "  netherite DIRECTORY run --partitions 1");
+    let _ = eprintln!(rt; "  netherite DIRECTORY run [--batch N] [--steps N] [--segment BYTES]");
+    let _ = eprintln!(rt; "  netherite DIRECTORY show");
 }
 
-/// Tells more of a cause than its text does: of a fault what failed and why, and of what is wrong with a file what the
-/// files say.
-pub(crate) fn hint_cause<V: Site + Drop>(
+/// Tells more of a cause than its text does: of a fault what failed and why, and of a file what is wrong with it.
+pub(crate) fn hint_cause(
     rt: &HostRuntime,
     directory: &str,
-    cause: Cause,
+    cause: &Cause,
     fault: Option<Fault>,
     reason: Option<Reason>,
-    site: V,
 ) {
     match cause {
         Cause::BadFlows { .. } => hint_absent(rt, directory, FileName::Flows),
         Cause::BadRequests { .. } => hint_absent(rt, directory, FileName::Requests),
         Cause::BadPlan { .. } => hint_absent(rt, directory, FileName::Plan),
         Cause::SiteFault | Cause::SayFault => hint_fault(rt, directory, fault, reason),
-        Cause::Damaged { file, .. } => hint_damage(rt, file, site),
-        Cause::Done | Cause::Usage | Cause::TooLong { .. } | Cause::Memory => {}
+        Cause::Damaged { file, .. } => hint_damage(rt, *file),
+        Cause::OtherFlows { .. } => hint_flows(rt),
+        _ => {}
     }
 }
 
@@ -63,24 +61,15 @@ fn hint_fault(rt: &HostRuntime, directory: &str, fault: Option<Fault>, reason: O
     };
 }
 
-// Tells whether a log that can't be gone on with was begun with other flows.
-fn hint_damage<V: Site + Drop>(rt: &HostRuntime, file: u32, site: V) {
+// Tells which log is none that a run could have left.
+fn hint_damage(rt: &HostRuntime, file: u32) {
     let name = PlaceName(FaultPlace::File(file));
-    let _ = if has_other_flows(rt, file, site) {
-        eprintln!(rt; "  flows.json isn't the one that {name} was begun with")
-    } else {
-        eprintln!(rt; "  {name} is no log that a run of these files could have left")
-    };
+    let _ = eprintln!(rt; "  {name} is no log that a run of these files could have left");
 }
 
-fn has_other_flows<V: Site + Drop>(rt: &HostRuntime, file: u32, mut site: V) -> bool {
-    let Ok(input) = read_input(rt.alloc(), &mut site) else {
-        return false;
-    };
-    let Ok(opened) = read_log(rt.alloc(), &mut site, file) else {
-        return false;
-    };
-    opened.header.digest != input.digest
+// Tells that the log was begun with other flows.
+fn hint_flows(rt: &HostRuntime) {
+    let _ = eprintln!(rt; "  flows.json isn't the one that the log was begun with");
 }
 
 // A place by its name.

@@ -6,16 +6,16 @@
 
 ghost use Rattle.std.specs.Prelude.{◌≡◌};
 ghost use Rattle.std.specs.Process.{exit_status};
-ghost use Rattle.input_reader.specs.Refusal.{status_of};
+ghost use Rattle.run_causes.specs.Causes.{status_of};
 
 mod call;
 mod hints;
 
-use activity_table::SumTable;
+use activity_table::Table;
 use call::{CallError, read_call};
 use engine_run::run_recorded;
 use hints::{hint_cause, hint_command};
-use input_reader::Cause;
+use run_causes::Cause;
 use site_calls::{CalledSite, Start, Unknown};
 use site_host::Host;
 use std::process::ExitCode;
@@ -36,40 +36,44 @@ fn serve<T: Threads + Wait + Sync, S: Start + Send>(
     let alloc = rt.alloc();
     let call = match read_call(&rt) {
         Ok(call) => call,
-        Err(CallError::Usage) => return end(&rt, Cause::Usage),
-        Err(CallError::Memory) => return end(&rt, Cause::Memory),
+        Err(CallError::Usage) => return end(&rt, &Cause::Usage),
+        Err(CallError::Memory) => return end(&rt, &Cause::Memory),
     };
     let host = match Host::open(rt, alloc, call.directory.as_str()) {
         Ok(host) => host,
-        Err(_) => return end(&rt, Cause::Memory),
+        Err(_) => return end(&rt, &Cause::Memory),
     };
     let site = CalledSite::new(host, start);
     let clock = WallClock::new(rt);
-    let ended = run_recorded(threads, alloc, &call.words, site, clock, &SumTable);
+    let ended = run_recorded(threads, alloc, &call.words, site, clock, &Table);
     let fault = ended.site.fault();
     let reason = ended.site.calls().reason();
-    let status = end(&rt, ended.cause);
-    hint_cause(
-        &rt,
-        call.directory.as_str(),
-        ended.cause,
-        fault,
-        reason,
-        ended.site,
-    );
+    let status = end(&rt, &ended.cause);
+    hint_cause(&rt, call.directory.as_str(), &ended.cause, fault, reason);
     status
 }
 
 // Ends with the cause's status. A cause that isn't done goes to standard error; where that is closed, the status alone
 // tells it.
-fn end(rt: &HostRuntime, cause: Cause) -> ExitCode
-    ensures { exit_status result ≡ status_of cause }
+fn end(rt: &HostRuntime, cause: &Cause) -> ExitCode
+    ensures { exit_status result ≡ status_of cause.now }
 {
-    if cause != Cause::Done {
-        let _ = eprintln!(rt; "netherite: {cause}");
-    }
-    if cause == Cause::Usage {
+    tell(rt, cause);
+    if matches!(cause, Cause::Usage) {
         hint_command(rt);
     }
     ExitCode::from(cause.status())
+}
+
+// Tells the cause on standard error, unless it is done.
+fn tell(rt: &HostRuntime, cause: &Cause) {
+    if matches!(cause, Cause::Done) {
+        return;
+    }
+    let Ok(line) = cause.line(rt.alloc()) else {
+        return;
+    };
+    if let Ok(text) = str::from_utf8(&line) {
+        let _ = eprintln!(rt; "netherite: {text}");
+    }
 }

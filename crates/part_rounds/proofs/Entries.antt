@@ -3,6 +3,7 @@ use Rattle.std.proofs.Common.{◌≡◌, ℕ, suc, ◌+◌, ◌<◌, List, [], �
 use Rattle.std.proofs.lemmas.List.{length-append}
 use Rattle.std.proofs.lemmas.List.Elements.{All-cons}
 use Rattle.std.specs.Option.{option_and_then}
+use Rattle.std.specs.Prelude.{max}
 use Rattle.commit_log.specs.Segment.{◌>>=◌}
 use Rattle.dura_model.specs.Partition.{Partition, enter, accepted, with_part}
 use Rattle.dura_model.specs.Placed.{AreShown}
@@ -23,19 +24,21 @@ use Rattle.part_items.specs.Numbered.{Next, IsNumbered, behind, behind_all}
 use Rattle.run_rules.specs.Rules.{Rules, Told, IsOurs, Follows}
 use Rattle.part_rounds.specs.Comes.{count_labels}
 use Rattle.part_rounds.specs.Fills.{Fills}
-use Rattle.part_rounds.specs.Rounds.{entry_at, Stands, IsFilled}
-use Rattle.run_rules.proofs.Going.{followed_made}
+use Rattle.part_rounds.specs.Rounds.{entry_at, Stands, IsTimely, IsFilled}
+use Rattle.part_rounds.proofs.Moments.{items_by}
+use Rattle.run_rules.proofs.Going.{followed_made, by_later}
 
 module _ (rules : Rules) (settled : List Entry) (p : Partition) (made : placed rules.flows 1 rules.begin settled ≡ Ok p) where
   -- an entry of this call with these items
-  pub filled_follows : (told : Told) (items : List Item) (q : Partition) → Fills rules told (enter rules.life p) items q → Follows rules settled told (entry_at rules p items ∷ [])
-  filled_follows told items q fills = record {
+  pub filled_follows : (latest : ℕ) (told : Told) (items : List Item) (q : Partition) → Fills rules told (enter rules.life p) items q → IsTimely rules latest q → Follows rules latest settled told (entry_at rules p items ∷ [])
+  filled_follows latest told items q fills timely = record {
     before = p;
     made = made;
     after = q;
     accepted = ap (λ o. or_place p.position o >>= λ next. placed rules.flows 1 next []) fills.accepted;
     given = (fills.given, λ next is. tt);
-    ours = All-cons (IsOurs rules told) (entry_at rules p items) [] (record { life = refl; asked = fills.asked }) (λ k d inside. absurd (omega (arith, inside)));
+    ours = All-cons (IsOurs rules latest told) (entry_at rules p items) [] (record { life = refl; asked = fills.asked; timely = λ k d inside. by_later q.stamp (max rules.begin.stamp latest) timely _ ((items_by rules.flows items (enter rules.life p) q fills.accepted).1 k d inside) })
+        (λ k d inside. absurd (omega (arith, inside)));
   }
 
 -- both steps of two were made
@@ -85,7 +88,7 @@ module _ (rules : Rules) (log : Log) (settled : List Entry) (p : Partition) (sta
       let life : q.incarnation ≡ rules.life = ap (λ (n : Next). n.incarnation) led.1 in
       let goes : (goes_on log (settled ++ entry ∷ [])).incarnation ≡ rules.life = ap (λ (n : Next). n.incarnation) (goes_behind entry) in
       record {
-        made = followed_made rules settled (entry ∷ []) told (filled_follows rules settled p stands.made told items q fills);
+        made = followed_made rules q.stamp settled (entry ∷ []) told (filled_follows rules settled p stands.made q.stamp told items q fills (omega arith));
         shown = led.0;
         place = ap (λ (n : Next). n.position) (goes_behind entry ∙ sym led.1);
         follows = omega (arith, goes);
@@ -100,12 +103,12 @@ module _ (rules : Rules) (log : Log) (settled : List Entry) (p : Partition) (sta
       let one : length (labels_in (entry ∷ [])) ≡ length items = length-append (labels_of items) [] ∙ omega (arith, all) in
       ap length (labels_both settled (entry ∷ [])) ∙ length-append (labels_in settled) (labels_in (entry ∷ [])) ∙ ap (λ (n : ℕ). count_labels settled + n) one
 
-module _ (rules : Rules) (log : Log) (settled : List Entry) (told : Told) (position life : ℕ) (items : List Item) (filled : IsFilled rules log settled told position life items) where
+module _ (rules : Rules) (log : Log) (latest : ℕ) (settled : List Entry) (told : Told) (position life : ℕ) (items : List Item) (filled : IsFilled rules log latest settled told position life items) where
   same_entry : entry_at rules filled.before items ≡ record { position = position; incarnation = life; items = items }
   same_entry = λ i. record { position = (sym filled.position_is) i; incarnation = (sym filled.life_is) i; items = items }
 
-  pub entry_follows : Follows rules settled told (record { position = position; incarnation = life; items = items } ∷ [])
-  entry_follows = subst (λ (e : Entry). Follows rules settled told (e ∷ [])) same_entry (filled_follows rules settled filled.before filled.stands.made told items filled.after filled.fills)
+  pub entry_follows : Follows rules latest settled told (record { position = position; incarnation = life; items = items } ∷ [])
+  entry_follows = subst (λ (e : Entry). Follows rules latest settled told (e ∷ [])) same_entry (filled_follows rules settled filled.before filled.stands.made latest told items filled.after filled.fills filled.timely)
 
   pub entry_goes : GoesBehind (goes_on log settled) (record { position = position; incarnation = life; items = items } ∷ [])
   entry_goes =

@@ -2,6 +2,7 @@ pub mod Entries
 pub mod Endings
 pub mod Faults
 pub mod Fillings
+pub mod Moments
 pub mod Puttings
 pub mod Queues
 pub mod Trails

@@ -1,5 +1,5 @@
 -- What comes next in a call.
-use Rattle.std.specs.Prelude.{◌≡◌, ◌<◌, ◌≤◌, ◌+◌, ℕ, List, length}
+use Rattle.std.specs.Prelude.{◌≡◌, ◌<◌, ◌≤◌, ◌+◌, ℕ, max, List, length}
 use Rattle.std.specs.List.{All}
 use Rattle.client_port.specs.Ports.{Queue}
 use Rattle.part_items.specs.ItemFits.{FitsItem}
@@ -10,7 +10,7 @@ use Rattle.part_items.specs.Plain.{items_of}
 use Rattle.part_rounds.specs.Fills.{IsUnderWay, Fills, IsIdle}
 use Rattle.hub_store.specs.Origin.{Log}
 use Rattle.part_files.specs.Placing.{labels_in}
-use Rattle.part_rounds.specs.Rounds.{Stands, NoneUnsaid}
+use Rattle.part_rounds.specs.Rounds.{Stands, NoneUnsaid, IsTimely}
 use Rattle.part_rounds.specs.declared.coming.Coming.{Coming}
 use Rattle.part_rounds.specs.declared.rounds.End.{End}
 use Rattle.part_rounds.specs.declared.rounds.End.TheVariants.{Rest, Long}
@@ -25,19 +25,25 @@ use Rattle.run_rules.specs.Rules.{Rules, Told}
 -- an entry's items, 1 to so many, that can be written; or nothing is possible any more, no timer is pending, and the state is as it
 -- was
 abbrev pub Comes : Flows → Partition → List Queue → List (List ℕ) → (limit : ℕ) → Coming → Type 0
-Comes flows p queues clients limit (comings.Filled filling) = IsUnderWay filling × (0 < length filling.items.items) × (length filling.items.items ≤ limit) × All FitsItem (items_of filling.items.items)
+Comes flows p queues clients limit (comings.Filled filling now) = IsUnderWay filling × (0 < length filling.items.items) × (length filling.items.items ≤ limit) × All FitsItem (items_of filling.items.items)
 Comes flows p queues clients limit (comings.Rest state) = IsSound state × (count_of state ≡ 1) × (state_of state ≡ p) × ((now : ℕ) × IsIdle flows p queues clients now) × NoTimer p.timers
 
 -- the items lead from this state to that of the filling
 abbrev pub FillsNext : Rules → Told → Partition → Coming → Type 0
-FillsNext rules told p (comings.Filled filling) = Fills rules told p (items_of filling.items.items) (state_of filling.state)
+FillsNext rules told p (comings.Filled filling now) = Fills rules told p (items_of filling.items.items) (state_of filling.state)
 FillsNext rules told p (comings.Rest state) = Unit {0}
 
+-- What was filled is of no later moment than now and the state before; and now isn't behind the clock's latest.
+abbrev pub IsByNow : Partition → (latest : ℕ) → Coming → Type 0
+IsByNow p latest (comings.Filled filling now) = ((state_of filling.state).stamp ≤ max p.stamp now) × (now ≤ latest)
+IsByNow p latest (comings.Rest state) = Unit {0}
+
 -- The state of a call of one partition, in an entry that has begun behind what is settled.
-pub record Entered (rules : Rules) (log : Log) (settled : List Entry) (state : PartState) : Type 0 where
+pub record Entered (rules : Rules) (log : Log) (latest : ℕ) (settled : List Entry) (state : PartState) : Type 0 where
   pub before : Partition
   pub stands : Stands rules log settled before
   pub entered : state_of state ≡ enter rules.life before
+  pub timely : IsTimely rules latest before
   pub sound : IsSound state
   pub one : count_of state ≡ 1
 
@@ -53,12 +59,12 @@ abbrev pub count_labels : List Entry → ℕ
 count_labels entries = length (labels_in entries)
 
 -- A round leaves the state in the entry that comes, with so many labels more; where nothing is possible any more, it is said so.
-abbrev pub LeavesRound : Rules → Log → (before settled : List Entry) → List Queue → List (List ℕ) → Round → Type 0
-LeavesRound rules log before settled queues clients (On state more) =
-    Entered rules log settled state × NoneUnsaid (state_of state) queues clients × (0 < more) × (more ≤ 64) × (count_labels settled ≡ count_labels before + more)
-LeavesRound rules log before settled queues clients (Over state) = Entered rules log settled state × IsOver rules (state_of state) queues clients
+abbrev pub LeavesRound : Rules → Log → (latest : ℕ) → (before settled : List Entry) → List Queue → List (List ℕ) → Round → Type 0
+LeavesRound rules log latest before settled queues clients (On state more) =
+    Entered rules log latest settled state × NoneUnsaid (state_of state) queues clients × (0 < more) × (more ≤ 64) × (count_labels settled ≡ count_labels before + more)
+LeavesRound rules log latest before settled queues clients (Over state) = Entered rules log latest settled state × IsOver rules (state_of state) queues clients
 
 -- All rounds leave nothing that is possible any more, or so many labels as there may be.
-abbrev pub Leaves : Rules → Log → (settled : List Entry) → List Queue → List (List ℕ) → (steps : ℕ) → End → Type 0
-Leaves rules log settled queues clients steps (Rest state) = Entered rules log settled state × IsOver rules (state_of state) queues clients
-Leaves rules log settled queues clients steps (Long labels) = (labels ≡ count_labels settled) × (steps ≤ labels)
+abbrev pub Leaves : Rules → Log → (latest : ℕ) → (settled : List Entry) → List Queue → List (List ℕ) → (steps : ℕ) → End → Type 0
+Leaves rules log latest settled queues clients steps (Rest state) = Entered rules log latest settled state × IsOver rules (state_of state) queues clients
+Leaves rules log latest settled queues clients steps (Long labels) = (labels ≡ count_labels settled) × (steps ≤ labels)

@@ -10,10 +10,10 @@ use Rattle.part_rounds.specs.declared.stop.Stop.{Stop}
 use Rattle.part_rounds.specs.declared.stop.Stop.TheVariants.{Full, SiteFault, SayFault, ClockFault, Memory}
 
 -- An entry that may follow would bring the log to this length, which isn't below the segment's.
-pub record IsFull (rules : Rules) (settled : List Entry) (told : Told) (segment : ℕ) (way : Way) (partition length : ℕ) : Type 0 where
+pub record IsFull (rules : Rules) (latest : ℕ) (settled : List Entry) (told : Told) (segment : ℕ) (way : Way) (partition length : ℕ) : Type 0 where
   pub alone : partition ≡ 0
   pub entry : Entry
-  pub follows : Follows rules settled told (entry ∷ [])
+  pub follows : Follows rules latest settled told (entry ∷ [])
   pub length_is : length ≡ length_with way (entry ∷ [])
   pub reaches : segment ≤ length
 

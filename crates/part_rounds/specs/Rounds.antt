@@ -1,5 +1,5 @@
 -- What holds between the rounds of a call.
-use Rattle.std.specs.Prelude.{◌≡◌, ◌≢◌, ℕ, List, [], ◌∷◌, map, Option, None, Some, if◌then◌else◌, ◌≤◌, Ok, ◌<◌, length}
+use Rattle.std.specs.Prelude.{◌≡◌, ◌≢◌, ℕ, List, [], ◌∷◌, map, Option, None, Some, if◌then◌else◌, ◌≤◌, Ok, ◌<◌, length, max}
 use Rattle.std.specs.List.{All}
 use Rattle.std.specs.Option.{option_and_then}
 use Rattle.client_port.specs.Clients.{clients_of, requests_of}
@@ -58,15 +58,20 @@ pub record Stands (rules : Rules) (log : Log) (settled : List Entry) (p : Partit
   pub follows : (goes_on log settled).incarnation ≤ rules.life
   pub younger : p.incarnation ≤ rules.life
 
+-- The state is of no later moment than both the log's entries at the beginning and the clock's latest.
+abbrev pub IsTimely : Rules → (latest : ℕ) → Partition → Type 0
+IsTimely rules latest p = p.stamp ≤ max rules.begin.stamp latest
+
 -- What an entry was filled with, at this place and in this life: from the state behind what is settled on, 1 to 64 items that can be
 -- written.
-pub record IsFilled (rules : Rules) (log : Log) (settled : List Entry) (told : Told) (position life : ℕ) (items : List Item) : Type 0 where
+pub record IsFilled (rules : Rules) (log : Log) (latest : ℕ) (settled : List Entry) (told : Told) (position life : ℕ) (items : List Item) : Type 0 where
   pub before : Partition
   pub stands : Stands rules log settled before
   pub position_is : position ≡ before.position
   pub life_is : life ≡ rules.life
   pub after : Partition
   pub fills : Fills rules told (enter rules.life before) items after
+  pub timely : IsTimely rules latest after
   pub fit : All FitsItem items
   pub some : 0 < length items
   pub few : length items ≤ most_members
@@ -74,6 +79,6 @@ pub record IsFilled (rules : Rules) (log : Log) (settled : List Entry) (told : T
   pub life_fits : FitsCount life
 
 -- what it was filled with makes this state
-pub record IsFilledTo (rules : Rules) (log : Log) (settled : List Entry) (told : Told) (position life : ℕ) (items : List Item) (q : Partition) : Type 0 where
-  pub filled : IsFilled rules log settled told position life items
+pub record IsFilledTo (rules : Rules) (log : Log) (latest : ℕ) (settled : List Entry) (told : Told) (position life : ℕ) (items : List Item) (q : Partition) : Type 0 where
+  pub filled : IsFilled rules log latest settled told position life items
   pub after_is : filled.after ≡ q

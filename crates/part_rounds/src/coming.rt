@@ -3,7 +3,7 @@
 ghost use Rattle.std.specs.Prelude.{◌≡◌, ◌<◌, ◌≤◌, List, true, Err, IfOk, IfErr};
 ghost use Rattle.flow_syntax.specs.Views.{flows_of};
 ghost use Rattle.hub_store.specs.Trail.{Said};
-ghost use Rattle.part_rounds.specs.Comes.{Comes, FillsNext};
+ghost use Rattle.part_rounds.specs.Comes.{Comes, FillsNext, IsByNow};
 ghost use Rattle.part_rounds.specs.Commits.{is_of_clock};
 ghost use Rattle.part_rounds.specs.Rounds.{pairs_of, HasSaid};
 ghost use Rattle.part_steps.specs.States.{state_of, count_of, IsSound};
@@ -23,8 +23,8 @@ use std::alloc::Global;
 
 /// What comes next.
 pub(crate) enum Coming {
-    /// An entry with these items.
-    Filled(Filling),
+    /// An entry with these items, filled at this moment.
+    Filled(Filling, u64),
     /// Nothing, without more requests.
     Rest(PartState),
 }
@@ -48,6 +48,8 @@ pub(crate) fn take_next<A: Activities, C: Clock>(
     requires some { 0 < limit }
     ensures fills { (rules : Rules) (told : List Said) → rules.flows ≡ flows_of flows.now → HasSaid rules told port.now.queues → IfOk result (λ next. FillsNext rules (pairs_of told) (state_of state) next) }
     ensures comes { IfOk result (λ next. Comes (flows_of flows.now) (state_of state) port.now.queues clients.now limit next) }
+    ensures moment { IfOk result (λ next. IsByNow (state_of state) (C.latest clock.new) next) }
+    ensures latest { C.latest clock.old ≤ C.latest clock.new }
     ensures stops { IfErr result (λ stop. is_of_clock stop ≡ true) }
     ensures fault { result ≡ Err Stop.ClockFault → HasRisen (C.clock_faults clock.old) (C.clock_faults clock.new) }
     ensures later { C.clock_faults clock.old ≤ C.clock_faults clock.new }
@@ -59,7 +61,7 @@ pub(crate) fn take_next<A: Activities, C: Clock>(
     let chance = Chance { now, word };
     let first = gather(alloc, flows, acts, state, port, clients, chance, limit)?;
     if !first.items.is_empty() {
-        return Ok(Coming::Filled(first));
+        return Ok(Coming::Filled(first, now));
     }
     let Some(due) = first.state.next_timer() else {
         return Ok(Coming::Rest(first.state));
@@ -82,5 +84,5 @@ pub(crate) fn take_next<A: Activities, C: Clock>(
     if second.items.is_empty() {
         return Err(Stop::Memory);
     }
-    Ok(Coming::Filled(second))
+    Ok(Coming::Filled(second, later))
 }

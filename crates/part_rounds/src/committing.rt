@@ -41,6 +41,8 @@ fn write<V: Site, N: Start>(
     ensures still { OnOk result (store.new.halted ≡ false) }
     ensures only { MovesOnly 0 store.old store.new }
     ensures segment { store.new.segment ≡ store.old.segment }
+    ensures latest { store.new.latest ≡ store.old.latest }
+    ensures whole { store.new.cut ≡ store.old.cut }
     ensures full { store.old.segment ≤ length_with (way_of store.old.ways.items 0) (entries_of frame)
         → (result ≡ Err Stop.Memory) ⊎ (result ≡ Err (Stop.Full 0 (length_with (way_of store.old.ways.items 0) (entries_of frame)))) }
     ensures room { (of n : ℕ) → result ≡ Err (Stop.Full of n) → (of ≡ 0) × (store.old.segment ≤ n) × (n ≡ length_with (way_of store.old.ways.items 0) (entries_of frame)) × (V.history store.new.site ≡ V.history store.old.site) × (way_of store.new.ways.items 0 ≡ way_of store.old.ways.items 0) }
@@ -65,7 +67,7 @@ fn open<V: Site, N: Start>(store: &mut Store<V, N>) -> Result<(), Stop>
     requires going { store.old.halted ≡ false }
     requires one { 0 < N.origin.count }
     requires safe { stage_at store.old 0 ≡ Stage.Synced }
-    requires follows { (going : List PlainEntry) → going_at store.old 0 ≡ Some going → N.may_follow (trail_in store.old) (told_in store.old) 0 going }
+    requires follows { (going : List PlainEntry) → going_at store.old 0 ≡ Some going → N.may_follow store.old.latest (trail_in store.old) (told_in store.old) 0 going }
     ensures tells { V.tells store.new.site → V.tells store.old.site }
     ensures sound { IsSound store.new }
     ensures stage { OnOk result (stage_at store.new 0 ≡ Stage.Resting) }
@@ -75,6 +77,8 @@ fn open<V: Site, N: Start>(store: &mut Store<V, N>) -> Result<(), Stop>
     ensures others { KeepsOthers 0 store.old store.new }
     ensures still { OnOk result (store.new.halted ≡ false) }
     ensures segment { store.new.segment ≡ store.old.segment }
+    ensures latest { store.new.latest ≡ store.old.latest }
+    ensures whole { store.new.cut ≡ store.old.cut }
     ensures stops { OnErr result (result ≡ Err Stop.SiteFault) }
     ensures fault { OnErr result (HasRisen (V.disk_faults store.old.site) (V.disk_faults store.new.site)) }
     ensures later { V.disk_faults store.old.site ≤ V.disk_faults store.new.site }
@@ -110,7 +114,7 @@ pub fn commit<V: Site, N: Start>(
     requires one { 0 < N.origin.count }
     requires rests { stage_at store.old 0 ≡ Stage.Resting }
     requires behind { GoesBehind (goes_on (N.origin.logs 0) (of_part 0 (trail_in store.old))) (entry_of entry ∷ []) }
-    requires follows { N.may_follow (trail_in store.old) (told_in store.old) 0 (entry_of entry ∷ []) }
+    requires follows { N.may_follow store.old.latest (trail_in store.old) (told_in store.old) 0 (entry_of entry ∷ []) }
     ensures tells { V.tells store.new.site → V.tells store.old.site }
     ensures sound { IsSound store.new }
     ensures stage { OnOk result (stage_at store.new 0 ≡ Stage.Resting) }
@@ -120,6 +124,8 @@ pub fn commit<V: Site, N: Start>(
     ensures others { KeepsOthers 0 store.old store.new }
     ensures still { OnOk result (store.new.halted ≡ false) }
     ensures segment { store.new.segment ≡ store.old.segment }
+    ensures latest { store.new.latest ≡ store.old.latest }
+    ensures whole { store.new.cut ≡ store.old.cut }
     ensures full { store.old.segment ≤ length_with (way_of store.old.ways.items 0) (entry_of entry ∷ [])
         → (result ≡ Err Stop.Memory) ⊎ (result ≡ Err (Stop.Full 0 (length_with (way_of store.old.ways.items 0) (entry_of entry ∷ [])))) }
     ensures room { (of n : ℕ) → result ≡ Err (Stop.Full of n) → (of ≡ 0) × (store.old.segment ≤ n) × (n ≡ length_with (way_of store.old.ways.items 0) (entry_of entry ∷ [])) × (V.history store.new.site ≡ V.history store.old.site) × (way_of store.new.ways.items 0 ≡ way_of store.old.ways.items 0) }
@@ -150,7 +156,7 @@ pub(crate) fn commit_items<V: Site, N: Ruled>(
     requires sound { IsSound store.old }
     requires going { store.old.halted ≡ false }
     requires rests { stage_at store.old 0 ≡ Stage.Resting }
-    requires filled { IsFilled N.rules (N.origin.logs 0) (of_part 0 (trail_in store.old)) (pairs_of (told_in store.old)) position life (items_of items.items) }
+    requires filled { IsFilled N.rules (N.origin.logs 0) store.old.latest (of_part 0 (trail_in store.old)) (pairs_of (told_in store.old)) position life (items_of items.items) }
     ensures tells { V.tells store.new.site → V.tells store.old.site }
     ensures sound { IsSound store.new }
     ensures stage { OnOk result (stage_at store.new 0 ≡ Stage.Resting) }
@@ -159,7 +165,9 @@ pub(crate) fn commit_items<V: Site, N: Ruled>(
     ensures said { told_in store.new ≡ told_in store.old }
     ensures still { OnOk result (store.new.halted ≡ false) }
     ensures segment { store.new.segment ≡ store.old.segment }
-    ensures full { (of n : ℕ) → result ≡ Err (Stop.Full of n) → IsFull N.rules (of_part 0 (trail_in store.new)) (pairs_of (told_in store.new)) store.new.segment (way_of store.new.ways.items 0) of n }
+    ensures latest { store.new.latest ≡ store.old.latest }
+    ensures whole { store.new.cut ≡ store.old.cut }
+    ensures full { (of n : ℕ) → result ≡ Err (Stop.Full of n) → IsFull N.rules store.new.latest (of_part 0 (trail_in store.new)) (pairs_of (told_in store.new)) store.new.segment (way_of store.new.ways.items 0) of n }
     ensures labels { OnOk result (count_labels (of_part 0 (trail_in store.new)) ≡ count_labels (of_part 0 (trail_in store.old)) + length items.items) }
     ensures stops { IfErr result (λ stop. is_of_disk stop ≡ true) }
     ensures fault { result ≡ Err Stop.SiteFault → HasRisen (V.disk_faults store.old.site) (V.disk_faults store.new.site) }

@@ -1,6 +1,6 @@
 //! Filling an entry.
 
-ghost use Rattle.std.specs.Prelude.{◌≡◌, ◌<◌, ◌≤◌, ◌-◌, IfOk, length};
+ghost use Rattle.std.specs.Prelude.{◌≡◌, ◌<◌, ◌≤◌, ◌-◌, max, IfOk, length};
 ghost use Rattle.flow_syntax.specs.Views.{flows_of};
 ghost use Rattle.part_rounds.specs.Fills.{IsUnderWay, GoesOn, Puts};
 ghost use Rattle.part_steps.specs.Enabled.{NoneEnabled, moment_at};
@@ -54,6 +54,7 @@ pub(crate) fn fill(
     ensures goes_on { (rules : Rules) (told : Told) → rules.flows ≡ flows_of flows.now → IfOk result (λ next. GoesOn rules told filling next) }
     ensures under_way { IfOk result (λ next. IsUnderWay next) }
     ensures few { IfOk result (λ next. length next.items.items ≤ limit) }
+    ensures moment { IfOk result (λ next. (state_of next.state).stamp ≤ max (state_of filling.state).stamp now) }
     ensures none { length filling.items.items < limit → IfOk result (λ next. length next.items.items ≡ length filling.items.items
         → (state_of next.state ≡ state_of filling.state) × NoneEnabled (flows_of flows.now) 1 (state_of filling.state) (moment_at (state_of filling.state) now)) }
 {

@@ -1,6 +1,6 @@
 //! What an entry is filled with besides outcomes.
 
-ghost use Rattle.std.specs.Prelude.{◌≡◌, ◌<◌, ◌≤◌, List, [], IfOk, IfErr, length};
+ghost use Rattle.std.specs.Prelude.{◌≡◌, ◌<◌, ◌≤◌, max, List, [], IfOk, IfErr, length};
 ghost use Rattle.std.specs.List.{All};
 ghost use Rattle.part_items.specs.ItemFits.{FitsItem};
 ghost use Rattle.flow_syntax.specs.Views.{flows_of};
@@ -48,6 +48,7 @@ pub(crate) fn fill_on(
     requires room { length filling.items.items ≤ limit }
     ensures goes_on { (rules : Rules) (told : List Said) → rules.flows ≡ flows_of flows.now → HasSaid rules told port.now.queues → IfOk result (λ next. GoesOn rules (pairs_of told) filling next) }
     ensures few { IfOk result (λ next. length next.items.items ≤ limit) }
+    ensures moment { IfOk result (λ next. (state_of next.state).stamp ≤ max (state_of filling.state).stamp now) }
     ensures fit { IfOk result (λ next. All FitsItem (items_of next.items.items)) }
     ensures under_way { IfOk result (λ next. IsUnderWay next) }
     ensures longer { IfOk result (λ next. length filling.items.items ≤ length next.items.items) }
@@ -82,6 +83,7 @@ pub(crate) fn gather<A: Activities>(
     ensures fills { (rules : Rules) (told : List Said) → rules.flows ≡ flows_of flows.now → HasSaid rules told port.now.queues → IfOk result (λ next. Fills rules (pairs_of told) (state_of state) (items_of next.items.items) (state_of next.state)) }
     ensures under_way { IfOk result (λ next. IsUnderWay next) }
     ensures few { IfOk result (λ next. length next.items.items ≤ limit) }
+    ensures moment { IfOk result (λ next. (state_of next.state).stamp ≤ max (state_of state).stamp chance.now) }
     ensures fit { IfOk result (λ next. All FitsItem (items_of next.items.items)) }
     ensures none { IfOk result (λ next. next.items.items ≡ [] → (state_of next.state ≡ state_of state)
         × IsIdle (flows_of flows.now) (state_of state) port.now.queues clients.now chance.now) }

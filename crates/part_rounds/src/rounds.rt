@@ -1,6 +1,6 @@
 //! One round after the other.
 
-ghost use Rattle.std.specs.Prelude.{◌≡◌, ◌<◌, ◌≤◌, ◌+◌, ◌^◌, ℕ, [], false, Err, IfOk, OnOk, length};
+ghost use Rattle.std.specs.Prelude.{◌≡◌, ◌≢◌, ◌<◌, ◌≤◌, ◌+◌, ◌^◌, max, ℕ, [], false, Err, IfOk, OnOk, length};
 ghost use Rattle.flow_syntax.specs.Views.{flows_of};
 ghost use Rattle.hub_store.specs.Changes.{stage_at, trail_in, told_in};
 ghost use Rattle.hub_store.specs.Sound.{IsSound};
@@ -62,19 +62,21 @@ fn settle_filling<V: Site, N: Ruled>(
     requires going { store.old.halted ≡ false }
     requires rests { stage_at store.old 0 ≡ Stage.Resting }
     requires room { position < 2 ^ 61 }
-    requires filled { IsFilledTo N.rules (N.origin.logs 0) (of_part 0 (trail_in store.old)) (pairs_of (told_in store.old)) position life (items_of filling.items.items) (state_of filling.state) }
+    requires filled { IsFilledTo N.rules (N.origin.logs 0) store.old.latest (of_part 0 (trail_in store.old)) (pairs_of (told_in store.old)) position life (items_of filling.items.items) (state_of filling.state) }
     requires way { IsUnderWay filling }
     requires said { HasSaid N.rules (told_in store.old) port.old.queues }
     ensures tells { V.tells store.new.site → V.tells store.old.site }
     ensures sound { IsSound store.new }
     ensures segment { store.new.segment ≡ store.old.segment }
+    ensures latest { store.new.latest ≡ store.old.latest }
+    ensures whole { result ≢ Err Stop.SayFault → store.new.cut ≡ false }
     ensures stage { OnOk result (stage_at store.new 0 ≡ Stage.Resting) }
     ensures still { OnOk result (store.new.halted ≡ false) }
     ensures said { OnOk result (HasSaid N.rules (told_in store.new) port.new.queues) }
-    ensures entered { IfOk result (λ state. Entered N.rules (N.origin.logs 0) (of_part 0 (trail_in store.new)) state) }
+    ensures entered { IfOk result (λ state. Entered N.rules (N.origin.logs 0) store.new.latest (of_part 0 (trail_in store.new)) state) }
     ensures unsaid { IfOk result (λ state. NoneUnsaid (state_of state) port.new.queues clients.now) }
     ensures labels { OnOk result (count_labels (of_part 0 (trail_in store.new)) ≡ count_labels (of_part 0 (trail_in store.old)) + length filling.items.items) }
-    ensures full { (of n : ℕ) → result ≡ Err (Stop.Full of n) → IsFull N.rules (of_part 0 (trail_in store.new)) (pairs_of (told_in store.new)) store.new.segment (way_of store.new.ways.items 0) of n }
+    ensures full { (of n : ℕ) → result ≡ Err (Stop.Full of n) → IsFull N.rules store.new.latest (of_part 0 (trail_in store.new)) (pairs_of (told_in store.new)) store.new.segment (way_of store.new.ways.items 0) of n }
     ensures fault { result ≡ Err Stop.SiteFault → HasRisen (V.disk_faults store.old.site) (V.disk_faults store.new.site) }
     ensures say_fault { result ≡ Err Stop.SayFault → HasRisen (V.say_faults store.old.site) (V.say_faults store.new.site) }
     ensures no_clock { result ≡ Err Stop.ClockFault → ⊥ }
@@ -109,17 +111,20 @@ fn go_round<V: Site, N: Ruled, A: Activities, C: Clock>(
     requires short { life < 2 ^ 62 }
     requires some { 0 < limit }
     requires few { limit ≤ 64 }
-    requires entered { Entered N.rules (N.origin.logs 0) (of_part 0 (trail_in store.old)) state }
+    requires entered { Entered N.rules (N.origin.logs 0) store.old.latest (of_part 0 (trail_in store.old)) state }
     requires unsaid { NoneUnsaid (state_of state) port.old.queues clients.now }
     requires said { HasSaid N.rules (told_in store.old) port.old.queues }
     ensures tells { V.tells store.new.site → V.tells store.old.site }
     ensures sound { IsSound store.new }
     ensures segment { store.new.segment ≡ store.old.segment }
+    ensures latest { store.new.latest ≤ max store.old.latest (C.latest clock.new) }
+    ensures whole { result ≢ Err Stop.SayFault → store.new.cut ≡ false }
+    ensures moments { C.latest clock.old ≤ C.latest clock.new }
     ensures stage { OnOk result (stage_at store.new 0 ≡ Stage.Resting) }
     ensures still { OnOk result (store.new.halted ≡ false) }
     ensures said { OnOk result (HasSaid N.rules (told_in store.new) port.new.queues) }
-    ensures leaves { IfOk result (λ round. LeavesRound N.rules (N.origin.logs 0) (of_part 0 (trail_in store.old)) (of_part 0 (trail_in store.new)) port.new.queues clients.now round) }
-    ensures full { (of n : ℕ) → result ≡ Err (Stop.Full of n) → IsFull N.rules (of_part 0 (trail_in store.new)) (pairs_of (told_in store.new)) store.new.segment (way_of store.new.ways.items 0) of n }
+    ensures leaves { IfOk result (λ round. LeavesRound N.rules (N.origin.logs 0) store.new.latest (of_part 0 (trail_in store.old)) (of_part 0 (trail_in store.new)) port.new.queues clients.now round) }
+    ensures full { (of n : ℕ) → result ≡ Err (Stop.Full of n) → IsFull N.rules store.new.latest (of_part 0 (trail_in store.new)) (pairs_of (told_in store.new)) store.new.segment (way_of store.new.ways.items 0) of n }
     ensures fault { result ≡ Err Stop.SiteFault → HasRisen (V.disk_faults store.old.site) (V.disk_faults store.new.site) }
     ensures say_fault { result ≡ Err Stop.SayFault → HasRisen (V.say_faults store.old.site) (V.say_faults store.new.site) }
     ensures clock_fault { result ≡ Err Stop.ClockFault → HasRisen (C.clock_faults clock.old) (C.clock_faults clock.new) }
@@ -135,7 +140,8 @@ fn go_round<V: Site, N: Ruled, A: Activities, C: Clock>(
     match take_next(
         alloc, flows, acts, clock, state, port, clients, chance, limit,
     )? {
-        Coming::Filled(filling) => {
+        Coming::Filled(filling, now) => {
+            store.raise(now);
             let more = filling.items.len() as u64;
             let state = settle_filling(alloc, store, port, clients, position, life, filling)?;
             Ok(Round::On(state, more))
@@ -176,11 +182,14 @@ pub fn drive<V: Site, N: Ruled, A: Activities, C: Clock>(
     ensures tells { V.tells store.new.site → V.tells store.old.site }
     ensures sound { IsSound store.new }
     ensures segment { store.new.segment ≡ store.old.segment }
+    ensures latest { store.new.latest ≤ max store.old.latest (C.latest clock.new) }
+    ensures whole { result ≢ Err Stop.SayFault → store.new.cut ≡ false }
+    ensures moments { C.latest clock.old ≤ C.latest clock.new }
     ensures stage { OnOk result (stage_at store.new 0 ≡ Stage.Resting) }
     ensures still { OnOk result (store.new.halted ≡ false) }
     ensures said { OnOk result (HasSaid N.rules (told_in store.new) port.new.queues) }
-    ensures leaves { IfOk result (λ end. Leaves N.rules (N.origin.logs 0) (of_part 0 (trail_in store.new)) port.new.queues clients.now steps end) }
-    ensures full { (of n : ℕ) → result ≡ Err (Stop.Full of n) → IsFull N.rules (of_part 0 (trail_in store.new)) (pairs_of (told_in store.new)) store.new.segment (way_of store.new.ways.items 0) of n }
+    ensures leaves { IfOk result (λ end. Leaves N.rules (N.origin.logs 0) store.new.latest (of_part 0 (trail_in store.new)) port.new.queues clients.now steps end) }
+    ensures full { (of n : ℕ) → result ≡ Err (Stop.Full of n) → IsFull N.rules store.new.latest (of_part 0 (trail_in store.new)) (pairs_of (told_in store.new)) store.new.segment (way_of store.new.ways.items 0) of n }
     ensures fault { result ≡ Err Stop.SiteFault → HasRisen (V.disk_faults store.old.site) (V.disk_faults store.new.site) }
     ensures say_fault { result ≡ Err Stop.SayFault → HasRisen (V.say_faults store.old.site) (V.say_faults store.new.site) }
     ensures clock_fault { result ≡ Err Stop.ClockFault → HasRisen (C.clock_faults clock.old) (C.clock_faults clock.new) }

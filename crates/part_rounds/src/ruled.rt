@@ -18,7 +18,7 @@ pub trait Ruled: Start {
     ghost one: { Self.origin.count ≡ 1 };
 
     /// What follows by the rules may be committed.
-    ghost follows: { (trail : List Settled) (told : List Said) (going : List Entry) → Follows rules (of_part 0 trail) (pairs_of told) going → Self.may_follow trail told 0 going };
+    ghost follows: { (latest : ℕ) (trail : List Settled) (told : List Said) (going : List Entry) → Follows rules latest (of_part 0 trail) (pairs_of told) going → Self.may_follow latest trail told 0 going };
 
     /// What answers by the rules may be said.
     ghost answers: { (trail : List Settled) (told : List Said) (one : Said) (line : List ℕ) → Answers rules (of_part 0 trail) (pairs_of told) one.client one.number line → Self.may_say trail told one line };
@@ -33,7 +33,7 @@ impl Ruled for Brand {
 
     ghost one = { refl };
 
-    ghost follows = { λ trail told going may. tt };
+    ghost follows = { λ latest trail told going may. tt };
 
     ghost answers = { λ trail told one line may. tt };
 }

@@ -1,7 +1,7 @@
 //! Saying what is answered.
 
 ghost use Rattle.std.specs.List.{All};
-ghost use Rattle.std.specs.Prelude.{◌≡◌, ◌<◌, ◌≤◌, ◌+◌, ℕ, true, false, None, Ok, Err, IfErr, IfOk, OnOk, length};
+ghost use Rattle.std.specs.Prelude.{◌≡◌, ◌≢◌, ◌<◌, ◌≤◌, ◌+◌, ℕ, true, false, None, Ok, Err, IfErr, IfOk, OnOk, length};
 ghost use Rattle.client_port.specs.Clients.{requests_of};
 ghost use Rattle.hub_store.specs.Changes.{trail_in, told_in};
 ghost use Rattle.hub_store.specs.Sound.{IsSound};
@@ -47,6 +47,8 @@ pub(crate) fn say_next<V: Site, N: Ruled>(
     ensures trail { trail_in store.new ≡ trail_in store.old }
     ensures ways { store.new.ways ≡ store.old.ways }
     ensures segment { store.new.segment ≡ store.old.segment }
+    ensures latest { store.new.latest ≡ store.old.latest }
+    ensures whole { result ≢ Err Stop.SayFault → store.new.cut ≡ false }
     ensures still { OnOk result (store.new.halted ≡ false) }
     ensures said { OnOk result (HasSaid N.rules (told_in store.new) port.new.queues) }
     ensures more { result ≡ Ok true → (count_told (pairs_of (told_in store.old)) client.now < length (requests_of client.now N.rules.requests))
@@ -92,6 +94,8 @@ fn say_all<V: Site, N: Ruled>(
     ensures trail { trail_in store.new ≡ trail_in store.old }
     ensures ways { store.new.ways ≡ store.old.ways }
     ensures segment { store.new.segment ≡ store.old.segment }
+    ensures latest { store.new.latest ≡ store.old.latest }
+    ensures whole { result ≢ Err Stop.SayFault → store.new.cut ≡ false }
     ensures still { OnOk result (store.new.halted ≡ false) }
     ensures said { OnOk result (HasSaid N.rules (told_in store.new) port.new.queues) }
     ensures none { OnOk result (next_answer (state_of state.now) port.new.queues client.now ≡ None) }
@@ -122,6 +126,8 @@ pub(crate) fn say_due<V: Site, N: Ruled>(
     ensures trail { trail_in store.new ≡ trail_in store.old }
     ensures ways { store.new.ways ≡ store.old.ways }
     ensures segment { store.new.segment ≡ store.old.segment }
+    ensures latest { store.new.latest ≡ store.old.latest }
+    ensures whole { result ≢ Err Stop.SayFault → store.new.cut ≡ false }
     ensures still { OnOk result (store.new.halted ≡ false) }
     ensures said { OnOk result (HasSaid N.rules (told_in store.new) port.new.queues) }
     ensures none { OnOk result (All (λ name. next_answer (state_of state.now) port.new.queues name ≡ None) clients.now) }

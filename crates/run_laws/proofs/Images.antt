@@ -21,6 +21,7 @@ use Rattle.run_rules.specs.Rules.{Rules}
 use Rattle.run_laws.specs.Begins.{BeginsAlone, header_with, may_follow, may_say}
 use Rattle.run_laws.specs.Leaves.{StandsOn}
 use Rattle.run_laws.proofs.Answered.{all_answered, half_said}
+use Rattle.run_laws.proofs.Founding.{entries_founded}
 use Rattle.run_laws.proofs.Trails.{Goes, goes_on, trail_goes}
 use Rattle.run_laws.proofs.Whole.{whole}
 use Rattle.site_model.specs.History.{Step, changes_of, Leaves, IsImage}
@@ -49,7 +50,7 @@ module _ (digest : ℕ) (entries : List Entry) (gate : ℕ) where
         ∙ in_second
   ]
 
-module _ (o : Origin) (rules : Rules) (digest : ℕ) (begins : BeginsAlone o rules digest) where
+module _ (o : Origin) (rules : Rules) (latest digest : ℕ) (begins : BeginsAlone o rules digest) where
   -- the entries of an image of the log, beside one of the other file
   kept_entries : (files : ℕ → List ℕ) (entries : List Entry) → Keeps (o.logs 0) entries (files (o.logs 0).file) → kept_in 0 (files begins.other) ≡ nothing
       → entries_in (logs_in (alone_with digest) files) ≡ Some ((o.logs 0).entries ++ entries)
@@ -59,10 +60,10 @@ module _ (o : Origin) (rules : Rules) (digest : ℕ) (begins : BeginsAlone o rul
       entries_alone digest ((o.logs 0).entries ++ entries) kept.0 files (o.logs 0).file begins.other begins.files here none
 
   -- the run that it stands for
-  image_stands : (files : ℕ → List ℕ) (entries : List Entry) → Goes rules entries → Keeps (o.logs 0) entries (files (o.logs 0).file) → kept_in 0 (files begins.other) ≡ nothing
+  image_stands : (files : ℕ → List ℕ) (entries : List Entry) → Goes rules latest entries → Keeps (o.logs 0) entries (files (o.logs 0).file) → kept_in 0 (files begins.other) ≡ nothing
       → Stands rules.flows digest files (labels_in (o.logs 0).entries ++ labels_in entries)
   image_stands files entries goes kept none =
-      let all = whole o rules digest begins entries goes in
+      let all = whole o rules latest digest begins entries goes in
       subst (Stands rules.flows digest files) (labels_both (o.logs 0).entries entries)
       (labels_stand rules.flows digest files ((o.logs 0).entries ++ entries) goes.state (kept_entries files entries kept none) all.0 all.1)
 
@@ -84,8 +85,8 @@ module _ (o : Origin) (rules : Rules) (digest : ℕ) (begins : BeginsAlone o rul
   numbered files entries kept none = entries_numbered (alone_with digest) files ((o.logs 0).entries ++ entries) (kept_entries files entries kept none)
 
   -- how things stand at a moment, where the image keeps these entries
-  standing : (steps : List Step) (trail : List Settled) (files : ℕ → List ℕ) (going : List Entry) → StandsAt (may_follow rules) (may_say rules) o steps trail → Goes rules (of_part 0 trail ++ going)
-      → Keeps (o.logs 0) (of_part 0 trail ++ going) (files (o.logs 0).file) → kept_in 0 (files begins.other) ≡ nothing → (going ≡ []) ⊎ WroteGate (changes_of (o.logs 0).file steps) → StandsOn rules digest o steps trail files
+  standing : (steps : List Step) (trail : List Settled) (files : ℕ → List ℕ) (going : List Entry) → StandsAt (may_follow rules latest) (may_say rules) o steps trail → Goes rules latest (of_part 0 trail ++ going)
+      → Keeps (o.logs 0) (of_part 0 trail ++ going) (files (o.logs 0).file) → kept_in 0 (files begins.other) ≡ nothing → (going ≡ []) ⊎ WroteGate (o.logs 0) (of_part 0 trail) (changes_of (o.logs 0).file steps) → StandsOn rules latest digest o steps trail files
   standing steps trail files going here goes kept none writing =
       let longer : IsNumbered (state_next (fresh 0)) (((o.logs 0).entries ++ of_part 0 trail) ++ going) =
       subst (IsNumbered (state_next (fresh 0))) (sym (append_assoc (o.logs 0).entries (of_part 0 trail) going)) (numbered files (of_part 0 trail ++ going) kept none) in
@@ -94,25 +95,29 @@ module _ (o : Origin) (rules : Rules) (digest : ℕ) (begins : BeginsAlone o rul
         going = going;
         stands = subst (Stands rules.flows digest files) (labels_split (of_part 0 trail) going) (image_stands files (of_part 0 trail ++ going) goes kept none);
         writing = writing;
+        given = (whole o rules latest digest begins (of_part 0 trail ++ going) goes).1;
+        own = goes.own;
+        founded = entries_founded rules.flows (o.logs 0).entries (of_part 0 trail ++ going) goes.state (numbered files (of_part 0 trail ++ going) kept none) (whole o rules latest digest begins (of_part 0 trail ++ going) goes).0
+            (whole o rules latest digest begins (of_part 0 trail ++ going) goes).1;
         told = here.told;
         lines = here.stands.lines;
         part = here.part;
-        answered = all_answered o rules digest begins (of_part 0 trail) is_numbered here.stands.rightly [] (sym (append-nil (of_part 0 trail)));
+        answered = all_answered o rules latest digest begins (of_part 0 trail) is_numbered here.stands.rightly [] (sym (append-nil (of_part 0 trail)));
         spoken = here.stands.spoken;
         saying = elim here.speaking [
           | inl whole_lines ↦ inl whole_lines
-          | inr next ↦ inr (half_said o rules digest begins (of_part 0 trail) is_numbered trail here.told steps here.part refl (trail_goes rules here.stands.rightly).given next)
+          | inr next ↦ inr (half_said o rules latest digest begins (of_part 0 trail) is_numbered trail here.told steps here.part refl (trail_goes rules latest here.stands.rightly) next)
         ];
       }
 
   -- how things stand at a moment
-  pub moment_stands : (steps : List Step) (trail : List Settled) (files : ℕ → List ℕ) → StandsAt (may_follow rules) (may_say rules) o steps trail → IsImage steps files → StandsOn rules digest o steps trail files
+  pub moment_stands : (steps : List Step) (trail : List Settled) (files : ℕ → List ℕ) → StandsAt (may_follow rules latest) (may_say rules) o steps trail → IsImage steps files → StandsOn rules latest digest o steps trail files
   moment_stands steps trail files here image =
-      let goes = trail_goes rules here.stands.rightly in
+      let goes = trail_goes rules latest here.stands.rightly in
       let none : kept_in 0 (files begins.other) ≡ nothing =
       begins.empty (files begins.other) (subst (λ changes. Leaves changes (files begins.other)) (here.stands.others begins.other no_log) (image.each begins.other)) in
       let all = sym (append-nil (of_part 0 trail)) in
       elim (here.stands.images 0 (omega (arith, begins.one)) (files (o.logs 0).file) (image.each (o.logs 0).file)) [
-        | inl kept ↦ standing steps trail files [] here (subst (Goes rules) all goes) (subst (λ (l : List Entry). Keeps (o.logs 0) l (files (o.logs 0).file)) all kept) none (inl refl)
-        | inr next ↦ standing steps trail files next.going here (goes_on rules trail here.told next.going goes next.follows) next.keeps none (inr next.gate)
+        | inl kept ↦ standing steps trail files [] here (subst (Goes rules latest) all goes) (subst (λ (l : List Entry). Keeps (o.logs 0) l (files (o.logs 0).file)) all kept) none (inl refl)
+        | inr next ↦ standing steps trail files next.going here (goes_on rules latest trail here.told next.going goes next.follows) next.keeps none (inr next.gate)
       ]

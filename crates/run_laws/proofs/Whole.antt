@@ -10,8 +10,8 @@ use Rattle.run_rules.specs.Rules.{Rules}
 use Rattle.run_laws.specs.Begins.{BeginsAlone}
 use Rattle.run_laws.proofs.Trails.{Goes}
 
-module _ (o : Origin) (rules : Rules) (digest : ℕ) (begins : BeginsAlone o rules digest) where
-  pub whole : (entries : List Entry) (goes : Goes rules entries) → (placed rules.flows 1 (fresh 0) ((o.logs 0).entries ++ entries) ≡ Ok goes.state) × AllGiven rules.flows 1 (fresh 0) ((o.logs 0).entries ++ entries)
+module _ (o : Origin) (rules : Rules) (latest digest : ℕ) (begins : BeginsAlone o rules digest) where
+  pub whole : (entries : List Entry) (goes : Goes rules latest entries) → (placed rules.flows 1 (fresh 0) ((o.logs 0).entries ++ entries) ≡ Ok goes.state) × AllGiven rules.flows 1 (fresh 0) ((o.logs 0).entries ++ entries)
   whole entries goes = (
     placed_both rules.flows 1 (fresh 0) (o.logs 0).entries entries ∙ ap (λ made. made >>= λ q. placed rules.flows 1 q entries) begins.made ∙ goes.made,
     (given_both rules.flows 1 (fresh 0) (o.logs 0).entries entries).1 (begins.given, λ q is. let same : rules.begin ≡ q = cc (begins.made, is) in subst (λ (p : Partition). AllGiven rules.flows 1 p entries) same goes.given),

@@ -34,7 +34,7 @@ pub fn answers_of_a_run()
 
 /// A crash of a call that did nothing leaves the log as it was: no damaged one, and no shorter tape.
 pub fn crashes_leave()
-    ensures empty { (flows : Flows) → StandsOn (rules_with flows) digest empty_origin [] [] (two_files empty_bytes []) }
-    ensures damaged { (flows : Flows) → StandsOn (rules_with flows) digest empty_origin [] [] (two_files (slice_set empty_bytes 3 0) []) → ⊥ }
-    ensures unsaid { (flows : Flows) → StandsOn (rules_with flows) digest (record empty_origin { steps = said 97 ∷ [] }) [] [] (two_files empty_bytes []) → ⊥ }
+    ensures empty { (flows : Flows) → StandsOn (rules_with flows) 0 digest empty_origin [] [] (two_files empty_bytes []) }
+    ensures damaged { (flows : Flows) → StandsOn (rules_with flows) 0 digest empty_origin [] [] (two_files (slice_set empty_bytes 3 0) []) → ⊥ }
+    ensures unsaid { (flows : Flows) → StandsOn (rules_with flows) 0 digest (record empty_origin { steps = said 97 ∷ [] }) [] [] (two_files empty_bytes []) → ⊥ }
 {}

@@ -12,6 +12,6 @@ ghost use Rattle.site_model.specs.History.{Step, IsImage, back_to};
 /// At each moment of a call that commits and says only what it may, a crash leaves files that stand for the run at the start, then
 /// what was settled by then, then no more than the one frame whose gate was being written.
 pub fn each_crash_leaves_a_run()
-    ensures { (o : Origin) (rules : Rules) (digest : ℕ) (now : List Step) (trail : List Settled) → BeginsAlone o rules digest → AtEveryMoment (may_follow rules) (may_say rules) o now trail
-        → (moment : ℕ) → length o.steps ≤ moment → moment ≤ length now → (files : ℕ → List ℕ) → IsImage (back_to moment now) files → StandsOn rules digest o (back_to moment now) (settled_at moment trail) files }
+    ensures { (o : Origin) (rules : Rules) (latest digest : ℕ) (now : List Step) (trail : List Settled) → BeginsAlone o rules digest → AtEveryMoment (may_follow rules latest) (may_say rules) o now trail
+        → (moment : ℕ) → length o.steps ≤ moment → moment ≤ length now → (files : ℕ → List ℕ) → IsImage (back_to moment now) files → StandsOn rules latest digest o (back_to moment now) (settled_at moment trail) files }
 {}

@@ -1,5 +1,5 @@
 -- What a call may commit and say.
-use Rattle.std.specs.Prelude.{◌≡◌, ℕ, ◌≤◌, List, length, Option, Some, Ok}
+use Rattle.std.specs.Prelude.{◌≡◌, ℕ, ◌≤◌, max, List, length, Option, Some, Ok}
 use Rattle.std.specs.List.{All, filter, slice_get}
 use Rattle.std.specs.Str.{bytes_eq}
 use Rattle.answer_lines.specs.Lines.{line_of}
@@ -49,20 +49,31 @@ IsAsked rules told (ended id task outcome) = Unit {0}
 IsAsked rules told (fired id task stamp) = Unit {0}
 IsAsked rules told (trim reader number) = Unit {0}
 
--- the items of an entry are asked for, and its life is this call's
-pub record IsOurs (rules : Rules) (told : Told) (entry : Entry) : Type 0 where
+-- no item is of a later moment than this
+abbrev pub IsBy : ℕ → Item → Type 0
+IsBy moment (took message) = Unit {0}
+IsBy moment (got source number message) = Unit {0}
+IsBy moment (ran from to stamp) = stamp ≤ moment
+IsBy moment (ended id task outcome) = Unit {0}
+IsBy moment (fired id task stamp) = stamp ≤ moment
+IsBy moment (trim reader number) = Unit {0}
+
+-- The items of an entry are asked for, its life is this call's, and none of its items is of a later moment than both the log's
+-- entries at the beginning and the clock's latest.
+pub record IsOurs (rules : Rules) (latest : ℕ) (told : Told) (entry : Entry) : Type 0 where
   pub life : entry.incarnation ≡ rules.life
   pub asked : All (IsAsked rules told) entry.items
+  pub timely : All (IsBy (max rules.begin.stamp latest)) entry.items
 
--- Entries that may be committed behind these: each is accepted in the state that those before it make, each outcome is one that its
--- activity may give, and they are this call's.
-pub record Follows (rules : Rules) (settled : List Entry) (told : Told) (going : List Entry) : Type 0 where
+-- Entries that may be committed behind these, where the clock gave no later moment than this: each is accepted in the state that those
+-- before it make, each outcome is one that its activity may give, and they are this call's.
+pub record Follows (rules : Rules) (latest : ℕ) (settled : List Entry) (told : Told) (going : List Entry) : Type 0 where
   pub before : Partition
   pub made : placed rules.flows 1 rules.begin settled ≡ Ok before
   pub after : Partition
   pub accepted : placed rules.flows 1 before going ≡ Ok after
   pub given : AllGiven rules.flows 1 before going
-  pub ours : All (IsOurs rules told) going
+  pub ours : All (IsOurs rules latest told) going
 
 -- A line that may be said, once these entries are settled: the answer to its client's next request, as the state has it.
 pub record Answers (rules : Rules) (settled : List Entry) (told : Told) (name : List ℕ) (number : ℕ) (line : List ℕ) : Type 0 where

@@ -2,11 +2,13 @@
 
 ghost use Rattle.std.specs.Prelude.{◌≡◌, ℕ, List, [], ◌∷◌, codes};
 ghost use Rattle.answer_lines.specs.Lines.{line_of};
+ghost use Rattle.dura_value.specs.Ids.{Id};
+ghost use Rattle.dura_value.specs.Items.{took, ran, fired};
 ghost use Rattle.dura_value.specs.Messages.{was_started};
 ghost use Rattle.flow_syntax.specs.Syntax.{Flows};
 ghost use Rattle.part_files.specs.Examples.{request, taking};
 ghost use Rattle.run_rules.specs.Examples.{waiting, rules_with, later_rules, silent_rules, told_once, answering_rules};
-ghost use Rattle.run_rules.specs.Rules.{Told, IsDue, Follows, Answers};
+ghost use Rattle.run_rules.specs.Rules.{Told, IsDue, IsBy, Follows, Answers};
 
 /// A client's first request is due, and its second once the first was answered.
 pub fn requests_due()
@@ -19,10 +21,18 @@ pub fn requests_due()
 /// The entry by which the first request is taken may follow where nothing is settled; not behind itself, not in another life, and not
 /// where nobody asks.
 pub fn entries_following()
-    ensures first { (flows : Flows) → Follows (rules_with flows) [] [] (taking 0 ∷ []) }
-    ensures twice { (flows : Flows) (told : Told) → Follows (rules_with flows) (taking 0 ∷ []) told (taking 1 ∷ []) → ⊥ }
-    ensures later { (flows : Flows) (told : Told) → Follows (later_rules flows) [] told (taking 0 ∷ []) → ⊥ }
-    ensures unasked { (flows : Flows) (told : Told) → Follows (silent_rules flows) [] told (taking 0 ∷ []) → ⊥ }
+    ensures first { (flows : Flows) → Follows (rules_with flows) 0 [] [] (taking 0 ∷ []) }
+    ensures twice { (flows : Flows) (latest : ℕ) (told : Told) → Follows (rules_with flows) latest (taking 0 ∷ []) told (taking 1 ∷ []) → ⊥ }
+    ensures later { (flows : Flows) (latest : ℕ) (told : Told) → Follows (later_rules flows) latest [] told (taking 0 ∷ []) → ⊥ }
+    ensures unasked { (flows : Flows) (latest : ℕ) (told : Told) → Follows (silent_rules flows) latest [] told (taking 0 ∷ []) → ⊥ }
+{}
+
+/// A timer that fires at a moment is of no later one than that, and of a later one than any before.
+pub fn moments_of_items()
+    ensures then { (id : Id) (task : ℕ) → IsBy 5 (fired id task 5) }
+    ensures earlier { (id : Id) (task : ℕ) → IsBy 4 (fired id task 5) → ⊥ }
+    ensures delivered { (from to : Id) → IsBy 4 (ran from to 5) → ⊥ }
+    ensures taken { IsBy 0 (took request) }
 {}
 
 /// The line of the answer that is there may be said, once, and no other line, nor where there is no answer.

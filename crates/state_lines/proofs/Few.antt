@@ -7,7 +7,7 @@ use Rattle.dura_value.specs.Ids.{Id, id_eq}
 use Rattle.dura_value.proofs.Ids.{id_same}
 use Rattle.flow_syntax.specs.Syntax.{Flows}
 use Rattle.id_maps.specs.Order.{is_before, is_no_later}
-use Rattle.state_lines.specs.Examples.{account, sum, ninety, begun, one_entity, both_kinds}
+use Rattle.state_lines.specs.Examples.{accounts, no_flows, account, sum, ninety, begun, one_entity, both_kinds}
 use Rattle.state_lines.specs.Table.{AreAll, has_entity, has_instance, IsTable}
 use Rattle.state_lines.proofs.Order.{not_itself, no_later_itself}
 
@@ -36,9 +36,9 @@ empty_table flows = record {
   lines = refl;
 }
 
-pub entity_table : (flows : Flows) → IsTable flows one_entity (codes "@Account/A value 90" ++ 10 ∷ [])
+pub entity_table : IsTable accounts one_entity (codes "@Account/A value 90" ++ 10 ∷ [])
 unfolding digits
-entity_table flows = record {
+entity_table = record {
   entities = account ∷ [];
   instances = [];
   all_entities = one_id (has_entity one_entity) account refl (only_there account ninety);
@@ -46,9 +46,18 @@ entity_table flows = record {
   lines = refl;
 }
 
-pub table_of_both : (flows : Flows) → IsTable flows both_kinds (codes "@Account/A value 90" ++ 10 ∷ codes "Sum/x running" ++ 10 ∷ [])
+pub classless_table : IsTable no_flows one_entity (codes "@Account/A none" ++ 10 ∷ [])
+classless_table = record {
+  entities = account ∷ [];
+  instances = [];
+  all_entities = one_id (has_entity one_entity) account refl (only_there account ninety);
+  all_instances = no_id (has_instance one_entity) (λ id found. cc found);
+  lines = refl;
+}
+
+pub table_of_both : IsTable accounts both_kinds (codes "@Account/A value 90" ++ 10 ∷ codes "Sum/x running" ++ 10 ∷ [])
 unfolding digits
-table_of_both flows = record {
+table_of_both = record {
   entities = account ∷ [];
   instances = sum ∷ [];
   all_entities = one_id (has_entity both_kinds) account refl (only_there account ninety);

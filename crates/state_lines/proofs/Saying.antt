@@ -1,5 +1,5 @@
 -- The lines of one kind are said one after another.
-use Rattle.std.proofs.Common.{◌≡◌, ◌∙◌, ◌⊎◌, inl, inr, ℕ, Bool, List, [], ◌∷◌, ◌++◌, Option, Some, None, IfSome, refl, sym, ap, subst, append_assoc}
+use Rattle.std.proofs.Common.{◌≡◌, ◌∙◌, ◌⊎◌, inl, inr, ℕ, Bool, List, [], ◌∷◌, ◌++◌, Option, Some, None, option_map, IfSome, refl, sym, ap, subst, append_assoc}
 use Rattle.std.proofs.lemmas.List.{append-nil}
 use Rattle.dura_model.specs.Partition.{Partition}
 use Rattle.dura_value.specs.Ids.{Id}
@@ -8,7 +8,7 @@ use Rattle.flow_syntax.specs.Syntax.{Flows}
 use Rattle.id_maps.specs.Order.{IsNextBehind, NoneBehind}
 use Rattle.part_steps.specs.Listing.{entity_standing, instance_standing}
 use Rattle.state_lines.specs.declared.error.ShowError.{ShowError}
-use Rattle.state_lines.specs.Table.{table_line, table_lines, last_of, AreNext, has_entity, has_instance}
+use Rattle.state_lines.specs.Table.{table_line, table_lines, last_of, AreNext, has_entity, has_instance, answer_at, entity_answer}
 use Rattle.state_lines.specs.Fronts.{IsPartOfNext, SaysTable, StopsInTable}
 use Rattle.state_lines.specs.Steps.{SaysNext, SaysNone, SaysAll, StopsAtNext, StopsAt}
 use Rattle.state_lines.proofs.Next.{last_of-one_more, table_lines-one_more, one_more}
@@ -52,11 +52,15 @@ module _ (there : Id → Bool) (standing : Id → Option Answer) where
 pub one_found : {A : Type 0} (P : A → Type 0) (found : Option A) (one : A) → found ≡ Some one → IfSome found P → P one
 one_found P found one is holds = subst (λ (o : Option _). IfSome o P) is holds
 
+-- what is there is told as its class has it
+pub answered_so : (flows : Flows) (p : Partition) (id : Id) (answer : Answer) → entity_standing p id ≡ Some answer → entity_answer flows p id ≡ Some (answer_at flows id answer)
+answered_so flows p id answer is = ap (option_map (answer_at flows id)) is
+
 -- ---- the table
 
-pub table_said : (flows : Flows) (p : Partition) (old mid new : List ℕ) → SaysAll (has_entity p) (entity_standing p) old mid → SaysAll (has_instance p) (instance_standing flows p) mid new → SaysTable flows p old new
+pub table_said : (flows : Flows) (p : Partition) (old mid new : List ℕ) → SaysAll (has_entity p) (entity_answer flows p) old mid → SaysAll (has_instance p) (instance_standing flows p) mid new → SaysTable flows p old new
 table_said flows p old mid new entities instances =
-    let first : List ℕ = table_lines (entity_standing p) entities.ids in
+    let first : List ℕ = table_lines (entity_answer flows p) entities.ids in
     let second : List ℕ = table_lines (instance_standing flows p) instances.ids in
     record {
       table = first ++ second;
@@ -64,12 +68,12 @@ table_said flows p old mid new entities instances =
       said = instances.said ∙ ap (λ (l : List ℕ). l ++ second) entities.said ∙ append_assoc old first second;
     }
 
-pub stops_in_entities : (flows : Flows) (p : Partition) (error : ShowError) (old new : List ℕ) → StopsAt (has_entity p) (entity_standing p) error old new → StopsInTable flows p error old new
+pub stops_in_entities : (flows : Flows) (p : Partition) (error : ShowError) (old new : List ℕ) → StopsAt (has_entity p) (entity_answer flows p) error old new → StopsInTable flows p error old new
 stops_in_entities flows p error old new stops = record { lines = stops.lines; part = stops.part; front = inl stops.first; said = stops.said; whole = stops.whole }
 
-pub stops_in_instances : (flows : Flows) (p : Partition) (error : ShowError) (old mid new : List ℕ) → SaysAll (has_entity p) (entity_standing p) old mid → StopsAt (has_instance p) (instance_standing flows p) error mid new → StopsInTable flows p error old new
+pub stops_in_instances : (flows : Flows) (p : Partition) (error : ShowError) (old mid new : List ℕ) → SaysAll (has_entity p) (entity_answer flows p) old mid → StopsAt (has_instance p) (instance_standing flows p) error mid new → StopsInTable flows p error old new
 stops_in_instances flows p error old mid new entities stops =
-    let first : List ℕ = table_lines (entity_standing p) entities.ids in
+    let first : List ℕ = table_lines (entity_answer flows p) entities.ids in
     record {
       lines = first ++ stops.lines;
       part = stops.part;

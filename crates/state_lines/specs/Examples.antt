@@ -1,10 +1,11 @@
 -- Tables, by example.
-use Rattle.std.specs.Prelude.{[], codes, Some, None, pos}
+use Rattle.std.specs.Prelude.{[], ◌∷◌, codes, Some, None, pos}
 use Rattle.dura_model.specs.Partition.{Partition, Row, fresh}
 use Rattle.dura_model.specs.World.{at_id}
 use Rattle.dura_value.specs.Ids.{Id, entity, orchestration}
 use Rattle.dura_value.specs.declared.data.Value.TheVariants as values
 use Rattle.flow_syntax.specs.Entity.{Entity}
+use Rattle.flow_syntax.specs.Syntax.{Flows}
 
 abbrev pub account : Id
 account = entity (codes "Account") (codes "A")
@@ -19,6 +20,13 @@ ninety = record { value = values.Int (pos 90); holder = None; last = 0 }
 -- an instance that nothing has come to
 abbrev pub begun : Row
 begun = record { stamp = 0; history = []; waiting = [] }
+
+-- its class, and no other
+abbrev pub accounts : Flows
+accounts = record { flows = []; classes = record { name = codes "Account"; it = record { init = values.Null; operations = [] } } ∷ [] }
+
+abbrev pub no_flows : Flows
+no_flows = record { flows = []; classes = [] }
 
 -- a state with one entity
 abbrev pub one_entity : Partition

@@ -5,10 +5,10 @@ use Rattle.dura_value.specs.Ids.{Id}
 use Rattle.dura_value.specs.Messages.{Answer}
 use Rattle.flow_syntax.specs.Syntax.{Flows}
 use Rattle.id_maps.specs.Order.{IsNextBehind}
-use Rattle.part_steps.specs.Listing.{entity_standing, instance_standing}
+use Rattle.part_steps.specs.Listing.{instance_standing}
 use Rattle.state_lines.specs.declared.error.ShowError.{ShowError}
 use Rattle.state_lines.specs.declared.error.ShowError.TheVariants.{Memory}
-use Rattle.state_lines.specs.Table.{table_line, table_lines, last_of, AreNext, AreAll, has_entity, has_instance, IsTable}
+use Rattle.state_lines.specs.Table.{table_line, table_lines, last_of, AreNext, AreAll, has_entity, has_instance, entity_answer, IsTable}
 
 -- This is a part of the line of the next id behind the last one.
 pub record IsPartOfNext (there : Id → Bool) (standing : Id → Option Answer) (last : Option Id) (part : List ℕ) : Type 0 where
@@ -30,11 +30,11 @@ pub record AreInInstances (flows : Flows) (p : Partition) (lines part : List ℕ
   pub all_entities : AreAll (has_entity p) entities
   pub more : List ℕ
   pub first : AreFirst (has_instance p) (instance_standing flows p) more part
-  pub whole : lines ≡ table_lines (entity_standing p) entities ++ more
+  pub whole : lines ≡ table_lines (entity_answer flows p) entities ++ more
 
 -- these are the first lines of the table, and this is a part of the next one, or nothing
 abbrev pub IsFront : Flows → Partition → (lines part : List ℕ) → Type 0
-IsFront flows p lines part = AreFirst (has_entity p) (entity_standing p) lines part ⊎ AreInInstances flows p lines part
+IsFront flows p lines part = AreFirst (has_entity p) (entity_answer flows p) lines part ⊎ AreInInstances flows p lines part
 
 -- The tape goes on by the table.
 pub record SaysTable (flows : Flows) (p : Partition) (old new : List ℕ) : Type 0 where

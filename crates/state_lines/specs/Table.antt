@@ -1,10 +1,10 @@
 -- The table of a partition's state: a line for each entity that was delivered to, then one for each instance of an orchestration.
-use Rattle.std.specs.Prelude.{◌≡◌, ℕ, Bool, List, [], ◌∷◌, ◌++◌, Option, Some, None, is_some}
+use Rattle.std.specs.Prelude.{◌≡◌, ℕ, Bool, List, [], ◌∷◌, ◌++◌, Option, Some, None, is_some, option_map, if◌then◌else◌}
 use Rattle.answer_lines.specs.Lines.{answer_text}
 use Rattle.dura_model.specs.Partition.{Partition}
-use Rattle.dura_value.specs.Ids.{Id, written}
-use Rattle.dura_value.specs.Messages.{Answer}
-use Rattle.flow_syntax.specs.Syntax.{Flows}
+use Rattle.dura_value.specs.Ids.{Id, orchestration, entity, client, written}
+use Rattle.dura_value.specs.Messages.{Answer, is_missing}
+use Rattle.flow_syntax.specs.Syntax.{Flows, class_of}
 use Rattle.id_maps.specs.Order.{IsNextBehind, NoneBehind}
 use Rattle.part_steps.specs.Listing.{entity_standing, instance_standing}
 
@@ -39,10 +39,20 @@ has_entity p id = is_some (p.entities id)
 abbrev pub has_instance : Partition → Id → Bool
 has_instance p id = is_some (p.instances id)
 
+-- an entity of a class that isn't there has no value to tell
+abbrev pub answer_at : Flows → Id → Answer → Answer
+answer_at flows (entity class key) answer = if is_some (class_of flows class) then answer else is_missing
+answer_at flows (orchestration flow key) answer = answer
+answer_at flows (client name) answer = answer
+
+-- the answer that a query of an entity would get, whoever holds it
+abbrev pub entity_answer : Flows → Partition → Id → Option Answer
+entity_answer flows p id = option_map (answer_at flows id) (entity_standing p id)
+
 -- The lines of all entities, and behind them those of all instances.
 pub record IsTable (flows : Flows) (p : Partition) (table : List ℕ) : Type 0 where
   pub entities : List Id
   pub instances : List Id
   pub all_entities : AreAll (has_entity p) entities
   pub all_instances : AreAll (has_instance p) instances
-  pub lines : table ≡ table_lines (entity_standing p) entities ++ table_lines (instance_standing flows p) instances
+  pub lines : table ≡ table_lines (entity_answer flows p) entities ++ table_lines (instance_standing flows p) instances

@@ -3,7 +3,7 @@
 ghost use Rattle.std.specs.Prelude.{◌≡◌, ◌++◌, ℕ, List, [], ◌∷◌, codes};
 ghost use Rattle.dura_model.specs.Partition.{fresh};
 ghost use Rattle.flow_syntax.specs.Syntax.{Flows};
-ghost use Rattle.state_lines.specs.Examples.{one_entity, both_kinds};
+ghost use Rattle.state_lines.specs.Examples.{accounts, no_flows, one_entity, both_kinds};
 ghost use Rattle.state_lines.specs.Table.{IsTable};
 
 /// Where nothing happened the table is empty.
@@ -14,16 +14,17 @@ pub fn empty_tables()
 
 /// A state with one entity has just its line: no other id, no other value, and no line without its line feed.
 pub fn tables_with_one_entity()
-    ensures line { (flows : Flows) → IsTable flows one_entity (codes "@Account/A value 90" ++ 10 ∷ []) }
-    ensures other_id { (flows : Flows) → IsTable flows one_entity (codes "@Account/B value 90" ++ 10 ∷ []) → ⊥ }
-    ensures other_value { (flows : Flows) → IsTable flows one_entity (codes "@Account/A value 91" ++ 10 ∷ []) → ⊥ }
-    ensures no_line_feed { (flows : Flows) → IsTable flows one_entity (codes "@Account/A value 90") → ⊥ }
-    ensures nothing { (flows : Flows) → IsTable flows one_entity [] → ⊥ }
+    ensures line { IsTable accounts one_entity (codes "@Account/A value 90" ++ 10 ∷ []) }
+    ensures other_id { IsTable accounts one_entity (codes "@Account/B value 90" ++ 10 ∷ []) → ⊥ }
+    ensures other_value { IsTable accounts one_entity (codes "@Account/A value 91" ++ 10 ∷ []) → ⊥ }
+    ensures no_line_feed { IsTable accounts one_entity (codes "@Account/A value 90") → ⊥ }
+    ensures nothing { IsTable accounts one_entity [] → ⊥ }
+    ensures no_class { IsTable no_flows one_entity (codes "@Account/A none" ++ 10 ∷ []) }
 {}
 
 /// Entities come before instances, and none of them is left out.
 pub fn tables_with_both()
-    ensures both { (flows : Flows) → IsTable flows both_kinds (codes "@Account/A value 90" ++ 10 ∷ codes "Sum/x running" ++ 10 ∷ []) }
-    ensures other_order { (flows : Flows) → IsTable flows both_kinds (codes "Sum/x running" ++ 10 ∷ codes "@Account/A value 90" ++ 10 ∷ []) → ⊥ }
-    ensures left_out { (flows : Flows) → IsTable flows both_kinds (codes "@Account/A value 90" ++ 10 ∷ []) → ⊥ }
+    ensures both { IsTable accounts both_kinds (codes "@Account/A value 90" ++ 10 ∷ codes "Sum/x running" ++ 10 ∷ []) }
+    ensures other_order { IsTable accounts both_kinds (codes "Sum/x running" ++ 10 ∷ codes "@Account/A value 90" ++ 10 ∷ []) → ⊥ }
+    ensures left_out { IsTable accounts both_kinds (codes "@Account/A value 90" ++ 10 ∷ []) → ⊥ }
 {}

@@ -37,6 +37,6 @@ pub fn say_table<V: Site>(
     ensures later { V.say_faults site.old ≤ V.say_faults site.new }
     ensures disk_faults { V.disk_faults site.new ≡ V.disk_faults site.old }
 {
-    say_entities(alloc, site, state)?;
+    say_entities(alloc, site, flows, state)?;
     say_instances(alloc, site, flows, state)
 }

@@ -31,7 +31,7 @@ next_at position = record { position = position; incarnation = 0 }
 pub record IsOpen {V N : Type 0} {G : sites.Ghosts V} {H : starts.Ghosts N} (store : Store V N G H) : Type 0 where
   pub sound : IsSound store
   pub one : H.origin.count ≡ 1
-  pub follow : (trail : List Settled) (told : List Said) (partition : ℕ) (going : List Entry) → H.may_follow trail told partition going
+  pub follow : (latest : ℕ) (trail : List Settled) (told : List Said) (partition : ℕ) (going : List Entry) → H.may_follow latest trail told partition going
   pub say : (trail : List Settled) (told : List Said) (one : Said) (line : List ℕ) → H.may_say trail told one line
   pub unhalted : store.halted ≡ false
 

@@ -228,7 +228,7 @@ fn check_begun<N: Start, A: Abort>(
     requires begun { HasBegun N.origin (memory_history site) (log ∷ []) }
     requires log { (N.origin.logs 0).header ≡ header }
     requires empty { (N.origin.logs 0).entries ≡ [] }
-    requires follow { (trail : List settleds) (told : List Said) (partition : ℕ) (going : List Entry) → N.may_follow trail told partition going }
+    requires follow { (latest : ℕ) (trail : List settleds) (told : List Said) (partition : ℕ) (going : List Entry) → N.may_follow latest trail told partition going }
     requires say { (trail : List settleds) (told : List Said) (one : Said) (line : List ℕ) → N.may_say trail told one line }
 {
     let store: Store<MemorySite, N> = begun(rt, alloc, site, log, segment);

@@ -1,10 +1,11 @@
-use Rattle.std.proofs.Common.{ℕ, [], ◌∷◌, ◌∙◌, sym, ap, subst}
-use Rattle.site_model.specs.History.{wrote, changes_of}
+use Rattle.std.proofs.Common.{◌≡◌, ℕ, [], ◌∷◌, ◌∙◌, sym, ap, subst}
+use Rattle.site_model.specs.History.{wrote, reads, changes_of}
 use Rattle.site_model.proofs.Paths.{own_change}
-use Rattle.commit_log.specs.Segment.{open_gate}
+use Rattle.commit_log.specs.Segment.{open_gate, segment, reading_of}
 use Rattle.commit_log.specs.States.{IsGated, IsBroken}
 use Rattle.part_items.specs.Plain.{entries_of}
 use Rattle.part_items.specs.Spelling.{spell_frame}
+use Rattle.hub_store.proofs.Payloads.{synced_reads}
 use Rattle.hub_store.proofs.gate.gate_log.Goals as goal
 
 pub returns-in-Ok-clause-step : goal.returns-in-Ok-clause-step
@@ -27,6 +28,7 @@ returns-in-Ok-clause-fits g c h payloads synced =
         changes_of file old,
         ap (changes_of file) c.in-Ok.ensures.opened ∙ own_change file (wrote c.args.log.gate 1 (open_gate ∷ [])) old
             ∙ ap (λ (gate : ℕ). wrote gate 1 (open_gate ∷ []) ∷ changes_of file old) (sym place.1),
+        subst (λ (gate : ℕ). reading_of (reads (changes_of file old)) ≡ segment h payloads gate) (sym place.1) (synced_reads h payloads payload c.args.log.gate c.args.log.next (changes_of file old) synced),
       ),
     )
 

@@ -1,4 +1,4 @@
-use Rattle.std.proofs.Common.{◌∙◌, sym, subst, arith}
+use Rattle.std.proofs.Common.{◌∙◌, sym, ap, subst, arith}
 use Rattle.std.proofs.lemmas.Bool.{eqb-true}
 use Rattle.std.specs.Vec.{vec_len}
 use Rattle.dura_model.specs.Partition.{Partition}
@@ -21,3 +21,12 @@ returns-clause-fills g c = λ rules told same said.
     let empty = eqb-true (vec_len c.in_ok-first.first.items) 0 (sym c.is_empty.ensures ∙ c.if-not-is_empty.false) in
     let none = c.in_ok-first.ensures.none (no_items c.in_ok-first.first.items.items (omega (arith, empty))) in
     subst (λ (p : Partition). Fills rules (pairs_of told) p (items_of c.in_ok-second.second.items.items) (state_of c.in_ok-second.second.state)) none.0 (c.in_ok-second.ensures.fills rules told same said)
+
+pub returns-clause-moment : goal.returns-clause-moment
+returns-clause-moment g c =
+    let empty = eqb-true (vec_len c.in_ok-first.first.items) 0 (sym c.is_empty.ensures ∙ c.if-not-is_empty.false) in
+    let none = c.in_ok-first.ensures.none (no_items c.in_ok-first.first.items.items (omega (arith, empty))) in
+    let same = ap (λ (p : Partition). p.stamp) none.0 in
+    let low = c.in_ok-second.ensures.moment in
+    let later = c.in-Ok-wait_until.ensures.latest in
+    (omega (arith, same, low), omega (arith, later))

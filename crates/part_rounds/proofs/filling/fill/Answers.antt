@@ -3,6 +3,7 @@ use Rattle.std.proofs.Math.Facts.{Fits-le}
 use Rattle.flow_syntax.specs.Views.{flows_of}
 use Rattle.part_steps.specs.Outputs.{outputs_of}
 use Rattle.part_steps.specs.States.{state_of, count_of}
+use Rattle.part_rounds.proofs.Moments.{makes_by}
 use Rattle.part_rounds.proofs.Puttings.{filled_goes_on, filled_in_vain}
 use Rattle.part_rounds.proofs.filling.fill.Goals as goal
 
@@ -22,3 +23,6 @@ returns-clause-none c = λ less same.
     let items : c.append.new.self.items ≡ c.args.filling.items.items ++ c.in_ok-batch.batch.items.items = c.in_ok-append.ensures.items in
     filled_in_vain (flows_of c.args.flows.now) (count_of c.args.filling.state) c.args.now (state_of c.args.filling.state) (state_of c.in_ok-batch.batch.state) c.args.filling.items.items c.in_ok-batch.batch.items.items c.append.new.self.items
     (map outputs_of c.in_ok-batch.batch.outputs.items) c.requires.way.one c.in_ok-batch.ensures.made items same (c.in_ok-batch.ensures.none (omega (arith, less, c.saturating_sub-room.ensures, c.len.ensures)))
+
+pub returns-clause-moment : goal.returns-clause-moment
+returns-clause-moment c = makes_by c.in_ok-batch.ensures.made

@@ -4,9 +4,16 @@ use Rattle.part_items.specs.Plain.{item_of}
 use Rattle.part_steps.specs.States.{state_of}
 use Rattle.part_rounds.specs.Fills.{IsOfPending}
 use Rattle.part_rounds.proofs.Endings.{put_idle}
+use Rattle.part_rounds.proofs.Moments.{puts_still, outcome_still}
 use Rattle.part_rounds.proofs.outcomes.run_pending.Goals as goal
 
 pub returns-in_ok-next-in-Some-clause-idle : goal.returns-in_ok-next-in-Some-clause-idle
 returns-in_ok-next-in-Some-clause-idle g c =
     put_idle (flows_of c.args.flows.now) c.args.filling c.in_ok-next-in-Some.next c.in-Some.item c.in_ok-next-in-Some.ensures.puts
     (subst (λ o. IfSome o (λ one. IsOfPending (state_of c.args.filling.state) (item_of one))) c.in-Some.is c.in_ok-item.ensures.some)
+
+pub returns-in_ok-next-in-Some-clause-moment : goal.returns-in_ok-next-in-Some-clause-moment
+returns-in_ok-next-in-Some-clause-moment g c =
+    let pending = subst (λ o. IfSome o (λ one. IsOfPending (state_of c.args.filling.state) (item_of one))) c.in-Some.is c.in_ok-item.ensures.some in
+    puts_still (flows_of c.args.flows.now) c.args.filling c.in_ok-next-in-Some.next c.in-Some.item c.in_ok-next-in-Some.ensures.puts
+    (outcome_still (state_of c.args.filling.state) (item_of c.in-Some.item) pending)

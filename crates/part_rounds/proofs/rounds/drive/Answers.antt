@@ -1,7 +1,12 @@
-use Rattle.std.proofs.Common.{◌≡◌, ◌∙◌, ℕ, List, Err, sym, ap, subst, arith}
+use Rattle.std.proofs.Common.{◌≡◌, ◌∙◌, ℕ, List, [], Ok, Err, sym, ap, subst, arith}
 use Rattle.std.proofs.lemmas.Result.{err_from_is_err_and}
 use Rattle.dura_model.specs.Partition.{Partition, enter}
+use Rattle.dura_value.specs.Items.{Entry}
+use Rattle.hub_store.specs.Changes.{trail_in}
+use Rattle.hub_store.specs.Origin.{Log}
 use Rattle.hub_store.specs.Trail.{Settled, of_part}
+use Rattle.part_files.specs.Placing.{placed}
+use Rattle.run_rules.specs.Rules.{Rules}
 use Rattle.hub_store.specs.Ways.{stage_of, way_of}
 use Rattle.part_rounds.specs.Comes.{count_labels}
 use Rattle.part_rounds.specs.Rounds.{Stands, NoneUnsaid}
@@ -10,20 +15,27 @@ use Rattle.part_rounds.specs.declared.stop.Stop.TheVariants.{Full}
 use Rattle.part_rounds.proofs.rounds.drive.Goals as goal
 use Rattle.part_steps.specs.States.{state_of}
 
+begins_there : (rules : Rules) (log : Log) (settled : List Entry) (p : Partition) → settled ≡ [] → Stands rules log settled p → rules.begin ≡ p
+begins_there rules log settled p none stands = let made : placed rules.flows 1 rules.begin [] ≡ Ok p = subst (λ (l : List Entry). placed rules.flows 1 rules.begin l ≡ Ok p) none stands.made in cc made
+
 pub rounds-init : goal.rounds-init
 rounds-init g c =
     let log = g.N.Start.origin.logs 0 in
     let state = state_of c.args.state in
+    let begin_is : g.N.Ruled.rules.begin ≡ state = begins_there g.N.Ruled.rules log (of_part 0 (trail_in c.args.store.now)) state (ap (of_part 0) c.requires.new) c.requires.stands in
     record {
       tells = c.say_due.ensures.tells;
       sound = c.say_due.ensures.sound;
       segment = c.say_due.ensures.segment;
+      latest = let same = c.say_due.ensures.latest in omega (arith, same);
+      moments = omega arith;
       stage = ap (λ ways. stage_of (way_of ways.items 0)) c.say_due.ensures.ways ∙ c.requires.rests;
       still = c.in_ok-say_due.ensures.still;
       said = c.in_ok-say_due.ensures.said;
       entered = record {
         before = state;
         stands = subst (λ (t : List Settled). Stands g.N.Ruled.rules log (of_part 0 t) state) (sym c.say_due.ensures.trail) c.requires.stands;
+        timely = let first = ap (λ (p : Partition). p.stamp) begin_is in omega (arith, first);
         entered = c.enter-state.ensures.entered ∙ ap (λ (life : ℕ). enter life state) c.requires.life;
         sound = c.enter-state.ensures.sound;
         one = c.enter-state.ensures.partitions ∙ c.requires.one;

@@ -1,4 +1,5 @@
 use Rattle.std.proofs.Common.{◌≡◌, ◌≤◌, ◌+◌, ◌-◌, false}
+use Rattle.std.specs.Prelude.{max}
 use Rattle.hub_store.specs.Changes.{trail_in, told_in, stage_at}
 use Rattle.hub_store.specs.Sound.{IsSound}
 use Rattle.hub_store.specs.Trail.{of_part}
@@ -14,10 +15,12 @@ invariant-rounds g l = record {
   tells : g.V.Site.tells l.store.site → g.V.Site.tells l.fn.store.site;
   sound : IsSound l.store;
   segment : l.store.segment ≡ l.fn.store.segment;
+  latest : l.store.latest ≤ max l.fn.store.latest (g.C.Clock.latest l.clock);
+  moments : g.C.Clock.latest l.fn.clock ≤ g.C.Clock.latest l.clock;
   stage : stage_at l.store 0 ≡ Resting;
   still : l.store.halted ≡ false;
   said : HasSaid g.N.Ruled.rules (told_in l.store) l.port.queues;
-  entered : Entered g.N.Ruled.rules (g.N.Start.origin.logs 0) (of_part 0 (trail_in l.store)) l.state;
+  entered : Entered g.N.Ruled.rules (g.N.Start.origin.logs 0) l.store.latest (of_part 0 (trail_in l.store)) l.state;
   unsaid : NoneUnsaid (state_of l.state) l.port.queues l.clients;
   count : l.labels ≡ count_labels (of_part 0 (trail_in l.store));
   few : l.labels ≤ l.steps + 63;

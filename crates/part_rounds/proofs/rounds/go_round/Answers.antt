@@ -1,14 +1,15 @@
-use Rattle.std.proofs.Common.{◌≡◌, ◌∙◌, ◌<◌, ◌-◌, Err, refl, sym, ap, subst, arith}
+use Rattle.std.proofs.Common.{◌≡◌, ◌∙◌, ◌<◌, ◌-◌, List, Err, refl, sym, ap, subst, arith}
 use Rattle.std.proofs.lemmas.Result.{err_from_is_err_and}
 use Rattle.std.proofs.lemmas.List.{length-map}
 use Rattle.dura_model.specs.Partition.{Partition}
 use Rattle.flow_syntax.specs.Syntax.{Flows}
 use Rattle.flow_syntax.specs.Views.{flows_of}
-use Rattle.hub_store.specs.Changes.{told_in}
+use Rattle.hub_store.specs.Changes.{trail_in, told_in}
+use Rattle.hub_store.specs.Trail.{Settled, Said, of_part}
 use Rattle.part_items.specs.Plain.{item_of, items_of}
-use Rattle.part_rounds.specs.Comes.{Comes, FillsNext}
+use Rattle.part_rounds.specs.Comes.{Comes, FillsNext, IsByNow}
 use Rattle.part_rounds.specs.Fills.{Fills, IsIdle}
-use Rattle.part_rounds.specs.Rounds.{pairs_of, NoneUnsaid}
+use Rattle.part_rounds.specs.Rounds.{pairs_of, NoneUnsaid, IsFilledTo}
 use Rattle.part_rounds.specs.declared.stop.Stop.{Stop}
 use Rattle.part_rounds.specs.declared.stop.Stop.TheVariants.{Full}
 use Rattle.part_rounds.proofs.rounds.go_round.Goals as goal
@@ -26,7 +27,11 @@ settle_filling-requires-clause-filled g c =
     let place = ap (λ (p : Partition). p.position) entered.entered in
     let many = length-map filling.items.items item_of in
     let room : c.position-position.result - 1 < 2305843009213693952 = search in
-    record {
+    let by_now = subst (IsByNow (state_of c.args.state) (g.C.Clock.latest c.take_next.new.clock)) c.in-Filled.is c.in_ok-filling.ensures.moment in
+    let log = g.N.Start.origin.logs 0 in
+    let items = items_of filling.items.items in
+    subst (λ (t : List Settled). IsFilledTo rules log c.raise.new.self.latest (of_part 0 t) (pairs_of (told_in c.raise.new.self)) (c.position-position.result - 1) c.args.life items (state_of filling.state)) (sym c.raise.ensures.trail)
+    (subst (λ (t : List Said). IsFilledTo rules log c.raise.new.self.latest (of_part 0 (trail_in c.args.store.now)) (pairs_of t) (c.position-position.result - 1) c.args.life items (state_of filling.state)) (sym c.raise.ensures.told) (record {
       filled = record {
         before = entered.before;
         stands = entered.stands;
@@ -34,6 +39,12 @@ settle_filling-requires-clause-filled g c =
         life_is = c.requires.life;
         after = state_of filling.state;
         fills = subst (λ (p : Partition). Fills rules (pairs_of told) p (items_of filling.items.items) (state_of filling.state)) entered.entered fills;
+        timely =
+            let stamp = ap (λ (p : Partition). p.stamp) entered.entered in
+            let first = entered.timely in
+            let raised = c.raise.ensures.latest in
+            let low = by_now.0 in
+            omega (arith, stamp, first, raised, low);
         fit = comes.3;
         some = omega (arith, comes.1, many);
         few = omega (arith, comes.2, c.requires.few, many);
@@ -41,14 +52,14 @@ settle_filling-requires-clause-filled g c =
         life_fits = omega (arith, c.requires.short);
       };
       after_is = refl;
-    }
+    }))
 
 pub returns-in-Rest-clause-leaves : goal.returns-in-Rest-clause-leaves
 returns-in-Rest-clause-leaves g c =
     let entered = c.requires.entered in
     let queues = c.args.port.now.queues in
     let comes = subst (Comes (flows_of c.args.flows.now) (state_of c.args.state) queues c.args.clients.now c.args.limit) c.in-Rest.is c.in_ok-filling.ensures.comes in (
-      record { before = entered.before; stands = entered.stands; entered = comes.2 ∙ entered.entered; sound = comes.0; one = comes.1 },
+      record { before = entered.before; stands = entered.stands; timely = entered.timely; entered = comes.2 ∙ entered.entered; sound = comes.0; one = comes.1 },
       record {
         now = comes.3.0;
         idle = subst (λ (p : Partition). IsIdle g.N.Ruled.rules.flows p queues c.args.clients.now comes.3.0) (sym comes.2)

@@ -16,31 +16,37 @@ use Rattle.part_rounds.proofs.rounds.settle_filling.Goals as goal
 pub say_due-requires-clause-made : goal.say_due-requires-clause-made
 say_due-requires-clause-made g c =
     let log = g.N.Start.origin.logs 0 in
-    let behind = stands_after g.N.Ruled.rules log (of_part 0 (trail_in c.args.store.now)) (pairs_of (told_in c.args.store.now)) c.args.position c.args.life (items_of c.args.filling.items.items) c.requires.filled.filled in
+    let behind = stands_after g.N.Ruled.rules log c.args.store.now.latest (of_part 0 (trail_in c.args.store.now)) (pairs_of (told_in c.args.store.now)) c.args.position c.args.life (items_of c.args.filling.items.items) c.requires.filled.filled in
     (subst (λ (l : List Entry). Stands g.N.Ruled.rules log l (state_of c.args.filling.state)) (sym c.in_ok-commit_items.ensures.trail) (subst (Stands g.N.Ruled.rules log _) c.requires.filled.after_is behind)).made
 
 pub enter-requires-clause-younger : goal.enter-requires-clause-younger
 enter-requires-clause-younger g c =
     let log = g.N.Start.origin.logs 0 in
-    let behind = stands_after g.N.Ruled.rules log (of_part 0 (trail_in c.args.store.now)) (pairs_of (told_in c.args.store.now)) c.args.position c.args.life (items_of c.args.filling.items.items) c.requires.filled.filled in
+    let behind = stands_after g.N.Ruled.rules log c.args.store.now.latest (of_part 0 (trail_in c.args.store.now)) (pairs_of (told_in c.args.store.now)) c.args.position c.args.life (items_of c.args.filling.items.items) c.requires.filled.filled in
     let younger = (subst (Stands g.N.Ruled.rules log _) c.requires.filled.after_is behind).younger in
     omega (arith, younger, c.requires.filled.filled.life_is)
 
 pub enter-requires-clause-room : goal.enter-requires-clause-room
 enter-requires-clause-room g c =
     let log = g.N.Start.origin.logs 0 in
-    let place = place_after g.N.Ruled.rules log (of_part 0 (trail_in c.args.store.now)) (pairs_of (told_in c.args.store.now)) c.args.position c.args.life (items_of c.args.filling.items.items) c.requires.filled.filled in
+    let place = place_after g.N.Ruled.rules log c.args.store.now.latest (of_part 0 (trail_in c.args.store.now)) (pairs_of (told_in c.args.store.now)) c.args.position c.args.life (items_of c.args.filling.items.items) c.requires.filled.filled in
     let same = ap (λ (p : Partition). p.position) c.requires.filled.after_is in
     omega (arith, place, same, c.requires.room)
 
 pub returns-clause-entered : goal.returns-clause-entered
 returns-clause-entered g c =
     let log = g.N.Start.origin.logs 0 in
-    let behind = stands_after g.N.Ruled.rules log (of_part 0 (trail_in c.args.store.now)) (pairs_of (told_in c.args.store.now)) c.args.position c.args.life (items_of c.args.filling.items.items) c.requires.filled.filled in
+    let behind = stands_after g.N.Ruled.rules log c.args.store.now.latest (of_part 0 (trail_in c.args.store.now)) (pairs_of (told_in c.args.store.now)) c.args.position c.args.life (items_of c.args.filling.items.items) c.requires.filled.filled in
     let stands = subst (λ (l : List Entry). Stands g.N.Ruled.rules log l (state_of c.args.filling.state)) (sym c.in_ok-commit_items.ensures.trail) (subst (Stands g.N.Ruled.rules log _) c.requires.filled.after_is behind) in
     record {
       before = state_of c.args.filling.state;
       stands = subst (λ (t : List Settled). Stands g.N.Ruled.rules log (of_part 0 t) (state_of c.args.filling.state)) (sym c.say_due.ensures.trail) stands;
+      timely =
+          let after = ap (λ (p : Partition). p.stamp) c.requires.filled.after_is in
+          let timely = c.requires.filled.filled.timely in
+          let said = c.say_due.ensures.latest in
+          let put = c.commit_items.ensures.latest in
+          omega (arith, after, timely, said, put);
       entered = c.enter.ensures.entered ∙ ap (λ (life : ℕ). enter life (state_of c.args.filling.state)) c.requires.filled.filled.life_is;
       sound = c.enter.ensures.sound;
       one = c.enter.ensures.partitions ∙ c.requires.way.one;

@@ -13,6 +13,7 @@ invariant-answers g l = record {
   trail : trail_in l.store ≡ trail_in l.fn.store;
   ways : l.store.ways ≡ l.fn.store.ways;
   segment : l.store.segment ≡ l.fn.store.segment;
+  latest : l.store.latest ≡ l.fn.store.latest;
   still : l.store.halted ≡ false;
   said : HasSaid g.N.Ruled.rules (told_in l.store) l.port.queues;
   others : KeepsDue l.client l.fn.port.queues l.port.queues;

@@ -19,6 +19,7 @@ loop-client-preserved g c =
       trail = c.say_all.ensures.trail ∙ c.loop-client.invariant.trail;
       ways = c.say_all.ensures.ways ∙ c.loop-client.invariant.ways;
       segment = c.say_all.ensures.segment ∙ c.loop-client.invariant.segment;
+      latest = c.say_all.ensures.latest ∙ c.loop-client.invariant.latest;
       still = c.in_ok-say_all.ensures.still;
       said = c.in_ok-say_all.ensures.said;
       none = all_next (λ (n : List ℕ). next_answer state after n ≡ None) clients place name c.loop-client-test.true c.client-item.is

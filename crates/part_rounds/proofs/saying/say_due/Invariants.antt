@@ -14,6 +14,7 @@ invariant-loop-client g l = record {
   trail : trail_in l.store ≡ trail_in l.fn.store;
   ways : l.store.ways ≡ l.fn.store.ways;
   segment : l.store.segment ≡ l.fn.store.segment;
+  latest : l.store.latest ≡ l.fn.store.latest;
   still : l.store.halted ≡ false;
   said : HasSaid g.N.Ruled.rules (told_in l.store) l.port.queues;
   none : All (λ name. next_answer (state_of l.state) l.port.queues name ≡ None) (take l.client-index l.clients);

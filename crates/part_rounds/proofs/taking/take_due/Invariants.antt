@@ -13,6 +13,7 @@ abbrev pub invariant-loop-client : goal.invariant-loop-client
 invariant-loop-client l = record {
   way : IsUnderWay l.filling;
   few : length l.filling.items.items ≤ l.limit;
+  moment : (state_of l.filling.state).stamp ≡ (state_of l.fn.filling.state).stamp;
   longer : length l.fn.filling.items.items ≤ length l.filling.items.items;
   goes_on : (rules : Rules) (told : List Said) → rules.flows ≡ flows_of l.flows → HasSaid rules told l.port.queues → GoesOn rules (pairs_of told) l.fn.filling l.filling;
   still : length l.filling.items.items ≡ length l.fn.filling.items.items → (state_of l.filling.state ≡ state_of l.fn.filling.state)

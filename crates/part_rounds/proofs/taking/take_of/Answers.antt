@@ -1,10 +1,11 @@
-use Rattle.std.proofs.Common.{◌≡◌, IfSome, Some, ap, subst}
+use Rattle.std.proofs.Common.{◌≡◌, IfSome, Some, refl, ap, subst}
 use Rattle.client_port.specs.Ports.{due_of}
 use Rattle.dura_value.specs.Views.{message_of}
 use Rattle.request_reader.specs.Line.{Request}
 use Rattle.dura_value.specs.Items.{took}
 use Rattle.flow_syntax.specs.Views.{flows_of}
 use Rattle.part_items.specs.declared.items.Item.TheVariants.{Took}
+use Rattle.part_rounds.proofs.Moments.{puts_still}
 use Rattle.part_rounds.proofs.Puttings.{puts_goes_on, due_asked, put_in_vain}
 use Rattle.part_rounds.specs.Rounds.{pairs_of}
 use Rattle.part_rounds.proofs.taking.take_of.Goals as goal
@@ -19,3 +20,7 @@ pub returns-in_ok-next-in-Some-clause-none : goal.returns-in_ok-next-in-Some-cla
 returns-in_ok-next-in-Some-clause-none c = λ same.
     let due = subst (λ o. IfSome o (λ one. (r : Request) × (due_of c.args.client.now c.args.port.now.queues ≡ Some r) × (message_of one ≡ r.message))) c.in-Some.is c.in_ok-message.ensures.some in
     put_in_vain (flows_of c.args.flows.now) c.args.filling c.in_ok-next-in-Some.next (Took c.in-Some.message) c.args.port.now.queues c.args.client.now due.0 c.in_ok-next-in-Some.ensures.puts (ap took due.2) due.1 same
+
+pub returns-in_ok-next-in-Some-clause-moment : goal.returns-in_ok-next-in-Some-clause-moment
+returns-in_ok-next-in-Some-clause-moment c =
+    puts_still (flows_of c.args.flows.now) c.args.filling c.in_ok-next-in-Some.next (Took c.in-Some.message) c.in_ok-next-in-Some.ensures.puts refl

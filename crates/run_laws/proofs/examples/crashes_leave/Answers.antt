@@ -1,5 +1,6 @@
-use Rattle.std.proofs.Common.{inl, [], refl}
+use Rattle.std.proofs.Common.{inl, [], refl, arith}
 use Rattle.commit_log.specs.Segment.{header_at}
+use Rattle.dura_model.specs.Dependencies.Founded.{none}
 use Rattle.dura_model.specs.Partition.{fresh}
 use Rattle.part_files.specs.Kept.{entries_from}
 use Rattle.run_laws.specs.Leaves.AllAnswered.{nothing_said}
@@ -11,6 +12,9 @@ returns-clause-empty c = λ flows. record {
   going = [];
   stands = record { entries = []; kept = refl; state = fresh 0; all = refl; legal = refl };
   writing = inl refl;
+  given = tt;
+  own = λ k d inside. absurd (omega (arith, inside));
+  founded = none;
   told = [];
   lines = [];
   part = [];

@@ -22,7 +22,7 @@ body_log-way-requires-clause-rests g c tells =
     (subst (λ (w : Way). LogFits (o.logs p) (of_part p trail) (changes_of (o.logs p).file (g.V.Site.history old.site)) w) (sym c.in-Resting.ensures.way) (stood.logs p c.requires.place))
 
 pub returns-in_err-reserve-clause-sound : goal.returns-in_err-reserve-clause-sound
-returns-in_err-reserve-clause-sound g c = sound_roomier c.args.self.now _ c.requires.sound refl refl refl refl refl c.reserve.ensures.items c.reserve.ensures.len c.reserve.ensures.capacity
+returns-in_err-reserve-clause-sound g c = sound_roomier c.args.self.now _ c.requires.sound refl refl refl refl refl refl refl c.reserve.ensures.items c.reserve.ensures.len c.reserve.ensures.capacity
 
 pub returns-clause-sound : goal.returns-clause-sound
 returns-clause-sound g c =
@@ -36,12 +36,12 @@ returns-clause-sound g c =
     let way = c.body_log-way.result.0 in
     let none_due = ap due_in c.in-Resting.ensures.way in
     sound_any old _ p way trail c.requires.sound c.requires.place (put_for _ _ _ p way c.take_way.ensures.rest c.put_way.ensures) (omega (arith, none_due, c.due-more.ensures))
-    (omega (arith, c.due-more.ensures, c.body_log-way.ensures.due, c.in_ok-reserve.ensures.ok, c.in-Some.ensures.1, ap length c.entries.ensures)) (ap trail_of c.reserve.ensures.items)
+    (omega (arith, c.due-more.ensures, c.body_log-way.ensures.due, c.in_ok-reserve.ensures.ok, c.in-Some.ensures.1, ap length c.entries.ensures)) (ap trail_of c.reserve.ensures.items) c.requires.going refl
     (λ tells.
     let stood = c.requires.sound.told (c.body_log-way.ensures.told tells) in
     let fits = subst (λ (w : Way). LogFits (o.logs p) (of_part p trail) (changes_of (o.logs p).file before) w) (sym c.in-Resting.ensures.way) (stood.logs p c.requires.place) in
-    let goes = body_goes g.N.Start.may_follow g.N.Start.may_say o p c.in-Resting.log c.args.frame trail told before now way c.body_log-way.ensures.during c.body_log-way.ensures.fits c.body_log-way.ensures.going (c.requires.behind).again fits in
-    told_on g.N.Start.may_follow g.N.Start.may_say o p before now old.ways.items way trail told old.halted _ c.requires.sound.apart c.requires.sound.count c.requires.place c.requires.going stood goes.0 goes.1)
+    let goes = body_goes (g.N.Start.may_follow old.latest) g.N.Start.may_say o p c.in-Resting.log c.args.frame trail told before now way c.body_log-way.ensures.during c.body_log-way.ensures.fits c.body_log-way.ensures.going (c.requires.behind).again fits in
+    told_on (g.N.Start.may_follow old.latest) g.N.Start.may_say o p before now old.ways.items way trail told old.cut _ c.requires.sound.apart c.requires.sound.count c.requires.place (c.requires.sound.uncut c.requires.going) stood goes.0 goes.1)
 
 pub returns-clause-full : goal.returns-clause-full
 returns-clause-full g c long =

@@ -28,10 +28,10 @@ returns-clause-sound g c =
     let before = g.V.Site.history old.site in
     let now = g.V.Site.history c.gate_log-way.new.site in
     let way = c.gate_log-way.result.0 in
-    sound_on old _ p way c.requires.sound c.requires.place (put_for _ _ _ p way c.take_way.ensures.rest c.put_way.ensures) (c.gate_log-way.ensures.due ∙ ap due_in c.in-Synced.ensures.way) refl refl
+    sound_on old _ p way c.requires.sound c.requires.place (put_for _ _ _ p way c.take_way.ensures.rest c.put_way.ensures) (c.gate_log-way.ensures.due ∙ ap due_in c.in-Synced.ensures.way) refl refl c.requires.going refl
     (λ tells.
     let stood = c.requires.sound.told (c.gate_log-way.ensures.told tells) in
     let fits = subst (λ (w : Way). LogFits (o.logs p) (of_part p trail) (changes_of (o.logs p).file before) w) (sym c.in-Synced.ensures.way) (stood.logs p c.requires.place) in
     let follows = c.requires.follows _ (ap going_in (sym c.in-Synced.ensures.way)) in
-    let goes = gate_goes g.N.Start.may_follow g.N.Start.may_say o p c.in-Synced.log c.in-Synced.frame trail told before now way c.gate_log-way.ensures.step.0 c.gate_log-way.ensures.step.1 c.gate_log-way.ensures.during c.gate_log-way.ensures.fits c.gate_log-way.ensures.going follows fits in
-    told_on g.N.Start.may_follow g.N.Start.may_say o p before now old.ways.items way trail told old.halted _ c.requires.sound.apart c.requires.sound.count c.requires.place c.requires.going stood goes.0 goes.1)
+    let goes = gate_goes (g.N.Start.may_follow old.latest) g.N.Start.may_say o p c.in-Synced.log c.in-Synced.frame trail told before now way c.gate_log-way.ensures.step.0 c.gate_log-way.ensures.step.1 c.gate_log-way.ensures.during c.gate_log-way.ensures.fits c.gate_log-way.ensures.going follows fits in
+    told_on (g.N.Start.may_follow old.latest) g.N.Start.may_say o p before now old.ways.items way trail told old.cut _ c.requires.sound.apart c.requires.sound.count c.requires.place (c.requires.sound.uncut c.requires.going) stood goes.0 goes.1)

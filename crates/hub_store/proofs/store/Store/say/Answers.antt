@@ -1,4 +1,4 @@
-use Rattle.std.proofs.Common.{[], ◌∷◌, ◌++◌, refl, ap}
+use Rattle.std.proofs.Common.{◌≡◌, true, false, [], ◌∷◌, ◌++◌, refl, ap}
 use Rattle.hub_store.specs.Changes.{asked}
 use Rattle.hub_store.specs.Plain.{trail_of, told_of}
 use Rattle.hub_store.proofs.Saying.{told_said, told_failed}
@@ -14,15 +14,15 @@ returns-in-Ok-say-clause-sound g c =
     let told = told_of old.told.items in
     let one = asked c.args.client.now c.args.number in
     sound_told old _ (told ++ one ∷ []) c.requires.sound refl refl refl
-    (told_more _ _ _ _ c.args.client.now c.args.number c.reserve.ensures.items c.push_reserved.ensures.items c.in-Ok.ensures refl)
-    (λ tells. told_said g.N.Start.may_follow g.N.Start.may_say g.N.Start.origin g.N.Start.still_follows old.ways.items (trail_of old.trail.items) told one c.args.line.now (g.V.Site.history old.site)
-    (g.V.Site.history c.say.new.self) c.say.result old.halted _ c.requires.may c.requires.going (c.requires.sound.told (c.say.ensures.told tells)) c.say.ensures.done (c.in-Ok-say.ensures.done).ok)
+    (told_more _ _ _ _ c.args.client.now c.args.number c.reserve.ensures.items c.push_reserved.ensures.items c.in-Ok.ensures refl) c.requires.sound.uncut
+    (λ tells. told_said (g.N.Start.may_follow old.latest) g.N.Start.may_say g.N.Start.origin (g.N.Start.still_follows old.latest) old.ways.items (trail_of old.trail.items) told one c.args.line.now (g.V.Site.history old.site)
+    (g.V.Site.history c.say.new.self) c.say.result old.cut _ c.requires.may (c.requires.sound.uncut c.requires.going) (c.requires.sound.told (c.say.ensures.told tells)) c.say.ensures.done (c.in-Ok-say.ensures.done).ok)
 
 pub returns-in-Err-say-clause-sound : goal.returns-in-Err-say-clause-sound
 returns-in-Err-say-clause-sound g c =
     let old = c.args.self.now in
     let told = told_of old.told.items in
     let one = asked c.args.client.now c.args.number in
-    sound_told old _ told c.requires.sound refl refl refl (ap told_of c.reserve.ensures.items)
-    (λ tells. told_failed g.N.Start.may_follow g.N.Start.may_say g.N.Start.origin g.N.Start.still_follows old.ways.items (trail_of old.trail.items) told one c.args.line.now (g.V.Site.history old.site)
-    (g.V.Site.history c.say.new.self) c.say.result old.halted _ c.requires.may c.requires.going refl (c.requires.sound.told (c.say.ensures.told tells)) c.say.ensures.done)
+    sound_told old _ told c.requires.sound refl refl refl (ap told_of c.reserve.ensures.items) (λ still. let fell : true ≡ false = still in cc)
+    (λ tells. told_failed (g.N.Start.may_follow old.latest) g.N.Start.may_say g.N.Start.origin (g.N.Start.still_follows old.latest) old.ways.items (trail_of old.trail.items) told one c.args.line.now (g.V.Site.history old.site)
+    (g.V.Site.history c.say.new.self) c.say.result old.cut _ c.requires.may (c.requires.sound.uncut c.requires.going) refl (c.requires.sound.told (c.say.ensures.told tells)) c.say.ensures.done)

@@ -28,14 +28,14 @@ returns-in-Ok-clause-sound g c =
     let enough = due_of_one old p c.requires.sound c.requires.place in
     let size = ap length c.entries.ensures in
     sound_any old _ p (ways.Resting c.in-Ok.log) (trail ++ settling p at (entries_of frame)) c.requires.sound c.requires.place (put_for _ _ _ p (ways.Resting c.in-Ok.log) c.take_way.ensures.rest c.put_way.ensures)
-    (omega (arith, dues, enough, size)) (omega (arith, dues, enough, size, c.requires.sound.room, c.settle_entries.ensures.len, c.settle_entries.ensures.capacity)) c.settle_entries.ensures.trail
+    (omega (arith, dues, enough, size)) (omega (arith, dues, enough, size, c.requires.sound.room, c.settle_entries.ensures.len, c.settle_entries.ensures.capacity)) c.settle_entries.ensures.trail c.requires.going refl
     (λ tells.
     let stood = c.requires.sound.told (c.settle.ensures.told tells) in
     let fits = subst (λ (w : Way). LogFits (o.logs p) (of_part p trail) (changes_of (o.logs p).file before) w) (sym c.in-Gated.ensures.way) (stood.logs p c.requires.place) in
     let follows = c.requires.follows _ (ap going_in (sym c.in-Gated.ensures.way)) in
-    let path = settle_path g.N.Start.may_follow g.N.Start.may_say o p log frame trail told before now c.settle.result c.settle.ensures.syncs c.settle.ensures.during follows fits in
-    let rests = settle_rests g.N.Start.may_follow g.N.Start.may_say o p log frame trail before now c.in-Ok.log (c.in-Ok.ensures.place).0 c.in-Ok.ensures.after fits in
-    told_settled g.N.Start.may_follow g.N.Start.may_say o g.N.Start.still_follows p c.in-Ok.log trail told (entries_of frame) fits.payloads before now old.ways.items old.halted _ at c.requires.sound.apart c.requires.sound.count c.requires.place c.requires.going (c.moment-at.ensures tells) follows stood path fits.next rests.0 rests.1)
+    let path = settle_path (g.N.Start.may_follow old.latest) g.N.Start.may_say o p log frame trail told before now c.settle.result c.settle.ensures.syncs c.settle.ensures.during follows fits in
+    let rests = settle_rests (g.N.Start.may_follow old.latest) g.N.Start.may_say o p log frame trail before now c.in-Ok.log (c.in-Ok.ensures.place).0 c.in-Ok.ensures.after fits in
+    told_settled (g.N.Start.may_follow old.latest) g.N.Start.may_say o (g.N.Start.still_follows old.latest) p c.in-Ok.log trail told (entries_of frame) fits.payloads before now old.ways.items old.cut _ at c.requires.sound.apart c.requires.sound.count c.requires.place (c.requires.sound.uncut c.requires.going) (c.moment-at.ensures tells) follows stood path fits.next rests.0 rests.1)
 
 pub returns-in-Ok-clause-trail : goal.returns-in-Ok-clause-trail
 returns-in-Ok-clause-trail g c = record {
@@ -58,11 +58,11 @@ returns-in-Err-clause-sound g c =
     let log = c.in-Gated.log in
     let frame = c.in-Gated.frame in
     let way = ways.Broken c.in-Err.log frame in
-    sound_on old _ p way c.requires.sound c.requires.place (put_for _ _ _ p way c.take_way.ensures.rest c.put_way-in-Err.ensures) (ap due_in c.in-Gated.ensures.way) refl refl
+    sound_on old _ p way c.requires.sound c.requires.place (put_for _ _ _ p way c.take_way.ensures.rest c.put_way-in-Err.ensures) (ap due_in c.in-Gated.ensures.way) refl refl c.requires.going refl
     (λ tells.
     let stood = c.requires.sound.told (c.settle.ensures.told tells) in
     let fits = subst (λ (w : Way). LogFits (o.logs p) (of_part p trail) (changes_of (o.logs p).file before) w) (sym c.in-Gated.ensures.way) (stood.logs p c.requires.place) in
     let follows = c.requires.follows _ (ap going_in (sym c.in-Gated.ensures.way)) in
-    let path = settle_path g.N.Start.may_follow g.N.Start.may_say o p log frame trail told before now c.settle.result c.settle.ensures.syncs c.settle.ensures.during follows fits in
-    let breaks = settle_breaks g.N.Start.may_follow g.N.Start.may_say o p log frame trail before now c.in-Err.log (c.in-Err.ensures.broken).0 c.in-Err.ensures.after fits in
-    told_on g.N.Start.may_follow g.N.Start.may_say o p before now old.ways.items way trail told old.halted _ c.requires.sound.apart c.requires.sound.count c.requires.place c.requires.going stood path breaks)
+    let path = settle_path (g.N.Start.may_follow old.latest) g.N.Start.may_say o p log frame trail told before now c.settle.result c.settle.ensures.syncs c.settle.ensures.during follows fits in
+    let breaks = settle_breaks (g.N.Start.may_follow old.latest) g.N.Start.may_say o p log frame trail before now c.in-Err.log (c.in-Err.ensures.broken).0 c.in-Err.ensures.after fits in
+    told_on (g.N.Start.may_follow old.latest) g.N.Start.may_say o p before now old.ways.items way trail told old.cut _ c.requires.sound.apart c.requires.sound.count c.requires.place (c.requires.sound.uncut c.requires.going) stood path breaks)

@@ -1,0 +1,98 @@
+-- Why rounds end.
+use Rattle.std.proofs.Common.{◌≡◌, ◌<◌, ◌≤◌, ℕ, List, [], ◌∷◌, length, refl, sym, ◌∙◌, ap, subst, arith}
+use Rattle.client_port.specs.Clients.{clients_of}
+use Rattle.client_port.specs.Ports.{Queue}
+use Rattle.commit_log.specs.Segment.{reading_of}
+use Rattle.commit_log.proofs.Written.{reads_closed}
+use Rattle.dura_model.specs.Partition.{Partition, enter}
+use Rattle.dura_value.specs.Items.{Entry}
+use Rattle.engine_run.specs.Ends.{AreAllSaid, IsFirstUnsaid, IsAtRest, WouldFill, EndsAs, IsRestCause, cause_of_stop}
+use Rattle.engine_run.proofs.Quieted.{quiet_behind}
+use Rattle.hub_store.specs.Moments.{StandsWith}
+use Rattle.hub_store.specs.Origin.{Log, Origin}
+use Rattle.hub_store.specs.Trail.{Settled, Said, of_part}
+use Rattle.hub_store.specs.Ways.{LogFits}
+use Rattle.hub_store.specs.declared.way.Way.{Way}
+use Rattle.hub_store.specs.declared.way.Way.TheVariants.{Resting, Bodied, Synced, Gated, Broken, Away}
+use Rattle.part_rounds.specs.Comes.{Entered, IsOver}
+use Rattle.part_rounds.specs.Commits.{IsFull}
+use Rattle.part_rounds.specs.Rounds.{pairs_of, HasSaid}
+use Rattle.part_rounds.specs.declared.stop.Stop.{Stop}
+use Rattle.part_rounds.specs.declared.stop.Stop.TheVariants as stops
+use Rattle.part_steps.specs.declared.state.PartState.{PartState}
+use Rattle.part_steps.specs.States.{state_of}
+use Rattle.run_causes.specs.declared.cause.Cause.{Cause}
+use Rattle.run_causes.specs.declared.cause.Cause.TheVariants.{Done, Usage, BadFlows, BadRequests, Clash, BadPlan, TooLong, Waiting, Long, SiteFault, SayFault, ClockFault, Damaged, Illegal, Unclosed, OtherShape, OtherFlows, Memory, Full, Spent}
+use Rattle.run_rules.specs.Rules.{Rules}
+use Rattle.run_rules.proofs.Going.{follows_later}
+use Rattle.site_model.specs.History.{Step, changes_of}
+
+module _ (MayFollow : List Settled → List Said → ℕ → List Entry → Type 0) (MaySay : List Settled → List Said → Said → List ℕ → Type 0) (rules : Rules) (latest : ℕ) (o : Origin) (steps : List Step) (trail : List Settled) (told : List Said) where
+  -- nothing is possible any more
+  pub at_rest : (was : ℕ) (queues : List Queue) (clients : List (List ℕ)) (state : PartState) → StandsWith MayFollow MaySay o steps trail told [] → HasSaid rules told queues → clients ≡ clients_of rules.requests
+      → Entered rules (o.logs 0) was (of_part 0 trail) state → IsOver rules (state_of state) queues clients → IsAtRest MayFollow MaySay rules latest o steps trail queues
+  at_rest was queues clients state stands said names entered over = record {
+    told = told;
+    stands = stands;
+    said = said;
+    state = entered.before;
+    made = entered.stands.made;
+    quiet = quiet_behind rules entered.before (state_of state) queues clients entered.stands.shown entered.stands.younger entered.entered entered.sound.owned over;
+    over = subst (λ (p : Partition). IsOver rules p queues (clients_of rules.requests)) entered.entered (subst (λ (l : List (List ℕ)). IsOver rules (state_of state) queues l) names over);
+  }
+
+  -- rounds that end where nothing is possible
+  pub rest_ends : (queues : List Queue) (clients : List (List ℕ)) (most_labels segment_length : ℕ) (cause : Cause) → IsAtRest MayFollow MaySay rules latest o steps trail queues → clients ≡ clients_of rules.requests → IsRestCause queues clients cause
+      → EndsAs MayFollow MaySay rules latest o steps trail most_labels segment_length cause
+  rest_ends queues clients most_labels segment_length Done rest names is = (queues, rest, subst (AreAllSaid queues) names is)
+  rest_ends queues clients most_labels segment_length (Waiting client number) rest names is = (queues, rest, subst (λ (l : List (List ℕ)). IsFirstUnsaid queues l client number) names is)
+  rest_ends queues clients most_labels segment_length (Long labels) rest names is = absurd is
+  rest_ends queues clients most_labels segment_length (Full partition length_then) rest names is = absurd is
+  rest_ends queues clients most_labels segment_length SiteFault rest names is = absurd is
+  rest_ends queues clients most_labels segment_length SayFault rest names is = absurd is
+  rest_ends queues clients most_labels segment_length ClockFault rest names is = absurd is
+  rest_ends queues clients most_labels segment_length Memory rest names is = absurd is
+  rest_ends queues clients most_labels segment_length Usage rest names is = absurd is
+  rest_ends queues clients most_labels segment_length (BadFlows fault) rest names is = absurd is
+  rest_ends queues clients most_labels segment_length (BadRequests line) rest names is = absurd is
+  rest_ends queues clients most_labels segment_length (Clash client number) rest names is = absurd is
+  rest_ends queues clients most_labels segment_length (BadPlan place) rest names is = absurd is
+  rest_ends queues clients most_labels segment_length (TooLong file) rest names is = absurd is
+  rest_ends queues clients most_labels segment_length (Damaged file offset) rest names is = absurd is
+  rest_ends queues clients most_labels segment_length (Illegal partition position) rest names is = absurd is
+  rest_ends queues clients most_labels segment_length (Unclosed partition position src seq) rest names is = absurd is
+  rest_ends queues clients most_labels segment_length (OtherShape found asked) rest names is = absurd is
+  rest_ends queues clients most_labels segment_length (OtherFlows found given) rest names is = absurd is
+  rest_ends queues clients most_labels segment_length (Spent partition number) rest names is = absurd is
+
+  -- the next entry doesn't fit
+  pub would_fill : (was : ℕ) → was ≤ latest → (segment_length : ℕ) (way : Way) (partition length_then : ℕ) → 0 < segment_length → IsFull rules was (of_part 0 trail) (pairs_of told) segment_length way partition length_then
+      → LogFits (o.logs 0) (of_part 0 trail) (changes_of (o.logs 0).file steps) way → WouldFill rules latest o steps trail segment_length length_then
+  would_fill was above segment_length (Resting log) partition length_then some full fits = record {
+    told = told;
+    entry = full.entry;
+    follows = follows_later rules was latest (of_part 0 trail) (full.entry ∷ []) (pairs_of told) above full.follows;
+    header = (o.logs 0).header;
+    payloads = fits.payloads;
+    gate = log.gate;
+    stands = let rests = fits.fits.1 in ap reading_of rests.content ∙ reads_closed (o.logs 0).header fits.payloads log.gate rests.byte rests.rest rests.ends rests.closed;
+    length_is = full.length_is;
+    reaches = full.reaches;
+  }
+  would_fill was above segment_length (Bodied log frame) partition length_then some full fits = absurd (omega (arith, some, full.reaches, full.length_is))
+  would_fill was above segment_length (Synced log frame) partition length_then some full fits = absurd (omega (arith, some, full.reaches, full.length_is))
+  would_fill was above segment_length (Gated log frame) partition length_then some full fits = absurd (omega (arith, some, full.reaches, full.length_is))
+  would_fill was above segment_length (Broken log frame) partition length_then some full fits = absurd (omega (arith, some, full.reaches, full.length_is))
+  would_fill was above segment_length Away partition length_then some full fits = absurd (omega (arith, some, full.reaches, full.length_is))
+
+  -- rounds that stop
+  pub stop_ends : (was : ℕ) → was ≤ latest → (most_labels segment_length : ℕ) (way : Way) (stop : Stop) → 0 < segment_length
+      → ((partition length_then : ℕ) → stop ≡ stops.Full partition length_then → IsFull rules was (of_part 0 trail) (pairs_of told) segment_length way partition length_then)
+      → LogFits (o.logs 0) (of_part 0 trail) (changes_of (o.logs 0).file steps) way → EndsAs MayFollow MaySay rules latest o steps trail most_labels segment_length (cause_of_stop stop)
+  stop_ends was above most_labels segment_length way (stops.Full partition length_then) some full fits =
+      let is = full partition length_then refl in
+      (is.alone, would_fill was above segment_length way partition length_then some is fits)
+  stop_ends was above most_labels segment_length way stops.SiteFault some full fits = tt
+  stop_ends was above most_labels segment_length way stops.SayFault some full fits = tt
+  stop_ends was above most_labels segment_length way stops.ClockFault some full fits = tt
+  stop_ends was above most_labels segment_length way stops.Memory some full fits = tt

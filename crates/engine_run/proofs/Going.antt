@@ -1,0 +1,63 @@
+-- A run that goes on from what was prepared stands as it may.
+use Rattle.std.proofs.Common.{◌≡◌, ◌≤◌, ℕ, List, [], ◌++◌, length, map, refl, sym, ◌∙◌, ap, subst}
+use Rattle.std.proofs.lemmas.List.{map-append, append-nil}
+use Rattle.dura_model.specs.Partition.{Partition}
+use Rattle.dura_model.proofs.Outcomes.{never_twice}
+use Rattle.dura_value.specs.Items.{Entry}
+use Rattle.engine_run.specs.Ends.{GoesOn, RunEndsAs}
+use Rattle.engine_run.specs.Headline.{StandsOrderly, RunsOn}
+use Rattle.engine_run.specs.Job.{Job, Keeps, AreGivenIn}
+use Rattle.engine_run.specs.Opened.{IsOpening, IsOpened, OpensOnly}
+use Rattle.engine_run.specs.Picks.{log_in_file, origin_with, rules_with}
+use Rattle.engine_run.proofs.Standing.{begins_alone, picked_entries}
+use Rattle.commit_log.specs.declared.states.Resting.{Resting}
+use Rattle.hub_store.specs.Moments.{AtEveryMoment}
+use Rattle.hub_store.specs.Origin.{Origin}
+use Rattle.hub_store.specs.Trail.{Settled, Said, of_part, settled_at}
+use Rattle.hub_store.proofs.Settling.{of_part-append}
+use Rattle.part_files.specs.Placing.{next_life, labels_in}
+use Rattle.part_files.specs.Stands.{shown_by}
+use Rattle.run_causes.specs.declared.cause.Cause.{Cause}
+use Rattle.run_laws.specs.Begins.{pairs_of, may_follow, may_say}
+use Rattle.run_laws.proofs.Images.{moment_stands}
+use Rattle.run_laws.specs.Leaves.{StandsOn}
+use Rattle.run_rules.specs.Rules.{Rules, Told, Follows}
+use Rattle.run_rules.proofs.Going.{follows_still}
+use Rattle.section_laws.proofs.Ordered.{never_overlaps}
+use Rattle.site_model.specs.History.{Step, content_of, back_to}
+use Rattle.site_model.proofs.Paths.{last}
+
+-- a run for which files stand is legal
+in_order : (rules : Rules) (latest digest : ℕ) (o : Origin) (steps : List Step) (trail : List Settled) (image : ℕ → List ℕ) → StandsOn rules latest digest o steps trail image → StandsOrderly rules latest digest o steps trail image
+in_order rules latest digest o steps trail image on = record {
+  on = on;
+  orderly = record {
+    once = λ id task. never_twice rules.flows (labels_in (o.logs 0).entries ++ labels_in (of_part 0 trail) ++ labels_in on.going) (shown_by rules.flows on.stands.state) on.stands.legal id task;
+    apart = λ front rest world split legal overlap. never_overlaps rules.flows front world legal overlap;
+  };
+}
+
+module _ (job : Job) (old steps new : List Step) (entries : List Entry) (state : Partition) (keeps : Keeps job (λ file. content_of file old) entries state) (given : AreGivenIn job entries)
+    (log : Resting) (opened : IsOpened job.digest entries steps log) (opens : OpensOnly job old steps) where
+  -- the rest of a run that goes on
+  pub runs_on : (life : ℕ) → life ≡ next_life entries → state.incarnation ≤ life → (trail : List Settled) (most_labels segment_length latest : ℕ) (cause : Cause)
+      → GoesOn (may_follow (rules_with job state life) latest) (may_say (rules_with job state life)) (rules_with job state life) latest (origin_with (log_in_file job.digest log.file steps state life) steps) new trail most_labels segment_length cause
+      → RunsOn job entries state old new trail most_labels segment_length latest cause
+  runs_on life life_is young trail most_labels segment_length latest cause goes =
+      let log_is = log_in_file job.digest log.file steps state life in
+      let begins = begins_alone job entries steps log opened state keeps.made life young given in
+      let opening = opens entries state keeps given in
+      record {
+        origin = origin_with log_is steps;
+        kept = picked_entries job entries steps log opened state keeps.made life young;
+        silent = (last opening).silent;
+        opening = opening;
+        further = goes.further;
+        nothing = goes.nothing;
+        stands = λ moment low high image is.
+            subst (λ (n : ℕ). StandsOrderly (rules_with job state n) latest job.digest (origin_with log_is steps) (back_to moment new) (settled_at moment trail) image) life_is
+            (in_order (rules_with job state life) latest job.digest (origin_with log_is steps) (back_to moment new) (settled_at moment trail) image
+            (moment_stands (origin_with log_is steps) (rules_with job state life) latest job.digest begins (back_to moment new) (settled_at moment trail) image (goes.every moment low high) is));
+        every = subst (λ (n : ℕ). AtEveryMoment (may_follow (rules_with job state n) latest) (may_say (rules_with job state n)) (origin_with log_is steps) new trail) life_is goes.every;
+        ends = subst (λ (n : ℕ). RunEndsAs (rules_with job state n) latest (origin_with log_is steps) new trail most_labels segment_length cause) life_is goes.ends;
+      }

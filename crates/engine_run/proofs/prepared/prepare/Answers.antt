@@ -1,0 +1,141 @@
+use Rattle.std.proofs.Common.{◌≡◌, ◌∙◌, ℕ, List, None, Ok, Err, map, refl, sym, ap, subst}
+use Rattle.std.specs.Prelude.{IfSome}
+use Rattle.std.proofs.lemmas.Result.{err_from_is_err_and}
+use Rattle.commit_log.specs.States.{IsFormatting}
+use Rattle.dura_value.specs.declared.messages.Request.{Request as OwnRequest}
+use Rattle.engine_run.specs.Causes.{AsksFor}
+use Rattle.engine_run.specs.Job.{Job, Keeps}
+use Rattle.engine_run.specs.Kept.{Refuses}
+use Rattle.engine_run.specs.Opened.{IsOpening, OpensOnly}
+use Rattle.engine_run.specs.Opening.{RecoversAs}
+use Rattle.engine_run.proofs.Asked.{same_job, same_entries}
+use Rattle.engine_run.proofs.Found.{some_with}
+use Rattle.engine_run.proofs.Opens.{opening_first, opening_synced, first_kept}
+use Rattle.engine_run.proofs.Preparing.{opened_from, opens_from}
+use Rattle.engine_run.proofs.Refusing.{logs_refused, clash_refused, logs_untouched}
+use Rattle.engine_run.proofs.prepared.prepare.Goals as goal
+use Rattle.flow_syntax.specs.Views.{flows_of}
+use Rattle.part_files.specs.Logs.{Logs, logs_in}
+use Rattle.part_files.specs.Stands.{alone_with}
+use Rattle.part_steps.specs.States.{state_of}
+use Rattle.recover_core.specs.Recovering.{IsLogOf, RestsFor, OnlySyncs, both_synced}
+use Rattle.request_reader.specs.Line.{request_of}
+use Rattle.run_laws.specs.Begins.{header_with}
+use Rattle.site_model.specs.History.{Step, changes_of, content_of, IsKept}
+use Rattle.site_model.specs.Moments.{Always, LeavesOnly}
+
+pub returns-in_err-file-clause-opens : goal.returns-in_err-file-clause-opens
+returns-in_err-file-clause-opens g c tells job asks entries state keeps given =
+    let old = g.V.Site.history c.args.site.now in
+    subst (Always (IsOpening job entries old) old) (sym c.read_input.ensures.unchanged) (opening_first job entries old (λ f. g.met.V.Site.inside c.args.site.now f (c.read_input.ensures.told tells)))
+
+pub returns-in_err-state-clause-answers : goal.returns-in_err-state-clause-answers
+returns-in_err-state-clause-answers g c tells =
+    let old = g.V.Site.history c.args.site.now in
+    let file = c.in_ok-file.field-0.file in
+    let job : Job = record { flows = flows_of file.flows; digest = file.digest; requests = map request_of c.in_ok-file.field-0.requests.items } in
+    let asks = c.in_ok-file.ensures.reads (c.recover_logs.ensures.told tells) in
+    let recovers = subst (λ (s : List Step). RecoversAs (flows_of file.flows) file.digest (λ f. content_of f s) (Err c.in_err-state.field-0.0)) c.read_input.ensures.unchanged (c.in_err-state.ensures.recovers tells) in
+    let p = err_from_is_err_and c.from_residual-in_err-state.result c.from_residual-in_err-state.ensures.1 in
+    rw (p.1, p.2, recovers.1) (logs_refused (λ f. content_of f old) job recovers.0 asks recovers.2)
+
+pub returns-in_err-state-clause-untouched : goal.returns-in_err-state-clause-untouched
+returns-in_err-state-clause-untouched g c =
+    let old = g.V.Site.history c.args.site.now in
+    let now = g.V.Site.history c.recover_logs.new.site in
+    let syncs = subst (λ (s : List Step). OnlySyncs s now) c.read_input.ensures.unchanged c.recover_logs.ensures.syncs in
+    let p = err_from_is_err_and c.from_residual-in_err-state.result c.from_residual-in_err-state.ensures.1 in
+    rw (p.1, p.2) (logs_untouched old now c.in_err-state.field-0.0 c.in_err-state.ensures.early syncs)
+
+pub returns-in_err-state-clause-opens : goal.returns-in_err-state-clause-opens
+returns-in_err-state-clause-opens g c tells job asks entries state keeps given =
+    let old = g.V.Site.history c.args.site.now in
+    let now = g.V.Site.history c.recover_logs.new.site in
+    let syncs = subst (λ (s : List Step). OnlySyncs s now) c.read_input.ensures.unchanged c.recover_logs.ensures.syncs in
+    opening_synced job entries old (λ f. g.met.V.Site.inside c.args.site.now f (c.read_input.ensures.told (c.recover_logs.ensures.told tells))) now syncs
+
+pub returns-in_err-refuse_clash-clause-answers : goal.returns-in_err-refuse_clash-clause-answers
+returns-in_err-refuse_clash-clause-answers g c tells =
+    let old = g.V.Site.history c.args.site.now in
+    let file = c.in_ok-file.field-0.file in
+    let requests = c.in_ok-file.field-0.requests.items in
+    let found = c.in_ok-state.field-0 in
+    let job : Job = record { flows = flows_of file.flows; digest = file.digest; requests = map request_of requests } in
+    let asks = c.in_ok-file.ensures.reads (c.recover_logs.ensures.told tells) in
+    let recovered = subst (λ (s : List Step). RecoversAs (flows_of file.flows) file.digest (λ f. content_of f s) (Ok found)) c.read_input.ensures.unchanged (c.in_ok-state.ensures.recovers tells) in
+    let keeps : Keeps job (λ f. content_of f old) recovered.entries (state_of found.state) = record { kept = recovered.kept; made = recovered.placed } in
+    let p = err_from_is_err_and c.from_residual-in_err-refuse_clash.result c.from_residual-in_err-refuse_clash.ensures.1 in
+    let clash = subst (λ (rs : List OwnRequest). Refuses (state_of found.state) (map request_of rs) c.in_err-refuse_clash.field-0.0) c.deref.ensures.value c.in_err-refuse_clash.ensures.err in
+    rw (p.1, p.2) (clash_refused (λ f. content_of f old) job recovered.entries (state_of found.state) c.in_err-refuse_clash.field-0.0 asks keeps clash)
+
+pub returns-in_err-refuse_clash-clause-opens : goal.returns-in_err-refuse_clash-clause-opens
+returns-in_err-refuse_clash-clause-opens g c tells job asks entries state keeps given =
+    let old = g.V.Site.history c.args.site.now in
+    let now = g.V.Site.history c.recover_logs.new.site in
+    let syncs = subst (λ (s : List Step). OnlySyncs s now) c.read_input.ensures.unchanged c.recover_logs.ensures.syncs in
+    opening_synced job entries old (λ f. g.met.V.Site.inside c.args.site.now f (c.read_input.ensures.told (c.recover_logs.ensures.told tells))) now syncs
+
+pub returns-in_err-log-clause-opens : goal.returns-in_err-log-clause-opens
+returns-in_err-log-clause-opens g c tells job asks =
+    let old = g.V.Site.history c.args.site.now in
+    let now = g.V.Site.history c.open_log.new.site in
+    let file = c.in_ok-file.field-0.file in
+    let found = c.in_ok-state.field-0 in
+    let own : Job = record { flows = flows_of file.flows; digest = file.digest; requests = map request_of c.in_ok-file.field-0.requests.items } in
+    let tells_then = c.open_log.ensures.told tells in
+    let asked = c.in_ok-file.ensures.reads (c.recover_logs.ensures.told tells_then) in
+    let recovered = subst (λ (s : List Step). RecoversAs (flows_of file.flows) file.digest (λ f. content_of f s) (Ok found)) c.read_input.ensures.unchanged (c.in_ok-state.ensures.recovers tells_then) in
+    let synced = c.in_ok-state.ensures.synced ∙ ap both_synced c.read_input.ensures.unchanged in
+    let none = c.in_err-log.ensures.stops.0 in
+    let kept = subst (λ (s : List Step). IsKept (changes_of 16 s)) (sym synced) (first_kept old) in
+    let leaves = subst (λ (s : List Step). LeavesOnly 16 s now (IsFormatting (content_of 16 s) (header_with file.digest))) synced (c.in_err-log.ensures.during none tells kept) in
+    let opens : OpensOnly own old now = λ entries state keeps given.
+    let same = same_entries own (λ f. content_of f old) recovered.entries entries (state_of found.state) state (record { kept = recovered.kept; made = recovered.placed }) keeps in
+    opens_from file.digest old own refl now entries None (subst (λ l. IsLogOf l None (logs_in (alone_with file.digest) (λ f. content_of f old))) same (subst (λ l. IsLogOf recovered.entries l (logs_in (alone_with file.digest) (λ f. content_of f old))) none recovered.log))
+    (λ f. g.met.V.Site.inside c.args.site.now f (c.read_input.ensures.told (c.recover_logs.ensures.told tells_then))) tt (λ is. leaves) keeps.kept in
+    subst (λ (j : Job). OpensOnly j old now) (same_job (λ f. content_of f old) own job asked asks) opens
+
+pub returns-clause-prepared : goal.returns-clause-prepared
+returns-clause-prepared g c tells =
+    let old = g.V.Site.history c.args.site.now in
+    let now = g.V.Site.history c.open_log.new.site in
+    let file = c.in_ok-file.field-0.file in
+    let found = c.in_ok-state.field-0 in
+    let log = c.in_ok-log.log in
+    let tells_then = c.open_log.ensures.told tells in
+    let recovered = subst (λ (s : List Step). RecoversAs (flows_of file.flows) file.digest (λ f. content_of f s) (Ok found)) c.read_input.ensures.unchanged (c.in_ok-state.ensures.recovers tells_then) in
+    let logs : List Step → Logs = λ s. logs_in (alone_with file.digest) (λ f. content_of f s) in
+    let synced = c.in_ok-state.ensures.synced ∙ ap both_synced c.read_input.ensures.unchanged in
+    let kept = subst (λ (s : List Step). IsKept (changes_of 16 s)) (sym synced) (first_kept old) in
+    let rests = subst (λ (s : List Step). IfSome found.log (λ l. RestsFor s file.digest (logs old) l)) synced
+    (subst (λ (s : List Step). IfSome found.log (λ l. RestsFor (g.V.Site.history c.recover_logs.new.site) file.digest (logs s) l)) c.read_input.ensures.unchanged (c.in_ok-state.ensures.rests tells_then)) in
+    record {
+      entries = recovered.entries;
+      keeps = record { kept = recovered.kept; made = recovered.placed };
+      life_is = recovered.life;
+      opened = opened_from file.digest old now recovered.entries found.log log recovered.kept recovered.log rests
+          (some_with found.log (λ l. (Ok log ≡ Ok l) × (now ≡ g.V.Site.history c.recover_logs.new.site)) (λ l. (log ≡ l) × (now ≡ both_synced old)) (λ l is. (cc is.0, is.1 ∙ synced)) c.in_ok-log.ensures.there)
+          (λ is. c.in_ok-log.ensures.place is)
+          (λ is. c.in_ok-log.ensures.rests is tells kept)
+          (λ is. subst (λ (s : List Step). LeavesOnly 16 s now (IsFormatting (content_of 16 s) (header_with file.digest))) synced (c.in_ok-log.ensures.during is tells kept));
+    }
+
+pub returns-clause-opens : goal.returns-clause-opens
+returns-clause-opens g c tells job asks =
+    let old = g.V.Site.history c.args.site.now in
+    let now = g.V.Site.history c.open_log.new.site in
+    let file = c.in_ok-file.field-0.file in
+    let found = c.in_ok-state.field-0 in
+    let own : Job = record { flows = flows_of file.flows; digest = file.digest; requests = map request_of c.in_ok-file.field-0.requests.items } in
+    let tells_then = c.open_log.ensures.told tells in
+    let asked = c.in_ok-file.ensures.reads (c.recover_logs.ensures.told tells_then) in
+    let recovered = subst (λ (s : List Step). RecoversAs (flows_of file.flows) file.digest (λ f. content_of f s) (Ok found)) c.read_input.ensures.unchanged (c.in_ok-state.ensures.recovers tells_then) in
+    let synced = c.in_ok-state.ensures.synced ∙ ap both_synced c.read_input.ensures.unchanged in
+    let kept = subst (λ (s : List Step). IsKept (changes_of 16 s)) (sym synced) (first_kept old) in
+    let opens : OpensOnly own old now = λ entries state keeps given.
+    let same = same_entries own (λ f. content_of f old) recovered.entries entries (state_of found.state) state (record { kept = recovered.kept; made = recovered.placed }) keeps in
+    opens_from file.digest old own refl now entries found.log (subst (λ l. IsLogOf l found.log (logs_in (alone_with file.digest) (λ f. content_of f old))) same recovered.log)
+    (λ f. g.met.V.Site.inside c.args.site.now f (c.read_input.ensures.told (c.recover_logs.ensures.told tells_then)))
+    (some_with found.log (λ l. (Ok c.in_ok-log.log ≡ Ok l) × (now ≡ g.V.Site.history c.recover_logs.new.site)) (λ l. now ≡ both_synced old) (λ l is. is.1 ∙ synced) c.in_ok-log.ensures.there)
+    (λ is. subst (λ (s : List Step). LeavesOnly 16 s now (IsFormatting (content_of 16 s) (header_with file.digest))) synced (c.in_ok-log.ensures.during is tells kept)) keeps.kept in
+    subst (λ (j : Job). OpensOnly j old now) (same_job (λ f. content_of f old) own job asked asks) opens

@@ -1,0 +1,122 @@
+-- Why a run ends that went on from what was recovered.
+use Rattle.std.specs.Prelude.{◌≡◌, ◌≤◌, ◌<◌, ℕ, true, ◌+◌, List, [], ◌∷◌, length, Some, None, Ok}
+use Rattle.std.specs.List.{All}
+use Rattle.client_port.specs.Clients.{clients_of}
+use Rattle.client_port.specs.Ports.{Queue, due_of}
+use Rattle.commit_log.specs.declared.header.Header.{Header}
+use Rattle.commit_log.specs.Segment.{segment, reading_of}
+use Rattle.dura_model.specs.Legal.{Quiet}
+use Rattle.dura_model.specs.Partition.{Partition, enter}
+use Rattle.dura_value.specs.Items.{Entry}
+use Rattle.engine_run.specs.Order.{no_later}
+use Rattle.hub_store.specs.Moments.{StandsWith, AtEveryMoment}
+use Rattle.hub_store.specs.Origin.{Origin}
+use Rattle.hub_store.specs.Trail.{Settled, Said, of_part, settled_at}
+use Rattle.part_files.specs.Placing.{placed}
+use Rattle.part_files.specs.Stands.{shown_by}
+use Rattle.part_items.specs.Spelling.{spell_frame}
+use Rattle.part_rounds.specs.Comes.{IsOver, count_labels}
+use Rattle.part_rounds.specs.Rounds.{pairs_of, HasSaid}
+use Rattle.part_rounds.specs.declared.stop.Stop.{Stop}
+use Rattle.part_rounds.specs.declared.stop.Stop.TheVariants as stops
+use Rattle.request_reader.specs.Line.{Request}
+use Rattle.run_causes.specs.declared.cause.Cause.{Cause}
+use Rattle.run_causes.specs.declared.cause.Cause.TheVariants.{Done, Usage, BadFlows, BadRequests, Clash, BadPlan, TooLong, Waiting, Long, SiteFault, SayFault, ClockFault, Damaged, Illegal, Unclosed, OtherShape, OtherFlows, Memory, Full, Spent}
+use Rattle.run_laws.specs.Begins.{may_follow, may_say}
+use Rattle.run_rules.specs.Rules.{Rules, Follows}
+use Rattle.site_model.specs.History.{Step, content_of}
+use Rattle.site_model.specs.Moments.{Always}
+
+-- each client's requests were answered, and the answers said
+abbrev pub AreAllSaid : List Queue → (clients : List (List ℕ)) → Type 0
+AreAllSaid queues clients = All (λ name. due_of name queues ≡ None) clients
+
+-- this is the number of the client's next request, whose answer wasn't said
+pub record IsUnsaid (queues : List Queue) (client : List ℕ) (number : ℕ) : Type 0 where
+  pub request : Request
+  pub due : due_of client queues ≡ Some request
+  pub number_is : number ≡ request.number
+
+-- and of these clients' next requests it comes first
+pub record IsFirstUnsaid (queues : List Queue) (clients : List (List ℕ)) (client : List ℕ) (number : ℕ) : Type 0 where
+  pub unsaid : IsUnsaid queues client number
+  pub first : All (λ name. (r : Request) → due_of name queues ≡ Some r → no_later (client, number) (name, r.number) ≡ true) clients
+
+-- An entry that may follow would bring the log to this length, which isn't below the segment's.
+pub record WouldFill (rules : Rules) (latest : ℕ) (o : Origin) (steps : List Step) (trail : List Settled) (segment_length length_then : ℕ) : Type 0 where
+  pub told : List Said
+  pub entry : Entry
+  pub follows : Follows rules latest (of_part 0 trail) (pairs_of told) (entry ∷ [])
+  pub header : Header
+  pub payloads : List (List ℕ)
+  pub gate : ℕ
+  pub stands : reading_of (content_of (o.logs 0).file steps) ≡ segment header payloads gate
+  pub length_is : length_then ≡ gate + 6 + length (spell_frame (entry ∷ []))
+  pub reaches : segment_length ≤ length_then
+
+module _ (MayFollow : List Settled → List Said → ℕ → List Entry → Type 0) (MaySay : List Settled → List Said → Said → List ℕ → Type 0) (rules : Rules) (latest : ℕ) (o : Origin) where
+  -- Once this was settled the world is quiet but for requests, and nothing is possible any more; whole lines were said, and no answer
+  -- waits to be said.
+  pub record IsAtRest (steps : List Step) (trail : List Settled) (queues : List Queue) : Type 0 where
+    pub told : List Said
+    pub stands : StandsWith MayFollow MaySay o steps trail told []
+    pub said : HasSaid rules told queues
+    pub state : Partition
+    pub made : placed rules.flows 1 rules.begin (of_part 0 trail) ≡ Ok state
+    pub quiet : Quiet rules.flows [] (shown_by rules.flows state)
+    pub over : IsOver rules (enter rules.life state) queues (clients_of rules.requests)
+
+  -- why it ends
+  abbrev pub EndsAs : List Step → List Settled → (most_labels segment_length : ℕ) → Cause → Type 0
+  EndsAs steps trail most_labels segment_length Done = (queues : List Queue) × IsAtRest steps trail queues × AreAllSaid queues (clients_of rules.requests)
+  EndsAs steps trail most_labels segment_length (Waiting client number) = (queues : List Queue) × IsAtRest steps trail queues × IsFirstUnsaid queues (clients_of rules.requests) client number
+  EndsAs steps trail most_labels segment_length (Long labels) = (labels ≡ count_labels (of_part 0 trail)) × (most_labels ≤ labels)
+  EndsAs steps trail most_labels segment_length (Full partition length_then) = (partition ≡ 0) × WouldFill rules latest o steps trail segment_length length_then
+  EndsAs steps trail most_labels segment_length SiteFault = Unit {0}
+  EndsAs steps trail most_labels segment_length SayFault = Unit {0}
+  EndsAs steps trail most_labels segment_length ClockFault = Unit {0}
+  EndsAs steps trail most_labels segment_length Memory = Unit {0}
+  EndsAs steps trail most_labels segment_length other = ⊥
+
+  -- From where it began on it stood at every moment as it may, nothing was settled before, and it ended for its cause.
+  pub record GoesOn (new : List Step) (trail : List Settled) (most_labels segment_length : ℕ) (cause : Cause) : Type 0 where
+    pub every : AtEveryMoment MayFollow MaySay o new trail
+    pub further : Always (λ steps. Unit {0}) o.steps new
+    pub nothing : (moment : ℕ) → moment < length o.steps → settled_at moment trail ≡ []
+    pub ends : EndsAs new trail most_labels segment_length cause
+
+-- nothing happened, for want of memory
+pub record Stays (old new : List Step) (trail : List Settled) (cause : Cause) : Type 0 where
+  pub same : new ≡ old
+  pub nothing : trail ≡ []
+  pub wanting : cause ≡ Memory
+
+-- why rounds stop
+abbrev pub cause_of_stop : Stop → Cause
+cause_of_stop (stops.Full partition length) = Full partition length
+cause_of_stop stops.SiteFault = SiteFault
+cause_of_stop stops.SayFault = SayFault
+cause_of_stop stops.ClockFault = ClockFault
+cause_of_stop stops.Memory = Memory
+
+-- why a run may end where nothing is possible any more
+abbrev pub IsRestCause : List Queue → (clients : List (List ℕ)) → Cause → Type 0
+IsRestCause queues clients Done = AreAllSaid queues clients
+IsRestCause queues clients (Waiting client number) = IsFirstUnsaid queues clients client number
+IsRestCause queues clients other = ⊥
+
+-- why a run may end that goes on
+abbrev pub IsLateCause : Cause → Type 0
+IsLateCause Done = Unit {0}
+IsLateCause (Waiting client number) = Unit {0}
+IsLateCause (Long labels) = Unit {0}
+IsLateCause (Full partition length) = Unit {0}
+IsLateCause SiteFault = Unit {0}
+IsLateCause SayFault = Unit {0}
+IsLateCause ClockFault = Unit {0}
+IsLateCause Memory = Unit {0}
+IsLateCause other = ⊥
+
+-- why a run ends that commits and says what its rules let it
+abbrev pub RunEndsAs : Rules → (latest : ℕ) → Origin → List Step → List Settled → (most_labels segment_length : ℕ) → Cause → Type 0
+RunEndsAs rules latest o = EndsAs (may_follow rules latest) (may_say rules) rules latest o

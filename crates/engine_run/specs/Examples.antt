@@ -1,0 +1,56 @@
+-- What a call's clauses say, by example.
+use Rattle.std.specs.Prelude.{ℕ, List, [], ◌∷◌, ◌++◌, codes}
+use Rattle.client_port.specs.Ports.{Queue}
+use Rattle.dura_model.specs.Steps.{Label, finish}
+use Rattle.dura_value.specs.Digest.{fnv}
+use Rattle.dura_value.specs.Ids.{client, orchestration}
+use Rattle.dura_value.specs.Items.{Entry}
+use Rattle.dura_value.specs.Messages.{wait}
+use Rattle.dura_value.specs.declared.data.Value.TheVariants as values
+use Rattle.dura_value.specs.declared.outcome.Outcome.TheVariants as outcomes
+use Rattle.engine_run.specs.Job.{Job}
+use Rattle.flow_syntax.specs.Syntax.{Flows}
+use Rattle.hub_store.specs.Trail.{Settled}
+use Rattle.part_files.specs.Examples.{digest, request, taking}
+use Rattle.request_reader.specs.Line.{Request}
+use Rattle.run_inputs.specs.Examples.{flows_bytes, one_flow, one_request}
+
+-- no flows, and nobody asks for anything
+abbrev pub no_flows : Flows
+no_flows = record { flows = []; classes = [] }
+
+abbrev pub nothing_asked : Job
+nothing_asked = record { flows = no_flows; digest = digest; requests = [] }
+
+-- what files of one flow and one request ask for
+abbrev pub one_asked : Job
+one_asked = record { flows = one_flow; digest = fnv flows_bytes; requests = one_request ∷ [] }
+
+-- client a's request 1: to start Sum/x; and to wait for its end under the same number
+abbrev pub starting : Request
+starting = record { client = codes "a"; number = 1; message = request }
+
+abbrev pub waiting : Request
+waiting = record { client = codes "a"; number = 1; message = record { from = client (codes "a"); to = orchestration (codes "Sum") (codes "x"); body = wait 1 } }
+
+-- of client a's one request the answer wasn't said, or it was
+abbrev pub unsaid : List Queue
+unsaid = record { client = codes "a"; requests = starting ∷ []; said = 0 } ∷ []
+
+abbrev pub all_said : List Queue
+all_said = record { client = codes "a"; requests = starting ∷ []; said = 1 } ∷ []
+
+-- client b waits too
+abbrev pub two_unsaid : List Queue
+two_unsaid = unsaid ++ record { client = codes "b"; requests = record starting { client = codes "b" } ∷ []; said = 0 } ∷ []
+
+-- the entry by which it is taken was settled at the first moment
+abbrev pub settled_once : List Settled
+settled_once = record { partition = 0; entry = taking 0; at = 1 } ∷ []
+
+-- one task is ended twice
+abbrev pub ended_twice : List Label
+ended_twice =
+    finish (orchestration (codes "Sum") (codes "x")) 0 (outcomes.Done values.Null)
+    ∷ finish (orchestration (codes "Sum") (codes "x")) 0 (outcomes.Done values.Null)
+    ∷ []

@@ -1,0 +1,256 @@
+//! Going on from what was recovered.
+
+ghost use Rattle.std.specs.Prelude.{◌≡◌, ◌⊎◌, ◌<◌, ◌≤◌, ◌^◌, [], ◌∷◌, map, true, false, IsSomeAnd, IfOk, IfSome, IfNone};
+ghost use Rattle.client_port.specs.Clients.{clients_of};
+ghost use Rattle.client_port.specs.Ports.{queues_of};
+ghost use Rattle.engine_run.specs.Ends.{AreAllSaid, IsFirstUnsaid, EndsAs, GoesOn, Stays, IsLateCause, IsRestCause, cause_of_stop};
+ghost use Rattle.engine_run.specs.Order.{no_later};
+ghost use Rattle.engine_run.specs.Picks.{origin_with, rules_with};
+ghost use Rattle.engine_run.specs.Prepared.{job_of, CanGoOn};
+ghost use Rattle.flow_syntax.specs.Views.{flows_of};
+ghost use Rattle.hub_store.specs.Changes.{stage_at, trail_in, told_in};
+ghost use Rattle.hub_store.specs.Opened.{IsOrigin, HasBegun};
+ghost use Rattle.hub_store.specs.Sound.{IsSound};
+ghost use Rattle.hub_store.specs.Trail.{of_part};
+ghost use Rattle.part_rounds.specs.Rounds.{HasSaid, Stands};
+ghost use Rattle.part_steps.specs.States.{state_of, count_of, IsSound as IsOwnSound};
+ghost use Rattle.request_reader.specs.Line.{request_of};
+ghost use Rattle.run_causes.specs.Causes.{status_of};
+ghost use Rattle.run_laws.specs.Begins.{may_follow, may_say};
+ghost use Rattle.site_model.specs.Calls.{HasRisen};
+
+use crate::ended::{Ended, end_with};
+use crate::named::{Going, Named};
+use crate::order::comes_no_later;
+use crate::prepared::Prepared;
+use activity_table::Activities;
+use client_port::Port;
+use command_words::RunOptions;
+use dura_value::{Name, Request};
+use flow_syntax::Flows;
+use hub_store::{Ended as Settled, Stage, Store, Trail};
+use part_rounds::{End, Ruled, Stop, drive};
+use part_steps::PartState;
+use run_causes::Cause;
+use site_model::{Clock, Site};
+use std::alloc::{AllocError, Global};
+
+/// The place that no entry has.
+const PLACES: u64 = 1 << 61;
+
+/// Why a run ends that goes on no more.
+fn cause_of(stop: Stop) -> Cause
+    ensures { result ≡ cause_of_stop stop }
+{
+    match stop {
+        Stop::Full { partition, length } => Cause::Full { partition, length },
+        Stop::SiteFault => Cause::SiteFault,
+        Stop::SayFault => Cause::SayFault,
+        Stop::ClockFault => Cause::ClockFault,
+        Stop::Memory => Cause::Memory,
+    }
+}
+
+/// Of what was found first and a client's request the one that comes first.
+fn earlier<'a>(first: Option<(&'a Name, u32)>, client: &'a Name, number: u32) -> (&'a Name, u32)
+    ensures one { ((result.0.now ≡ client.now) × (result.1 ≡ number)) ⊎ IsSomeAnd first.entry (λ one. (result.0.now ≡ one.0.now) × (result.1 ≡ one.1)) }
+    ensures new { no_later (result.0.now, result.1) (client.now, number) ≡ true }
+    ensures old { IfSome first.entry (λ one. no_later (result.0.now, result.1) (one.0.now, one.1) ≡ true) }
+{
+    match first {
+        Some((other, least)) if comes_no_later(other, least, client, number) => (other, least),
+        _ => (client, number),
+    }
+}
+
+/// The first request whose answer wasn't said, by its client's name: the client, and its number.
+fn first_unsaid<'a>(port: &Port, clients: &'a [Name]) -> Option<(&'a Name, u32)>
+    ensures none { IfNone result (AreAllSaid port.now.queues clients.now) }
+    ensures some { IfSome result (λ one. IsFirstUnsaid port.now.queues clients.now one.0.now one.1) }
+{
+    let mut first: Option<(&Name, u32)> = None;
+    for client in clients {
+        if let Some(request) = port.next_of(client) {
+            first = Some(earlier(first, client, request.number));
+        }
+    }
+    first
+}
+
+/// Why a run ends where nothing is possible any more.
+fn rest_cause(port: &Port, clients: &[Name]) -> Result<Cause, AllocError>
+    ensures { IfOk result (IsRestCause port.now.queues clients.now) }
+{
+    match first_unsaid(port, clients) {
+        Some((client, number)) => Ok(Cause::Waiting {
+            client: client.clone()?,
+            number,
+        }),
+        None => Ok(Cause::Done),
+    }
+}
+
+/// Goes on round by round, and says why no more.
+fn drive_on<V: Site, N: Ruled, C: Clock, A: Activities>(
+    alloc: Global,
+    store: &mut Store<V, N>,
+    clock: &mut C,
+    acts: &A,
+    flows: &Flows,
+    port: &mut Port,
+    clients: &[Name],
+    state: PartState,
+    life: u64,
+    options: RunOptions,
+) -> Cause
+    requires sound { IsSound store.old }
+    requires going { store.old.halted ≡ false }
+    requires rests { stage_at store.old 0 ≡ Stage.Resting }
+    requires new { trail_in store.old ≡ [] }
+    requires moment { store.old.latest ≤ C.latest clock.old }
+    requires segment { store.old.segment ≡ options.segment }
+    requires fits { 0 < options.segment }
+    requires flows { N.rules.flows ≡ flows_of flows.now }
+    requires life { life ≡ N.rules.life }
+    requires short { life < 2 ^ 62 }
+    requires some { 0 < options.batch }
+    requires few { options.batch ≤ 64 }
+    requires stands { Stands N.rules (N.origin.logs 0) (of_part 0 (trail_in store.old)) (state_of state) }
+    requires own { IsOwnSound state }
+    requires one { count_of state ≡ 1 }
+    requires room { (state_of state).position < 2 ^ 61 }
+    requires said { HasSaid N.rules (told_in store.old) port.old.queues }
+    requires clients { clients.now ≡ clients_of N.rules.requests }
+    ensures tells { V.tells store.new.site → V.tells store.old.site }
+    ensures sound { IsSound store.new }
+    ensures moment { store.new.latest ≤ C.latest clock.new }
+    ensures ends { V.tells store.new.site → EndsAs (N.may_follow (C.latest clock.new)) N.may_say N.rules (C.latest clock.new) N.origin (V.history store.new.site) (trail_in store.new) options.steps options.segment result }
+    ensures late { IsLateCause result }
+    ensures fault { result ≡ Cause.SiteFault → HasRisen (V.disk_faults store.old.site) (V.disk_faults store.new.site) }
+    ensures say_fault { result ≡ Cause.SayFault → HasRisen (V.say_faults store.old.site) (V.say_faults store.new.site) }
+    ensures clock_fault { result ≡ Cause.ClockFault → HasRisen (C.clock_faults clock.old) (C.clock_faults clock.new) }
+    ensures later { V.disk_faults store.old.site ≤ V.disk_faults store.new.site }
+    ensures say_later { V.say_faults store.old.site ≤ V.say_faults store.new.site }
+    ensures clock_later { C.clock_faults clock.old ≤ C.clock_faults clock.new }
+{
+    match drive(
+        alloc,
+        flows,
+        acts,
+        clock,
+        store,
+        port,
+        clients,
+        state,
+        life,
+        options.batch,
+        options.steps,
+    ) {
+        Ok(End::Rest(_state)) => match rest_cause(port, clients) {
+            Ok(cause) => cause,
+            Err(_) => Cause::Memory,
+        },
+        Ok(End::Long(labels)) => Cause::Long { labels },
+        Err(stop) => cause_of(stop),
+    }
+}
+
+/// What clients ask, client by client, and the clients.
+fn ports_of(alloc: Global, requests: Vec<Request>) -> Result<(Port, Vec<Name>), AllocError>
+    ensures queues { IfOk result (λ both. both.0.queues ≡ queues_of (map request_of requests.items)) }
+    ensures clients { IfOk result (λ both. both.1.items ≡ map (λ q. q.client) both.0.queues) }
+{
+    let port = Port::new(alloc, requests)?;
+    let clients = port.clients(alloc)?;
+    Ok((port, clients))
+}
+
+/// Goes on from what was recovered, over a site and by rules.
+pub(crate) fn go<V: Site, N: Ruled, C: Clock, A: Activities>(
+    alloc: Global,
+    site: V,
+    mut clock: C,
+    acts: &A,
+    prepared: Prepared,
+    options: RunOptions,
+) -> Ended<V, C>
+    requires can { CanGoOn prepared }
+    requires some { 0 < options.batch }
+    requires few { options.batch ≤ 64 }
+    requires fits { 0 < options.segment }
+    requires short { options.segment ≤ 2 ^ 31 }
+    requires rules { N.rules ≡ rules_with (job_of prepared) (state_of prepared.state) prepared.life }
+    requires stands { Stands N.rules (N.origin.logs 0) [] (state_of prepared.state) }
+    requires origin { IsOrigin N.origin }
+    requires begun { V.tells site → HasBegun N.origin (V.history site) (prepared.log ∷ []) }
+    ensures told { V.tells result.site → V.tells site }
+    ensures status { result.status ≡ status_of result.cause }
+    ensures late { IsLateCause result.cause }
+    ensures goes { V.tells result.site → GoesOn (N.may_follow (C.latest result.clock)) N.may_say N.rules (C.latest result.clock) N.origin (V.history result.site) result.trail options.steps options.segment result.cause ⊎ Stays (V.history site) (V.history result.site) result.trail result.cause }
+    ensures fault { result.cause ≡ Cause.SiteFault → HasRisen (V.disk_faults site) (V.disk_faults result.site) }
+    ensures say_fault { result.cause ≡ Cause.SayFault → HasRisen (V.say_faults site) (V.say_faults result.site) }
+    ensures clock_fault { result.cause ≡ Cause.ClockFault → HasRisen (C.clock_faults clock) (C.clock_faults result.clock) }
+    ensures later { V.disk_faults site ≤ V.disk_faults result.site }
+    ensures say_later { V.say_faults site ≤ V.say_faults result.site }
+    ensures clock_later { C.clock_faults clock ≤ C.clock_faults result.clock }
+{
+    let Prepared {
+        flows,
+        digest: _,
+        requests,
+        state,
+        log,
+        life,
+    } = prepared;
+    let nothing = Trail::none(alloc);
+    if state.position() >= PLACES {
+        return end_with(Cause::Memory, nothing, site, clock);
+    }
+    let Ok((mut port, clients)) = ports_of(alloc, requests) else {
+        return end_with(Cause::Memory, nothing, site, clock);
+    };
+    let Ok(logs) = vec![in alloc; log] else {
+        return end_with(Cause::Memory, nothing, site, clock);
+    };
+    let mut store = match Store::<V, N>::begin(alloc, site, logs, options.segment) {
+        Ok(store) => store,
+        Err(site) => return end_with(Cause::Memory, nothing, site, clock),
+    };
+    let cause = drive_on(
+        alloc, &mut store, &mut clock, acts, &flows, &mut port, &clients, state, life, options,
+    );
+    let Settled { site, trail } = store.end();
+    end_with(cause, trail, site, clock)
+}
+
+/// [`go`], from where and by which rules its name says.
+pub(crate) fn go_named<V: Site, M: Named, C: Clock, A: Activities>(
+    alloc: Global,
+    site: V,
+    clock: C,
+    acts: &A,
+    prepared: Prepared,
+    options: RunOptions,
+) -> Ended<V, C>
+    requires can { CanGoOn prepared }
+    requires some { 0 < options.batch }
+    requires few { options.batch ≤ 64 }
+    requires fits { 0 < options.segment }
+    requires short { options.segment ≤ 2 ^ 31 }
+    requires rules { M.rules ≡ rules_with (job_of prepared) (state_of prepared.state) prepared.life }
+    requires stands { Stands M.rules M.log [] (state_of prepared.state) }
+    requires origin { IsOrigin (origin_with M.log M.steps) }
+    requires begun { V.tells site → HasBegun (origin_with M.log M.steps) (V.history site) (prepared.log ∷ []) }
+    ensures told { V.tells result.site → V.tells site }
+    ensures status { result.status ≡ status_of result.cause }
+    ensures late { IsLateCause result.cause }
+    ensures goes { V.tells result.site → GoesOn (may_follow M.rules (C.latest result.clock)) (may_say M.rules) M.rules (C.latest result.clock) (origin_with M.log M.steps) (V.history result.site) result.trail options.steps options.segment result.cause ⊎ Stays (V.history site) (V.history result.site) result.trail result.cause }
+    ensures fault { result.cause ≡ Cause.SiteFault → HasRisen (V.disk_faults site) (V.disk_faults result.site) }
+    ensures say_fault { result.cause ≡ Cause.SayFault → HasRisen (V.say_faults site) (V.say_faults result.site) }
+    ensures clock_fault { result.cause ≡ Cause.ClockFault → HasRisen (C.clock_faults clock) (C.clock_faults result.clock) }
+    ensures later { V.disk_faults site ≤ V.disk_faults result.site }
+    ensures say_later { V.say_faults site ≤ V.say_faults result.site }
+    ensures clock_later { C.clock_faults clock ≤ C.clock_faults result.clock }
+{
+    go::<V, Going<M>, C, A>(alloc, site, clock, acts, prepared, options)
+}

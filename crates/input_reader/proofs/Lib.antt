@@ -1,4 +1,0 @@
-pub mod Lines
-pub mod Members
-pub mod Named
-pub mod Numbers

@@ -1,6 +1,0 @@
-pub mod Commits
-pub mod Labels
-pub mod Moments
-pub mod Opening
-pub mod Others
-pub mod Says

@@ -1,0 +1,210 @@
+-- How far the greatest moment of a state goes.
+use Rattle.std.proofs.Common.{◌≡◌, inl, inr, ◌≤◌, ◌&&◌, ℕ, Bool, true, false, List, [], ◌∷◌, ◌++◌, cond, Option, Some, None, refl, sym, ◌∙◌, ap, subst, arith}
+use Rattle.std.specs.List.{All}
+use Rattle.std.specs.Option.{option_and_then}
+use Rattle.std.specs.Prelude.{not, nat_le, nat_lt, max, length, drop, ◌==◌, ◌+◌, option_map}
+use Rattle.std.proofs.lemmas.Bool.{eqb-true}
+use Rattle.std.proofs.lemmas.List.Elements.{All-cons}
+use Rattle.dura_model.specs.Deliveries.{Effect, to_instance, goes_on_from}
+use Rattle.dura_model.specs.Steps.{is_request, number_in, entity_of, answer_of}
+use Rattle.dura_model.specs.Partition.{Partition, post, post_all, asked_in, given_up_in, stands_in, raised_to, answered_in, client_received, entity_after, entity_received, received_in, delivered_in, taken_in, ended_in, fired_in, got_in, trim_in, accepted, first_in, without_first, last_in, row_after, event_of, with_posted, with_inbox, with_first, entry_of, instance_at}
+use Rattle.dura_model.specs.World.{Activity, Orchestration, at_id, at_number}
+use Rattle.dura_value.specs.Ids.{Id, orchestration, entity, client, home}
+use Rattle.dura_value.specs.Items.{Identity, Item, took, got, ran, ended, fired, trim}
+use Rattle.dura_value.specs.Messages.{Reply, to_nobody, to_task, to_request, Answer, Body, start, raise, query, wait, result, operate, lock, granted, release, Message}
+use Rattle.dura_value.specs.declared.outcome.Outcome.{Outcome}
+use Rattle.flow_syntax.specs.Entity.{Entity, Delivered, takes, deliver as deliver_to}
+use Rattle.flow_syntax.specs.Machine.{Event, Asked, an_activity, a_timer, resulted}
+use Rattle.flow_syntax.specs.Machine.{fired as timer_fired}
+use Rattle.flow_syntax.specs.Syntax.{Flows}
+use Rattle.part_files.specs.Placing.{all_accepted}
+use Rattle.part_steps.specs.Enabled.{Makes, is_at, moment_at}
+use Rattle.part_steps.specs.Enabled.Makes.{nothing, one_more}
+use Rattle.part_items.specs.Plain.{item_of}
+use Rattle.part_items.specs.declared.items.Item.{Item as OwnItem}
+use Rattle.part_rounds.specs.Fills.{Puts, IsOfPending}
+use Rattle.part_rounds.specs.declared.filling.Filling.{Filling}
+use Rattle.part_steps.specs.Outputs.{Outputs}
+use Rattle.part_steps.specs.States.{state_of}
+use Rattle.run_rules.specs.Rules.{IsBy}
+use Rattle.run_rules.proofs.Going.{by_later}
+
+-- ---- what keeps it
+
+of_either : (b : Bool) (x y : Partition) (stamp : ℕ) → x.stamp ≡ stamp → y.stamp ≡ stamp → (cond b x y).stamp ≡ stamp
+of_either true x y stamp one other = one
+of_either false x y stamp one other = other
+
+post_keeps : (count : ℕ) (p : Partition) (message : Message) → (post count p message).stamp ≡ p.stamp
+post_keeps count p message =
+    of_either (home count message.to == p.number) (record p { queue = p.queue ++ message ∷ [] })
+    (record p { outboxes = with_posted p.outboxes (home count message.to) (record { entry = entry_of p; message = message }) }) p.stamp refl refl
+
+post_all_keeps : (count : ℕ) (p : Partition) (messages : List Message) → (post_all count p messages).stamp ≡ p.stamp
+post_all_keeps count p [] = refl
+post_all_keeps count p (message ∷ messages) = post_all_keeps count (post count p message) messages ∙ post_keeps count p message
+
+asked_keeps : (p : Partition) (id : Id) (asks : List Asked) → (asked_in p id asks).stamp ≡ p.stamp
+asked_keeps p id [] = refl
+asked_keeps p id (an_activity task name argument ∷ more) = asked_keeps (record p { activities = at_number p.activities id task (Some (record { name = name; argument = argument })) }) id more
+asked_keeps p id (a_timer task due ∷ more) = asked_keeps (record p { timers = at_number p.timers id task (Some due) }) id more
+
+given_up_keeps : (p : Partition) (id : Id) (gives_up : Bool) → (given_up_in p id gives_up).stamp ≡ p.stamp
+given_up_keeps p id true = refl
+given_up_keeps p id false = refl
+
+stands_keeps : (count : ℕ) (p : Partition) (id : Id) (stamp : ℕ) (event : Option Event) (e : Effect) → (stands_in count p id stamp event e).stamp ≡ p.stamp
+stands_keeps count p id stamp event e =
+    let stood : Partition = record p { instances = at_id p.instances id (option_map (row_after (p.instances id) stamp event) e.instance) } in
+    post_all_keeps count (asked_in (given_up_in stood id e.gives_up) id e.asked) e.sent ∙ asked_keeps (given_up_in stood id e.gives_up) id e.asked ∙ given_up_keeps stood id e.gives_up
+
+answered_keeps : (p : Partition) (to : Id) (number : ℕ) (answer : Answer) (taken : Option Message) → (answered_in p to number answer taken).stamp ≡ p.stamp
+answered_keeps p to number answer None = refl
+answered_keeps p to number answer (Some message) = refl
+
+client_keeps : (p : Partition) (to : Id) (body : Body) → (client_received p to body).stamp ≡ p.stamp
+client_keeps p to (result (to_request number) answer) = answered_keeps p to number answer (p.taken to number)
+client_keeps p to (result to_nobody answer) = refl
+client_keeps p to (result (to_task number) answer) = refl
+client_keeps p to (start argument reply) = refl
+client_keeps p to (raise event value number) = refl
+client_keeps p to (query number) = refl
+client_keeps p to (wait number) = refl
+client_keeps p to (operate operation argument reply) = refl
+client_keeps p to (lock id task set index) = refl
+client_keeps p to (granted task) = refl
+client_keeps p to release = refl
+
+-- ---- what an item makes of it
+
+where_so : (b : Bool) (p q : Partition) (stamp : ℕ) → p.stamp ≡ stamp → cond b (Some p) None ≡ Some q → q.stamp ≡ stamp
+where_so true p q stamp keeps is = let same : p ≡ q = cc is in ap (λ (r : Partition). r.stamp) (sym same) ∙ keeps
+where_so false p q stamp keeps is = absurd (cc is)
+
+taken_keeps : (count : ℕ) (p q : Partition) (message : Message) (b : Bool) (taken : Option Message) → cond b (taken_in count p message taken) None ≡ Some q → q.stamp ≡ p.stamp
+taken_keeps count p q message true None is =
+    let before : Partition = record p { taken = at_number p.taken message.from (number_in message.body) (Some message) } in
+    where_so true (post count before message) q p.stamp (post_keeps count before message) is
+taken_keeps count p q message true (Some other) is = absurd (cc is)
+taken_keeps count p q message false taken is = absurd (cc is)
+
+ended_keeps : (flows : Flows) (count : ℕ) (p q : Partition) (id : Id) (task : ℕ) (outcome : Outcome) (o : Option Orchestration) (activity : Option Activity) → ended_in flows count p id task outcome o activity ≡ Some q → q.stamp ≡ p.stamp
+ended_keeps flows count p q id task outcome (Some o) (Some activity) is =
+    let event : Event = resulted task (answer_of outcome) in
+    let effect : Effect = goes_on_from o event o.machine.last [] in
+    let before : Partition = record p { activities = at_number p.activities id task None } in
+    where_so true (stands_in count before id o.machine.last (Some event) effect) q p.stamp (stands_keeps count before id o.machine.last (Some event) effect) is
+ended_keeps flows count p q id task outcome None activity is = absurd (cc is)
+ended_keeps flows count p q id task outcome (Some o) None is = absurd (cc is)
+
+received_keeps : (flows : Flows) (count : ℕ) (p q : Partition) (from to : Id) (stamp : ℕ) (body : Body) → received_in flows count p from to stamp body ≡ Some q → q.stamp ≡ p.stamp
+received_keeps flows count p q from (orchestration flow key) stamp body is =
+    let to : Id = orchestration flow key in
+    let event : Option Event = event_of flows (instance_at flows p to) from to body in
+    let effect : Effect = to_instance flows (instance_at flows p to) from to stamp body in
+    where_so (nat_le (last_in (p.instances to)) stamp) (stands_in count p to stamp event effect) q p.stamp (stands_keeps count p to stamp event effect) is
+received_keeps flows count p q from (entity class key) stamp body is =
+    let to : Id = entity class key in
+    let e : Entity = entity_of flows class (p.entities to) in
+    let d : Delivered = deliver_to flows (record e { last = stamp }) class from to body in
+    let before : Partition = record p { entities = at_id p.entities to (Some d.entity) } in
+    where_so (takes e.holder from && nat_le e.last stamp) (post_all count before d.sent) q p.stamp (post_all_keeps count before d.sent) is
+received_keeps flows count p q from (client name) stamp body is = where_so true (client_received p (client name) body) q p.stamp (client_keeps p (client name) body) is
+
+ran_raises : (flows : Flows) (count : ℕ) (p q : Partition) (from to : Id) (stamp : ℕ) (found : Option Body) → delivered_in flows count p from to stamp found ≡ Some q → q.stamp ≡ (raised_to stamp p).stamp
+ran_raises flows count p q from to stamp None is = absurd (cc is)
+ran_raises flows count p q from to stamp (Some body) is = received_keeps flows count (raised_to stamp (record p { queue = without_first p.queue from to })) q from to stamp body is
+
+fired_raises : (flows : Flows) (count : ℕ) (p q : Partition) (id : Id) (task stamp : ℕ) (o : Option Orchestration) (timer : Option ℕ) → fired_in flows count p id task stamp o timer ≡ Some q → q.stamp ≡ (raised_to stamp p).stamp
+fired_raises flows count p q id task stamp (Some o) (Some due) is =
+    let event : Event = timer_fired task in
+    let effect : Effect = goes_on_from o event stamp [] in
+    let before : Partition = raised_to stamp (record p { timers = at_number p.timers id task None }) in
+    where_so (nat_le due stamp && nat_le o.machine.last stamp) (stands_in count before id stamp (Some event) effect) q (raised_to stamp p).stamp (stands_keeps count before id stamp (Some event) effect) is
+fired_raises flows count p q id task stamp None timer is = absurd (cc is)
+fired_raises flows count p q id task stamp (Some o) None is = absurd (cc is)
+
+raised_is : (was stamp : ℕ) (b : Bool) → nat_le was stamp ≡ b → cond b stamp was ≡ max was stamp
+raised_is was stamp b is = grind (arith)
+
+-- the moment of an item, where it has one
+abbrev pub moment_of : Item → ℕ
+moment_of (took message) = 0
+moment_of (got source number message) = 0
+moment_of (ran from to stamp) = stamp
+moment_of (ended id task outcome) = 0
+moment_of (fired id task stamp) = stamp
+moment_of (trim reader number) = 0
+
+raised_max : (p : Partition) (stamp : ℕ) → (raised_to stamp p).stamp ≡ max p.stamp stamp
+raised_max p stamp = raised_is p.stamp stamp (nat_le p.stamp stamp) refl
+
+-- the greatest moment behind an item is the greater of the one before and the item's
+pub stamp_after : (flows : Flows) (count : ℕ) (p q : Partition) (item : Item) → accepted flows count p item ≡ Some q → q.stamp ≡ max p.stamp (moment_of item)
+stamp_after flows count p q (took message) is =
+    taken_keeps count p q message (home count message.from == p.number && is_request message.from (number_in message.body) message) (p.taken message.from (number_in message.body)) is ∙ omega arith
+stamp_after flows count p q (got source number message) is =
+    where_so (not (source.partition == p.number) && (nat_lt source.partition count && (number == (p.inboxes source.partition).next && home count message.to == p.number)))
+    (record p { queue = p.queue ++ message ∷ []; inboxes = with_inbox p.inboxes source.partition (record { next = number + 1; reader = entry_of p }) }) q p.stamp refl is ∙ omega arith
+stamp_after flows count p q (ran from to stamp) is = ran_raises flows count p q from to stamp (first_in p.queue from to) is ∙ raised_max p stamp
+stamp_after flows count p q (ended id task outcome) is = ended_keeps flows count p q id task outcome (instance_at flows p id) (p.activities id task) is ∙ omega arith
+stamp_after flows count p q (fired id task stamp) is = fired_raises flows count p q id task stamp (instance_at flows p id) (p.timers id task) is ∙ raised_max p stamp
+stamp_after flows count p q (trim reader number) is =
+    where_so (not (reader.partition == p.number) && (nat_lt reader.partition count && nat_le number ((p.outboxes reader.partition).first + length (p.outboxes reader.partition).messages)))
+    (record p { outboxes = with_first p.outboxes reader.partition number }) q p.stamp refl is ∙ omega arith
+
+-- ---- what items make of it
+
+own_moment : (item : Item) (moment : ℕ) → moment_of item ≤ moment → IsBy moment item
+own_moment (took message) moment low = tt
+own_moment (got source number message) moment low = tt
+own_moment (ran from to stamp) moment low = low
+own_moment (ended id task outcome) moment low = tt
+own_moment (fired id task stamp) moment low = low
+own_moment (trim reader number) moment low = tt
+
+both_some : {X Y : Type 0} (o : Option X) (f : X → Option Y) (y : Y) → option_and_then f o ≡ Some y → (x : X) × (o ≡ Some x) × (f x ≡ Some y)
+both_some None f y is = absurd (cc is)
+both_some (Some x) f y is = (x, refl, is)
+
+-- no item is of a later moment than the state that all make
+pub items_by : (flows : Flows) (items : List Item) (p q : Partition) → all_accepted flows 1 p items ≡ Some q → (p.stamp ≤ q.stamp) × All (IsBy q.stamp) items
+items_by flows [] p q all = let same : p ≡ q = cc all in (subst (λ (r : Partition). p.stamp ≤ r.stamp) same (omega arith), λ k d inside. absurd (omega (arith, inside)))
+items_by flows (item ∷ items) p q all =
+    let first = both_some (accepted flows 1 p item) (λ next. all_accepted flows 1 next items) q all in
+    let after = stamp_after flows 1 p first.0 item first.1 in
+    let rest = items_by flows items first.0 q first.2 in
+    (omega (arith, after, rest.0), All-cons (IsBy q.stamp) item items (own_moment item q.stamp (omega (arith, after, rest.0))) rest.1)
+
+at_moment : (item : Item) (moment : ℕ) → is_at item moment ≡ true → moment_of item ≡ moment
+at_moment (ran from to stamp) moment at = eqb-true stamp moment at
+at_moment (fired id task stamp) moment at = eqb-true stamp moment at
+at_moment (took message) moment at = absurd (cc at)
+at_moment (got source number message) moment at = absurd (cc at)
+at_moment (ended id task outcome) moment at = absurd (cc at)
+at_moment (trim reader number) moment at = absurd (cc at)
+
+-- what is possible by now makes no state of a later moment than now
+pub makes_by : {flows : Flows} {count now : ℕ} {first p : Partition} {items : List Item} {made : List Outputs} → Makes flows count now first items made p → p.stamp ≤ max first.stamp now
+makes_by nothing = omega arith
+makes_by {flows} {count} {now} {first} (one_more {items} {made} {p} {q} before item at is) =
+    let low = makes_by before in
+    let after = stamp_after flows count p q item is in
+    let moment = at_moment item (moment_at p now) at in
+    let now_is = raised_max p now in
+    omega (arith, low, after, moment, now_is)
+
+-- an item without a moment leaves the greatest where it is
+pub puts_still : (flows : Flows) (old new : Filling) (item : OwnItem) → Puts flows old item new → moment_of (item_of item) ≡ 0 → (state_of new.state).stamp ≡ (state_of old.state).stamp
+puts_still flows old new item puts none = elim puts.2 [
+  | inl put ↦ let after = stamp_after flows 1 (state_of old.state) (state_of new.state) (item_of item) put.0 in omega (arith, after, none)
+  | inr refused ↦ ap (λ (p : Partition). p.stamp) refused.1
+]
+
+pub outcome_still : (p : Partition) (item : Item) → IsOfPending p item → moment_of item ≡ 0
+outcome_still p (ended id task outcome) pending = refl
+outcome_still p (took message) pending = absurd pending
+outcome_still p (got source number message) pending = absurd pending
+outcome_still p (ran from to stamp) pending = absurd pending
+outcome_still p (fired id task stamp) pending = absurd pending
+outcome_still p (trim reader number) pending = absurd pending

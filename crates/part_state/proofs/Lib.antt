@@ -1,5 +1,0 @@
-pub mod Doing
-pub mod Inverse
-pub mod Meant
-pub mod Progress
-pub mod Worlds

@@ -1,5 +1,0 @@
-//! Tests of values, activities and readers.
-#![tactic(auto)]
-
-#[cfg(test)]
-mod reader_tests;

@@ -1,4 +1,0 @@
-pub mod Items
-pub mod Keeping
-pub mod Replay
-pub mod Replayed

@@ -1,9 +1,0 @@
-pub mod Dependencies
-pub mod Entries
-pub mod Language
-pub mod Legal
-pub mod Machine
-pub mod Partition
-pub mod Requests
-pub mod Steps
-pub mod World
