@@ -1,5 +1,6 @@
 -- Why rounds end.
-use Rattle.std.proofs.Common.{◌≡◌, ◌<◌, ◌≤◌, ℕ, List, [], ◌∷◌, length, refl, sym, ◌∙◌, ap, subst, arith}
+use Rattle.std.proofs.Common.{◌≡◌, ◌≢◌, ◌<◌, ◌≤◌, ℕ, List, [], ◌∷◌, Result, Err, get_or, length, refl, sym, ◌∙◌, ap, subst, arith}
+use Rattle.std.specs.List.{All}
 use Rattle.client_port.specs.Clients.{clients_of}
 use Rattle.client_port.specs.Ports.{Queue}
 use Rattle.commit_log.specs.Segment.{reading_of}
@@ -7,6 +8,8 @@ use Rattle.commit_log.proofs.Written.{reads_closed}
 use Rattle.dura_model.specs.Partition.{Partition, enter}
 use Rattle.dura_value.specs.Items.{Entry}
 use Rattle.engine_run.specs.Ends.{AreAllSaid, IsFirstUnsaid, IsAtRest, WouldFill, EndsAs, IsRestCause, cause_of_stop}
+use Rattle.engine_run.specs.Asked.{IsRequest}
+use Rattle.engine_run.proofs.FileAsked.{due_taken}
 use Rattle.engine_run.proofs.Quieted.{quiet_behind}
 use Rattle.hub_store.specs.Moments.{StandsWith}
 use Rattle.hub_store.specs.Origin.{Log, Origin}
@@ -29,17 +32,23 @@ use Rattle.site_model.specs.History.{Step, changes_of}
 
 module _ (MayFollow : List Settled → List Said → ℕ → List Entry → Type 0) (MaySay : List Settled → List Said → Said → List ℕ → Type 0) (rules : Rules) (latest : ℕ) (o : Origin) (steps : List Step) (trail : List Settled) (told : List Said) where
   -- nothing is possible any more
-  pub at_rest : (was : ℕ) (queues : List Queue) (clients : List (List ℕ)) (state : PartState) → StandsWith MayFollow MaySay o steps trail told [] → HasSaid rules told queues → clients ≡ clients_of rules.requests
+  pub at_rest : (was : ℕ) (queues : List Queue) (clients : List (List ℕ)) (state : PartState) → StandsWith MayFollow MaySay o steps trail told [] → HasSaid rules told queues → All IsRequest rules.requests → clients ≡ clients_of rules.requests
       → Entered rules (o.logs 0) was (of_part 0 trail) state → IsOver rules (state_of state) queues clients → IsAtRest MayFollow MaySay rules latest o steps trail queues
-  at_rest was queues clients state stands said names entered over = record {
-    told = told;
-    stands = stands;
-    said = said;
-    state = entered.before;
-    made = entered.stands.made;
-    quiet = quiet_behind rules entered.before (state_of state) queues clients entered.stands.shown entered.stands.younger entered.entered entered.sound.owned over;
-    over = subst (λ (p : Partition). IsOver rules p queues (clients_of rules.requests)) entered.entered (subst (λ (l : List (List ℕ)). IsOver rules (state_of state) queues l) names over);
-  }
+  at_rest was queues clients state stands said asked names entered over =
+      let begun : IsOver rules (enter rules.life entered.before) queues (clients_of rules.requests) =
+      subst (λ (p : Partition). IsOver rules p queues (clients_of rules.requests)) entered.entered (subst (λ (l : List (List ℕ)). IsOver rules (state_of state) queues l) names over) in
+      let zero : state.rows.number ≡ 0 = omega (arith, entered.sound.below, entered.one) in
+      let first : entered.before.number ≡ 0 = ap (λ (p : Partition). p.number) (sym entered.entered) ∙ zero in
+      record {
+        told = told;
+        stands = stands;
+        said = said;
+        state = entered.before;
+        made = entered.stands.made;
+        quiet = quiet_behind rules entered.before (state_of state) queues clients entered.stands.shown entered.stands.younger entered.entered entered.sound.owned over;
+        taken = λ k d inside. due_taken rules told queues rules.flows (enter rules.life entered.before) said asked first (get_or (clients_of rules.requests) k d) (begun.idle.requests k d inside);
+        over = begun;
+      }
 
   -- rounds that end where nothing is possible
   pub rest_ends : (queues : List Queue) (clients : List (List ℕ)) (most_labels segment_length : ℕ) (cause : Cause) → IsAtRest MayFollow MaySay rules latest o steps trail queues → clients ≡ clients_of rules.requests → IsRestCause queues clients cause
@@ -96,3 +105,7 @@ module _ (MayFollow : List Settled → List Said → ℕ → List Entry → Type
   stop_ends was above most_labels segment_length way stops.SayFault some full fits = tt
   stop_ends was above most_labels segment_length way stops.ClockFault some full fits = tt
   stop_ends was above most_labels segment_length way stops.Memory some full fits = tt
+
+-- rounds that stop for another cause stopped for another reason
+pub other_stop : {X : Type 0} (stop : Stop) → cause_of_stop stop ≢ SayFault → (result : Result X Stop) → result ≡ Err stop → result ≢ Err stops.SayFault
+other_stop stop other result is said = let same : stop ≡ stops.SayFault = cc (is, said) in other (ap cause_of_stop same)

@@ -4,7 +4,7 @@ use Rattle.std.proofs.lemmas.List.{map-append, append-nil}
 use Rattle.dura_model.specs.Partition.{Partition}
 use Rattle.dura_model.proofs.Outcomes.{never_twice}
 use Rattle.dura_value.specs.Items.{Entry}
-use Rattle.engine_run.specs.Ends.{GoesOn, RunEndsAs}
+use Rattle.engine_run.specs.Ends.{SaysWhole, GoesOn, RunEndsAs}
 use Rattle.engine_run.specs.Headline.{StandsOrderly, RunsOn}
 use Rattle.engine_run.specs.Job.{Job, Keeps, AreGivenIn}
 use Rattle.engine_run.specs.Opened.{IsOpening, IsOpened, OpensOnly}
@@ -59,5 +59,6 @@ module _ (job : Job) (old steps new : List Step) (entries : List Entry) (state :
             (in_order (rules_with job state life) latest job.digest (origin_with log_is steps) (back_to moment new) (settled_at moment trail) image
             (moment_stands (origin_with log_is steps) (rules_with job state life) latest job.digest begins (back_to moment new) (settled_at moment trail) image (goes.every moment low high) is));
         every = subst (λ (n : ℕ). AtEveryMoment (may_follow (rules_with job state n) latest) (may_say (rules_with job state n)) (origin_with log_is steps) new trail) life_is goes.every;
+        whole = subst (λ (n : ℕ). SaysWhole (may_follow (rules_with job state n) latest) (may_say (rules_with job state n)) (origin_with log_is steps) new trail cause) life_is goes.whole;
         ends = subst (λ (n : ℕ). RunEndsAs (rules_with job state n) latest (origin_with log_is steps) new trail most_labels segment_length cause) life_is goes.ends;
       }

@@ -1,7 +1,9 @@
 pub mod Asked
 pub mod Ending
+pub mod FileAsked
 pub mod Found
 pub mod Going
+pub mod LineAsked
 pub mod Opens
 pub mod Ordered
 pub mod Picked

@@ -1,5 +1,5 @@
 -- Why a run ends that went on from what was recovered.
-use Rattle.std.specs.Prelude.{◌≡◌, ◌≤◌, ◌<◌, ℕ, true, ◌+◌, List, [], ◌∷◌, length, Some, None, Ok}
+use Rattle.std.specs.Prelude.{◌≡◌, ◌≢◌, ◌≤◌, ◌<◌, ℕ, true, ◌+◌, List, [], ◌∷◌, length, Some, None, Ok}
 use Rattle.std.specs.List.{All}
 use Rattle.client_port.specs.Clients.{clients_of}
 use Rattle.client_port.specs.Ports.{Queue, due_of}
@@ -8,6 +8,7 @@ use Rattle.commit_log.specs.Segment.{segment, reading_of}
 use Rattle.dura_model.specs.Legal.{Quiet}
 use Rattle.dura_model.specs.Partition.{Partition, enter}
 use Rattle.dura_value.specs.Items.{Entry}
+use Rattle.engine_run.specs.Asked.{IsTaken}
 use Rattle.engine_run.specs.Order.{no_later}
 use Rattle.hub_store.specs.Moments.{StandsWith, AtEveryMoment}
 use Rattle.hub_store.specs.Origin.{Origin}
@@ -54,9 +55,14 @@ pub record WouldFill (rules : Rules) (latest : ℕ) (o : Origin) (steps : List S
   pub length_is : length_then ≡ gate + 6 + length (spell_frame (entry ∷ []))
   pub reaches : segment_length ≤ length_then
 
+module _ (MayFollow : List Settled → List Said → ℕ → List Entry → Type 0) (MaySay : List Settled → List Said → Said → List ℕ → Type 0) (o : Origin) where
+  -- whole lines were said, unless saying failed
+  abbrev pub SaysWhole : List Step → List Settled → Cause → Type 0
+  SaysWhole steps trail cause = cause ≢ SayFault → (told : List Said) × StandsWith MayFollow MaySay o steps trail told []
+
 module _ (MayFollow : List Settled → List Said → ℕ → List Entry → Type 0) (MaySay : List Settled → List Said → Said → List ℕ → Type 0) (rules : Rules) (latest : ℕ) (o : Origin) where
-  -- Once this was settled the world is quiet but for requests, and nothing is possible any more; whole lines were said, and no answer
-  -- waits to be said.
+  -- Once this was settled the world is quiet but for requests, what is due of each client was taken, and nothing is possible any more;
+  -- whole lines were said, and no answer waits to be said.
   pub record IsAtRest (steps : List Step) (trail : List Settled) (queues : List Queue) : Type 0 where
     pub told : List Said
     pub stands : StandsWith MayFollow MaySay o steps trail told []
@@ -64,6 +70,7 @@ module _ (MayFollow : List Settled → List Said → ℕ → List Entry → Type
     pub state : Partition
     pub made : placed rules.flows 1 rules.begin (of_part 0 trail) ≡ Ok state
     pub quiet : Quiet rules.flows [] (shown_by rules.flows state)
+    pub taken : All (IsTaken state queues) (clients_of rules.requests)
     pub over : IsOver rules (enter rules.life state) queues (clients_of rules.requests)
 
   -- why it ends
@@ -78,11 +85,13 @@ module _ (MayFollow : List Settled → List Said → ℕ → List Entry → Type
   EndsAs steps trail most_labels segment_length Memory = Unit {0}
   EndsAs steps trail most_labels segment_length other = ⊥
 
-  -- From where it began on it stood at every moment as it may, nothing was settled before, and it ended for its cause.
+  -- From where it began on it stood at every moment as it may, nothing was settled before, whole lines were said unless saying failed,
+  -- and it ended for its cause.
   pub record GoesOn (new : List Step) (trail : List Settled) (most_labels segment_length : ℕ) (cause : Cause) : Type 0 where
     pub every : AtEveryMoment MayFollow MaySay o new trail
     pub further : Always (λ steps. Unit {0}) o.steps new
     pub nothing : (moment : ℕ) → moment < length o.steps → settled_at moment trail ≡ []
+    pub whole : SaysWhole MayFollow MaySay o new trail cause
     pub ends : EndsAs new trail most_labels segment_length cause
 
 -- nothing happened, for want of memory

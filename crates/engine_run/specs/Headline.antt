@@ -6,7 +6,7 @@ use Rattle.dura_model.specs.Steps.{Label}
 use Rattle.dura_model.specs.World.{World}
 use Rattle.dura_value.specs.Ids.{Id}
 use Rattle.dura_value.specs.Items.{Entry}
-use Rattle.engine_run.specs.Ends.{RunEndsAs}
+use Rattle.engine_run.specs.Ends.{SaysWhole, RunEndsAs}
 use Rattle.engine_run.specs.Job.{Job, Keeps, AreGivenIn}
 use Rattle.engine_run.specs.Picks.{rules_with}
 use Rattle.engine_run.specs.Opened.{IsOpening}
@@ -35,7 +35,7 @@ pub record StandsOrderly (rules : Rules) (latest digest : ℕ) (o : Origin) (ste
 -- From where the logs are opened on, at each moment, a crash leaves files that stand for the run at the start, then what was settled
 -- by then, then no more than the one frame whose gate was being written; and what was said by then answers requests as that run does.
 -- Each entry is of the life that the call began, and of no later moment than both the entries at the start and the clock's latest, and
--- takes only what was due of its client then; and it ends for its cause.
+-- takes only what was due of its client then; unless saying failed, whole lines were said; and it ends for its cause.
 pub record RunsOn (job : Job) (entries : List Entry) (begin : Partition) (old new : List Step) (trail : List Settled) (most_labels segment_length latest : ℕ) (cause : Cause) : Type 0 where
   pub origin : Origin
   pub kept : (origin.logs 0).entries ≡ entries
@@ -46,6 +46,7 @@ pub record RunsOn (job : Job) (entries : List Entry) (begin : Partition) (old ne
   pub stands : (moment : ℕ) → length origin.steps ≤ moment → moment ≤ length new → (image : ℕ → List ℕ) → IsImage (back_to moment new) image
       → StandsOrderly (rules_with job begin (next_life entries)) latest job.digest origin (back_to moment new) (settled_at moment trail) image
   pub every : AtEveryMoment (may_follow (rules_with job begin (next_life entries)) latest) (may_say (rules_with job begin (next_life entries))) origin new trail
+  pub whole : SaysWhole (may_follow (rules_with job begin (next_life entries)) latest) (may_say (rules_with job begin (next_life entries))) origin new trail cause
   pub ends : RunEndsAs (rules_with job begin (next_life entries)) latest origin new trail most_labels segment_length cause
 
 -- it ends before the logs are opened: nothing was settled

@@ -3,8 +3,9 @@
 ghost use Rattle.std.specs.Prelude.{◌≡◌, ℕ, List, [], ◌∷◌, codes, slice_set};
 ghost use Rattle.dura_model.specs.Partition.{Partition, fresh};
 ghost use Rattle.dura_value.specs.Items.{Entry};
+ghost use Rattle.engine_run.specs.Asked.{IsRequest, IsTaken};
 ghost use Rattle.engine_run.specs.Causes.{AsksFor, Answers, Untouched};
-ghost use Rattle.engine_run.specs.Ends.{AreAllSaid, IsFirstUnsaid, RunEndsAs};
+ghost use Rattle.engine_run.specs.Ends.{AreAllSaid, IsFirstUnsaid, SaysWhole, RunEndsAs};
 ghost use Rattle.engine_run.specs.Examples.{nothing_asked, one_asked, starting, waiting, unsaid, two_unsaid, all_said, settled_once, ended_twice};
 ghost use Rattle.engine_run.specs.Headline.{IsOrderly, EndsEarly, RunsOn};
 ghost use Rattle.engine_run.specs.Job.{Keeps};
@@ -12,6 +13,7 @@ ghost use Rattle.engine_run.specs.Kept.{IsClash, NoClash};
 ghost use Rattle.engine_run.specs.Opened.{IsOpening};
 ghost use Rattle.engine_run.specs.Showing.{ShowsAs, WritesNothing};
 ghost use Rattle.flow_syntax.specs.Syntax.{Flows};
+ghost use Rattle.hub_store.specs.Examples.{MayFollow, MaySay, nowhere, settled_when, speaking, spoken};
 ghost use Rattle.hub_store.specs.Origin.{Origin};
 ghost use Rattle.hub_store.specs.Trail.{Settled};
 ghost use Rattle.part_files.specs.Examples.{two_files, empty_log, taking, request_taken};
@@ -102,4 +104,21 @@ pub fn shows()
     ensures fault { (files : ℕ → List ℕ) → ShowsAs files [] [] causes.SiteFault }
     ensures shown { (files : ℕ → List ℕ) → ShowsAs files [] (97 ∷ []) causes.SiteFault → ⊥ }
     ensures waiting { (files : ℕ → List ℕ) (number : ℕ) → ShowsAs files [] [] (causes.Waiting (codes "a") number) → ⊥ }
+{}
+
+/// A request is its client's under its number, and under no other. What is due of a client was taken, or it wasn't.
+pub fn requests_taken()
+    ensures request { IsRequest starting }
+    ensures other_number { IsRequest (record starting { number = 2 }) → ⊥ }
+    ensures other_client { IsRequest (record starting { client = codes "b" }) → ⊥ }
+    ensures taken { IsTaken request_taken unsaid (codes "a") }
+    ensures not_taken { IsTaken (fresh 0) unsaid (codes "a") → ⊥ }
+    ensures none_due { IsTaken (fresh 0) all_said (codes "a") }
+{}
+
+/// A run may end within a line only where saying failed.
+pub fn lines_whole()
+    ensures whole { SaysWhole MayFollow MaySay nowhere spoken (settled_when 0) causes.Memory }
+    ensures half { SaysWhole MayFollow MaySay nowhere speaking (settled_when 0) causes.Memory → ⊥ }
+    ensures failed { SaysWhole MayFollow MaySay nowhere speaking (settled_when 0) causes.SayFault }
 {}

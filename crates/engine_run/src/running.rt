@@ -1,8 +1,10 @@
 //! Going on from what was recovered.
 
-ghost use Rattle.std.specs.Prelude.{◌≡◌, ◌⊎◌, ◌<◌, ◌≤◌, ◌^◌, [], ◌∷◌, map, true, false, IsSomeAnd, IfOk, IfSome, IfNone};
+ghost use Rattle.std.specs.Prelude.{◌≡◌, ◌≢◌, ◌⊎◌, ◌<◌, ◌≤◌, ◌^◌, [], ◌∷◌, map, true, false, IsSomeAnd, IfOk, IfSome, IfNone};
+ghost use Rattle.std.specs.List.{All};
 ghost use Rattle.client_port.specs.Clients.{clients_of};
 ghost use Rattle.client_port.specs.Ports.{queues_of};
+ghost use Rattle.engine_run.specs.Asked.{IsRequest};
 ghost use Rattle.engine_run.specs.Ends.{AreAllSaid, IsFirstUnsaid, EndsAs, GoesOn, Stays, IsLateCause, IsRestCause, cause_of_stop};
 ghost use Rattle.engine_run.specs.Order.{no_later};
 ghost use Rattle.engine_run.specs.Picks.{origin_with, rules_with};
@@ -121,9 +123,11 @@ fn drive_on<V: Site, N: Ruled, C: Clock, A: Activities>(
     requires room { (state_of state).position < 2 ^ 61 }
     requires said { HasSaid N.rules (told_in store.old) port.old.queues }
     requires clients { clients.now ≡ clients_of N.rules.requests }
+    requires asked { V.tells store.old.site → All IsRequest N.rules.requests }
     ensures tells { V.tells store.new.site → V.tells store.old.site }
     ensures sound { IsSound store.new }
     ensures moment { store.new.latest ≤ C.latest clock.new }
+    ensures whole { result ≢ Cause.SayFault → store.new.cut ≡ false }
     ensures ends { V.tells store.new.site → EndsAs (N.may_follow (C.latest clock.new)) N.may_say N.rules (C.latest clock.new) N.origin (V.history store.new.site) (trail_in store.new) options.steps options.segment result }
     ensures late { IsLateCause result }
     ensures fault { result ≡ Cause.SiteFault → HasRisen (V.disk_faults store.old.site) (V.disk_faults store.new.site) }
@@ -182,6 +186,7 @@ pub(crate) fn go<V: Site, N: Ruled, C: Clock, A: Activities>(
     requires rules { N.rules ≡ rules_with (job_of prepared) (state_of prepared.state) prepared.life }
     requires stands { Stands N.rules (N.origin.logs 0) [] (state_of prepared.state) }
     requires origin { IsOrigin N.origin }
+    requires asked { V.tells site → All IsRequest N.rules.requests }
     requires begun { V.tells site → HasBegun N.origin (V.history site) (prepared.log ∷ []) }
     ensures told { V.tells result.site → V.tells site }
     ensures status { result.status ≡ status_of result.cause }
@@ -240,6 +245,7 @@ pub(crate) fn go_named<V: Site, M: Named, C: Clock, A: Activities>(
     requires rules { M.rules ≡ rules_with (job_of prepared) (state_of prepared.state) prepared.life }
     requires stands { Stands M.rules M.log [] (state_of prepared.state) }
     requires origin { IsOrigin (origin_with M.log M.steps) }
+    requires asked { V.tells site → All IsRequest M.rules.requests }
     requires begun { V.tells site → HasBegun (origin_with M.log M.steps) (V.history site) (prepared.log ∷ []) }
     ensures told { V.tells result.site → V.tells site }
     ensures status { result.status ≡ status_of result.cause }

@@ -2,16 +2,16 @@
 use Rattle.std.proofs.Common.{◌≡◌, inl, inr, ◌≤◌, ◌&&◌, ℕ, Bool, true, false, List, [], ◌∷◌, ◌++◌, cond, Option, Some, None, refl, sym, ◌∙◌, ap, subst, arith}
 use Rattle.std.specs.List.{All}
 use Rattle.std.specs.Option.{option_and_then}
-use Rattle.std.specs.Prelude.{not, nat_le, nat_lt, max, length, drop, ◌==◌, ◌+◌, option_map}
+use Rattle.std.specs.Prelude.{not, nat_le, nat_lt, max, length, ◌==◌, ◌+◌, option_map}
 use Rattle.std.proofs.lemmas.Bool.{eqb-true}
 use Rattle.std.proofs.lemmas.List.Elements.{All-cons}
 use Rattle.dura_model.specs.Deliveries.{Effect, to_instance, goes_on_from}
 use Rattle.dura_model.specs.Steps.{is_request, number_in, entity_of, answer_of}
-use Rattle.dura_model.specs.Partition.{Partition, post, post_all, asked_in, given_up_in, stands_in, raised_to, answered_in, client_received, entity_after, entity_received, received_in, delivered_in, taken_in, ended_in, fired_in, got_in, trim_in, accepted, first_in, without_first, last_in, row_after, event_of, with_posted, with_inbox, with_first, entry_of, instance_at}
+use Rattle.dura_model.specs.Partition.{Partition, post, post_all, asked_in, given_up_in, stands_in, raised_to, answered_in, client_received, received_in, delivered_in, taken_in, ended_in, fired_in, accepted, first_in, without_first, last_in, row_after, event_of, with_posted, with_inbox, with_first, entry_of, instance_at}
 use Rattle.dura_model.specs.World.{Activity, Orchestration, at_id, at_number}
 use Rattle.dura_value.specs.Ids.{Id, orchestration, entity, client, home}
-use Rattle.dura_value.specs.Items.{Identity, Item, took, got, ran, ended, fired, trim}
-use Rattle.dura_value.specs.Messages.{Reply, to_nobody, to_task, to_request, Answer, Body, start, raise, query, wait, result, operate, lock, granted, release, Message}
+use Rattle.dura_value.specs.Items.{Item, took, got, ran, ended, fired, trim}
+use Rattle.dura_value.specs.Messages.{to_nobody, to_task, to_request, Answer, Body, start, raise, query, wait, result, operate, lock, granted, release, Message}
 use Rattle.dura_value.specs.declared.outcome.Outcome.{Outcome}
 use Rattle.flow_syntax.specs.Entity.{Entity, Delivered, takes, deliver as deliver_to}
 use Rattle.flow_syntax.specs.Machine.{Event, Asked, an_activity, a_timer, resulted}
@@ -27,7 +27,6 @@ use Rattle.part_rounds.specs.declared.filling.Filling.{Filling}
 use Rattle.part_steps.specs.Outputs.{Outputs}
 use Rattle.part_steps.specs.States.{state_of}
 use Rattle.run_rules.specs.Rules.{IsBy}
-use Rattle.run_rules.proofs.Going.{by_later}
 
 -- ---- what keeps it
 

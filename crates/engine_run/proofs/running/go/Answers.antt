@@ -8,7 +8,7 @@ use Rattle.engine_run.proofs.Runs.{run_further, nothing_before}
 use Rattle.engine_run.proofs.running.go.Goals as goal
 use Rattle.hub_store.specs.Changes.{trail_in, told_in}
 use Rattle.hub_store.specs.Trail.{Settled, Said}
-use Rattle.hub_store.proofs.Later.{moments_later}
+use Rattle.hub_store.proofs.Later.{with_later, moments_later}
 use Rattle.part_rounds.specs.Rounds.{HasSaid}
 use Rattle.request_reader.specs.Line.{Request, request_of}
 use Rattle.run_causes.specs.declared.cause.Cause.{Cause}
@@ -47,6 +47,10 @@ returns-clause-goes g c tells =
       every = moments_later (g.N.Start.may_follow store.latest) (g.N.Start.may_follow latest) g.N.Start.may_say later g.N.Start.origin (g.V.Site.history store.site) (trail_in store) (c.end-site.ensures.every tells_then);
       further = run_further told.runs;
       nothing = nothing_before told.runs;
+      whole = λ other. (
+        told_in store,
+        with_later (g.N.Start.may_follow store.latest) (g.N.Start.may_follow latest) g.N.Start.may_say later g.N.Start.origin (g.V.Site.history store.site) (trail_in store) (told_in store) [] (c.end-site.ensures.whole tells_then (c.drive_on-cause.ensures.whole other)),
+      );
       ends = c.drive_on-cause.ensures.ends tells_then;
     } in
     subst (λ (n : ℕ). GoesOn (g.N.Start.may_follow n) g.N.Start.may_say g.N.Ruled.rules n g.N.Start.origin (g.V.Site.history end.result.site) end.result.trail most segment end.result.cause ⊎ Stays (g.V.Site.history c.args.site) (g.V.Site.history end.result.site) end.result.trail end.result.cause)

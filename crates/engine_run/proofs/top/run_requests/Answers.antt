@@ -7,6 +7,7 @@ use Rattle.engine_run.specs.Job.{Job, Keeps, AreGivenIn}
 use Rattle.engine_run.specs.Opened.{IsOpening}
 use Rattle.engine_run.specs.Prepared.{job_of}
 use Rattle.engine_run.proofs.Asked.{same_job, same_entries, same_state}
+use Rattle.engine_run.proofs.FileAsked.{file_asked}
 use Rattle.engine_run.proofs.Going.{runs_on}
 use Rattle.engine_run.proofs.Picked.{picked}
 use Rattle.engine_run.proofs.Refusing.{late_answers}
@@ -30,6 +31,11 @@ go_named-requires-clause-stands g c =
       follows = here.goes.follows;
       younger = can.younger;
     }
+
+pub go_named-requires-clause-asked : goal.go_named-requires-clause-asked
+go_named-requires-clause-asked g c tells =
+    let p = c.in-Ok.prepared in
+    file_asked (content_of 1 (g.V.Site.history c.args.site)) (job_of p).requests (c.in-Ok.ensures.asks tells).requests_in_file
 
 pub go_named-requires-clause-begun : goal.go_named-requires-clause-begun
 go_named-requires-clause-begun g c tells =

@@ -1,0 +1,124 @@
+-- The requests of a file are those of the failure-free machine, so that what is due of a client is taken before a run rests.
+use Rattle.std.proofs.Common.{◌≡◌, ◌⊎◌, inl, inr, ℕ, ◌+◌, List, Bool, true, false, ◌&&◌, ◌==◌, [], ◌∷◌, ◌++◌, length, Option, Some, None, Result, Ok, Err, cond, get_or, refl, sym, ◌∙◌, ap, subst, arith}
+use Rattle.std.specs.Prelude.{is_some, nat_lt}
+use Rattle.std.specs.List.{All, filter, find, slice_get}
+use Rattle.std.specs.Option.{option_map_or}
+use Rattle.std.specs.Str.{bytes_eq}
+use Rattle.std.proofs.lemmas.List.Elements.{All-append, All-filter, All-from_recursion, filter_passes}
+use Rattle.std.proofs.lemmas.Option.{slice_get_cases}
+use Rattle.client_port.specs.Clients.{requests_of}
+use Rattle.client_port.specs.Ports.{Queue, due_of}
+use Rattle.std.proofs.lemmas.Bool.{eq-eqb, eqb-true}
+use Rattle.dura_model.specs.Partition.{Partition, accepted, taken_in}
+use Rattle.dura_model.specs.Steps.{number_in, is_number, is_asking, is_request}
+use Rattle.dura_value.specs.Ids.{Id, client, home, id_eq}
+use Rattle.dura_value.specs.Items.{took}
+use Rattle.dura_value.specs.Messages.{Message}
+use Rattle.dura_value.proofs.Ids.{id_same, same_bytes}
+use Rattle.engine_run.specs.Asked.{IsRequest, IsTaken}
+use Rattle.engine_run.proofs.LineAsked.{one_of, line_asked}
+use Rattle.flow_syntax.specs.Syntax.{Flows}
+use Rattle.hub_store.specs.Trail.{Said}
+use Rattle.part_files.proofs.Alone.{home_alone}
+use Rattle.part_rounds.specs.Fills.{CantTake}
+use Rattle.part_rounds.specs.Rounds.{HasSaid}
+use Rattle.part_rounds.proofs.Queues.{queue_found}
+use Rattle.request_reader.specs.Line.{Request, request_on}
+use Rattle.request_reader.specs.Requests.{Fault, bad_line, ◌>>=◌, latest, is_by, request_eq, with_new, with_used, with_request, is_blank, after_line, after_lines, lines_of, requests_in}
+use Rattle.run_rules.specs.Rules.{Rules}
+
+-- ---- of the lines of a file
+
+used_asked : (requests more : List Request) (earlier r : Request) → with_used requests earlier r ≡ Ok more → All IsRequest requests → All IsRequest more
+used_asked requests more earlier r is all = elim (one_of (request_eq earlier r) _ _ (Ok more) is) [
+  | inl same ↦ (let stay : requests ≡ more = cc same in subst (All IsRequest) stay all)
+  | inr clash ↦ absurd (cc clash)
+]
+
+new_asked : (number : ℕ) (requests more : List Request) (r : Request) → IsRequest r → with_new number requests r ≡ Ok more → All IsRequest requests → All IsRequest more
+new_asked number requests more r one is all = elim (one_of (nat_lt (latest r.client requests) r.number) _ _ (Ok more) is) [
+  | inl same ↦ (let longer : requests ++ r ∷ [] ≡ more = cc same in subst (All IsRequest) longer (All-append IsRequest requests (r ∷ []) all (All-from_recursion IsRequest (r ∷ []) (one, tt))))
+  | inr bad ↦ absurd (cc bad)
+]
+
+request_asked : (number : ℕ) (requests more : List Request) (r : Request) → IsRequest r → with_request number requests r ≡ Ok more → All IsRequest requests → All IsRequest more
+request_asked number requests more r one is all = at (find (is_by r.client r.number) requests) is
+  where
+    at : (o : Option Request) → option_map_or (λ earlier. with_used requests earlier r) o (with_new number requests r) ≡ Ok more → All IsRequest more
+    at None new = new_asked number requests more r one new all
+    at (Some earlier) used = used_asked requests more earlier r used all
+
+line_more : (number : ℕ) (requests : List Request) (line : List ℕ) (more : List Request) → after_line number requests line ≡ Ok more → All IsRequest requests → All IsRequest more
+line_more number requests line more is all = elim (one_of (is_blank line) _ _ (Ok more) is) [
+  | inl same ↦ (let stay : requests ≡ more = cc same in subst (All IsRequest) stay all)
+  | inr read ↦ at (request_on line) refl read
+]
+  where
+    at : (o : Option Request) → request_on line ≡ o → option_map_or (with_request number requests) o (Err (bad_line number)) ≡ Ok more → All IsRequest more
+    at None found bad = absurd (cc bad)
+    at (Some r) found more_is = request_asked number requests more r (line_asked line r found) more_is all
+
+lines_more : (number : ℕ) (lines : List (List ℕ)) (requests more : List Request) → after_lines number requests lines ≡ Ok more → All IsRequest requests → All IsRequest more
+lines_more number [] requests more is all = let stay : requests ≡ more = cc is in subst (All IsRequest) stay all
+lines_more number (line ∷ lines) requests more is all = at (after_line number requests line) refl is
+  where
+    at : (r : Result (List Request) Fault) → after_line number requests line ≡ r → (r >>= λ m. after_lines (number + 1) m lines) ≡ Ok more → All IsRequest more
+    at (Ok m) found rest = lines_more (number + 1) lines m more rest (line_more number requests line m found all)
+    at (Err fault) found rest = absurd (cc rest)
+
+pub file_asked : (bytes : List ℕ) (requests : List Request) → requests_in bytes ≡ Ok requests → All IsRequest requests
+file_asked bytes requests is = lines_more 1 (lines_of bytes) [] requests is (All-from_recursion IsRequest [] tt)
+
+-- ---- of what is due
+
+element_of : {X : Type 0} (P : X → Type 0) (l : List X) (k : ℕ) (x : X) → slice_get l k ≡ Some x → All P l → P x
+element_of P l k x is all = elim (slice_get_cases l k).1 [
+  | inl there ↦ (let same : there.0 ≡ x = cc (there.2, is) in subst P same (subst P there.3 (all k there.0 there.1)))
+  | inr past ↦ absurd (cc (past.1, is))
+]
+
+due_asked : (rules : Rules) (told : List Said) (queues : List Queue) → HasSaid rules told queues → All IsRequest rules.requests → (name : List ℕ) (r : Request) → due_of name queues ≡ Some r → IsRequest r × (r.client ≡ name)
+due_asked rules told queues said all name r due =
+    let found = queue_found name queues r due in
+    let each = said.each name found.0 found.1 in
+    let there : slice_get (requests_of name rules.requests) found.0.said ≡ Some r = ap (λ (l : List Request). slice_get l found.0.said) (sym each.0) ∙ found.2 in
+    let own = element_of (λ (x : Request). bytes_eq x.client name ≡ true) (requests_of name rules.requests) found.0.said r there (filter_passes (λ (x : Request). bytes_eq x.client name) rules.requests) in (
+      element_of IsRequest (requests_of name rules.requests) found.0.said r there (All-filter (λ (x : Request). bytes_eq x.client name) IsRequest rules.requests all),
+      same_bytes r.client name own,
+    )
+
+left : (a b : Bool) → (a && b) ≡ true → a ≡ true
+left true b is = refl
+left false b is = absurd (cc is)
+
+right : (a b : Bool) → (a && b) ≡ true → b ≡ true
+right true b is = is
+right false b is = absurd (cc is)
+
+-- a request that isn't accepted was taken
+was_taken : (flows : Flows) (p : Partition) (r : Request) → p.number ≡ 0 → IsRequest r → accepted flows 1 p (took r.message) ≡ None → is_some (p.taken (client r.client) r.number) ≡ true
+was_taken flows p r first asks refused =
+    let m = r.message in
+    let behind = right (id_eq m.from (client r.client)) _ asks in
+    let from : m.from ≡ client r.client = id_same m.from (client r.client) (left (id_eq m.from (client r.client)) _ asks) in
+    let numbers = left (number_in m.body == r.number) _ (right (is_asking m.body m.to) _ behind) in
+    let number : number_in m.body ≡ r.number = eqb-true (number_in m.body) r.number numbers in
+    let own : is_request m.from (number_in m.body) m ≡ true = subst (λ (n : ℕ). is_request m.from n m ≡ true) (sym number) (subst (λ (i : Id). is_request i r.number m ≡ true) (sym from) asks) in
+    let here : (home 1 m.from == p.number) ≡ true = eq-eqb (home 1 m.from) p.number (home_alone m.from ∙ sym first) in
+    let gate : (home 1 m.from == p.number && is_request m.from (number_in m.body) m) ≡ true = ap (λ (b : Bool). b && is_request m.from (number_in m.body) m) here ∙ own in
+    let none : taken_in 1 p m (p.taken m.from (number_in m.body)) ≡ None = sym (ap (λ (b : Bool). cond b (taken_in 1 p m (p.taken m.from (number_in m.body))) None) gate) ∙ refused in
+    let some = at (p.taken m.from (number_in m.body)) none in
+    subst (λ (n : ℕ). is_some (p.taken (client r.client) n) ≡ true) number (subst (λ (i : Id). is_some (p.taken i (number_in m.body)) ≡ true) from some)
+  where
+    at : (o : Option Message) → taken_in 1 p r.message o ≡ None → is_some o ≡ true
+    at None is = absurd (cc is)
+    at (Some other) is = refl
+
+-- what is due of a client was taken where it can't be
+pub due_taken : (rules : Rules) (told : List Said) (queues : List Queue) (flows : Flows) (p : Partition) → HasSaid rules told queues → All IsRequest rules.requests → p.number ≡ 0 → (name : List ℕ) → CantTake flows p queues name → IsTaken p queues name
+due_taken rules told queues flows p said all first name cant r due =
+    let asks = due_asked rules told queues said all name r due in
+    elim (cant r due) [
+      | inl taken ↦ taken
+      | inr refused ↦ subst (λ (n : List ℕ). is_some (p.taken (client n) r.number) ≡ true) asks.1 (was_taken flows p r first asks.0 refused)
+    ]
