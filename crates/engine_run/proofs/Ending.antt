@@ -1,5 +1,5 @@
 -- Why rounds end.
-use Rattle.std.proofs.Common.{◌≡◌, ◌≢◌, ◌<◌, ◌≤◌, ℕ, List, [], ◌∷◌, Result, Err, get_or, length, refl, sym, ◌∙◌, ap, subst, arith}
+use Rattle.std.proofs.Common.{◌≡◌, ◌≢◌, ◌<◌, ◌≤◌, ℕ, List, [], ◌∷◌, Result, Err, get_or, refl, sym, ◌∙◌, ap, subst, arith}
 use Rattle.std.specs.List.{All}
 use Rattle.client_port.specs.Clients.{clients_of}
 use Rattle.client_port.specs.Ports.{Queue}
@@ -12,7 +12,7 @@ use Rattle.engine_run.specs.Asked.{IsRequest}
 use Rattle.engine_run.proofs.FileAsked.{due_taken}
 use Rattle.engine_run.proofs.Quieted.{quiet_behind}
 use Rattle.hub_store.specs.Moments.{StandsWith}
-use Rattle.hub_store.specs.Origin.{Log, Origin}
+use Rattle.hub_store.specs.Origin.{Origin}
 use Rattle.hub_store.specs.Trail.{Settled, Said, of_part}
 use Rattle.hub_store.specs.Ways.{LogFits}
 use Rattle.hub_store.specs.declared.way.Way.{Way}

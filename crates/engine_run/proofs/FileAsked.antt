@@ -1,7 +1,7 @@
 -- The requests of a file are those of the failure-free machine, so that what is due of a client is taken before a run rests.
-use Rattle.std.proofs.Common.{◌≡◌, ◌⊎◌, inl, inr, ℕ, ◌+◌, List, Bool, true, false, ◌&&◌, ◌==◌, [], ◌∷◌, ◌++◌, length, Option, Some, None, Result, Ok, Err, cond, get_or, refl, sym, ◌∙◌, ap, subst, arith}
+use Rattle.std.proofs.Common.{◌≡◌, inl, inr, ℕ, ◌+◌, List, Bool, true, false, ◌&&◌, ◌==◌, [], ◌∷◌, ◌++◌, Option, Some, None, Result, Ok, Err, cond, refl, sym, ◌∙◌, ap, subst}
 use Rattle.std.specs.Prelude.{is_some, nat_lt}
-use Rattle.std.specs.List.{All, filter, find, slice_get}
+use Rattle.std.specs.List.{All, find, slice_get}
 use Rattle.std.specs.Option.{option_map_or}
 use Rattle.std.specs.Str.{bytes_eq}
 use Rattle.std.proofs.lemmas.List.Elements.{All-append, All-filter, All-from_recursion, filter_passes}
@@ -10,7 +10,7 @@ use Rattle.client_port.specs.Clients.{requests_of}
 use Rattle.client_port.specs.Ports.{Queue, due_of}
 use Rattle.std.proofs.lemmas.Bool.{eq-eqb, eqb-true}
 use Rattle.dura_model.specs.Partition.{Partition, accepted, taken_in}
-use Rattle.dura_model.specs.Steps.{number_in, is_number, is_asking, is_request}
+use Rattle.dura_model.specs.Steps.{number_in, is_asking, is_request}
 use Rattle.dura_value.specs.Ids.{Id, client, home, id_eq}
 use Rattle.dura_value.specs.Items.{took}
 use Rattle.dura_value.specs.Messages.{Message}
@@ -60,11 +60,12 @@ line_more number requests line more is all = elim (one_of (is_blank line) _ _ (O
 
 lines_more : (number : ℕ) (lines : List (List ℕ)) (requests more : List Request) → after_lines number requests lines ≡ Ok more → All IsRequest requests → All IsRequest more
 lines_more number [] requests more is all = let stay : requests ≡ more = cc is in subst (All IsRequest) stay all
-lines_more number (line ∷ lines) requests more is all = at (after_line number requests line) refl is
+lines_more number (line ∷ lines) requests more is all = at (after_line number requests line) refl is (λ m. lines_more (number + 1) lines m more)
   where
-    at : (r : Result (List Request) Fault) → after_line number requests line ≡ r → (r >>= λ m. after_lines (number + 1) m lines) ≡ Ok more → All IsRequest more
-    at (Ok m) found rest = lines_more (number + 1) lines m more rest (line_more number requests line m found all)
-    at (Err fault) found rest = absurd (cc rest)
+    at : (r : Result (List Request) Fault) → after_line number requests line ≡ r → (r >>= λ m. after_lines (number + 1) m lines) ≡ Ok more
+        → ((m : List Request) → after_lines (number + 1) m lines ≡ Ok more → All IsRequest m → All IsRequest more) → All IsRequest more
+    at (Ok m) found rest on = on m rest (line_more number requests line m found all)
+    at (Err fault) found rest on = absurd (cc rest)
 
 pub file_asked : (bytes : List ℕ) (requests : List Request) → requests_in bytes ≡ Ok requests → All IsRequest requests
 file_asked bytes requests is = lines_more 1 (lines_of bytes) [] requests is (All-from_recursion IsRequest [] tt)

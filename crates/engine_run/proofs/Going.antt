@@ -1,28 +1,25 @@
 -- A run that goes on from what was prepared stands as it may.
-use Rattle.std.proofs.Common.{◌≡◌, ◌≤◌, ℕ, List, [], ◌++◌, length, map, refl, sym, ◌∙◌, ap, subst}
-use Rattle.std.proofs.lemmas.List.{map-append, append-nil}
+use Rattle.std.proofs.Common.{◌≡◌, ◌≤◌, ℕ, List, ◌++◌, subst}
 use Rattle.dura_model.specs.Partition.{Partition}
 use Rattle.dura_model.proofs.Outcomes.{never_twice}
 use Rattle.dura_value.specs.Items.{Entry}
 use Rattle.engine_run.specs.Ends.{SaysWhole, GoesOn, RunEndsAs}
 use Rattle.engine_run.specs.Headline.{StandsOrderly, RunsOn}
 use Rattle.engine_run.specs.Job.{Job, Keeps, AreGivenIn}
-use Rattle.engine_run.specs.Opened.{IsOpening, IsOpened, OpensOnly}
+use Rattle.engine_run.specs.Opened.{IsOpened, OpensOnly}
 use Rattle.engine_run.specs.Picks.{log_in_file, origin_with, rules_with}
 use Rattle.engine_run.proofs.Standing.{begins_alone, picked_entries}
 use Rattle.commit_log.specs.declared.states.Resting.{Resting}
 use Rattle.hub_store.specs.Moments.{AtEveryMoment}
 use Rattle.hub_store.specs.Origin.{Origin}
-use Rattle.hub_store.specs.Trail.{Settled, Said, of_part, settled_at}
-use Rattle.hub_store.proofs.Settling.{of_part-append}
+use Rattle.hub_store.specs.Trail.{Settled, of_part, settled_at}
 use Rattle.part_files.specs.Placing.{next_life, labels_in}
 use Rattle.part_files.specs.Stands.{shown_by}
 use Rattle.run_causes.specs.declared.cause.Cause.{Cause}
-use Rattle.run_laws.specs.Begins.{pairs_of, may_follow, may_say}
+use Rattle.run_laws.specs.Begins.{may_follow, may_say}
 use Rattle.run_laws.proofs.Images.{moment_stands}
 use Rattle.run_laws.specs.Leaves.{StandsOn}
-use Rattle.run_rules.specs.Rules.{Rules, Told, Follows}
-use Rattle.run_rules.proofs.Going.{follows_still}
+use Rattle.run_rules.specs.Rules.{Rules}
 use Rattle.section_laws.proofs.Ordered.{never_overlaps}
 use Rattle.site_model.specs.History.{Step, content_of, back_to}
 use Rattle.site_model.proofs.Paths.{last}

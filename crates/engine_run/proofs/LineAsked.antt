@@ -1,11 +1,11 @@
 -- The request of a line is one of the failure-free machine.
-use Rattle.std.proofs.Common.{◌≡◌, ◌⊎◌, inl, inr, ℕ, List, Bool, true, false, ◌&&◌, ◌==◌, ◌∷◌, [], Option, Some, None, codes, cond, refl, sym, ◌∙◌, ap, subst}
+use Rattle.std.proofs.Common.{◌≡◌, ◌⊎◌, inl, inr, ℕ, List, Bool, true, false, ◌&&◌, ◌+◌, Option, Some, None, codes, cond, refl, sym, ◌∙◌, ap, subst}
 use Rattle.std.specs.Prelude.{is_some}
 use Rattle.std.proofs.lemmas.Bool.{eq-eqb}
 use Rattle.dura_model.specs.Steps.{number_in, is_asking, is_request}
 use Rattle.dura_model.specs.Steps as steps
 use Rattle.dura_value.specs.Ids.{Id, orchestration, entity, client}
-use Rattle.dura_value.specs.Messages.{Message, start, raise, query, wait, to_request}
+use Rattle.dura_value.specs.Messages.{start, raise, query, wait, to_request}
 use Rattle.dura_value.proofs.Ids.{bytes_self}
 use Rattle.engine_run.specs.Asked.{IsRequest}
 use Rattle.request_reader.specs.Json.{data_of, has_members, one_if, name_at, id_at}
@@ -38,7 +38,7 @@ both : (a b : Bool) → a ≡ true → b ≡ true → (a && b) ≡ true
 both a b first second = ap (λ (x : Bool). x && b) first ∙ second
 
 -- what is asked is asked of one whom it may be asked of, under this number
-IsSent : ℕ → Sent → Type 0
+abbrev IsSent : ℕ → Sent → Type 0
 IsSent n sent = (is_asking sent.1 sent.0 ≡ true) × (number_in sent.1 ≡ n)
 
 instance_still : (id : Id) → is_instance id ≡ true → steps.is_instance id ≡ true

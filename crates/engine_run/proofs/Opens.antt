@@ -1,16 +1,14 @@
 -- Opening the logs leaves nothing but what it may.
-use Rattle.std.proofs.Common.{◌≡◌, ◌⊎◌, inl, inr, ◌==◌, ℕ, Bool, true, false, cond, List, [], ◌∷◌, Option, Some, None, Ok, refl, sym, ◌∙◌, ap, subst, arith, eqb-true}
+use Rattle.std.proofs.Common.{◌≡◌, ◌⊎◌, inl, inr, ◌==◌, ℕ, Bool, true, false, cond, List, [], ◌∷◌, Option, Some, None, refl, sym, ◌∙◌, ap, subst, arith, eqb-true}
 use Rattle.std.proofs.lemmas.Bool.{eq-eqb}
-use Rattle.commit_log.specs.declared.states.Resting.{Resting}
-use Rattle.commit_log.specs.Segment.{segment, fresh as is_fresh, first_gate, reading_of}
+use Rattle.commit_log.specs.Segment.{fresh as is_fresh, first_gate, reading_of}
 use Rattle.commit_log.specs.States.{IsFormatting}
-use Rattle.commit_log.specs.Outcomes.{RestsAs}
 use Rattle.dura_model.specs.Partition.{fresh}
 use Rattle.dura_value.specs.Items.{Entry}
 use Rattle.engine_run.specs.Job.{Job}
-use Rattle.engine_run.specs.Opened.{IsOpening, IsOpened}
+use Rattle.engine_run.specs.Opened.{IsOpening}
 use Rattle.part_files.specs.Kept.{Kept, nothing, broken, keeps, kept_in}
-use Rattle.part_files.specs.Logs.{Refusal, Logs, log_in, no_log, refused, damaged_at, base_place, or_else, unless, fault_of, same_base, late_base, first_fault, the_log, logs_of, logs_in, entries_in, first_log, second_log}
+use Rattle.part_files.specs.Logs.{Refusal, Logs, log_in, no_log, damaged_at, base_place, or_else, unless, fault_of, same_base, late_base, first_fault, the_log, logs_of, logs_in, entries_in}
 use Rattle.part_files.specs.Placing.{labels_in}
 use Rattle.part_files.specs.Stands.{alone_with, Stands}
 use Rattle.part_files.proofs.LabelsStand.{labels_stand}
@@ -18,10 +16,10 @@ use Rattle.part_files.proofs.PayloadsKept.{reading_kept, nothing_yet}
 use Rattle.recover_core.specs.Recovering.{one_synced, both_synced, OnlySyncs}
 use Rattle.run_laws.specs.Begins.{header_with}
 use Rattle.run_laws.proofs.Images.{entries_alone}
-use Rattle.site_model.specs.History.{Step, on, synced, reads, changes_of, content_of, tape, Leaves, IsImage, IsKept, writes_inside}
-use Rattle.site_model.specs.Moments.{Always, begins, goes_on, LeavesOnly, Keeps}
+use Rattle.site_model.specs.History.{Step, on, synced, reads, changes_of, content_of, Leaves, IsImage, IsKept, writes_inside}
+use Rattle.site_model.specs.Moments.{Always, begins, goes_on, LeavesOnly}
 use Rattle.site_model.proofs.Images.{reads_is_image}
-use Rattle.site_model.proofs.Paths.{own_change, other_change, weaker, together}
+use Rattle.site_model.proofs.Paths.{weaker}
 
 -- ---- the log of two files
 

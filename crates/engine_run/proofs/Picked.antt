@@ -1,12 +1,12 @@
 -- Where a run goes on that a call picks.
-use Rattle.std.proofs.Common.{◌≡◌, ◌≤◌, ◌<◌, ◌+◌, ◌==◌, ◌&&◌, ℕ, Bool, true, false, List, [], ◌∷◌, ◌++◌, Option, Some, None, Result, Ok, Err, nat_le, refl, sym, ◌∙◌, ap, subst, arith, eqb-true}
+use Rattle.std.proofs.Common.{◌≡◌, ◌≤◌, ◌<◌, ◌+◌, ◌==◌, ℕ, Bool, true, false, List, [], ◌∷◌, Option, Some, None, Result, Ok, Err, nat_le, refl, sym, ◌∙◌, ap, subst, arith, eqb-true}
 use Rattle.std.specs.Option.{option_and_then}
 use Rattle.std.proofs.lemmas.Bool.{eq-eqb, leb-true, le-leb}
 use Rattle.std.proofs.lemmas.List.{append-nil}
 use Rattle.commit_log.specs.Segment.{first_gate, segment, reading_of}
 use Rattle.commit_log.specs.States.{IsResting}
 use Rattle.commit_log.proofs.Written.{reads_closed}
-use Rattle.dura_model.specs.Partition.{Partition, enter, accepted, fresh, with_part}
+use Rattle.dura_model.specs.Partition.{Partition, enter, accepted, with_part}
 use Rattle.dura_model.specs.Placed.{AreShown}
 use Rattle.dura_model.proofs.Kept.{item_keeps, item_stands, enter_keeps}
 use Rattle.dura_value.specs.Items.{Item, Entry}

@@ -1,5 +1,5 @@
 -- What clients ask, client by client, where nothing was said.
-use Rattle.std.proofs.Common.{◌≡◌, ℕ, Bool, true, false, cond, List, [], ◌∷◌, map, Option, Some, None, refl, sym, ◌∙◌, ap, subst}
+use Rattle.std.proofs.Common.{◌≡◌, ℕ, Bool, true, false, cond, List, [], ◌∷◌, map, Some, refl, sym, ◌∙◌, ap, subst}
 use Rattle.std.specs.Str.{bytes_eq}
 use Rattle.client_port.specs.Clients.{clients_of, requests_of, queue_for}
 use Rattle.client_port.specs.Ports.{Queue, queues_of}

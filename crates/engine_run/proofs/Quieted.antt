@@ -4,10 +4,10 @@ use Rattle.std.specs.Prelude.{option_map, is_some}
 use Rattle.std.proofs.lemmas.List.{append-nil}
 use Rattle.client_port.specs.Ports.{Queue}
 use Rattle.dura_model.specs.Legal.{Quiet}
-use Rattle.dura_model.specs.Partition.{Partition, Outbox, Posted, enter, accepted, first_in, link_in, messages_in, under_way, shown, with_part}
+use Rattle.dura_model.specs.Partition.{Partition, Outbox, Posted, enter, accepted, first_in, link_in, messages_in, shown, with_part}
 use Rattle.dura_model.specs.Placed.{Belongs, AreShown, AreOfInstances}
 use Rattle.dura_model.specs.Steps.{step, deliver, delivered}
-use Rattle.dura_model.specs.World.{World, Activity}
+use Rattle.dura_model.specs.World.{Activity}
 use Rattle.dura_model.proofs.Kept.{enter_keeps}
 use Rattle.dura_model.proofs.Shown.{item_labelled}
 use Rattle.dura_value.specs.Ids.{Id, id_eq, home}
@@ -20,7 +20,7 @@ use Rattle.part_rounds.specs.Comes.{IsOver}
 use Rattle.part_rounds.specs.Fills.{CantEnd}
 use Rattle.part_rows.specs.Open.{lets_in, last_at, NoneOpen}
 use Rattle.part_steps.specs.Enabled.{moment_at, NoneEnabled}
-use Rattle.part_steps.proofs.Delivering.{not_taken, nothing_there}
+use Rattle.part_steps.proofs.Delivering.{not_taken}
 use Rattle.part_steps.proofs.Enabling.{open_enabled}
 use Rattle.run_rules.specs.Rules.{Rules}
 use Rattle.std.specs.Prelude.{nat_le}

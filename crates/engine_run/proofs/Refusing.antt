@@ -1,5 +1,5 @@
 -- Why a run ends before it goes on.
-use Rattle.std.proofs.Common.{◌≡◌, inl, inr, ℕ, List, Ok, Err, refl}
+use Rattle.std.proofs.Common.{inr, ℕ, List, Err}
 use Rattle.dura_model.specs.Partition.{Partition}
 use Rattle.dura_value.specs.Items.{Entry}
 use Rattle.engine_run.specs.Causes.{AsksFor, IsReady, Answers, Untouched}

@@ -1,23 +1,22 @@
 -- Where a run goes on stands for what the files kept.
-use Rattle.std.proofs.Common.{◌≡◌, ◌⊎◌, inl, inr, ◌≤◌, ◌<◌, ℕ, zero, suc, List, [], ◌∷◌, Some, None, Ok, slice_get, refl, sym, ◌∙◌, ap, subst, arith}
-use Rattle.commit_log.specs.declared.header.Header.{Header}
+use Rattle.std.proofs.Common.{◌≡◌, ◌⊎◌, inl, inr, ◌≤◌, ℕ, zero, suc, List, [], ◌∷◌, Some, Ok, slice_get, refl, sym, ◌∙◌, ap, subst, arith}
 use Rattle.commit_log.specs.declared.states.Resting.{Resting}
 use Rattle.commit_log.specs.States.{IsResting}
-use Rattle.dura_model.specs.Partition.{Partition, Outbox, Inbox, fresh}
-use Rattle.dura_model.specs.Placed.{Belongs, AreShown, IsOther, IsReader}
+use Rattle.dura_model.specs.Partition.{Partition, Outbox, fresh}
+use Rattle.dura_model.specs.Placed.{Belongs, AreShown, IsReader}
 use Rattle.dura_model.proofs.Kept.{fresh_shown}
 use Rattle.dura_value.specs.Items.{Entry}
-use Rattle.engine_run.specs.Job.{Job, Keeps, AreGivenIn}
+use Rattle.engine_run.specs.Job.{Job, AreGivenIn}
 use Rattle.engine_run.specs.Opened.{IsOpened}
 use Rattle.engine_run.specs.Picks.{log_in_file, origin_with, rules_with}
-use Rattle.engine_run.proofs.Picked.{entries_come, picked, picked_is}
+use Rattle.engine_run.proofs.Picked.{entries_come, picked_is}
 use Rattle.hub_store.specs.Opened.{HasBegun}
 use Rattle.hub_store.specs.Origin.{Log}
 use Rattle.part_files.specs.Kept.{first_of}
 use Rattle.part_files.specs.Placing.{placed, state_next, AllGiven}
 use Rattle.part_files.proofs.Alone.{are_shown_alone}
 use Rattle.part_files.proofs.PayloadsDecoded.{decoded_numbered}
-use Rattle.part_items.specs.Numbered.{Next, behind_all}
+use Rattle.part_items.specs.Numbered.{behind_all}
 use Rattle.run_laws.specs.Begins.{BeginsAlone, header_with}
 use Rattle.site_model.specs.History.{Step, changes_of}
 

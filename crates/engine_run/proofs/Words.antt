@@ -1,5 +1,5 @@
 -- What the words ask for is within its limits.
-use Rattle.std.proofs.Common.{◌≡◌, ◌≤◌, ◌<◌, ◌==◌, ℕ, Bool, true, false, cond, List, length, Option, Some, None, nat_le, codes, refl, sym, subst, arith, leb-true}
+use Rattle.std.proofs.Common.{◌≡◌, ◌≤◌, ◌<◌, ◌==◌, ℕ, Bool, true, false, cond, List, length, Option, Some, None, nat_le, codes, refl, subst, arith, leb-true}
 use Rattle.std.specs.Str.{bytes_eq}
 use Rattle.clap.specs.Faults.{fault_of}
 use Rattle.clap.specs.Simple.{subcommand_of}
@@ -7,7 +7,6 @@ use Rattle.clap.specs.Walk.{Row, Text, first_of}
 use Rattle.command_words.specs.Command.{netherite, number_of, partitions_of, run_of, call_of, call_in}
 use Rattle.command_words.specs.Numbers.{is_decimal, decimal, number_in}
 use Rattle.command_words.specs.Reading.{guard, where_it, ◌>>=◌}
-use Rattle.command_words.specs.declared.words.Call.{Call}
 use Rattle.command_words.specs.declared.words.Call.TheVariants.{Run, Show}
 use Rattle.command_words.specs.declared.words.RunOptions.{RunOptions}
 

@@ -1,5 +1,5 @@
 -- What a client's request is in the failure-free machine.
-use Rattle.std.specs.Prelude.{◌≡◌, ℕ, List, Bool, true, is_some, Some}
+use Rattle.std.specs.Prelude.{◌≡◌, ℕ, List, true, is_some, Some}
 use Rattle.client_port.specs.Ports.{Queue, due_of}
 use Rattle.dura_model.specs.Partition.{Partition}
 use Rattle.dura_model.specs.Steps.{is_request}

@@ -22,7 +22,7 @@ use Rattle.part_rounds.specs.declared.stop.Stop.{Stop}
 use Rattle.part_rounds.specs.declared.stop.Stop.TheVariants as stops
 use Rattle.request_reader.specs.Line.{Request}
 use Rattle.run_causes.specs.declared.cause.Cause.{Cause}
-use Rattle.run_causes.specs.declared.cause.Cause.TheVariants.{Done, Usage, BadFlows, BadRequests, Clash, BadPlan, TooLong, Waiting, Long, SiteFault, SayFault, ClockFault, Damaged, Illegal, Unclosed, OtherShape, OtherFlows, Memory, Full, Spent}
+use Rattle.run_causes.specs.declared.cause.Cause.TheVariants.{Done, Waiting, Long, SiteFault, SayFault, ClockFault, Memory, Full}
 use Rattle.run_laws.specs.Begins.{may_follow, may_say}
 use Rattle.run_rules.specs.Rules.{Rules, Follows}
 use Rattle.site_model.specs.History.{Step, content_of}

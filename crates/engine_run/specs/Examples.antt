@@ -1,10 +1,9 @@
 -- What a call's clauses say, by example.
-use Rattle.std.specs.Prelude.{ℕ, List, [], ◌∷◌, ◌++◌, codes}
+use Rattle.std.specs.Prelude.{List, [], ◌∷◌, ◌++◌, codes}
 use Rattle.client_port.specs.Ports.{Queue}
 use Rattle.dura_model.specs.Steps.{Label, finish}
 use Rattle.dura_value.specs.Digest.{fnv}
 use Rattle.dura_value.specs.Ids.{client, orchestration}
-use Rattle.dura_value.specs.Items.{Entry}
 use Rattle.dura_value.specs.Messages.{wait}
 use Rattle.dura_value.specs.declared.data.Value.TheVariants as values
 use Rattle.dura_value.specs.declared.outcome.Outcome.TheVariants as outcomes

@@ -1,5 +1,5 @@
 -- Where a run goes on, as the call picks it that begins it.
-use Rattle.std.specs.Prelude.{◌≡◌, ℕ, ◌==◌, ◌&&◌, List, [], Bool, nat_le, if◌then◌else◌, Result, Ok, Err}
+use Rattle.std.specs.Prelude.{ℕ, ◌==◌, ◌&&◌, List, [], Bool, nat_le, if◌then◌else◌, Result, Ok, Err}
 use Rattle.commit_log.specs.Segment.{Reading, fresh, damaged, segment, first_gate, reading_of}
 use Rattle.dura_model.specs.Partition.{Partition}
 use Rattle.dura_value.specs.Items.{Entry}

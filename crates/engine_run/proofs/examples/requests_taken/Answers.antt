@@ -1,9 +1,7 @@
-use Rattle.std.proofs.Common.{◌≡◌, ℕ, true, false, List, [], ◌∷◌, Some, None, codes, refl, sym, ◌∙◌, ap, subst}
+use Rattle.std.proofs.Common.{◌≡◌, true, false, codes, refl, subst}
 use Rattle.std.specs.Prelude.{is_some}
-use Rattle.dura_model.specs.Partition.{Partition, fresh}
 use Rattle.dura_value.specs.Ids.{client}
-use Rattle.engine_run.specs.Asked.{IsTaken}
-use Rattle.engine_run.specs.Examples.{starting, unsaid, all_said}
+use Rattle.engine_run.specs.Examples.{starting}
 use Rattle.engine_run.proofs.examples.requests_taken.Goals as goal
 use Rattle.part_files.specs.Examples.{request_taken}
 use Rattle.request_reader.specs.Line.{Request}

@@ -1,4 +1,4 @@
-use Rattle.std.proofs.Common.{◌≤◌, ℕ, codes, arith}
+use Rattle.std.proofs.Common.{◌≤◌, codes, arith}
 use Rattle.dura_value.specs.Ids.{orchestration}
 use Rattle.engine_run.proofs.examples.runs_in_order.Goals as goal
 use Rattle.section_laws.proofs.Ordered.{never_overlaps}

@@ -1,4 +1,4 @@
-use Rattle.std.proofs.Common.{◌≡◌, inl, inr, List, refl, ◌∙◌, ap}
+use Rattle.std.proofs.Common.{inl, inr, List, refl, ◌∙◌, ap}
 use Rattle.engine_run.proofs.examples.shows.Goals as goal
 use Rattle.site_model.specs.History.{Step, changes_of}
 

@@ -1,9 +1,8 @@
-use Rattle.std.proofs.Common.{◌≡◌, ◌∙◌, ℕ, List, None, Ok, Err, map, refl, sym, ap, subst}
+use Rattle.std.proofs.Common.{◌≡◌, ◌∙◌, List, None, Ok, Err, map, refl, sym, ap, subst}
 use Rattle.std.specs.Prelude.{IfSome}
 use Rattle.std.proofs.lemmas.Result.{err_from_is_err_and}
 use Rattle.commit_log.specs.States.{IsFormatting}
 use Rattle.dura_value.specs.declared.messages.Request.{Request as OwnRequest}
-use Rattle.engine_run.specs.Causes.{AsksFor}
 use Rattle.engine_run.specs.Job.{Job, Keeps}
 use Rattle.engine_run.specs.Kept.{Refuses}
 use Rattle.engine_run.specs.Opened.{IsOpening, OpensOnly}

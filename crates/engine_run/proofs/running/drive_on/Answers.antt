@@ -1,4 +1,4 @@
-use Rattle.std.proofs.Common.{◌≡◌, ◌≢◌, ◌∙◌, ◌<◌, ◌≤◌, ℕ, List, [], Err, sym, ap, subst, arith}
+use Rattle.std.proofs.Common.{◌≢◌, ◌∙◌, ◌≤◌, ℕ, List, [], Err, sym, ap, subst, arith}
 use Rattle.engine_run.specs.Ends.{EndsAs}
 use Rattle.engine_run.proofs.Ending.{at_rest, rest_ends, stop_ends, other_stop}
 use Rattle.engine_run.proofs.running.drive_on.Goals as goal
@@ -47,7 +47,7 @@ returns-in-Ok-clause-ends g c tells =
     let above : new.latest ≤ latest = omega (arith, raised, later, c.requires.moment) in
     let may : (trail : List Settled) (told : List Said) (partition : ℕ) (going : List Entry) → g.N.Start.may_follow new.latest trail told partition going → g.N.Start.may_follow latest trail told partition going =
     λ trail told partition going follows. g.N.Start.later_follows new.latest latest trail told partition going above follows in
-    let stands = with_later (g.N.Start.may_follow new.latest) (g.N.Start.may_follow latest) g.N.Start.may_say may o steps (trail_in new) (told_in new) [] (told.rests c.in-Ok-Rest.ensures.still) in
+    let stands = with_later (g.N.Start.may_follow new.latest) (g.N.Start.may_follow latest) g.N.Start.may_say may o steps (trail_in new) (told_in new) [] (told.rests (c.drive.ensures.sound.uncut c.in-Ok-Rest.ensures.still)) in
     let leaves = subst (Leaves rules (o.logs 0) new.latest (of_part 0 (trail_in new)) queues clients c.args.options.steps) c.in-Ok-Rest.field-0-is c.in-Ok-Rest.ensures.leaves in
     let rest = at_rest (g.N.Start.may_follow latest) g.N.Start.may_say rules latest o steps (trail_in new) (told_in new) new.latest queues clients c.in-Ok-Rest._state stands c.in-Ok-Rest.ensures.said (c.requires.asked (c.drive.ensures.tells tells)) c.requires.clients leaves.0 leaves.1 in
     rest_ends (g.N.Start.may_follow latest) g.N.Start.may_say rules latest o steps (trail_in new) (told_in new) queues clients c.args.options.steps c.args.options.segment c.in-Ok.cause rest c.requires.clients c.in-Ok.ensures

@@ -10,7 +10,7 @@ use Rattle.hub_store.specs.Changes.{trail_in, told_in}
 use Rattle.hub_store.specs.Trail.{Settled, Said}
 use Rattle.hub_store.proofs.Later.{with_later, moments_later}
 use Rattle.part_rounds.specs.Rounds.{HasSaid}
-use Rattle.request_reader.specs.Line.{Request, request_of}
+use Rattle.request_reader.specs.Line.{request_of}
 use Rattle.run_causes.specs.declared.cause.Cause.{Cause}
 use Rattle.run_rules.specs.Rules.{Rules}
 

@@ -1,9 +1,9 @@
-use Rattle.std.proofs.Common.{◌≡◌, ◌⊎◌, ◌∙◌, inl, inr, ℕ, List, [], refl, sym, ap, subst, arith}
+use Rattle.std.proofs.Common.{◌≡◌, ◌∙◌, inl, inr, ℕ, List, refl, sym, subst, arith}
 use Rattle.dura_model.specs.Partition.{Partition}
 use Rattle.dura_model.specs.Placed.{Belongs}
 use Rattle.dura_value.specs.Items.{Entry}
-use Rattle.engine_run.specs.Headline.{RunsOn, EndsEarly, Headline}
-use Rattle.engine_run.specs.Job.{Job, Keeps, AreGivenIn}
+use Rattle.engine_run.specs.Headline.{RunsOn, Headline}
+use Rattle.engine_run.specs.Job.{Job, AreGivenIn}
 use Rattle.engine_run.specs.Opened.{IsOpening}
 use Rattle.engine_run.specs.Prepared.{job_of}
 use Rattle.engine_run.proofs.Asked.{same_job, same_entries, same_state}
