@@ -37,6 +37,7 @@ impl Broken {
         ensures opened { V.tells site.new → IfOk result (λ found. found.settled ≡ (slice_index (content_of self.file (V.history site.old)) self.gate == open_gate)) }
         ensures place { IfOk result (λ found. (found.log.file ≡ self.file) × MatchBool found.settled (found.log.gate ≡ self.next) (found.log.gate ≡ self.gate)) }
         ensures broken { IfErr result (λ log. (log.file ≡ self.file) × (log.gate ≡ self.gate) × (log.next ≡ self.next)) }
+        ensures syncs { Syncs self.file (V.history site.old) (V.history site.new) result }
         ensures cause { HasCause (V.disk_faults site.old) (V.disk_faults site.new) result }
         ensures say_faults { V.say_faults site.new ≡ V.say_faults site.old }
     {
@@ -65,6 +66,7 @@ impl Bodied {
         ensures opened { V.tells site.new → IfOk result (λ found. found.settled ≡ (slice_index (content_of self.file (V.history site.old)) self.gate == open_gate)) }
         ensures place { IfOk result (λ found. (found.log.file ≡ self.file) × MatchBool found.settled (found.log.gate ≡ self.next) (found.log.gate ≡ self.gate)) }
         ensures broken { IfErr result (λ log. (log.file ≡ self.file) × (log.gate ≡ self.gate) × (log.next ≡ self.next)) }
+        ensures syncs { Syncs self.file (V.history site.old) (V.history site.new) result }
         ensures cause { HasCause (V.disk_faults site.old) (V.disk_faults site.new) result }
         ensures say_faults { V.say_faults site.new ≡ V.say_faults site.old }
     {
@@ -83,6 +85,7 @@ impl Synced {
         ensures opened { V.tells site.new → IfOk result (λ found. found.settled ≡ (slice_index (content_of self.file (V.history site.old)) self.gate == open_gate)) }
         ensures place { IfOk result (λ found. (found.log.file ≡ self.file) × MatchBool found.settled (found.log.gate ≡ self.next) (found.log.gate ≡ self.gate)) }
         ensures broken { IfErr result (λ log. (log.file ≡ self.file) × (log.gate ≡ self.gate) × (log.next ≡ self.next)) }
+        ensures syncs { Syncs self.file (V.history site.old) (V.history site.new) result }
         ensures cause { HasCause (V.disk_faults site.old) (V.disk_faults site.new) result }
         ensures say_faults { V.say_faults site.new ≡ V.say_faults site.old }
     {
@@ -101,6 +104,7 @@ impl Gated {
         ensures opened { V.tells site.new → IfOk result (λ found. found.settled ≡ (slice_index (content_of self.file (V.history site.old)) self.gate == open_gate)) }
         ensures place { IfOk result (λ found. (found.log.file ≡ self.file) × MatchBool found.settled (found.log.gate ≡ self.next) (found.log.gate ≡ self.gate)) }
         ensures broken { IfErr result (λ log. (log.file ≡ self.file) × (log.gate ≡ self.gate) × (log.next ≡ self.next)) }
+        ensures syncs { Syncs self.file (V.history site.old) (V.history site.new) result }
         ensures cause { HasCause (V.disk_faults site.old) (V.disk_faults site.new) result }
         ensures say_faults { V.say_faults site.new ≡ V.say_faults site.old }
     {
