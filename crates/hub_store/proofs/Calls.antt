@@ -23,7 +23,7 @@ use Rattle.part_files.specs.Kept.{first_of}
 use Rattle.hub_store.specs.declared.way.Way.{Way}
 use Rattle.hub_store.specs.declared.way.Way.TheVariants as ways
 use Rattle.part_files.specs.Kept.{decoded}
-use Rattle.hub_store.specs.Moments.{WroteGate}
+use Rattle.hub_store.specs.Moments.{before_syncs, WroteGate}
 use Rattle.hub_store.specs.Origin.{Origin}
 use Rattle.hub_store.specs.Trail.{Settled, Said, of_part}
 use Rattle.hub_store.specs.Ways.{LogFits, WayFits, GoesOn, going_in}
@@ -84,7 +84,7 @@ module _ (MayFollow : List Settled → List Said → ℕ → List Entry → Type
   }
 
   -- how the log stands behind a call that settles nothing
-  fits_on : (p : ℕ) (trail : List Settled) (old new : List Step) (before way : Way) (fits : LogFits (o.logs p) (of_part p trail) (changes_of (o.logs p).file old) before)
+  pub fits_on : (p : ℕ) (trail : List Settled) (old new : List Step) (before way : Way) (fits : LogFits (o.logs p) (of_part p trail) (changes_of (o.logs p).file old) before)
       → going_in way ≡ going_in before → WayFits (o.logs p).file (o.logs p).header fits.payloads (changes_of (o.logs p).file new) way
       → LogFits (o.logs p) (of_part p trail) (changes_of (o.logs p).file new) way
   fits_on p trail old new before way fits going stands = record {
@@ -135,7 +135,7 @@ module _ (MayFollow : List Settled → List Said → ℕ → List Entry → Type
               gate = log.gate;
               bytes = bytes;
               before = changes_of file old;
-              last = inl (ap (changes_of file) is ∙ own_change file (wrote log.gate 1 bytes) old);
+              last = ap (λ (steps : List Step). before_syncs (changes_of file steps)) is ∙ ap before_syncs (own_change file (wrote log.gate 1 bytes) old);
               kept = kept_payloads h fits.payloads log.gate ((o.logs p).entries ++ of_part p trail) (reads (changes_of file old)) (synced_reads h fits.payloads payload log.gate log.next (changes_of file old) fits.fits.1) fits.kept;
             }) (last path)),
         fits_on p trail old new (ways.Synced log frame) way fits going stands,
@@ -156,12 +156,12 @@ module _ (MayFollow : List Settled → List Said → ℕ → List Entry → Type
       let sync : Syncs file old new result = subst (λ (f : ℕ). Syncs f old new result) fits.fits.0 syncs in
       let wrote_is = fits.fits.2 in
       let kept_before = kept_payloads h fits.payloads log.gate ((o.logs p).entries ++ of_part p trail) (reads wrote_is.1) wrote_is.3 fits.kept in
-      let wrote_it : (changes : List Change) → (changes ≡ wrote log.gate 1 wrote_is.0 ∷ wrote_is.1) ⊎ (changes ≡ synced ∷ wrote log.gate 1 wrote_is.0 ∷ wrote_is.1) → WroteGate (o.logs p) (of_part p trail) changes =
+      let wrote_it : (changes : List Change) → before_syncs changes ≡ wrote log.gate 1 wrote_is.0 ∷ wrote_is.1 → WroteGate (o.logs p) (of_part p trail) changes =
       λ changes is. record { gate = log.gate; bytes = wrote_is.0; before = wrote_is.1; last = is; kept = kept_before } in
       one_step old new (on file synced) sync.either
-      (either_frames p trail told (entries_of frame) old old fits.payloads log.gate log.next fits.kept fits.next follows (wrote_it (changes_of file old) (inl wrote_is.2)) (first path))
+      (either_frames p trail told (entries_of frame) old old fits.payloads log.gate log.next fits.kept fits.next follows (wrote_it (changes_of file old) (ap before_syncs wrote_is.2)) (first path))
       (λ is. either_frames p trail told (entries_of frame) old new fits.payloads log.gate log.next fits.kept fits.next follows
-      (wrote_it (changes_of file new) (inr (ap (changes_of file) is ∙ own_change file synced old ∙ ap (λ (changes : List Change). synced ∷ changes) wrote_is.2))) (last path))
+      (wrote_it (changes_of file new) (ap (λ (steps : List Step). before_syncs (changes_of file steps)) is ∙ ap before_syncs (own_change file synced old ∙ ap (λ (changes : List Change). synced ∷ changes) wrote_is.2))) (last path))
 
   -- behind it the log rests with the new frame
   pub settle_rests : (p : ℕ) (log : Gated) (frame : List rows.Entry) (trail : List Settled) (old new : List Step) (now : Resting) → now.file ≡ log.file

@@ -1,11 +1,11 @@
 -- What a log without entries keeps, in the examples.
 use Rattle.std.proofs.Common.{◌≡◌, ℕ, inl, inr, List, [], ◌∷◌, slice_set, refl, sym, subst, ◌∙◌, arith}
-use Rattle.site_model.specs.History.{wrote, synced, Leaves}
+use Rattle.site_model.specs.History.{Change, wrote, synced, Leaves}
 use Rattle.commit_log.specs.Segment.{header_at, frame_at}
 use Rattle.part_files.specs.Examples.{empty_log}
 use Rattle.part_files.specs.Kept.{entries_from, broken, keeps, kept_in}
 use Rattle.hub_store.specs.Moments.Told.{silent}
-use Rattle.hub_store.specs.Examples.{settled_when, log_written, gate_opened, one_log, LogStands}
+use Rattle.hub_store.specs.Examples.{settled_when, log_written, gate_opened, gate_synced, one_log, LogStands, GateWritten}
 
 nothing_kept : kept_in 0 empty_log ≡ keeps (one_log.logs 0).header [] 33
 unfolding header_at entries_from
@@ -42,3 +42,15 @@ not_without_frame stands = elim (stands.images 0 (omega arith) opened may_be_lef
   | inl kept ↦ let is = sym opened_broken ∙ kept.1 in cc
   | inr next ↦ let is = sym opened_broken ∙ next.keeps.1 in cc
 ]
+
+pub opened_last : GateWritten gate_opened
+opened_last = record { gate = 33; bytes = 0xC3 ∷ []; before = synced ∷ wrote 0 34 empty_log ∷ []; last = refl; kept = nothing_kept }
+
+pub synced_last : GateWritten gate_synced
+synced_last = record { gate = 33; bytes = 0xC3 ∷ []; before = synced ∷ wrote 0 34 empty_log ∷ []; last = refl; kept = nothing_kept }
+
+one_byte : (gate : ℕ) (bytes other : List ℕ) (before : List Change) → wrote 0 34 bytes ∷ [] ≡ wrote gate 1 other ∷ before → ⊥
+one_byte gate bytes other before is = cc
+
+pub not_whole : GateWritten log_written → ⊥
+not_whole written = one_byte written.gate empty_log written.bytes written.before written.last

@@ -1,12 +1,12 @@
 -- How things stand while an answer is said that waits for a commit, where no partition has a log, and how where one has, by
 -- example.
 use Rattle.std.specs.Prelude.{◌≡◌, ◌<◌, ℕ, List, [], ◌∷◌, length, codes}
-use Rattle.site_model.specs.History.{Step, on, said, synced, wrote}
+use Rattle.site_model.specs.History.{Step, on, said, synced, wrote, changes_of}
 use Rattle.dura_value.specs.Items.{Entry}
 use Rattle.part_files.specs.Examples.{digest, empty_log}
 use Rattle.hub_store.specs.Origin.{no_entry, Origin}
 use Rattle.hub_store.specs.Trail.{Settled, Said}
-use Rattle.hub_store.specs.Moments.{Told, StandsWith, Stands, AtEveryMoment}
+use Rattle.hub_store.specs.Moments.{WroteGate, Told, StandsWith, Stands, AtEveryMoment}
 
 abbrev pub nowhere : Origin
 nowhere = record {
@@ -75,6 +75,10 @@ log_written = on 16 synced ∷ on 16 (wrote 0 34 empty_log) ∷ []
 abbrev pub gate_opened : List Step
 gate_opened = on 16 (wrote 33 1 (0xC3 ∷ [])) ∷ log_written
 
+-- and synced, and once more
+abbrev pub gate_synced : List Step
+gate_synced = on 16 synced ∷ on 16 synced ∷ gate_opened
+
 abbrev pub one_log : Origin
 one_log = record {
   count = 1;
@@ -84,3 +88,6 @@ one_log = record {
 
 abbrev pub LogStands : List Step → List Settled → Type 0
 LogStands steps trail = StandsWith MayFollow MaySay one_log steps trail [] []
+
+abbrev pub GateWritten : List Step → Type 0
+GateWritten steps = WroteGate (one_log.logs 0) [] (changes_of 16 steps)

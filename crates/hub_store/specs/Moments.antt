@@ -10,13 +10,19 @@ use Rattle.hub_store.specs.Trail.{Settled, Said, of_part, settled_at, settling}
 abbrev pub Keeps : Log → List Entry → List ℕ → Type 0
 Keeps log entries image = (gate : ℕ) × (kept_in log.header.partition image ≡ keeps log.header (log.entries ++ entries) gate)
 
--- The last change of a log's file was a write of one byte, or the first sync behind it: of the gate up to which the file kept just the
+-- what changed before the syncs that came last
+abbrev pub before_syncs : List Change → List Change
+before_syncs [] = []
+before_syncs (synced ∷ changes) = before_syncs changes
+before_syncs (wrote at size bytes ∷ changes) = wrote at size bytes ∷ changes
+
+-- The last write of a log's file, with nothing but syncs behind it, was of one byte: of the gate up to which the file kept just the
 -- entries that the log had and these.
 pub record WroteGate (log : Log) (settled : List Entry) (changes : List Change) : Type 0 where
   pub gate : ℕ
   pub bytes : List ℕ
   pub before : List Change
-  pub last : (changes ≡ wrote gate 1 bytes ∷ before) ⊎ (changes ≡ synced ∷ wrote gate 1 bytes ∷ before)
+  pub last : before_syncs changes ≡ wrote gate 1 bytes ∷ before
   pub kept : kept_in log.header.partition (reads before) ≡ keeps log.header (log.entries ++ settled) gate
 
 -- the last thing that happened is that a byte was said

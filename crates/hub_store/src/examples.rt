@@ -2,7 +2,7 @@
 
 ghost use Rattle.std.specs.Prelude.{◌≡◌, ◌≢◌, ◌++◌, ◌∷◌, [], true, false, None, Some};
 ghost use Rattle.hub_store.specs.Changes.{trail_in, told_in, MovesOnly, Settles, HasHalted};
-ghost use Rattle.hub_store.specs.Examples.{frame, settled_in, settled_when, request, answer, speaking, spoken, other_file, IsTold, Stand, StandWith, StandAlways, log_written, gate_opened, LogStands};
+ghost use Rattle.hub_store.specs.Examples.{frame, settled_in, settled_when, request, answer, speaking, spoken, other_file, IsTold, Stand, StandWith, StandAlways, log_written, gate_opened, gate_synced, LogStands, GateWritten};
 ghost use Rattle.hub_store.specs.Ways.{way_of};
 
 use crate::start::Start;
@@ -39,6 +39,13 @@ pub fn logs_stand()
     ensures empty { LogStands log_written [] }
     ensures settled { LogStands log_written (settled_when 0) → ⊥ }
     ensures no_frame { LogStands gate_opened [] → ⊥ }
+{}
+
+/// The gate's byte was written last, also where syncs came behind it, and not where the whole log was.
+pub fn gates_written()
+    ensures opened { GateWritten gate_opened }
+    ensures synced { GateWritten gate_synced }
+    ensures log { GateWritten log_written → ⊥ }
 {}
 
 /// A frame of one entry is settled: at this moment and no other, in its partition and no other, and only where it is under way.
