@@ -1,7 +1,7 @@
 -- What stands where a call may commit less stands where it may commit more.
 use Rattle.std.proofs.Common.{inl, inr, ℕ, List, []}
 use Rattle.dura_value.specs.Items.{Entry}
-use Rattle.hub_store.specs.Moments.{Told, SaysNext, LeavesLog, StandsWith, Stands, AtEveryMoment}
+use Rattle.hub_store.specs.Moments.{Told, LeavesLog, StandsWith, Stands, AtEveryMoment}
 use Rattle.hub_store.specs.Moments.Told.{silent, settles, says}
 use Rattle.hub_store.specs.Origin.{Log, Origin}
 use Rattle.hub_store.specs.Runs.{Runs}

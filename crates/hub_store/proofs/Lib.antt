@@ -5,6 +5,7 @@ pub mod EveryMoment
 pub mod FramesGo
 pub mod Later
 pub mod LogsStand
+pub mod OpenedAgain
 pub mod Openings
 pub mod Payloads
 pub mod Saying

@@ -75,6 +75,10 @@ pub sound_begun : {V N : Type 0} {G : sites.Ghosts V} {H : starts.Ghosts N} (sto
     → store.told.items ≡ [] → store.due ≡ 0 → vec_len store.trail ≡ 0 → store.cut ≡ false → (G.tells store.site → HasBegun H.origin (G.history store.site) logs) → IsSound store
 sound_begun {V} {N} {G} {H} store logs many origin ways trail told due none uncut begun = record {
   count = ap length ways ∙ length-map logs places.Resting ∙ many;
+  there = λ p below is.
+      let found = way_at logs p (omega (arith, many, below)) in
+      let taken : places.Resting found.0 ≡ Away = sym found.2 ∙ ap (λ (w : List Way). way_of w p) (sym ways) ∙ is in
+      cc;
   apart = origin.apart;
   headers = origin.headers;
   due = ap (sum_by due_in) ways ∙ none_due logs ∙ sym due;

@@ -1,7 +1,8 @@
 -- A store behind a call on one partition's log.
-use Rattle.std.proofs.Common.{◌≡◌, ℕ, ◌+◌, ◌<◌, ◌≤◌, Bool, false, List, [], ◌∷◌, ◌++◌, length, sym, ◌∙◌, ap, subst, arith}
+use Rattle.std.proofs.Common.{◌≡◌, ◌≢◌, inl, inr, ℕ, ◌+◌, ◌<◌, ◌≤◌, Bool, false, List, [], ◌∷◌, ◌++◌, length, None, Some, sym, ◌∙◌, ap, subst, arith}
 use Rattle.std.proofs.Math.ListN.{set}
-use Rattle.std.proofs.lemmas.List.{set-set, length-set, map-append}
+use Rattle.std.proofs.lemmas.Bool.{cases_eq}
+use Rattle.std.proofs.lemmas.List.{set-set, length-set, map-append, get_or-set_same, get_or-set_other}
 use Rattle.std.proofs.lemmas.List.Sums.{sum_by-set}
 use Rattle.std.specs.List.{sum_by}
 use Rattle.std.specs.Vec.{vec_len, vec_capacity}
@@ -13,31 +14,44 @@ use Rattle.hub_store.specs.declared.trail.Settled as rows
 use Rattle.hub_store.specs.declared.trail.Said as requests
 use Rattle.hub_store.specs.declared.way.Way.{Way}
 use Rattle.hub_store.specs.declared.way.Way.TheVariants.{Away}
+use Rattle.dura_value.specs.Items.{Entry}
 use Rattle.hub_store.specs.Changes.{asked}
 use Rattle.hub_store.specs.Plain.{trail_of, said_of, told_of}
 use Rattle.hub_store.specs.Trail.{Settled, Said}
 use Rattle.hub_store.specs.Sound.{IsTold, IsSound}
-use Rattle.hub_store.specs.Ways.{way_of, due_in}
+use Rattle.hub_store.specs.Ways.{way_of, going_in, due_in}
 
 -- a way that was taken out, and another put in
 pub put_for : (old mid new : List Way) (p : ℕ) (way : Way) → mid ≡ set old p Away → new ≡ set mid p way → new ≡ set old p way
 put_for old mid new p way taken is = is ∙ ap (λ (l : List Way). set l p way) taken ∙ set-set old p Away way
 
+-- a way with a frame is not taken out
+pub with_frame : (way : Way) (going : List Entry) → going_in way ≡ Some going → way ≢ Away
+with_frame way going has is = let none : None ≡ Some going = ap going_in (sym is) ∙ has in cc
+
+-- all ways stand where one was put in
+none_away : (ways : List Way) (p count : ℕ) (way : Way) → length ways ≡ count → p < count → way ≢ Away → ((q : ℕ) → q < count → way_of ways q ≢ Away) → (q : ℕ) → q < count → way_of (set ways p way) q ≢ Away
+none_away ways p count way many below here there q inside is = elim (cases_eq q p) [
+  | inl same ↦ here (sym (get_or-set_same ways p way Away (omega (arith, many, below))) ∙ ap (λ (r : ℕ). way_of (set ways p way) r) (sym same) ∙ is)
+  | inr other ↦ there q inside (sym (get_or-set_other ways p q way Away other) ∙ is)
+]
+
 -- where only one partition's frame moved
-pub sound_on : {V N : Type 0} {G : sites.Ghosts V} {H : starts.Ghosts N} (old new : Store V N G H) (p : ℕ) (way : Way) → IsSound old → p < H.origin.count → new.ways.items ≡ set old.ways.items p way
-    → due_in way ≡ due_in (way_of old.ways.items p) → new.trail ≡ old.trail → new.due ≡ old.due → old.halted ≡ false → new.cut ≡ old.cut
+pub sound_on : {V N : Type 0} {G : sites.Ghosts V} {H : starts.Ghosts N} (old new : Store V N G H) (p : ℕ) (way : Way) → IsSound old → p < H.origin.count → way ≢ Away → new.ways.items ≡ set old.ways.items p way
+    → due_in way ≡ due_in (way_of old.ways.items p) → new.trail ≡ old.trail → new.due ≡ old.due → old.cut ≡ false → new.cut ≡ old.cut
     → (G.tells new.site → IsTold (H.may_follow new.latest) H.may_say H.origin (G.history new.site) (set old.ways.items p way) (trail_of old.trail.items) (told_of new.told.items) new.cut) → IsSound new
-sound_on {V} {N} {G} {H} old new p way sound below ways due trail dues going same_cut told =
+sound_on {V} {N} {G} {H} old new p way sound below here ways due trail dues whole same_cut told =
     let inside : p < length old.ways.items = omega (arith, sound.count) in
     let sums = sum_by-set due_in old.ways.items p way Away inside in
     let same : sum_by due_in (set old.ways.items p way) ≡ old.due = omega (arith, sums, due, sound.due) in
     record {
       count = ap length ways ∙ length-set old.ways.items p way ∙ sound.count;
+      there = λ q below_too. subst (λ (w : List Way). way_of w q ≢ Away) (sym ways) (none_away old.ways.items p H.origin.count way sound.count below here sound.there q below_too);
       apart = sound.apart;
       headers = sound.headers;
       due = ap (sum_by due_in) ways ∙ same ∙ sym dues;
       room = subst (λ (t : Vec rows.Settled). vec_len t + new.due ≤ vec_capacity t) (sym trail) (omega (arith, sound.room, dues));
-      uncut = λ still. same_cut ∙ sound.uncut going;
+      uncut = λ still. same_cut ∙ whole;
       told = λ tells.
           subst (λ (w : List Way). IsTold (H.may_follow new.latest) H.may_say H.origin (G.history new.site) w (trail_of new.trail.items) (told_of new.told.items) new.cut) (sym ways)
           (subst (λ (t : Vec rows.Settled). IsTold (H.may_follow new.latest) H.may_say H.origin (G.history new.site) (set old.ways.items p way) (trail_of t.items) (told_of new.told.items) new.cut) (sym trail) (told tells));
@@ -51,20 +65,21 @@ due_of_one store p sound below =
     omega (arith, sums, sound.due)
 
 -- where one partition's frame moved and the trail may have grown
-pub sound_any : {V N : Type 0} {G : sites.Ghosts V} {H : starts.Ghosts N} (old new : Store V N G H) (p : ℕ) (way : Way) (trail : List Settled) → IsSound old → p < H.origin.count → new.ways.items ≡ set old.ways.items p way
-    → due_in way + old.due ≡ new.due + due_in (way_of old.ways.items p) → vec_len new.trail + new.due ≤ vec_capacity new.trail → trail_of new.trail.items ≡ trail → old.halted ≡ false → new.cut ≡ old.cut
+pub sound_any : {V N : Type 0} {G : sites.Ghosts V} {H : starts.Ghosts N} (old new : Store V N G H) (p : ℕ) (way : Way) (trail : List Settled) → IsSound old → p < H.origin.count → way ≢ Away → new.ways.items ≡ set old.ways.items p way
+    → due_in way + old.due ≡ new.due + due_in (way_of old.ways.items p) → vec_len new.trail + new.due ≤ vec_capacity new.trail → trail_of new.trail.items ≡ trail → old.cut ≡ false → new.cut ≡ old.cut
     → (G.tells new.site → IsTold (H.may_follow new.latest) H.may_say H.origin (G.history new.site) (set old.ways.items p way) trail (told_of new.told.items) new.cut) → IsSound new
-sound_any {V} {N} {G} {H} old new p way trail sound below ways due room grown going same_cut told =
+sound_any {V} {N} {G} {H} old new p way trail sound below here ways due room grown whole same_cut told =
     let inside : p < length old.ways.items = omega (arith, sound.count) in
     let sums = sum_by-set due_in old.ways.items p way Away inside in
     let same : sum_by due_in (set old.ways.items p way) ≡ new.due = omega (arith, sums, due, sound.due) in
     record {
       count = ap length ways ∙ length-set old.ways.items p way ∙ sound.count;
+      there = λ q below_too. subst (λ (w : List Way). way_of w q ≢ Away) (sym ways) (none_away old.ways.items p H.origin.count way sound.count below here sound.there q below_too);
       apart = sound.apart;
       headers = sound.headers;
       due = ap (sum_by due_in) ways ∙ same;
       room = room;
-      uncut = λ still. same_cut ∙ sound.uncut going;
+      uncut = λ still. same_cut ∙ whole;
       told = λ tells.
           subst (λ (w : List Way). IsTold (H.may_follow new.latest) H.may_say H.origin (G.history new.site) w (trail_of new.trail.items) (told_of new.told.items) new.cut) (sym ways)
           (subst (λ (t : List Settled). IsTold (H.may_follow new.latest) H.may_say H.origin (G.history new.site) (set old.ways.items p way) t (told_of new.told.items) new.cut) (sym grown) (told tells));
@@ -75,6 +90,7 @@ pub sound_told : {V N : Type 0} {G : sites.Ghosts V} {H : starts.Ghosts N} (old 
     → (G.tells new.site → IsTold (H.may_follow new.latest) H.may_say H.origin (G.history new.site) old.ways.items (trail_of old.trail.items) told new.cut) → IsSound new
 sound_told {V} {N} {G} {H} old new told sound ways trail due said uncut stands = record {
   count = ap (λ (w : Vec Way). length w.items) ways ∙ sound.count;
+  there = λ q below. subst (λ (w : Vec Way). way_of w.items q ≢ Away) (sym ways) (sound.there q below);
   apart = sound.apart;
   headers = sound.headers;
   due = ap (λ (w : Vec Way). sum_by due_in w.items) ways ∙ sound.due ∙ sym due;
@@ -91,6 +107,7 @@ pub sound_roomier : {V N : Type 0} {G : sites.Ghosts V} {H : starts.Ghosts N} (o
     → new.trail.items ≡ old.trail.items → vec_len new.trail ≡ vec_len old.trail → vec_capacity old.trail ≤ vec_capacity new.trail → IsSound new
 sound_roomier {V} {N} {G} {H} old new sound site ways due told halted same_cut latest items len roomier = record {
   count = ap (λ (w : Vec Way). length w.items) ways ∙ sound.count;
+  there = λ q below. subst (λ (w : Vec Way). way_of w.items q ≢ Away) (sym ways) (sound.there q below);
   apart = sound.apart;
   headers = sound.headers;
   due = ap (λ (w : Vec Way). sum_by due_in w.items) ways ∙ sound.due ∙ sym due;

@@ -3,6 +3,7 @@ pub mod Examples
 pub mod Frames
 pub mod Moments
 pub mod Opened
+pub mod OpenedAgain
 pub mod Origin
 pub mod Plain
 pub mod Runs

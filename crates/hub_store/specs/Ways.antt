@@ -42,6 +42,15 @@ due_in (Gated log frame) = length frame
 due_in (Broken log frame) = length frame
 due_in Away = 0
 
+-- where the gate stands up to which the file holds what is settled
+abbrev pub gate_of : Way → ℕ
+gate_of (Resting log) = log.gate
+gate_of (Bodied log frame) = log.gate
+gate_of (Synced log frame) = log.gate
+gate_of (Gated log frame) = log.gate
+gate_of (Broken log frame) = log.gate
+gate_of Away = 0
+
 -- how far the frame of a partition has come
 abbrev pub way_of : List Way → ℕ → Way
 way_of ways partition = slice_index_or ways partition Away

@@ -1,6 +1,6 @@
 //! Writing a frame.
 
-ghost use Rattle.std.specs.Prelude.{◌≡◌, ◌⊎◌, ◌↔◌, IsTrue, ◌+◌, ◌≤◌, ◌<◌, ◌^◌, ℕ, List, true, false, Some, None, Err, OnOk, OnErr, IfOk, length};
+ghost use Rattle.std.specs.Prelude.{◌≡◌, ◌≢◌, ◌⊎◌, ◌↔◌, IsTrue, ◌+◌, ◌≤◌, ◌<◌, ◌^◌, ℕ, List, true, false, Some, None, Err, OnOk, OnErr, IfOk, length};
 ghost use Rattle.site_model.specs.History.{changes_of};
 ghost use Rattle.site_model.specs.Calls.{HasRisen};
 ghost use Rattle.site_model.specs.Moments.{LeavesOnly};
@@ -63,6 +63,7 @@ fn body_log<V: Site>(
         → WayFits log.file h payloads (changes_of log.file (V.history site.new)) result.0 }
     ensures going { (going_in result.0 ≡ None) ⊎ (going_in result.0 ≡ Some (entries_of frame)) }
     ensures due { due_in result.0 ≤ length frame }
+    ensures there { result.0 ≢ Way.Away }
     ensures ok { OnOk result.1 ((stage_of result.0 ≡ Stage.Bodied) × (going_in result.0 ≡ Some (entries_of frame))) }
     ensures full { limit ≤ log.gate + 6 + length payload.now → result.1 ≡ Err (BodyRefusal.Full part (log.gate + 6 + length payload.now)) }
     ensures untouched { (of n : ℕ) → result.1 ≡ Err (BodyRefusal.Full of n) → (of ≡ part) × (limit ≤ n) × (n ≡ log.gate + 6 + length payload.now) × (result.0 ≡ Way.Resting log) × (V.history site.new ≡ V.history site.old) }

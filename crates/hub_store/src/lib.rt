@@ -12,6 +12,7 @@ mod gate;
 mod laws;
 mod raise;
 mod refusal;
+mod reopen;
 mod say;
 mod settle;
 mod start;
@@ -22,6 +23,7 @@ mod way;
 
 pub use end::Ended;
 pub use refusal::{BodyRefusal, Refusal, SayError};
+pub use reopen::Reopening;
 pub use start::Start;
 pub use store::Store;
 pub use trail::{Said, Settled, Trail};

@@ -35,8 +35,8 @@ returns-clause-sound g c =
     let now = g.V.Site.history c.body_log-way.new.site in
     let way = c.body_log-way.result.0 in
     let none_due = ap due_in c.in-Resting.ensures.way in
-    sound_any old _ p way trail c.requires.sound c.requires.place (put_for _ _ _ p way c.take_way.ensures.rest c.put_way.ensures) (omega (arith, none_due, c.due-more.ensures))
-    (omega (arith, c.due-more.ensures, c.body_log-way.ensures.due, c.in_ok-reserve.ensures.ok, c.in-Some.ensures.1, ap length c.entries.ensures)) (ap trail_of c.reserve.ensures.items) c.requires.going refl
+    sound_any old _ p way trail c.requires.sound c.requires.place c.body_log-way.ensures.there (put_for _ _ _ p way c.take_way.ensures.rest c.put_way.ensures) (omega (arith, none_due, c.due-more.ensures))
+    (omega (arith, c.due-more.ensures, c.body_log-way.ensures.due, c.in_ok-reserve.ensures.ok, c.in-Some.ensures.1, ap length c.entries.ensures)) (ap trail_of c.reserve.ensures.items) (c.requires.sound.uncut c.requires.going) refl
     (λ tells.
     let stood = c.requires.sound.told (c.body_log-way.ensures.told tells) in
     let fits = subst (λ (w : Way). LogFits (o.logs p) (of_part p trail) (changes_of (o.logs p).file before) w) (sym c.in-Resting.ensures.way) (stood.logs p c.requires.place) in

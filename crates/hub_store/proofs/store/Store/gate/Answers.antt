@@ -6,7 +6,7 @@ use Rattle.hub_store.specs.Trail.{of_part}
 use Rattle.hub_store.specs.Ways.{LogFits, due_in, going_in}
 use Rattle.hub_store.proofs.Calls.{synced_there, gate_goes}
 use Rattle.hub_store.proofs.Standing.{told_on}
-use Rattle.hub_store.proofs.Stores.{put_for, sound_on}
+use Rattle.hub_store.proofs.Stores.{put_for, sound_on, with_frame}
 use Rattle.hub_store.proofs.store.Store.gate.Goals as goal
 
 pub gate_log-way-requires : goal.gate_log-way-requires
@@ -28,7 +28,7 @@ returns-clause-sound g c =
     let before = g.V.Site.history old.site in
     let now = g.V.Site.history c.gate_log-way.new.site in
     let way = c.gate_log-way.result.0 in
-    sound_on old _ p way c.requires.sound c.requires.place (put_for _ _ _ p way c.take_way.ensures.rest c.put_way.ensures) (c.gate_log-way.ensures.due ∙ ap due_in c.in-Synced.ensures.way) refl refl c.requires.going refl
+    sound_on old _ p way c.requires.sound c.requires.place (with_frame way _ c.gate_log-way.ensures.going) (put_for _ _ _ p way c.take_way.ensures.rest c.put_way.ensures) (c.gate_log-way.ensures.due ∙ ap due_in c.in-Synced.ensures.way) refl refl (c.requires.sound.uncut c.requires.going) refl
     (λ tells.
     let stood = c.requires.sound.told (c.gate_log-way.ensures.told tells) in
     let fits = subst (λ (w : Way). LogFits (o.logs p) (of_part p trail) (changes_of (o.logs p).file before) w) (sym c.in-Synced.ensures.way) (stood.logs p c.requires.place) in

@@ -1,4 +1,4 @@
-use Rattle.std.proofs.Common.{ap, arith}
+use Rattle.std.proofs.Common.{arith}
 use Rattle.hub_store.specs.Plain.{trail_of, told_of}
 use Rattle.hub_store.proofs.Later.{is_told_later}
 use Rattle.hub_store.proofs.store.Store.raise.Goals as goal
@@ -9,6 +9,7 @@ returns-clause-sound g c =
     let sound = c.requires in
     record {
       count = sound.count;
+      there = sound.there;
       apart = sound.apart;
       headers = sound.headers;
       due = sound.due;

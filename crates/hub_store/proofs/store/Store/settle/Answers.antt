@@ -27,8 +27,8 @@ returns-in-Ok-clause-sound g c =
     let dues = ap due_in c.in-Gated.ensures.way in
     let enough = due_of_one old p c.requires.sound c.requires.place in
     let size = ap length c.entries.ensures in
-    sound_any old _ p (ways.Resting c.in-Ok.log) (trail ++ settling p at (entries_of frame)) c.requires.sound c.requires.place (put_for _ _ _ p (ways.Resting c.in-Ok.log) c.take_way.ensures.rest c.put_way.ensures)
-    (omega (arith, dues, enough, size)) (omega (arith, dues, enough, size, c.requires.sound.room, c.settle_entries.ensures.len, c.settle_entries.ensures.capacity)) c.settle_entries.ensures.trail c.requires.going refl
+    sound_any old _ p (ways.Resting c.in-Ok.log) (trail ++ settling p at (entries_of frame)) c.requires.sound c.requires.place (λ is. cc) (put_for _ _ _ p (ways.Resting c.in-Ok.log) c.take_way.ensures.rest c.put_way.ensures)
+    (omega (arith, dues, enough, size)) (omega (arith, dues, enough, size, c.requires.sound.room, c.settle_entries.ensures.len, c.settle_entries.ensures.capacity)) c.settle_entries.ensures.trail (c.requires.sound.uncut c.requires.going) refl
     (λ tells.
     let stood = c.requires.sound.told (c.settle.ensures.told tells) in
     let fits = subst (λ (w : Way). LogFits (o.logs p) (of_part p trail) (changes_of (o.logs p).file before) w) (sym c.in-Gated.ensures.way) (stood.logs p c.requires.place) in
@@ -58,7 +58,7 @@ returns-in-Err-clause-sound g c =
     let log = c.in-Gated.log in
     let frame = c.in-Gated.frame in
     let way = ways.Broken c.in-Err.log frame in
-    sound_on old _ p way c.requires.sound c.requires.place (put_for _ _ _ p way c.take_way.ensures.rest c.put_way-in-Err.ensures) (ap due_in c.in-Gated.ensures.way) refl refl c.requires.going refl
+    sound_on old _ p way c.requires.sound c.requires.place (λ is. cc) (put_for _ _ _ p way c.take_way.ensures.rest c.put_way-in-Err.ensures) (ap due_in c.in-Gated.ensures.way) refl refl (c.requires.sound.uncut c.requires.going) refl
     (λ tells.
     let stood = c.requires.sound.told (c.settle.ensures.told tells) in
     let fits = subst (λ (w : Way). LogFits (o.logs p) (of_part p trail) (changes_of (o.logs p).file before) w) (sym c.in-Gated.ensures.way) (stood.logs p c.requires.place) in

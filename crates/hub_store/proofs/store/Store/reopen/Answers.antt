@@ -1,0 +1,131 @@
+use Rattle.std.proofs.Common.{◌≡◌, true, false, inl, inr, ◌++◌, length, refl, sym, ◌∙◌, ap, subst, arith}
+use Rattle.site_model.specs.History.{changes_of}
+use Rattle.hub_store.specs.declared.way.Way.{Way}
+use Rattle.hub_store.specs.declared.way.Way.TheVariants as ways
+use Rattle.part_items.specs.Plain.{entries_of}
+use Rattle.part_items.specs.Spelling.{spell_frame}
+use Rattle.hub_store.specs.OpenedAgain.{Reopens}
+use Rattle.hub_store.specs.Plain.{trail_of, told_of}
+use Rattle.hub_store.specs.Trail.{of_part, settling}
+use Rattle.hub_store.specs.Ways.{LogFits, GoesOn, stage_of, gate_of, going_in, due_in}
+use Rattle.hub_store.proofs.OpenedAgain.{not_true, not_false, settled_just, dropped_just, reopen_path, rests_with, rests_without, breaks_again}
+use Rattle.hub_store.proofs.Settling.{told_settled}
+use Rattle.hub_store.proofs.Standing.{told_on}
+use Rattle.hub_store.proofs.Stores.{put_for, sound_on, sound_any, due_of_one}
+use Rattle.hub_store.proofs.store.Store.reopen.Goals as goal
+
+pub returns-in-Err-clause-sound : goal.returns-in-Err-clause-sound
+returns-in-Err-clause-sound g c =
+    let o = g.N.Start.origin in
+    let p = c.args.part in
+    let old = c.args.self.now in
+    let trail = trail_of old.trail.items in
+    let told = told_of old.told.items in
+    let before = g.V.Site.history old.site in
+    let now = g.V.Site.history c.reopen_log-answer.new.site in
+    let frame = c.reopen_log-answer.result.1 in
+    let was = c.take_way-way.result in
+    let way = ways.Broken c.in-Err.log frame in
+    let dues = c.reopen_log-answer.ensures.due in
+    sound_on old _ p way c.requires.sound c.requires.place (λ is. cc) (put_for _ _ _ p way c.take_way-way.ensures.rest c.put_way.ensures) (sym dues ∙ ap due_in c.take_way-way.ensures.way) refl refl c.requires.whole refl
+    (λ tells.
+    let stood = c.requires.sound.told (c.reopen_log-answer.ensures.told tells) in
+    let fits = subst (λ (w : Way). LogFits (o.logs p) (of_part p trail) (changes_of (o.logs p).file before) w) (sym c.take_way-way.ensures.way) (stood.logs p c.requires.place) in
+    let again = c.reopen_log-answer.ensures.reopens tells (o.logs p).file (o.logs p).header fits.payloads fits.fits in
+    let failed = subst (Reopens (o.logs p).file (o.logs p).header fits.payloads (spell_frame (entries_of frame)) was before now) c.in-Err.is again in
+    let path = reopen_path (g.N.Start.may_follow old.latest) g.N.Start.may_say o p trail told before now c.reopen_log-answer.result.0 again.syncs again.during ((stood.rests c.requires.whole).images p c.requires.place) in
+    let breaks = breaks_again (g.N.Start.may_follow old.latest) g.N.Start.may_say o p trail now before was frame c.in-Err.log fits c.reopen_log-answer.ensures.going failed.broken_is failed.after in
+    told_on (g.N.Start.may_follow old.latest) g.N.Start.may_say o p before now old.ways.items way trail told old.cut _ c.requires.sound.apart c.requires.sound.count c.requires.place c.requires.whole stood path breaks)
+
+pub returns-then-not-found-clause-sound : goal.returns-then-not-found-clause-sound
+returns-then-not-found-clause-sound g c =
+    let o = g.N.Start.origin in
+    let p = c.args.part in
+    let old = c.args.self.now in
+    let trail = trail_of old.trail.items in
+    let told = told_of old.told.items in
+    let before = g.V.Site.history old.site in
+    let now = g.V.Site.history c.reopen_log-answer.new.site in
+    let frame = c.reopen_log-answer.result.1 in
+    let was = c.take_way-way.result in
+    let found = c.in-Ok.found in
+    let way = ways.Resting found.log in
+    let dues = c.reopen_log-answer.ensures.due in
+    let was_due = ap due_in c.take_way-way.ensures.way in
+    let enough = due_of_one old p c.requires.sound c.requires.place in
+    let size = ap length c.entries.ensures in
+    sound_any old _ p way trail c.requires.sound c.requires.place (λ is. cc) (put_for _ _ _ p way c.take_way-way.ensures.rest c.put_way-2.ensures) (omega (arith, dues, was_due, enough, size))
+    (omega (arith, c.requires.sound.room)) refl c.requires.whole refl
+    (λ tells.
+    let stood = c.requires.sound.told (c.reopen_log-answer.ensures.told tells) in
+    let fits = subst (λ (w : Way). LogFits (o.logs p) (of_part p trail) (changes_of (o.logs p).file before) w) (sym c.take_way-way.ensures.way) (stood.logs p c.requires.place) in
+    let again = c.reopen_log-answer.ensures.reopens tells (o.logs p).file (o.logs p).header fits.payloads fits.fits in
+    let opened = subst (Reopens (o.logs p).file (o.logs p).header fits.payloads (spell_frame (entries_of frame)) was before now) c.in-Ok.is again in
+    let path = reopen_path (g.N.Start.may_follow old.latest) g.N.Start.may_say o p trail told before now c.reopen_log-answer.result.0 again.syncs again.during ((stood.rests c.requires.whole).images p c.requires.place) in
+    let rests = rests_without (g.N.Start.may_follow old.latest) g.N.Start.may_say o p trail now before was (spell_frame (entries_of frame)) found fits (not_true found.settled c.if-not-found.true) opened.file_is opened.after in
+    told_on (g.N.Start.may_follow old.latest) g.N.Start.may_say o p before now old.ways.items way trail told old.cut _ c.requires.sound.apart c.requires.sound.count c.requires.place c.requires.whole stood path rests)
+
+pub returns-then-not-found-clause-opened : goal.returns-then-not-found-clause-opened
+returns-then-not-found-clause-opened g c tells =
+    let o = g.N.Start.origin in
+    let p = c.args.part in
+    let old = c.args.self.now in
+    let before = g.V.Site.history old.site in
+    let now = g.V.Site.history c.reopen_log-answer.new.site in
+    let frame = c.reopen_log-answer.result.1 in
+    let was = c.take_way-way.result in
+    let stood = c.requires.sound.told (c.reopen_log-answer.ensures.told tells) in
+    let fits = subst (λ (w : Way). LogFits (o.logs p) (of_part p (trail_of old.trail.items)) (changes_of (o.logs p).file before) w) (sym c.take_way-way.ensures.way) (stood.logs p c.requires.place) in
+    let again = c.reopen_log-answer.ensures.reopens tells (o.logs p).file (o.logs p).header fits.payloads fits.fits in
+    let opened = subst (Reopens (o.logs p).file (o.logs p).header fits.payloads (spell_frame (entries_of frame)) was before now) c.in-Ok.is again in
+    dropped_just (o.logs p).file (gate_of was) _ before c.in-Ok.found.settled (ap gate_of c.take_way-way.ensures.way) opened.opened (not_true _ c.if-not-found.true)
+
+pub returns-clause-sound : goal.returns-clause-sound
+returns-clause-sound g c =
+    let o = g.N.Start.origin in
+    let p = c.args.part in
+    let old = c.args.self.now in
+    let trail = trail_of old.trail.items in
+    let told = told_of old.told.items in
+    let before = g.V.Site.history old.site in
+    let now = g.V.Site.history c.reopen_log-answer.new.site in
+    let frame = c.reopen_log-answer.result.1 in
+    let was = c.take_way-way.result in
+    let found = c.in-Ok.found in
+    let way = ways.Resting found.log in
+    let at = c.moment-at.result in
+    let dues = c.reopen_log-answer.ensures.due in
+    let was_due = ap due_in c.take_way-way.ensures.way in
+    let enough = due_of_one old p c.requires.sound c.requires.place in
+    let size = ap length c.entries.ensures in
+    sound_any old _ p way (trail ++ settling p at (entries_of frame)) c.requires.sound c.requires.place (λ is. cc) (put_for _ _ _ p way c.take_way-way.ensures.rest c.put_way-2.ensures)
+    (omega (arith, dues, was_due, enough, size)) (omega (arith, dues, was_due, enough, size, c.requires.sound.room, c.settle_entries.ensures.len, c.settle_entries.ensures.capacity)) c.settle_entries.ensures.trail c.requires.whole refl
+    (λ tells.
+    let stood = c.requires.sound.told (c.reopen_log-answer.ensures.told tells) in
+    let fits = subst (λ (w : Way). LogFits (o.logs p) (of_part p trail) (changes_of (o.logs p).file before) w) (sym c.take_way-way.ensures.way) (stood.logs p c.requires.place) in
+    let again = c.reopen_log-answer.ensures.reopens tells (o.logs p).file (o.logs p).header fits.payloads fits.fits in
+    let opened = subst (Reopens (o.logs p).file (o.logs p).header fits.payloads (spell_frame (entries_of frame)) was before now) c.in-Ok.is again in
+    let path = reopen_path (g.N.Start.may_follow old.latest) g.N.Start.may_say o p trail told before now c.reopen_log-answer.result.0 again.syncs again.during ((stood.rests c.requires.whole).images p c.requires.place) in
+    let going = c.reopen_log-answer.ensures.going in
+    let reads = subst (GoesOn (o.logs p).header fits.payloads ((o.logs p).entries ++ of_part p trail)) going fits.next in
+    let settled = not_false found.settled c.if-not-found.false in
+    let follows = c.requires.follows (entries_of frame) (ap going_in (sym c.take_way-way.ensures.way) ∙ going)
+    (λ is. let shut : found.settled ≡ false = opened.closed (inl (ap stage_of c.take_way-way.ensures.way ∙ is)) in let both : true ≡ false = sym settled ∙ shut in cc)
+    (λ is. let shut : found.settled ≡ false = opened.closed (inr (ap stage_of c.take_way-way.ensures.way ∙ is)) in let both : true ≡ false = sym settled ∙ shut in cc) in
+    let rests = rests_with (g.N.Start.may_follow old.latest) g.N.Start.may_say o now (o.logs p).file (o.logs p).header fits.payloads (spell_frame (entries_of frame)) found settled opened.file_is opened.after in
+    told_settled (g.N.Start.may_follow old.latest) g.N.Start.may_say o (g.N.Start.still_follows old.latest) p found.log trail told (entries_of frame) fits.payloads before now old.ways.items old.cut _ at c.requires.sound.apart c.requires.sound.count c.requires.place c.requires.whole (c.moment-at.ensures tells) follows stood path reads opened.file_is rests)
+
+pub returns-clause-opened : goal.returns-clause-opened
+returns-clause-opened g c tells =
+    let o = g.N.Start.origin in
+    let p = c.args.part in
+    let old = c.args.self.now in
+    let before = g.V.Site.history old.site in
+    let now = g.V.Site.history c.reopen_log-answer.new.site in
+    let frame = c.reopen_log-answer.result.1 in
+    let was = c.take_way-way.result in
+    let stood = c.requires.sound.told (c.reopen_log-answer.ensures.told tells) in
+    let fits = subst (λ (w : Way). LogFits (o.logs p) (of_part p (trail_of old.trail.items)) (changes_of (o.logs p).file before) w) (sym c.take_way-way.ensures.way) (stood.logs p c.requires.place) in
+    let again = c.reopen_log-answer.ensures.reopens tells (o.logs p).file (o.logs p).header fits.payloads fits.fits in
+    let opened = subst (Reopens (o.logs p).file (o.logs p).header fits.payloads (spell_frame (entries_of frame)) was before now) c.in-Ok.is again in
+    settled_just (o.logs p).file (gate_of was) _ before c.in-Ok.found.settled (ap gate_of c.take_way-way.ensures.way) opened.opened (not_false _ c.if-not-found.false)
