@@ -1,5 +1,5 @@
 -- The entry at a position goes on a log there, and the log goes on behind it.
-use Rattle.std.proofs.Common.{◌≡◌, ℕ, ◌+◌, ◌<◌, ◌^◌, List, [], ◌∷◌, ◌++◌, Option, Some, refl, sym, ap, subst, ◌∙◌, append_assoc, arith}
+use Rattle.std.proofs.Common.{◌≡◌, ℕ, ◌+◌, ◌<◌, ◌^◌, List, [], ◌∷◌, ◌++◌, Option, Some, Result, Ok, Err, OnOk, refl, sym, ap, subst, ◌∙◌, append_assoc, arith}
 use Rattle.std.specs.List.{AllByRecursion}
 use Rattle.std.proofs.lemmas.List.Elements.{All-from_recursion}
 use Rattle.dura_value.specs.Items.{Entry}
@@ -41,3 +41,8 @@ next_after tells log moment going old new position settles is here =
     ap (goes_on log) own
     ∙ ap (behind_all first) (sym (append_assoc log.entries (of_part 0 old) (trimming position ∷ [])))
     ∙ sym (behind_more first (log.entries ++ of_part 0 old) (trimming position ∷ []))
+
+-- what holds where a call went well
+pub all_well : {T E : Type 0} (result : Result T E) (P Q R S : Type 0) → OnOk result P → OnOk result Q → OnOk result R → (P → Q → R → S) → OnOk result S
+all_well (Ok x) P Q R S p q r then = then p q r
+all_well (Err e) P Q R S p q r then = tt

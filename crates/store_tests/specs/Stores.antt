@@ -47,3 +47,13 @@ pub record HasCome {V N : Type 0} {G : sites.Ghosts V} {H : starts.Ghosts N} (st
   pub stage_is : stage_at store 0 ≡ stage
   pub next : goes_on (H.origin.logs 0) (of_part 0 (trail_in store)) ≡ next_at position
   pub going : going_at store 0 ≡ Some (trimming position ∷ [])
+
+-- a call on that frame failed, and no line was cut
+pub record HasFailed {V N : Type 0} {G : sites.Ghosts V} {H : starts.Ghosts N} (store : Store V N G H) (position : ℕ) : Type 0 where
+  pub sound : IsSound store
+  pub one : H.origin.count ≡ 1
+  pub follow : (latest : ℕ) (trail : List Settled) (told : List Said) (partition : ℕ) (going : List Entry) → H.may_follow latest trail told partition going
+  pub say : (trail : List Settled) (told : List Said) (one : Said) (line : List ℕ) → H.may_say trail told one line
+  pub whole : store.cut ≡ false
+  pub next : goes_on (H.origin.logs 0) (of_part 0 (trail_in store)) ≡ next_at position
+  pub going : going_at store 0 ≡ Some (trimming position ∷ [])

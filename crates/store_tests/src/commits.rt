@@ -7,6 +7,7 @@ ghost use Rattle.hub_store.specs.Sound.{IsSound};
 ghost use Rattle.hub_store.specs.Trail.{Settled as settleds, Said};
 ghost use Rattle.store_tests.specs.Stores.{header, IsOpen, IsResting};
 
+use crate::again::{check_dropped, check_settled_again};
 use crate::stores::{FILE, HEADER, begun, commit, formatted, gate, settle, sync, write};
 use commit_log::{Resting, read_log};
 use dura_value::Name;
@@ -18,7 +19,7 @@ use std::marker::Brand;
 use std::process::Abort;
 
 // An empty segment of partition 0 of 1, whose flows file holds `{}`.
-const EMPTY: [u8; 34] = [
+pub(crate) const EMPTY: [u8; 34] = [
     0xC3, // the format's gate
     0x4E, 0x45, 0x54, 0x48, 0x4C, 0x4F, 0x47, // NETHLOG
     0x01, // the version
@@ -30,7 +31,7 @@ const EMPTY: [u8; 34] = [
 ];
 
 // The frame of the entry at position 0, from the gate before it on.
-const FRAME: [u8; 54] = [
+pub(crate) const FRAME: [u8; 54] = [
     0xC3, // the gate
     0x00, 0x00, 0x00, 0x31, // the payload's length
     0x00, 0x01, // one entry
@@ -61,6 +62,9 @@ enum Case {
     // The call of the commit with this number fails.
     DiskFault(u64),
     SayFault,
+    // The log is opened again once, or twice where the first time fails too, and the frame is settled at this moment.
+    SettledAgain(bool, u64),
+    Dropped(bool, u64),
 }
 
 // Says an answer of client a's request 1.
@@ -77,7 +81,7 @@ fn say<N: Start>(
 }
 
 // The entry at this position was settled at this moment.
-fn check_settled(rt: &impl Abort, row: &Settled, position: u64, at: u64) {
+pub(crate) fn check_settled(rt: &impl Abort, row: &Settled, position: u64, at: u64) {
     assert!(rt; (row.partition, row.position, row.incarnation) == (0, position, 0));
     assert!(rt; row.items.as_slice().len() == 1);
     assert!(rt; row.at == at);
@@ -140,6 +144,14 @@ fn check_no_settle<N: Start>(rt: &impl Abort, store: &mut Store<MemorySite, N>)
     assert!(rt; store.settle(0) == Err(Refusal::NoFrame));
 }
 
+fn check_no_reopen<N: Start>(rt: &impl Abort, store: &mut Store<MemorySite, N>)
+    requires runs { IsOpen store.old }
+    requires stage { stage_at store.old 0 ≡ Stage.Resting }
+    ensures { store.new ≡ store.old }
+{
+    assert!(rt; store.reopen(0) == Err(Refusal::NoFrame));
+}
+
 // Each call comes in its turn alone.
 fn check_out_of_turn<N: Start>(rt: &impl Abort, alloc: Global, mut store: Store<MemorySite, N>)
     requires { IsResting store 0 }
@@ -147,6 +159,7 @@ fn check_out_of_turn<N: Start>(rt: &impl Abort, alloc: Global, mut store: Store<
     check_no_sync(rt, &mut store);
     check_no_gate(rt, &mut store);
     check_no_settle(rt, &mut store);
+    check_no_reopen(rt, &mut store);
     write(alloc, &mut store, 0).expect(rt, "room");
     check_no_gate(rt, &mut store);
     check_no_settle(rt, &mut store);
@@ -157,6 +170,7 @@ fn check_out_of_turn<N: Start>(rt: &impl Abort, alloc: Global, mut store: Store<
     check_no_sync(rt, &mut store);
     check_no_gate(rt, &mut store);
     settle(&mut store, 0).expect(rt, "no fault");
+    check_no_reopen(rt, &mut store);
     let Ended { site, trail } = store.end();
     assert!(rt; (trail.as_slice().len(), site.moment()) == (1, 10));
 }
@@ -211,6 +225,8 @@ fn check_store<N: Start>(rt: &impl Abort, alloc: Global, store: Store<MemorySite
         Case::Room(room) => check_room(rt, alloc, store, room),
         Case::DiskFault(call) => check_disk_fault(rt, alloc, store, call),
         Case::SayFault => check_say_fault(rt, alloc, store),
+        Case::SettledAgain(twice, at) => check_settled_again(rt, alloc, store, twice, at),
+        Case::Dropped(twice, at) => check_dropped(rt, alloc, store, twice, at),
     }
 }
 
@@ -235,14 +251,21 @@ fn check_begun<N: Start, A: Abort>(
     check_store(rt, alloc, store, case);
 }
 
-// Tries a case on a new segment, where the call of this kind with this number fails.
+// Tries a case on a new segment, where the calls of these kinds with these numbers fail.
+fn check_where(rt: &impl Abort, alloc: Global, fails: Vec<(Kind, u64)>, segment: u64, case: Case)
+    requires { segment ≤ 2 ^ 31 }
+{
+    let mut site = MemorySite::new(alloc, 1000, 40, fails).expect(rt, "memory");
+    let log = formatted(rt, &mut site);
+    check_begun::<Brand, _>(rt, alloc, site, log, segment, case);
+}
+
+// Or where one does.
 fn check(rt: &impl Abort, alloc: Global, fails: (Kind, u64), segment: u64, case: Case)
     requires { segment ≤ 2 ^ 31 }
 {
     let fails = vec![in alloc; fails].expect(rt, "memory");
-    let mut site = MemorySite::new(alloc, 1000, 40, fails).expect(rt, "memory");
-    let log = formatted(rt, &mut site);
-    check_begun::<Brand, _>(rt, alloc, site, log, segment, case);
+    check_where(rt, alloc, fails, segment, case);
 }
 
 // The number of no call.
@@ -297,4 +320,23 @@ fn a_fault_at_each_call(rt: HostRuntime) {
         );
     }
     check(&rt, rt.alloc(), (Kind::Say, 0), LARGE, Case::SayFault);
+}
+
+// Tries it where these two calls of the disk fail.
+fn check_twice(rt: &impl Abort, alloc: Global, first: u64, second: u64, case: Case) {
+    let fails = vec![in alloc; (Kind::Device, first), (Kind::Device, second)].expect(rt, "memory");
+    check_where(rt, alloc, fails, LARGE, case);
+}
+
+#[test]
+fn a_log_opened_again(rt: HostRuntime) {
+    // Seven calls in six steps format the file. Opening a log again is a sync and a read.
+    for (second, at) in [(NEVER, 10), (11, 10), (12, 11)] {
+        let case = Case::SettledAgain(second != NEVER, at);
+        check_twice(&rt, rt.alloc(), 10, second, case);
+    }
+    for (second, at) in [(NEVER, 12), (9, 12), (10, 13)] {
+        let case = Case::Dropped(second != NEVER, at);
+        check_twice(&rt, rt.alloc(), 8, second, case);
+    }
 }

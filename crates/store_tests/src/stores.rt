@@ -1,4 +1,4 @@
-ghost use Rattle.std.specs.Prelude.{◌≡◌, ◌≢◌, ◌+◌, ◌≤◌, ◌<◌, ◌^◌, ℕ, List, [], ◌∷◌, true, false, Ok, Err, OnOk, IfOk};
+ghost use Rattle.std.specs.Prelude.{◌≡◌, ◌≢◌, ◌+◌, ◌≤◌, ◌<◌, ◌^◌, ℕ, List, [], ◌∷◌, true, false, Ok, Err, OnOk, OnErr, IfOk};
 ghost use Rattle.site_memory.specs.Memory.{memory_history};
 ghost use Rattle.commit_log.specs.Outcomes.{RestsAs};
 ghost use Rattle.dura_value.specs.Items.{Entry as plain};
@@ -6,10 +6,10 @@ ghost use Rattle.part_items.specs.Plain.{entries_of};
 ghost use Rattle.hub_store.specs.Opened.{IsOrigin, HasBegun};
 ghost use Rattle.hub_store.specs.Sound.{IsSound};
 ghost use Rattle.hub_store.specs.Trail.{Settled, Said};
-ghost use Rattle.store_tests.specs.Stores.{header, trimming, IsOpen, IsResting, HasCome};
+ghost use Rattle.store_tests.specs.Stores.{header, trimming, IsOpen, IsResting, HasCome, HasFailed};
 
 use commit_log::{Header, Resting};
-use hub_store::{BodyRefusal, Refusal, Stage, Start, Store};
+use hub_store::{BodyRefusal, Refusal, Reopening, Stage, Start, Store};
 use part_items::{Entry, Frame, Item, Items};
 use site_memory::MemorySite;
 use std::alloc::{AllocError, Global};
@@ -92,6 +92,7 @@ pub(crate) fn sync<N: Start>(store: &mut Store<MemorySite, N>, position: u64) ->
     requires { HasCome store.old Stage.Bodied position }
     ensures sound { IsSound store.new }
     ensures ok { OnOk result (HasCome store.new Stage.Synced position) }
+    ensures err { OnErr result (HasFailed store.new position) }
 {
     store.sync_body(0)
 }
@@ -106,7 +107,6 @@ pub(crate) fn gate<N: Start>(store: &mut Store<MemorySite, N>, position: u64) ->
 }
 
 // Settles it.
-#[tactic(auto, using(crate::proofs::Going::next_after))]
 pub(crate) fn settle<N: Start>(
     store: &mut Store<MemorySite, N>,
     position: u64,
@@ -114,8 +114,23 @@ pub(crate) fn settle<N: Start>(
     requires { HasCome store.old Stage.Gated position }
     ensures sound { IsSound store.new }
     ensures ok { OnOk result (IsResting store.new (position + 1)) }
+    ensures err { OnErr result (HasFailed store.new position) }
 {
     store.settle(0)
+}
+
+// Opens the log again.
+pub(crate) fn reopen<N: Start>(
+    store: &mut Store<MemorySite, N>,
+    position: u64,
+) -> Result<Reopening, Refusal>
+    requires { HasFailed store.old position }
+    ensures sound { IsSound store.new }
+    ensures settled { result ≡ Ok Reopening.Settled → IsResting store.new (position + 1) }
+    ensures dropped { result ≡ Ok Reopening.Dropped → IsResting store.new position }
+    ensures err { OnErr result (HasFailed store.new position) }
+{
+    store.reopen(0)
 }
 
 // A whole commit, or the number of the call that the disk failed.

@@ -1,7 +1,7 @@
 use Rattle.std.proofs.Common.{[]}
 use Rattle.site_memory.specs.Memory.{memory_history}
 use Rattle.store_tests.specs.Stores.{header}
-use Rattle.store_tests.proofs.commits.check.Given as goal
+use Rattle.store_tests.proofs.commits.check_where.Given as goal
 
 -- the one log is the segment that was just formatted, and any frame and any line may follow
 abbrev pub ghosts-check_begun : goal.ghosts-check_begun
