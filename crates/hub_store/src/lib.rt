@@ -1,7 +1,7 @@
 //! The store: what owns the files and the tape while a call commits and says.
 //!
 //! It owns the site, what was settled, how far the frame of each partition has come, which requests' answers were said, and
-//! whether a device call failed. Each method makes one device call.
+//! whether a device call failed. Each method makes one device call, and `reopen`, which goes on after one that failed, two.
 #![tactic(auto)]
 
 mod begin;
