@@ -70,6 +70,19 @@ fn ask_all(
     Ok(state)
 }
 
+/// The activity that is pending first comes to its end.
+fn finish(alloc: Global, flows: &Flows, state: PartState) -> Result<PartState>
+    requires sound { IsSound state }
+    requires begun { 0 < (state_of state).position }
+    ensures sound { IfOk result (λ state. IsSound state) }
+    ensures begun { IfOk result (λ state. 0 < (state_of state).position) }
+{
+    let item = end(&state)?;
+    let next = apply(alloc, flows, state, &item);
+    drop(item);
+    next
+}
+
 /// Each activity comes to its end.
 fn finish_all(alloc: Global, flows: &Flows, state: PartState, instances: u32) -> Result<PartState>
     requires sound { IsSound state }
@@ -79,10 +92,26 @@ fn finish_all(alloc: Global, flows: &Flows, state: PartState, instances: u32) ->
 {
     let mut state = state;
     for _ in 0..instances {
-        let item = end(&state)?;
-        state = apply(alloc, flows, state, &item)?;
+        state = finish(alloc, flows, state)?;
     }
     Ok(state)
+}
+
+/// What is possible by itself next is done, if anything is: the state, and whether anything was.
+fn step(alloc: Global, flows: &Flows, state: PartState, now: u64) -> Result<(PartState, bool)>
+    requires sound { IsSound state }
+    requires begun { 0 < (state_of state).position }
+    ensures sound { IfOk result (λ both. IsSound both.0) }
+    ensures begun { IfOk result (λ both. 0 < (state_of both.0).position) }
+{
+    match state.enabled(now)? {
+        Some(item) => {
+            let next = apply(alloc, flows, state, &item);
+            drop(item);
+            Ok((next?, true))
+        }
+        None => Ok((state, false)),
+    }
 }
 
 /// All that is possible by itself is done, in its order.
@@ -94,9 +123,10 @@ fn settle(alloc: Global, flows: &Flows, state: PartState, now: u64) -> Result<Pa
 {
     let mut state = state;
     for _ in 0..u64::MAX {
-        match state.enabled(now)? {
-            Some(item) => state = apply(alloc, flows, state, &item)?,
-            None => break,
+        let (next, goes_on) = step(alloc, flows, state, now)?;
+        state = next;
+        if !goes_on {
+            break;
         }
     }
     Ok(state)
