@@ -12,10 +12,15 @@ use dura_value::{
 };
 use part_items::{Entry, Frame, Item, Items};
 use std::alloc::{AllocError, Global};
+use with_value::with;
 
 fn make_text(alloc: Global, size: usize) -> Result<Text, ReadError> {
     let bytes = vec![in alloc; b'a'; size]?;
     Text::read(alloc, &bytes).map_err(|_| ReadError::Memory)
+}
+
+fn make_client(alloc: Global) -> Result<Id, AllocError> {
+    Ok(Id::Client(Name::of(alloc, b"c0")?))
 }
 
 fn make_flow(alloc: Global) -> Result<Id, AllocError> {
@@ -30,9 +35,11 @@ fn make_start(alloc: Global, number: u32) -> Result<Message, ReadError>
     ensures { IfOk result (λ m. CanSpellBody (message_of m).body) }
 {
     let pair = Scalars::pair(alloc, Scalar::Int(number as i64), Scalar::Int(-2))?;
+    let (from, pair) = with(make_client(alloc), pair)?;
+    let ((to, from), pair) = with(with(make_flow(alloc), from), pair)?;
     Ok(Message {
-        from: Id::Client(Name::of(alloc, b"c0")?),
-        to: make_flow(alloc)?,
+        from,
+        to,
         body: Body::Start(Value::List(pair), Reply::Request(number)),
     })
 }
@@ -41,10 +48,13 @@ fn make_raise(alloc: Global, number: u32, size: usize) -> Result<Message, ReadEr
     ensures { IfOk result (λ m. CanSpellBody (message_of m).body) }
 {
     let text = make_text(alloc, size)?;
+    let (from, text) = with(make_client(alloc), text)?;
+    let ((to, from), text) = with(with(make_flow(alloc), from), text)?;
+    let ((event, from), to) = with(with(Name::of(alloc, b"go"), from), to)?;
     Ok(Message {
-        from: Id::Client(Name::of(alloc, b"c0")?),
-        to: make_flow(alloc)?,
-        body: Body::Raise(Name::of(alloc, b"go")?, Value::Text(text), number),
+        from,
+        to,
+        body: Body::Raise(event, Value::Text(text), number),
     })
 }
 
@@ -52,14 +62,13 @@ fn make_operate(alloc: Global, number: u32, size: usize) -> Result<Message, Read
     ensures { IfOk result (λ m. CanSpellBody (message_of m).body) }
 {
     let text = make_text(alloc, size)?;
+    let (from, text) = with(make_flow(alloc), text)?;
+    let ((to, from), text) = with(with(make_entity(alloc), from), text)?;
+    let ((operation, from), to) = with(with(Name::of(alloc, b"put"), from), to)?;
     Ok(Message {
-        from: make_flow(alloc)?,
-        to: make_entity(alloc)?,
-        body: Body::Op(
-            Name::of(alloc, b"put")?,
-            Value::Text(text),
-            Reply::Task(number),
-        ),
+        from,
+        to,
+        body: Body::Op(operation, Value::Text(text), Reply::Task(number)),
     })
 }
 
@@ -71,10 +80,15 @@ fn make_item(alloc: Global, number: u32, size: usize) -> Result<Item, ReadError>
         0 => Ok(Item::Took(make_start(alloc, number)?)),
         1 => Ok(Item::Took(make_raise(alloc, number, size)?)),
         2 => Ok(Item::Got(1, 2, 3, stamp, make_operate(alloc, number, size)?)),
-        3 => Ok(Item::Ran(make_flow(alloc)?, make_entity(alloc)?, stamp)),
+        3 => {
+            let from = make_flow(alloc)?;
+            let (to, from) = with(make_entity(alloc), from)?;
+            Ok(Item::Ran(from, to, stamp))
+        }
         4 => {
             let text = make_text(alloc, size)?;
-            Ok(Item::Done(make_flow(alloc)?, number, Outcome::Done(Value::Text(text))))
+            let (id, text) = with(make_flow(alloc), text)?;
+            Ok(Item::Done(id, number, Outcome::Done(Value::Text(text))))
         }
         _ => Ok(Item::Fired(make_flow(alloc)?, number, stamp)),
     }

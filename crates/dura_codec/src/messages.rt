@@ -16,6 +16,7 @@ use crate::values::take_value;
 use crate::words::{take_key, take_name, take_text};
 use dura_value::{Answer, Body, MOST_SPOTS, Message, Outcome, Spot, Spots};
 use std::alloc::Global;
+use with_value::with;
 
 /// An answer that is a word.
 fn word_of(tag: u8) -> Option<Answer>
@@ -119,10 +120,10 @@ fn take_lock(alloc: Global, bytes: &[u8]) -> Result<(Body, &[u8]), FieldError>
     ensures { Takes body_of result (lock_at bytes.now) }
 {
     let (id, rest) = take_id(alloc, bytes)?;
-    let (task, rest) = take_u32(rest)?;
-    let (count, rest) = take_spot_count(rest)?;
-    let (spots, rest) = take_spots(alloc, count, rest)?;
-    let (index, rest) = take_u8(rest)?;
+    let ((task, rest), id) = with(take_u32(rest), id)?;
+    let ((count, rest), id) = with(take_spot_count(rest), id)?;
+    let ((spots, rest), id) = with(take_spots(alloc, count, rest), id)?;
+    let ((index, rest), id) = with(take_u8(rest), id)?;
     Ok((Body::Lock(id, task, Spots::of(spots), index), rest))
 }
 
@@ -214,7 +215,7 @@ pub fn take_message(alloc: Global, bytes: &[u8]) -> Result<(Message, &[u8]), Fie
     ensures { Takes message_of result (message_at bytes.now) }
 {
     let (from, rest) = take_id(alloc, bytes)?;
-    let (to, rest) = take_id(alloc, rest)?;
-    let (body, rest) = take_body(alloc, rest)?;
+    let ((to, rest), from) = with(take_id(alloc, rest), from)?;
+    let (((body, rest), from), to) = with(with(take_body(alloc, rest), from), to)?;
     Ok((Message { from, to, body }, rest))
 }

@@ -43,7 +43,7 @@ pub enum Answer {
 }
 
 /// What a message says.
-#[derive(Clone, Debug, Drop, PartialEq, Eq)]
+#[derive(Debug, Drop, PartialEq, Eq)]
 pub enum Body {
     /// Start an instance with an argument.
     Start(Value, Reply),
@@ -66,7 +66,7 @@ pub enum Body {
 }
 
 /// A message.
-#[derive(Clone, Debug, Drop, PartialEq, Eq)]
+#[derive(Debug, Drop, PartialEq, Eq)]
 pub struct Message {
     /// Who sends it.
     pub from: Id,
@@ -77,7 +77,7 @@ pub struct Message {
 }
 
 /// A request of a client.
-#[derive(Clone, Debug, Drop, PartialEq, Eq)]
+#[derive(Debug, Drop, PartialEq, Eq)]
 pub struct Request {
     /// Whose it is.
     pub client: Name,

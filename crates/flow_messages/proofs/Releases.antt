@@ -1,11 +1,11 @@
 -- Releases are sent one behind the other.
-use Rattle.std.proofs.Common.{◌≡◌, ◌<◌, ◌+◌, ◌∙◌, ℕ, List, [], ◌∷◌, ◌++◌, length, get_or, drop, map, refl, ap, sym, append_assoc}
+use Rattle.std.proofs.Common.{◌≡◌, ◌<◌, ◌+◌, ◌∙◌, ℕ, List, [], ◌∷◌, ◌++◌, length, get_or, drop, ap, sym, append_assoc}
 use Rattle.std.proofs.lemmas.List.{drop_more, map-append}
 use Rattle.dura_value.specs.Ids.{Id}
 use Rattle.dura_value.specs.Messages.{Message, Spot, at_spot, release}
 use Rattle.dura_value.specs.declared.messages.Message.{Message as OwnMessage}
 use Rattle.dura_value.specs.declared.spots.Spot.{Spot as OwnSpot}
-use Rattle.dura_value.specs.Views.{id_of, spot_of, spots_of, message_of, messages_of}
+use Rattle.dura_value.specs.Views.{spot_of, spots_of, message_of, messages_of}
 use Rattle.flow_syntax.specs.Machine.{releasing}
 
 -- the release of an entity

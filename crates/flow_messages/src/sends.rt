@@ -9,6 +9,7 @@ ghost use Rattle.flow_syntax.specs.Entity.{answering, lock_goes_on};
 use crate::copies::{copy_id, copy_key, copy_name, copy_reply, copy_spots};
 use dura_value::{Answer, Body, Id, Message, Reply, Spot, Spots, Text};
 use std::alloc::{AllocError, Global};
+use with_value::with;
 
 /// The id of an entity.
 pub fn entity_id(spot: &Spot) -> Result<Id, AllocError>
@@ -22,9 +23,11 @@ pub fn release_all(messages: &mut Vec<Message>, id: &Id, set: &[Spot]) -> Result
     ensures { OnOk result (messages_of messages.new.items ≡ messages_of messages.old.items ++ releasing (id_of id.now) (spots_of set.now)) }
 {
     for spot in set {
+        let from = copy_id(id)?;
+        let (to, from) = with(entity_id(spot), from)?;
         messages.push(Message {
-            from: copy_id(id)?,
-            to: entity_id(spot)?,
+            from,
+            to,
             body: Body::Release,
         })?;
     }
@@ -43,12 +46,16 @@ pub fn answer_reply(
 {
     let mut sent = Vec::new(alloc);
     match reply {
-        Reply::None => {}
-        other => sent.push(Message {
-            from: copy_id(from)?,
-            to: copy_id(to)?,
-            body: Body::Result(copy_reply(other), answer),
-        })?,
+        Reply::None => drop(answer),
+        other => {
+            let (from, answer) = with(copy_id(from), answer)?;
+            let (to, (from, answer)) = with(copy_id(to), (from, answer))?;
+            sent.push(Message {
+                from,
+                to,
+                body: Body::Result(copy_reply(other), answer),
+            })?;
+        }
     }
     Ok(sent)
 }
@@ -67,10 +74,14 @@ fn lock_at(
     let Ok(place) = u8::try_from(place) else {
         return Err(AllocError);
     };
+    let from = copy_id(at)?;
+    let (to, from) = with(entity_id(next), from)?;
+    let (id, ends) = with(copy_id(id), (from, to))?;
+    let (set, (id, (from, to))) = with(copy_spots(set), (id, ends))?;
     Ok(Message {
-        from: copy_id(at)?,
-        to: entity_id(next)?,
-        body: Body::Lock(copy_id(id)?, task, copy_spots(set)?, place),
+        from,
+        to,
+        body: Body::Lock(id, task, set, place),
     })
 }
 
@@ -87,11 +98,15 @@ pub fn pass_on(
 {
     match set.as_slice().get(place) {
         Some(next) => lock_at(at, next, id, task, set, place),
-        None => Ok(Message {
-            from: copy_id(at)?,
-            to: copy_id(id)?,
-            body: Body::Granted(task),
-        }),
+        None => {
+            let from = copy_id(at)?;
+            let (to, from) = with(copy_id(id), from)?;
+            Ok(Message {
+                from,
+                to,
+                body: Body::Granted(task),
+            })
+        }
     }
 }
 

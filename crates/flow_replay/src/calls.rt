@@ -18,6 +18,7 @@ use flow_messages::{Asked, Made, copy_id, copy_name, copy_value, entity_id};
 use flow_syntax::Expr;
 use flow_tasks::Kind;
 use std::alloc::{AllocError, Global};
+use with_value::with;
 
 impl<'f> Machine<'f> {
     /// The number of the next task. More than have a number have no room.
@@ -108,9 +109,10 @@ impl<'f> Machine<'f> {
     fn pair(&self, alloc: Global, key: &Expr, argument: &Expr) -> Result<(Key, Value), EvalError>
         ensures { Gives (λ p. (p.0, p.1)) result (pair_in (machine_of self.now).variables (expression_of key.now) (expression_of argument.now)) }
     {
-        let key = self.value(alloc, key)?;
-        let key = to_key(alloc, &key)?;
-        let argument = self.value(alloc, argument)?;
+        let value = self.value(alloc, key)?;
+        let key = to_key(alloc, &value);
+        drop(value);
+        let (argument, key) = with(self.value(alloc, argument), key?)?;
         Ok((key, argument))
     }
 
@@ -118,11 +120,8 @@ impl<'f> Machine<'f> {
     pub(crate) fn send(&self, made: &mut Made, to: Id, body: Body) -> Result<(), AllocError>
         ensures { OnOk result (Makes made.old made.new self.now (record { machine = machine_of self.now; sent = says (machine_of self.now) (id_of to) (body_of body) ∷ []; asked = [] })) }
     {
-        made.messages.push(Message {
-            from: copy_id(&self.id)?,
-            to,
-            body,
-        })?;
+        let (from, (to, body)) = with(copy_id(&self.id), (to, body))?;
+        made.messages.push(Message { from, to, body })?;
         Ok(())
     }
 
@@ -176,10 +175,11 @@ impl<'f> Machine<'f> {
     ) -> Result<(), AllocError>
         ensures { OnOk result (Makes made.old made.new self.new (asks (machine_of self.old) variable.now (spot_of spot) operation.now argument)) }
     {
-        let number = self.handle(variable)?;
-        let to = entity_id(&spot)?;
-        let body = Body::Op(copy_name(operation)?, argument, Reply::Task(number));
-        self.send(made, to, body)?;
+        let (number, (spot, argument)) = with(self.handle(variable), (spot, argument))?;
+        let (to, (spot, argument)) = with(entity_id(&spot), (spot, argument))?;
+        let (operation, (to, spot, argument)) = with(copy_name(operation), (to, spot, argument))?;
+        let body = Body::Op(operation, argument, Reply::Task(number));
+        let (_, spot) = with(self.send(made, to, body), spot)?;
         self.add_task(Kind::Entity(spot))
     }
 
@@ -219,8 +219,9 @@ impl<'f> Machine<'f> {
     ) -> Result<(), AllocError>
         ensures { OnOk result (Makes made.old made.new self.new (signals (machine_of self.old) (spot_of spot.now) operation.now argument)) }
     {
-        let body = Body::Op(copy_name(operation)?, argument, Reply::None);
-        self.send(made, entity_id(spot)?, body)
+        let (to, argument) = with(entity_id(spot), argument)?;
+        let (operation, (to, argument)) = with(copy_name(operation), (to, argument))?;
+        self.send(made, to, Body::Op(operation, argument, Reply::None))
     }
 
     pub(crate) fn step_signal(

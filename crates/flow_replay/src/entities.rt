@@ -17,6 +17,7 @@ use flow_messages::{
 };
 use flow_syntax::{Class, Flows, Stmt};
 use std::alloc::{AllocError, Global};
+use with_value::with;
 
 /// The variables that an operation's body begins with.
 fn for_operation(alloc: Global, value: &Value, argument: &Value) -> Result<Variables, AllocError>
@@ -56,7 +57,9 @@ fn run_operation<'f>(
 {
     let mut machine = begin_operation(alloc, at, value, argument, body)?;
     let mut made = Made::new(alloc);
-    machine.go(alloc, &mut made)?;
+    let gone = machine.go(alloc, &mut made);
+    drop(made);
+    let (_, machine) = with(gone, machine)?;
     Ok(machine)
 }
 
@@ -113,8 +116,9 @@ fn run(
     ensures { IfOk result (λ answer. Finishes answer entity.new (entity_of entity.old) (body_run (id_of at.now) entity.old.value argument.now (block_of body.now))) }
 {
     let end = run_operation(alloc, at, &entity.value, argument, body)?;
-    let answer = finish(alloc, entity, &end)?;
-    Ok(answer)
+    let answer = finish(alloc, entity, &end);
+    drop(end);
+    answer
 }
 
 /// An operation, where the class has it.

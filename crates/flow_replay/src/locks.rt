@@ -17,17 +17,18 @@ use flow_messages::{Made, copy_id, copy_name, copy_spots, entity_id};
 use flow_syntax::{Locked, Stmt};
 use flow_tasks::{Kind, Section, set_of};
 use std::alloc::{AllocError, Global};
+use with_value::with;
 
 impl<'f> Machine<'f> {
     /// An entity that is to be locked.
     fn spot(&self, alloc: Global, one: &Locked) -> Result<Spot, EvalError>
         ensures { Gives spot_of result (spot_in (machine_of self.now).variables (locked_of one.now)) }
     {
-        let key = self.value(alloc, &one.key)?;
-        Ok(Spot {
-            key: to_key(alloc, &key)?,
-            class: copy_name(&one.class)?,
-        })
+        let value = self.value(alloc, &one.key)?;
+        let key = to_key(alloc, &value);
+        drop(value);
+        let (class, key) = with(copy_name(&one.class), key?)?;
+        Ok(Spot { class, key })
     }
 
     /// The entities that are to be locked, in the order in which they are written.
@@ -64,8 +65,9 @@ impl<'f> Machine<'f> {
     {
         match set.as_slice().first() {
             Some(first) => {
-                let body = Body::Lock(copy_id(&self.id)?, number, copy_spots(set)?, 0);
-                self.send(made, entity_id(first)?, body)
+                let (id, to) = with(copy_id(&self.id), entity_id(first)?)?;
+                let (set, (id, to)) = with(copy_spots(set), (id, to))?;
+                self.send(made, to, Body::Lock(id, number, set, 0))
             }
             None => Ok(()),
         }

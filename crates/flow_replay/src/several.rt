@@ -141,7 +141,9 @@ impl<'f> Machine<'f> {
             Ok(value) => value,
             Err(error) => return Err(AwaitError::Eval(error)),
         };
-        match self.tasks.handle(&value) {
+        let named = self.tasks.handle(&value);
+        drop(value);
+        match named {
             Ok(number) => Ok(number),
             Err(fault) => Err(AwaitError::Handle(fault)),
         }
@@ -155,7 +157,9 @@ impl<'f> Machine<'f> {
             Ok(value) => value,
             Err(error) => return Err(AwaitError::Eval(error)),
         };
-        match self.tasks.handles(alloc, &value) {
+        let named = self.tasks.handles(alloc, &value);
+        drop(value);
+        match named {
             Ok(handles) => Ok(handles),
             Err(fault) => Err(AwaitError::Handle(fault)),
         }

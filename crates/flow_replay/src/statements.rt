@@ -52,7 +52,9 @@ impl<'f> Machine<'f> {
         ensures { Gives (λ b. b) result (truth_in (machine_of self.now).variables (expression_of test.now)) }
     {
         let value = self.value(alloc, test)?;
-        to_truth(&value)
+        let truth = to_truth(&value);
+        drop(value);
+        truth
     }
 
     pub(crate) fn step_if(

@@ -21,7 +21,9 @@ impl<'f> Machine<'f> {
         ensures { Gives (λ n. n) result (integer_in (machine_of self.now).variables (expression_of expression.now)) }
     {
         let value = self.value(alloc, expression)?;
-        to_integer(&value)
+        let integer = to_integer(&value);
+        drop(value);
+        integer
     }
 
     /// A timer that is due at this moment.

@@ -121,7 +121,7 @@ impl Tasks {
             arrival: None,
         })?;
         if let Err(error) = self.index.push(&self.tasks[number].kind, number) {
-            self.tasks.pop();
+            drop(self.tasks.pop());
             return Err(error);
         }
         Ok(())

@@ -1,12 +1,18 @@
 -- How long a log would be with a frame.
-use Rattle.std.proofs.Common.{◌≡◌, ℕ, ◌+◌, ◌<◌, ◌≤◌, List, length, Result, Err, ◌∙◌, ap, subst}
+use Rattle.std.proofs.Common.{◌≡◌, ◌≢◌, true, false, ℕ, ◌+◌, ◌<◌, ◌≤◌, List, length, Result, Ok, Err, ◌∙◌, ap, subst}
 use Rattle.std.proofs.Math.ListN.{set}
 use Rattle.std.proofs.lemmas.List.{get_or-set_same}
 use Rattle.commit_log.specs.declared.states.Resting.{Resting}
 use Rattle.dura_value.specs.Items.{Entry}
 use Rattle.part_items.specs.Spelling.{spell_frame}
 use Rattle.hub_store.specs.declared.refusal.BodyRefusal.{BodyRefusal}
-use Rattle.hub_store.specs.declared.refusal.BodyRefusal.TheVariants.{Full}
+use Rattle.hub_store.specs.declared.refusal.BodyRefusal.TheVariants.{Full, SiteFault, Memory}
+use Rattle.hub_store.specs.declared.refusal.Refusal.{Refusal}
+use Rattle.hub_store.specs.declared.refusal.Refusal.TheVariants as refusals
+use Rattle.hub_store.specs.declared.refusal.SayError.{SayError}
+use Rattle.hub_store.specs.declared.refusal.SayError.TheVariants as unsaid
+use Rattle.hub_store.specs.declared.reopen.Reopening.{Reopening}
+use Rattle.hub_store.specs.declared.reopen.Reopening.TheVariants as answers
 use Rattle.hub_store.specs.declared.way.Way.{Way}
 use Rattle.hub_store.specs.declared.way.Way.TheVariants as places
 use Rattle.hub_store.specs.Frames.{length_with}
@@ -25,3 +31,32 @@ length_is way log going payload n way_is payload_is is = is ∙ ap (λ (bytes : 
 -- a way that was put in
 pub way_put : (ways new : List Way) (p : ℕ) (way : Way) → new ≡ set ways p way → p < length ways → way_of new p ≡ way
 way_put ways new p way is below = ap (λ (l : List Way). way_of l p) is ∙ get_or-set_same ways p way places.Away below
+
+-- a log that rests is there
+pub rests_there : (log : Resting) → places.Resting log ≢ places.Away
+rests_there log is = cc
+
+-- answers that differ
+pub true_apart : true ≡ false → ⊥
+true_apart is = cc
+
+pub ok_apart : {T E : Type 0} (value : T) (error : E) → Ok value ≡ Err error → ⊥
+ok_apart value error is = cc
+
+pub full_memory : {T : Type 0} (result : Result T BodyRefusal) (of n : ℕ) → result ≡ Err (Full of n) → result ≡ Err Memory → ⊥
+full_memory result of n full memory = cc
+
+pub full_fault : {T : Type 0} (result : Result T BodyRefusal) (of n : ℕ) → result ≡ Err (Full of n) → result ≡ Err SiteFault → ⊥
+full_fault result of n full fault = cc
+
+pub memory_fault : {T : Type 0} (result : Result T BodyRefusal) → result ≡ Err Memory → result ≡ Err SiteFault → ⊥
+memory_fault result memory fault = cc
+
+pub fault_no_frame : {T : Type 0} (result : Result T Refusal) → result ≡ Err refusals.SiteFault → result ≡ Err refusals.NoFrame → ⊥
+fault_no_frame result fault none = cc
+
+pub dropped_settled : {E : Type 0} (result : Result Reopening E) → result ≡ Ok answers.Dropped → result ≡ Ok answers.Settled → ⊥
+dropped_settled result dropped settled = cc
+
+pub unsaid_apart : {T : Type 0} (result : Result T SayError) → result ≡ Err unsaid.SayFault → result ≡ Err unsaid.Memory → ⊥
+unsaid_apart result fault memory = cc

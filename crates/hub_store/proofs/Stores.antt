@@ -25,6 +25,10 @@ use Rattle.hub_store.specs.Ways.{way_of, going_in, due_in}
 pub put_for : (old mid new : List Way) (p : ℕ) (way : Way) → mid ≡ set old p Away → new ≡ set mid p way → new ≡ set old p way
 put_for old mid new p way taken is = is ∙ ap (λ (l : List Way). set l p way) taken ∙ set-set old p Away way
 
+-- the other ways stay
+pub others_stay : (old new : List Way) (p : ℕ) (way : Way) → new ≡ set old p way → (other : ℕ) → other ≢ p → way_of new other ≡ way_of old other
+others_stay old new p way is other apart = ap (λ (l : List Way). way_of l other) is ∙ get_or-set_other old p other way Away apart
+
 -- a way with a frame is not taken out
 pub with_frame : (way : Way) (going : List Entry) → going_in way ≡ Some going → way ≢ Away
 with_frame way going has is = let none : None ≡ Some going = ap going_in (sym is) ∙ has in cc

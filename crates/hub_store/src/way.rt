@@ -8,7 +8,7 @@ use part_items::Frame;
 use std::mem;
 
 /// How far the frame of a partition has come.
-#[derive(Debug, Drop)]
+#[derive(Drop)]
 pub(crate) enum Way {
     /// No frame is under way.
     Resting(Resting),

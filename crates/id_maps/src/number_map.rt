@@ -81,6 +81,7 @@ impl<V> NumberMap<V> {
     {
         match self.entries.get_mut(&id) {
             Some(numbers) => {
+                drop(id);
                 numbers.insert(number, value)?;
             }
             None => {

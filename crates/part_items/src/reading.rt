@@ -14,6 +14,7 @@ use dura_codec::{
 };
 use dura_value::ReadError;
 use std::alloc::Global;
+use with_value::with;
 
 #[tactic(auto, unfolding(crate::specs::Grammar::took_at))]
 fn take_took(alloc: Global, bytes: &[u8]) -> Result<(Item, &[u8]), FieldError>
@@ -40,8 +41,8 @@ fn take_ran(alloc: Global, bytes: &[u8]) -> Result<(Item, &[u8]), FieldError>
     ensures { Takes item_of result (ran_at bytes.now) }
 {
     let (from, rest) = take_id(alloc, bytes)?;
-    let (to, rest) = take_id(alloc, rest)?;
-    let (stamp, rest) = take_count(rest)?;
+    let ((to, rest), from) = with(take_id(alloc, rest), from)?;
+    let (((stamp, rest), from), to) = with(with(take_count(rest), from), to)?;
     Ok((Item::Ran(from, to, stamp), rest))
 }
 
@@ -50,8 +51,8 @@ fn take_done(alloc: Global, bytes: &[u8]) -> Result<(Item, &[u8]), FieldError>
     ensures { Takes item_of result (done_at bytes.now) }
 {
     let (id, rest) = take_id(alloc, bytes)?;
-    let (task, rest) = take_u32(rest)?;
-    let (outcome, rest) = take_outcome(alloc, rest)?;
+    let ((task, rest), id) = with(take_u32(rest), id)?;
+    let ((outcome, rest), id) = with(take_outcome(alloc, rest), id)?;
     Ok((Item::Done(id, task, outcome), rest))
 }
 
@@ -60,8 +61,8 @@ fn take_fired(alloc: Global, bytes: &[u8]) -> Result<(Item, &[u8]), FieldError>
     ensures { Takes item_of result (fired_at bytes.now) }
 {
     let (id, rest) = take_id(alloc, bytes)?;
-    let (task, rest) = take_u32(rest)?;
-    let (stamp, rest) = take_count(rest)?;
+    let ((task, rest), id) = with(take_u32(rest), id)?;
+    let ((stamp, rest), id) = with(take_count(rest), id)?;
     Ok((Item::Fired(id, task, stamp), rest))
 }
 

@@ -1,5 +1,5 @@
 -- The outcome of an activity that was pending.
-use Rattle.std.proofs.Common.{◌≡◌, inl, inr, ℕ, ◌<◌, ◌&&◌, Bool, true, false, List, [], ◌∷◌, length, Option, Some, None, refl, ap, arith}
+use Rattle.std.proofs.Common.{◌≡◌, inl, inr, ℕ, ◌<◌, ◌&&◌, Bool, true, false, List, [], ◌∷◌, length, Option, Some, None, refl, sym, ◌∙◌, ap, subst, arith}
 use Rattle.std.specs.Char.{is_ascii_alphabetic}
 use Rattle.std.specs.List.{list_all}
 use Rattle.std.specs.Option.{option_map}
@@ -16,12 +16,16 @@ use Rattle.dura_value.specs.Limits.{most_word_bytes}
 use Rattle.dura_value.specs.Names.{is_name, goes_on_name}
 use Rattle.dura_value.specs.declared.outcome.Outcome.{Outcome}
 use Rattle.flow_syntax.specs.Syntax.{Flows}
-use Rattle.part_items.specs.Plain.{item_of}
+use Rattle.activity_table.specs.Table.{may}
+use Rattle.dura_model.specs.Placed.{IsGiven}
+use Rattle.part_files.specs.Placing.{all_accepted}
+use Rattle.part_items.specs.Plain.{item_of, items_of}
 use Rattle.part_items.specs.declared.items.Item.{Item as OwnItem}
 use Rattle.part_steps.specs.States.{state_of}
-use Rattle.part_rounds.specs.Fills.{Puts, IsOfPending, CantEnd}
+use Rattle.part_rounds.specs.Fills.{Fills, GoesOn, Puts, IsOfPending, CantEnd}
 use Rattle.part_rounds.specs.declared.filling.Filling.{Filling}
-use Rattle.part_rounds.proofs.Puttings.{longer_by}
+use Rattle.part_rounds.proofs.Puttings.{longer_by, puts_goes_on}
+use Rattle.run_rules.specs.Rules.{Rules, Told, IsAsked, EndsPending}
 
 both : (a b : Bool) → (a && b) ≡ true → (a ≡ true) × (b ≡ true)
 both true true h = (refl, refl)
@@ -71,3 +75,40 @@ put_idle flows old new item puts pending empty = elim puts.2 [
   | inl put ↦ let grown = longer_by old.items.items new.items.items (item_of item) put.1 in absurd (omega (arith, grown, ap length empty))
   | inr refused ↦ refused_end flows (state_of old.state) (item_of item) pending refused.0
 ]
+
+-- an outcome of an activity that is pending is given, and nobody asks for it
+pending_given : (p : Partition) (item : Item) → IsOfPending p item → IsGiven p item
+pending_given p (ended id task outcome) pending = λ activity is.
+    let same : pending.0 ≡ activity = cc (pending.1, is) in subst (λ (a : Activity). may a.name a.argument outcome ≡ true) same pending.2
+pending_given p (took message) pending = absurd pending
+pending_given p (got source number message) pending = absurd pending
+pending_given p (ran from to stamp) pending = absurd pending
+pending_given p (fired id task stamp) pending = absurd pending
+pending_given p (trim reader number) pending = absurd pending
+
+pending_asked : (rules : Rules) (told : Told) (p : Partition) (item : Item) → IsOfPending p item → IsAsked rules told item
+pending_asked rules told p (ended id task outcome) pending = tt
+pending_asked rules told p (took message) pending = absurd pending
+pending_asked rules told p (got source number message) pending = tt
+pending_asked rules told p (ran from to stamp) pending = tt
+pending_asked rules told p (fired id task stamp) pending = tt
+pending_asked rules told p (trim reader number) pending = tt
+
+pending_there : (p from : Partition) (item : Item) → p ≡ from → IsOfPending p item → EndsPending from item
+pending_there p from (ended id task outcome) same pending = ap (λ (q : Partition). is_some (q.activities id task)) (sym same) ∙ ap is_some pending.1
+pending_there p from (took message) same pending = tt
+pending_there p from (got source number message) same pending = tt
+pending_there p from (ran from_id to stamp) same pending = tt
+pending_there p from (fired id task stamp) same pending = tt
+pending_there p from (trim reader number) same pending = tt
+
+-- no item makes the first state
+makes_first : (flows : Flows) (from p : Partition) (items : List OwnItem) → items ≡ [] → all_accepted flows 1 from (items_of items) ≡ Some p → p ≡ from
+makes_first flows from p items empty made =
+    let first : Some from ≡ Some p = subst (λ (l : List OwnItem). all_accepted flows 1 from (items_of l) ≡ Some p) empty made in cc first
+
+-- it may come first in an entry
+pub ended_goes_on : (rules : Rules) (told : Told) (flows : Flows) (old new : Filling) (item : OwnItem) → rules.flows ≡ flows → old.items.items ≡ [] → Puts flows old item new → IsOfPending (state_of old.state) (item_of item) → GoesOn rules told old new
+ended_goes_on rules told flows old new item same empty puts pending =
+    puts_goes_on rules told flows old new item same puts (pending_given (state_of old.state) (item_of item) pending) (pending_asked rules told (state_of old.state) (item_of item) pending)
+    (λ from fills. pending_there (state_of old.state) from (item_of item) (makes_first rules.flows from (state_of old.state) old.items.items empty fills.accepted) pending)

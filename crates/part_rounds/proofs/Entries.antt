@@ -2,6 +2,7 @@
 use Rattle.std.proofs.Common.{◌≡◌, ℕ, suc, ◌+◌, ◌<◌, List, [], ◌∷◌, ◌++◌, length, Option, Some, None, Ok, refl, sym, ◌∙◌, ap, subst, append_assoc, arith}
 use Rattle.std.proofs.lemmas.List.{length-append}
 use Rattle.std.proofs.lemmas.List.Elements.{All-cons}
+use Rattle.std.specs.List.{All}
 use Rattle.std.specs.Option.{option_and_then}
 use Rattle.std.specs.Prelude.{max}
 use Rattle.commit_log.specs.Segment.{◌>>=◌}
@@ -21,12 +22,21 @@ use Rattle.part_files.proofs.Alone.{are_shown_alone, accepted_is_step}
 use Rattle.part_files.proofs.Appending.{behind_both, labels_both}
 use Rattle.part_files.proofs.EntriesLead.{entries_lead}
 use Rattle.part_items.specs.Numbered.{Next, IsNumbered, behind, behind_all}
-use Rattle.run_rules.specs.Rules.{Rules, Told, IsOurs, Follows}
+use Rattle.run_rules.specs.Rules.{Rules, Told, IsOurs, EndsPending, Follows}
 use Rattle.part_rounds.specs.Comes.{count_labels}
 use Rattle.part_rounds.specs.Fills.{Fills}
 use Rattle.part_rounds.specs.Rounds.{entry_at, Stands, IsTimely, IsFilled}
 use Rattle.part_rounds.proofs.Moments.{items_by}
 use Rattle.run_rules.proofs.Going.{followed_made, by_later}
+
+-- what is pending in an entry that has begun was pending before
+before_life : (p : Partition) (life : ℕ) (item : Item) → EndsPending (enter life p) item → EndsPending p item
+before_life p life (took message) pending = pending
+before_life p life (got source number message) pending = pending
+before_life p life (ran from to stamp) pending = pending
+before_life p life (ended id task outcome) pending = pending
+before_life p life (fired id task stamp) pending = pending
+before_life p life (trim reader number) pending = pending
 
 module _ (rules : Rules) (settled : List Entry) (p : Partition) (made : placed rules.flows 1 rules.begin settled ≡ Ok p) where
   -- an entry of this call with these items
@@ -39,6 +49,7 @@ module _ (rules : Rules) (settled : List Entry) (p : Partition) (made : placed r
     given = (fills.given, λ next is. tt);
     ours = All-cons (IsOurs rules latest told) (entry_at rules p items) [] (record { life = refl; asked = fills.asked; timely = λ k d inside. by_later q.stamp (max rules.begin.stamp latest) timely _ ((items_by rules.flows items (enter rules.life p) q fills.accepted).1 k d inside) })
         (λ k d inside. absurd (omega (arith, inside)));
+    pending = All-cons (λ (entry : Entry). All (EndsPending p) entry.items) (entry_at rules p items) [] (λ k d inside. before_life p rules.life _ (fills.pending k d inside)) (λ k d inside. absurd (omega (arith, inside)));
   }
 
 -- both steps of two were made

@@ -12,7 +12,7 @@ use Rattle.part_files.specs.Placing.{all_accepted, AreGiven}
 use Rattle.part_steps.specs.Enabled.{Makes, is_at}
 use Rattle.part_steps.specs.Enabled.Makes.{nothing, one_more}
 use Rattle.part_steps.specs.Outputs.{Outputs}
-use Rattle.run_rules.specs.Rules.{Rules, Told, IsAsked}
+use Rattle.run_rules.specs.Rules.{Rules, Told, IsAsked, EndsPending}
 use Rattle.part_rounds.specs.Fills.{Fills}
 
 module _ (flows : Flows) where
@@ -33,17 +33,19 @@ module _ (flows : Flows) where
 
 module _ (rules : Rules) (told : Told) where
   pub fills_nothing : (p : Partition) → Fills rules told p [] p
-  fills_nothing p = record { accepted = refl; given = tt; asked = λ k d inside. absurd (omega (arith, inside)) }
+  fills_nothing p = record { accepted = refl; given = tt; asked = λ k d inside. absurd (omega (arith, inside)); pending = λ k d inside. absurd (omega (arith, inside)) }
 
   last_one : (P : Item → Type 0) (a : List Item) (item : Item) → All P a → P item → All P (a ++ item ∷ [])
   last_one P a item all one = All-append P a (item ∷ []) all (All-cons P item [] one (λ k d inside. absurd (omega (arith, inside))))
 
-  pub fills_more : (p q r : Partition) (items : List Item) (item : Item) → Fills rules told p items q → accepted rules.flows 1 q item ≡ Some r → IsGiven q item → IsAsked rules told item → Fills rules told p (items ++ item ∷ []) r
-  fills_more p q r items item fills is given asked = record {
+  pub fills_more : (p q r : Partition) (items : List Item) (item : Item) → Fills rules told p items q → accepted rules.flows 1 q item ≡ Some r → IsGiven q item → IsAsked rules told item → EndsPending p item
+      → Fills rules told p (items ++ item ∷ []) r
+  fills_more p q r items item fills is given asked pending = record {
     accepted = accepted_both rules.flows p items (item ∷ []) ∙ ap (option_and_then (λ s. all_accepted rules.flows 1 s (item ∷ []))) fills.accepted ∙ ap (option_and_then (λ s. all_accepted rules.flows 1 s [])) is;
     given = given_both rules.flows p items (item ∷ []) fills.given
         (λ s made. let same : q ≡ s = cc (fills.accepted, made) in subst (λ (x : Partition). AreGiven rules.flows 1 x (item ∷ [])) same (given, λ next step. tt));
     asked = last_one (IsAsked rules told) items item fills.asked asked;
+    pending = last_one (EndsPending p) items item fills.pending pending;
   }
 
   -- a delivery or a timer that is accepted is given, and asks for nothing
@@ -59,15 +61,30 @@ module _ (rules : Rules) (told : Told) where
   step_given p q (ended id task outcome) moment at is = absurd (cc at)
   step_given p q (trim reader number) moment at is = absurd (cc at)
 
+  -- nor does it end an activity
+  step_pending : (p : Partition) (item : Item) (moment : ℕ) → is_at item moment ≡ true → EndsPending p item
+  step_pending p (ran from to stamp) moment at = tt
+  step_pending p (fired id task stamp) moment at = tt
+  step_pending p (took message) moment at = tt
+  step_pending p (got source number message) moment at = tt
+  step_pending p (ended id task outcome) moment at = absurd (cc at)
+  step_pending p (trim reader number) moment at = tt
+
+  pub makes_pending : {now : ℕ} {first : Partition} {items : List Item} {made : List Outputs} {p : Partition} → (from : Partition) → Makes rules.flows 1 now first items made p → All (EndsPending from) items
+  makes_pending from nothing = λ k d inside. absurd (omega (arith, inside))
+  makes_pending from (one_more {items} {made} {p} {q} before item at is) =
+      last_one (EndsPending from) items item (makes_pending from before) (step_pending from item _ at)
+
   pub makes_fills : {now : ℕ} {first : Partition} {items : List Item} {made : List Outputs} {p : Partition} → Makes rules.flows 1 now first items made p → Fills rules told first items p
   makes_fills {first} nothing = fills_nothing first
   makes_fills {now} {first} (one_more {items} {made} {p} {q} before item at is) =
       let both = step_given p q item _ at is in
-      fills_more first p q items item (makes_fills before) is both.0 both.1
+      fills_more first p q items item (makes_fills before) is both.0 both.1 (step_pending first item _ at)
 
-  pub fills_all : (p q r : Partition) (a b : List Item) → Fills rules told p a q → Fills rules told q b r → Fills rules told p (a ++ b) r
-  fills_all p q r a b first more = record {
+  pub fills_all : (p q r : Partition) (a b : List Item) → Fills rules told p a q → Fills rules told q b r → All (EndsPending p) b → Fills rules told p (a ++ b) r
+  fills_all p q r a b first more pending = record {
     accepted = accepted_both rules.flows p a b ∙ ap (option_and_then (λ s. all_accepted rules.flows 1 s b)) first.accepted ∙ more.accepted;
     given = given_both rules.flows p a b first.given (λ s made. let same : q ≡ s = cc (first.accepted, made) in subst (λ (x : Partition). AreGiven rules.flows 1 x b) same more.given);
     asked = All-append (IsAsked rules told) a b first.asked more.asked;
+    pending = All-append (EndsPending p) a b first.pending pending;
   }

@@ -12,11 +12,11 @@ use Rattle.part_items.specs.Plain.{item_of, items_of}
 use Rattle.part_items.specs.declared.items.Item.{Item as OwnItem}
 use Rattle.part_steps.specs.States.{state_of, count_of, IsSound}
 use Rattle.request_reader.specs.Line.{Request}
-use Rattle.run_rules.specs.Rules.{Rules, Told, count_told, IsDue, IsAsked}
+use Rattle.run_rules.specs.Rules.{Rules, Told, count_told, IsDue, IsAsked, EndsPending}
 use Rattle.part_rounds.specs.Fills.{Fills, IsUnderWay, GoesOn, Puts, CantTake}
 use Rattle.part_rounds.specs.Rounds.{pairs_of, HasSaid}
 use Rattle.part_rounds.specs.declared.filling.Filling.{Filling}
-use Rattle.part_rounds.proofs.Fillings.{fills_more, fills_all, makes_fills}
+use Rattle.part_rounds.proofs.Fillings.{fills_more, fills_all, makes_fills, makes_pending}
 use Rattle.part_steps.specs.Enabled.{Makes, NoneEnabled, moment_at}
 use Rattle.part_steps.specs.Enabled.Makes.{nothing, one_more}
 use Rattle.part_steps.specs.Outputs.{Outputs}
@@ -39,15 +39,16 @@ accepted_puts flows old new item way made count position sound items = (
 )
 
 -- an item that is given where it is put, and asked for
-pub puts_goes_on : (rules : Rules) (told : Told) (flows : Flows) (old new : Filling) (item : OwnItem) → rules.flows ≡ flows → Puts flows old item new → IsGiven (state_of old.state) (item_of item) → IsAsked rules told (item_of item) → GoesOn rules told old new
-puts_goes_on rules told flows old new item same puts given asked = elim puts.2 [
+pub puts_goes_on : (rules : Rules) (told : Told) (flows : Flows) (old new : Filling) (item : OwnItem) → rules.flows ≡ flows → Puts flows old item new → IsGiven (state_of old.state) (item_of item) → IsAsked rules told (item_of item)
+    → ((from : Partition) → Fills rules told from (items_of old.items.items) (state_of old.state) → EndsPending from (item_of item)) → GoesOn rules told old new
+puts_goes_on rules told flows old new item same puts given asked pending = elim puts.2 [
   | inl put ↦ record {
     way = puts.0;
     position = puts.1;
     fills = λ from fills.
         subst (λ (l : List Item). Fills rules told from l (state_of new.state)) (sym put.1)
         (fills_more rules told from (state_of old.state) (state_of new.state) (items_of old.items.items) (item_of item) fills
-        (ap (λ (f : Flows). accepted f 1 (state_of old.state) (item_of item)) same ∙ put.0) given asked);
+        (ap (λ (f : Flows). accepted f 1 (state_of old.state) (item_of item)) same ∙ put.0) given asked (pending from fills));
     longer = omega (arith, longer_by old.items.items new.items.items (item_of item) put.1);
   }
   | inr refused ↦ record {
@@ -96,7 +97,7 @@ filled_goes_on rules told flows old new count now more made same one makes items
       way = way;
       position = position;
       fills = λ from fills. subst (λ (l : List Item). Fills rules told from l (state_of new.state)) (sym all)
-          (fills_all rules told from (state_of old.state) (state_of new.state) (items_of old.items.items) (items_of more) fills (makes_fills rules told own));
+          (fills_all rules told from (state_of old.state) (state_of new.state) (items_of old.items.items) (items_of more) fills (makes_fills rules told own) (makes_pending rules told from own));
       longer = let lengths : length new.items.items ≡ length old.items.items + length more = ap length items ∙ length-append old.items.items more in omega (arith, lengths);
     }
 

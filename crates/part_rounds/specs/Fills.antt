@@ -16,14 +16,15 @@ use Rattle.part_steps.specs.Enabled.{NoneEnabled, moment_at}
 use Rattle.part_steps.specs.States.{state_of, count_of, IsSound}
 use Rattle.part_rounds.specs.declared.filling.Filling.{Filling}
 use Rattle.request_reader.specs.Line.{Request}
-use Rattle.run_rules.specs.Rules.{Rules, Told, IsAsked}
+use Rattle.run_rules.specs.Rules.{Rules, Told, IsAsked, EndsPending}
 
 -- These items are accepted one after another from the first state on and make the other; each outcome among them is one that its
--- activity may give, and each request is due.
+-- activity may give, which is pending in the first state already, and each request is due.
 pub record Fills (rules : Rules) (told : Told) (from : Partition) (items : List Item) (to : Partition) : Type 0 where
   pub accepted : all_accepted rules.flows 1 from items ≡ Some to
   pub given : AreGiven rules.flows 1 from items
   pub asked : All (IsAsked rules told) items
+  pub pending : All (EndsPending from) items
 
 -- its state is the one partition's, in an entry that has begun
 pub record IsUnderWay (filling : Filling) : Type 0 where

@@ -1,11 +1,11 @@
 -- The first message of a link, by its place.
-use Rattle.std.proofs.Common.{◌≡◌, ◌∙◌, ◌<◌, ◌≤◌, ◌+◌, ◌&&◌, ℕ, suc, List, [], ◌∷◌, length, Bool, true, false, not, Some, None, get_or, nat_lt, refl, ap, sym, subst, cond, arith}
+use Rattle.std.proofs.Common.{◌≡◌, ◌∙◌, ◌<◌, ◌≤◌, ◌+◌, ℕ, suc, List, [], ◌∷◌, length, Bool, true, false, not, Some, None, get_or, nat_lt, refl, ap, sym, subst, cond, arith}
 use Rattle.std.proofs.lemmas.Bool.{ltb-true, ltb-false}
 use Rattle.std.specs.List.{position, position_or_len, remove}
 use Rattle.dura_value.specs.declared.messages.Message.{Message}
-use Rattle.dura_value.specs.Ids.{Id, id_eq}
+use Rattle.dura_value.specs.Ids.{Id}
 use Rattle.dura_value.specs.Messages as said
-use Rattle.dura_value.specs.Views.{id_of, body_of, message_of, messages_of}
+use Rattle.dura_value.specs.Views.{body_of, message_of, messages_of}
 use Rattle.dura_model.specs.Partition.{first_in, without_first}
 use Rattle.part_rows.specs.Queues.{is_of_link}
 

@@ -12,7 +12,6 @@ use Rattle.dura_value.specs.Views.{id_of, body_of, messages_of}
 use Rattle.flow_syntax.specs.Entity.{Entity}
 use Rattle.dura_model.specs.Partition.{first_in}
 use Rattle.part_rows.specs.Open.{lets_in}
-use Rattle.part_rows.specs.Queues.{is_of_link}
 
 module _ (entities : Id → Option Entity) where
   abbrev pub is_taken : Message → Bool

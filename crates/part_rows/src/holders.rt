@@ -13,6 +13,7 @@ use crate::rows::Row;
 use dura_value::{Id, Message};
 use flow_messages::{Entity, copy_id};
 use std::alloc::AllocError;
+use with_value::with;
 
 impl PartRows {
     /// Whether a receiver takes what a sender sends: an entity that is held takes only what its holder sends.
@@ -80,7 +81,7 @@ impl PartRows {
         ensures timers { self.new.timers ≡ self.old.timers }
         ensures partitions { self.new.partitions ≡ self.old.partitions }
     {
-        let id = copy_id(id)?;
+        let (id, entity) = with(copy_id(id), entity)?;
         self.entities.put(id, entity)?;
         Ok(())
     }
@@ -114,7 +115,7 @@ impl PartRows {
         match row {
             Some(row) => self.put_instance(id, row),
             None => {
-                self.take_instance(id);
+                drop(self.take_instance(id));
                 Ok(())
             }
         }

@@ -29,6 +29,7 @@ impl PartRows {
         ensures partitions { self.new.partitions ≡ self.old.partitions }
     {
         let Some(next) = number.checked_add(1) else {
+            drop(message);
             return Err(AllocError);
         };
         let reader = self.entry();
@@ -60,6 +61,7 @@ impl PartRows {
         ensures partitions { self.new.partitions ≡ self.old.partitions }
     {
         if !self.is_next(source.partition, number, &message) {
+            drop(message);
             return Ok(false);
         }
         self.take_in(source.partition, number, message)?;

@@ -14,6 +14,7 @@ use crate::rows::Activity;
 use dura_value::Id;
 use flow_messages::{Asked, copy_id};
 use std::alloc::{AllocError, Global};
+use with_value::with;
 
 impl PartRows {
     /// An activity of an instance's task is pending.
@@ -28,7 +29,7 @@ impl PartRows {
         ensures timers { self.new.timers ≡ self.old.timers }
         ensures partitions { self.new.partitions ≡ self.old.partitions }
     {
-        let id = copy_id(id)?;
+        let (id, activity) = with(copy_id(id), activity)?;
         self.activities.put(alloc, id, task, activity)?;
         Ok(())
     }

@@ -13,6 +13,7 @@ use crate::parts::PartRows;
 use dura_value::{Answer, Body, Id, Message, Reply, home};
 use flow_messages::copy_id;
 use std::alloc::{AllocError, Global};
+use with_value::with;
 
 impl PartRows {
     /// Whether a request of a client was taken.
@@ -34,7 +35,7 @@ impl PartRows {
         ensures timers { self.new.timers ≡ self.old.timers }
         ensures partitions { self.new.partitions ≡ self.old.partitions }
     {
-        let client = copy_id(client)?;
+        let (client, message) = with(copy_id(client), message)?;
         self.taken.put(alloc, client, number, message)?;
         Ok(())
     }
@@ -51,7 +52,7 @@ impl PartRows {
         ensures timers { self.new.timers ≡ self.old.timers }
         ensures partitions { self.new.partitions ≡ self.old.partitions }
     {
-        let client = copy_id(client)?;
+        let (client, answer) = with(copy_id(client), answer)?;
         self.answers.put(alloc, client, number, answer)?;
         Ok(())
     }

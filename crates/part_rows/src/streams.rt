@@ -110,7 +110,7 @@ impl Outbox {
         ensures { outbox_of self.new ≡ begins_at number (outbox_of self.old) }
     {
         while self.first < number {
-            self.messages.pop_front();
+            drop(self.messages.pop_front());
             self.first += 1;
         }
     }

@@ -1,5 +1,5 @@
 -- What is seen through two views is seen through both; and what is there keeps a partition from being quiet.
-use Rattle.std.proofs.Common.{◌≡◌, ◌∙◌, ℕ, true, false, Option, Some, None, IsSome, refl, ap, sym}
+use Rattle.std.proofs.Common.{◌≡◌, ◌∙◌, ℕ, true, false, Option, Some, None, IsSome, ap, sym}
 use Rattle.std.specs.Prelude.{option_map, is_some}
 use Rattle.dura_value.specs.Ids.{Id}
 use Rattle.timer_row.specs.Timers.{IsNext, NoTimer}

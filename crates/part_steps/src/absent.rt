@@ -17,6 +17,7 @@ use flow_messages::{Event, copy_id, copy_reply, copy_value};
 use flow_replay::Machine;
 use flow_syntax::{Flows, Stmt};
 use std::alloc::{AllocError, Global};
+use with_value::with;
 
 /// It isn't there, and this is answered.
 fn stay_away<'f>(alloc: Global, sent: Vec<Message>) -> Effect<'f>
@@ -54,7 +55,8 @@ fn new_instance<'f>(alloc: Global, id: &Id, body: &'f [Stmt]) -> Result<Instance
 pub(crate) fn start_event(from: &Id, argument: &Value, reply: &Reply) -> Result<Event, AllocError>
     ensures { IfOk result (λ event. event_of event ≡ started (id_of from.now) argument.now (reply_of reply.now)) }
 {
-    Ok(Event::Started(copy_id(from)?, copy_value(argument)?, copy_reply(reply)))
+    let (argument, from) = with(copy_value(argument), copy_id(from)?)?;
+    Ok(Event::Started(from, argument, copy_reply(reply)))
 }
 
 /// An instance begins with the body of its flow.
@@ -69,10 +71,12 @@ fn begin_with<'f>(
     ensures { IfOk result (λ e. effect_of e ≡ begun (id_of message.now.from) (id_of message.now.to) argument.now (reply_of reply.now) stamp (Some (body_of body.entry))) }
 {
     let instance = new_instance(alloc, &message.to, body)?;
-    let event = start_event(&message.from, argument, reply)?;
-    let before = begin(alloc, &message.to, &message.from, reply)?;
-    let effect = go_on_from(alloc, instance, &event, stamp, before)?;
-    Ok(effect)
+    let (event, instance) = with(start_event(&message.from, argument, reply), instance)?;
+    let begun = begin(alloc, &message.to, &message.from, reply);
+    let (before, (event, instance)) = with(begun, (event, instance))?;
+    let effect = go_on_from(alloc, instance, &event, stamp, before);
+    drop(event);
+    effect
 }
 
 /// An instance begins, where its flow is there.

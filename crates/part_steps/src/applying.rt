@@ -30,6 +30,7 @@ use flow_syntax::Flows;
 use part_items::Item;
 use part_rows::{Identity, PartRows, copy_message};
 use std::alloc::{AllocError, Global};
+use with_value::with;
 
 /// Outputs.
 fn outputs(sent: Vec<Message>, answers: Vec<Answered>) -> Outputs
@@ -140,8 +141,9 @@ fn run(
     let Some(message) = rows.queue.take_first(from, to) else {
         return Ok(None);
     };
-    let made = reach_first(alloc, flows, rows, &message, stamp)?;
-    Ok(Some(made))
+    let made = reach_first(alloc, flows, rows, &message, stamp);
+    drop(message);
+    Ok(Some(made?))
 }
 
 /// An event reaches an instance, which goes on. What it sends comes back.
@@ -160,7 +162,8 @@ fn go_on(
     ensures order { OnOk result (InOrder rows.new.timers) }
     ensures partitions { rows.new.partitions ≡ rows.old.partitions }
 {
-    let effect = go_on_from(alloc, instance, &event, stamp, Vec::new(alloc))?;
+    let gone_on = go_on_from(alloc, instance, &event, stamp, Vec::new(alloc));
+    let (effect, event) = with(gone_on, event)?;
     let sent = keep(alloc, rows, id, stamp, Some(event), effect)?;
     Ok(sent_alone(alloc, sent))
 }
@@ -213,7 +216,8 @@ fn finish(
         return Ok(None);
     };
     drop_activity(rows, id, task);
-    let event = Event::Resulted(task, answer_of(outcome)?);
+    let (answer, instance) = with(answer_of(outcome), instance)?;
+    let event = Event::Resulted(task, answer);
     let stamp = instance.machine.last;
     let made = go_on(alloc, rows, id, instance, event, stamp)?;
     Ok(Some(made))
@@ -250,7 +254,7 @@ fn fire(
     let Some(instance) = instance_at(alloc, flows, rows, id)? else {
         return Ok(None);
     };
-    rows.take_timer(id, task)?;
+    let (_, instance) = with(rows.take_timer(id, task), instance)?;
     rows.raise_to(stamp);
     let made = go_on(alloc, rows, id, instance, Event::Fired(task), stamp)?;
     Ok(Some(made))

@@ -13,6 +13,7 @@ use dura_value::Outputs;
 use flow_syntax::Flows;
 use part_items::Item;
 use std::alloc::{AllocError, Global};
+use with_value::with;
 
 /// Items, applied one after another.
 #[derive(Drop)]
@@ -46,8 +47,8 @@ fn with_item(
     ensures items { IfOk result (λ batch. batch.items.items ≡ items.items ++ item ∷ []) }
     ensures outputs { IfOk result (λ batch. batch.outputs.items ≡ outputs.items ++ made ∷ []) }
 {
-    items.push(item)?;
-    outputs.push(made)?;
+    let (_, (state, made)) = with(items.push(item), (state, made))?;
+    let (_, state) = with(outputs.push(made), state)?;
     Ok(Batch {
         state,
         items,
@@ -66,10 +67,12 @@ pub(crate) fn add_next(
     requires begun { 0 < (state_of batch.state).position }
     ensures { IfOk result (λ turn. GoesOn (flows_of flows.now) now batch turn) }
 {
-    let Some(item) = batch.state.enabled(now)? else {
+    let (enabled, batch) = with(batch.state.enabled(now), batch)?;
+    let Some(item) = enabled else {
         return Ok(Turn::Over(batch));
     };
-    match batch.state.apply(alloc, flows, &item)? {
+    let (verdict, item) = with(batch.state.apply(alloc, flows, &item), item)?;
+    match verdict {
         Verdict::Accepted(state, made) => {
             let next = with_item(state, batch.items, batch.outputs, item, made)?;
             Ok(Turn::More(next))

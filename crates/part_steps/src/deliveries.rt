@@ -16,6 +16,7 @@ use flow_replay::replay;
 use flow_syntax::Flows;
 use part_rows::{Row, Waiting};
 use std::alloc::{AllocError, Global};
+use with_value::with;
 
 /// An instance has a new last moment.
 fn at<'f>(mut instance: Instance<'f>, stamp: u64) -> Instance<'f>
@@ -57,10 +58,8 @@ pub fn instance_of_row<'f>(
 ) -> Result<Instance<'f>, AllocError>
     ensures { IfOk result (λ o. instance_of o ≡ instance_in (flows_of flows.now) (id_of id.now) (row_of row.now)) }
 {
-    let mut machine = replay(alloc, id, flow_in(flows, id), &row.history)?;
+    let machine = replay(alloc, id, flow_in(flows, id), &row.history)?;
+    let (waiting, mut machine) = with(copy_waiting(&row.waiting), machine)?;
     machine.last = row.stamp;
-    Ok(Instance {
-        machine,
-        waiting: copy_waiting(&row.waiting)?,
-    })
+    Ok(Instance { machine, waiting })
 }

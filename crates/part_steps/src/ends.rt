@@ -14,6 +14,7 @@ use dura_value::{Answer, Message};
 use flow_messages::{Asked, Event, copy_text, copy_value};
 use flow_replay::Progress;
 use std::alloc::{AllocError, Global};
+use with_value::with;
 
 /// What an instance that has come to its end is answered with.
 pub(crate) fn end_answer(progress: &Progress) -> Result<Option<Answer>, AllocError>
@@ -29,13 +30,14 @@ pub(crate) fn end_answer(progress: &Progress) -> Result<Option<Answer>, AllocErr
 /// The clients that wait are answered behind all that is sent, and what is pending is given up.
 fn finish<'f>(
     alloc: Global,
-    mut instance: Instance<'f>,
+    instance: Instance<'f>,
     mut sent: Vec<Message>,
     answer: &Answer,
 ) -> Result<Effect<'f>, AllocError>
     ensures { IfOk result (λ e. effect_of e ≡ ended_with (instance_of instance.entry) (messages_of sent.items) (answer_of answer.now)) }
 {
-    answer_all(&mut sent, &instance.machine.id, &instance.waiting, answer)?;
+    let answered = answer_all(&mut sent, &instance.machine.id, &instance.waiting, answer);
+    let (_, mut instance) = with(answered, instance)?;
     instance.waiting.clear();
     Ok(Effect {
         instance: Some(instance),
@@ -54,10 +56,12 @@ fn settle<'f>(
 ) -> Result<Effect<'f>, AllocError>
     ensures { IfOk result (λ e. effect_of e ≡ settled_with (instance_of instance.entry) (messages_of sent.items) (map asked_of asked.items) (ending (instance_of instance.entry).machine.progress)) }
 {
-    match end_answer(&instance.machine.progress)? {
+    let (answer, instance) = with(end_answer(&instance.machine.progress), instance)?;
+    match answer {
         Some(answer) => {
-            let effect = finish(alloc, instance, sent, &answer)?;
-            Ok(effect)
+            let effect = finish(alloc, instance, sent, &answer);
+            drop(answer);
+            effect
         }
         None => Ok(Effect {
             instance: Some(instance),
@@ -87,8 +91,9 @@ pub fn go_on_from<'f>(
 ) -> Result<Effect<'f>, AllocError>
     ensures { IfOk result (λ e. effect_of e ≡ goes_on_from (instance_of instance.entry) (event_of event.now) stamp (messages_of before.items)) }
 {
-    let made = instance.machine.advance(alloc, event, stamp)?;
-    let sent = join(before, made.messages)?;
+    let advanced = instance.machine.advance(alloc, event, stamp);
+    let (made, instance) = with(advanced, instance)?;
+    let (sent, instance) = with(join(before, made.messages), instance)?;
     let effect = settle(alloc, instance, sent, made.asked)?;
     Ok(effect)
 }

@@ -50,11 +50,13 @@ fn next_row(
 ) -> Result<Row, AllocError>
     ensures { IfOk result (λ next. row_of next ≡ row_after (option_map row_of row) stamp (option_map event_of event) (instance_of instance.entry)) }
 {
+    let Instance { machine, waiting } = instance;
+    drop(machine);
     let history = add_event(history_in(alloc, row), stamp, event)?;
     Ok(Row {
         stamp,
         history,
-        waiting: instance.waiting,
+        waiting,
     })
 }
 

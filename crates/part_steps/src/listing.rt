@@ -33,7 +33,9 @@ fn standing_of_row(alloc: Global, flows: &Flows, id: &Id, row: &Row) -> Result<A
     ensures { IfOk result (λ answer. answer_of answer ≡ standing (instance_in (flows_of flows.now) (id_of id.now) (row_of row.now)).machine.progress) }
 {
     let instance = instance_of_row(alloc, flows, id, row)?;
-    stand(&instance.machine.progress)
+    let standing = stand(&instance.machine.progress);
+    drop(instance);
+    standing
 }
 
 impl PartState {

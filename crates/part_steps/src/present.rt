@@ -1,6 +1,6 @@
 //! Each kind of message to an instance that is there.
 
-ghost use Rattle.std.specs.Prelude.{◌≡◌, [], true, codes, IfOk};
+ghost use Rattle.std.specs.Prelude.{◌≡◌, ◌++◌, ◌∷◌, [], true, codes, Some, IfOk};
 ghost use Rattle.dura_value.specs.Messages.{was_there};
 ghost use Rattle.dura_value.specs.Views.{id_of, reply_of, answer_of, body_of as said_of, messages_of};
 ghost use Rattle.flow_syntax.specs.Machine.{was_raised as raised_event};
@@ -17,6 +17,7 @@ use flow_messages::{Event, copy_id, copy_name, copy_text, copy_value};
 use flow_replay::Progress;
 use part_rows::{Waiting, copy_answer};
 use std::alloc::{AllocError, Global};
+use with_value::with;
 
 /// It stays as it is, and this is answered.
 fn stay<'f>(alloc: Global, instance: Instance<'f>, sent: Vec<Message>) -> Effect<'f>
@@ -48,26 +49,50 @@ pub(crate) fn has_ended(progress: &Progress) -> bool
     matches!(progress, Progress::Done(_) | Progress::Failed(_))
 }
 
+/// A client is answered with its end.
+fn tell_end<'f>(
+    alloc: Global,
+    instance: Instance<'f>,
+    from: &Id,
+    to: &Id,
+    number: u32,
+    answer: Answer,
+) -> Result<Effect<'f>, AllocError>
+    ensures { IfOk result (λ e. effect_of e ≡ waited (instance_of instance.entry).machine (instance_of instance.entry).waiting (id_of from.now) (id_of to.now) number (Some (answer_of answer))) }
+{
+    let (sent, instance) = with(tell(alloc, to, from, number, answer), instance)?;
+    Ok(stay(alloc, instance, sent))
+}
+
+/// A client waits for its end.
+fn await_end<'f>(
+    alloc: Global,
+    instance: Instance<'f>,
+    from: &Id,
+    number: u32,
+) -> Result<Effect<'f>, AllocError>
+    ensures { IfOk result (λ e. effect_of e ≡ stays_so (instance_of instance.entry).machine ((instance_of instance.entry).waiting ++ (id_of from.now, number) ∷ []) []) }
+{
+    let (client, mut instance) = with(copy_id(from), instance)?;
+    let pushed = instance.waiting.push(Waiting { client, number });
+    let (_, instance) = with(pushed, instance)?;
+    Ok(stay(alloc, instance, Vec::new(alloc)))
+}
+
 /// A client waits for its end, or is answered where it has come to it.
 fn wait<'f>(
     alloc: Global,
-    mut instance: Instance<'f>,
+    instance: Instance<'f>,
     from: &Id,
     to: &Id,
     number: u32,
 ) -> Result<Effect<'f>, AllocError>
     ensures { IfOk result (λ e. effect_of e ≡ waited (instance_of instance.entry).machine (instance_of instance.entry).waiting (id_of from.now) (id_of to.now) number (ending (instance_of instance.entry).machine.progress)) }
 {
-    match end_answer(&instance.machine.progress)? {
-        Some(answer) => {
-            let sent = tell(alloc, to, from, number, answer)?;
-            Ok(stay(alloc, instance, sent))
-        }
-        None => {
-            let client = copy_id(from)?;
-            instance.waiting.push(Waiting { client, number })?;
-            Ok(stay(alloc, instance, Vec::new(alloc)))
-        }
+    let (answer, instance) = with(end_answer(&instance.machine.progress), instance)?;
+    match answer {
+        Some(answer) => tell_end(alloc, instance, from, to, number, answer),
+        None => await_end(alloc, instance, from, number),
     }
 }
 
@@ -91,13 +116,16 @@ fn raise<'f>(
     ensures { IfOk result (λ e. effect_of e ≡ raised_at (instance_of instance.entry) (id_of message.now.from) (id_of message.now.to) stamp name.now value.now number (is_over (instance_of instance.entry).machine.progress)) }
 {
     if has_ended(&instance.machine.progress) {
-        let sent = tell(alloc, &message.to, &message.from, number, Answer::Ended)?;
+        let told = tell(alloc, &message.to, &message.from, number, Answer::Ended);
+        let (sent, instance) = with(told, instance)?;
         return Ok(stay(alloc, instance, sent));
     }
-    let event = raise_event(name, value)?;
-    let before = tell(alloc, &message.to, &message.from, number, Answer::Raised)?;
-    let effect = go_on_from(alloc, instance, &event, stamp, before)?;
-    Ok(effect)
+    let (event, instance) = with(raise_event(name, value), instance)?;
+    let told = tell(alloc, &message.to, &message.from, number, Answer::Raised);
+    let (before, (event, instance)) = with(told, (event, instance))?;
+    let effect = go_on_from(alloc, instance, &event, stamp, before);
+    drop(event);
+    effect
 }
 
 /// An event reaches it, and nothing is sent before.
@@ -126,9 +154,11 @@ fn take_result<'f>(
     if has_ended(&instance.machine.progress) {
         return Ok(stay(alloc, instance, Vec::new(alloc)));
     }
-    let event = Event::Resulted(task, copy_answer(answer)?);
-    let effect = go_on(alloc, instance, &event, stamp)?;
-    Ok(effect)
+    let (answer, instance) = with(copy_answer(answer), instance)?;
+    let event = Event::Resulted(task, answer);
+    let effect = go_on(alloc, instance, &event, stamp);
+    drop(event);
+    effect
 }
 
 /// A grant reaches it at its end: it gives the set back.
@@ -140,9 +170,10 @@ fn grant_late<'f>(
 ) -> Result<Effect<'f>, AllocError>
     ensures { IfOk result (λ e. effect_of e ≡ granted_at (instance_of instance.entry) stamp task true) }
 {
-    let made = instance
-        .machine
-        .advance(alloc, &Event::Granted(task), stamp)?;
+    let event = Event::Granted(task);
+    let made = instance.machine.advance(alloc, &event, stamp);
+    drop(event);
+    let (made, instance) = with(made, instance)?;
     Ok(Effect {
         instance: Some(instance),
         sent: made.messages,
@@ -164,8 +195,10 @@ fn grant<'f>(
         let effect = grant_late(alloc, instance, stamp, task)?;
         return Ok(effect);
     }
-    let effect = go_on(alloc, instance, &Event::Granted(task), stamp)?;
-    Ok(effect)
+    let event = Event::Granted(task);
+    let effect = go_on(alloc, instance, &event, stamp);
+    drop(event);
+    effect
 }
 
 /// It is started again, which is refused.
@@ -178,7 +211,8 @@ fn start_again<'f>(
 ) -> Result<Effect<'f>, AllocError>
     ensures { IfOk result (λ e. effect_of e ≡ stays_so (instance_of instance.entry).machine (instance_of instance.entry).waiting (refusing (id_of to.now) (id_of from.now) (reply_of reply.now) was_there (codes "exists"))) }
 {
-    let sent = refuse(alloc, to, from, reply, Answer::Exists, "exists")?;
+    let refusal = refuse(alloc, to, from, reply, Answer::Exists, "exists");
+    let (sent, instance) = with(refusal, instance)?;
     Ok(stay(alloc, instance, sent))
 }
 
@@ -192,8 +226,8 @@ fn query<'f>(
 ) -> Result<Effect<'f>, AllocError>
     ensures { IfOk result (λ e. effect_of e ≡ stays_so (instance_of instance.entry).machine (instance_of instance.entry).waiting (telling (id_of to.now) (id_of from.now) number (standing (instance_of instance.entry).machine.progress))) }
 {
-    let answer = stand(&instance.machine.progress)?;
-    let sent = tell(alloc, to, from, number, answer)?;
+    let (answer, instance) = with(stand(&instance.machine.progress), instance)?;
+    let (sent, instance) = with(tell(alloc, to, from, number, answer), instance)?;
     Ok(stay(alloc, instance, sent))
 }
 

@@ -27,6 +27,7 @@ use flow_replay::deliver;
 use flow_syntax::Flows;
 use part_rows::{PartRows, copy_answer};
 use std::alloc::{AllocError, Global};
+use with_value::with;
 
 /// Whether a receiver takes what a sender sends it at this moment.
 pub(crate) fn takes_at(rows: &PartRows, from: &Id, to: &Id, stamp: u64) -> bool
@@ -69,8 +70,9 @@ fn reach_instance(
     ensures partitions { rows.new.partitions ≡ rows.old.partitions }
 {
     let instance = instance_at(alloc, flows, rows, &message.to)?;
-    let event = event_of(flows, &instance, message)?;
-    let effect = to_instance(alloc, flows, instance, message, stamp)?;
+    let (event, instance) = with(event_of(flows, &instance, message), instance)?;
+    let reached = to_instance(alloc, flows, instance, message, stamp);
+    let (effect, event) = with(reached, event)?;
     let sent = keep(alloc, rows, &message.to, stamp, event, effect)?;
     Ok(sent)
 }
@@ -123,7 +125,8 @@ fn change_entity(
 {
     let kept = rows.take_entity(&message.to);
     let mut entity = entity_at(flows, class, kept, stamp)?;
-    let sent = deliver(alloc, &mut entity, flows, class, message)?;
+    let delivered = deliver(alloc, &mut entity, flows, class, message);
+    let (sent, entity) = with(delivered, entity)?;
     rows.put_entity(&message.to, entity)?;
     Ok(sent)
 }

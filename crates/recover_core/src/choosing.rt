@@ -33,6 +33,7 @@ fn from_first_entry(file: u32, found: Found) -> Result<Found, RecoverError>
     if found.header.base == 0 {
         Ok(found)
     } else {
+        drop(found);
         Err(late(file))
     }
 }
@@ -62,6 +63,11 @@ pub(crate) fn choose(first: LogFile, second: LogFile) -> Result<Option<Found>, R
         (LogFile::Fresh, LogFile::Fresh) => Ok(None),
         (LogFile::Log(found), LogFile::Fresh) => Ok(Some(from_first_entry(FIRST_LOG, found)?)),
         (LogFile::Fresh, LogFile::Log(found)) => Ok(Some(from_first_entry(SECOND_LOG, found)?)),
-        (LogFile::Log(first), LogFile::Log(second)) => Err(both_there(&first, &second)),
+        (LogFile::Log(first), LogFile::Log(second)) => {
+            let fault = both_there(&first, &second);
+            drop(first);
+            drop(second);
+            Err(fault)
+        }
     }
 }

@@ -125,6 +125,11 @@ pub(crate) fn open_file<V: Site>(
         Err(FrameError::SiteFault) => return Err(RecoverError::SiteFault),
         Err(FrameError::Memory) => return Err(RecoverError::Memory),
     };
-    fit(found.header, digest)?;
-    Ok(LogFile::Log(found))
+    match fit(found.header, digest) {
+        Ok(()) => Ok(LogFile::Log(found)),
+        Err(error) => {
+            drop(found);
+            Err(error)
+        }
+    }
 }

@@ -27,7 +27,10 @@ fn place_items(
     for item in items {
         match state.apply(alloc, flows, item)? {
             Verdict::Accepted(next, _) => state = next,
-            Verdict::Refused(_) => return Ok(None),
+            Verdict::Refused(state) => {
+                drop(state);
+                return Ok(None);
+            }
         }
     }
     Ok(Some(state))

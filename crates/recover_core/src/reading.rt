@@ -53,8 +53,12 @@ fn place_frame(
 {
     let frame = match read_next_frame(alloc, progress.next, payload) {
         Ok(frame) => frame,
-        Err(ReadError::Memory) => return Err(FrameError::Memory),
+        Err(ReadError::Memory) => {
+            drop(progress);
+            return Err(FrameError::Memory);
+        }
         Err(ReadError::Bad { offset }) => {
+            drop(progress);
             return Err(FrameError::Damaged {
                 offset: gate + 5 + offset as u64,
             });
@@ -91,7 +95,10 @@ fn read_step<V: Site>(
     let (payload, behind) = match reader.next(alloc, site) {
         Ok(Next::Frame(payload, behind)) => (payload, behind),
         Ok(Next::End(log)) => return Ok(Turn::End(log, progress)),
-        Err(error) => return Err(error),
+        Err(error) => {
+            drop(progress);
+            return Err(error);
+        }
     };
     let progress = place_frame(alloc, flows, progress, gate, payload.as_bytes())?;
     Ok(Turn::More(Reading {

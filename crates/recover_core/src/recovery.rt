@@ -92,7 +92,13 @@ pub fn recover<V: Site>(
     ensures say_faults { V.say_faults site.new ≡ V.say_faults site.old }
 {
     let first = open_file(alloc, site, flows, digest, FIRST_LOG)?;
-    let second = open_file(alloc, site, flows, digest, SECOND_LOG)?;
+    let second = match open_file(alloc, site, flows, digest, SECOND_LOG) {
+        Ok(second) => second,
+        Err(error) => {
+            drop(first);
+            return Err(error);
+        }
+    };
     match choose(first, second)? {
         Some(found) => end(found),
         None => Ok(Recovered {

@@ -13,6 +13,7 @@ use crate::values::value_at;
 use dura_value::{Body, Id, Message, Name, Reply, Request};
 use serde_json::Value;
 use std::alloc::Global;
+use with_value::with;
 
 fn is_instance(id: &Id) -> bool
     ensures { result ≡ is_instance (id_of id.now) }
@@ -126,8 +127,9 @@ fn request_in(alloc: Global, value: &Value) -> Result<Request, ReadError>
     let Some(number) = number_in(value) else {
         return Err(ReadError::Refused);
     };
-    let (to, body) = sent_in(alloc, number, value)?;
-    let from = Id::Client(client.clone()?);
+    let sent = sent_in(alloc, number, value)?;
+    let (copy, (to, body)) = with(client.clone(), sent)?;
+    let from = Id::Client(copy);
     Ok(Request {
         client,
         number,

@@ -9,6 +9,7 @@ ghost use Rattle.request_reader.specs.Requests.{is_by, latest};
 use dura_value::{Name, Request};
 use std::alloc::{AllocError, Global};
 use std::collections::BTreeMap;
+use with_value::with;
 
 /// What was read so far, and what finds a request of it by its client and number.
 #[derive(Drop)]
@@ -71,10 +72,11 @@ impl Progress {
         ensures stands { OnOk result (Stands self.new) }
     {
         let place = self.requests.as_slice().len();
-        let client = copy_of(&request.client)?;
-        self.latest.insert(client, request.number)?;
-        let client = copy_of(&request.client)?;
-        self.places.insert((client, request.number), place)?;
+        let (client, request) = with(copy_of(&request.client), request)?;
+        let (_, request) = with(self.latest.insert(client, request.number), request)?;
+        let (client, request) = with(copy_of(&request.client), request)?;
+        let key = (client, request.number);
+        let (_, request) = with(self.places.insert(key, place), request)?;
         self.requests.push(request)?;
         Ok(())
     }

@@ -13,6 +13,7 @@ use crate::line::request_on;
 use crate::progress::{Progress, copy_of};
 use dura_value::{Body, Id, Message, Name, Request};
 use std::alloc::Global;
+use with_value::with;
 
 #[tactic(auto, using(crate::proofs::Ids::derived_id_eq))]
 fn is_same_id(a: &Id, b: &Id) -> bool
@@ -57,9 +58,11 @@ fn with_new(line: u64, mut progress: Progress, request: Request) -> Result<Progr
     ensures stands { IfOk result Stands }
 {
     if progress.latest_of(&request.client) < request.number {
-        progress.push(request)?;
+        let (_, progress) = with(progress.push(request), progress)?;
         Ok(progress)
     } else {
+        drop(request);
+        drop(progress);
         Err(RequestsError::BadLine { line })
     }
 }
@@ -82,13 +85,23 @@ fn with_request(line: u64, progress: Progress, request: Request) -> Result<Progr
     ensures read { Answers seen result (with_request line (seen progress) (request_of request)) }
     ensures stands { IfOk result Stands }
 {
-    let pair = (copy_of(&request.client)?, request.number);
-    match is_made(&progress, &pair, &request) {
-        Some(true) => Ok(progress),
-        Some(false) => Err(RequestsError::Clash {
-            client: request.client,
-            number: request.number,
-        }),
+    let (client, (progress, request)) = with(copy_of(&request.client), (progress, request))?;
+    let pair = (client, request.number);
+    let made = is_made(&progress, &pair, &request);
+    drop(pair);
+    match made {
+        Some(true) => {
+            drop(request);
+            Ok(progress)
+        }
+        Some(false) => {
+            drop(progress);
+            drop(request.message);
+            Err(RequestsError::Clash {
+                client: request.client,
+                number: request.number,
+            })
+        }
         None => with_new(line, progress, request),
     }
 }

@@ -47,7 +47,7 @@ module _ (o : Origin) (rules : Rules) (latest digest : ℕ) (begins : BeginsAlon
     behind = behind;
     front = front;
     world = shown_by rules.flows may.state;
-    legal = legal_front (of_part 0 trail) behind front (record { state = may.state; made = may.made; given = goes.given; own = goes.own });
+    legal = legal_front (of_part 0 trail) behind front (record { state = may.state; made = may.made; given = goes.given; ran = goes.ran; own = goes.own });
     answer = may.answer;
     has = may.has;
     line_is = may.line_is;

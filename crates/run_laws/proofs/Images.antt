@@ -96,6 +96,7 @@ module _ (o : Origin) (rules : Rules) (latest digest : ℕ) (begins : BeginsAlon
         stands = subst (Stands rules.flows digest files) (labels_split (of_part 0 trail) going) (image_stands files (of_part 0 trail ++ going) goes kept none);
         writing = writing;
         given = (whole o rules latest digest begins (of_part 0 trail ++ going) goes).1;
+        ran = goes.ran;
         own = goes.own;
         founded = entries_founded rules.flows (o.logs 0).entries (of_part 0 trail ++ going) goes.state (numbered files (of_part 0 trail ++ going) kept none) (whole o rules latest digest begins (of_part 0 trail ++ going) goes).0
             (whole o rules latest digest begins (of_part 0 trail ++ going) goes).1;

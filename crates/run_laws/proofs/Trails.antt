@@ -12,13 +12,15 @@ use Rattle.part_files.specs.Placing.{placed, AllGiven}
 use Rattle.run_rules.specs.Rules.{Rules, Told, IsOurs}
 use Rattle.run_rules.proofs.Going.{followed_made, followed_given}
 use Rattle.run_laws.specs.Begins.{pairs_of, may_follow, may_say}
-use Rattle.run_laws.specs.Leaves.{IsOfCall}
+use Rattle.run_laws.specs.Leaves.{IsOfCall, AllRan}
+use Rattle.run_laws.specs.Leaves.AllRan.{nothing_ran, frame_more}
 
 -- these entries of a call are accepted one after another, each outcome one that its activity may give
 pub record Goes (rules : Rules) (latest : ℕ) (entries : List Entry) : Type 0 where
   pub state : Partition
   pub made : placed rules.flows 1 rules.begin entries ≡ Ok state
   pub given : AllGiven rules.flows 1 rules.begin entries
+  pub ran : AllRan rules entries
   pub own : All (IsOfCall rules latest) entries
 
 module _ (rules : Rules) (latest : ℕ) where
@@ -31,12 +33,13 @@ module _ (rules : Rules) (latest : ℕ) where
     state = follows.1.after;
     made = followed_made rules latest (of_part 0 trail) going (pairs_of told) follows.1;
     given = followed_given rules latest (of_part 0 trail) going (pairs_of told) goes.given follows.1;
+    ran = frame_more goes.ran follows.1.before follows.1.made going follows.1.pending;
     own = All-append (IsOfCall rules latest) (of_part 0 trail) going goes.own (own_frame going (pairs_of told) follows.1.ours);
   }
 
   -- all that was settled
   pub trail_goes : {trail : List Settled} {told : List Said} {lines : List ℕ} → StoreTold (may_follow rules latest) (may_say rules) trail told lines → Goes rules latest (of_part 0 trail)
-  trail_goes silent = record { state = rules.begin; made = refl; given = tt; own = λ k d inside. absurd (omega (arith, inside)) }
+  trail_goes silent = record { state = rules.begin; made = refl; given = tt; ran = nothing_ran; own = λ k d inside. absurd (omega (arith, inside)) }
   trail_goes (settles {trail} {told} before partition at going follows) =
       let own : of_part 0 (trail ++ settling partition at going) ≡ of_part 0 trail ++ going =
       of_part-append 0 trail (settling partition at going) ∙ ap (λ (p : ℕ). of_part 0 trail ++ of_part 0 (settling p at going)) follows.0 ∙ ap (λ (l : List Entry). of_part 0 trail ++ l) (own_part 0 at going) in

@@ -1,10 +1,10 @@
 -- What a crash leaves of a run, and which answers were said.
-use Rattle.std.specs.Prelude.{◌≡◌, ◌⊎◌, ℕ, max, List, [], ◌∷◌, ◌++◌, map, Some}
+use Rattle.std.specs.Prelude.{◌≡◌, ◌⊎◌, ℕ, max, List, [], ◌∷◌, ◌++◌, map, Some, Ok}
 use Rattle.std.specs.List.{All}
 use Rattle.answer_lines.specs.Lines.{line_of}
 use Rattle.dura_model.specs.Dependencies.{Committed, names_of, Founded}
 use Rattle.dura_model.specs.Legal.{Legal}
-use Rattle.dura_model.specs.Partition.{fresh}
+use Rattle.dura_model.specs.Partition.{Partition, fresh}
 use Rattle.dura_model.specs.World.{World}
 use Rattle.dura_value.specs.Ids.{client}
 use Rattle.dura_value.specs.Items.{Entry}
@@ -12,11 +12,11 @@ use Rattle.dura_value.specs.Messages.{Answer}
 use Rattle.hub_store.specs.Moments.{WroteGate, IsFront, IsSpeaking}
 use Rattle.hub_store.specs.Origin.{Origin}
 use Rattle.hub_store.specs.Trail.{Settled, Said, of_part}
-use Rattle.part_files.specs.Placing.{labels_in, AllGiven}
+use Rattle.part_files.specs.Placing.{labels_in, placed, AllGiven}
 use Rattle.part_files.specs.Stands.{Stands}
 use Rattle.request_reader.specs.Line.{Request}
 use Rattle.run_laws.specs.Begins.{pairs_of}
-use Rattle.run_rules.specs.Rules.{Rules, count_told, request_at, IsBy}
+use Rattle.run_rules.specs.Rules.{Rules, count_told, request_at, IsBy, EndPending}
 use Rattle.site_model.specs.History.{Step, changes_of, tape}
 
 -- The line answers its client's next request, once these were answered, as the run has it from a moment on at which the first of
@@ -60,14 +60,22 @@ pub record IsOfCall (rules : Rules) (latest : ℕ) (entry : Entry) : Type 0 wher
   pub life : entry.incarnation ≡ rules.life
   pub timely : All (IsBy (max rules.begin.stamp latest)) entry.items
 
+-- Activities ran only for tasks whose schedule was settled: what came did so frame by frame, and each outcome in a frame is that of an
+-- activity which was pending already in the state that the frames before it make.
+pub data AllRan (rules : Rules) : List Entry → Type 0 where
+  nothing_ran : AllRan rules []
+  frame_more : {settled : List Entry} → AllRan rules settled → (state : Partition) → placed rules.flows 1 rules.begin settled ≡ Ok state → (going : List Entry) → EndPending state going → AllRan rules (settled ++ going)
+
 -- The files stand for the run at the start, then what was settled, then no more than the one frame whose gate was being written. Each
--- outcome in it is one that its activity may give, each entry that came is of this call, and founded on entries before it. The tape goes
--- on by lines that answer requests as that run does by what is settled, then no more than a front of one further.
+-- outcome in it is one that its activity may give, and that ran once its task was settled; each entry that came is of this call, and
+-- founded on entries before it. The tape goes on by lines that answer requests as that run does by what is settled, then no more than a
+-- front of one further.
 pub record StandsOn (rules : Rules) (latest digest : ℕ) (o : Origin) (steps : List Step) (trail : List Settled) (files : ℕ → List ℕ) : Type 0 where
   pub going : List Entry
   pub stands : Stands rules.flows digest files (labels_in (o.logs 0).entries ++ labels_in (of_part 0 trail) ++ labels_in going)
   pub writing : (going ≡ []) ⊎ WroteGate (o.logs 0) (of_part 0 trail) (changes_of (o.logs 0).file steps)
   pub given : AllGiven rules.flows 1 (fresh 0) ((o.logs 0).entries ++ (of_part 0 trail ++ going))
+  pub ran : AllRan rules (of_part 0 trail ++ going)
   pub own : All (IsOfCall rules latest) (of_part 0 trail ++ going)
   pub founded : Founded (names_of (committed_in (o.logs 0).entries)) (committed_in (of_part 0 trail ++ going))
   pub told : List Said

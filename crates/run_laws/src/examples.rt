@@ -4,13 +4,14 @@
 ghost use Rattle.std.specs.Prelude.{◌≡◌, ℕ, List, [], ◌∷◌, codes, slice_set};
 ghost use Rattle.answer_lines.specs.Lines.{line_of};
 ghost use Rattle.dura_value.specs.Messages.{is_unknown};
+ghost use Rattle.dura_value.specs.declared.outcome.Outcome.{Outcome};
 ghost use Rattle.flow_syntax.specs.Syntax.{Flows};
 ghost use Rattle.hub_store.specs.Trail.{Said};
 ghost use Rattle.part_files.specs.Examples.{digest, two_files, empty_log as empty_bytes};
 ghost use Rattle.run_laws.specs.Begins.{BeginsAlone};
 ghost use Rattle.run_laws.specs.Examples.{empty_origin, rules, answering, first_said};
-ghost use Rattle.run_laws.specs.Leaves.{IsAnswered, AllAnswered, IsHalfSaid, StandsOn};
-ghost use Rattle.run_rules.specs.Examples.{rules_with, answering_rules};
+ghost use Rattle.run_laws.specs.Leaves.{IsAnswered, AllAnswered, IsHalfSaid, AllRan, StandsOn};
+ghost use Rattle.run_rules.specs.Examples.{rules_with, answering_rules, ending};
 ghost use Rattle.site_model.specs.History.{said};
 
 /// A call over a log without entries begins where nothing happened: not under another digest, and not where something was answered.
@@ -30,6 +31,12 @@ pub fn answers_of_a_run()
     ensures none { (line : List ℕ) → AllAnswered rules empty_origin (answering ∷ []) [] line → line ≡ [] }
     ensures half { IsHalfSaid rules empty_origin (answering ∷ []) [] (said 97 ∷ []) (97 ∷ []) }
     ensures silent { (part : List ℕ) → IsHalfSaid rules empty_origin (answering ∷ []) [] [] part → ⊥ }
+{}
+
+/// The entry by which a request is taken may come first; one in which an activity ends that no entry before it asked for may not.
+pub fn activities_ran()
+    ensures taken { AllRan rules (answering ∷ []) }
+    ensures early { (outcome : Outcome) → AllRan rules (ending 0 outcome ∷ []) → ⊥ }
 {}
 
 /// A crash of a call that did nothing leaves the log as it was: no damaged one, and no shorter tape.

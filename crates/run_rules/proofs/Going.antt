@@ -49,6 +49,7 @@ module _ (rules : Rules) (latest : ℕ) (told more : Told) where
     accepted = follows.accepted;
     given = follows.given;
     ours = λ k d inside. ours_still _ (follows.ours k d inside);
+    pending = follows.pending;
   }
 
 -- what is of no later moment than this is of none later than a later one
@@ -75,6 +76,7 @@ follows_later rules latest later settled going told above follows = record {
   accepted = follows.accepted;
   given = follows.given;
   ours = λ k d inside. ours_later rules latest later told above _ (follows.ours k d inside);
+  pending = follows.pending;
 }
 
 module _ (rules : Rules) (latest : ℕ) (settled going : List Entry) (told : Told) where

@@ -1,9 +1,12 @@
 -- What a call may commit and say, by example.
-use Rattle.std.specs.Prelude.{[], ◌∷◌, codes, Some}
+use Rattle.std.specs.Prelude.{ℕ, [], ◌∷◌, codes, Some}
 use Rattle.dura_model.specs.Partition.{Partition, fresh}
 use Rattle.dura_model.specs.World.{at_number}
-use Rattle.dura_value.specs.Ids.{client, orchestration}
+use Rattle.dura_value.specs.Ids.{Id, client, orchestration}
+use Rattle.dura_value.specs.Items.{Entry, ended}
 use Rattle.dura_value.specs.Messages.{Message, wait, was_started}
+use Rattle.dura_value.specs.declared.data.Value.TheVariants as values
+use Rattle.dura_value.specs.declared.outcome.Outcome.{Outcome}
 use Rattle.flow_syntax.specs.Syntax.{Flows}
 use Rattle.part_files.specs.Examples.{request}
 use Rattle.request_reader.specs.Line.{Request}
@@ -40,3 +43,14 @@ started = record (fresh 0) { answers = at_number (fresh 0).answers (client (code
 
 abbrev pub answering_rules : Flows → Rules
 answering_rules flows = record (rules_with flows) { begin = started }
+
+abbrev pub summing : Id
+summing = orchestration (codes "Sum") (codes "x")
+
+-- an instance has asked for an activity by its task 3
+abbrev pub adding : Partition
+adding = record (fresh 0) { activities = at_number (fresh 0).activities summing 3 (Some (record { name = codes "add"; argument = values.Null })) }
+
+-- an entry in which the activity of task 3 ends
+abbrev pub ending : (position : ℕ) → Outcome → Entry
+ending position outcome = record { position = position; incarnation = 0; items = ended summing 3 outcome ∷ [] }

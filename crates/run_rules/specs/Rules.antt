@@ -1,5 +1,5 @@
 -- What a call may commit and say.
-use Rattle.std.specs.Prelude.{◌≡◌, ℕ, ◌≤◌, max, List, length, Option, Some, Ok}
+use Rattle.std.specs.Prelude.{◌≡◌, ℕ, ◌≤◌, max, List, length, Option, Some, Ok, IsSome}
 use Rattle.std.specs.List.{All, filter, slice_get}
 use Rattle.std.specs.Str.{bytes_eq}
 use Rattle.answer_lines.specs.Lines.{line_of}
@@ -65,8 +65,22 @@ pub record IsOurs (rules : Rules) (latest : ℕ) (told : Told) (entry : Entry) :
   pub asked : All (IsAsked rules told) entry.items
   pub timely : All (IsBy (max rules.begin.stamp latest)) entry.items
 
+-- an outcome is that of an activity which is pending in this state
+abbrev pub EndsPending : Partition → Item → Type 0
+EndsPending p (took message) = Unit {0}
+EndsPending p (got source number message) = Unit {0}
+EndsPending p (ran from to stamp) = Unit {0}
+EndsPending p (ended id task outcome) = IsSome (p.activities id task)
+EndsPending p (fired id task stamp) = Unit {0}
+EndsPending p (trim reader number) = Unit {0}
+
+-- all outcomes of these entries are
+abbrev pub EndPending : Partition → List Entry → Type 0
+EndPending p = All (λ entry. All (EndsPending p) entry.items)
+
 -- Entries that may be committed behind these, where the clock gave no later moment than this: each is accepted in the state that those
--- before it make, each outcome is one that its activity may give, and they are this call's.
+-- before it make, each outcome is one that its activity may give, and they are this call's. No activity ran before the entry was
+-- settled that asks for it: each outcome is that of an activity which is pending already in the state that the settled entries make.
 pub record Follows (rules : Rules) (latest : ℕ) (settled : List Entry) (told : Told) (going : List Entry) : Type 0 where
   pub before : Partition
   pub made : placed rules.flows 1 rules.begin settled ≡ Ok before
@@ -74,6 +88,7 @@ pub record Follows (rules : Rules) (latest : ℕ) (settled : List Entry) (told :
   pub accepted : placed rules.flows 1 before going ≡ Ok after
   pub given : AllGiven rules.flows 1 before going
   pub ours : All (IsOurs rules latest told) going
+  pub pending : EndPending before going
 
 -- A line that may be said, once these entries are settled: the answer to its client's next request, as the state has it.
 pub record Answers (rules : Rules) (settled : List Entry) (told : Told) (name : List ℕ) (number : ℕ) (line : List ℕ) : Type 0 where

@@ -3,12 +3,14 @@
 ghost use Rattle.std.specs.Prelude.{◌≡◌, ℕ, List, [], ◌∷◌, codes};
 ghost use Rattle.answer_lines.specs.Lines.{line_of};
 ghost use Rattle.dura_value.specs.Ids.{Id};
-ghost use Rattle.dura_value.specs.Items.{took, ran, fired};
+ghost use Rattle.dura_value.specs.Items.{took, ran, ended, fired};
 ghost use Rattle.dura_value.specs.Messages.{was_started};
+ghost use Rattle.dura_value.specs.declared.outcome.Outcome.{Outcome};
+ghost use Rattle.dura_model.specs.Partition.{fresh};
 ghost use Rattle.flow_syntax.specs.Syntax.{Flows};
 ghost use Rattle.part_files.specs.Examples.{request, taking};
-ghost use Rattle.run_rules.specs.Examples.{waiting, rules_with, later_rules, silent_rules, told_once, answering_rules};
-ghost use Rattle.run_rules.specs.Rules.{Told, IsDue, IsBy, Follows, Answers};
+ghost use Rattle.run_rules.specs.Examples.{waiting, rules_with, later_rules, silent_rules, told_once, answering_rules, summing, adding, ending};
+ghost use Rattle.run_rules.specs.Rules.{Told, IsDue, IsBy, EndsPending, EndPending, Follows, Answers};
 
 /// A client's first request is due, and its second once the first was answered.
 pub fn requests_due()
@@ -33,6 +35,15 @@ pub fn moments_of_items()
     ensures earlier { (id : Id) (task : ℕ) → IsBy 4 (fired id task 5) → ⊥ }
     ensures delivered { (from to : Id) → IsBy 4 (ran from to 5) → ⊥ }
     ensures taken { IsBy 0 (took request) }
+{}
+
+/// An outcome of an activity that is pending ends what is pending; one of an activity that isn't asked for yet doesn't, nor does a
+/// frame whose second entry has it. What has no outcome ends nothing.
+pub fn outcomes_of_pending()
+    ensures there { (outcome : Outcome) → EndPending adding (ending 0 outcome ∷ []) }
+    ensures other { (outcome : Outcome) → EndsPending adding (ended summing 4 outcome) → ⊥ }
+    ensures early { (outcome : Outcome) → EndPending (fresh 0) (taking 0 ∷ ending 1 outcome ∷ []) → ⊥ }
+    ensures taken { EndPending (fresh 0) (taking 0 ∷ []) }
 {}
 
 /// The line of the answer that is there may be said, once, and no other line, nor where there is no answer.

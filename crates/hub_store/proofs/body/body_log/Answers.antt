@@ -1,10 +1,11 @@
-use Rattle.std.proofs.Common.{ℕ, List, Err, subst}
+use Rattle.std.proofs.Common.{ℕ, List, Err, refl, subst}
 use Rattle.site_model.specs.History.{changes_of}
 use Rattle.commit_log.specs.declared.states.BodyError.{BodyError}
 use Rattle.commit_log.specs.Outcomes.{AfterBody}
-use Rattle.commit_log.specs.States.{IsBroken}
+use Rattle.commit_log.specs.States.{IsBodied, IsBroken}
 use Rattle.part_items.specs.Plain.{entries_of}
 use Rattle.part_items.specs.Spelling.{spell_frame}
+use Rattle.hub_store.proofs.Bodies.{ok_apart, full_memory, full_fault, memory_fault}
 use Rattle.hub_store.proofs.body.body_log.Goals as goal
 
 pub returns-in-Err-SiteFault-clause-fits : goal.returns-in-Err-SiteFault-clause-fits
@@ -17,3 +18,43 @@ returns-in-Err-SiteFault-clause-fits g c h payloads rests =
       subst (λ (file : ℕ). IsBroken (changes_of file now) h payloads (spell_frame (entries_of c.args.frame)) log.gate log.next) place
           (subst (λ (payload : List ℕ). IsBroken (changes_of log.file now) h payloads payload log.gate log.next) c.requires.spelled broken),
     )
+
+pub returns-in-Ok-clause-fits : goal.returns-in-Ok-clause-fits
+returns-in-Ok-clause-fits g c h payloads rests =
+    let log = c.in-Ok.log in
+    let now = g.V.Site.history c.body.new.site in
+    let place = (c.in-Ok.ensures.place).0 in (
+      place,
+      subst (λ (file : ℕ). IsBodied (changes_of file now) h payloads (spell_frame (entries_of c.args.frame)) log.gate log.next) place
+          (subst (λ (payload : List ℕ). IsBodied (changes_of log.file now) h payloads payload log.gate log.next) c.requires.spelled (c.in-Ok.ensures.after h payloads rests)),
+    )
+
+pub returns-in-Ok-clause-full : goal.returns-in-Ok-clause-full
+returns-in-Ok-clause-full g c long = absurd (ok_apart _ _ (c.in-Ok.ensures.full long))
+
+pub returns-in-Ok-clause-untouched : goal.returns-in-Ok-clause-untouched
+returns-in-Ok-clause-untouched g c of n is = absurd (ok_apart _ _ is)
+
+pub returns-in-Ok-clause-memory : goal.returns-in-Ok-clause-memory
+returns-in-Ok-clause-memory g c is = absurd (ok_apart _ _ is)
+
+pub returns-in-Ok-clause-fault : goal.returns-in-Ok-clause-fault
+returns-in-Ok-clause-fault g c is = absurd (ok_apart _ _ is)
+
+pub returns-in-Err-Full-clause-memory : goal.returns-in-Err-Full-clause-memory
+returns-in-Err-Full-clause-memory g c is = absurd (full_memory _ _ _ refl is)
+
+pub returns-in-Err-Full-clause-fault : goal.returns-in-Err-Full-clause-fault
+returns-in-Err-Full-clause-fault g c is = absurd (full_fault _ _ _ refl is)
+
+pub returns-in-Err-SiteFault-clause-untouched : goal.returns-in-Err-SiteFault-clause-untouched
+returns-in-Err-SiteFault-clause-untouched g c of n is = absurd (full_fault _ of n is refl)
+
+pub returns-in-Err-SiteFault-clause-memory : goal.returns-in-Err-SiteFault-clause-memory
+returns-in-Err-SiteFault-clause-memory g c is = absurd (memory_fault _ is refl)
+
+pub returns-in-Err-Memory-clause-untouched : goal.returns-in-Err-Memory-clause-untouched
+returns-in-Err-Memory-clause-untouched g c of n is = absurd (full_memory _ of n is refl)
+
+pub returns-in-Err-Memory-clause-fault : goal.returns-in-Err-Memory-clause-fault
+returns-in-Err-Memory-clause-fault g c is = absurd (memory_fault _ refl is)

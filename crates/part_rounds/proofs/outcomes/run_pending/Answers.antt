@@ -3,7 +3,7 @@ use Rattle.flow_syntax.specs.Views.{flows_of}
 use Rattle.part_items.specs.Plain.{item_of}
 use Rattle.part_steps.specs.States.{state_of}
 use Rattle.part_rounds.specs.Fills.{IsOfPending}
-use Rattle.part_rounds.proofs.Endings.{put_idle}
+use Rattle.part_rounds.proofs.Endings.{put_idle, ended_goes_on}
 use Rattle.part_rounds.proofs.Moments.{puts_still, outcome_still}
 use Rattle.part_rounds.proofs.outcomes.run_pending.Goals as goal
 
@@ -11,6 +11,11 @@ pub returns-in_ok-next-in-Some-clause-idle : goal.returns-in_ok-next-in-Some-cla
 returns-in_ok-next-in-Some-clause-idle g c =
     put_idle (flows_of c.args.flows.now) c.args.filling c.in_ok-next-in-Some.next c.in-Some.item c.in_ok-next-in-Some.ensures.puts
     (subst (λ o. IfSome o (λ one. IsOfPending (state_of c.args.filling.state) (item_of one))) c.in-Some.is c.in_ok-item.ensures.some)
+
+pub returns-in_ok-next-in-Some-clause-goes_on : goal.returns-in_ok-next-in-Some-clause-goes_on
+returns-in_ok-next-in-Some-clause-goes_on g c = λ rules told same.
+    let pending = subst (λ o. IfSome o (λ one. IsOfPending (state_of c.args.filling.state) (item_of one))) c.in-Some.is c.in_ok-item.ensures.some in
+    ended_goes_on rules told (flows_of c.args.flows.now) c.args.filling c.in_ok-next-in-Some.next c.in-Some.item same c.requires.empty c.in_ok-next-in-Some.ensures.puts pending
 
 pub returns-in_ok-next-in-Some-clause-moment : goal.returns-in_ok-next-in-Some-clause-moment
 returns-in_ok-next-in-Some-clause-moment g c =

@@ -20,8 +20,8 @@ returns-clause-applied c =
     let sender = sym (id_same from (id_of message.from) both.0) in
     let receiver = sym (id_same to (id_of message.to) both.1) in
     let left = ap (λ q. record was { queue = q }) c.take_first.ensures.rest in (
-      run_accepts (flows_of c.args.flows.now) c.args.rows.now.partitions was from to c.args.stamp (part_of mid) (part_of c.reach_first.new.rows) (id_of message.from) (id_of message.to) (body_of message.body)
+      run_accepts (flows_of c.args.flows.now) c.args.rows.now.partitions was from to c.args.stamp (part_of mid) (part_of c.reach_first-made.new.rows) (id_of message.from) (id_of message.to) (body_of message.body)
           (sym c.takes_at.ensures ∙ c.if-not-takes_at.false) c.in-Some.ensures.first left sender receiver c.in_ok-made.ensures.stands,
-      run_outputs (flows_of c.args.flows.now) c.args.rows.now.partitions was from to c.args.stamp (part_of mid) (id_of message.from) (id_of message.to) (body_of message.body) (outputs_of c.in_ok-made.made)
+      run_outputs (flows_of c.args.flows.now) c.args.rows.now.partitions was from to c.args.stamp (part_of mid) (id_of message.from) (id_of message.to) (body_of message.body) (outputs_of c.in_ok-made.field-0)
           c.in-Some.ensures.first left sender receiver c.in_ok-made.ensures.outputs,
     )

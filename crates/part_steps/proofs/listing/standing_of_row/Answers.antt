@@ -7,5 +7,5 @@ use Rattle.part_steps.proofs.listing.standing_of_row.Goals as goal
 
 pub returns : goal.returns
 returns c =
-    subst (λ (s : Answer). IfOk c.stand.result (λ answer. answer_of answer ≡ s)) (ap (λ (o : Orchestration). standing o.machine.progress) c.in_ok-instance.ensures)
-    c.stand.ensures
+    subst (λ (s : Answer). IfOk c.stand-standing.result (λ answer. answer_of answer ≡ s)) (ap (λ (o : Orchestration). standing o.machine.progress) c.in_ok-instance.ensures)
+    c.stand-standing.ensures

@@ -24,5 +24,5 @@ returns-in_err-from_first_entry-in-Log-Fresh-clause-refused c digest some more =
 
 pub returns-in-Log-Log-clause-refused : goal.returns-in-Log-Log-clause-refused
 returns-in-Log-Log-clause-refused c digest some more =
-    subst (λ (f : LogFile). Refuses digest c.both_there.result (tied_fault (kept_as some f) (kept_as more c.args.second))) (sym c.in-Log-Log.is-0)
-    (subst (λ (f : LogFile). Refuses digest c.both_there.result (tied_fault (kept_as some (Log c.in-Log-Log.first)) (kept_as more f))) (sym c.in-Log-Log.is-1) (c.both_there.ensures.refused digest some more))
+    subst (λ (f : LogFile). Refuses digest c.both_there-fault.result (tied_fault (kept_as some f) (kept_as more c.args.second))) (sym c.in-Log-Log.is-0)
+    (subst (λ (f : LogFile). Refuses digest c.both_there-fault.result (tied_fault (kept_as some (Log c.in-Log-Log.first)) (kept_as more f))) (sym c.in-Log-Log.is-1) (c.both_there-fault.ensures.refused digest some more))

@@ -21,8 +21,8 @@ returns-in_err-first-clause-recovers g c tells =
 pub returns-in_err-first-clause-syncs : goal.returns-in_err-first-clause-syncs
 returns-in_err-first-clause-syncs g c = only_first (g.V.Site.history c.args.site.now) (g.V.Site.history c.open_file.new.site) c.open_file.ensures.syncs
 
-pub returns-in_err-second-clause-recovers : goal.returns-in_err-second-clause-recovers
-returns-in_err-second-clause-recovers g c tells =
+pub returns-in-Err-clause-recovers : goal.returns-in-Err-clause-recovers
+returns-in-Err-clause-recovers g c tells =
     let flows = flows_of c.args.flows.now in
     let old = g.V.Site.history c.args.site.now in
     let one = g.V.Site.history c.open_file.new.site in
@@ -30,11 +30,10 @@ returns-in_err-second-clause-recovers g c tells =
     let synced_first = c.in_ok-first.ensures.synced in
     let syncs = c.open_file-2.ensures.syncs in
     let first = suits_moved one two flows c.args.digest 16 c.in_ok-first.first (first_changes old one two synced_first syncs) (c.in_ok-first.ensures.says (c.open_file-2.ensures.told tells)) in
-    let p = err_from_is_err_and c.from_residual-in_err-second.result c.from_residual-in_err-second.ensures.1 in
-    rw (p.1, p.2) (second_refused flows c.args.digest old two (first_still old one two synced_first syncs) (second_content old one two synced_first syncs) c.in_ok-first.first first c.in_err-second.field-0.0 (c.in_err-second.ensures.says tells))
+    second_refused flows c.args.digest old two (first_still old one two synced_first syncs) (second_content old one two synced_first syncs) c.in_ok-first.first first c.in-Err.error (c.in-Err.ensures.says tells)
 
-pub returns-in_err-second-clause-syncs : goal.returns-in_err-second-clause-syncs
-returns-in_err-second-clause-syncs g c = only_both (g.V.Site.history c.args.site.now) (g.V.Site.history c.open_file.new.site) (g.V.Site.history c.open_file-2.new.site) c.in_ok-first.ensures.synced c.open_file-2.ensures.syncs
+pub returns-in-Err-clause-syncs : goal.returns-in-Err-clause-syncs
+returns-in-Err-clause-syncs g c = only_both (g.V.Site.history c.args.site.now) (g.V.Site.history c.open_file.new.site) (g.V.Site.history c.open_file-2.new.site) c.in_ok-first.ensures.synced c.open_file-2.ensures.syncs
 
 pub returns-in_err-found-clause-recovers : goal.returns-in_err-found-clause-recovers
 returns-in_err-found-clause-recovers g c tells =
@@ -45,9 +44,9 @@ returns-in_err-found-clause-recovers g c tells =
     let synced_first = c.in_ok-first.ensures.synced in
     let syncs = c.open_file-2.ensures.syncs in
     let first = suits_moved one two flows c.args.digest 16 c.in_ok-first.first (first_changes old one two synced_first syncs) (c.in_ok-first.ensures.says (c.open_file-2.ensures.told tells)) in
-    let second = c.in_ok-second.ensures.says tells in
+    let second = c.in-Ok.ensures.says tells in
     let p = err_from_is_err_and c.from_residual-in_err-found.result c.from_residual-in_err-found.ensures.1 in
-    rw (p.1, p.2) (both_refused flows c.args.digest old two (first_still old one two synced_first syncs) (second_content old one two synced_first syncs) c.in_ok-first.first first c.in_ok-second.second second c.in_err-found.field-0.0 (λ some more. c.in_err-found.ensures.refused c.args.digest some more))
+    rw (p.1, p.2) (both_refused flows c.args.digest old two (first_still old one two synced_first syncs) (second_content old one two synced_first syncs) c.in_ok-first.first first c.in-Ok.second second c.in_err-found.field-0.0 (λ some more. c.in_err-found.ensures.refused c.args.digest some more))
 
 pub returns-in_err-found-clause-syncs : goal.returns-in_err-found-clause-syncs
 returns-in_err-found-clause-syncs g c = only_both (g.V.Site.history c.args.site.now) (g.V.Site.history c.open_file.new.site) (g.V.Site.history c.open_file-2.new.site) c.in_ok-first.ensures.synced c.open_file-2.ensures.syncs
@@ -61,9 +60,9 @@ returns-in-Some-clause-recovers g c tells =
     let synced_first = c.in_ok-first.ensures.synced in
     let syncs = c.open_file-2.ensures.syncs in
     let first = suits_moved one two flows c.args.digest 16 c.in_ok-first.first (first_changes old one two synced_first syncs) (c.in_ok-first.ensures.says (c.open_file-2.ensures.told tells)) in
-    let second = c.in_ok-second.ensures.says tells in
-    let chosen = subst (Chooses c.in_ok-first.first c.in_ok-second.second) c.in-Some.is c.in_ok-found.ensures.chosen in
-    let has = one_found flows c.args.digest old two (first_still old one two synced_first syncs) (second_content old one two synced_first syncs) c.in_ok-first.first first c.in_ok-second.second second c.in-Some.found chosen in
+    let second = c.in-Ok.ensures.says tells in
+    let chosen = subst (Chooses c.in_ok-first.first c.in-Ok.second) c.in-Some.is c.in_ok-found.ensures.chosen in
+    let has = one_found flows c.args.digest old two (first_still old one two synced_first syncs) (second_content old one two synced_first syncs) c.in_ok-first.first first c.in-Ok.second second c.in-Some.found chosen in
     end_recovered two flows c.args.digest (logs_in (alone_with c.args.digest) (λ file. content_of file old)) c.in-Some.found c.end.result has (c.end.ensures.ends flows has.entries has.placed has.life)
 
 pub returns-in-Some-clause-rests : goal.returns-in-Some-clause-rests
@@ -75,9 +74,9 @@ returns-in-Some-clause-rests g c tells =
     let synced_first = c.in_ok-first.ensures.synced in
     let syncs = c.open_file-2.ensures.syncs in
     let first = suits_moved one two flows c.args.digest 16 c.in_ok-first.first (first_changes old one two synced_first syncs) (c.in_ok-first.ensures.says (c.open_file-2.ensures.told tells)) in
-    let second = c.in_ok-second.ensures.says tells in
-    let chosen = subst (Chooses c.in_ok-first.first c.in_ok-second.second) c.in-Some.is c.in_ok-found.ensures.chosen in
-    let has = one_found flows c.args.digest old two (first_still old one two synced_first syncs) (second_content old one two synced_first syncs) c.in_ok-first.first first c.in_ok-second.second second c.in-Some.found chosen in
+    let second = c.in-Ok.ensures.says tells in
+    let chosen = subst (Chooses c.in_ok-first.first c.in-Ok.second) c.in-Some.is c.in_ok-found.ensures.chosen in
+    let has = one_found flows c.args.digest old two (first_still old one two synced_first syncs) (second_content old one two synced_first syncs) c.in_ok-first.first first c.in-Ok.second second c.in-Some.found chosen in
     end_rests two flows c.args.digest (logs_in (alone_with c.args.digest) (λ file. content_of file old)) c.in-Some.found c.end.result has (c.end.ensures.ends flows has.entries has.placed has.life)
 
 pub returns-in-Some-clause-syncs : goal.returns-in-Some-clause-syncs
@@ -92,17 +91,17 @@ returns-in-None-clause-recovers g c tells =
     let synced_first = c.in_ok-first.ensures.synced in
     let syncs = c.open_file-2.ensures.syncs in
     let first = suits_moved one two flows c.args.digest 16 c.in_ok-first.first (first_changes old one two synced_first syncs) (c.in_ok-first.ensures.says (c.open_file-2.ensures.told tells)) in
-    let second = c.in_ok-second.ensures.says tells in
-    let chosen = subst (Chooses c.in_ok-first.first c.in_ok-second.second) c.in-None.is c.in_ok-found.ensures.chosen in
-    none_recovered flows c.args.digest old two (first_still old one two synced_first syncs) (second_content old one two synced_first syncs) c.in_ok-first.first first c.in_ok-second.second second chosen c.new.result c.new.ensures.fresh c.new.ensures.partitions c.new.ensures.sound
+    let second = c.in-Ok.ensures.says tells in
+    let chosen = subst (Chooses c.in_ok-first.first c.in-Ok.second) c.in-None.is c.in_ok-found.ensures.chosen in
+    none_recovered flows c.args.digest old two (first_still old one two synced_first syncs) (second_content old one two synced_first syncs) c.in_ok-first.first first c.in-Ok.second second chosen c.new.result c.new.ensures.fresh c.new.ensures.partitions c.new.ensures.sound
 
 pub returns-in-None-clause-syncs : goal.returns-in-None-clause-syncs
 returns-in-None-clause-syncs g c = only_both (g.V.Site.history c.args.site.now) (g.V.Site.history c.open_file.new.site) (g.V.Site.history c.open_file-2.new.site) c.in_ok-first.ensures.synced c.open_file-2.ensures.syncs
 
 pub returns-in-Some-clause-begins : goal.returns-in-Some-clause-begins
 returns-in-Some-clause-begins g c =
-    let chosen = subst (Chooses c.in_ok-first.first c.in_ok-second.second) c.in-Some.is c.in_ok-found.ensures.chosen in
-    c.end.ensures.begins (ready_chosen c.in_ok-first.first c.in_ok-second.second c.in-Some.found c.in_ok-first.ensures.ready c.in_ok-second.ensures.ready chosen)
+    let chosen = subst (Chooses c.in_ok-first.first c.in-Ok.second) c.in-Some.is c.in_ok-found.ensures.chosen in
+    c.end.ensures.begins (ready_chosen c.in_ok-first.first c.in-Ok.second c.in-Some.found c.in_ok-first.ensures.ready c.in-Ok.ensures.ready chosen)
 
 pub returns-in-None-clause-begins : goal.returns-in-None-clause-begins
 returns-in-None-clause-begins g c =

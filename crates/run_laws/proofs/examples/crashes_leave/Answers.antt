@@ -4,6 +4,7 @@ use Rattle.dura_model.specs.Dependencies.Founded.{none}
 use Rattle.dura_model.specs.Partition.{fresh}
 use Rattle.part_files.specs.Kept.{entries_from}
 use Rattle.run_laws.specs.Leaves.AllAnswered.{nothing_said}
+use Rattle.run_laws.specs.Leaves.AllRan.{nothing_ran}
 use Rattle.run_laws.proofs.examples.crashes_leave.Goals as goal
 
 pub returns-clause-empty : goal.returns-clause-empty
@@ -13,6 +14,7 @@ returns-clause-empty c = λ flows. record {
   stands = record { entries = []; kept = refl; state = fresh 0; all = refl; legal = refl };
   writing = inl refl;
   given = tt;
+  ran = nothing_ran;
   own = λ k d inside. absurd (omega (arith, inside));
   founded = none;
   told = [];

@@ -1,11 +1,12 @@
 use Rattle.std.proofs.Common.{◌≡◌, [], ◌∷◌, Ok, codes, refl, subst, arith}
 use Rattle.std.proofs.lemmas.List.Elements.{All-from_recursion}
+use Rattle.std.specs.List.{All}
 use Rattle.dura_model.specs.Partition.{Partition, fresh}
-use Rattle.dura_value.specs.Items.{took}
+use Rattle.dura_value.specs.Items.{Entry, took}
 use Rattle.part_files.specs.Examples.{request, taking, request_taken}
 use Rattle.part_files.specs.Placing.{placed}
 use Rattle.run_rules.specs.Examples.{first_asked, rules_with}
-use Rattle.run_rules.specs.Rules.{IsAsked, IsBy, IsOurs}
+use Rattle.run_rules.specs.Rules.{IsAsked, IsBy, IsOurs, EndsPending}
 use Rattle.run_rules.proofs.examples.entries_following.Goals as goal
 
 pub returns-clause-first : goal.returns-clause-first
@@ -24,6 +25,8 @@ returns-clause-first c = λ flows. record {
     },
     tt,
   );
+  pending = All-from_recursion (λ (entry : Entry). All (EndsPending (fresh 0)) entry.items) (taking 0 ∷ [])
+      (All-from_recursion (EndsPending (fresh 0)) (took request ∷ []) (tt, tt), tt);
 }
 
 pub returns-clause-twice : goal.returns-clause-twice

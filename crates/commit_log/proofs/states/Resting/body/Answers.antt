@@ -1,7 +1,24 @@
-use Rattle.std.proofs.Common.{◌∙◌, arith}
+use Rattle.std.proofs.Common.{◌≡◌, Result, Ok, Err, refl, ◌∙◌, ap, arith, ℕ}
 use Rattle.site_model.proofs.Paths.{stays}
+use Rattle.commit_log.specs.declared.states.Resting.{Resting}
+use Rattle.commit_log.specs.declared.states.Broken.{Broken}
+use Rattle.commit_log.specs.declared.states.BodyError.{BodyError}
+use Rattle.commit_log.specs.declared.states.BodyError.TheVariants.{Full, SiteFault, Memory}
 use Rattle.commit_log.proofs.Steps.{resting_images, body_during, body_broken, body_done}
 use Rattle.commit_log.proofs.states.Resting.body.Goals as goal
+
+-- answers that differ
+ok_apart : {T E : Type 0} (value : T) (error : E) → Ok value ≡ Err error → ⊥
+ok_apart value error is = cc
+
+full_memory : {T : Type 0} (result : Result T BodyError) (n : ℕ) (log other : Resting) → result ≡ Err (Full n log) → result ≡ Err (Memory other) → ⊥
+full_memory result n log other full memory = cc
+
+full_fault : {T : Type 0} (result : Result T BodyError) (n : ℕ) (log : Resting) (other : Broken) → result ≡ Err (Full n log) → result ≡ Err (SiteFault other) → ⊥
+full_fault result n log other full fault = cc
+
+memory_fault : {T : Type 0} (result : Result T BodyError) (log : Resting) (other : Broken) → result ≡ Err (Memory log) → result ≡ Err (SiteFault other) → ⊥
+memory_fault result log other memory fault = cc
 
 -- where nothing was written, a crash leaves what it left
 pub returns-then-length-limit-clause-during : goal.returns-then-length-limit-clause-during
@@ -23,3 +40,51 @@ returns-clause-during g c h payloads rests = body_during _ _ _ h payloads _ _ _ 
 pub returns-clause-after : goal.returns-clause-after
 returns-clause-after g c h payloads rests =
     body_broken _ _ _ h payloads c.args.payload.now _ _ _ _ (omega arith) (omega (arith, c.if-length-limit.false, c.requires.limit)) rests (c.write.ensures.done)
+
+pub returns-then-length-limit-clause-full : goal.returns-then-length-limit-clause-full
+returns-then-length-limit-clause-full g c long = ap (λ (n : ℕ). Err (Full n c.args.self)) (omega arith)
+
+pub returns-then-length-limit-clause-untouched : goal.returns-then-length-limit-clause-untouched
+returns-then-length-limit-clause-untouched g c log is = absurd (full_memory _ _ _ log refl is)
+
+pub returns-then-length-limit-clause-broken : goal.returns-then-length-limit-clause-broken
+returns-then-length-limit-clause-broken g c log is = absurd (full_fault _ _ _ log refl is)
+
+pub returns-in-Err-clause-full : goal.returns-in-Err-clause-full
+returns-in-Err-clause-full g c long = absurd (omega (arith, c.if-length-limit.false, long))
+
+pub returns-in-Err-clause-room : goal.returns-in-Err-clause-room
+returns-in-Err-clause-room g c n log is = absurd (full_memory _ n log _ is refl)
+
+pub returns-in-Err-clause-untouched_full : goal.returns-in-Err-clause-untouched_full
+returns-in-Err-clause-untouched_full g c n log is = refl
+
+pub returns-in-Err-clause-broken : goal.returns-in-Err-clause-broken
+returns-in-Err-clause-broken g c log is = absurd (memory_fault _ _ log refl is)
+
+pub returns-in-Ok-write-clause-full : goal.returns-in-Ok-write-clause-full
+returns-in-Ok-write-clause-full g c long = absurd (omega (arith, c.if-length-limit.false, long))
+
+pub returns-in-Ok-write-clause-room : goal.returns-in-Ok-write-clause-room
+returns-in-Ok-write-clause-room g c n log is = absurd (ok_apart _ _ is)
+
+pub returns-in-Ok-write-clause-untouched : goal.returns-in-Ok-write-clause-untouched
+returns-in-Ok-write-clause-untouched g c log is = absurd (ok_apart _ _ is)
+
+pub returns-in-Ok-write-clause-untouched_full : goal.returns-in-Ok-write-clause-untouched_full
+returns-in-Ok-write-clause-untouched_full g c n log is = absurd (ok_apart _ _ is)
+
+pub returns-in-Ok-write-clause-broken : goal.returns-in-Ok-write-clause-broken
+returns-in-Ok-write-clause-broken g c log is = absurd (ok_apart _ _ is)
+
+pub returns-clause-full : goal.returns-clause-full
+returns-clause-full g c long = absurd (omega (arith, c.if-length-limit.false, long))
+
+pub returns-clause-room : goal.returns-clause-room
+returns-clause-room g c n log is = absurd (full_fault _ n log _ is refl)
+
+pub returns-clause-untouched : goal.returns-clause-untouched
+returns-clause-untouched g c log is = absurd (memory_fault _ log _ is refl)
+
+pub returns-clause-untouched_full : goal.returns-clause-untouched_full
+returns-clause-untouched_full g c n log is = absurd (full_fault _ n log _ is refl)

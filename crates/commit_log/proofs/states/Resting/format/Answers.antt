@@ -1,3 +1,4 @@
+use Rattle.std.proofs.Common.{refl, ◌∙◌, arith}
 use Rattle.site_model.specs.History.{content_of}
 use Rattle.commit_log.proofs.Formatting.{format_closes, format_heads, format_opens}
 use Rattle.commit_log.proofs.states.Resting.format.Goals as goal
@@ -18,3 +19,18 @@ pub returns-clause-during : goal.returns-clause-during
 returns-clause-during g c tells kept =
     let closed = c.in_ok-close.ensures.ok (c.write_header.ensures.told (c.open.ensures.told tells)) kept in
     format_opens c.args.file (content_of c.args.file (g.V.Site.history c.args.site.now)) c.args.header (c.close.ensures.during (c.write_header.ensures.told (c.open.ensures.told tells)) kept) (c.write_header.ensures.during closed) (c.open.ensures.during c.args.header (c.in_ok-write_header.ensures.ok closed))
+
+pub returns-clause-ok : goal.returns-clause-ok
+returns-clause-ok g c tells kept =
+    let closed = c.in_ok-close.ensures.ok (c.write_header.ensures.told (c.open.ensures.told tells)) kept in
+    c.in_ok-open.ensures.ok c.args.header (c.in_ok-write_header.ensures.ok closed)
+
+pub returns-clause-place : goal.returns-clause-place
+returns-clause-place g c = (refl, refl)
+
+pub returns-clause-cause : goal.returns-clause-cause
+returns-clause-cause g c = record {
+  later = omega (arith, c.in_ok-close.ensures.cause.later, c.in_ok-write_header.ensures.cause.later, c.in_ok-open.ensures.cause.later);
+  same = c.in_ok-open.ensures.cause.same ∙ c.in_ok-write_header.ensures.cause.same ∙ c.in_ok-close.ensures.cause.same;
+  risen = tt;
+}

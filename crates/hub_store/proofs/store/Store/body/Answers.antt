@@ -1,14 +1,15 @@
-use Rattle.std.proofs.Common.{length, inr, refl, sym, ◌∙◌, ap, subst, arith}
+use Rattle.std.proofs.Common.{◌≡◌, OnOk, Some, length, inr, refl, sym, ◌∙◌, ap, subst, arith}
 use Rattle.site_model.specs.History.{changes_of}
 use Rattle.hub_store.specs.declared.way.Way.{Way}
+use Rattle.hub_store.specs.declared.way.Stage.TheVariants as stages
 use Rattle.hub_store.specs.Plain.{trail_of, told_of}
 use Rattle.hub_store.specs.Trail.{of_part}
-use Rattle.hub_store.specs.Ways.{LogFits, due_in}
+use Rattle.hub_store.specs.Ways.{LogFits, stage_of, due_in, going_in}
 use Rattle.part_items.specs.Plain.{entries_of}
-use Rattle.hub_store.proofs.Bodies.{full_of}
+use Rattle.hub_store.proofs.Bodies.{full_of, way_put}
 use Rattle.hub_store.proofs.Calls.{resting_there, body_goes}
 use Rattle.hub_store.proofs.Standing.{told_on}
-use Rattle.hub_store.proofs.Stores.{put_for, sound_any, sound_roomier}
+use Rattle.hub_store.proofs.Stores.{put_for, others_stay, sound_any, sound_roomier}
 use Rattle.hub_store.proofs.store.Store.body.Goals as goal
 
 pub body_log-way-requires-clause-rests : goal.body_log-way-requires-clause-rests
@@ -46,3 +47,23 @@ returns-clause-sound g c =
 pub returns-clause-full : goal.returns-clause-full
 returns-clause-full g c long =
     inr (full_of _ c.in-Resting.log (entries_of c.args.frame) c.deref.result.now c.args.self.now.segment c.args.part c.body_log-way.result.1 c.in-Resting.ensures.way (c.deref.ensures.value ∙ c.in_ok-payload.ensures) c.body_log-way.ensures.full long)
+
+pub returns-clause-ok : goal.returns-clause-ok
+returns-clause-ok g c =
+    let p = c.args.part in
+    let way = c.body_log-way.result.0 in
+    subst (λ (w : Way). OnOk c.body_log-way.result.1 ((stage_of w ≡ stages.Bodied) × (going_in w ≡ Some (entries_of c.args.frame))))
+    (sym (way_put _ _ p way (put_for _ _ _ p way c.take_way.ensures.rest c.put_way.ensures) (omega (arith, c.requires.sound.count, c.requires.place)))) c.body_log-way.ensures.ok
+
+pub returns-clause-only : goal.returns-clause-only
+returns-clause-only g c =
+    let p = c.args.part in
+    let way = c.body_log-way.result.0 in
+    record { trail = ap trail_of c.reserve.ensures.items; told = refl; others = others_stay _ _ p way (put_for _ _ _ p way c.take_way.ensures.rest c.put_way.ensures) }
+
+pub returns-clause-memory : goal.returns-clause-memory
+returns-clause-memory g c is =
+    let p = c.args.part in
+    let way = c.body_log-way.result.0 in
+    let none = c.body_log-way.ensures.memory is in
+    (none.1, ap stage_of (way_put _ _ p way (put_for _ _ _ p way c.take_way.ensures.rest c.put_way.ensures) (omega (arith, c.requires.sound.count, c.requires.place)) ∙ none.0))

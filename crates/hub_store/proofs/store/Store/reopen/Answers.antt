@@ -1,4 +1,4 @@
-use Rattle.std.proofs.Common.{◌≡◌, true, false, inl, inr, ◌++◌, length, refl, sym, ◌∙◌, ap, subst, arith}
+use Rattle.std.proofs.Common.{◌≡◌, false, inl, inr, ◌++◌, length, refl, sym, ◌∙◌, ap, subst, arith}
 use Rattle.site_model.specs.History.{changes_of}
 use Rattle.hub_store.specs.declared.way.Way.{Way}
 use Rattle.hub_store.specs.declared.way.Way.TheVariants as ways
@@ -8,10 +8,11 @@ use Rattle.hub_store.specs.OpenedAgain.{Reopens}
 use Rattle.hub_store.specs.Plain.{trail_of, told_of}
 use Rattle.hub_store.specs.Trail.{of_part, settling}
 use Rattle.hub_store.specs.Ways.{LogFits, GoesOn, stage_of, gate_of, going_in, due_in}
+use Rattle.hub_store.proofs.Bodies.{way_put, rests_there, true_apart, ok_apart, fault_no_frame, dropped_settled}
 use Rattle.hub_store.proofs.OpenedAgain.{not_true, not_false, settled_just, dropped_just, reopen_path, rests_with, rests_without, breaks_again}
 use Rattle.hub_store.proofs.Settling.{told_settled}
 use Rattle.hub_store.proofs.Standing.{told_on}
-use Rattle.hub_store.proofs.Stores.{put_for, sound_on, sound_any, due_of_one}
+use Rattle.hub_store.proofs.Stores.{put_for, others_stay, sound_on, sound_any, due_of_one}
 use Rattle.hub_store.proofs.store.Store.reopen.Goals as goal
 
 pub returns-in-Err-clause-sound : goal.returns-in-Err-clause-sound
@@ -54,7 +55,7 @@ returns-then-not-found-clause-sound g c =
     let was_due = ap due_in c.take_way-way.ensures.way in
     let enough = due_of_one old p c.requires.sound c.requires.place in
     let size = ap length c.entries.ensures in
-    sound_any old _ p way trail c.requires.sound c.requires.place (λ is. cc) (put_for _ _ _ p way c.take_way-way.ensures.rest c.put_way-2.ensures) (omega (arith, dues, was_due, enough, size))
+    sound_any old _ p way trail c.requires.sound c.requires.place (rests_there found.log) (put_for _ _ _ p way c.take_way-way.ensures.rest c.put_way-2.ensures) (omega (arith, dues, was_due, enough, size))
     (omega (arith, c.requires.sound.room)) refl c.requires.whole refl
     (λ tells.
     let stood = c.requires.sound.told (c.reopen_log-answer.ensures.told tells) in
@@ -98,7 +99,7 @@ returns-clause-sound g c =
     let was_due = ap due_in c.take_way-way.ensures.way in
     let enough = due_of_one old p c.requires.sound c.requires.place in
     let size = ap length c.entries.ensures in
-    sound_any old _ p way (trail ++ settling p at (entries_of frame)) c.requires.sound c.requires.place (λ is. cc) (put_for _ _ _ p way c.take_way-way.ensures.rest c.put_way-2.ensures)
+    sound_any old _ p way (trail ++ settling p at (entries_of frame)) c.requires.sound c.requires.place (rests_there found.log) (put_for _ _ _ p way c.take_way-way.ensures.rest c.put_way-2.ensures)
     (omega (arith, dues, was_due, enough, size)) (omega (arith, dues, was_due, enough, size, c.requires.sound.room, c.settle_entries.ensures.len, c.settle_entries.ensures.capacity)) c.settle_entries.ensures.trail c.requires.whole refl
     (λ tells.
     let stood = c.requires.sound.told (c.reopen_log-answer.ensures.told tells) in
@@ -110,8 +111,8 @@ returns-clause-sound g c =
     let reads = subst (GoesOn (o.logs p).header fits.payloads ((o.logs p).entries ++ of_part p trail)) going fits.next in
     let settled = not_false found.settled c.if-not-found.false in
     let follows = c.requires.follows (entries_of frame) (ap going_in (sym c.take_way-way.ensures.way) ∙ going)
-    (λ is. let shut : found.settled ≡ false = opened.closed (inl (ap stage_of c.take_way-way.ensures.way ∙ is)) in let both : true ≡ false = sym settled ∙ shut in cc)
-    (λ is. let shut : found.settled ≡ false = opened.closed (inr (ap stage_of c.take_way-way.ensures.way ∙ is)) in let both : true ≡ false = sym settled ∙ shut in cc) in
+    (λ is. let shut : found.settled ≡ false = opened.closed (inl (ap stage_of c.take_way-way.ensures.way ∙ is)) in true_apart (sym settled ∙ shut))
+    (λ is. let shut : found.settled ≡ false = opened.closed (inr (ap stage_of c.take_way-way.ensures.way ∙ is)) in true_apart (sym settled ∙ shut)) in
     let rests = rests_with (g.N.Start.may_follow old.latest) g.N.Start.may_say o now (o.logs p).file (o.logs p).header fits.payloads (spell_frame (entries_of frame)) found settled opened.file_is opened.after in
     told_settled (g.N.Start.may_follow old.latest) g.N.Start.may_say o (g.N.Start.still_follows old.latest) p found.log trail told (entries_of frame) fits.payloads before now old.ways.items old.cut _ at c.requires.sound.apart c.requires.sound.count c.requires.place c.requires.whole (c.moment-at.ensures tells) follows stood path reads opened.file_is rests)
 
@@ -129,3 +130,82 @@ returns-clause-opened g c tells =
     let again = c.reopen_log-answer.ensures.reopens tells (o.logs p).file (o.logs p).header fits.payloads fits.fits in
     let opened = subst (Reopens (o.logs p).file (o.logs p).header fits.payloads (spell_frame (entries_of frame)) was before now) c.in-Ok.is again in
     settled_just (o.logs p).file (gate_of was) _ before c.in-Ok.found.settled (ap gate_of c.take_way-way.ensures.way) opened.opened (not_false _ c.if-not-found.false)
+
+pub returns-in-Err-clause-frame : goal.returns-in-Err-clause-frame
+returns-in-Err-clause-frame g c =
+    let p = c.args.part in
+    let way = ways.Broken c.in-Err.log c.reopen_log-answer.result.1 in
+    ap going_in (way_put _ _ p way (put_for _ _ _ p way c.take_way-way.ensures.rest c.put_way.ensures) (omega (arith, c.requires.sound.count, c.requires.place)))
+    ∙ sym c.reopen_log-answer.ensures.going ∙ ap going_in c.take_way-way.ensures.way
+
+pub returns-in-Err-clause-others : goal.returns-in-Err-clause-others
+returns-in-Err-clause-others g c =
+    let p = c.args.part in
+    let way = ways.Broken c.in-Err.log c.reopen_log-answer.result.1 in
+    others_stay _ _ p way (put_for _ _ _ p way c.take_way-way.ensures.rest c.put_way.ensures)
+
+pub returns-in-Err-clause-settled : goal.returns-in-Err-clause-settled
+returns-in-Err-clause-settled g c is = absurd (ok_apart _ _ (sym is))
+
+pub returns-in-Err-clause-dropped : goal.returns-in-Err-clause-dropped
+returns-in-Err-clause-dropped g c is = absurd (ok_apart _ _ (sym is))
+
+pub returns-in-Err-clause-unchanged : goal.returns-in-Err-clause-unchanged
+returns-in-Err-clause-unchanged g c is = absurd (fault_no_frame _ refl is)
+
+pub returns-then-not-found-clause-ok : goal.returns-then-not-found-clause-ok
+returns-then-not-found-clause-ok g c =
+    let p = c.args.part in
+    let way = ways.Resting c.in-Ok.found.log in
+    ap stage_of (way_put _ _ p way (put_for _ _ _ p way c.take_way-way.ensures.rest c.put_way-2.ensures) (omega (arith, c.requires.sound.count, c.requires.place)))
+
+pub returns-then-not-found-clause-others : goal.returns-then-not-found-clause-others
+returns-then-not-found-clause-others g c =
+    let p = c.args.part in
+    let way = ways.Resting c.in-Ok.found.log in
+    others_stay _ _ p way (put_for _ _ _ p way c.take_way-way.ensures.rest c.put_way-2.ensures)
+
+pub returns-then-not-found-clause-settled : goal.returns-then-not-found-clause-settled
+returns-then-not-found-clause-settled g c is = absurd (dropped_settled _ refl is)
+
+pub returns-then-not-found-clause-fault : goal.returns-then-not-found-clause-fault
+returns-then-not-found-clause-fault g c is = absurd (ok_apart _ _ is)
+
+pub returns-then-not-found-clause-halts : goal.returns-then-not-found-clause-halts
+returns-then-not-found-clause-halts g c is = absurd (ok_apart _ _ is)
+
+pub returns-then-not-found-clause-unchanged : goal.returns-then-not-found-clause-unchanged
+returns-then-not-found-clause-unchanged g c is = absurd (ok_apart _ _ is)
+
+pub returns-clause-ok : goal.returns-clause-ok
+returns-clause-ok g c =
+    let p = c.args.part in
+    let way = ways.Resting c.in-Ok.found.log in
+    ap stage_of (way_put _ _ p way (put_for _ _ _ p way c.take_way-way.ensures.rest c.put_way-2.ensures) (omega (arith, c.requires.sound.count, c.requires.place)))
+
+pub returns-clause-others : goal.returns-clause-others
+returns-clause-others g c =
+    let p = c.args.part in
+    let way = ways.Resting c.in-Ok.found.log in
+    others_stay _ _ p way (put_for _ _ _ p way c.take_way-way.ensures.rest c.put_way-2.ensures)
+
+pub returns-clause-settled : goal.returns-clause-settled
+returns-clause-settled g c is = record {
+  entries = entries_of c.reopen_log-answer.result.1;
+  at = c.moment-at.result;
+  frame = ap going_in (sym c.take_way-way.ensures.way) ∙ c.reopen_log-answer.ensures.going;
+  now = λ tells. c.moment-at.ensures tells;
+  trail = c.settle_entries.ensures.trail;
+}
+
+pub returns-clause-dropped : goal.returns-clause-dropped
+returns-clause-dropped g c is = absurd (dropped_settled _ is refl)
+
+pub returns-clause-fault : goal.returns-clause-fault
+returns-clause-fault g c is = absurd (ok_apart _ _ is)
+
+pub returns-clause-halts : goal.returns-clause-halts
+returns-clause-halts g c is = absurd (ok_apart _ _ is)
+
+pub returns-clause-unchanged : goal.returns-clause-unchanged
+returns-clause-unchanged g c is = absurd (ok_apart _ _ is)

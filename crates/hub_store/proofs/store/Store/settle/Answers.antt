@@ -1,15 +1,16 @@
-use Rattle.std.proofs.Common.{◌++◌, length, refl, sym, ap, subst, arith}
+use Rattle.std.proofs.Common.{◌++◌, length, refl, sym, ◌∙◌, ap, subst, arith}
 use Rattle.site_model.specs.History.{changes_of}
 use Rattle.hub_store.specs.declared.way.Way.{Way}
 use Rattle.hub_store.specs.declared.way.Way.TheVariants as ways
 use Rattle.part_items.specs.Plain.{entries_of}
 use Rattle.hub_store.specs.Plain.{trail_of, told_of}
 use Rattle.hub_store.specs.Trail.{of_part, settling}
-use Rattle.hub_store.specs.Ways.{LogFits, due_in, going_in}
+use Rattle.hub_store.specs.Ways.{LogFits, stage_of, due_in, going_in}
+use Rattle.hub_store.proofs.Bodies.{way_put, rests_there, true_apart, ok_apart, fault_no_frame}
 use Rattle.hub_store.proofs.Calls.{settle_path, settle_rests, settle_breaks}
 use Rattle.hub_store.proofs.Settling.{told_settled}
 use Rattle.hub_store.proofs.Standing.{told_on}
-use Rattle.hub_store.proofs.Stores.{put_for, sound_on, sound_any, due_of_one}
+use Rattle.hub_store.proofs.Stores.{put_for, others_stay, sound_on, sound_any, due_of_one}
 use Rattle.hub_store.proofs.store.Store.settle.Goals as goal
 
 pub returns-in-Ok-clause-sound : goal.returns-in-Ok-clause-sound
@@ -27,7 +28,7 @@ returns-in-Ok-clause-sound g c =
     let dues = ap due_in c.in-Gated.ensures.way in
     let enough = due_of_one old p c.requires.sound c.requires.place in
     let size = ap length c.entries.ensures in
-    sound_any old _ p (ways.Resting c.in-Ok.log) (trail ++ settling p at (entries_of frame)) c.requires.sound c.requires.place (λ is. cc) (put_for _ _ _ p (ways.Resting c.in-Ok.log) c.take_way.ensures.rest c.put_way.ensures)
+    sound_any old _ p (ways.Resting c.in-Ok.log) (trail ++ settling p at (entries_of frame)) c.requires.sound c.requires.place (rests_there c.in-Ok.log) (put_for _ _ _ p (ways.Resting c.in-Ok.log) c.take_way.ensures.rest c.put_way.ensures)
     (omega (arith, dues, enough, size)) (omega (arith, dues, enough, size, c.requires.sound.room, c.settle_entries.ensures.len, c.settle_entries.ensures.capacity)) c.settle_entries.ensures.trail (c.requires.sound.uncut c.requires.going) refl
     (λ tells.
     let stood = c.requires.sound.told (c.settle.ensures.told tells) in
@@ -66,3 +67,47 @@ returns-in-Err-clause-sound g c =
     let path = settle_path (g.N.Start.may_follow old.latest) g.N.Start.may_say o p log frame trail told before now c.settle.result c.settle.ensures.syncs c.settle.ensures.during follows fits in
     let breaks = settle_breaks (g.N.Start.may_follow old.latest) g.N.Start.may_say o p log frame trail before now c.in-Err.log (c.in-Err.ensures.broken).0 c.in-Err.ensures.after fits in
     told_on (g.N.Start.may_follow old.latest) g.N.Start.may_say o p before now old.ways.items way trail told old.cut _ c.requires.sound.apart c.requires.sound.count c.requires.place (c.requires.sound.uncut c.requires.going) stood path breaks)
+
+pub returns-in-Ok-clause-ok : goal.returns-in-Ok-clause-ok
+returns-in-Ok-clause-ok g c =
+    let p = c.args.part in
+    let way = ways.Resting c.in-Ok.log in
+    ap stage_of (way_put _ _ p way (put_for _ _ _ p way c.take_way.ensures.rest c.put_way.ensures) (omega (arith, c.requires.sound.count, c.requires.place)))
+
+pub returns-in-Ok-clause-others : goal.returns-in-Ok-clause-others
+returns-in-Ok-clause-others g c =
+    let p = c.args.part in
+    let way = ways.Resting c.in-Ok.log in
+    others_stay _ _ p way (put_for _ _ _ p way c.take_way.ensures.rest c.put_way.ensures)
+
+pub returns-in-Ok-clause-no_frame : goal.returns-in-Ok-clause-no_frame
+returns-in-Ok-clause-no_frame g c = ((λ is. absurd (ok_apart _ _ is)), (λ apart. absurd (apart (ap stage_of (sym c.in-Gated.ensures.way)))))
+
+pub returns-in-Ok-clause-halted : goal.returns-in-Ok-clause-halted
+returns-in-Ok-clause-halted g c = record {
+  later = c.in-Ok.ensures.cause.later;
+  same = λ is. c.in-Ok.ensures.cause.same;
+  risen = λ is. absurd (true_apart (sym is ∙ c.requires.going));
+}
+
+pub returns-in-Err-clause-frame : goal.returns-in-Err-clause-frame
+returns-in-Err-clause-frame g c =
+    let p = c.args.part in
+    let way = ways.Broken c.in-Err.log c.in-Gated.frame in
+    ap going_in (way_put _ _ p way (put_for _ _ _ p way c.take_way.ensures.rest c.put_way-in-Err.ensures) (omega (arith, c.requires.sound.count, c.requires.place))) ∙ ap going_in c.in-Gated.ensures.way
+
+pub returns-in-Err-clause-others : goal.returns-in-Err-clause-others
+returns-in-Err-clause-others g c =
+    let p = c.args.part in
+    let way = ways.Broken c.in-Err.log c.in-Gated.frame in
+    others_stay _ _ p way (put_for _ _ _ p way c.take_way.ensures.rest c.put_way-in-Err.ensures)
+
+pub returns-in-Err-clause-no_frame : goal.returns-in-Err-clause-no_frame
+returns-in-Err-clause-no_frame g c = ((λ is. absurd (fault_no_frame _ refl is)), (λ apart. absurd (apart (ap stage_of (sym c.in-Gated.ensures.way)))))
+
+pub returns-in-Err-clause-halted : goal.returns-in-Err-clause-halted
+returns-in-Err-clause-halted g c = record {
+  later = c.in-Err.ensures.cause.later;
+  same = λ is. absurd (true_apart is);
+  risen = λ is. c.in-Err.ensures.cause.risen;
+}

@@ -1,12 +1,15 @@
-use Rattle.std.proofs.Common.{refl, sym, ◌∙◌, ap, subst}
+use Rattle.std.proofs.Common.{◌≡◌, Err, OnOk, OnErr, refl, sym, ◌∙◌, ap, subst, arith}
 use Rattle.site_model.specs.History.{changes_of}
+use Rattle.hub_store.specs.declared.refusal.Refusal.TheVariants.{SiteFault}
 use Rattle.hub_store.specs.declared.way.Way.{Way}
+use Rattle.hub_store.specs.declared.way.Stage.TheVariants as stages
 use Rattle.hub_store.specs.Plain.{trail_of, told_of}
 use Rattle.hub_store.specs.Trail.{of_part}
-use Rattle.hub_store.specs.Ways.{LogFits, due_in}
+use Rattle.hub_store.specs.Ways.{LogFits, stage_of, due_in, going_in}
+use Rattle.hub_store.proofs.Bodies.{way_put, fault_no_frame}
 use Rattle.hub_store.proofs.Calls.{sync_goes}
 use Rattle.hub_store.proofs.Standing.{told_on}
-use Rattle.hub_store.proofs.Stores.{put_for, sound_on, with_frame}
+use Rattle.hub_store.proofs.Stores.{put_for, others_stay, sound_on, with_frame}
 use Rattle.hub_store.proofs.store.Store.sync_body.Goals as goal
 
 pub returns-clause-sound : goal.returns-clause-sound
@@ -25,3 +28,32 @@ returns-clause-sound g c =
     let fits = subst (λ (w : Way). LogFits (o.logs p) (of_part p trail) (changes_of (o.logs p).file before) w) (sym c.in-Bodied.ensures.way) (stood.logs p c.requires.place) in
     let goes = sync_goes (g.N.Start.may_follow old.latest) g.N.Start.may_say o p c.in-Bodied.log c.in-Bodied.frame trail told before now way c.sync_log-way.ensures.during c.sync_log-way.ensures.fits c.sync_log-way.ensures.going fits in
     told_on (g.N.Start.may_follow old.latest) g.N.Start.may_say o p before now old.ways.items way trail told old.cut _ c.requires.sound.apart c.requires.sound.count c.requires.place (c.requires.sound.uncut c.requires.going) stood goes.0 goes.1)
+
+pub returns-clause-ok : goal.returns-clause-ok
+returns-clause-ok g c =
+    let p = c.args.part in
+    let way = c.sync_log-way.result.0 in
+    subst (λ (w : Way). OnOk c.sync_log-way.result.1 (stage_of w ≡ stages.Synced))
+    (sym (way_put _ _ p way (put_for _ _ _ p way c.take_way.ensures.rest c.put_way.ensures) (omega (arith, c.requires.sound.count, c.requires.place)))) c.sync_log-way.ensures.ok
+
+pub returns-clause-frame : goal.returns-clause-frame
+returns-clause-frame g c =
+    let p = c.args.part in
+    let way = c.sync_log-way.result.0 in
+    ap going_in (way_put _ _ p way (put_for _ _ _ p way c.take_way.ensures.rest c.put_way.ensures) (omega (arith, c.requires.sound.count, c.requires.place)))
+    ∙ c.sync_log-way.ensures.going ∙ ap going_in c.in-Bodied.ensures.way
+
+pub returns-clause-only : goal.returns-clause-only
+returns-clause-only g c =
+    let p = c.args.part in
+    let way = c.sync_log-way.result.0 in
+    record { trail = refl; told = refl; others = others_stay _ _ p way (put_for _ _ _ p way c.take_way.ensures.rest c.put_way.ensures) }
+
+pub returns-clause-no_frame : goal.returns-clause-no_frame
+returns-clause-no_frame g c = (
+  (λ is. let other = subst (λ r. OnErr r (r ≡ Err SiteFault)) is c.sync_log-way.ensures.err in absurd (fault_no_frame _ other refl)),
+  (λ apart. absurd (apart (ap stage_of (sym c.in-Bodied.ensures.way)))),
+)
+
+pub returns-clause-unchanged : goal.returns-clause-unchanged
+returns-clause-unchanged g c is = let other = subst (λ r. OnErr r (r ≡ Err SiteFault)) is c.sync_log-way.ensures.err in absurd (fault_no_frame _ other refl)

@@ -1,12 +1,29 @@
-use Rattle.std.proofs.Common.{◌≡◌, ◌⊎◌, inl, inr, ℕ, ◌+◌, ◌<◌, ◌≤◌, ◌^◌, List, [], ◌∷◌, ◌++◌, length, take, drop, refl, sym, ap, subst, ◌∙◌, arith}
+use Rattle.std.proofs.Common.{◌≡◌, ◌⊎◌, inl, inr, ℕ, ◌+◌, ◌<◌, ◌≤◌, ◌^◌, List, [], ◌∷◌, ◌++◌, length, take, drop, Result, Ok, Err, refl, sym, ap, subst, ◌∙◌, arith}
 use Rattle.std.proofs.lemmas.List.{drop-drop, length-drop}
 use Rattle.site_model.specs.History.{Step, changes_of, content_of}
 use Rattle.commit_log.specs.States.{IsResting}
+use Rattle.log_reader.specs.declared.reader.FrameError.{FrameError}
+use Rattle.log_reader.specs.declared.reader.FrameError.TheVariants.{Damaged, SiteFault, Memory}
+use Rattle.log_reader.specs.declared.reader.LogReader.{LogReader}
 use Rattle.log_reader.specs.Frames.{HasRead}
-use Rattle.log_reader.specs.Fronts.{BeginsFrame}
+use Rattle.log_reader.specs.Fronts.{BeginsFrame, SaysGate}
+use Rattle.log_reader.specs.Outcomes.{Goes}
 use Rattle.log_reader.proofs.Steps.{closed_segment, segment_rests, no_frame, stands, frame_split, frame_read}
 use Rattle.log_reader.proofs.reader.LogReader.next.Goals as goal
 use Rattle.log_reader.proofs.reader.LogReader.next.Goals.{then-next-size-via-then-next-size, then-next-size-via-else-next-size+then-next-ge-END}
+
+-- answers that differ
+ok_apart : {T E : Type 0} (value : T) (error : E) → Ok value ≡ Err error → ⊥
+ok_apart value error is = cc
+
+damaged_fault : {T : Type 0} (result : Result T FrameError) (offset : ℕ) → result ≡ Err (Damaged offset) → result ≡ Err SiteFault → ⊥
+damaged_fault result offset damaged fault = cc
+
+-- what is answered where no gate was read
+no_gate : (content : List ℕ) (reader : LogReader) (payloads : List (List ℕ)) (error : FrameError) → SaysGate reader.gate (drop reader.gate content) (Err error) → Goes content reader payloads (Err error)
+no_gate content reader payloads (Damaged offset) says = says.1
+no_gate content reader payloads SiteFault says = tt
+no_gate content reader payloads Memory says = tt
 
 pub returns-in-Ok-None-clause-found : goal.returns-in-Ok-None-clause-found
 returns-in-Ok-None-clause-found g c tells size_is payloads has_read =
@@ -43,3 +60,33 @@ returns-in-Ok-clause-found g c tells size_is payloads has_read =
       stands gate size (drop gate content) begins c.in-Ok.payload inside (omega (arith, c.if-next-ge-END.false)) payload_is,
       subst (λ (n : ℕ). HasRead content c.args.self.header (payloads ++ c.in-Ok.payload ∷ []) (gate + 5 + n)) c.in-Ok.ensures.whole read,
     )
+
+pub returns-in-Ok-None-clause-place : goal.returns-in-Ok-None-clause-place
+returns-in-Ok-None-clause-place g c = (refl, refl)
+
+pub returns-in-Ok-None-clause-fault : goal.returns-in-Ok-None-clause-fault
+returns-in-Ok-None-clause-fault g c is = absurd (ok_apart _ _ is)
+
+pub returns-in-Err-clause-found : goal.returns-in-Err-clause-found
+returns-in-Err-clause-found g c tells size_is payloads has_read = no_gate _ c.args.self payloads c.in-Err.error (c.in-Err.ensures.says tells)
+
+pub returns-in-Err-clause-rests : goal.returns-in-Err-clause-rests
+returns-in-Err-clause-rests g c tells payloads has_read kept = tt
+
+pub returns-then-next-size-clause-rests : goal.returns-then-next-size-clause-rests
+returns-then-next-size-clause-rests g c tells payloads has_read kept = tt
+
+pub returns-then-next-size-clause-fault : goal.returns-then-next-size-clause-fault
+returns-then-next-size-clause-fault g c is = absurd (damaged_fault _ _ refl is)
+
+pub returns-in-Ok-clause-rests : goal.returns-in-Ok-clause-rests
+returns-in-Ok-clause-rests g c tells payloads has_read kept = tt
+
+pub returns-in-Ok-clause-fault : goal.returns-in-Ok-clause-fault
+returns-in-Ok-clause-fault g c is = absurd (ok_apart _ _ is)
+
+pub returns-in-Ok-clause-place : goal.returns-in-Ok-clause-place
+returns-in-Ok-clause-place g c = (refl, refl, refl, omega (arith, c.in-Ok.ensures.whole))
+
+pub returns-in-Ok-clause-later : goal.returns-in-Ok-clause-later
+returns-in-Ok-clause-later g c = omega (arith, c.read_gate.ensures.later, c.read_payload.ensures.later)

@@ -1,4 +1,4 @@
-use Rattle.std.proofs.Common.{◌≡◌, rules, ap}
+use Rattle.std.proofs.Common.{rules, ap}
 use Rattle.dura_value.specs.Views.{message_of, messages_of, answer_of}
 use Rattle.flow_messages.specs.Views.{entity_of}
 use Rattle.id_maps.proofs.Seen.{seen_by_id, seen_by_number}

@@ -1,5 +1,4 @@
 -- Each part of what was made new is the one of a partition where nothing happened.
-use Rattle.std.proofs.Common.{ap}
 use Rattle.std.specs.Prelude.{option_map}
 use Rattle.dura_value.specs.Views.{message_of, answer_of, messages_of}
 use Rattle.flow_messages.specs.Views.{entity_of}

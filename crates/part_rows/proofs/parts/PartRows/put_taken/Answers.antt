@@ -1,4 +1,4 @@
-use Rattle.std.proofs.Common.{◌∙◌, Some, ap}
+use Rattle.std.proofs.Common.{◌≡◌, ◌∙◌, IfOk, Some, ap, subst}
 use Rattle.dura_value.specs.Views.{id_of}
 use Rattle.id_maps.specs.Maps.{by_number, at_number}
 use Rattle.part_rows.specs.Parts.{part_of}
@@ -8,5 +8,6 @@ use Rattle.part_rows.proofs.parts.PartRows.put_taken.Goals as goal
 pub returns-clause-put : goal.returns-clause-put
 returns-clause-put c =
     let was = c.args.self.now in
-    let put = c.in_ok-put.ensures ∙ ap (λ i. at_number (by_number was.taken) (id_of i) c.args.number (Some c.args.message)) c.in_ok-client.ensures in
+    let copied = subst (λ r. IfOk r (λ copy. copy ≡ c.args.client.now)) c.in_ok-client.ensures.ok.0 c.copy_id.ensures in
+    let put = c.in_ok-put.ensures ∙ ap (λ i. at_number (by_number was.taken) (id_of i) c.args.number (Some c.in_ok-client.message)) copied ∙ ap (λ v. at_number (by_number was.taken) (id_of c.args.client.now) c.args.number (Some v)) c.in_ok-client.ensures.ok.1 in
     ap (λ a. record (part_of was) { taken = a }) (taken_put (by_number was.taken) (by_number c.put.new.self) (id_of c.args.client.now) c.args.number (Some c.args.message) put)
