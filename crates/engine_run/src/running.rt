@@ -150,10 +150,13 @@ fn drive_on<V: Site, N: Ruled, C: Clock, A: Activities>(
         options.batch,
         options.steps,
     ) {
-        Ok(End::Rest(_state)) => match rest_cause(port, clients) {
-            Ok(cause) => cause,
-            Err(_) => Cause::Memory,
-        },
+        Ok(End::Rest(state)) => {
+            drop(state);
+            match rest_cause(port, clients) {
+                Ok(cause) => cause,
+                Err(_) => Cause::Memory,
+            }
+        }
         Ok(End::Long(labels)) => Cause::Long { labels },
         Err(stop) => cause_of(stop),
     }
@@ -209,17 +212,23 @@ pub(crate) fn go<V: Site, N: Ruled, C: Clock, A: Activities>(
     } = prepared;
     let nothing = Trail::none(alloc);
     if state.position() >= PLACES {
+        drop(state);
         return end_with(Cause::Memory, nothing, site, clock);
     }
     let Ok((mut port, clients)) = ports_of(alloc, requests) else {
+        drop(state);
         return end_with(Cause::Memory, nothing, site, clock);
     };
     let Ok(logs) = vec![in alloc; log] else {
+        drop(state);
         return end_with(Cause::Memory, nothing, site, clock);
     };
     let mut store = match Store::<V, N>::begin(alloc, site, logs, options.segment) {
         Ok(store) => store,
-        Err(site) => return end_with(Cause::Memory, nothing, site, clock),
+        Err(site) => {
+            drop(state);
+            return end_with(Cause::Memory, nothing, site, clock);
+        }
     };
     let cause = drive_on(
         alloc, &mut store, &mut clock, acts, &flows, &mut port, &clients, state, life, options,

@@ -32,7 +32,9 @@ pub(crate) fn show<V: Site>(alloc: Global, site: &mut V) -> Cause
         Ok(recovered) => recovered,
         Err(cause) => return cause,
     };
-    match say_table(alloc, site, &flows, &recovered.state) {
+    let said = say_table(alloc, site, &flows, &recovered.state);
+    drop(recovered);
+    match said {
         Ok(()) => Cause::Done,
         Err(ShowError::SayFault) => Cause::SayFault,
         Err(ShowError::Memory) => Cause::Memory,

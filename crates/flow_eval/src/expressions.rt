@@ -14,6 +14,7 @@ use crate::variables::Variables;
 use dura_value::{Name, Scalar, Value};
 use flow_syntax::Expr;
 use std::alloc::Global;
+use with_value::with;
 
 /// A copy of a variable's value.
 fn value_in(variables: &Variables, name: &Name) -> Result<Value, EvalError>
@@ -50,12 +51,16 @@ pub fn eval(alloc: Global, expression: &Expr, variables: &Variables) -> Result<V
         Expr::List(parts) => eval_list(alloc, parts, variables),
         Expr::Unary(operation, part) => {
             let part = eval(alloc, part, variables)?;
-            apply_unary(alloc, *operation, &part)
+            let made = apply_unary(alloc, *operation, &part);
+            drop(part);
+            made
         }
         Expr::Binary(operation, first, second) => {
             let first = eval(alloc, first, variables)?;
-            let second = eval(alloc, second, variables)?;
-            apply_binary(alloc, *operation, &first, second)
+            let (second, first) = with(eval(alloc, second, variables), first)?;
+            let made = apply_binary(alloc, *operation, &first, second);
+            drop(first);
+            made
         }
     }
 }

@@ -43,7 +43,7 @@ impl Class {
         ensures ok { OnOk result (class_of self.new ≡ with_operation (class_of self.old) name (block_of body.items)) }
         ensures err { OnErr result (class_of self.new ≡ class_of self.old) }
     {
-        self.operations.insert(name, body)?;
+        drop(self.operations.insert(name, body)?);
         Ok(())
     }
 
@@ -74,7 +74,7 @@ impl Flows {
         ensures ok { OnOk result (flows_of self.new ≡ with_flow (flows_of self.old) name (block_of body.items)) }
         ensures err { OnErr result (flows_of self.new ≡ flows_of self.old) }
     {
-        self.flows.insert(name, body)?;
+        drop(self.flows.insert(name, body)?);
         Ok(())
     }
 
@@ -83,7 +83,7 @@ impl Flows {
         ensures ok { OnOk result (flows_of self.new ≡ with_class (flows_of self.old) name (class_of class)) }
         ensures err { OnErr result (flows_of self.new ≡ flows_of self.old) }
     {
-        self.classes.insert(name, class)?;
+        drop(self.classes.insert(name, class)?);
         Ok(())
     }
 

@@ -11,7 +11,7 @@ use Rattle.dura_model.specs.Placed.{AreShown}
 use Rattle.dura_model.specs.Steps.{Label}
 use Rattle.dura_model.proofs.Kept.{item_keeps, item_stands, enter_keeps}
 use Rattle.flow_syntax.specs.Syntax.{Flows}
-use Rattle.dura_value.specs.Items.{Item, Entry}
+use Rattle.dura_value.specs.Items.{Item, Entry, took, got, ran, ended, fired, trim}
 use Rattle.part_items.specs.ItemFits.{FitsEntry}
 use Rattle.hub_store.specs.Frames.{goes_on, GoesBehind}
 use Rattle.hub_store.proofs.FramesGo.{frame_goes}

@@ -56,7 +56,10 @@ pub(crate) fn take_next<A: Activities, C: Clock>(
 {
     let now = match clock.now() {
         Ok(now) => now,
-        Err(_) => return Err(Stop::ClockFault),
+        Err(_) => {
+            drop(state);
+            return Err(Stop::ClockFault);
+        }
     };
     let chance = Chance { now, word };
     let first = gather(alloc, flows, acts, state, port, clients, chance, limit)?;
@@ -68,7 +71,10 @@ pub(crate) fn take_next<A: Activities, C: Clock>(
     };
     let later = match clock.wait_until(due.min(LAST_MOMENT)) {
         Ok(later) => later,
-        Err(_) => return Err(Stop::ClockFault),
+        Err(_) => {
+            drop(first);
+            return Err(Stop::ClockFault);
+        }
     };
     let chance = Chance { now: later, word };
     let second = gather(
@@ -82,6 +88,7 @@ pub(crate) fn take_next<A: Activities, C: Clock>(
         limit,
     )?;
     if second.items.is_empty() {
+        drop(second);
         return Err(Stop::Memory);
     }
     Ok(Coming::Filled(second, later))

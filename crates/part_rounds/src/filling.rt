@@ -11,6 +11,7 @@ use flow_syntax::Flows;
 use part_items::Item;
 use part_steps::{PartState, Verdict, next_items};
 use std::alloc::{AllocError, Global};
+use with_value::with;
 
 /// The items that an entry is filled with so far, and the state that they make.
 #[derive(Drop)]
@@ -32,12 +33,22 @@ pub(crate) fn put(
     ensures puts { IfOk result (λ next. Puts (flows_of flows.now) filling item next) }
 {
     let Filling { state, mut items } = filling;
-    match state.apply(alloc, flows, &item)? {
+    let verdict = match state.apply(alloc, flows, &item) {
+        Ok(verdict) => verdict,
+        Err(error) => {
+            drop(item);
+            return Err(error);
+        }
+    };
+    match verdict {
         Verdict::Accepted(state, _) => {
-            items.push(item)?;
+            let (_, state) = with(items.push(item), state)?;
             Ok(Filling { state, items })
         }
-        Verdict::Refused(state) => Ok(Filling { state, items }),
+        Verdict::Refused(state) => {
+            drop(item);
+            Ok(Filling { state, items })
+        }
     }
 }
 
@@ -61,9 +72,14 @@ pub(crate) fn fill(
     let Filling { state, mut items } = filling;
     let room = limit.saturating_sub(items.len() as u32);
     let mut batch = next_items(alloc, flows, state, now, room)?;
-    items.append(&mut batch.items)?;
-    Ok(Filling {
-        state: batch.state,
-        items,
-    })
+    match items.append(&mut batch.items) {
+        Ok(()) => Ok(Filling {
+            state: batch.state,
+            items,
+        }),
+        Err(error) => {
+            drop(batch);
+            Err(error)
+        }
+    }
 }

@@ -59,6 +59,7 @@ pub(crate) fn fill_on(
     let taken = take_due(alloc, flows, filling, port, clients, limit)?;
     let filled = fill(alloc, flows, taken, now, limit)?;
     if !all_fit(&filled.items) {
+        drop(filled);
         return Err(Stop::Memory);
     }
     Ok(filled)

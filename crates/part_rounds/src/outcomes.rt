@@ -72,7 +72,14 @@ pub(crate) fn run_pending<A: Activities>(
     ensures idle { IfOk result (λ next. next.items.items ≡ [] → CantEnd (state_of filling.state)) }
     ensures settled { IfOk result (λ next. All (IsOfPending (state_of filling.state)) (items_of next.items.items)) }
 {
-    match outcome_of_pending(alloc, acts, &filling.state, word)? {
+    let pending = match outcome_of_pending(alloc, acts, &filling.state, word) {
+        Ok(pending) => pending,
+        Err(error) => {
+            drop(filling);
+            return Err(error);
+        }
+    };
+    match pending {
         Some(item) => {
             let next = put(alloc, flows, filling, item)?;
             Ok(next)

@@ -84,9 +84,20 @@ fn settle_filling<V: Site, N: Ruled>(
     ensures say_later { V.say_faults store.old.site ≤ V.say_faults store.new.site }
 {
     let Filling { state, items } = filling;
-    commit_items(alloc, store, position, life, items)?;
-    say_due(alloc, store, &state, port, clients)?;
-    Ok(state.enter(life))
+    match commit_items(alloc, store, position, life, items) {
+        Ok(()) => {}
+        Err(stop) => {
+            drop(state);
+            return Err(stop);
+        }
+    }
+    match say_due(alloc, store, &state, port, clients) {
+        Ok(()) => Ok(state.enter(life)),
+        Err(stop) => {
+            drop(state);
+            Err(stop)
+        }
+    }
 }
 
 /// One round in an entry that has begun: what comes next is committed, and what it answers is said. The word that an activity
@@ -134,6 +145,7 @@ fn go_round<V: Site, N: Ruled, A: Activities, C: Clock>(
 {
     let position = state.position() - 1;
     if position >= PLACES {
+        drop(state);
         return Err(Stop::Memory);
     }
     let chance = word(life, 0, position);
@@ -197,7 +209,13 @@ pub fn drive<V: Site, N: Ruled, A: Activities, C: Clock>(
     ensures say_later { V.say_faults store.old.site ≤ V.say_faults store.new.site }
     ensures clock_later { C.clock_faults clock.old ≤ C.clock_faults clock.new }
 {
-    say_due(alloc, store, &state, port, clients)?;
+    match say_due(alloc, store, &state, port, clients) {
+        Ok(()) => {}
+        Err(stop) => {
+            drop(state);
+            return Err(stop);
+        }
+    }
     let mut state = state.enter(life);
     let mut labels = 0u64;
     'rounds: while labels < steps as u64 {
@@ -211,5 +229,6 @@ pub fn drive<V: Site, N: Ruled, A: Activities, C: Clock>(
             Round::Over(last) => return Ok(End::Rest(last)),
         }
     }
+    drop(state);
     Ok(End::Long(labels))
 }

@@ -55,7 +55,14 @@ fn take_of(
     ensures moment { IfOk result (λ next. (state_of next.state).stamp ≡ (state_of filling.state).stamp) }
     ensures none { IfOk result (λ next. length next.items.items ≡ length filling.items.items → (state_of next.state ≡ state_of filling.state) × CantTake (flows_of flows.now) (state_of filling.state) port.now.queues client.now) }
 {
-    match due_message(&filling.state, port, client)? {
+    let due = match due_message(&filling.state, port, client) {
+        Ok(due) => due,
+        Err(error) => {
+            drop(filling);
+            return Err(error);
+        }
+    };
+    match due {
         Some(message) => {
             let next = put(alloc, flows, filling, Item::Took(message))?;
             Ok(next)

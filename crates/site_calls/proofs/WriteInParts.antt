@@ -1,9 +1,9 @@
 -- A write, as far as its calls have come.
-use Rattle.std.proofs.Common.{◌≡◌, ℕ, ◌+◌, ◌≤◌, List, ◌∷◌, ◌++◌, length, take, drop, sym, ◌∙◌, ap, subst, arith, length-append, length-take, length-drop}
-use Rattle.std.proofs.lemmas.List.{take-take, take_at}
+use Rattle.std.proofs.Common.{◌≡◌, ℕ, ◌+◌, ◌≤◌, List, ◌∷◌, ◌++◌, length, take, drop, Ok, Err, sym, ◌∙◌, ap, subst, arith, length-append, length-take, length-drop}
+use Rattle.std.proofs.lemmas.List.{take-take, take_at, take_all}
 use Rattle.site_model.specs.History.{on, wrote}
 use Rattle.site_calls.specs.Events.{Event, Unseen, Standing, put, lost, after, replay}
-use Rattle.site_calls.specs.Runs.{stepped}
+use Rattle.site_calls.specs.Runs.{stepped, WritesOnce}
 
 -- the newest step is the write, of which these bytes are known, and the first ones are those that were asked for
 pub record IsWriting (file at : ℕ) (bytes : List ℕ) (done : ℕ) (old new : Standing) : Type 0 where
@@ -48,3 +48,15 @@ writing_lost file at done next bytes unseen start old new same within is writing
       front = lost_front done bytes (drop (length (take done bytes)) left) within;
       step = ap (replay unseen) is ∙ ap (after left (lost (take done bytes))) writing.step;
     })
+
+-- the write once it ends
+pub writing_done : {T E : Type 0} (file at done : ℕ) (bytes : List ℕ) (start now : Standing) (value : T) → done ≡ length bytes → IsWriting file at bytes done start now → WritesOnce {T = T} {E = E} file at bytes start now (Ok value)
+writing_done file at done bytes start now value is writing = record {
+  known = writing.known;
+  no_longer = writing.no_longer;
+  step = writing.step;
+  ok = sym (take_all done writing.known (omega (arith, writing.no_longer))) ∙ writing.front ∙ take_all done bytes (omega arith);
+}
+
+pub writing_fails : {T E : Type 0} (file at done : ℕ) (bytes : List ℕ) (start now : Standing) (error : E) → IsWriting file at bytes done start now → WritesOnce {T = T} {E = E} file at bytes start now (Err error)
+writing_fails file at done bytes start now error writing = record { known = writing.known; no_longer = writing.no_longer; step = writing.step; ok = tt }

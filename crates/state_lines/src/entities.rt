@@ -22,7 +22,10 @@ fn answer_at(flows: &Flows, id: &Id, answer: Answer) -> Answer
     ensures { answer_of result ≡ answer_at (flows_of flows.now) (id_of id.now) (answer_of answer) }
 {
     match id {
-        Id::Entity(class, _) if flows.class_of(class).is_none() => Answer::None,
+        Id::Entity(class, _) if flows.class_of(class).is_none() => {
+            drop(answer);
+            Answer::None
+        }
         _ => answer,
     }
 }
@@ -48,7 +51,9 @@ fn say_next<'a, V: Site>(
     match state.next_entity(last)? {
         Some((id, answer)) => {
             let answer = answer_at(flows, id, answer);
-            say_line(alloc, site, id, &answer)?;
+            let said = say_line(alloc, site, id, &answer);
+            drop(answer);
+            said?;
             Ok(Some(id))
         }
         None => Ok(None),

@@ -37,7 +37,9 @@ fn say_next<'a, V: Site>(
 {
     match state.next_instance(alloc, flows, last)? {
         Some((id, answer)) => {
-            say_line(alloc, site, id, &answer)?;
+            let said = say_line(alloc, site, id, &answer);
+            drop(answer);
+            said?;
             Ok(Some(id))
         }
         None => Ok(None),

@@ -10,19 +10,19 @@ use Rattle.part_rounds.proofs.filling.fill.Goals as goal
 pub overflow_cast-len : goal.overflow_cast-len
 overflow_cast-len c = Fits-le (omega (arith, c.len.ensures, c.requires.room)) c.ranges.limit
 
-pub returns-clause-goes_on : goal.returns-clause-goes_on
-returns-clause-goes_on c = λ rules told same.
-    let items : c.append.new.self.items ≡ c.args.filling.items.items ++ c.in_ok-batch.batch.items.items = c.in_ok-append.ensures.items in
+pub returns-in-Ok-clause-goes_on : goal.returns-in-Ok-clause-goes_on
+returns-in-Ok-clause-goes_on c = λ rules told same.
+    let items : c.append.new.self.items ≡ c.args.filling.items.items ++ c.in_ok-batch.batch.items.items = c.in-Ok.ensures.items in
     filled_goes_on rules told (flows_of c.args.flows.now) c.args.filling _ (count_of c.args.filling.state) c.args.now c.in_ok-batch.batch.items.items (map outputs_of c.in_ok-batch.batch.outputs.items) same c.requires.way.one
     c.in_ok-batch.ensures.made items
     (record { sound = c.in_ok-batch.ensures.sound; one = c.in_ok-batch.ensures.partitions ∙ c.requires.way.one; begun = omega (arith, c.in_ok-batch.ensures.entry, c.requires.way.begun) })
     c.in_ok-batch.ensures.entry
 
-pub returns-clause-none : goal.returns-clause-none
-returns-clause-none c = λ less same.
-    let items : c.append.new.self.items ≡ c.args.filling.items.items ++ c.in_ok-batch.batch.items.items = c.in_ok-append.ensures.items in
+pub returns-in-Ok-clause-none : goal.returns-in-Ok-clause-none
+returns-in-Ok-clause-none c = λ less same.
+    let items : c.append.new.self.items ≡ c.args.filling.items.items ++ c.in_ok-batch.batch.items.items = c.in-Ok.ensures.items in
     filled_in_vain (flows_of c.args.flows.now) (count_of c.args.filling.state) c.args.now (state_of c.args.filling.state) (state_of c.in_ok-batch.batch.state) c.args.filling.items.items c.in_ok-batch.batch.items.items c.append.new.self.items
     (map outputs_of c.in_ok-batch.batch.outputs.items) c.requires.way.one c.in_ok-batch.ensures.made items same (c.in_ok-batch.ensures.none (omega (arith, less, c.saturating_sub-room.ensures, c.len.ensures)))
 
-pub returns-clause-moment : goal.returns-clause-moment
-returns-clause-moment c = makes_by c.in_ok-batch.ensures.made
+pub returns-in-Ok-clause-moment : goal.returns-in-Ok-clause-moment
+returns-in-Ok-clause-moment c = makes_by c.in_ok-batch.ensures.made

@@ -10,15 +10,15 @@ use Rattle.part_rounds.proofs.outcomes.run_pending.Goals as goal
 pub returns-in_ok-next-in-Some-clause-idle : goal.returns-in_ok-next-in-Some-clause-idle
 returns-in_ok-next-in-Some-clause-idle g c =
     put_idle (flows_of c.args.flows.now) c.args.filling c.in_ok-next-in-Some.next c.in-Some.item c.in_ok-next-in-Some.ensures.puts
-    (subst (λ o. IfSome o (λ one. IsOfPending (state_of c.args.filling.state) (item_of one))) c.in-Some.is c.in_ok-item.ensures.some)
+    (subst (λ o. IfSome o (λ one. IsOfPending (state_of c.args.filling.state) (item_of one))) c.in-Some.is c.in-Ok.ensures.some)
 
 pub returns-in_ok-next-in-Some-clause-goes_on : goal.returns-in_ok-next-in-Some-clause-goes_on
 returns-in_ok-next-in-Some-clause-goes_on g c = λ rules told same.
-    let pending = subst (λ o. IfSome o (λ one. IsOfPending (state_of c.args.filling.state) (item_of one))) c.in-Some.is c.in_ok-item.ensures.some in
+    let pending = subst (λ o. IfSome o (λ one. IsOfPending (state_of c.args.filling.state) (item_of one))) c.in-Some.is c.in-Ok.ensures.some in
     ended_goes_on rules told (flows_of c.args.flows.now) c.args.filling c.in_ok-next-in-Some.next c.in-Some.item same c.requires.empty c.in_ok-next-in-Some.ensures.puts pending
 
 pub returns-in_ok-next-in-Some-clause-moment : goal.returns-in_ok-next-in-Some-clause-moment
 returns-in_ok-next-in-Some-clause-moment g c =
-    let pending = subst (λ o. IfSome o (λ one. IsOfPending (state_of c.args.filling.state) (item_of one))) c.in-Some.is c.in_ok-item.ensures.some in
+    let pending = subst (λ o. IfSome o (λ one. IsOfPending (state_of c.args.filling.state) (item_of one))) c.in-Some.is c.in-Ok.ensures.some in
     puts_still (flows_of c.args.flows.now) c.args.filling c.in_ok-next-in-Some.next c.in-Some.item c.in_ok-next-in-Some.ensures.puts
     (outcome_still (state_of c.args.filling.state) (item_of c.in-Some.item) pending)

@@ -30,8 +30,8 @@ rounds-init g c =
       latest = let same = c.say_due.ensures.latest in omega (arith, same);
       moments = omega arith;
       stage = ap (λ ways. stage_of (way_of ways.items 0)) c.say_due.ensures.ways ∙ c.requires.rests;
-      still = c.in_ok-say_due.ensures.still;
-      said = c.in_ok-say_due.ensures.said;
+      still = c.in-Ok.ensures.still;
+      said = c.in-Ok.ensures.said;
       entered = record {
         before = state;
         stands = subst (λ (t : List Settled). Stands g.N.Ruled.rules log (of_part 0 t) state) (sym c.say_due.ensures.trail) c.requires.stands;
@@ -40,7 +40,7 @@ rounds-init g c =
         sound = c.enter-state.ensures.sound;
         one = c.enter-state.ensures.partitions ∙ c.requires.one;
       };
-      unsaid = subst (λ (p : Partition). NoneUnsaid p c.say_due.new.port.queues c.args.clients.now) (sym c.enter-state.ensures.entered) c.in_ok-say_due.ensures.none;
+      unsaid = subst (λ (p : Partition). NoneUnsaid p c.say_due.new.port.queues c.args.clients.now) (sym c.enter-state.ensures.entered) c.in-Ok.ensures.none;
       count = sym (ap (λ (t : List Settled). count_labels (of_part 0 t)) (c.say_due.ensures.trail ∙ c.requires.new));
       few = omega arith;
       later = let same = c.say_due.ensures.disk_faults in omega (arith, same);
@@ -50,6 +50,6 @@ rounds-init g c =
 
 pub returns-in_err-next-clause-full : goal.returns-in_err-next-clause-full
 returns-in_err-next-clause-full g c of n is =
-    let p = err_from_is_err_and c.from_residual-in_err-next.result c.from_residual-in_err-next.ensures.1 in
+    let p = err_from_is_err_and c.from_residual.result c.from_residual.ensures.1 in
     let same : c.in_err-next.field-0.0 ≡ Full of n = cc (rw (p.1, p.2) at is) in
     c.in_err-next.ensures.full of n (ap (λ (stop : Stop). Err stop) same)

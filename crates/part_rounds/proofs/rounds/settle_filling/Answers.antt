@@ -17,7 +17,7 @@ pub say_due-requires-clause-made : goal.say_due-requires-clause-made
 say_due-requires-clause-made g c =
     let log = g.N.Start.origin.logs 0 in
     let behind = stands_after g.N.Ruled.rules log c.args.store.now.latest (of_part 0 (trail_in c.args.store.now)) (pairs_of (told_in c.args.store.now)) c.args.position c.args.life (items_of c.args.filling.items.items) c.requires.filled.filled in
-    (subst (λ (l : List Entry). Stands g.N.Ruled.rules log l (state_of c.args.filling.state)) (sym c.in_ok-commit_items.ensures.trail) (subst (Stands g.N.Ruled.rules log _) c.requires.filled.after_is behind)).made
+    (subst (λ (l : List Entry). Stands g.N.Ruled.rules log l (state_of c.args.filling.state)) (sym c.in-Ok.ensures.trail) (subst (Stands g.N.Ruled.rules log _) c.requires.filled.after_is behind)).made
 
 pub enter-requires-clause-younger : goal.enter-requires-clause-younger
 enter-requires-clause-younger g c =
@@ -33,11 +33,11 @@ enter-requires-clause-room g c =
     let same = ap (λ (p : Partition). p.position) c.requires.filled.after_is in
     omega (arith, place, same, c.requires.room)
 
-pub returns-clause-entered : goal.returns-clause-entered
-returns-clause-entered g c =
+pub returns-in-Ok-say_due-clause-entered : goal.returns-in-Ok-say_due-clause-entered
+returns-in-Ok-say_due-clause-entered g c =
     let log = g.N.Start.origin.logs 0 in
     let behind = stands_after g.N.Ruled.rules log c.args.store.now.latest (of_part 0 (trail_in c.args.store.now)) (pairs_of (told_in c.args.store.now)) c.args.position c.args.life (items_of c.args.filling.items.items) c.requires.filled.filled in
-    let stands = subst (λ (l : List Entry). Stands g.N.Ruled.rules log l (state_of c.args.filling.state)) (sym c.in_ok-commit_items.ensures.trail) (subst (Stands g.N.Ruled.rules log _) c.requires.filled.after_is behind) in
+    let stands = subst (λ (l : List Entry). Stands g.N.Ruled.rules log l (state_of c.args.filling.state)) (sym c.in-Ok.ensures.trail) (subst (Stands g.N.Ruled.rules log _) c.requires.filled.after_is behind) in
     record {
       before = state_of c.args.filling.state;
       stands = subst (λ (t : List Settled). Stands g.N.Ruled.rules log (of_part 0 t) (state_of c.args.filling.state)) (sym c.say_due.ensures.trail) stands;
@@ -52,16 +52,13 @@ returns-clause-entered g c =
       one = c.enter.ensures.partitions ∙ c.requires.way.one;
     }
 
-pub returns-clause-unsaid : goal.returns-clause-unsaid
-returns-clause-unsaid g c =
+pub returns-in-Ok-say_due-clause-unsaid : goal.returns-in-Ok-say_due-clause-unsaid
+returns-in-Ok-say_due-clause-unsaid g c =
     let entered = c.enter.ensures.entered in
-    subst (λ (p : Partition). NoneUnsaid p c.say_due.new.port.queues c.args.clients.now) (sym entered) c.in_ok-say_due.ensures.none
+    subst (λ (p : Partition). NoneUnsaid p c.say_due.new.port.queues c.args.clients.now) (sym entered) c.in-Ok-say_due.ensures.none
 
-pub returns-clause-labels : goal.returns-clause-labels
-returns-clause-labels g c = ap (λ (t : List Settled). count_labels (of_part 0 t)) c.say_due.ensures.trail ∙ c.in_ok-commit_items.ensures.labels
+pub returns-in-Ok-say_due-clause-labels : goal.returns-in-Ok-say_due-clause-labels
+returns-in-Ok-say_due-clause-labels g c = ap (λ (t : List Settled). count_labels (of_part 0 t)) c.say_due.ensures.trail ∙ c.in-Ok.ensures.labels
 
-pub returns-in_err-commit_items-clause-full : goal.returns-in_err-commit_items-clause-full
-returns-in_err-commit_items-clause-full g c of n is =
-    let p = err_from_is_err_and c.from_residual.result c.from_residual.ensures.1 in
-    let same : c.in_err-commit_items.field-0.0 ≡ Full of n = cc (rw (p.1, p.2) at is) in
-    c.in_err-commit_items.ensures.full of n (ap (λ (stop : Stop). Err stop) same)
+pub returns-in-Err-clause-full : goal.returns-in-Err-clause-full
+returns-in-Err-clause-full g c of n is = let same : c.in-Err.stop ≡ Full of n = cc is in c.in-Err.ensures.full of n (ap (λ (stop : Stop). Err stop) same)

@@ -1,8 +1,8 @@
-use Rattle.std.proofs.Common.{arith}
+use Rattle.std.proofs.Common.{arith, refl}
 use Rattle.std.proofs.lemmas.Result.{MatchResult-at_ok}
 use Rattle.site_calls.specs.Events.{replay}
 use Rattle.site_calls.proofs.Events.{honest_more}
-use Rattle.site_calls.proofs.WriteInParts.{writing_put, writing_lost}
+use Rattle.site_calls.proofs.WriteInParts.{writing_put, writing_lost, writing_done, writing_fails}
 use Rattle.site_calls.proofs.writing.write_on.Goals as goal
 use Rattle.site_calls.proofs.writing.write_on.Goals.{in-Ok, in-Err}
 
@@ -30,3 +30,21 @@ loop-preserved g c = elim c.match-write_some.branch [
         (g.C.Calls.events c.loop.calls) (g.C.Calls.events c.write_some.new.self) w.done-is c.loop.invariant.within w.in-Err.ensures.noted (c.loop.invariant.writing unseen);
   }
 ]
+
+pub returns-then-done-bytes-clause-done : goal.returns-then-done-bytes-clause-done
+returns-then-done-bytes-clause-done g c unseen = writing_done c.args.file c.args.at c.loop.done c.args.bytes.now _ _ _ c.if-done-bytes.true (c.loop.invariant.writing unseen)
+
+pub returns-in-Ok-eq0-clause-done : goal.returns-in-Ok-eq0-clause-done
+returns-in-Ok-eq0-clause-done g c unseen =
+    writing_fails c.args.file c.args.at c.loop.done c.args.bytes.now _ _ _
+    (writing_put c.args.file c.args.at c.loop.done c.in-Ok-eq0.field-0 c.loop.done c.args.bytes.now unseen (replay unseen (g.C.Calls.events c.args.calls.now)) (g.C.Calls.events c.loop.calls) (g.C.Calls.events c.write_some.new.self)
+    (omega arith) (omega (arith, c.loop.invariant.within)) (MatchResult-at_ok _ _ _ c.in-Ok-eq0.is c.write_some.ensures.noted) (c.loop.invariant.writing unseen))
+
+pub returns-in-Err-2-clause-done : goal.returns-in-Err-2-clause-done
+returns-in-Err-2-clause-done g c unseen =
+    writing_fails c.args.file c.args.at c.loop.done c.args.bytes.now _ _ _
+    (writing_lost c.args.file c.args.at c.loop.done c.loop.done c.args.bytes.now unseen (replay unseen (g.C.Calls.events c.args.calls.now)) (g.C.Calls.events c.loop.calls) (g.C.Calls.events c.write_some.new.self)
+    refl c.loop.invariant.within c.in-Err-2.ensures.noted (c.loop.invariant.writing unseen))
+
+pub returns-clause-done : goal.returns-clause-done
+returns-clause-done g c unseen = writing_fails c.args.file c.args.at c.loop.done c.args.bytes.now _ _ _ (c.loop.invariant.writing unseen)
