@@ -14,8 +14,8 @@ use Rattle.part_rounds.specs.declared.stop.Stop.{Stop}
 use Rattle.run_causes.specs.declared.cause.Cause.{Cause}
 use Rattle.run_causes.specs.declared.cause.Cause.TheVariants.{SayFault}
 
-pub returns-clause-ends : goal.returns-clause-ends
-returns-clause-ends g c tells =
+pub returns-in-Err-clause-ends : goal.returns-in-Err-clause-ends
+returns-in-Err-clause-ends g c tells =
     let new = c.drive.new.store in
     let rules = g.N.Ruled.rules in
     let steps = g.V.Site.history new.site in
@@ -49,8 +49,8 @@ returns-in-Ok-clause-ends g c tells =
     λ trail told partition going follows. g.N.Start.later_follows new.latest latest trail told partition going above follows in
     let stands = with_later (g.N.Start.may_follow new.latest) (g.N.Start.may_follow latest) g.N.Start.may_say may o steps (trail_in new) (told_in new) [] (told.rests (c.drive.ensures.sound.uncut c.in-Ok-Rest.ensures.still)) in
     let leaves = subst (Leaves rules (o.logs 0) new.latest (of_part 0 (trail_in new)) queues clients c.args.options.steps) c.in-Ok-Rest.field-0-is c.in-Ok-Rest.ensures.leaves in
-    let rest = at_rest (g.N.Start.may_follow latest) g.N.Start.may_say rules latest o steps (trail_in new) (told_in new) new.latest queues clients c.in-Ok-Rest._state stands c.in-Ok-Rest.ensures.said (c.requires.asked (c.drive.ensures.tells tells)) c.requires.clients leaves.0 leaves.1 in
+    let rest = at_rest (g.N.Start.may_follow latest) g.N.Start.may_say rules latest o steps (trail_in new) (told_in new) new.latest queues clients c.in-Ok-Rest.state stands c.in-Ok-Rest.ensures.said (c.requires.asked (c.drive.ensures.tells tells)) c.requires.clients leaves.0 leaves.1 in
     rest_ends (g.N.Start.may_follow latest) g.N.Start.may_say rules latest o steps (trail_in new) (told_in new) queues clients c.args.options.steps c.args.options.segment c.in-Ok.cause rest c.requires.clients c.in-Ok.ensures
 
-pub returns-clause-whole : goal.returns-clause-whole
-returns-clause-whole g c other = c.drive.ensures.whole (other_stop c.in-Err.stop (subst (λ (cause : Cause). cause ≢ SayFault) c.cause_of.ensures other) c.drive.result c.in-Err.is)
+pub returns-in-Err-clause-whole : goal.returns-in-Err-clause-whole
+returns-in-Err-clause-whole g c other = c.drive.ensures.whole (other_stop c.in-Err.stop (subst (λ (cause : Cause). cause ≢ SayFault) c.cause_of.ensures other) c.drive.result c.in-Err.is)
