@@ -50,36 +50,7 @@ pub fn apply_unary(alloc: Global, operation: UnaryOp, part: &Value) -> Result<Va
     }
 }
 
-/// What an operation of two parts gives, which stay.
-fn applied(
-    alloc: Global,
-    operation: BinaryOp,
-    first: &Value,
-    second: &Value,
-) -> Result<Value, EvalError>
-    ensures { Gives (λ value. value) result (apply_binary (binary_of operation) first.now second.now) }
-{
-    match operation {
-        BinaryOp::Add => sum(to_integer(first)?, to_integer(second)?),
-        BinaryOp::Sub => difference(to_integer(first)?, to_integer(second)?),
-        BinaryOp::Mul => product(to_integer(first)?, to_integer(second)?),
-        BinaryOp::Div => quotient(to_integer(first)?, to_integer(second)?),
-        BinaryOp::Rem => remainder(to_integer(first)?, to_integer(second)?),
-        BinaryOp::Eq => Ok(truth(are_equal(first, second))),
-        BinaryOp::Lt => is_less(first, second),
-        BinaryOp::And => both(first, second),
-        BinaryOp::Or => either(first, second),
-        BinaryOp::Cat => joined(alloc, to_text(first)?, to_text(second)?),
-        BinaryOp::At => part_at(to_list(first)?.as_slice(), to_integer(second)?),
-        BinaryOp::Push => {
-            let parts = to_list(first)?;
-            let one = to_scalar(second.clone()?)?;
-            pushed(alloc, parts.as_slice(), one)
-        }
-    }
-}
-
-/// What an operation of two parts gives. A part that is pushed isn't copied.
+/// What an operation of two parts gives.
 pub fn apply_binary(
     alloc: Global,
     operation: BinaryOp,
@@ -89,11 +60,17 @@ pub fn apply_binary(
     ensures { Gives (λ value. value) result (apply_binary (binary_of operation) first.now second) }
 {
     match operation {
+        BinaryOp::Add => sum(to_integer(first)?, to_integer(&second)?),
+        BinaryOp::Sub => difference(to_integer(first)?, to_integer(&second)?),
+        BinaryOp::Mul => product(to_integer(first)?, to_integer(&second)?),
+        BinaryOp::Div => quotient(to_integer(first)?, to_integer(&second)?),
+        BinaryOp::Rem => remainder(to_integer(first)?, to_integer(&second)?),
+        BinaryOp::Eq => Ok(truth(are_equal(first, &second))),
+        BinaryOp::Lt => is_less(first, &second),
+        BinaryOp::And => both(first, &second),
+        BinaryOp::Or => either(first, &second),
+        BinaryOp::Cat => joined(alloc, to_text(first)?, to_text(&second)?),
+        BinaryOp::At => part_at(to_list(first)?.as_slice(), to_integer(&second)?),
         BinaryOp::Push => pushed(alloc, to_list(first)?.as_slice(), to_scalar(second)?),
-        _ => {
-            let made = applied(alloc, operation, first, &second);
-            drop(second);
-            made
-        }
     }
 }
