@@ -94,7 +94,9 @@ impl<'f> Machine<'f> {
             Some(arrival) => copy_outcome(&arrival.outcome)?,
             None => return Ok(false),
         };
-        self.get(made, variable, &outcome)?;
+        let got = self.get(made, variable, &outcome);
+        drop(outcome);
+        got?;
         Ok(true)
     }
 
@@ -128,7 +130,9 @@ impl<'f> Machine<'f> {
     {
         match self.value(alloc, handle) {
             Ok(value) => {
-                let went = self.await_value(alloc, made, variable, &value)?;
+                let waited = self.await_value(alloc, made, variable, &value);
+                drop(value);
+                let went = waited?;
                 Ok(went)
             }
             Err(error) => {

@@ -61,8 +61,8 @@ impl<'f> Machine<'f> {
     {
         let number = self.next_task()?;
         let asked = Asked::Activity(number, copy_name(activity)?, copy_value(&argument)?);
-        self.add_task(Kind::Activity(copy_name(activity)?, argument))?;
         made.asked.push(asked)?;
+        self.add_task(Kind::Activity(copy_name(activity)?, argument))?;
         Ok(())
     }
 
@@ -78,7 +78,7 @@ impl<'f> Machine<'f> {
     {
         match self.value(alloc, argument) {
             Ok(value) => {
-                self.handle(variable)?;
+                let (_, value) = with(self.handle(variable), value)?;
                 self.schedule(made, activity, value)
             }
             Err(error) => self.throw_error(alloc, made, error),
@@ -97,8 +97,8 @@ impl<'f> Machine<'f> {
     {
         match self.value(alloc, argument) {
             Ok(value) => {
-                let number = self.next_task()?;
-                self.plan(Todo::Await(variable, number))?;
+                let (number, value) = with(self.next_task(), value)?;
+                let (_, value) = with(self.plan(Todo::Await(variable, number)), value)?;
                 self.schedule(made, activity, value)
             }
             Err(error) => self.throw_error(alloc, made, error),
@@ -134,10 +134,10 @@ impl<'f> Machine<'f> {
     ) -> Result<(), AllocError>
         ensures { OnOk result (Makes made.old made.new self.new (starts (machine_of self.old) variable.now flow.now pair.0 pair.1)) }
     {
-        let (key, argument) = pair;
-        let number = self.handle(variable)?;
-        let to = Id::Flow(copy_name(flow)?, key);
-        self.send(made, to, Body::Start(argument, Reply::Task(number)))?;
+        let (number, pair) = with(self.handle(variable), pair)?;
+        let (flow, (key, argument)) = with(copy_name(flow), pair)?;
+        let body = Body::Start(argument, Reply::Task(number));
+        self.send(made, Id::Flow(flow, key), body)?;
         self.add_task(Kind::Flow)
     }
 
@@ -158,6 +158,7 @@ impl<'f> Machine<'f> {
                 if self.section.may_start() {
                     self.start(made, variable, flow, pair)
                 } else {
+                    drop(pair);
                     self.throw_word(alloc, made, "lockrule")
                 }
             }
@@ -176,9 +177,9 @@ impl<'f> Machine<'f> {
         ensures { OnOk result (Makes made.old made.new self.new (asks (machine_of self.old) variable.now (spot_of spot) operation.now argument)) }
     {
         let (number, (spot, argument)) = with(self.handle(variable), (spot, argument))?;
-        let (to, (spot, argument)) = with(entity_id(&spot), (spot, argument))?;
-        let (operation, (to, spot, argument)) = with(copy_name(operation), (to, spot, argument))?;
+        let (operation, (spot, argument)) = with(copy_name(operation), (spot, argument))?;
         let body = Body::Op(operation, argument, Reply::Task(number));
+        let (to, (spot, body)) = with(entity_id(&spot), (spot, body))?;
         let (_, spot) = with(self.send(made, to, body), spot)?;
         self.add_task(Kind::Entity(spot))
     }
@@ -197,12 +198,14 @@ impl<'f> Machine<'f> {
             (λ p. by_rule (machine_of self.old) (may_ask (machine_of self.old).section (spot_at class.now p.0) (machine_of self.old).tasks) (asks (machine_of self.old) variable.now (spot_at class.now p.0) operation.now p.1)))) }
     {
         match self.pair(alloc, key, argument) {
-            Ok((key, argument)) => {
-                let class = copy_name(class)?;
+            Ok(pair) => {
+                let (class, (key, argument)) = with(copy_name(class), pair)?;
                 let spot = Spot { class, key };
                 if self.section.may_ask(&spot, &self.tasks) {
                     self.ask(made, variable, spot, operation, argument)
                 } else {
+                    drop(spot);
+                    drop(argument);
                     self.throw_word(alloc, made, "lockrule")
                 }
             }
@@ -237,12 +240,16 @@ impl<'f> Machine<'f> {
             (λ p. by_rule (machine_of self.old) (may_signal (machine_of self.old).section (spot_at class.now p.0)) (signals (machine_of self.old) (spot_at class.now p.0) operation.now p.1)))) }
     {
         match self.pair(alloc, key, argument) {
-            Ok((key, argument)) => {
-                let class = copy_name(class)?;
+            Ok(pair) => {
+                let (class, (key, argument)) = with(copy_name(class), pair)?;
                 let spot = Spot { class, key };
                 if self.section.may_signal(&spot) {
-                    self.signal(made, &spot, operation, argument)
+                    let signalled = self.signal(made, &spot, operation, argument);
+                    drop(spot);
+                    signalled
                 } else {
+                    drop(spot);
+                    drop(argument);
                     self.throw_word(alloc, made, "lockrule")
                 }
             }

@@ -11,6 +11,7 @@ use dura_value::{Answer, Body, Message, Reply};
 use flow_messages::{Made, copy_id, copy_text, copy_value, release_all};
 use flow_tasks::Section;
 use std::alloc::AllocError;
+use with_value::with;
 
 impl<'f> Machine<'f> {
     /// Leaves the section that it is inside of, with a release to each entity.
@@ -56,8 +57,8 @@ impl<'f> Machine<'f> {
     pub(crate) fn end(&mut self, made: &mut Made, progress: Progress) -> Result<(), AllocError>
         ensures { OnOk result (Makes made.old made.new self.new (ended (machine_of self.old) (progress_of progress))) }
     {
-        self.leave(made)?;
-        self.tell(&mut made.messages, &progress)?;
+        let (_, progress) = with(self.leave(made), progress)?;
+        let (_, progress) = with(self.tell(&mut made.messages, &progress), progress)?;
         self.rest.clear();
         self.progress = progress;
         Ok(())

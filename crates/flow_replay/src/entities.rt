@@ -39,8 +39,10 @@ fn begin_operation<'f>(
 ) -> Result<Machine<'f>, AllocError>
     ensures { IfOk result (λ m. machine_of m ≡ body_begun (id_of at.now) value.now argument.now (block_of body.now)) }
 {
+    let variables = for_operation(alloc, value, argument)?;
     let mut machine = Machine::new(alloc, at, None)?;
-    machine.run_body(for_operation(alloc, value, argument)?, body)?;
+    let begun = machine.run_body(variables, body);
+    let (_, machine) = with(begun, machine)?;
     Ok(machine)
 }
 

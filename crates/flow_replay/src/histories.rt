@@ -13,7 +13,6 @@ use flow_syntax::Stmt;
 use std::alloc::{AllocError, Global};
 
 /// The machine of an instance whose flow has this body, where it is known, after the events of a history.
-#[tactic(auto, using(crate::proofs::Replayed::one_more))]
 pub fn replay<'f>(
     alloc: Global,
     id: &Id,
@@ -24,7 +23,13 @@ pub fn replay<'f>(
 {
     let mut machine = Machine::new(alloc, id, body)?;
     for past in history {
-        machine.advance(alloc, &past.event, past.stamp)?;
+        match machine.advance(alloc, &past.event, past.stamp) {
+            Ok(made) => drop(made),
+            Err(fault) => {
+                drop(machine);
+                return Err(fault);
+            }
+        }
     }
     Ok(machine)
 }

@@ -32,7 +32,6 @@ impl<'f> Machine<'f> {
     }
 
     /// The entities that are to be locked, in the order in which they are written.
-    #[tactic(auto, using(flow_messages::proofs::AllValues::nothing_behind, crate::proofs::AllSpots::none_left, crate::proofs::AllSpots::one_spot, crate::proofs::AllSpots::one_fault))]
     fn spots(&self, alloc: Global, entities: &[Locked]) -> Result<Vec<Spot>, EvalError>
         ensures { Gives (λ v. spots_of v.items) result (eval_spots (machine_of self.now).variables (map locked_of entities.now)) }
     {
@@ -65,7 +64,8 @@ impl<'f> Machine<'f> {
     {
         match set.as_slice().first() {
             Some(first) => {
-                let (id, to) = with(copy_id(&self.id), entity_id(first)?)?;
+                let to = entity_id(first)?;
+                let (id, to) = with(copy_id(&self.id), to)?;
                 let (set, (id, to)) = with(copy_spots(set), (id, to))?;
                 self.send(made, to, Body::Lock(id, number, set, 0))
             }

@@ -129,7 +129,15 @@ impl<'f> Machine<'f> {
         ensures { Gives (λ t. t) result (text_in (machine_of self.now).variables (expression_of text.now)) }
     {
         let value = self.value(alloc, text)?;
-        Ok(copy_text(to_text(&value)?)?)
+        let copy = match to_text(&value) {
+            Ok(text) => copy_text(text),
+            Err(fault) => {
+                drop(value);
+                return Err(fault);
+            }
+        };
+        drop(value);
+        Ok(copy?)
     }
 
     pub(crate) fn step_fail(

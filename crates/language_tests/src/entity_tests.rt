@@ -47,12 +47,15 @@ fn sends(
     let sent = deliver(alloc, entity, &flows, &name(rt, alloc, "Pot"), &message).expect(
         rt, "memory",
     );
+    drop(message);
     let wanted = Message {
         from: id(rt, alloc, "@Pot/a"),
         to: id(rt, alloc, to),
         body: wanted,
     };
-    sent.len() == 1 && sent.first() == Some(&wanted)
+    let sends = sent.len() == 1 && sent.first() == Some(&wanted);
+    drop(wanted);
+    sends
 }
 
 fn op(rt: &impl Abort, alloc: Global, operation: &str, argument: i64) -> Body {
@@ -120,6 +123,7 @@ fn operations(rt: HostRuntime) {
     );
     let asked = Body::Result(Reply::Request(9), Answer::Value(Value::Int(7)));
     assert!(rt; sends(&rt, alloc, &mut pot, "#c", Body::Query(9), "#c", asked));
+    drop(pot);
 }
 
 /// A lock goes on through its set, and behind the last entity the instance is told; a holder alone is listened to.
@@ -144,9 +148,10 @@ fn locks(rt: HostRuntime) {
         holder: None,
         last: 0,
     };
-    assert!(rt; pot.takes(&id(&rt, alloc, "Sum/x")));
+    let other = id(&rt, alloc, "Sum/x");
+    assert!(rt; pot.takes(&other));
     assert!(rt; sends(&rt, alloc, &mut pot, "Move/m", lock(0), "@Pot/b", lock(1)));
-    assert!(rt; pot.takes(&holder) && !pot.takes(&id(&rt, alloc, "Sum/x")));
+    assert!(rt; pot.takes(&holder) && !pot.takes(&other));
     assert!(rt;
         sends(
             &rt,
@@ -158,4 +163,7 @@ fn locks(rt: HostRuntime) {
             Body::Granted(6)
         )
     );
+    drop(pot);
+    drop(holder);
+    drop(other);
 }

@@ -50,8 +50,10 @@ fn push(rt: &impl Abort, history: &mut Vec<Past>, event: Event, stamp: u64) {
     history.push(Past { event, stamp }).expect(rt, "memory");
 }
 
-fn next(rt: &impl Abort, alloc: Global, machine: &mut Machine, event: &Event, stamp: u64) -> Made {
-    machine.advance(alloc, event, stamp).expect(rt, "memory")
+fn next(rt: &impl Abort, alloc: Global, machine: &mut Machine, event: Event, stamp: u64) -> Made {
+    let made = machine.advance(alloc, &event, stamp).expect(rt, "memory");
+    drop(event);
+    made
 }
 
 fn makes_nothing(made: &Made) -> bool {
@@ -65,7 +67,10 @@ fn tells(rt: &impl Abort, alloc: Global, made: &Made, from: &str, value: Value) 
         to: id(rt, alloc, "Main/m"),
         body: Body::Result(Reply::Task(4), Answer::Done(value)),
     };
-    made.asked.is_empty() && made.messages.len() == 1 && made.messages.first() == Some(&told)
+    let alone = made.asked.is_empty() && made.messages.len() == 1;
+    let tells = alone && made.messages.first() == Some(&told);
+    drop(told);
+    tells
 }
 
 fn has_ended(machine: &Machine, value: &Value) -> bool {
@@ -85,7 +90,7 @@ fn call(rt: HostRuntime) {
         &rt, "memory",
     );
     assert!(rt; matches!(machine.progress, Progress::Unborn));
-    let made = next(&rt, alloc, &mut machine, &start(&rt, alloc), 3);
+    let made = next(&rt, alloc, &mut machine, start(&rt, alloc), 3);
     let parts = Scalars::pair(alloc, Scalar::Int(2), Scalar::Int(3)).expect(&rt, "memory");
     let parts = Value::List(parts);
     assert!(rt; made.messages.is_empty() && made.asked.len() == 1);
@@ -93,10 +98,11 @@ fn call(rt: HostRuntime) {
         matches!(made.asked.first(), Some(Asked::Activity(0, name, argument)) if name.as_bytes() == b"add".as_slice() && *argument == parts)
     );
     assert!(rt; matches!(machine.progress, Progress::Running));
-    let made = next(&rt, alloc, &mut machine, &result(0, 5), 7);
+    let made = next(&rt, alloc, &mut machine, result(0, 5), 7);
     assert!(rt; tells(&rt, alloc, &made, "Sum/x", Value::Int(5)));
     assert!(rt; has_ended(&machine, &Value::Int(5)));
     assert!(rt; machine.events == 2 && machine.last == 7);
+    drop(machine);
 }
 
 /// An event that nobody awaits yet is kept until it is listened for.
@@ -111,10 +117,11 @@ fn early_event(rt: HostRuntime) {
     let early = id(&rt, alloc, "Early/x");
     let mut machine = replay(alloc, &early, Some(body), &history).expect(&rt, "memory");
     assert!(rt; matches!(machine.progress, Progress::Running));
-    let made = next(&rt, alloc, &mut machine, &raise(&rt, alloc, "go", 8), 2);
+    let made = next(&rt, alloc, &mut machine, raise(&rt, alloc, "go", 8), 2);
     assert!(rt; makes_nothing(&made));
-    let made = next(&rt, alloc, &mut machine, &result(0, 0), 3);
+    let made = next(&rt, alloc, &mut machine, result(0, 0), 3);
     assert!(rt; tells(&rt, alloc, &made, "Early/x", Value::Int(7)));
+    drop(machine);
 }
 
 /// A timer is due so long after the moment of the event that set it.
@@ -126,11 +133,12 @@ fn timer(rt: HostRuntime) {
     let mut machine = Machine::new(alloc, &id(&rt, alloc, "Nap/x"), Some(body)).expect(
         &rt, "memory",
     );
-    let made = next(&rt, alloc, &mut machine, &start(&rt, alloc), 5);
+    let made = next(&rt, alloc, &mut machine, start(&rt, alloc), 5);
     assert!(rt; made.messages.is_empty() && made.asked.len() == 1);
     assert!(rt; matches!(made.asked.first(), Some(Asked::Timer(0, 15))));
-    let made = next(&rt, alloc, &mut machine, &Event::Fired(0), 15);
+    let made = next(&rt, alloc, &mut machine, Event::Fired(0), 15);
     assert!(rt; tells(&rt, alloc, &made, "Nap/x", text(&rt, alloc, "up")));
+    drop(machine);
 }
 
 /// A history makes the instance that its events made one after the other.
@@ -146,7 +154,8 @@ fn history(rt: HostRuntime) {
     push(&rt, &mut history, raise(&rt, alloc, "go", 7), 9);
     let mut machine = Machine::new(alloc, &early, Some(body)).expect(&rt, "memory");
     for past in &history {
-        next(&rt, alloc, &mut machine, &past.event, past.stamp);
+        let made = machine.advance(alloc, &past.event, past.stamp);
+        drop(made.expect(&rt, "memory"));
     }
     let again = replay(alloc, &early, Some(body), &history).expect(&rt, "memory");
     for machine in [&machine, &again] {
@@ -154,4 +163,6 @@ fn history(rt: HostRuntime) {
         assert!(rt; machine.events == 3 && machine.last == 9);
         assert!(rt; machine.tasks.len() == 2 && machine.arrivals == 2);
     }
+    drop(machine);
+    drop(again);
 }

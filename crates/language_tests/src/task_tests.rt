@@ -55,10 +55,16 @@ fn sets(rt: HostRuntime) {
     let set = locked(&rt, alloc);
     assert!(rt; set.as_slice().len() == SET.len());
     for ((class, key), one) in SET.iter().zip(set.as_slice()) {
-        assert!(rt; *one == spot(&rt, alloc, class, key));
+        let wanted = spot(&rt, alloc, class, key);
+        assert!(rt; *one == wanted);
+        drop(wanted);
     }
-    assert!(rt; is_among(&spot(&rt, alloc, "A", "b"), set.as_slice()));
-    assert!(rt; !is_among(&spot(&rt, alloc, "B", "b"), set.as_slice()));
+    let inside = spot(&rt, alloc, "A", "b");
+    assert!(rt; is_among(&inside, set.as_slice()));
+    drop(inside);
+    let outside = spot(&rt, alloc, "B", "b");
+    assert!(rt; !is_among(&outside, set.as_slice()));
+    drop(outside);
 }
 
 /// The first result of a task stays, and the one that came first wins.
@@ -93,7 +99,9 @@ fn open_tasks(rt: HostRuntime) {
     let asked = spot(&rt, alloc, "A", "a");
     let go = name(&rt, alloc, "go");
     assert!(rt; tasks.has_open_call() && tasks.has_open_ask(&asked));
-    assert!(rt; !tasks.has_open_ask(&spot(&rt, alloc, "A", "b")));
+    let other = spot(&rt, alloc, "A", "b");
+    assert!(rt; !tasks.has_open_ask(&other));
+    drop(other);
     assert!(rt; tasks.oldest_listener(&go) == Some(3));
     assert!(rt; tasks.arrive(1, done(1), 0));
     assert!(rt; tasks.has_open_call() && !tasks.has_open_ask(&asked));
@@ -101,6 +109,7 @@ fn open_tasks(rt: HostRuntime) {
     assert!(rt; !tasks.has_open_call());
     assert!(rt; tasks.oldest_listener(&go) == Some(4));
     assert!(rt; tasks.oldest_listener(&name(&rt, alloc, "stop")).is_none());
+    drop(asked);
 }
 
 #[test]

@@ -22,7 +22,7 @@ use Rattle.part_files.specs.Placing.{all_accepted}
 use Rattle.part_items.specs.Plain.{item_of, items_of}
 use Rattle.part_items.specs.declared.items.Item.{Item as OwnItem}
 use Rattle.part_steps.specs.States.{state_of}
-use Rattle.part_rounds.specs.Fills.{Fills, GoesOn, Puts, IsOfPending, CantEnd}
+use Rattle.part_rounds.specs.Fills.{GoesOn, Puts, IsOfPending, CantEnd}
 use Rattle.part_rounds.specs.declared.filling.Filling.{Filling}
 use Rattle.part_rounds.proofs.Puttings.{longer_by, puts_goes_on}
 use Rattle.run_rules.specs.Rules.{Rules, Told, IsAsked, EndsPending}

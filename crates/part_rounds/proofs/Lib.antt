@@ -5,5 +5,6 @@ pub mod Fillings
 pub mod Moments
 pub mod Puttings
 pub mod Queues
+pub mod Stops
 pub mod Trails
 pub mod Walks

@@ -1,6 +1,8 @@
 -- What putting an item behind the others makes of a filling.
 use Rattle.std.proofs.Common.{◌≡◌, inl, inr, ℕ, suc, ◌≤◌, ◌+◌, List, [], ◌∷◌, ◌++◌, length, Some, refl, sym, ◌∙◌, ap, subst, arith}
 use Rattle.std.proofs.lemmas.List.{length-append, length-map, map-append}
+use Rattle.std.proofs.lemmas.List.Elements.{All-cons}
+use Rattle.std.specs.List.{All}
 use Rattle.client_port.specs.Ports.{Queue, due_of}
 use Rattle.dura_model.specs.Partition.{Partition, accepted}
 use Rattle.dura_model.specs.Placed.{IsGiven}
@@ -59,6 +61,33 @@ puts_goes_on rules told flows old new item same puts given asked pending = elim 
         (subst (λ (v : _). Fills rules told from (items_of v.items) (state_of old.state)) (sym refused.2) fills);
     longer = subst (λ (v : _). length old.items.items ≤ length v.items) (sym refused.2) (omega arith);
   }
+]
+
+-- a put makes the items no fewer, and at most one more
+pub puts_longer : (flows : Flows) (old new : Filling) (item : OwnItem) → Puts flows old item new → length old.items.items ≤ length new.items.items
+puts_longer flows old new item puts = elim puts.2 [
+  | inl put ↦ let grown = longer_by old.items.items new.items.items (item_of item) put.1 in omega (arith, grown)
+  | inr refused ↦ subst (λ (v : _). length old.items.items ≤ length v.items) (sym refused.2) (omega arith)
+]
+
+pub puts_one : (flows : Flows) (old new : Filling) (item : OwnItem) → Puts flows old item new → length new.items.items ≤ length old.items.items + 1
+puts_one flows old new item puts = elim puts.2 [
+  | inl put ↦ let grown = longer_by old.items.items new.items.items (item_of item) put.1 in omega (arith, grown)
+  | inr refused ↦ subst (λ (v : _). length v.items ≤ length old.items.items + 1) (sym refused.2) (omega arith)
+]
+
+-- where no item is there the put was refused
+pub puts_none : (flows : Flows) (old new : Filling) (item : OwnItem) → Puts flows old item new → new.items.items ≡ [] → state_of new.state ≡ state_of old.state
+puts_none flows old new item puts empty = elim puts.2 [
+  | inl put ↦ let grown = longer_by old.items.items new.items.items (item_of item) put.1 in absurd (omega (arith, grown, ap length empty))
+  | inr refused ↦ refused.1
+]
+
+-- behind no others it is the only one
+pub puts_only : (P : Item → Type 0) (flows : Flows) (old new : Filling) (item : OwnItem) → old.items.items ≡ [] → Puts flows old item new → P (item_of item) → All P (items_of new.items.items)
+puts_only P flows old new item empty puts one = elim puts.2 [
+  | inl put ↦ subst (All P) (sym (put.1 ∙ ap (λ (l : List OwnItem). items_of l ++ item_of item ∷ []) empty)) (All-cons P (item_of item) [] one (λ k d inside. absurd (omega (arith, inside))))
+  | inr refused ↦ subst (λ (v : _). All P (items_of v.items)) (sym refused.2) (subst (λ (l : List OwnItem). All P (items_of l)) (sym empty) (λ k d inside. absurd (omega (arith, inside))))
 ]
 
 -- a client's next request is asked for

@@ -66,27 +66,20 @@ pub(crate) fn take_next<A: Activities, C: Clock>(
     if !first.items.is_empty() {
         return Ok(Coming::Filled(first, now));
     }
-    let Some(due) = first.state.next_timer() else {
-        return Ok(Coming::Rest(first.state));
+    let Filling { state, items } = first;
+    drop(items);
+    let Some(due) = state.next_timer() else {
+        return Ok(Coming::Rest(state));
     };
     let later = match clock.wait_until(due.min(LAST_MOMENT)) {
         Ok(later) => later,
         Err(_) => {
-            drop(first);
+            drop(state);
             return Err(Stop::ClockFault);
         }
     };
     let chance = Chance { now: later, word };
-    let second = gather(
-        alloc,
-        flows,
-        acts,
-        first.state,
-        port,
-        clients,
-        chance,
-        limit,
-    )?;
+    let second = gather(alloc, flows, acts, state, port, clients, chance, limit)?;
     if second.items.is_empty() {
         drop(second);
         return Err(Stop::Memory);

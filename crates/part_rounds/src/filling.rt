@@ -41,7 +41,8 @@ pub(crate) fn put(
         }
     };
     match verdict {
-        Verdict::Accepted(state, _) => {
+        Verdict::Accepted(state, outputs) => {
+            drop(outputs);
             let (_, state) = with(items.push(item), state)?;
             Ok(Filling { state, items })
         }

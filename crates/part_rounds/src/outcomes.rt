@@ -19,6 +19,7 @@ use part_items::Item;
 use part_rows::Activity;
 use part_steps::PartState;
 use std::alloc::{AllocError, Global};
+use with_value::with;
 
 /// Runs an activity.
 fn run<A: Activities>(
@@ -52,7 +53,8 @@ fn outcome_of_pending<A: Activities>(
         unreachable!()
     };
     let outcome = run(alloc, acts, activity, word)?;
-    Ok(Some(Item::Done(copy_id(id)?, task, outcome)))
+    let (id, outcome) = with(copy_id(id), outcome)?;
+    Ok(Some(Item::Done(id, task, outcome)))
 }
 
 /// Runs the activity that is pending first, and puts its outcome.

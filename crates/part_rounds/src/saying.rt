@@ -64,11 +64,16 @@ pub(crate) fn say_next<V: Site, N: Ruled>(
         return Ok(false);
     };
     let number = request.number;
-    let Some(answer) = state.answer(&client_of(client)?, number) else {
+    let id = client_of(client)?;
+    let answer = state.answer(&id, number);
+    drop(id);
+    let Some(answer) = answer else {
         return Ok(false);
     };
     let line = answer_line(alloc, client, number, answer)?;
-    match store.say(client, number, &line) {
+    let told = store.say(client, number, &line);
+    drop(line);
+    match told {
         Ok(()) => {}
         Err(SayError::SayFault) => return Err(Stop::SayFault),
         Err(SayError::Memory) => return Err(Stop::Memory),

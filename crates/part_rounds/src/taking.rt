@@ -33,7 +33,10 @@ fn due_message(state: &PartState, port: &Port, client: &Name) -> Result<Option<M
     let Some(request) = port.next_of(client) else {
         return Ok(None);
     };
-    if state.has_taken(&client_of(client)?, request.number) {
+    let id = client_of(client)?;
+    let taken = state.has_taken(&id, request.number);
+    drop(id);
+    if taken {
         return Ok(None);
     }
     Ok(Some(copy_message(&request.message)?))

@@ -70,10 +70,10 @@ fn begin_with<'f>(
 ) -> Result<Effect<'f>, AllocError>
     ensures { IfOk result (λ e. effect_of e ≡ begun (id_of message.now.from) (id_of message.now.to) argument.now (reply_of reply.now) stamp (Some (body_of body.entry))) }
 {
-    let instance = new_instance(alloc, &message.to, body)?;
-    let (event, instance) = with(start_event(&message.from, argument, reply), instance)?;
-    let begun = begin(alloc, &message.to, &message.from, reply);
-    let (before, (event, instance)) = with(begun, (event, instance))?;
+    let before = begin(alloc, &message.to, &message.from, reply)?;
+    let event = start_event(&message.from, argument, reply)?;
+    let made = new_instance(alloc, &message.to, body);
+    let (instance, event) = with(made, event)?;
     let effect = go_on_from(alloc, instance, &event, stamp, before);
     drop(event);
     effect

@@ -40,8 +40,9 @@ pub(crate) fn tell(
 ) -> Result<Vec<Message>, AllocError>
     ensures { IfOk result (λ sent. messages_of sent.items ≡ telling (id_of from.now) (id_of to.now) number (answer_of answer)) }
 {
+    let message = answer_request(from, to, number, answer)?;
     let mut sent = Vec::new(alloc);
-    sent.push(answer_request(from, to, number, answer)?)?;
+    sent.push(message)?;
     Ok(sent)
 }
 

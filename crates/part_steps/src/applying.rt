@@ -63,8 +63,9 @@ fn take(
     if !rows.take(alloc, message)? {
         return Ok(None);
     }
+    let copy = copy_message(message)?;
     let mut sent = Vec::new(alloc);
-    sent.push(copy_message(message)?)?;
+    sent.push(copy)?;
     Ok(Some(sent_alone(alloc, sent)))
 }
 

@@ -47,7 +47,7 @@ fn with_item(
     ensures items { IfOk result (λ batch. batch.items.items ≡ items.items ++ item ∷ []) }
     ensures outputs { IfOk result (λ batch. batch.outputs.items ≡ outputs.items ++ made ∷ []) }
 {
-    let (_, (state, made)) = with(items.push(item), (state, made))?;
+    let ((_, state), made) = with(with(items.push(item), state), made)?;
     let (_, state) = with(outputs.push(made), state)?;
     Ok(Batch {
         state,

@@ -94,6 +94,5 @@ pub fn go_on_from<'f>(
     let advanced = instance.machine.advance(alloc, event, stamp);
     let (made, instance) = with(advanced, instance)?;
     let (sent, instance) = with(join(before, made.messages), instance)?;
-    let effect = settle(alloc, instance, sent, made.asked)?;
-    Ok(effect)
+    settle(alloc, instance, sent, made.asked)
 }

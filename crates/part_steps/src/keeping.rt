@@ -75,7 +75,11 @@ fn next_or_none(
             let next = next_row(alloc, row, stamp, event, instance)?;
             Ok(Some(next))
         }
-        None => Ok(None),
+        None => {
+            drop(row);
+            drop(event);
+            Ok(None)
+        }
     }
 }
 

@@ -1,13 +1,13 @@
 //! Each kind of message to an instance that is there.
 
 ghost use Rattle.std.specs.Prelude.{◌≡◌, ◌++◌, ◌∷◌, [], true, codes, Some, IfOk};
-ghost use Rattle.dura_value.specs.Messages.{was_there};
+ghost use Rattle.dura_value.specs.Messages.{was_there, was_raised};
 ghost use Rattle.dura_value.specs.Views.{id_of, reply_of, answer_of, body_of as said_of, messages_of};
 ghost use Rattle.flow_syntax.specs.Machine.{was_raised as raised_event};
 ghost use Rattle.flow_messages.specs.Views.{event_of};
 ghost use Rattle.flow_replay.specs.Views.{progress_of};
 ghost use Rattle.dura_model.specs.Deliveries.{goes_on_from, stays_so, standing, is_over, ending, waited, raised_at, result_at, granted_at, refusing, telling, to_present};
-ghost use Rattle.part_steps.specs.Views.{instance_of, effect_of};
+ghost use Rattle.part_steps.specs.Views.{waits_of, instance_of, effect_of};
 
 use crate::answers::{refuse, tell};
 use crate::ends::{end_answer, go_on_from};
@@ -64,6 +64,19 @@ fn tell_end<'f>(
     Ok(stay(alloc, instance, sent))
 }
 
+/// All who wait, and a client more.
+fn with_client(
+    mut waiting: Vec<Waiting>,
+    from: &Id,
+    number: u32,
+) -> Result<Vec<Waiting>, AllocError>
+    ensures { IfOk result (λ all. waits_of all.items ≡ waits_of waiting.items ++ (id_of from.now, number) ∷ []) }
+{
+    let client = copy_id(from)?;
+    waiting.push(Waiting { client, number })?;
+    Ok(waiting)
+}
+
 /// A client waits for its end.
 fn await_end<'f>(
     alloc: Global,
@@ -73,10 +86,9 @@ fn await_end<'f>(
 ) -> Result<Effect<'f>, AllocError>
     ensures { IfOk result (λ e. effect_of e ≡ stays_so (instance_of instance.entry).machine ((instance_of instance.entry).waiting ++ (id_of from.now, number) ∷ []) []) }
 {
-    let (client, mut instance) = with(copy_id(from), instance)?;
-    let pushed = instance.waiting.push(Waiting { client, number });
-    let (_, instance) = with(pushed, instance)?;
-    Ok(stay(alloc, instance, Vec::new(alloc)))
+    let Instance { machine, waiting } = instance;
+    let (waiting, machine) = with(with_client(waiting, from, number), machine)?;
+    Ok(stay(alloc, Instance { machine, waiting }, Vec::new(alloc)))
 }
 
 /// A client waits for its end, or is answered where it has come to it.
@@ -103,6 +115,22 @@ pub(crate) fn raise_event(name: &Name, value: &Value) -> Result<Event, AllocErro
     Ok(Event::Raised(copy_name(name)?, copy_value(value)?))
 }
 
+/// What answers a raise of an event, and the event.
+fn raising(
+    alloc: Global,
+    message: &Message,
+    name: &Name,
+    value: &Value,
+    number: u32,
+) -> Result<(Vec<Message>, Event), AllocError>
+    ensures { IfOk result (λ both. (messages_of both.0.items ≡ telling (id_of message.now.to) (id_of message.now.from) number was_raised) × (event_of both.1 ≡ raised_event name.now value.now)) }
+{
+    let told = tell(alloc, &message.to, &message.from, number, Answer::Raised);
+    let before = told?;
+    let event = raise_event(name, value)?;
+    Ok((before, event))
+}
+
 /// An event is raised at it.
 fn raise<'f>(
     alloc: Global,
@@ -120,9 +148,8 @@ fn raise<'f>(
         let (sent, instance) = with(told, instance)?;
         return Ok(stay(alloc, instance, sent));
     }
-    let (event, instance) = with(raise_event(name, value), instance)?;
-    let told = tell(alloc, &message.to, &message.from, number, Answer::Raised);
-    let (before, (event, instance)) = with(told, (event, instance))?;
+    let both = raising(alloc, message, name, value, number);
+    let ((before, event), instance) = with(both, instance)?;
     let effect = go_on_from(alloc, instance, &event, stamp, before);
     drop(event);
     effect
@@ -137,8 +164,7 @@ fn go_on<'f>(
 ) -> Result<Effect<'f>, AllocError>
     ensures { IfOk result (λ e. effect_of e ≡ goes_on_from (instance_of instance.entry) (event_of event.now) stamp []) }
 {
-    let effect = go_on_from(alloc, instance, event, stamp, Vec::new(alloc))?;
-    Ok(effect)
+    go_on_from(alloc, instance, event, stamp, Vec::new(alloc))
 }
 
 /// The result of a task reaches it.
@@ -192,8 +218,7 @@ fn grant<'f>(
     ensures { IfOk result (λ e. effect_of e ≡ granted_at (instance_of instance.entry) stamp task (is_over (instance_of instance.entry).machine.progress)) }
 {
     if has_ended(&instance.machine.progress) {
-        let effect = grant_late(alloc, instance, stamp, task)?;
-        return Ok(effect);
+        return grant_late(alloc, instance, stamp, task);
     }
     let event = Event::Granted(task);
     let effect = go_on(alloc, instance, &event, stamp);
@@ -216,6 +241,20 @@ fn start_again<'f>(
     Ok(stay(alloc, instance, sent))
 }
 
+/// A client is told how it stands.
+fn tell_standing(
+    alloc: Global,
+    progress: &Progress,
+    from: &Id,
+    to: &Id,
+    number: u32,
+) -> Result<Vec<Message>, AllocError>
+    ensures { IfOk result (λ sent. messages_of sent.items ≡ telling (id_of to.now) (id_of from.now) number (standing (progress_of progress.now))) }
+{
+    let answer = stand(progress)?;
+    tell(alloc, to, from, number, answer)
+}
+
 /// A client asks how it stands.
 fn query<'f>(
     alloc: Global,
@@ -226,8 +265,8 @@ fn query<'f>(
 ) -> Result<Effect<'f>, AllocError>
     ensures { IfOk result (λ e. effect_of e ≡ stays_so (instance_of instance.entry).machine (instance_of instance.entry).waiting (telling (id_of to.now) (id_of from.now) number (standing (instance_of instance.entry).machine.progress))) }
 {
-    let (answer, instance) = with(stand(&instance.machine.progress), instance)?;
-    let (sent, instance) = with(tell(alloc, to, from, number, answer), instance)?;
+    let told = tell_standing(alloc, &instance.machine.progress, from, to, number);
+    let (sent, instance) = with(told, instance)?;
     Ok(stay(alloc, instance, sent))
 }
 

@@ -8,6 +8,7 @@ use Rattle.part_rounds.specs.Fills.{Fills}
 use Rattle.part_rounds.specs.Rounds.{pairs_of}
 use Rattle.part_rounds.proofs.Puttings.{no_items}
 use Rattle.part_steps.specs.States.{state_of}
+use Rattle.part_rounds.proofs.Stops.{ok_apart, risen_after, residual_not_clock, residual_of_clock}
 use Rattle.part_rounds.proofs.coming.take_next.Goals as goal
 
 pub returns-in_default-clause-comes : goal.returns-in_default-clause-comes
@@ -30,3 +31,27 @@ returns-clause-moment g c =
     let low = c.in_ok-second.ensures.moment in
     let later = c.in-Ok-wait_until.ensures.latest in
     (omega (arith, same, low), omega (arith, later))
+
+pub returns-clause-fault : goal.returns-clause-fault
+returns-clause-fault g c is = absurd (ok_apart _ _ is)
+
+pub returns-in_default-clause-fault : goal.returns-in_default-clause-fault
+returns-in_default-clause-fault g c is = absurd (ok_apart _ _ is)
+
+pub returns-in-Err-clause-fault : goal.returns-in-Err-clause-fault
+returns-in-Err-clause-fault g c is = c.in-Err.ensures.cause.risen
+
+pub returns-in-Err-wait_until-clause-fault : goal.returns-in-Err-wait_until-clause-fault
+returns-in-Err-wait_until-clause-fault g c is = risen_after _ _ _ c.now.ensures.cause.later c.wait_until.ensures.cause.later c.in-Err-wait_until.ensures.cause.risen
+
+pub returns-in_err-first-clause-fault : goal.returns-in_err-first-clause-fault
+returns-in_err-first-clause-fault g c is = absurd (residual_not_clock _ _ c.from_residual.ensures.1 c.in_err-first.ensures.stops is)
+
+pub returns-in_err-first-clause-stops : goal.returns-in_err-first-clause-stops
+returns-in_err-first-clause-stops g c = residual_of_clock _ _ c.from_residual.ensures.1 c.in_err-first.ensures.stops
+
+pub returns-in_err-second-clause-fault : goal.returns-in_err-second-clause-fault
+returns-in_err-second-clause-fault g c is = absurd (residual_not_clock _ _ c.from_residual-in_err-second.ensures.1 c.in_err-second.ensures.stops is)
+
+pub returns-in_err-second-clause-stops : goal.returns-in_err-second-clause-stops
+returns-in_err-second-clause-stops g c = residual_of_clock _ _ c.from_residual-in_err-second.ensures.1 c.in_err-second.ensures.stops

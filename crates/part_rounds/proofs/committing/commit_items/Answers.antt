@@ -10,6 +10,7 @@ use Rattle.part_items.specs.declared.items.Item.{Item}
 use Rattle.part_rounds.specs.Comes.{count_labels}
 use Rattle.part_rounds.specs.Rounds.{pairs_of}
 use Rattle.part_rounds.proofs.Entries.{entry_follows, entry_goes, labels_after}
+use Rattle.part_rounds.proofs.Stops.{ok_apart}
 use Rattle.part_rounds.proofs.committing.commit_items.Goals as goal
 use Rattle.run_rules.specs.Rules.{Follows}
 
@@ -52,3 +53,12 @@ returns-in-Err-clause-full g c of n is =
       length_is = room.2 ∙ ap (λ (way : Way). length_with way (entry ∷ [])) (sym room.4);
       reaches = let reaches = room.1 in omega (arith, reaches, c.commit.ensures.segment);
     }
+
+pub returns-in-Err-clause-fault : goal.returns-in-Err-clause-fault
+returns-in-Err-clause-fault g c = c.in-Err.ensures.fault
+
+pub returns-in-Ok-clause-full : goal.returns-in-Ok-clause-full
+returns-in-Ok-clause-full g c of n is = absurd (ok_apart _ _ is)
+
+pub returns-in-Ok-clause-fault : goal.returns-in-Ok-clause-fault
+returns-in-Ok-clause-fault g c is = absurd (ok_apart _ _ is)

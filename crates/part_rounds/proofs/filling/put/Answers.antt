@@ -11,8 +11,8 @@ use Rattle.part_rounds.specs.Fills.{Puts}
 use Rattle.part_rounds.proofs.Puttings.{accepted_puts}
 use Rattle.part_rounds.proofs.filling.put.Goals as goal
 
-pub returns-in-Accepted : goal.returns-in-Accepted
-returns-in-Accepted c =
+pub returns-in_ok-state-in-Accepted : goal.returns-in_ok-state-in-Accepted
+returns-in_ok-state-in-Accepted c =
     let flows = flows_of c.args.flows.now in
     let old = c.args.filling in
     let item = item_of c.args.item in

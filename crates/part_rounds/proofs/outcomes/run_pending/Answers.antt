@@ -1,10 +1,11 @@
-use Rattle.std.proofs.Common.{IfSome, subst}
+use Rattle.std.proofs.Common.{◌≡◌, IfSome, length, ap, subst, arith}
 use Rattle.flow_syntax.specs.Views.{flows_of}
 use Rattle.part_items.specs.Plain.{item_of}
 use Rattle.part_steps.specs.States.{state_of}
 use Rattle.part_rounds.specs.Fills.{IsOfPending}
 use Rattle.part_rounds.proofs.Endings.{put_idle, ended_goes_on}
 use Rattle.part_rounds.proofs.Moments.{puts_still, outcome_still}
+use Rattle.part_rounds.proofs.Puttings.{puts_one, puts_none, puts_only, goes_on_still}
 use Rattle.part_rounds.proofs.outcomes.run_pending.Goals as goal
 
 pub returns-in_ok-next-in-Some-clause-idle : goal.returns-in_ok-next-in-Some-clause-idle
@@ -22,3 +23,20 @@ returns-in_ok-next-in-Some-clause-moment g c =
     let pending = subst (λ o. IfSome o (λ one. IsOfPending (state_of c.args.filling.state) (item_of one))) c.in-Some.is c.in-Ok.ensures.some in
     puts_still (flows_of c.args.flows.now) c.args.filling c.in_ok-next-in-Some.next c.in-Some.item c.in_ok-next-in-Some.ensures.puts
     (outcome_still (state_of c.args.filling.state) (item_of c.in-Some.item) pending)
+
+pub returns-in_ok-next-in-Some-clause-few : goal.returns-in_ok-next-in-Some-clause-few
+returns-in_ok-next-in-Some-clause-few g c =
+    let none : length c.args.filling.items.items ≡ 0 = ap length c.requires.empty in
+    let one = puts_one (flows_of c.args.flows.now) c.args.filling c.in_ok-next-in-Some.next c.in-Some.item c.in_ok-next-in-Some.ensures.puts in
+    omega (arith, none, one)
+
+pub returns-in_ok-next-in-Some-clause-none : goal.returns-in_ok-next-in-Some-clause-none
+returns-in_ok-next-in-Some-clause-none g c = puts_none (flows_of c.args.flows.now) c.args.filling c.in_ok-next-in-Some.next c.in-Some.item c.in_ok-next-in-Some.ensures.puts
+
+pub returns-in_ok-next-in-Some-clause-settled : goal.returns-in_ok-next-in-Some-clause-settled
+returns-in_ok-next-in-Some-clause-settled g c =
+    puts_only (IsOfPending (state_of c.args.filling.state)) (flows_of c.args.flows.now) c.args.filling c.in_ok-next-in-Some.next c.in-Some.item c.requires.empty c.in_ok-next-in-Some.ensures.puts
+    (subst (λ o. IfSome o (λ one. IsOfPending (state_of c.args.filling.state) (item_of one))) c.in-Some.is c.in-Ok.ensures.some)
+
+pub returns-in-None-clause-goes_on : goal.returns-in-None-clause-goes_on
+returns-in-None-clause-goes_on g c = λ rules told same. goes_on_still rules told c.args.filling c.requires.way

@@ -1,5 +1,4 @@
-use Rattle.std.proofs.Common.{◌≡◌, ◌∙◌, ℕ, List, [], Ok, Err, sym, ap, subst, arith}
-use Rattle.std.proofs.lemmas.Result.{err_from_is_err_and}
+use Rattle.std.proofs.Common.{◌≡◌, ◌∙◌, ℕ, List, [], Ok, refl, sym, ap, subst, arith}
 use Rattle.dura_model.specs.Partition.{Partition, enter}
 use Rattle.dura_value.specs.Items.{Entry}
 use Rattle.hub_store.specs.Changes.{trail_in}
@@ -10,8 +9,7 @@ use Rattle.run_rules.specs.Rules.{Rules}
 use Rattle.hub_store.specs.Ways.{stage_of, way_of}
 use Rattle.part_rounds.specs.Comes.{count_labels}
 use Rattle.part_rounds.specs.Rounds.{Stands, NoneUnsaid}
-use Rattle.part_rounds.specs.declared.stop.Stop.{Stop}
-use Rattle.part_rounds.specs.declared.stop.Stop.TheVariants.{Full}
+use Rattle.part_rounds.proofs.Stops.{ok_apart, same_stop, residual_is, tape_not_full, tape_not_fault, tape_not_clock}
 use Rattle.part_rounds.proofs.rounds.drive.Goals as goal
 use Rattle.part_steps.specs.States.{state_of}
 
@@ -49,7 +47,46 @@ rounds-init g c =
     }
 
 pub returns-in_err-next-clause-full : goal.returns-in_err-next-clause-full
-returns-in_err-next-clause-full g c of n is =
-    let p = err_from_is_err_and c.from_residual.result c.from_residual.ensures.1 in
-    let same : c.in_err-next.field-0.0 ≡ Full of n = cc (rw (p.1, p.2) at is) in
-    c.in_err-next.ensures.full of n (ap (λ (stop : Stop). Err stop) same)
+returns-in_err-next-clause-full g c of n is = c.in_err-next.ensures.full of n (same_stop _ _ _ _ refl (residual_is _ _ c.from_residual.ensures.1) is)
+
+pub returns-in_err-next-clause-whole : goal.returns-in_err-next-clause-whole
+returns-in_err-next-clause-whole g c apart = c.in_err-next.ensures.whole (λ is. apart (same_stop _ _ _ _ (residual_is _ _ c.from_residual.ensures.1) refl is))
+
+pub returns-in-Err-clause-full : goal.returns-in-Err-clause-full
+returns-in-Err-clause-full g c of n is = absurd (tape_not_full _ _ of n c.in-Err.ensures.stops refl is)
+
+pub returns-in-Err-clause-fault : goal.returns-in-Err-clause-fault
+returns-in-Err-clause-fault g c is = absurd (tape_not_fault _ _ c.in-Err.ensures.stops refl is)
+
+pub returns-in-Err-clause-say_fault : goal.returns-in-Err-clause-say_fault
+returns-in-Err-clause-say_fault g c is = c.in-Err.ensures.fault (same_stop _ _ _ _ refl refl is)
+
+pub returns-in-Err-clause-clock_fault : goal.returns-in-Err-clause-clock_fault
+returns-in-Err-clause-clock_fault g c is = absurd (tape_not_clock _ _ c.in-Err.ensures.stops refl is)
+
+pub returns-in-Err-clause-whole : goal.returns-in-Err-clause-whole
+returns-in-Err-clause-whole g c apart = c.in-Err.ensures.whole (λ is. apart (same_stop _ _ _ _ refl refl is))
+
+pub returns-clause-full : goal.returns-clause-full
+returns-clause-full g c of n is = absurd (ok_apart _ _ is)
+
+pub returns-clause-fault : goal.returns-clause-fault
+returns-clause-fault g c is = absurd (ok_apart _ _ is)
+
+pub returns-clause-say_fault : goal.returns-clause-say_fault
+returns-clause-say_fault g c is = absurd (ok_apart _ _ is)
+
+pub returns-clause-clock_fault : goal.returns-clause-clock_fault
+returns-clause-clock_fault g c is = absurd (ok_apart _ _ is)
+
+pub returns-in-Over-clause-full : goal.returns-in-Over-clause-full
+returns-in-Over-clause-full g c of n is = absurd (ok_apart _ _ is)
+
+pub returns-in-Over-clause-fault : goal.returns-in-Over-clause-fault
+returns-in-Over-clause-fault g c is = absurd (ok_apart _ _ is)
+
+pub returns-in-Over-clause-say_fault : goal.returns-in-Over-clause-say_fault
+returns-in-Over-clause-say_fault g c is = absurd (ok_apart _ _ is)
+
+pub returns-in-Over-clause-clock_fault : goal.returns-in-Over-clause-clock_fault
+returns-in-Over-clause-clock_fault g c is = absurd (ok_apart _ _ is)

@@ -1,5 +1,4 @@
-use Rattle.std.proofs.Common.{◌≡◌, ◌∙◌, ◌<◌, ◌-◌, List, Err, refl, sym, ap, subst, arith}
-use Rattle.std.proofs.lemmas.Result.{err_from_is_err_and}
+use Rattle.std.proofs.Common.{◌∙◌, ◌<◌, ◌-◌, List, refl, sym, ap, subst, arith}
 use Rattle.std.proofs.lemmas.List.{length-map}
 use Rattle.dura_model.specs.Partition.{Partition}
 use Rattle.flow_syntax.specs.Syntax.{Flows}
@@ -10,8 +9,7 @@ use Rattle.part_items.specs.Plain.{item_of, items_of}
 use Rattle.part_rounds.specs.Comes.{Comes, FillsNext, IsByNow}
 use Rattle.part_rounds.specs.Fills.{Fills, IsIdle}
 use Rattle.part_rounds.specs.Rounds.{pairs_of, NoneUnsaid, IsFilledTo}
-use Rattle.part_rounds.specs.declared.stop.Stop.{Stop}
-use Rattle.part_rounds.specs.declared.stop.Stop.TheVariants.{Full}
+use Rattle.part_rounds.proofs.Stops.{ok_apart, same_stop, residual_is, clock_not_full, clock_not_fault, clock_not_said}
 use Rattle.part_rounds.proofs.rounds.go_round.Goals as goal
 use Rattle.part_steps.specs.States.{state_of}
 use Rattle.timer_row.specs.Timers.{NoTimer}
@@ -71,6 +69,57 @@ returns-in-Rest-clause-leaves g c =
 
 pub returns-in_err-state-in-Filled-clause-full : goal.returns-in_err-state-in-Filled-clause-full
 returns-in_err-state-in-Filled-clause-full g c of n is =
-    let p = err_from_is_err_and c.from_residual-in_err-state-in-Filled.result c.from_residual-in_err-state-in-Filled.ensures.1 in
-    let same : c.in_err-state-in-Filled.field-0.0 ≡ Full of n = cc (rw (p.1, p.2) at is) in
-    c.in_err-state-in-Filled.ensures.full of n (ap (λ (stop : Stop). Err stop) same)
+    c.in_err-state-in-Filled.ensures.full of n (same_stop _ _ _ _ refl (residual_is _ _ c.from_residual-in_err-state-in-Filled.ensures.1) is)
+
+pub returns-in_err-state-in-Filled-clause-clock_fault : goal.returns-in_err-state-in-Filled-clause-clock_fault
+returns-in_err-state-in-Filled-clause-clock_fault g c is =
+    absurd (c.in_err-state-in-Filled.ensures.no_clock (same_stop _ _ _ _ refl (residual_is _ _ c.from_residual-in_err-state-in-Filled.ensures.1) is))
+
+pub returns-in_err-state-in-Filled-clause-whole : goal.returns-in_err-state-in-Filled-clause-whole
+returns-in_err-state-in-Filled-clause-whole g c apart =
+    c.in_err-state-in-Filled.ensures.whole (λ is. apart (same_stop _ _ _ _ (residual_is _ _ c.from_residual-in_err-state-in-Filled.ensures.1) refl is))
+
+pub returns-in_err-filling-clause-full : goal.returns-in_err-filling-clause-full
+returns-in_err-filling-clause-full g c of n is = absurd (clock_not_full _ _ of n c.in_err-filling.ensures.stops (residual_is _ _ c.from_residual.ensures.1) is)
+
+pub returns-in_err-filling-clause-fault : goal.returns-in_err-filling-clause-fault
+returns-in_err-filling-clause-fault g c is = absurd (clock_not_fault _ _ c.in_err-filling.ensures.stops (residual_is _ _ c.from_residual.ensures.1) is)
+
+pub returns-in_err-filling-clause-say_fault : goal.returns-in_err-filling-clause-say_fault
+returns-in_err-filling-clause-say_fault g c is = absurd (clock_not_said _ _ c.in_err-filling.ensures.stops (residual_is _ _ c.from_residual.ensures.1) is)
+
+pub returns-in_err-filling-clause-clock_fault : goal.returns-in_err-filling-clause-clock_fault
+returns-in_err-filling-clause-clock_fault g c is = c.in_err-filling.ensures.fault (same_stop _ _ _ _ refl (residual_is _ _ c.from_residual.ensures.1) is)
+
+pub returns-in_err-filling-clause-whole : goal.returns-in_err-filling-clause-whole
+returns-in_err-filling-clause-whole g c apart = c.requires.sound.uncut c.requires.going
+
+pub returns-in_ok-state-in-Filled-clause-full : goal.returns-in_ok-state-in-Filled-clause-full
+returns-in_ok-state-in-Filled-clause-full g c of n is = absurd (ok_apart _ _ is)
+
+pub returns-in_ok-state-in-Filled-clause-fault : goal.returns-in_ok-state-in-Filled-clause-fault
+returns-in_ok-state-in-Filled-clause-fault g c is = absurd (ok_apart _ _ is)
+
+pub returns-in_ok-state-in-Filled-clause-say_fault : goal.returns-in_ok-state-in-Filled-clause-say_fault
+returns-in_ok-state-in-Filled-clause-say_fault g c is = absurd (ok_apart _ _ is)
+
+pub returns-in_ok-state-in-Filled-clause-clock_fault : goal.returns-in_ok-state-in-Filled-clause-clock_fault
+returns-in_ok-state-in-Filled-clause-clock_fault g c is = absurd (ok_apart _ _ is)
+
+pub returns-in_ok-state-in-Filled-clause-whole : goal.returns-in_ok-state-in-Filled-clause-whole
+returns-in_ok-state-in-Filled-clause-whole g c apart = c.in_ok-state-in-Filled.ensures.whole (λ is. ok_apart _ _ is)
+
+pub returns-in-Rest-clause-full : goal.returns-in-Rest-clause-full
+returns-in-Rest-clause-full g c of n is = absurd (ok_apart _ _ is)
+
+pub returns-in-Rest-clause-fault : goal.returns-in-Rest-clause-fault
+returns-in-Rest-clause-fault g c is = absurd (ok_apart _ _ is)
+
+pub returns-in-Rest-clause-say_fault : goal.returns-in-Rest-clause-say_fault
+returns-in-Rest-clause-say_fault g c is = absurd (ok_apart _ _ is)
+
+pub returns-in-Rest-clause-clock_fault : goal.returns-in-Rest-clause-clock_fault
+returns-in-Rest-clause-clock_fault g c is = absurd (ok_apart _ _ is)
+
+pub returns-in-Rest-clause-whole : goal.returns-in-Rest-clause-whole
+returns-in-Rest-clause-whole g c apart = c.requires.sound.uncut c.requires.going

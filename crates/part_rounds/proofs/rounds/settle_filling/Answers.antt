@@ -1,5 +1,4 @@
-use Rattle.std.proofs.Common.{◌≡◌, ◌∙◌, ℕ, List, Err, sym, ap, subst, arith}
-use Rattle.std.proofs.lemmas.Result.{err_from_is_err_and}
+use Rattle.std.proofs.Common.{◌∙◌, ℕ, List, refl, sym, ap, subst, arith}
 use Rattle.dura_model.specs.Partition.{Partition, enter}
 use Rattle.dura_value.specs.Items.{Entry}
 use Rattle.hub_store.specs.Changes.{trail_in, told_in}
@@ -7,10 +6,10 @@ use Rattle.hub_store.specs.Trail.{Settled, of_part}
 use Rattle.part_items.specs.Plain.{items_of}
 use Rattle.part_rounds.specs.Comes.{count_labels}
 use Rattle.part_rounds.specs.Rounds.{pairs_of, Stands, NoneUnsaid}
-use Rattle.part_rounds.specs.declared.stop.Stop.{Stop}
-use Rattle.part_rounds.specs.declared.stop.Stop.TheVariants.{Full}
 use Rattle.part_rounds.proofs.Entries.{stands_after, place_after}
+use Rattle.part_rounds.proofs.Stops.{ok_apart, same_stop, disk_not_said, disk_not_clock, tape_not_full, tape_not_fault, tape_not_clock}
 use Rattle.part_steps.specs.States.{state_of}
+use Rattle.site_model.specs.Calls.{HasRisen}
 use Rattle.part_rounds.proofs.rounds.settle_filling.Goals as goal
 
 pub say_due-requires-clause-made : goal.say_due-requires-clause-made
@@ -61,4 +60,47 @@ pub returns-in-Ok-say_due-clause-labels : goal.returns-in-Ok-say_due-clause-labe
 returns-in-Ok-say_due-clause-labels g c = ap (λ (t : List Settled). count_labels (of_part 0 t)) c.say_due.ensures.trail ∙ c.in-Ok.ensures.labels
 
 pub returns-in-Err-clause-full : goal.returns-in-Err-clause-full
-returns-in-Err-clause-full g c of n is = let same : c.in-Err.stop ≡ Full of n = cc is in c.in-Err.ensures.full of n (ap (λ (stop : Stop). Err stop) same)
+returns-in-Err-clause-full g c of n is = c.in-Err.ensures.full of n (same_stop _ _ _ _ refl refl is)
+
+pub returns-in-Err-clause-fault : goal.returns-in-Err-clause-fault
+returns-in-Err-clause-fault g c is = c.in-Err.ensures.fault (same_stop _ _ _ _ refl refl is)
+
+pub returns-in-Err-clause-say_fault : goal.returns-in-Err-clause-say_fault
+returns-in-Err-clause-say_fault g c is = absurd (disk_not_said _ _ c.in-Err.ensures.stops refl is)
+
+pub returns-in-Err-clause-no_clock : goal.returns-in-Err-clause-no_clock
+returns-in-Err-clause-no_clock g c is = disk_not_clock _ _ c.in-Err.ensures.stops refl is
+
+pub returns-in-Err-clause-whole : goal.returns-in-Err-clause-whole
+returns-in-Err-clause-whole g c apart = c.commit_items.ensures.whole ∙ c.requires.sound.uncut c.requires.going
+
+pub returns-in-Err-say_due-clause-full : goal.returns-in-Err-say_due-clause-full
+returns-in-Err-say_due-clause-full g c of n is = absurd (tape_not_full _ _ of n c.in-Err-say_due.ensures.stops refl is)
+
+pub returns-in-Err-say_due-clause-fault : goal.returns-in-Err-say_due-clause-fault
+returns-in-Err-say_due-clause-fault g c is = absurd (tape_not_fault _ _ c.in-Err-say_due.ensures.stops refl is)
+
+pub returns-in-Err-say_due-clause-say_fault : goal.returns-in-Err-say_due-clause-say_fault
+returns-in-Err-say_due-clause-say_fault g c is =
+    subst (λ (n : ℕ). HasRisen n (g.V.Site.say_faults c.say_due.new.store.site)) c.commit_items.ensures.say_faults (c.in-Err-say_due.ensures.fault (same_stop _ _ _ _ refl refl is))
+
+pub returns-in-Err-say_due-clause-no_clock : goal.returns-in-Err-say_due-clause-no_clock
+returns-in-Err-say_due-clause-no_clock g c is = tape_not_clock _ _ c.in-Err-say_due.ensures.stops refl is
+
+pub returns-in-Err-say_due-clause-whole : goal.returns-in-Err-say_due-clause-whole
+returns-in-Err-say_due-clause-whole g c apart = c.in-Err-say_due.ensures.whole (λ is. apart (same_stop _ _ _ _ refl refl is))
+
+pub returns-in-Ok-say_due-clause-full : goal.returns-in-Ok-say_due-clause-full
+returns-in-Ok-say_due-clause-full g c of n is = absurd (ok_apart _ _ is)
+
+pub returns-in-Ok-say_due-clause-fault : goal.returns-in-Ok-say_due-clause-fault
+returns-in-Ok-say_due-clause-fault g c is = absurd (ok_apart _ _ is)
+
+pub returns-in-Ok-say_due-clause-say_fault : goal.returns-in-Ok-say_due-clause-say_fault
+returns-in-Ok-say_due-clause-say_fault g c is = absurd (ok_apart _ _ is)
+
+pub returns-in-Ok-say_due-clause-no_clock : goal.returns-in-Ok-say_due-clause-no_clock
+returns-in-Ok-say_due-clause-no_clock g c is = ok_apart _ _ is
+
+pub returns-in-Ok-say_due-clause-whole : goal.returns-in-Ok-say_due-clause-whole
+returns-in-Ok-say_due-clause-whole g c apart = c.in-Ok-say_due.ensures.whole (λ is. ok_apart _ _ is)

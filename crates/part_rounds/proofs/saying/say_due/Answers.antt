@@ -1,7 +1,8 @@
-use Rattle.std.proofs.Common.{◌≡◌, ◌∙◌, ℕ, List, None, get_or, take, arith}
+use Rattle.std.proofs.Common.{◌≡◌, ◌∙◌, ℕ, List, None, get_or, take, refl, arith}
 use Rattle.part_steps.specs.States.{state_of}
 use Rattle.part_rounds.specs.Rounds.{next_answer}
 use Rattle.part_rounds.proofs.Queues.{still_none}
+use Rattle.part_rounds.proofs.Stops.{ok_apart, same_stop, residual_is, risen_after}
 use Rattle.part_rounds.proofs.Walks.{all_next, all_whole}
 use Rattle.part_rounds.proofs.saying.say_due.Goals as goal
 
@@ -32,3 +33,13 @@ loop-client-preserved g c =
 pub returns-clause-none : goal.returns-clause-none
 returns-clause-none g c =
     all_whole (λ (n : List ℕ). next_answer (state_of c.args.state.now) c.loop-client.port.queues n ≡ None) c.args.clients.now c.loop-client.client-index c.loop-client-test.false c.loop-client.invariant.none
+
+pub returns-in_err-say_all-clause-fault : goal.returns-in_err-say_all-clause-fault
+returns-in_err-say_all-clause-fault g c is =
+    risen_after _ _ _ c.loop-client.invariant.later c.say_all.ensures.later (c.in_err-say_all.ensures.fault (same_stop _ _ _ _ refl (residual_is _ _ c.from_residual.ensures.1) is))
+
+pub returns-in_err-say_all-clause-whole : goal.returns-in_err-say_all-clause-whole
+returns-in_err-say_all-clause-whole g c apart = c.in_err-say_all.ensures.whole (λ is. apart (same_stop _ _ _ _ (residual_is _ _ c.from_residual.ensures.1) refl is))
+
+pub returns-clause-fault : goal.returns-clause-fault
+returns-clause-fault g c is = absurd (ok_apart _ _ is)

@@ -6,7 +6,7 @@ use Rattle.dura_value.specs.Items.{took}
 use Rattle.flow_syntax.specs.Views.{flows_of}
 use Rattle.part_items.specs.declared.items.Item.TheVariants.{Took}
 use Rattle.part_rounds.proofs.Moments.{puts_still}
-use Rattle.part_rounds.proofs.Puttings.{puts_goes_on, due_asked, put_in_vain}
+use Rattle.part_rounds.proofs.Puttings.{puts_goes_on, puts_longer, puts_one, due_asked, put_in_vain, goes_on_still}
 use Rattle.part_rounds.specs.Rounds.{pairs_of}
 use Rattle.part_rounds.proofs.taking.take_of.Goals as goal
 
@@ -24,3 +24,15 @@ returns-in_ok-next-in-Some-clause-none c = λ same.
 pub returns-in_ok-next-in-Some-clause-moment : goal.returns-in_ok-next-in-Some-clause-moment
 returns-in_ok-next-in-Some-clause-moment c =
     puts_still (flows_of c.args.flows.now) c.args.filling c.in_ok-next-in-Some.next (Took c.in-Some.message) c.in_ok-next-in-Some.ensures.puts refl
+
+pub returns-in_ok-next-in-Some-clause-under_way : goal.returns-in_ok-next-in-Some-clause-under_way
+returns-in_ok-next-in-Some-clause-under_way c = c.in_ok-next-in-Some.ensures.puts.0
+
+pub returns-in_ok-next-in-Some-clause-longer : goal.returns-in_ok-next-in-Some-clause-longer
+returns-in_ok-next-in-Some-clause-longer c = puts_longer (flows_of c.args.flows.now) c.args.filling c.in_ok-next-in-Some.next (Took c.in-Some.message) c.in_ok-next-in-Some.ensures.puts
+
+pub returns-in_ok-next-in-Some-clause-one : goal.returns-in_ok-next-in-Some-clause-one
+returns-in_ok-next-in-Some-clause-one c = puts_one (flows_of c.args.flows.now) c.args.filling c.in_ok-next-in-Some.next (Took c.in-Some.message) c.in_ok-next-in-Some.ensures.puts
+
+pub returns-in-None-clause-goes_on : goal.returns-in-None-clause-goes_on
+returns-in-None-clause-goes_on c = λ rules told same said. goes_on_still rules (pairs_of told) c.args.filling c.requires.way

@@ -1,4 +1,4 @@
-use Rattle.std.proofs.Common.{rules, ◌≡◌, ◌∙◌, map, true, ap, sym, subst}
+use Rattle.std.proofs.Common.{rules, IfOk, ◌≡◌, ◌∙◌, map, true, ap, sym, subst}
 use Rattle.std.proofs.lemmas.List.{append-nil}
 use Rattle.dura_value.specs.Views.{messages_of}
 use Rattle.flow_syntax.specs.declared.syntax.Stmt.TheViews.{the_lemmas}
@@ -41,3 +41,47 @@ pub returns-in-Await : goal.returns-in-Await
 returns-in-Await c =
     let is : statement_of c.args.statement.now ≡ await c.in-Await.x (expression_of c.in-Await.handle) = ap statement_of c.in-Await.is in
     subst (λ s. Waits c.in_ok-went-in-Await.went c.args.made.now c.step_await.new.made c.step_await.new.self (machine_of c.args.self.now) (λ was. statement_step was (machine_of c.args.self.now) s)) (sym is) c.in_ok-went-in-Await.ensures
+
+pub returns-in_ok-step_let-in-Let : goal.returns-in_ok-step_let-in-Let
+returns-in_ok-step_let-in-Let c = λ was.
+    subst (λ s. Moves true c.args.made.now c.step_let.new.made c.step_let.new.self (statement_step was (machine_of c.args.self.now) s)) (sym (ap statement_of c.in-Let.is)) c.in_ok-step_let-in-Let.ensures
+
+pub returns-in_ok-step_spawn-in-Spawn : goal.returns-in_ok-step_spawn-in-Spawn
+returns-in_ok-step_spawn-in-Spawn c = λ was.
+    subst (λ s. Moves true c.args.made.now c.step_spawn.new.made c.step_spawn.new.self (statement_step was (machine_of c.args.self.now) s)) (sym (ap statement_of c.in-Spawn.is)) c.in_ok-step_spawn-in-Spawn.ensures
+
+pub returns-in_ok-step_call-in-Call : goal.returns-in_ok-step_call-in-Call
+returns-in_ok-step_call-in-Call c = λ was.
+    subst (λ s. Moves true c.args.made.now c.step_call.new.made c.step_call.new.self (statement_step was (machine_of c.args.self.now) s)) (sym (ap statement_of c.in-Call.is)) c.in_ok-step_call-in-Call.ensures
+
+pub returns-in_ok-step_sub-in-Sub : goal.returns-in_ok-step_sub-in-Sub
+returns-in_ok-step_sub-in-Sub c = λ was.
+    subst (λ s. Moves true c.args.made.now c.step_sub.new.made c.step_sub.new.self (statement_step was (machine_of c.args.self.now) s)) (sym (ap statement_of c.in-Sub.is)) c.in_ok-step_sub-in-Sub.ensures
+
+pub returns-in_ok-step_ask-in-Ask : goal.returns-in_ok-step_ask-in-Ask
+returns-in_ok-step_ask-in-Ask c = λ was.
+    subst (λ s. Moves true c.args.made.now c.step_ask.new.made c.step_ask.new.self (statement_step was (machine_of c.args.self.now) s)) (sym (ap statement_of c.in-Ask.is)) c.in_ok-step_ask-in-Ask.ensures
+
+pub returns-in_ok-step_timer-in-Timer : goal.returns-in_ok-step_timer-in-Timer
+returns-in_ok-step_timer-in-Timer c = λ was.
+    subst (λ s. Moves true c.args.made.now c.step_timer.new.made c.step_timer.new.self (statement_step was (machine_of c.args.self.now) s)) (sym (ap statement_of c.in-Timer.is)) c.in_ok-step_timer-in-Timer.ensures
+
+pub returns-in_ok-step_signal-in-Signal : goal.returns-in_ok-step_signal-in-Signal
+returns-in_ok-step_signal-in-Signal c = λ was.
+    subst (λ s. Moves true c.args.made.now c.step_signal.new.made c.step_signal.new.self (statement_step was (machine_of c.args.self.now) s)) (sym (ap statement_of c.in-Signal.is)) c.in_ok-step_signal-in-Signal.ensures
+
+pub returns-in_ok-step_return-in-Return : goal.returns-in_ok-step_return-in-Return
+returns-in_ok-step_return-in-Return c = λ was.
+    subst (λ s. Moves true c.args.made.now c.step_return.new.made c.step_return.new.self (statement_step was (machine_of c.args.self.now) s)) (sym (ap statement_of c.in-Return.is)) c.in_ok-step_return-in-Return.ensures
+
+pub returns-in_ok-step_fail-in-Fail : goal.returns-in_ok-step_fail-in-Fail
+returns-in_ok-step_fail-in-Fail c = λ was.
+    subst (λ s. Moves true c.args.made.now c.step_fail.new.made c.step_fail.new.self (statement_step was (machine_of c.args.self.now) s)) (sym (ap statement_of c.in-Fail.is)) c.in_ok-step_fail-in-Fail.ensures
+
+pub returns-in-All : goal.returns-in-All
+returns-in-All c =
+    subst (λ s. IfOk c.step_all.result (λ went. Waits went c.args.made.now c.step_all.new.made c.step_all.new.self (machine_of c.args.self.now) (λ was. statement_step was (machine_of c.args.self.now) s))) (sym (ap statement_of c.in-All.is)) c.step_all.ensures
+
+pub returns-in-Any : goal.returns-in-Any
+returns-in-Any c =
+    subst (λ s. IfOk c.step_any.result (λ went. Waits went c.args.made.now c.step_any.new.made c.step_any.new.self (machine_of c.args.self.now) (λ was. statement_step was (machine_of c.args.self.now) s))) (sym (ap statement_of c.in-Any.is)) c.step_any.ensures
