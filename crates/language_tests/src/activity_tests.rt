@@ -1,7 +1,8 @@
 //! What the shipped activities give.
 
+use crate::parts::{list, text};
 use activity_table::outcome_of;
-use dura_value::{Outcome, Scalar, Scalars, Text, Value};
+use dura_value::{Outcome, Scalar, Text, Value};
 use std::alloc::Global;
 use std::process::Abort;
 
@@ -40,10 +41,6 @@ const FAULTS: [(&str, &str); 6] = [
     ("adds", "unknown"),
 ];
 
-fn text(rt: &impl Abort, alloc: Global, text: &str) -> Text {
-    Text::read(alloc, text.as_bytes()).expect(rt, "a text")
-}
-
 /// The text of so many letters.
 fn long_text(rt: &impl Abort, alloc: Global, length: usize) -> Text {
     let mut bytes = Vec::new(alloc);
@@ -53,24 +50,28 @@ fn long_text(rt: &impl Abort, alloc: Global, length: usize) -> Text {
     Text::read(alloc, bytes.as_slice()).expect(rt, "a text")
 }
 
-fn list(rt: &impl Abort, alloc: Global, first: Scalar, second: Scalar) -> Value {
-    Value::List(Scalars::pair(alloc, first, second).expect(rt, "memory"))
+/// A list of a text and an integer.
+fn text_and_int(rt: &impl Abort, alloc: Global) -> Value {
+    let first = Scalar::Text(text(rt, alloc, "a"));
+    list(rt, alloc, first, Scalar::Int(1))
 }
 
-/// Whether the activity gives the value.
-fn gives(alloc: Global, name: &str, argument: &Value, word: u64, wanted: &Value) -> bool {
-    match outcome_of(alloc, name, argument, word) {
-        Ok(Outcome::Done(value)) => value == *wanted,
-        _ => false,
-    }
+/// Whether the activity gives the value, which is let go.
+fn gives(alloc: Global, name: &str, argument: &Value, word: u64, wanted: Value) -> bool {
+    let outcome = outcome_of(alloc, name, argument, word);
+    let gives = matches!(&outcome, Ok(Outcome::Done(value)) if *value == wanted);
+    drop(outcome);
+    drop(wanted);
+    gives
 }
 
 /// Whether the activity fails with the fault.
 fn fails(alloc: Global, name: &str, argument: &Value, fault: &str) -> bool {
-    match outcome_of(alloc, name, argument, 0) {
-        Ok(Outcome::Failed(text)) => text.as_bytes() == fault.as_bytes(),
-        _ => false,
-    }
+    let outcome = outcome_of(alloc, name, argument, 0);
+    let fails =
+        matches!(&outcome, Ok(Outcome::Failed(text)) if text.as_bytes() == fault.as_bytes());
+    drop(outcome);
+    fails
 }
 
 #[test]
@@ -80,10 +81,11 @@ fn sums(rt: HostRuntime) {
         let argument = list(&rt, alloc, Scalar::Int(a), Scalar::Int(b));
         assert!(rt;
             match sum {
-                Some(sum) => gives(alloc, "add", &argument, 0, &Value::Int(sum)),
+                Some(sum) => gives(alloc, "add", &argument, 0, Value::Int(sum)),
                 None => fails(alloc, "add", &argument, "overflow"),
             }
         );
+        drop(argument);
     }
 }
 
@@ -97,34 +99,34 @@ fn joins(rt: HostRuntime) {
         assert!(rt;
             if fits {
                 let both = Value::Text(long_text(&rt, alloc, first.saturating_add(second)));
-                gives(alloc, "concat", &argument, 0, &both)
+                gives(alloc, "concat", &argument, 0, both)
             } else {
                 fails(alloc, "concat", &argument, "size")
             }
         );
+        drop(argument);
     }
 }
 
 #[test]
 fn draws(rt: HostRuntime) {
+    let argument = Value::Null;
     for (word, drawn) in DRAWS {
-        assert!(rt; gives(rt.alloc(), "draw", &Value::Null, word, &Value::Int(drawn)));
+        assert!(rt; gives(rt.alloc(), "draw", &argument, word, Value::Int(drawn)));
     }
+    drop(argument);
 }
 
 #[test]
 fn other_outcomes(rt: HostRuntime) {
     let alloc = rt.alloc();
-    let argument = list(
-        &rt,
-        alloc,
-        Scalar::Text(text(&rt, alloc, "a")),
-        Scalar::Int(1),
-    );
-    assert!(rt; gives(alloc, "echo", &argument, 1, &argument));
+    let argument = text_and_int(&rt, alloc);
+    assert!(rt; gives(alloc, "echo", &argument, 1, text_and_int(&rt, alloc)));
     let why = Value::Text(text(&rt, alloc, "why"));
     assert!(rt; fails(alloc, "fail", &why, "why"));
+    drop(why);
     for (name, fault) in FAULTS {
         assert!(rt; fails(alloc, name, &argument, fault));
     }
+    drop(argument);
 }

@@ -1,8 +1,8 @@
 //! What a message makes of an entity.
 
-use dura_value::{Answer, Body, Id, Key, Message, Name, Reply, Spot, Spots, Text, Value};
+use crate::parts::{flows, id, name, spot, text};
+use dura_value::{Answer, Body, Message, Reply, Spots, Value};
 use flow_messages::Entity;
-use flow_reader::read_flows;
 use flow_replay::deliver;
 use std::alloc::Global;
 use std::process::Abort;
@@ -12,21 +12,6 @@ const FLOWS: &[u8] = br#"{"classes":{"Pot":{"init":0,"ops":{
     "put":[["let","self",{"do":["add",{"v":"self"},{"v":"arg"}]}],["return",{"v":"self"}]],
     "burn":[["let","self",0],["fail","burnt"]]
 }}}}"#;
-
-fn id(rt: &impl Abort, alloc: Global, text: &str) -> Id {
-    Id::read(alloc, text.as_bytes()).expect(rt, "an id")
-}
-
-fn name(rt: &impl Abort, alloc: Global, text: &str) -> Name {
-    Name::read(alloc, text.as_bytes()).expect(rt, "a name")
-}
-
-fn spot(rt: &impl Abort, alloc: Global, key: &str) -> Spot {
-    Spot {
-        class: name(rt, alloc, "Pot"),
-        key: Key::read(alloc, key.as_bytes()).expect(rt, "a key"),
-    }
-}
 
 /// A message to the entity `@Pot/a`, and whether what it sends is just this one.
 fn sends(
@@ -38,16 +23,17 @@ fn sends(
     to: &str,
     wanted: Body,
 ) -> bool {
-    let flows = read_flows(alloc, FLOWS).expect(rt, "flows");
+    let flows = flows(rt, alloc, FLOWS);
     let message = Message {
         from: id(rt, alloc, from),
         to: id(rt, alloc, "@Pot/a"),
         body,
     };
-    let sent = deliver(alloc, entity, &flows, &name(rt, alloc, "Pot"), &message).expect(
-        rt, "memory",
-    );
+    let class = name(rt, alloc, "Pot");
+    let sent = deliver(alloc, entity, &flows, &class, &message).expect(rt, "memory");
+    drop(class);
     drop(message);
+    drop(flows);
     let wanted = Message {
         from: id(rt, alloc, "@Pot/a"),
         to: id(rt, alloc, to),
@@ -55,6 +41,7 @@ fn sends(
     };
     let sends = sent.len() == 1 && sent.first() == Some(&wanted);
     drop(wanted);
+    drop(sent);
     sends
 }
 
@@ -70,8 +57,8 @@ fn answer(answer: Answer) -> Body {
     Body::Result(Reply::Task(3), answer)
 }
 
-fn failed(rt: &impl Abort, alloc: Global, text: &str) -> Body {
-    answer(Answer::Failed(Text::read(alloc, text.as_bytes()).expect(rt, "a text")))
+fn failed(rt: &impl Abort, alloc: Global, fault: &str) -> Body {
+    answer(Answer::Failed(text(rt, alloc, fault)))
 }
 
 /// The value of an entity is what an operation leaves in `self`, and after a fault what it was.
@@ -95,7 +82,7 @@ fn operations(rt: HostRuntime) {
             answer(Answer::Done(Value::Int(7)))
         )
     );
-    assert!(rt; pot.value == Value::Int(7));
+    assert!(rt; matches!(pot.value, Value::Int(7)));
     let burn = op(&rt, alloc, "burn", 0);
     assert!(rt;
         sends(
@@ -108,7 +95,7 @@ fn operations(rt: HostRuntime) {
             failed(&rt, alloc, "burnt")
         )
     );
-    assert!(rt; pot.value == Value::Int(7));
+    assert!(rt; matches!(pot.value, Value::Int(7)));
     let take = op(&rt, alloc, "take", 1);
     assert!(rt;
         sends(
@@ -126,23 +113,19 @@ fn operations(rt: HostRuntime) {
     drop(pot);
 }
 
+/// Lock 6 of the instance `Move/m`, which goes through two entities, at this place.
+fn lock(rt: &impl Abort, alloc: Global, index: u8) -> Body {
+    let mut set = Vec::new(alloc);
+    set.push(spot(rt, alloc, "Pot", "a")).expect(rt, "memory");
+    set.push(spot(rt, alloc, "Pot", "b")).expect(rt, "memory");
+    Body::Lock(id(rt, alloc, "Move/m"), 6, Spots::of(set), index)
+}
+
 /// A lock goes on through its set, and behind the last entity the instance is told; a holder alone is listened to.
 #[test]
 fn locks(rt: HostRuntime) {
     let alloc = rt.alloc();
     let holder = id(&rt, alloc, "Move/m");
-    let mut set = Vec::new(alloc);
-    set.push(spot(&rt, alloc, "a")).expect(&rt, "memory");
-    set.push(spot(&rt, alloc, "b")).expect(&rt, "memory");
-    let set = Spots::of(set);
-    let lock = |index: u8| -> Body {
-        Body::Lock(
-            id(&rt, alloc, "Move/m"),
-            6,
-            set.clone().expect(&rt, "memory"),
-            index,
-        )
-    };
     let mut pot = Entity {
         value: Value::Null,
         holder: None,
@@ -150,7 +133,17 @@ fn locks(rt: HostRuntime) {
     };
     let other = id(&rt, alloc, "Sum/x");
     assert!(rt; pot.takes(&other));
-    assert!(rt; sends(&rt, alloc, &mut pot, "Move/m", lock(0), "@Pot/b", lock(1)));
+    assert!(rt;
+        sends(
+            &rt,
+            alloc,
+            &mut pot,
+            "Move/m",
+            lock(&rt, alloc, 0),
+            "@Pot/b",
+            lock(&rt, alloc, 1)
+        )
+    );
     assert!(rt; pot.takes(&holder) && !pot.takes(&other));
     assert!(rt;
         sends(
@@ -158,7 +151,7 @@ fn locks(rt: HostRuntime) {
             alloc,
             &mut pot,
             "@Pot/b",
-            lock(1),
+            lock(&rt, alloc, 1),
             "Move/m",
             Body::Granted(6)
         )

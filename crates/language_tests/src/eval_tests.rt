@@ -1,14 +1,11 @@
 //! What expressions give.
 
-use dura_value::{Name, Scalar, Scalars, Value};
+use crate::parts::name;
+use dura_value::{Scalar, Scalars, Value};
 use flow_eval::{EvalError, Fault, Variables, eval};
 use flow_syntax::{BinaryOp, Expr};
 use std::alloc::Global;
 use std::process::Abort;
-
-fn name(rt: &impl Abort, alloc: Global, text: &str) -> Name {
-    Name::read(alloc, text.as_bytes()).expect(rt, "a name")
-}
 
 fn int(n: i64) -> Expr {
     Expr::Scalar(Scalar::Int(n))
@@ -31,18 +28,26 @@ fn list(rt: &impl Abort, alloc: Global, first: Expr, second: Expr) -> Expr {
     Expr::list(parts)
 }
 
-/// Whether the expression throws the fault with no variable set.
-fn throws(alloc: Global, expression: &Expr, fault: Fault) -> bool {
-    let thrown = eval(alloc, expression, &Variables::new(alloc));
-    matches!(thrown, Err(EvalError::Thrown(thrown)) if thrown == fault)
+/// Whether the expression throws the fault with no variable set. It is let go.
+fn throws(alloc: Global, expression: Expr, fault: Fault) -> bool {
+    let variables = Variables::new(alloc);
+    let thrown = eval(alloc, &expression, &variables);
+    let throws = matches!(&thrown, Err(EvalError::Thrown(thrown)) if *thrown == fault);
+    drop(thrown);
+    drop(variables);
+    drop(expression);
+    throws
 }
 
-/// Whether the expression gives the value with no variable set.
-fn gives(alloc: Global, expression: &Expr, wanted: &Value) -> bool {
-    match eval(alloc, expression, &Variables::new(alloc)) {
-        Ok(value) => value == *wanted,
-        Err(_) => false,
-    }
+/// Whether the expression gives the integer with no variable set. It is let go.
+fn gives(alloc: Global, expression: Expr, wanted: i64) -> bool {
+    let variables = Variables::new(alloc);
+    let value = eval(alloc, &expression, &variables);
+    let gives = matches!(&value, Ok(Value::Int(n)) if *n == wanted);
+    drop(value);
+    drop(variables);
+    drop(expression);
+    gives
 }
 
 /// Operations on two integers with what they give.
@@ -71,7 +76,7 @@ const FAULTS: [(BinaryOp, i64, i64, Fault); 7] = [
 fn integers(rt: HostRuntime) {
     for (operation, a, b, result) in INTEGERS {
         let expression = binary(&rt, rt.alloc(), operation, int(a), int(b));
-        assert!(rt; gives(rt.alloc(), &expression, &Value::Int(result)));
+        assert!(rt; gives(rt.alloc(), expression, result));
     }
 }
 
@@ -79,7 +84,7 @@ fn integers(rt: HostRuntime) {
 fn integer_faults(rt: HostRuntime) {
     for (operation, a, b, fault) in FAULTS {
         let expression = binary(&rt, rt.alloc(), operation, int(a), int(b));
-        assert!(rt; throws(rt.alloc(), &expression, fault));
+        assert!(rt; throws(rt.alloc(), expression, fault));
     }
 }
 
@@ -89,10 +94,10 @@ fn first_fault(rt: HostRuntime) {
     let alloc = rt.alloc();
     let inner = list(&rt, alloc, int(1), int(2));
     let outer = list(&rt, alloc, inner, variable(&rt, alloc, "x"));
-    assert!(rt; throws(alloc, &outer, Fault::Unset));
+    assert!(rt; throws(alloc, outer, Fault::Unset));
     let inner = list(&rt, alloc, int(1), int(2));
     let outer = list(&rt, alloc, inner, int(3));
-    assert!(rt; throws(alloc, &outer, Fault::Type));
+    assert!(rt; throws(alloc, outer, Fault::Type));
 }
 
 /// A list may have 1,024 scalars.
@@ -120,5 +125,8 @@ fn long_list(rt: HostRuntime) {
         .set(name(&rt, alloc, "x"), longer)
         .expect(&rt, "memory");
     let past = eval(alloc, &push, &variables);
-    assert!(rt; matches!(past, Err(EvalError::Thrown(Fault::Size))));
+    assert!(rt; matches!(&past, Err(EvalError::Thrown(Fault::Size))));
+    drop(past);
+    drop(push);
+    drop(variables);
 }

@@ -1,13 +1,10 @@
 //! Which files are well formed.
 
-use dura_value::{Name, Scalar, Value};
+use crate::parts::name;
+use dura_value::{Scalar, Value};
 use flow_syntax::{CheckError, Class, Expr, Flows, Locked, Stmt};
 use std::alloc::Global;
 use std::process::Abort;
-
-fn name(rt: &impl Abort, alloc: Global, text: &str) -> Name {
-    Name::read(alloc, text.as_bytes()).expect(rt, "a name")
-}
 
 fn null() -> Expr {
     Expr::Scalar(Scalar::Null)
@@ -24,14 +21,19 @@ fn call(rt: &impl Abort, alloc: Global) -> Stmt {
     Stmt::Call(name(rt, alloc, "x"), name(rt, alloc, "echo"), null())
 }
 
+/// An entity of a class, to be locked.
+fn locked(rt: &impl Abort, alloc: Global, class: &str) -> Locked {
+    Locked {
+        class: name(rt, alloc, class),
+        key: null(),
+    }
+}
+
 /// A lock of so many entities of a class.
 fn lock(rt: &impl Abort, alloc: Global, class: &str, count: u32) -> Stmt {
     let mut entities = Vec::new(alloc);
     for _ in 0..count {
-        let class = name(rt, alloc, class);
-        entities
-            .push(Locked { class, key: null() })
-            .expect(rt, "memory");
+        entities.push(locked(rt, alloc, class)).expect(rt, "memory");
     }
     Stmt::lock(entities, Vec::new(alloc))
 }
@@ -51,16 +53,28 @@ fn file(rt: &impl Abort, alloc: Global, second: Stmt, flow: Vec<Stmt>) -> Flows 
     file
 }
 
+/// Whether the file has a flow of this name.
+fn has_flow(rt: &impl Abort, alloc: Global, file: &Flows, flow: &str) -> bool {
+    let flow = name(rt, alloc, flow);
+    let has_flow = file.body_of(&flow).is_some();
+    drop(flow);
+    has_flow
+}
+
 #[test]
 fn well_formed(rt: HostRuntime) {
     let alloc = rt.alloc();
     let flow = body(&rt, alloc, call(&rt, alloc), lock(&rt, alloc, "C", 16));
     let file = file(&rt, alloc, Stmt::Fail(null()), flow);
     assert!(rt; file.check().is_ok());
-    assert!(rt; file.body_of(&name(&rt, alloc, "F")).is_some());
-    assert!(rt; file.body_of(&name(&rt, alloc, "G")).is_none());
-    let class = file.class_of(&name(&rt, alloc, "C")).expect(&rt, "a class");
-    assert!(rt; class.operation(&name(&rt, alloc, "op")).is_some());
+    assert!(rt; has_flow(&rt, alloc, &file, "F") && !has_flow(&rt, alloc, &file, "G"));
+    let class = name(&rt, alloc, "C");
+    let operation = name(&rt, alloc, "op");
+    let found = file.class_of(&class).expect(&rt, "a class");
+    assert!(rt; found.operation(&operation).is_some());
+    drop(operation);
+    drop(class);
+    drop(file);
 }
 
 /// A flow's statements have the numbers before an operation's, and each shape is looked at before any name.
@@ -70,10 +84,13 @@ fn places(rt: HostRuntime) {
     let unknown = body(&rt, alloc, call(&rt, alloc), lock(&rt, alloc, "D", 1));
     let named = file(&rt, alloc, Stmt::Fail(null()), unknown);
     assert!(rt; named.check() == Err(CheckError::UnknownName { place: 1 }));
+    drop(named);
     let unknown = body(&rt, alloc, call(&rt, alloc), lock(&rt, alloc, "D", 1));
     let shaped = file(&rt, alloc, call(&rt, alloc), unknown);
     assert!(rt; shaped.check() == Err(CheckError::BadShape { place: 3 }));
+    drop(shaped);
     let long = body(&rt, alloc, lock(&rt, alloc, "C", 17), call(&rt, alloc));
-    let locked = file(&rt, alloc, call(&rt, alloc), long);
-    assert!(rt; locked.check() == Err(CheckError::BadShape { place: 0 }));
+    let full = file(&rt, alloc, call(&rt, alloc), long);
+    assert!(rt; full.check() == Err(CheckError::BadShape { place: 0 }));
+    drop(full);
 }

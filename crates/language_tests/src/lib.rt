@@ -10,6 +10,8 @@ mod eval_tests;
 #[cfg(test)]
 mod flow_tests;
 #[cfg(test)]
+mod parts;
+#[cfg(test)]
 mod replay_tests;
 #[cfg(test)]
 mod task_tests;

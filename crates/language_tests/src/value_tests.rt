@@ -1,8 +1,7 @@
 //! Ids, names, keys and the digest.
 
+use crate::parts::id;
 use dura_value::{Id, Key, Name, ReadError, Spot, Spots, fnv, home};
-use std::alloc::Global;
-use std::process::Abort;
 
 /// Written forms with their homes among 32 partitions, in their order.
 const HOMES: [(&str, u32); 6] = [
@@ -26,10 +25,6 @@ const FAULTS: [(&str, usize); 8] = [
     ("Sum-1/x", 3),
 ];
 
-fn id(rt: &impl Abort, alloc: Global, text: &str) -> Id {
-    Id::read(alloc, text.as_bytes()).expect(rt, "an id")
-}
-
 #[test]
 fn digests(rt: HostRuntime) {
     assert!(rt; fnv(b"") == 0xcbf2_9ce4_8422_2325);
@@ -46,6 +41,7 @@ fn homes(rt: HostRuntime) {
         id.write(&mut written).expect(&rt, "memory");
         assert!(rt; written.as_slice() == text.as_bytes());
         assert!(rt; home(&id, 32) == partition);
+        drop(id);
     }
 }
 
@@ -55,7 +51,11 @@ fn order(rt: HostRuntime) {
         let first = id(&rt, rt.alloc(), pair[0].0);
         let second = id(&rt, rt.alloc(), pair[1].0);
         assert!(rt; first < second);
-        assert!(rt; first == first.clone().expect(&rt, "memory"));
+        drop(second);
+        let copy = first.clone().expect(&rt, "memory");
+        assert!(rt; copy == first);
+        drop(copy);
+        drop(first);
     }
 }
 
@@ -64,6 +64,7 @@ fn faults(rt: HostRuntime) {
     for (text, at) in FAULTS {
         let fault = Id::read(rt.alloc(), text.as_bytes());
         assert!(rt; matches!(fault, Err(ReadError::Bad { offset }) if offset == at));
+        drop(fault);
     }
 }
 
@@ -77,4 +78,6 @@ fn words(rt: HostRuntime) {
     let copy = spots.clone().expect(&rt, "memory");
     assert!(rt; copy == spots);
     assert!(rt; copy.as_slice().len() == 1);
+    drop(copy);
+    drop(spots);
 }

@@ -159,12 +159,6 @@ fn commit<V: Site>(
     }
 }
 
-// A format of file 1 puts the gate behind the header.
-fn check_format(rt: &impl Abort, site: &mut MemorySite) {
-    let log = Resting::format(site, 1, HEADER).expect(rt, "room");
-    assert!(rt; log.gate == 33);
-}
-
 // The first byte is closed, and made safe, before the header is written behind it.
 fn check_order(rt: &impl Abort, record: &[Kept]) {
     assert!(rt;
@@ -186,44 +180,17 @@ fn check_order(rt: &impl Abort, record: &[Kept]) {
     );
 }
 
-// A commit of the payload on file 1 puts the gate behind its frame.
-fn check_commit(rt: &impl Abort, alloc: Global, site: &mut MemorySite) {
-    let log = rested(rt, alloc, site);
-    let log = commit(alloc, site, log, &PAYLOAD).expect(rt, "no fault");
-    assert!(rt; log.gate == 76);
-}
-
-// The log has the header, this one payload and its gate here.
-fn check_opened(rt: &impl Abort, opened: &Opened, payload: &[u8], gate: u64) {
-    assert!(rt; opened.header == HEADER);
-    assert!(rt; opened.log.gate == gate);
-    assert!(rt; opened.payloads.len() == 1);
-    assert!(rt; opened.payloads[0].as_bytes() == payload);
-}
-
-// This file is read so.
-fn check_one(
-    rt: &impl Abort,
-    alloc: Global,
-    site: &mut MemorySite,
-    file: u32,
-    payload: &[u8],
-    gate: u64,
-) {
-    let opened = read_log(alloc, site, file).expect(rt, "a log");
-    check_opened(rt, &opened, payload, gate);
-}
-
 #[test]
 fn the_two_examples(rt: HostRuntime) {
     let alloc = rt.alloc();
     let mut site = empty_site(&rt, alloc, 1000);
-    check_format(&rt, &mut site);
+    check_format(&rt, &mut site, true, 6);
     check_content(&rt, alloc, &site, &EMPTY);
     check_order(&rt, site.record());
-    check_commit(&rt, alloc, &mut site);
+    // Opening it takes a step, and a commit four.
+    check_commit(&rt, alloc, &mut site, &PAYLOAD, Some(76), 11);
     check_content(&rt, alloc, &site, &ONE_FRAME);
-    check_one(&rt, alloc, &mut site, 1, &PAYLOAD, 76);
+    check_found(&rt, alloc, &mut site, 1, &ONE_FRAME, Wanted::Log(1, 76));
 }
 
 // The log at rest that is given back where the limit is 77, to which the file would come.
@@ -261,6 +228,9 @@ pub(crate) enum Wanted {
     At(u64),
     // So many payloads, and where the closed gate stands.
     Log(usize, u64),
+    // A device call fails as it is opened, or behind so many payloads.
+    NotOpened,
+    StopsBehind(usize),
 }
 
 // A header, spelled up to the first gate.
@@ -303,22 +273,39 @@ fn check_front(rt: &impl Abort, alloc: Global, opened: &Opened, bytes: &[u8]) {
     assert!(rt; bytes.starts_with(&front));
 }
 
-// What file 1, of these bytes, is read as.
-pub(crate) fn found(rt: &impl Abort, alloc: Global, site: &mut MemorySite, bytes: &[u8]) -> Wanted {
-    match read_log(alloc, site, 1) {
+// What this file, of these bytes, is read as.
+pub(crate) fn found(
+    rt: &impl Abort,
+    alloc: Global,
+    site: &mut MemorySite,
+    file: u32,
+    bytes: &[u8],
+) -> Wanted {
+    match read_log(alloc, site, file) {
         Ok(opened) => {
             check_front(rt, alloc, &opened, bytes);
             Wanted::Log(opened.payloads.len(), opened.log.gate)
         }
         Err(OpenError::Fresh) => Wanted::Fresh,
-        Err(OpenError::Damaged { file: 1, offset }) => Wanted::At(offset),
+        Err(OpenError::Damaged { file: at, offset }) if at == file => Wanted::At(offset),
         Err(_) => panic!(rt; "another fault"),
     }
 }
 
+fn check_found(
+    rt: &impl Abort,
+    alloc: Global,
+    site: &mut MemorySite,
+    file: u32,
+    bytes: &[u8],
+    wanted: Wanted,
+) {
+    assert!(rt; found(rt, alloc, site, file, bytes) == wanted);
+}
+
 fn check_reading(rt: &impl Abort, alloc: Global, bytes: &[u8], wanted: Wanted) {
     let mut site = site_of(rt, alloc, bytes, NEVER);
-    assert!(rt; found(rt, alloc, &mut site, bytes) == wanted);
+    check_found(rt, alloc, &mut site, 1, bytes, wanted);
 }
 
 // What the first bytes of the example are, this many.
@@ -427,10 +414,13 @@ fn check_format_images(rt: &impl Abort, alloc: Global, site: &MemorySite, closes
     }
 }
 
-// Formats file 1, which comes to so many steps.
-fn check_stopped_format(rt: &impl Abort, site: &mut MemorySite, is_ok: bool, steps: u64) {
-    let made = Resting::format(site, 1, HEADER);
-    assert!(rt; made.is_ok() == is_ok);
+// Formats file 1, which puts the gate behind the header and comes to so many steps.
+fn check_format(rt: &impl Abort, site: &mut MemorySite, is_ok: bool, steps: u64) {
+    let made = match Resting::format(site, 1, HEADER) {
+        Ok(log) => log.gate == 33,
+        Err(_) => false,
+    };
+    assert!(rt; made == is_ok);
     assert!(rt; site.moment() == steps);
 }
 
@@ -445,7 +435,7 @@ fn check_stopped_formats(
 ) {
     for (call, steps) in stops.iter().enumerate() {
         let mut site = site_of(rt, alloc, bytes, call as u64);
-        check_stopped_format(rt, &mut site, call + 1 == stops.len(), *steps);
+        check_format(rt, &mut site, call + 1 == stops.len(), *steps);
         check_format_images(rt, alloc, &site, closes, opens);
     }
 }
@@ -481,17 +471,28 @@ fn check_append_images(rt: &impl Abort, alloc: Global, site: &MemorySite) {
     }
 }
 
-// Commits `NEXT`, which comes to so many steps.
-fn check_append(rt: &impl Abort, alloc: Global, site: &mut MemorySite, is_ok: bool, steps: u64) {
+// Opens file 1 and commits this payload, which puts the gate there, or fails, and comes to so many steps.
+fn check_commit(
+    rt: &impl Abort,
+    alloc: Global,
+    site: &mut MemorySite,
+    payload: &[u8],
+    gate: Option<u64>,
+    steps: u64,
+) {
     let log = rested(rt, alloc, site);
-    let made = commit(alloc, site, log, &NEXT);
-    assert!(rt; made.is_ok() == is_ok);
+    let made = match commit(alloc, site, log, payload) {
+        Ok(log) => Some(log.gate),
+        Err(_) => None,
+    };
+    assert!(rt; made == gate);
     assert!(rt; site.moment() == steps);
 }
 
 fn check_stopped_append(rt: &impl Abort, alloc: Global, call: u64, steps: u64) {
     let mut site = site_of(rt, alloc, &ONE_FRAME, call);
-    check_append(rt, alloc, &mut site, call == NEVER, steps);
+    let gate = if call == NEVER { Some(84) } else { None };
+    check_commit(rt, alloc, &mut site, &NEXT, gate, steps);
     check_append_images(rt, alloc, &site);
 }
 
@@ -621,5 +622,7 @@ fn commits_on_two_files_in_turn(rt: HostRuntime) {
     site.prepare(2, 0, &EMPTY).expect(&rt, "room");
     check_both(&rt, alloc, &mut site);
     check_content(&rt, alloc, &site, &ONE_FRAME);
-    check_one(&rt, alloc, &mut site, 2, &NEXT, 41);
+    let mut second = spelled(&rt, alloc, HEADER);
+    spell_frame(&rt, &mut second, &NEXT);
+    check_found(&rt, alloc, &mut site, 2, &second, Wanted::Log(1, 41));
 }

@@ -74,14 +74,17 @@ fn clash_text(rt: &impl Abort, alloc: Global, client: &Name, number: u32) -> Str
 
 fn verdict(rt: &impl Abort, alloc: Global, file: &str) -> String {
     assert!(rt; file.len() < 1000);
-    match read_requests(alloc, file.as_bytes()) {
-        Ok(requests) => listed(rt, alloc, &requests),
+    let read = read_requests(alloc, file.as_bytes());
+    let verdict = match &read {
+        Ok(requests) => listed(rt, alloc, requests),
         Err(RequestsError::BadLine { line }) => {
             format!(in alloc; "line {line}").expect(rt, "memory")
         }
-        Err(RequestsError::Clash { client, number }) => clash_text(rt, alloc, &client, number),
+        Err(RequestsError::Clash { client, number }) => clash_text(rt, alloc, client, *number),
         Err(RequestsError::Memory) => String::new(alloc),
-    }
+    };
+    drop(read);
+    verdict
 }
 
 #[test]

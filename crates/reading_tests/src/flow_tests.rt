@@ -46,11 +46,14 @@ fn text_of(rt: &impl Abort, alloc: Global, path: &Path) -> String {
 }
 
 fn verdict(rt: &impl Abort, alloc: Global, file: &str) -> String {
-    match read_flows(alloc, file.as_bytes()) {
+    let read = read_flows(alloc, file.as_bytes());
+    let verdict = match &read {
         Ok(_) => String::from_str(alloc, "read").expect(rt, "memory"),
-        Err(FlowsError::BadShape { path }) => text_of(rt, alloc, &path),
+        Err(FlowsError::BadShape { path }) => text_of(rt, alloc, path),
         Err(_) => String::new(alloc),
-    }
+    };
+    drop(read);
+    verdict
 }
 
 #[test]

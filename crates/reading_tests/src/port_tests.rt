@@ -22,6 +22,7 @@ fn due(rt: &impl Abort, alloc: Global, port: &Port) -> Vec<u32> {
     for request in due.as_slice() {
         numbers.push(request.number).expect(rt, "memory");
     }
+    drop(due);
     numbers
 }
 
@@ -39,6 +40,8 @@ fn say(rt: &impl Abort, alloc: Global, port: &mut Port, client: &str, answer: An
     let client = Name::read(alloc, client.as_bytes()).expect(rt, "a name");
     port.said(alloc, &client, Some(&answer))
         .expect(rt, "memory");
+    drop(answer);
+    drop(client);
 }
 
 fn has_lines(port: &Port, wanted: &[&str]) -> bool {
@@ -64,4 +67,5 @@ fn sum(rt: HostRuntime) {
     say(&rt, alloc, &mut port, "a", Answer::Started);
     assert!(rt; due(&rt, alloc, &port).as_slice() == [4].as_slice());
     assert!(rt; has_lines(&port, &["a 1 started\n", "a 2 done 5\n"]));
+    drop(port);
 }

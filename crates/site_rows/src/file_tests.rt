@@ -1,6 +1,7 @@
 // What no clause says: which bytes the disk gives, which names the files have, what is refused, and when a fault is
 // counted.
-use crate::checks::{check_bytes, check_same};
+use crate::checks::check_bytes;
+use crate::rows::{Row, Watched, check_row};
 use site_calls::{CalledSite, FileName, Reason, Unknown};
 use site_host::Host;
 use site_model::Site;
@@ -26,10 +27,8 @@ fn new_path(rt: &impl Abort, host: &HostRuntime, name: &str) -> String {
     )
 }
 
-fn new_directory(rt: &impl Abort, host: &HostRuntime, name: &str) -> String {
-    let path = new_path(rt, host, name);
-    fs::create_dir(host, path.as_str()).expect(rt, "a directory");
-    path
+fn make_directory(rt: &impl Abort, host: &HostRuntime, path: &str) {
+    fs::create_dir(host, path).expect(rt, "a directory");
 }
 
 fn remove(rt: &impl Abort, host: &HostRuntime, path: &str) {
@@ -45,72 +44,32 @@ fn open(rt: &impl Abort, host: &HostRuntime, path: &str) -> Disk {
     CalledSite::new(calls, Unknown)
 }
 
-fn check_length(rt: &impl Abort, site: &mut impl Site, file: u32, wanted: u64) {
-    check_same(rt, site.length(file).expect(rt, "a length"), wanted);
+/// What is done at a directory while a site stands over it.
+#[derive(Clone, Copy)]
+enum Step {
+    /// The site is called.
+    Calls(Row),
+    /// The file with this number is written its name, which it stands under.
+    IsNamed(u32, &'static str),
+    /// No file has this name.
+    IsAbsent(&'static str),
+    /// The file with this name gets this text.
+    Put(&'static str, &'static str),
+    /// It gets an empty object, and may not be written then.
+    PutForReading(&'static str),
+    /// The flows get this second name.
+    Link(&'static str),
+    /// A directory gets this name.
+    MakeDirectory(&'static str),
+    /// The directory itself comes.
+    Come,
+    /// It goes.
+    Go,
 }
 
-fn check_read(rt: &impl Abort, site: &mut impl Site, file: u32, at: u64, wanted: &[u8]) {
-    let mut out = [0u8; 8];
-    let count = site.read(file, at, &mut out).expect(rt, "a read");
-    check_bytes(rt, &out[..count], wanted);
-}
-
-fn check_absent(rt: &impl Abort, host: &HostRuntime, path: &str, name: &str) {
-    let file = path_in(rt, host.alloc(), path, name);
-    let exists = fs::exists(host, file.as_str()).expect(rt, "a look-up");
+fn check_absent(rt: &impl Abort, host: &HostRuntime, file: &str) {
+    let exists = fs::exists(host, file).expect(rt, "a look-up");
     assert!(rt; !exists);
-}
-
-/// A file that isn't there reads nothing, and none of this makes it.
-fn check_none(rt: &impl Abort, host: &HostRuntime, site: &mut impl Site, path: &str) {
-    check_length(rt, site, 17, 0);
-    check_read(rt, site, 17, 0, b"");
-    site.sync(17).expect(rt, "a sync");
-    check_absent(rt, host, path, "p00.log1");
-}
-
-/// Writes inside a file.
-fn overwrite(rt: &impl Abort, site: &mut impl Site, file: u32, at: u64, bytes: &[u8]) {
-    let length = site.length(file).expect(rt, "a length");
-    assert!(rt; at <= length);
-    site.write(file, at, bytes).expect(rt, "a write");
-}
-
-fn write_and_say(rt: &impl Abort, site: &mut impl Site) {
-    site.write(17, 0, b"netherite").expect(rt, "a write");
-    overwrite(rt, site, 17, 6, b"ra");
-    check_length(rt, site, 17, 9);
-    site.sync(17).expect(rt, "a sync");
-    site.sync(17).expect(rt, "a sync");
-    site.say(b"kept\n").expect(rt, "a line");
-}
-
-fn check_kept(rt: &impl Abort, site: &mut impl Site) {
-    check_read(rt, site, 17, 2, b"therrae");
-    check_read(rt, site, 17, 9, b"");
-    check_read(rt, site, 17, 100, b"");
-    check_same(rt, site.length(16).expect(rt, "a length"), 0);
-}
-
-fn first_site(rt: &impl Abort, host: &HostRuntime, path: &str) {
-    let mut site = open(rt, host, path);
-    check_none(rt, host, &mut site, path);
-    write_and_say(rt, &mut site);
-    check_same(rt, site.disk_faults(), 0);
-}
-
-fn next_site(rt: &impl Abort, host: &HostRuntime, path: &str) {
-    let mut site = open(rt, host, path);
-    check_kept(rt, &mut site);
-    check_same(rt, site.disk_faults(), 0);
-}
-
-#[test]
-fn keeps_what_was_written(rt: HostRuntime) {
-    let path = new_directory(&rt, &rt, "keeps");
-    first_site(&rt, &rt, path.as_str());
-    next_site(&rt, &rt, path.as_str());
-    remove(&rt, &rt, path.as_str());
 }
 
 fn check_text(rt: &impl Abort, host: &HostRuntime, file: &str, wanted: &str) {
@@ -118,219 +77,245 @@ fn check_text(rt: &impl Abort, host: &HostRuntime, file: &str, wanted: &str) {
     check_bytes(rt, text.as_bytes(), wanted.as_bytes());
 }
 
-/// The file of a partition with this number stands under this name.
-fn check_name(
-    rt: &impl Abort,
-    host: &HostRuntime,
-    site: &mut impl Site,
-    path: &str,
-    number: u32,
-    name: &str,
-) {
-    site.write(number, 0, name.as_bytes()).expect(rt, "a write");
-    let file = path_in(rt, host.alloc(), path, name);
-    check_text(rt, host, file.as_str(), name);
+fn put_file(rt: &impl Abort, host: &HostRuntime, file: &str, text: &str) {
+    fs::write(host, file, text).expect(rt, "a file");
 }
 
-fn check_names(rt: &impl Abort, host: &HostRuntime, path: &str) {
-    let mut site = open(rt, host, path);
-    check_name(rt, host, &mut site, path, 16, "p00.log0");
-    check_name(rt, host, &mut site, path, 21, "p01.log1");
-    check_name(rt, host, &mut site, path, 58, "p10.ck0");
-    check_name(rt, host, &mut site, path, 143, "p31.ck1");
-    check_same(rt, site.disk_faults(), 0);
-}
-
-#[test]
-fn names_its_files(rt: HostRuntime) {
-    let path = new_directory(&rt, &rt, "names");
-    check_names(&rt, &rt, path.as_str());
-    remove(&rt, &rt, path.as_str());
-}
-
-fn put_file(rt: &impl Abort, host: &HostRuntime, path: &str, name: &str, text: &str) {
-    let file = path_in(rt, host.alloc(), path, name);
-    fs::write(host, file.as_str(), text).expect(rt, "a file");
-}
-
-fn put_inputs(rt: &impl Abort, host: &HostRuntime, path: &str) {
-    put_file(rt, host, path, "flows.json", "flows");
-    put_file(rt, host, path, "requests.jsonl", "requests");
-    put_file(rt, host, path, "plan.json", "plan");
-}
-
-fn check_inputs(rt: &impl Abort, site: &mut impl Site) {
-    check_read(rt, site, 0, 0, b"flows");
-    check_read(rt, site, 1, 0, b"requests");
-    check_read(rt, site, 2, 0, b"plan");
-    site.sync(2).expect(rt, "a sync");
-}
-
-/// No input is written or made.
-fn check_read_only(rt: &impl Abort, site: &mut impl Site) {
-    site.write(0, 0, b"x").expect_err(rt, "a fault");
-    site.write(1, 0, b"x").expect_err(rt, "a fault");
-    site.write(2, 0, b"x").expect_err(rt, "a fault");
-}
-
-fn check_directory_of_inputs(rt: &impl Abort, host: &HostRuntime, path: &str) {
-    let mut site = open(rt, host, path);
-    check_read_only(rt, &mut site);
-    check_absent(rt, host, path, "flows.json");
-    put_inputs(rt, host, path);
-    check_inputs(rt, &mut site);
-    check_read_only(rt, &mut site);
-    check_inputs(rt, &mut site);
-    check_same(rt, site.disk_faults(), 6);
-}
-
-#[test]
-fn reads_its_inputs_alone(rt: HostRuntime) {
-    let path = new_directory(&rt, &rt, "inputs");
-    check_directory_of_inputs(&rt, &rt, path.as_str());
-    remove(&rt, &rt, path.as_str());
-}
-
-fn check_refused(rt: &impl Abort, site: &mut Disk, file: u32, reason: Reason) {
-    site.length(file).expect_err(rt, "a fault");
-    assert!(rt; site.calls().reason() == Some(reason));
-    site.write(file, 0, b"x").expect_err(rt, "a fault");
-    site.sync(file).expect_err(rt, "a fault");
-}
-
-/// A log that is a link to an input is refused, and the input stays as it was.
-fn check_link(rt: &impl Abort, host: &HostRuntime, path: &str) {
-    put_file(rt, host, path, "flows.json", "flows");
-    let flows = path_in(rt, host.alloc(), path, "flows.json");
-    let log = path_in(rt, host.alloc(), path, "p00.log0");
-    fs::hard_link(host, flows.as_str(), log.as_str()).expect(rt, "a link");
-    let mut site = open(rt, host, path);
-    check_read(rt, &mut site, 0, 0, b"flows");
-    check_refused(rt, &mut site, 16, Reason::SameAs(FileName::Flows));
-    check_read(rt, &mut site, 0, 0, b"flows");
-}
-
-#[test]
-fn refuses_one_file_under_two_names(rt: HostRuntime) {
-    let path = new_directory(&rt, &rt, "links");
-    check_link(&rt, &rt, path.as_str());
-    remove(&rt, &rt, path.as_str());
-}
-
-fn check_second(rt: &impl Abort, host: &HostRuntime, path: &str) {
-    let mut site = open(rt, host, path);
-    check_refused(rt, &mut site, 16, Reason::Locked);
-    check_same(rt, site.disk_faults(), 3);
-}
-
-/// While one run holds the directory another fails.
-fn check_lock(rt: &impl Abort, host: &HostRuntime, path: &str) {
-    let mut site = open(rt, host, path);
-    check_length(rt, &mut site, 16, 0);
-    check_second(rt, host, path);
-    site.write(16, 0, b"held").expect(rt, "a write");
-}
-
-fn check_after_lock(rt: &impl Abort, host: &HostRuntime, path: &str) {
-    let mut site = open(rt, host, path);
-    check_read(rt, &mut site, 16, 0, b"held");
-    check_same(rt, site.disk_faults(), 0);
-}
-
-#[test]
-fn holds_its_directory(rt: HostRuntime) {
-    let path = new_directory(&rt, &rt, "holds");
-    check_lock(&rt, &rt, path.as_str());
-    check_after_lock(&rt, &rt, path.as_str());
-    remove(&rt, &rt, path.as_str());
-}
-
-fn check_no_directory(rt: &impl Abort, site: &mut Disk) {
-    check_length(rt, site, 16, 0);
-    check_read(rt, site, 0, 0, b"");
-    site.sync(16).expect(rt, "a sync");
-    site.write(16, 0, b"x").expect_err(rt, "a fault");
-    check_faults(rt, site, 1);
-}
-
-/// A directory that comes later is looked for at each call.
-fn check_late_directory(rt: &impl Abort, host: &HostRuntime, path: &str) {
-    let mut site = open(rt, host, path);
-    check_no_directory(rt, &mut site);
-    fs::create_dir(host, path).expect(rt, "a directory");
-    site.write(16, 0, b"x").expect(rt, "a write");
-}
-
-#[test]
-fn makes_no_directory(rt: HostRuntime) {
-    let path = new_path(&rt, &rt, "late");
-    check_late_directory(&rt, &rt, path.as_str());
-    remove(&rt, &rt, path.as_str());
-}
-
-fn check_nameless(rt: &impl Abort, site: &mut impl Site, number: u32) {
-    site.length(number).expect_err(rt, "a fault");
-    site.read(number, 0, &mut [0; 8]).expect_err(rt, "a fault");
-    site.write(number, 0, b"x").expect_err(rt, "a fault");
-    site.sync(number).expect_err(rt, "a fault");
-}
-
-fn check_faults(rt: &impl Abort, site: &Disk, disk_faults: u64) {
-    check_same(rt, site.disk_faults(), disk_faults);
-    check_same(rt, site.say_faults(), 0);
-}
-
-/// A directory stands where the file should.
-fn check_other_kind(rt: &impl Abort, host: &HostRuntime, site: &mut Disk, path: &str) {
-    let file = path_in(rt, host.alloc(), path, "plan.json");
-    fs::create_dir(host, file.as_str()).expect(rt, "a directory");
-    check_refused(rt, site, 2, Reason::NotRegular);
-}
-
-/// The directory itself is gone.
-fn check_gone(rt: &impl Abort, site: &mut impl Site) {
-    check_length(rt, site, 16, 0);
-    site.write(16, 0, b"x").expect_err(rt, "a fault");
-}
-
-fn check_all_faults(rt: &impl Abort, host: &HostRuntime, path: &str) {
-    let mut site = open(rt, host, path);
-    check_nameless(rt, &mut site, 3);
-    check_nameless(rt, &mut site, 15);
-    check_nameless(rt, &mut site, 144);
-    check_nameless(rt, &mut site, u32::MAX);
-    check_faults(rt, &site, 16);
-    check_other_kind(rt, host, &mut site, path);
-    remove(rt, host, path);
-    check_gone(rt, &mut site);
-    check_same(rt, site.disk_faults(), 20);
-}
-
-#[test]
-fn counts_each_fault(rt: HostRuntime) {
-    let path = new_directory(&rt, &rt, "counts");
-    check_all_faults(&rt, &rt, path.as_str());
-}
-
-fn write_for_reading(rt: &impl Abort, host: &HostRuntime, file: &str) {
-    fs::write(host, file, "{}").expect(rt, "a file");
+fn put_for_reading(rt: &impl Abort, host: &HostRuntime, file: &str) {
+    put_file(rt, host, file, "{}");
     let metadata = fs::metadata(host, file).expect(rt, "a file");
     let mut permissions = metadata.permissions();
     permissions.set_readonly(true);
     fs::set_permissions(host, file, permissions).expect(rt, "a file");
 }
 
-fn check_readable(rt: &impl Abort, host: &HostRuntime, path: &str) {
+fn link_flows(rt: &impl Abort, host: &HostRuntime, path: &str, file: &str) {
+    let flows = path_in(rt, host.alloc(), path, "flows.json");
+    fs::hard_link(host, flows.as_str(), file).expect(rt, "a link");
+}
+
+fn check_named(
+    rt: &impl Abort,
+    host: &HostRuntime,
+    site: &mut impl Site,
+    file: &str,
+    number: u32,
+    name: &str,
+) {
+    site.write(number, 0, name.as_bytes()).expect(rt, "a write");
+    check_text(rt, host, file, name);
+}
+
+/// The name that the step is about.
+fn name_of(step: &Step) -> &'static str {
+    match *step {
+        Step::IsNamed(_, name) => name,
+        Step::IsAbsent(name) => name,
+        Step::Put(name, _) => name,
+        Step::PutForReading(name) => name,
+        Step::Link(name) => name,
+        Step::MakeDirectory(name) => name,
+        Step::Calls(_) | Step::Come | Step::Go => "",
+    }
+}
+
+fn check_step<V: Site + Watched>(
+    rt: &impl Abort,
+    host: &HostRuntime,
+    site: &mut V,
+    path: &str,
+    step: &Step,
+) {
+    let file = path_in(rt, host.alloc(), path, name_of(step));
+    let file = file.as_str();
+    match *step {
+        Step::Calls(row) => check_row(rt, site, &mut [0; 8], &row),
+        Step::IsNamed(number, name) => check_named(rt, host, site, file, number, name),
+        Step::IsAbsent(_) => check_absent(rt, host, file),
+        Step::Put(_, text) => put_file(rt, host, file, text),
+        Step::PutForReading(_) => put_for_reading(rt, host, file),
+        Step::Link(_) => link_flows(rt, host, path, file),
+        Step::MakeDirectory(_) => make_directory(rt, host, file),
+        Step::Come => make_directory(rt, host, path),
+        Step::Go => remove(rt, host, path),
+    }
+}
+
+fn check_steps<V: Site + Watched>(
+    rt: &impl Abort,
+    host: &HostRuntime,
+    site: &mut V,
+    path: &str,
+    steps: &[Step],
+) {
+    for step in steps {
+        check_step(rt, host, site, path, step);
+    }
+}
+
+/// Each step is right in its turn, over a site that is new.
+fn check_visit(rt: &impl Abort, host: &HostRuntime, path: &str, steps: &[Step]) {
     let mut site = open(rt, host, path);
-    check_read(rt, &mut site, 0, 0, b"{}");
-    site.sync(0).expect(rt, "a sync");
+    check_steps(rt, host, &mut site, path, steps);
+}
+
+/// So at each visit of a new directory, which goes at the end.
+fn check_visits(rt: &impl Abort, host: &HostRuntime, name: &str, visits: &[&[Step]]) {
+    let path = new_path(rt, host, name);
+    make_directory(rt, host, path.as_str());
+    for steps in visits {
+        check_visit(rt, host, path.as_str(), steps);
+    }
+    remove(rt, host, path.as_str());
+}
+
+/// A file that isn't there reads nothing, and none of this makes it.
+#[test]
+fn keeps_what_was_written(rt: HostRuntime) {
+    let written = [
+        Step::Calls(Row::HasLength(17, 0)),
+        Step::Calls(Row::Reads(17, 0, b"")),
+        Step::Calls(Row::Syncs(17)),
+        Step::IsAbsent("p00.log1"),
+        Step::Calls(Row::Writes(17, b"netherite")),
+        Step::Calls(Row::WritesInside(17, 6, b"ra")),
+        Step::Calls(Row::HasLength(17, 9)),
+        Step::Calls(Row::Syncs(17)),
+        Step::Calls(Row::Syncs(17)),
+        Step::Calls(Row::Says(b"kept\n")),
+        Step::Calls(Row::HasFaults(0, 0)),
+    ];
+    let kept = [
+        Step::Calls(Row::Reads(17, 2, b"therrae")),
+        Step::Calls(Row::Reads(17, 9, b"")),
+        Step::Calls(Row::Reads(17, 100, b"")),
+        Step::Calls(Row::HasLength(16, 0)),
+        Step::Calls(Row::HasFaults(0, 0)),
+    ];
+    check_visits(&rt, &rt, "keeps", &[&written, &kept]);
+}
+
+#[test]
+fn names_its_files(rt: HostRuntime) {
+    let steps = [
+        Step::IsNamed(16, "p00.log0"),
+        Step::IsNamed(21, "p01.log1"),
+        Step::IsNamed(58, "p10.ck0"),
+        Step::IsNamed(143, "p31.ck1"),
+        Step::Calls(Row::HasFaults(0, 0)),
+    ];
+    check_visits(&rt, &rt, "names", &[&steps]);
+}
+
+/// No input is written or made.
+#[test]
+fn reads_its_inputs_alone(rt: HostRuntime) {
+    let steps = [
+        Step::Calls(Row::FailsToWrite(0)),
+        Step::Calls(Row::FailsToWrite(1)),
+        Step::Calls(Row::FailsToWrite(2)),
+        Step::IsAbsent("flows.json"),
+        Step::Put("flows.json", "flows"),
+        Step::Put("requests.jsonl", "requests"),
+        Step::Put("plan.json", "plan"),
+        Step::Calls(Row::Reads(0, 0, b"flows")),
+        Step::Calls(Row::Reads(1, 0, b"requests")),
+        Step::Calls(Row::Reads(2, 0, b"plan")),
+        Step::Calls(Row::Syncs(2)),
+        Step::Calls(Row::FailsToWrite(0)),
+        Step::Calls(Row::FailsToWrite(1)),
+        Step::Calls(Row::FailsToWrite(2)),
+        Step::Calls(Row::Reads(0, 0, b"flows")),
+        Step::Calls(Row::Reads(1, 0, b"requests")),
+        Step::Calls(Row::Reads(2, 0, b"plan")),
+        Step::Calls(Row::Syncs(2)),
+        Step::Calls(Row::HasFaults(6, 0)),
+    ];
+    check_visits(&rt, &rt, "inputs", &[&steps]);
+}
+
+/// A log that is a link to an input is refused, and the input stays as it was.
+#[test]
+fn refuses_one_file_under_two_names(rt: HostRuntime) {
+    let steps = [
+        Step::Put("flows.json", "flows"),
+        Step::Link("p00.log0"),
+        Step::Calls(Row::Reads(0, 0, b"flows")),
+        Step::Calls(Row::Refuses(16, Reason::SameAs(FileName::Flows))),
+        Step::Calls(Row::Reads(0, 0, b"flows")),
+    ];
+    check_visits(&rt, &rt, "links", &[&steps]);
+}
+
+/// While one run holds the directory another fails.
+fn check_lock(rt: &impl Abort, host: &HostRuntime, path: &str) {
+    let mut site = open(rt, host, path);
+    let first = [Step::Calls(Row::HasLength(16, 0))];
+    check_steps(rt, host, &mut site, path, &first);
+    let second = [
+        Step::Calls(Row::Refuses(16, Reason::Locked)),
+        Step::Calls(Row::HasFaults(3, 0)),
+    ];
+    check_visit(rt, host, path, &second);
+    let last = [Step::Calls(Row::Writes(16, b"held"))];
+    check_steps(rt, host, &mut site, path, &last);
+}
+
+#[test]
+fn holds_its_directory(rt: HostRuntime) {
+    let path = new_path(&rt, &rt, "holds");
+    make_directory(&rt, &rt, path.as_str());
+    check_lock(&rt, &rt, path.as_str());
+    let held = [
+        Step::Calls(Row::Reads(16, 0, b"held")),
+        Step::Calls(Row::HasFaults(0, 0)),
+        Step::Go,
+    ];
+    check_visit(&rt, &rt, path.as_str(), &held);
+}
+
+/// A directory that comes later is looked for at each call.
+#[test]
+fn makes_no_directory(rt: HostRuntime) {
+    let steps = [
+        Step::Go,
+        Step::Calls(Row::HasLength(16, 0)),
+        Step::Calls(Row::Reads(0, 0, b"")),
+        Step::Calls(Row::Syncs(16)),
+        Step::Calls(Row::FailsToWrite(16)),
+        Step::Calls(Row::HasFaults(1, 0)),
+        Step::Come,
+        Step::Calls(Row::Writes(16, b"x")),
+    ];
+    check_visits(&rt, &rt, "late", &[&steps]);
+}
+
+/// Numbers that are no files; then a directory stands where the file should; then the directory itself is gone.
+#[test]
+fn counts_each_fault(rt: HostRuntime) {
+    let steps = [
+        Step::Calls(Row::HasNoFile(3)),
+        Step::Calls(Row::HasNoFile(15)),
+        Step::Calls(Row::HasNoFile(144)),
+        Step::Calls(Row::HasNoFile(u32::MAX)),
+        Step::Calls(Row::HasFaults(16, 0)),
+        Step::MakeDirectory("plan.json"),
+        Step::Calls(Row::Refuses(2, Reason::NotRegular)),
+        Step::Go,
+        Step::Calls(Row::HasLength(16, 0)),
+        Step::Calls(Row::FailsToWrite(16)),
+        Step::Calls(Row::HasFaults(20, 0)),
+        Step::Come,
+    ];
+    check_visits(&rt, &rt, "counts", &[&steps]);
 }
 
 #[test]
 fn reads_what_may_not_be_written(rt: HostRuntime) {
-    let path = new_directory(&rt, &rt, "reads");
-    let file = path_in(&rt, rt.alloc(), path.as_str(), "flows.json");
-    write_for_reading(&rt, &rt, file.as_str());
-    check_readable(&rt, &rt, path.as_str());
-    remove(&rt, &rt, path.as_str());
+    let steps = [
+        Step::PutForReading("flows.json"),
+        Step::Calls(Row::Reads(0, 0, b"{}")),
+        Step::Calls(Row::Syncs(0)),
+    ];
+    check_visits(&rt, &rt, "reads", &[&steps]);
 }

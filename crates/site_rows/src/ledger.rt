@@ -11,7 +11,7 @@ use std::alloc::{AllocError, Global};
 pub const FILE: u32 = 17;
 
 /// A call with its answer.
-#[derive(Debug, Drop)]
+#[derive(Drop)]
 pub enum Entry {
     Found {
         file: u32,
@@ -58,7 +58,7 @@ pub enum Entry {
 }
 
 /// A write of which so many bytes are in the file.
-#[derive(Clone, Copy, Debug)]
+#[derive(Clone, Copy)]
 pub struct Writing {
     pub at: usize,
     pub known: usize,

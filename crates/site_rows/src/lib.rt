@@ -1,6 +1,7 @@
 //! Tests of the sites, in memory, over recorded calls and over a real directory, and of the machine's clock.
 //!
 //! - `ledger`: whether answers agree with the calls before them, as code. It is no test, since `specs/` names its types.
+//! - `rows`: calls of a site with what they are to give, as data, so that one function makes those of all tests.
 //! - `scripted`: calls on a file in memory, for the tests of the site over calls.
 #![tactic(auto)]
 
@@ -18,5 +19,7 @@ mod clock_tests;
 mod file_tests;
 #[cfg(test)]
 mod memory_tests;
+#[cfg(test)]
+mod rows;
 #[cfg(test)]
 mod scripted;

@@ -1,4 +1,5 @@
 use crate::checks::{believe, check_bytes, check_same};
+use crate::rows::{Row, check_rows};
 use site_memory::{Kept, Kind, MemorySite, Pick, TickClock};
 use site_model::{Clock, Failed, LAST_MOMENT, Site};
 use std::alloc::Global;
@@ -33,16 +34,6 @@ fn check_write(rt: &impl Abort, alloc: Global, site: &mut MemorySite, at: u64, b
     write(rt, alloc, site, at, bytes).expect(rt, "a write");
 }
 
-fn check_read(rt: &impl Abort, site: &mut MemorySite, at: u64, wanted: &[u8]) {
-    let mut out = [b'.'; 4];
-    let count = site.read(1, at, &mut out).expect(rt, "a read");
-    check_bytes(rt, &out[..count], wanted);
-}
-
-fn check_length(rt: &impl Abort, site: &mut MemorySite, file: u32, wanted: u64) {
-    check_same(rt, site.length(file).expect(rt, "a length"), wanted);
-}
-
 fn check_content(rt: &impl Abort, alloc: Global, site: &MemorySite, wanted: &[u8]) {
     let content = site.content(alloc, 1).expect(rt, "memory");
     check_bytes(rt, &content, wanted);
@@ -51,35 +42,6 @@ fn check_content(rt: &impl Abort, alloc: Global, site: &MemorySite, wanted: &[u8
 fn check_tape(rt: &impl Abort, alloc: Global, site: &MemorySite, wanted: &[u8]) {
     let tape = site.tape(alloc).expect(rt, "memory");
     check_bytes(rt, &tape, wanted);
-}
-
-fn check_faults(rt: &impl Abort, site: &MemorySite, disk_faults: u64, say_faults: u64) {
-    check_same(rt, site.disk_faults(), disk_faults);
-    check_same(rt, site.say_faults(), say_faults);
-}
-
-fn write_and_say(rt: &impl Abort, alloc: Global, site: &mut MemorySite) {
-    check_write(rt, alloc, site, 0, b"abcd");
-    check_write(rt, alloc, site, 1, b"XY");
-    check_content(rt, alloc, site, b"aXYd");
-    check_write(rt, alloc, site, 3, b"zzz");
-    site.write(2, 0, b"other").expect(rt, "a write");
-    site.sync(1).expect(rt, "a sync");
-    site.say(b"hi\n").expect(rt, "a line");
-}
-
-fn check_reads(rt: &impl Abort, site: &mut MemorySite) {
-    check_read(rt, site, 0, b"aXYz");
-    check_read(rt, site, 1, b"XYzz");
-    check_read(rt, site, 4, b"zz");
-    check_read(rt, site, 6, b"");
-    check_read(rt, site, 9, b"");
-}
-
-fn check_lengths(rt: &impl Abort, site: &mut MemorySite) {
-    check_length(rt, site, 1, 6);
-    check_length(rt, site, 2, 5);
-    check_length(rt, site, 3, 0);
 }
 
 fn check_record(rt: &impl Abort, record: &[Kept]) {
@@ -93,24 +55,43 @@ fn check_record(rt: &impl Abort, record: &[Kept]) {
     assert!(rt; record[21] == Kept::Said(b'\n'));
 }
 
-fn check_calls(rt: &impl Abort, site: &MemorySite) {
-    check_same(rt, site.moment(), 8);
-    check_same(rt, site.calls(Kind::Read), 6);
-    check_same(rt, site.calls(Kind::Device), 14);
-    check_same(rt, site.disk_faults(), 0);
+fn check_site(rt: &impl Abort, site: &mut MemorySite, rows: &[Row]) {
+    check_rows(rt, site, &mut [0; 4], rows);
+}
+
+fn write_inside(rt: &impl Abort, alloc: Global, site: &mut MemorySite) {
+    check_write(rt, alloc, site, 1, b"XY");
+    check_content(rt, alloc, site, b"aXYd");
+    check_write(rt, alloc, site, 3, b"zzz");
 }
 
 #[test]
 fn a_file_reads_what_was_written(rt: HostRuntime) {
     let alloc = rt.alloc();
     let mut site = site_with(&rt, alloc, 100, 20, &[]);
-    check_read(&rt, &mut site, 0, b"");
-    write_and_say(&rt, alloc, &mut site);
-    check_reads(&rt, &mut site);
-    check_lengths(&rt, &mut site);
+    let first = [Row::Reads(1, 0, b""), Row::Writes(1, b"abcd")];
+    check_site(&rt, &mut site, &first);
+    write_inside(&rt, alloc, &mut site);
+    let rows = [
+        Row::Writes(2, b"other"),
+        Row::Syncs(1),
+        Row::Says(b"hi\n"),
+        Row::Reads(1, 0, b"aXYz"),
+        Row::Reads(1, 1, b"XYzz"),
+        Row::Reads(1, 4, b"zz"),
+        Row::Reads(1, 6, b""),
+        Row::Reads(1, 9, b""),
+        Row::HasLength(1, 6),
+        Row::HasLength(2, 5),
+        Row::HasLength(3, 0),
+        Row::IsAt(8),
+        Row::HasFaults(0, 0),
+    ];
+    check_site(&rt, &mut site, &rows);
     check_tape(&rt, alloc, &site, b"hi\n");
     check_record(&rt, site.record());
-    check_calls(&rt, &site);
+    check_same(&rt, site.calls(Kind::Read), 6);
+    check_same(&rt, site.calls(Kind::Device), 14);
 }
 
 const FAILS: [(Kind, u64); 6] = [
@@ -121,29 +102,6 @@ const FAILS: [(Kind, u64); 6] = [
     (Kind::Device, 5),
     (Kind::Say, 0),
 ];
-
-fn fail_to_write(rt: &impl Abort, alloc: Global, site: &mut MemorySite) {
-    site.length(1).expect_err(rt, "a fault");
-    site.read(1, 0, &mut [0; 2]).expect_err(rt, "a fault");
-    check_write(rt, alloc, site, 0, b"ab");
-    write(rt, alloc, site, 1, b"cde").expect_err(rt, "a fault");
-    check_content(rt, alloc, site, b"acde");
-}
-
-fn fail_to_sync(rt: &impl Abort, site: &mut MemorySite) {
-    check_same(rt, site.moment(), 2);
-    site.sync(1).expect_err(rt, "a fault");
-    check_same(rt, site.moment(), 2);
-    site.length(1).expect_err(rt, "a fault");
-    check_length(rt, site, 1, 4);
-}
-
-fn fail_to_say(rt: &impl Abort, alloc: Global, site: &mut MemorySite) {
-    site.say(b"lines").expect_err(rt, "a fault");
-    check_tape(rt, alloc, site, b"li");
-    site.say(b"!").expect(rt, "a line");
-    check_tape(rt, alloc, site, b"li!");
-}
 
 /// A site in memory always tells, also after calls that failed.
 #[test]
@@ -159,36 +117,52 @@ fn a_site_in_memory_tells(rt: HostRuntime) {
 fn a_listed_call_fails_and_is_counted(rt: HostRuntime) {
     let alloc = rt.alloc();
     let mut site = site_with(&rt, alloc, 100, 20, &FAILS);
-    fail_to_write(&rt, alloc, &mut site);
-    fail_to_sync(&rt, &mut site);
-    check_faults(&rt, &site, 5, 0);
-    fail_to_say(&rt, alloc, &mut site);
-    check_faults(&rt, &site, 5, 1);
+    let first = [
+        Row::FailsToMeasure(1),
+        Row::FailsToRead(1),
+        Row::Writes(1, b"ab"),
+    ];
+    check_site(&rt, &mut site, &first);
+    write(&rt, alloc, &mut site, 1, b"cde").expect_err(&rt, "a fault");
+    check_content(&rt, alloc, &site, b"acde");
+    let next = [
+        Row::IsAt(2),
+        Row::FailsToSync(1),
+        Row::IsAt(2),
+        Row::FailsToMeasure(1),
+        Row::HasLength(1, 4),
+        Row::HasFaults(5, 0),
+        Row::FailsToSay(b"lines"),
+    ];
+    check_site(&rt, &mut site, &next);
+    check_tape(&rt, alloc, &site, b"li");
+    let last = [Row::Says(b"!"), Row::HasFaults(5, 1)];
+    check_site(&rt, &mut site, &last);
+    check_tape(&rt, alloc, &site, b"li!");
 }
 
-fn fill(rt: &impl Abort, alloc: Global, site: &mut MemorySite) {
+fn fill(rt: &impl Abort, site: &mut MemorySite) {
     site.prepare(1, 0, b"abcde").expect_err(rt, "a fault");
     site.prepare(1, 0, b"abc").expect(rt, "room");
-    write(rt, alloc, site, 0, b"xy").expect_err(rt, "a fault");
-    site.say(b"xy").expect_err(rt, "a fault");
-}
-
-fn sync_once(rt: &impl Abort, site: &mut MemorySite) {
-    check_same(rt, site.moment(), 2);
-    site.sync(1).expect(rt, "a sync");
-    site.sync(1).expect_err(rt, "a fault");
-    check_same(rt, site.moment(), 3);
-    check_same(rt, site.calls(Kind::Sync), 2);
 }
 
 #[test]
 fn without_room_nothing_is_kept(rt: HostRuntime) {
     let alloc = rt.alloc();
     let mut site = site_with(&rt, alloc, 4, 3, &[]);
-    fill(&rt, alloc, &mut site);
-    sync_once(&rt, &mut site);
+    fill(&rt, &mut site);
+    let rows = [
+        Row::FailsToWriteAll(1, b"xy"),
+        Row::FailsToSay(b"xy"),
+        Row::IsAt(2),
+        Row::Syncs(1),
+        Row::FailsToSync(1),
+        Row::IsAt(3),
+        Row::HasFaults(2, 1),
+    ];
+    check_site(&rt, &mut site, &rows);
+    check_same(&rt, site.calls(Kind::Sync), 2);
     check_content(&rt, alloc, &site, b"abc");
-    check_faults(&rt, &site, 2, 1);
 }
 
 const TORN: Pick = Pick::Torn(b'?');
@@ -238,8 +212,7 @@ fn write_and_sync(rt: &impl Abort, alloc: Global, site: &mut MemorySite) {
 /// The image has lost the other file, and its tape goes on.
 fn check_image_goes_on(rt: &impl Abort, alloc: Global, site: &MemorySite) {
     let mut image = site.image(alloc, 6, Pick::Stable).expect(rt, "memory");
-    check_length(rt, &mut image, 2, 0);
-    image.say(b"more").expect(rt, "a line");
+    check_site(rt, &mut image, &[Row::HasLength(2, 0), Row::Says(b"more")]);
     check_tape(rt, alloc, &image, b"kmore");
 }
 

@@ -3,15 +3,16 @@ ghost use Rattle.std.specs.Prelude.{◌≡◌, ◌∷◌, ◌+◌, ◌≤◌, []
 ghost use Rattle.site_calls.specs.Events.{Tells};
 ghost use Rattle.site_rows.specs.Ledger.{event_of, events_of, nothing_held};
 
+use crate::rows::Explained;
 use crate::{Entry, FILE, Ledger};
-use site_calls::Calls;
+use site_calls::{Calls, Reason};
 use std::alloc::Global;
 use std::io;
 use std::io::ErrorKind;
 use std::process::Abort;
 
 /// A kind of call of the system.
-#[derive(Clone, Copy, Debug, PartialEq, Eq)]
+#[derive(Clone, Copy, PartialEq, Eq)]
 pub(crate) enum CallKind {
     Find,
     Make,
@@ -24,7 +25,7 @@ pub(crate) enum CallKind {
 }
 
 /// What goes wrong at a call.
-#[derive(Clone, Copy, Debug, PartialEq, Eq)]
+#[derive(Clone, Copy)]
 pub(crate) enum Mishap {
     Fails,
     /// A signal cuts it off.
@@ -34,7 +35,7 @@ pub(crate) enum Mishap {
 }
 
 /// At the call of this kind with this number, counted from 0.
-#[derive(Clone, Copy, Debug, PartialEq, Eq)]
+#[derive(Clone, Copy)]
 pub(crate) struct Planned {
     pub(crate) kind: CallKind,
     pub(crate) number: usize,
@@ -122,6 +123,12 @@ impl<R: Abort> ScriptedCalls<R> {
         ensures { result.items ≡ bytes.now }
     {
         bytes.to_vec(self.alloc).expect(&self.rt, "memory")
+    }
+}
+
+impl<R> Explained for ScriptedCalls<R> {
+    fn why(&self) -> Option<Reason> {
+        None
     }
 }
 

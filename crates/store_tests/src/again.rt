@@ -1,8 +1,8 @@
 ghost use Rattle.std.specs.Prelude.{◌≡◌, ◌+◌, Ok};
 ghost use Rattle.store_tests.specs.Stores.{IsResting, HasFailed};
 
-use crate::commits::{EMPTY, FRAME, check_settled};
-use crate::stores::{FILE, commit, gate, reopen, settle, sync, write};
+use crate::commits::{check_content, check_settled};
+use crate::stores::{commit, gate, reopen, settle, sync, write};
 use hub_store::{Ended, Reopening, Start, Store};
 use site_memory::MemorySite;
 use site_model::Site;
@@ -34,11 +34,7 @@ fn check_first<N: Start>(
     assert!(rt; rows.len() == 1);
     check_settled(rt, &rows[0], 0, at);
     assert!(rt; site.disk_faults() == faults);
-    let mut wanted = Vec::new(alloc);
-    wanted.extend_from_slice(&EMPTY[..33]).expect(rt, "memory");
-    wanted.extend_from_slice(&FRAME).expect(rt, "memory");
-    wanted.push(0).expect(rt, "memory");
-    assert!(rt; site.content(alloc, FILE).expect(rt, "memory") == wanted);
+    check_content(rt, alloc, &site, 1);
 }
 
 // The sync behind the gate fails, and the frame is settled when the log is opened again.

@@ -5,11 +5,11 @@ ghost use Rattle.hub_store.specs.Changes.{stage_at};
 ghost use Rattle.hub_store.specs.Opened.{IsOrigin, HasBegun};
 ghost use Rattle.hub_store.specs.Sound.{IsSound};
 ghost use Rattle.hub_store.specs.Trail.{Settled as settleds, Said};
-ghost use Rattle.store_tests.specs.Stores.{header, IsOpen, IsResting};
+ghost use Rattle.store_tests.specs.Stores.{header, IsOpen, IsResting, HasCome};
 
 use crate::again::{check_dropped, check_settled_again};
 use crate::stores::{FILE, HEADER, begun, commit, formatted, gate, settle, sync, write};
-use commit_log::{Resting, read_log};
+use commit_log::{Opened, Resting, read_log};
 use dura_value::Name;
 use hub_store::{BodyRefusal, Ended, Refusal, SayError, Settled, Stage, Start, Store};
 use site_memory::{Kind, MemorySite};
@@ -19,7 +19,7 @@ use std::marker::Brand;
 use std::process::Abort;
 
 // An empty segment of partition 0 of 1, whose flows file holds `{}`.
-pub(crate) const EMPTY: [u8; 34] = [
+const EMPTY: [u8; 34] = [
     0xC3, // the format's gate
     0x4E, 0x45, 0x54, 0x48, 0x4C, 0x4F, 0x47, // NETHLOG
     0x01, // the version
@@ -31,7 +31,7 @@ pub(crate) const EMPTY: [u8; 34] = [
 ];
 
 // The frame of the entry at position 0, from the gate before it on.
-pub(crate) const FRAME: [u8; 54] = [
+const FRAME: [u8; 54] = [
     0xC3, // the gate
     0x00, 0x00, 0x00, 0x31, // the payload's length
     0x00, 0x01, // one entry
@@ -87,21 +87,37 @@ pub(crate) fn check_settled(rt: &impl Abort, row: &Settled, position: u64, at: u
     assert!(rt; row.at == at);
 }
 
-// The file holds the two frames, and they are read back.
-fn check_file(rt: &impl Abort, alloc: Global, site: &mut MemorySite) {
+// A frame like `FRAME`, of the entry at this position.
+fn frame_of(position: u8) -> [u8; 54] {
+    let mut frame = FRAME;
+    frame[POSITION] = position;
+    frame
+}
+
+// The file holds so many frames, of the entries from position 0 on.
+pub(crate) fn check_content(rt: &impl Abort, alloc: Global, site: &MemorySite, frames: u8) {
     let mut wanted = Vec::new(alloc);
     wanted.extend_from_slice(&EMPTY[..33]).expect(rt, "memory");
-    wanted.extend_from_slice(&FRAME).expect(rt, "memory");
-    let mut second = FRAME;
-    second[POSITION] = 1;
-    wanted.extend_from_slice(&second).expect(rt, "memory");
+    for position in 0..frames {
+        let frame = frame_of(position);
+        wanted.extend_from_slice(&frame).expect(rt, "memory");
+    }
     wanted.push(0).expect(rt, "memory");
     assert!(rt; site.content(alloc, FILE).expect(rt, "memory") == wanted);
-    let found = read_log(alloc, site, FILE).expect(rt, "a log");
+}
+
+fn check_log(rt: &impl Abort, found: &Opened) {
     assert!(rt; found.header == HEADER);
     assert!(rt; (found.log.gate, found.payloads.len()) == (141, 2));
     assert!(rt; found.payloads[0].as_bytes() == &FRAME[5..]);
-    assert!(rt; found.payloads[1].as_bytes() == &second[5..]);
+    assert!(rt; found.payloads[1].as_bytes() == &frame_of(1)[5..]);
+}
+
+// The file holds two frames, and they are read back.
+fn check_file(rt: &impl Abort, alloc: Global, site: &mut MemorySite) {
+    check_content(rt, alloc, site, 2);
+    let found = read_log(alloc, site, FILE).expect(rt, "a log");
+    check_log(rt, &found);
 }
 
 fn check_two_frames<N: Start>(rt: &impl Abort, alloc: Global, mut store: Store<MemorySite, N>)
@@ -120,28 +136,18 @@ fn check_two_frames<N: Start>(rt: &impl Abort, alloc: Global, mut store: Store<M
     check_file(rt, alloc, &mut site);
 }
 
-fn check_no_sync<N: Start>(rt: &impl Abort, store: &mut Store<MemorySite, N>)
+// The call that takes a frame on from this stage is refused.
+fn check_no_call<N: Start>(rt: &impl Abort, store: &mut Store<MemorySite, N>, from: Stage)
     requires runs { IsOpen store.old }
-    requires stage { stage_at store.old 0 ≢ Stage.Bodied }
+    requires stage { stage_at store.old 0 ≢ from }
     ensures { store.new ≡ store.old }
 {
-    assert!(rt; store.sync_body(0) == Err(Refusal::NoFrame));
-}
-
-fn check_no_gate<N: Start>(rt: &impl Abort, store: &mut Store<MemorySite, N>)
-    requires runs { IsOpen store.old }
-    requires stage { stage_at store.old 0 ≢ Stage.Synced }
-    ensures { store.new ≡ store.old }
-{
-    assert!(rt; store.gate(0) == Err(Refusal::NoFrame));
-}
-
-fn check_no_settle<N: Start>(rt: &impl Abort, store: &mut Store<MemorySite, N>)
-    requires runs { IsOpen store.old }
-    requires stage { stage_at store.old 0 ≢ Stage.Gated }
-    ensures { store.new ≡ store.old }
-{
-    assert!(rt; store.settle(0) == Err(Refusal::NoFrame));
+    match from {
+        Stage::Bodied => assert!(rt; store.sync_body(0) == Err(Refusal::NoFrame)),
+        Stage::Synced => assert!(rt; store.gate(0) == Err(Refusal::NoFrame)),
+        Stage::Gated => assert!(rt; store.settle(0) == Err(Refusal::NoFrame)),
+        Stage::Resting | Stage::Broken => {}
+    }
 }
 
 fn check_no_reopen<N: Start>(rt: &impl Abort, store: &mut Store<MemorySite, N>)
@@ -152,25 +158,40 @@ fn check_no_reopen<N: Start>(rt: &impl Abort, store: &mut Store<MemorySite, N>)
     assert!(rt; store.reopen(0) == Err(Refusal::NoFrame));
 }
 
-// Each call comes in its turn alone.
+// Up to its sync each call comes in its turn alone.
+fn check_first_turns<N: Start>(rt: &impl Abort, alloc: Global, store: &mut Store<MemorySite, N>)
+    requires { IsResting store.old 0 }
+    ensures { HasCome store.new Stage.Synced 0 }
+{
+    check_no_call(rt, store, Stage::Bodied);
+    check_no_call(rt, store, Stage::Synced);
+    check_no_call(rt, store, Stage::Gated);
+    check_no_reopen(rt, store);
+    write(alloc, store, 0).expect(rt, "room");
+    check_no_call(rt, store, Stage::Synced);
+    check_no_call(rt, store, Stage::Gated);
+    sync(store, 0).expect(rt, "no fault");
+}
+
+// And behind it.
+fn check_last_turns<N: Start>(rt: &impl Abort, store: &mut Store<MemorySite, N>)
+    requires { HasCome store.old Stage.Synced 0 }
+    ensures { IsSound store.new }
+{
+    check_no_call(rt, store, Stage::Bodied);
+    check_no_call(rt, store, Stage::Gated);
+    gate(store, 0).expect(rt, "no fault");
+    check_no_call(rt, store, Stage::Bodied);
+    check_no_call(rt, store, Stage::Synced);
+    settle(store, 0).expect(rt, "no fault");
+    check_no_reopen(rt, store);
+}
+
 fn check_out_of_turn<N: Start>(rt: &impl Abort, alloc: Global, mut store: Store<MemorySite, N>)
     requires { IsResting store 0 }
 {
-    check_no_sync(rt, &mut store);
-    check_no_gate(rt, &mut store);
-    check_no_settle(rt, &mut store);
-    check_no_reopen(rt, &mut store);
-    write(alloc, &mut store, 0).expect(rt, "room");
-    check_no_gate(rt, &mut store);
-    check_no_settle(rt, &mut store);
-    sync(&mut store, 0).expect(rt, "no fault");
-    check_no_sync(rt, &mut store);
-    check_no_settle(rt, &mut store);
-    gate(&mut store, 0).expect(rt, "no fault");
-    check_no_sync(rt, &mut store);
-    check_no_gate(rt, &mut store);
-    settle(&mut store, 0).expect(rt, "no fault");
-    check_no_reopen(rt, &mut store);
+    check_first_turns(rt, alloc, &mut store);
+    check_last_turns(rt, &mut store);
     let Ended { site, trail } = store.end();
     assert!(rt; (trail.as_slice().len(), site.moment()) == (1, 10));
 }
@@ -184,14 +205,14 @@ fn check_room<N: Start>(rt: &impl Abort, alloc: Global, mut store: Store<MemoryS
     assert!(rt; trail.as_slice().is_empty());
     if room {
         assert!(rt; made == Ok(()));
-        return;
+    } else {
+        let full = BodyRefusal::Full {
+            partition: 0,
+            length: 88,
+        };
+        assert!(rt; made == Err(full));
+        check_content(rt, alloc, &site, 0);
     }
-    let full = BodyRefusal::Full {
-        partition: 0,
-        length: 88,
-    };
-    assert!(rt; made == Err(full));
-    assert!(rt; site.content(alloc, FILE).expect(rt, "memory").as_slice() == EMPTY.as_slice());
 }
 
 fn check_disk_fault<N: Start>(
