@@ -2,16 +2,16 @@
 
 ghost use Rattle.std.specs.Prelude.{◌≡◌, ◌≤◌, IfOk, length};
 ghost use Rattle.std.specs.List.{All};
-ghost use Rattle.dura_value.specs.Views.{message_of};
+ghost use Rattle.dura_value.specs.Views.{message_of, body_of};
 ghost use Rattle.dura_codec.specs.Spelling.{CanSpellBody};
 ghost use Rattle.part_items.specs.Plain.{item_of, items_of, entry_of, entries_of};
 ghost use Rattle.part_items.specs.Spelling.{CanSpellItem, CanSpellEntry, CanSpellFrame};
 
 use dura_value::{
-    Body, Id, Key, Message, Name, Outcome, ReadError, Reply, Scalar, Scalars, Text, Value,
+    Body, Id, Message, Name, Outcome, ReadError, Reply, Scalar, Scalars, Text, Value,
 };
 use part_items::{Entry, Frame, Item, Items};
-use std::alloc::{AllocError, Global};
+use std::alloc::Global;
 use with_value::with;
 
 fn make_text(alloc: Global, size: usize) -> Result<Text, ReadError> {
@@ -19,57 +19,50 @@ fn make_text(alloc: Global, size: usize) -> Result<Text, ReadError> {
     Text::read(alloc, &bytes).map_err(|_| ReadError::Memory)
 }
 
-fn make_client(alloc: Global) -> Result<Id, AllocError> {
-    Ok(Id::Client(Name::of(alloc, b"c0")?))
-}
+/// The client that asks, the flow that it asks for, and the entity that the flow asks.
+const CLIENT: &[u8] = b"#c0";
 
-fn make_flow(alloc: Global) -> Result<Id, AllocError> {
-    Ok(Id::Flow(Name::of(alloc, b"Work")?, Key::of(alloc, b"w1")?))
-}
+const FLOW: &[u8] = b"Work/w1";
 
-fn make_entity(alloc: Global) -> Result<Id, AllocError> {
-    Ok(Id::Entity(Name::of(alloc, b"Pot")?, Key::of(alloc, b"p0")?))
+const ENTITY: &[u8] = b"@Pot/p0";
+
+fn make_message(alloc: Global, from: &[u8], to: &[u8], body: Body) -> Result<Message, ReadError>
+    requires { CanSpellBody (body_of body) }
+    ensures { IfOk result (λ m. CanSpellBody (message_of m).body) }
+{
+    let (from, body) = with(Id::read(alloc, from), body)?;
+    let ((to, from), body) = with(with(Id::read(alloc, to), from), body)?;
+    Ok(Message { from, to, body })
 }
 
 fn make_start(alloc: Global, number: u32) -> Result<Message, ReadError>
     ensures { IfOk result (λ m. CanSpellBody (message_of m).body) }
 {
     let pair = Scalars::pair(alloc, Scalar::Int(number as i64), Scalar::Int(-2))?;
-    let (from, pair) = with(make_client(alloc), pair)?;
-    let ((to, from), pair) = with(with(make_flow(alloc), from), pair)?;
-    Ok(Message {
-        from,
-        to,
-        body: Body::Start(Value::List(pair), Reply::Request(number)),
-    })
+    let body = Body::Start(Value::List(pair), Reply::Request(number));
+    make_message(alloc, CLIENT, FLOW, body)
 }
 
 fn make_raise(alloc: Global, number: u32, size: usize) -> Result<Message, ReadError>
     ensures { IfOk result (λ m. CanSpellBody (message_of m).body) }
 {
+    let event = Name::of(alloc, b"go")?;
     let text = make_text(alloc, size)?;
-    let (from, text) = with(make_client(alloc), text)?;
-    let ((to, from), text) = with(with(make_flow(alloc), from), text)?;
-    let ((event, from), to) = with(with(Name::of(alloc, b"go"), from), to)?;
-    Ok(Message {
-        from,
-        to,
-        body: Body::Raise(event, Value::Text(text), number),
-    })
+    make_message(
+        alloc,
+        CLIENT,
+        FLOW,
+        Body::Raise(event, Value::Text(text), number),
+    )
 }
 
 fn make_operate(alloc: Global, number: u32, size: usize) -> Result<Message, ReadError>
     ensures { IfOk result (λ m. CanSpellBody (message_of m).body) }
 {
+    let operation = Name::of(alloc, b"put")?;
     let text = make_text(alloc, size)?;
-    let (from, text) = with(make_flow(alloc), text)?;
-    let ((to, from), text) = with(with(make_entity(alloc), from), text)?;
-    let ((operation, from), to) = with(with(Name::of(alloc, b"put"), from), to)?;
-    Ok(Message {
-        from,
-        to,
-        body: Body::Op(operation, Value::Text(text), Reply::Task(number)),
-    })
+    let body = Body::Op(operation, Value::Text(text), Reply::Task(number));
+    make_message(alloc, FLOW, ENTITY, body)
 }
 
 fn make_item(alloc: Global, number: u32, size: usize) -> Result<Item, ReadError>
@@ -81,16 +74,16 @@ fn make_item(alloc: Global, number: u32, size: usize) -> Result<Item, ReadError>
         1 => Ok(Item::Took(make_raise(alloc, number, size)?)),
         2 => Ok(Item::Got(1, 2, 3, stamp, make_operate(alloc, number, size)?)),
         3 => {
-            let from = make_flow(alloc)?;
-            let (to, from) = with(make_entity(alloc), from)?;
+            let from = Id::read(alloc, FLOW)?;
+            let (to, from) = with(Id::read(alloc, ENTITY), from)?;
             Ok(Item::Ran(from, to, stamp))
         }
         4 => {
             let text = make_text(alloc, size)?;
-            let (id, text) = with(make_flow(alloc), text)?;
+            let (id, text) = with(Id::read(alloc, FLOW), text)?;
             Ok(Item::Done(id, number, Outcome::Done(Value::Text(text))))
         }
-        _ => Ok(Item::Fired(make_flow(alloc)?, number, stamp)),
+        _ => Ok(Item::Fired(Id::read(alloc, FLOW)?, number, stamp)),
     }
 }
 

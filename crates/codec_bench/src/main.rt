@@ -75,21 +75,36 @@ fn write_often(alloc: Global, call: &Call) -> Result<()> {
     Ok(())
 }
 
-fn read_often(alloc: Global, call: &Call) -> Result<()> {
-    let frame = make_frame(alloc, call.size)?;
-    let mut bytes = Vec::new(alloc);
-    write_frame(&mut bytes, &frame)?;
-    for _ in 0..call.times {
-        let read = read_frame(alloc, &bytes)?;
-        if read.entries().len() < 64 {
+fn repeat_read(alloc: Global, bytes: &[u8], times: u32) -> Result<()> {
+    for _ in 0..times {
+        let read = read_frame(alloc, bytes)?;
+        let length = read.entries().len();
+        drop(read);
+        if length < 64 {
             bail!("too little was read");
         }
     }
     Ok(())
 }
 
+fn write_once(alloc: Global, call: &Call) -> Result<Vec<u8>> {
+    let frame = make_frame(alloc, call.size)?;
+    let mut bytes = Vec::new(alloc);
+    let written = write_frame(&mut bytes, &frame);
+    drop(frame);
+    written?;
+    Ok(bytes)
+}
+
+fn read_often(alloc: Global, call: &Call) -> Result<()> {
+    let bytes = write_once(alloc, call)?;
+    repeat_read(alloc, &bytes, call.times)
+}
+
 fn json_write_often(alloc: Global, call: &Call) -> Result<()> {
-    let value = Value::from_str(alloc, make_json(alloc, call.size)?.as_str())?;
+    let text = make_json(alloc, call.size)?;
+    let value = Value::from_str(alloc, text.as_str())?;
+    drop(text);
     for _ in 0..call.times {
         let text = value.to_string(alloc)?;
         if text.is_empty() {
@@ -103,31 +118,39 @@ fn json_read_often(alloc: Global, call: &Call) -> Result<()> {
     let text = make_json(alloc, call.size)?;
     for _ in 0..call.times {
         let read = Value::from_str(alloc, text.as_str())?;
-        if read.is_null() {
+        let is_null = read.is_null();
+        drop(read);
+        if is_null {
             bail!("too little was read");
         }
     }
     Ok(())
 }
 
-fn main(rt: HostRuntime) -> Result<()> {
-    let alloc = rt.alloc();
-    let call = read_call(&rt)?;
+fn do_each(alloc: Global, call: &Call) -> Result<()> {
+    write_often(alloc, call)?;
+    read_often(alloc, call)?;
+    json_write_often(alloc, call)?;
+    json_read_often(alloc, call)
+}
+
+fn do_call(alloc: Global, call: &Call) -> Result<()> {
     match call.kind {
-        Kind::All => {
-            write_often(alloc, &call)?;
-            read_often(alloc, &call)?;
-            json_write_often(alloc, &call)?;
-            json_read_often(alloc, &call)?;
-        }
+        Kind::All => do_each(alloc, call),
         Kind::Make => {
-            let _frame = make_frame(alloc, call.size)?;
+            drop(make_frame(alloc, call.size)?);
+            Ok(())
         }
-        Kind::Write => write_often(alloc, &call)?,
-        Kind::Read => read_often(alloc, &call)?,
-        Kind::JsonWrite => json_write_often(alloc, &call)?,
-        Kind::JsonRead => json_read_often(alloc, &call)?,
+        Kind::Write => write_often(alloc, call),
+        Kind::Read => read_often(alloc, call),
+        Kind::JsonWrite => json_write_often(alloc, call),
+        Kind::JsonRead => json_read_often(alloc, call),
     }
+}
+
+fn main(rt: HostRuntime) -> Result<()> {
+    let call = read_call(&rt)?;
+    do_call(rt.alloc(), &call)?;
     println!(rt; "ok")?;
     Ok(())
 }

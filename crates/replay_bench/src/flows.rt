@@ -46,7 +46,9 @@ pub fn make_flows(alloc: Global) -> Result<Flows> {
 /// The body of the flow of this name.
 pub fn find_body<'f>(alloc: Global, flows: &'f Flows, name: &str) -> Result<&'f [Stmt]> {
     let name = Name::read(alloc, name.as_bytes())?;
-    match flows.body_of(&name) {
+    let body = flows.body_of(&name);
+    drop(name);
+    match body {
         Some(body) => Ok(body),
         None => bail!("no such flow"),
     }

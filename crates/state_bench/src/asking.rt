@@ -5,6 +5,7 @@ use dura_value::{Answer, Body, Id, Message, Outcome, Reply, Scalar, Scalars, Val
 use part_items::Item;
 use part_steps::PartState;
 use std::alloc::Global;
+use with_value::with;
 
 /// What is added to the number of each instance.
 const ADDED: i64 = 3;
@@ -48,17 +49,15 @@ fn instance_of(alloc: Global, number: u32) -> Result<Id> {
 
 /// A request for an instance.
 fn request(alloc: Global, crowd: Crowd, number: u32, body: Body) -> Result<Item> {
-    Ok(Item::Took(Message {
-        from: client_of(alloc, crowd, number)?,
-        to: instance_of(alloc, number)?,
-        body,
-    }))
+    let (from, body) = with(client_of(alloc, crowd, number), body)?;
+    let ((to, from), body) = with(with(instance_of(alloc, number), from), body)?;
+    Ok(Item::Took(Message { from, to, body }))
 }
 
 /// The start of an instance.
 pub fn start(alloc: Global, crowd: Crowd, number: u32) -> Result<Item> {
-    let parts = Scalars::pair(alloc, Scalar::Int(number as i64), Scalar::Int(ADDED))?;
     let reply = Reply::Request(first_request(crowd, number)?);
+    let parts = Scalars::pair(alloc, Scalar::Int(number as i64), Scalar::Int(ADDED))?;
     request(alloc, crowd, number, Body::Start(Value::List(parts), reply))
 }
 
@@ -69,13 +68,13 @@ pub fn wait(alloc: Global, crowd: Crowd, number: u32) -> Result<Item> {
 }
 
 /// The sum of the two integers that an activity was asked for.
-fn sum_of(argument: &Value) -> Result<Value> {
+fn sum_of(argument: &Value) -> Result<i64> {
     let Value::List(parts) = argument else {
         bail!("not a list");
     };
     match parts.as_slice() {
         [Scalar::Int(first), Scalar::Int(second)] => match first.checked_add(*second) {
-            Some(sum) => Ok(Value::Int(sum)),
+            Some(sum) => Ok(sum),
             None => bail!("no sum"),
         },
         _ => bail!("not two integers"),
@@ -88,19 +87,21 @@ pub fn end(state: &PartState) -> Result<Item> {
         bail!("nothing is pending");
     };
     let Some(activity) = state.activity(id, task) else {
-        bail!("no activity of {id:?}");
+        bail!("the pending activity is not there");
     };
     let sum = sum_of(&activity.argument)?;
-    Ok(Item::Done(id.clone()?, task, Outcome::Done(sum)))
+    Ok(Item::Done(id.clone()?, task, Outcome::Done(Value::Int(sum))))
 }
 
 /// Whether the client of an instance was told its start and its sum.
 pub fn is_answered(alloc: Global, state: &PartState, crowd: Crowd, number: u32) -> Result<bool> {
-    let client = client_of(alloc, crowd, number)?;
     let first = first_request(crowd, number)?;
+    let client = client_of(alloc, crowd, number)?;
     let told = match state.answer(&client, first.saturating_add(1)) {
         Some(Answer::Done(Value::Int(sum))) => *sum == number as i64 + ADDED,
         _ => false,
     };
-    Ok(told && matches!(state.answer(&client, first), Some(Answer::Started)))
+    let started = matches!(state.answer(&client, first), Some(Answer::Started));
+    drop(client);
+    Ok(told && started)
 }

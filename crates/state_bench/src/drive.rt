@@ -9,6 +9,7 @@ use flow_syntax::Flows;
 use part_items::Item;
 use part_steps::{PartState, Verdict};
 use std::alloc::Global;
+use with_value::with;
 
 /// The only partition, in its first entry.
 pub fn begin(alloc: Global) -> PartState
@@ -26,9 +27,33 @@ fn apply(alloc: Global, flows: &Flows, state: PartState, item: &Item) -> Result<
     ensures begun { IfOk result (λ state. 0 < (state_of state).position) }
 {
     match state.apply(alloc, flows, item)? {
-        Verdict::Accepted(state, _) => Ok(state),
-        Verdict::Refused(_) => bail!("refused: {item:?}"),
+        Verdict::Accepted(state, outputs) => {
+            drop(outputs);
+            Ok(state)
+        }
+        Verdict::Refused(state) => {
+            drop(state);
+            bail!("an item was refused")
+        }
     }
+}
+
+/// An item is accepted, if it was made, and let go.
+fn apply_made(
+    alloc: Global,
+    flows: &Flows,
+    state: PartState,
+    made: Result<Item>,
+) -> Result<PartState>
+    requires sound { IsSound state }
+    requires begun { 0 < (state_of state).position }
+    ensures sound { IfOk result (λ state. IsSound state) }
+    ensures begun { IfOk result (λ state. 0 < (state_of state).position) }
+{
+    let (item, state) = with(made, state)?;
+    let next = apply(alloc, flows, state, &item);
+    drop(item);
+    next
 }
 
 /// An instance is started and waited for.
@@ -44,9 +69,8 @@ fn ask(
     ensures sound { IfOk result (λ state. IsSound state) }
     ensures begun { IfOk result (λ state. 0 < (state_of state).position) }
 {
-    let state = apply(alloc, flows, state, &start(alloc, crowd, number)?)?;
-    let state = apply(alloc, flows, state, &wait(alloc, crowd, number)?)?;
-    Ok(state)
+    let state = apply_made(alloc, flows, state, start(alloc, crowd, number))?;
+    apply_made(alloc, flows, state, wait(alloc, crowd, number))
 }
 
 /// The instances from one number up to another are started and waited for.
@@ -77,10 +101,8 @@ fn finish(alloc: Global, flows: &Flows, state: PartState) -> Result<PartState>
     ensures sound { IfOk result (λ state. IsSound state) }
     ensures begun { IfOk result (λ state. 0 < (state_of state).position) }
 {
-    let item = end(&state)?;
-    let next = apply(alloc, flows, state, &item);
-    drop(item);
-    next
+    let item = end(&state);
+    apply_made(alloc, flows, state, item)
 }
 
 /// Each activity comes to its end.
@@ -104,7 +126,8 @@ fn step(alloc: Global, flows: &Flows, state: PartState, now: u64) -> Result<(Par
     ensures sound { IfOk result (λ both. IsSound both.0) }
     ensures begun { IfOk result (λ both. 0 < (state_of both.0).position) }
 {
-    match state.enabled(now)? {
+    let (enabled, state) = with(state.enabled(now), state)?;
+    match enabled {
         Some(item) => {
             let next = apply(alloc, flows, state, &item);
             drop(item);
@@ -149,8 +172,7 @@ fn run_wave(
     let state = ask_all(alloc, flows, state, crowd, first, end)?;
     let state = settle(alloc, flows, state, 1)?;
     let state = finish_all(alloc, flows, state, end.saturating_sub(first))?;
-    let state = settle(alloc, flows, state, 2)?;
-    Ok(state)
+    settle(alloc, flows, state, 2)
 }
 
 /// All instances are started, run and waited for, so many at a time.
@@ -161,6 +183,7 @@ pub fn run_waves(alloc: Global, flows: &Flows, state: PartState, crowd: Crowd) -
     ensures begun { IfOk result (λ state. 0 < (state_of state).position) }
 {
     let Some(waves) = crowd.instances.checked_div(crowd.flight) else {
+        drop(state);
         bail!("none at a time");
     };
     let mut state = state;

@@ -6,6 +6,8 @@
 //! - `drive` applies items, and `asking` makes them.
 #![tactic(auto)]
 
+ghost use Rattle.part_steps.specs.States.{IsSound};
+
 mod asking;
 mod drive;
 
@@ -21,8 +23,13 @@ use std::env;
 /// A sum, by one activity.
 const SUM: &[u8] = br#"{"flows":{"Sum":[["call","x","add",{"v":"arg"}],["return",{"v":"x"}]]}}"#;
 
-/// Whether each client has its answers.
-fn check_all(alloc: Global, state: &PartState, crowd: Crowd) -> Result<()> {
+/// Nothing is possible by itself any more, and each client has its answers.
+fn check_all(alloc: Global, state: &PartState, crowd: Crowd) -> Result<()>
+    requires { IsSound state.now }
+{
+    if !state.is_quiet() {
+        bail!("something is still possible");
+    }
     for number in 0..crowd.instances {
         if !is_answered(alloc, state, crowd, number)? {
             bail!("a wrong answer of instance {number}");
@@ -34,39 +41,70 @@ fn check_all(alloc: Global, state: &PartState, crowd: Crowd) -> Result<()> {
 /// So many instances are started, run and waited for in one state.
 fn run_all(alloc: Global, flows: &Flows, crowd: Crowd) -> Result<()> {
     let state = run_waves(alloc, flows, begin(alloc), crowd)?;
-    if !state.is_quiet() {
-        bail!("something is still possible");
-    }
-    check_all(alloc, &state, crowd)
+    let checked = check_all(alloc, &state, crowd);
+    drop(state);
+    checked
 }
 
-fn main(rt: HostRuntime) -> Result<()> {
-    let alloc = rt.alloc();
-    let flows = read_flows(alloc, SUM)?;
-    let mut words = env::args(&rt)?.skip(1);
-    let (times, crowd) = match (words.next(), words.next(), words.next(), words.next()) {
+/// They are so many times, each time in a state of its own.
+fn run_often(alloc: Global, flows: &Flows, crowd: Crowd, times: u32) -> Result<()> {
+    for _ in 0..times {
+        run_all(alloc, flows, crowd)?;
+    }
+    Ok(())
+}
+
+/// How often, and how many instances and clients.
+fn call_of(instances: &str, times: &str, clients: &str, flight: &str) -> Result<(u32, Crowd)> {
+    let times = times.parse::<u32>()?;
+    let crowd = Crowd {
+        instances: instances.parse::<u32>()?,
+        clients: clients.parse::<u32>()?,
+        flight: flight.parse::<u32>()?,
+    };
+    Ok((times, crowd))
+}
+
+/// What the words say, or a little.
+fn read_call(rt: &HostRuntime) -> Result<(u32, Crowd)> {
+    let mut words = env::args(rt)?.skip(1);
+    let instances = words.next();
+    let times = words.next();
+    let clients = words.next();
+    let flight = words.next();
+    drop(words);
+    let call = match (&instances, &times, &clients, &flight) {
         (Some(instances), Some(times), Some(clients), Some(flight)) => {
-            (
-                times.parse::<u32>()?,
-                Crowd {
-                    instances: instances.parse::<u32>()?,
-                    clients: clients.parse::<u32>()?,
-                    flight: flight.parse::<u32>()?,
-                },
+            call_of(
+                instances.as_str(),
+                times.as_str(),
+                clients.as_str(),
+                flight.as_str(),
             )
         }
-        _ => (
+        _ => Ok((
             2,
             Crowd {
                 instances: 10,
                 clients: 4,
                 flight: 4,
             },
-        ),
+        )),
     };
-    for _ in 0..times {
-        run_all(alloc, &flows, crowd)?;
-    }
+    drop(flight);
+    drop(clients);
+    drop(times);
+    drop(instances);
+    call
+}
+
+fn main(rt: HostRuntime) -> Result<()> {
+    let alloc = rt.alloc();
+    let (times, crowd) = read_call(&rt)?;
+    let flows = read_flows(alloc, SUM)?;
+    let ran = run_often(alloc, &flows, crowd, times);
+    drop(flows);
+    ran?;
     println!(rt; "ok")?;
     Ok(())
 }
