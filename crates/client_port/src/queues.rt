@@ -1,6 +1,6 @@
 //! Each client's requests.
 
-ghost use Rattle.std.specs.Prelude.{◌≡◌, ◌<◌, [], ◌∷◌, length, map, option_map, Some, None, IfOk, OnOk, IfSome};
+ghost use Rattle.std.specs.Prelude.{◌≡◌, ◌<◌, [], ◌∷◌, ◌++◌, length, map, option_map, Some, None, IfOk, OnOk, IfSome};
 ghost use Rattle.std.specs.List.{position_from};
 ghost use Rattle.client_port.specs.Places.{all_of, Stands};
 ghost use Rattle.client_port.specs.Ports.{all_due, at_client, first_due, is_of, queues_of, with_request, with_said};
@@ -10,6 +10,7 @@ ghost use Rattle.request_reader.specs.Line.{request_of};
 use dura_value::{Name, Request};
 use std::alloc::{AllocError, Global};
 use std::collections::BTreeMap;
+use with_value::with;
 
 /// A client's requests in their order.
 #[derive(Drop)]
@@ -58,10 +59,20 @@ pub(crate) fn all_clients(alloc: Global, queues: &[Queue]) -> Result<Vec<Name>, 
     ensures { IfOk result (λ names. names.items ≡ map (λ q. q.client) (map queue_of queues.now)) }
 {
     let mut names = Vec::new(alloc);
-    for queue in queues {
-        names.push(copy_of(&queue.client)?)?;
-    }
+    let added = add_clients(&mut names, queues);
+    let (_, names) = with(added, names)?;
     Ok(names)
+}
+
+/// The clients of the queues come behind the others.
+fn add_clients(names: &mut Vec<Name>, queues: &[Queue]) -> Result<(), AllocError>
+    ensures { OnOk result (names.new.items ≡ names.old.items ++ map (λ q. q.client) (map queue_of queues.now)) }
+{
+    for queue in queues {
+        let name = copy_of(&queue.client)?;
+        names.push(name)?;
+    }
+    Ok(())
 }
 
 /// One more was said, where there is one.
@@ -141,9 +152,9 @@ impl Queues {
         ensures stands { OnOk result (Stands self.new) }
     {
         let place = self.all.as_slice().len();
-        let client = copy_of(&request.client)?;
-        self.places.insert(client, place)?;
-        let client = copy_of(&request.client)?;
+        let (client, request) = with(copy_of(&request.client), request)?;
+        let (_, request) = with(self.places.insert(client, place), request)?;
+        let (client, request) = with(copy_of(&request.client), request)?;
         let queue = queue_with(alloc, client, request)?;
         self.all.push(queue)?;
         Ok(())

@@ -9,7 +9,7 @@ use dura_value::NUMBER_LIMIT;
 use std::alloc::{AllocError, AllocFailed};
 
 /// Why a reader stopped.
-#[derive(Debug, Drop)]
+#[derive(Drop)]
 pub enum FieldError {
     /// So many bytes are left from the first field on that can't be read or passes a limit.
     Bad { left: usize },

@@ -19,18 +19,22 @@ pub fn take_id(alloc: Global, bytes: &[u8]) -> Result<(Id, &[u8]), FieldError>
     match tag {
         FLOW => {
             let (flow, rest) = take_name(alloc, rest)?;
-            let (key, rest) = take_key(alloc, rest)?;
-            Ok((Id::Flow(flow, key), rest))
+            match take_key(alloc, rest) {
+                Ok((key, rest)) => Ok((Id::Flow(flow, key), rest)),
+                Err(error) => Err(error),
+            }
         }
         ENTITY => {
             let (class, rest) = take_name(alloc, rest)?;
-            let (key, rest) = take_key(alloc, rest)?;
-            Ok((Id::Entity(class, key), rest))
+            match take_key(alloc, rest) {
+                Ok((key, rest)) => Ok((Id::Entity(class, key), rest)),
+                Err(error) => Err(error),
+            }
         }
-        CLIENT => {
-            let (name, rest) = take_name(alloc, rest)?;
-            Ok((Id::Client(name), rest))
-        }
+        CLIENT => match take_name(alloc, rest) {
+            Ok((name, rest)) => Ok((Id::Client(name), rest)),
+            Err(error) => Err(error),
+        },
         _ => Err(FieldError::Bad { left: bytes.len() }),
     }
 }
@@ -43,14 +47,14 @@ pub fn take_reply(bytes: &[u8]) -> Result<(Reply, &[u8]), FieldError>
     let (tag, rest) = take_u8(bytes)?;
     match tag {
         NOBODY => Ok((Reply::None, rest)),
-        TASK => {
-            let (number, rest) = take_u32(rest)?;
-            Ok((Reply::Task(number), rest))
-        }
-        REQUEST => {
-            let (number, rest) = take_request_number(rest)?;
-            Ok((Reply::Request(number), rest))
-        }
+        TASK => match take_u32(rest) {
+            Ok((number, rest)) => Ok((Reply::Task(number), rest)),
+            Err(error) => Err(error),
+        },
+        REQUEST => match take_request_number(rest) {
+            Ok((number, rest)) => Ok((Reply::Request(number), rest)),
+            Err(error) => Err(error),
+        },
         _ => Err(FieldError::Bad { left: bytes.len() }),
     }
 }

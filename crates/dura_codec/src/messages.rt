@@ -41,18 +41,18 @@ pub fn take_answer(alloc: Global, bytes: &[u8]) -> Result<(Answer, &[u8]), Field
 {
     let (tag, rest) = take_u8(bytes)?;
     match tag {
-        DONE => {
-            let (value, rest) = take_value(alloc, rest)?;
-            Ok((Answer::Done(value), rest))
-        }
-        FAILED => {
-            let (text, rest) = take_text(alloc, rest)?;
-            Ok((Answer::Failed(text), rest))
-        }
-        VALUE => {
-            let (value, rest) = take_value(alloc, rest)?;
-            Ok((Answer::Value(value), rest))
-        }
+        DONE => match take_value(alloc, rest) {
+            Ok((value, rest)) => Ok((Answer::Done(value), rest)),
+            Err(error) => Err(error),
+        },
+        FAILED => match take_text(alloc, rest) {
+            Ok((text, rest)) => Ok((Answer::Failed(text), rest)),
+            Err(error) => Err(error),
+        },
+        VALUE => match take_value(alloc, rest) {
+            Ok((value, rest)) => Ok((Answer::Value(value), rest)),
+            Err(error) => Err(error),
+        },
         _ => match word_of(tag) {
             Some(answer) => Ok((answer, rest)),
             None => Err(FieldError::Bad { left: bytes.len() }),
@@ -67,14 +67,14 @@ pub fn take_outcome(alloc: Global, bytes: &[u8]) -> Result<(Outcome, &[u8]), Fie
 {
     let (tag, rest) = take_u8(bytes)?;
     match tag {
-        DONE => {
-            let (value, rest) = take_value(alloc, rest)?;
-            Ok((Outcome::Done(value), rest))
-        }
-        FAILED => {
-            let (text, rest) = take_text(alloc, rest)?;
-            Ok((Outcome::Failed(text), rest))
-        }
+        DONE => match take_value(alloc, rest) {
+            Ok((value, rest)) => Ok((Outcome::Done(value), rest)),
+            Err(error) => Err(error),
+        },
+        FAILED => match take_text(alloc, rest) {
+            Ok((text, rest)) => Ok((Outcome::Failed(text), rest)),
+            Err(error) => Err(error),
+        },
         _ => Err(FieldError::Bad { left: bytes.len() }),
     }
 }
@@ -85,8 +85,10 @@ fn take_spot(alloc: Global, bytes: &[u8]) -> Result<(Spot, &[u8]), FieldError>
     ensures { Takes spot_of result (spot_at bytes.now) }
 {
     let (class, rest) = take_name(alloc, bytes)?;
-    let (key, rest) = take_key(alloc, rest)?;
-    Ok((Spot { class, key }, rest))
+    match take_key(alloc, rest) {
+        Ok((key, rest)) => Ok((Spot { class, key }, rest)),
+        Err(error) => Err(error),
+    }
 }
 
 /// So many entities, one behind the other.
@@ -123,8 +125,10 @@ fn take_lock(alloc: Global, bytes: &[u8]) -> Result<(Body, &[u8]), FieldError>
     let ((task, rest), id) = with(take_u32(rest), id)?;
     let ((count, rest), id) = with(take_spot_count(rest), id)?;
     let ((spots, rest), id) = with(take_spots(alloc, count, rest), id)?;
-    let ((index, rest), id) = with(take_u8(rest), id)?;
-    Ok((Body::Lock(id, task, Spots::of(spots), index), rest))
+    match with(take_u8(rest), id) {
+        Ok(((index, rest), id)) => Ok((Body::Lock(id, task, Spots::of(spots), index), rest)),
+        Err(error) => Err(error),
+    }
 }
 
 #[tactic(auto, unfolding(crate::specs::Grammar::start_at))]
@@ -132,8 +136,10 @@ fn take_start(alloc: Global, bytes: &[u8]) -> Result<(Body, &[u8]), FieldError>
     ensures { Takes body_of result (start_at bytes.now) }
 {
     let (argument, rest) = take_value(alloc, bytes)?;
-    let (reply, rest) = take_reply(rest)?;
-    Ok((Body::Start(argument, reply), rest))
+    match with(take_reply(rest), argument) {
+        Ok(((reply, rest), argument)) => Ok((Body::Start(argument, reply), rest)),
+        Err(error) => Err(error),
+    }
 }
 
 #[tactic(auto, unfolding(crate::specs::Grammar::raise_at))]
@@ -142,24 +148,30 @@ fn take_raise(alloc: Global, bytes: &[u8]) -> Result<(Body, &[u8]), FieldError>
 {
     let (event, rest) = take_name(alloc, bytes)?;
     let (value, rest) = take_value(alloc, rest)?;
-    let (number, rest) = take_request_number(rest)?;
-    Ok((Body::Raise(event, value, number), rest))
+    match with(take_request_number(rest), value) {
+        Ok(((number, rest), value)) => Ok((Body::Raise(event, value, number), rest)),
+        Err(error) => Err(error),
+    }
 }
 
 #[tactic(auto, unfolding(crate::specs::Grammar::query_at))]
 fn take_query(bytes: &[u8]) -> Result<(Body, &[u8]), FieldError>
     ensures { Takes body_of result (query_at bytes.now) }
 {
-    let (number, rest) = take_request_number(bytes)?;
-    Ok((Body::Query(number), rest))
+    match take_request_number(bytes) {
+        Ok((number, rest)) => Ok((Body::Query(number), rest)),
+        Err(error) => Err(error),
+    }
 }
 
 #[tactic(auto, unfolding(crate::specs::Grammar::wait_at))]
 fn take_wait(bytes: &[u8]) -> Result<(Body, &[u8]), FieldError>
     ensures { Takes body_of result (wait_at bytes.now) }
 {
-    let (number, rest) = take_request_number(bytes)?;
-    Ok((Body::Wait(number), rest))
+    match take_request_number(bytes) {
+        Ok((number, rest)) => Ok((Body::Wait(number), rest)),
+        Err(error) => Err(error),
+    }
 }
 
 #[tactic(auto, unfolding(crate::specs::Grammar::result_at))]
@@ -167,8 +179,10 @@ fn take_result(alloc: Global, bytes: &[u8]) -> Result<(Body, &[u8]), FieldError>
     ensures { Takes body_of result (result_at bytes.now) }
 {
     let (reply, rest) = take_reply(bytes)?;
-    let (answer, rest) = take_answer(alloc, rest)?;
-    Ok((Body::Result(reply, answer), rest))
+    match take_answer(alloc, rest) {
+        Ok((answer, rest)) => Ok((Body::Result(reply, answer), rest)),
+        Err(error) => Err(error),
+    }
 }
 
 #[tactic(auto, unfolding(crate::specs::Grammar::operate_at))]
@@ -177,16 +191,20 @@ fn take_operate(alloc: Global, bytes: &[u8]) -> Result<(Body, &[u8]), FieldError
 {
     let (operation, rest) = take_name(alloc, bytes)?;
     let (argument, rest) = take_value(alloc, rest)?;
-    let (reply, rest) = take_reply(rest)?;
-    Ok((Body::Op(operation, argument, reply), rest))
+    match with(take_reply(rest), argument) {
+        Ok(((reply, rest), argument)) => Ok((Body::Op(operation, argument, reply), rest)),
+        Err(error) => Err(error),
+    }
 }
 
 #[tactic(auto, unfolding(crate::specs::Grammar::granted_at))]
 fn take_granted(bytes: &[u8]) -> Result<(Body, &[u8]), FieldError>
     ensures { Takes body_of result (granted_at bytes.now) }
 {
-    let (task, rest) = take_u32(bytes)?;
-    Ok((Body::Granted(task), rest))
+    match take_u32(bytes) {
+        Ok((task, rest)) => Ok((Body::Granted(task), rest)),
+        Err(error) => Err(error),
+    }
 }
 
 /// What a message says.
@@ -216,6 +234,8 @@ pub fn take_message(alloc: Global, bytes: &[u8]) -> Result<(Message, &[u8]), Fie
 {
     let (from, rest) = take_id(alloc, bytes)?;
     let ((to, rest), from) = with(take_id(alloc, rest), from)?;
-    let (((body, rest), from), to) = with(with(take_body(alloc, rest), from), to)?;
-    Ok((Message { from, to, body }, rest))
+    match with(with(take_body(alloc, rest), from), to) {
+        Ok((((body, rest), from), to)) => Ok((Message { from, to, body }, rest)),
+        Err(error) => Err(error),
+    }
 }

@@ -22,14 +22,14 @@ pub fn take_scalar(alloc: Global, bytes: &[u8]) -> Result<(Scalar, &[u8]), Field
         NULL => Ok((Scalar::Null, rest)),
         FALSE => Ok((Scalar::False, rest)),
         TRUE => Ok((Scalar::True, rest)),
-        INT => {
-            let (number, rest) = take_u64(rest)?;
-            Ok((Scalar::Int(number.cast_signed()), rest))
-        }
-        TEXT => {
-            let (text, rest) = take_text(alloc, rest)?;
-            Ok((Scalar::Text(text), rest))
-        }
+        INT => match take_u64(rest) {
+            Ok((number, rest)) => Ok((Scalar::Int(number.cast_signed()), rest)),
+            Err(error) => Err(error),
+        },
+        TEXT => match take_text(alloc, rest) {
+            Ok((text, rest)) => Ok((Scalar::Text(text), rest)),
+            Err(error) => Err(error),
+        },
         _ => Err(FieldError::Bad { left: bytes.len() }),
     }
 }
@@ -102,9 +102,14 @@ pub fn take_value(alloc: Global, bytes: &[u8]) -> Result<(Value, &[u8]), FieldEr
 {
     let (tag, rest) = take_u8(bytes)?;
     if tag == LIST {
-        let (scalars, behind) = take_scalars(alloc, rest)?;
-        return Ok((Value::List(scalars), behind));
+        match take_scalars(alloc, rest) {
+            Ok((scalars, behind)) => Ok((Value::List(scalars), behind)),
+            Err(error) => Err(error),
+        }
+    } else {
+        match take_scalar(alloc, bytes) {
+            Ok((scalar, behind)) => Ok((value_of(scalar), behind)),
+            Err(error) => Err(error),
+        }
     }
-    let (scalar, behind) = take_scalar(alloc, bytes)?;
-    Ok((value_of(scalar), behind))
 }

@@ -1,6 +1,6 @@
 //! Values, ids and messages to the end of bytes.
 
-ghost use Rattle.std.specs.Prelude.{◌≡◌, ◌≤◌, ◌++◌, ◌∷◌, OnOk, length};
+ghost use Rattle.std.specs.Prelude.{◌≡◌, ◌≤◌, ◌++◌, ◌∷◌, [], OnOk, length};
 ghost use Rattle.std.specs.List.{flat_map};
 ghost use Rattle.dura_value.specs.Views.{id_of, reply_of, answer_of, spot_of, spots_of, body_of, message_of};
 ghost use Rattle.dura_value.specs.Limits.{most_spots};
@@ -15,6 +15,12 @@ use crate::tags::{
 };
 use dura_value::{Answer, Body, Id, Key, Message, Name, Outcome, Reply, Scalar, Spot, Text, Value};
 use std::alloc::AllocError;
+
+fn write_byte(out: &mut Vec<u8>, byte: u8) -> Result<(), AllocError>
+    ensures { OnOk result (out.new.items ≡ out.old.items ++ byte ∷ []) }
+{
+    Ok(out.push(byte)?)
+}
 
 /// A name behind its length.
 pub fn write_name(out: &mut Vec<u8>, name: &Name) -> Result<(), AllocError>
@@ -47,9 +53,9 @@ fn write_scalar(out: &mut Vec<u8>, scalar: &Scalar) -> Result<(), AllocError>
     ensures { OnOk result (out.new.items ≡ out.old.items ++ spell_scalar scalar.now) }
 {
     match scalar {
-        Scalar::Null => Ok(out.push(NULL)?),
-        Scalar::False => Ok(out.push(FALSE)?),
-        Scalar::True => Ok(out.push(TRUE)?),
+        Scalar::Null => write_byte(out, NULL),
+        Scalar::False => write_byte(out, FALSE),
+        Scalar::True => write_byte(out, TRUE),
         Scalar::Int(n) => {
             out.push(INT)?;
             write_u64(out, n.cast_unsigned())
@@ -76,9 +82,9 @@ pub fn write_value(out: &mut Vec<u8>, value: &Value) -> Result<(), AllocError>
     ensures { OnOk result (out.new.items ≡ out.old.items ++ spell_value value.now) }
 {
     match value {
-        Value::Null => Ok(out.push(NULL)?),
-        Value::False => Ok(out.push(FALSE)?),
-        Value::True => Ok(out.push(TRUE)?),
+        Value::Null => write_byte(out, NULL),
+        Value::False => write_byte(out, FALSE),
+        Value::True => write_byte(out, TRUE),
         Value::Int(n) => {
             out.push(INT)?;
             write_u64(out, n.cast_unsigned())
@@ -123,7 +129,7 @@ pub fn write_reply(out: &mut Vec<u8>, reply: &Reply) -> Result<(), AllocError>
     ensures { OnOk result (out.new.items ≡ out.old.items ++ spell_reply (reply_of reply.now)) }
 {
     match reply {
-        Reply::None => Ok(out.push(NOBODY)?),
+        Reply::None => write_byte(out, NOBODY),
         Reply::Task(number) => {
             out.push(TASK)?;
             write_u32(out, *number)
@@ -149,13 +155,13 @@ pub fn write_answer(out: &mut Vec<u8>, answer: &Answer) -> Result<(), AllocError
             out.push(FAILED)?;
             write_text(out, text)
         }
-        Answer::Started => Ok(out.push(STARTED)?),
-        Answer::Exists => Ok(out.push(EXISTS)?),
-        Answer::Unknown => Ok(out.push(UNKNOWN)?),
-        Answer::Raised => Ok(out.push(RAISED)?),
-        Answer::Ended => Ok(out.push(ENDED)?),
-        Answer::None => Ok(out.push(MISSING)?),
-        Answer::Running => Ok(out.push(RUNNING)?),
+        Answer::Started => write_byte(out, STARTED),
+        Answer::Exists => write_byte(out, EXISTS),
+        Answer::Unknown => write_byte(out, UNKNOWN),
+        Answer::Raised => write_byte(out, RAISED),
+        Answer::Ended => write_byte(out, ENDED),
+        Answer::None => write_byte(out, MISSING),
+        Answer::Running => write_byte(out, RUNNING),
         Answer::Value(value) => {
             out.push(VALUE)?;
             write_value(out, value)
@@ -255,7 +261,7 @@ pub fn write_body(out: &mut Vec<u8>, body: &Body) -> Result<(), AllocError>
             out.push(GRANTED)?;
             write_u32(out, *task)
         }
-        Body::Release => Ok(out.push(RELEASE)?),
+        Body::Release => write_byte(out, RELEASE),
     }
 }
 

@@ -12,11 +12,11 @@ use Rattle.flow_values.specs.declared.faults.PartError.{PartError}
 use Rattle.flow_values.specs.declared.faults.PartError.TheVariants.{Misshapen, Memory}
 use Rattle.flow_values.proofs.Parts.{items_from, ends_then}
 use Rattle.flow_syntax.specs.declared.syntax.Stmt.{Stmt}
-use Rattle.flow_syntax.specs.Syntax.{Block, Expression, nothing, first_then}
+use Rattle.flow_syntax.specs.Syntax.{Block, Expression, Locked, nothing, first_then, if_then, lock_in, try, while}
 use Rattle.flow_syntax.specs.Views.{statement_of, block_of}
 use Rattle.flow_reader.specs.declared.words.Word.{Word}
 use Rattle.flow_reader.specs.declared.words.Word.TheVariants as words
-use Rattle.flow_reader.specs.Statements.{body_in, of_word, statement_in, statements_from, word_in}
+use Rattle.flow_reader.specs.Statements.{body_in, of_word, pairs_in, statement_in, statements_from, word_in}
 
 -- statements, and behind them further ones
 abbrev pub before_block : List Stmt → Block → Block
@@ -134,3 +134,30 @@ try_ends inside vs a b c error count at1 at2 at3 fails = rw (behind_three vs a b
 
 pub try_ends_variable : (inside : Bool) (vs : List Tree) (a b c : Tree) (body : Block) (error : PartError) → length vs ≡ 4 → a ≡ get_or vs 1 a → b ≡ get_or vs 2 b → c ≡ get_or vs 3 c → at (to_part 1) (body_in inside (view a)) ≡ Ok body → Fails error (at (to_part 2) (name_in (view b))) → Fails error (of_word inside words.Try (items_view (drop 1 vs)))
 try_ends_variable inside vs a b c body error count at1 at2 at3 read fails = rw (behind_three vs a b c count at1 at2 at3, read) (ends_then _ _ error fails)
+
+pub if_ends_no : (inside : Bool) (vs : List Tree) (a b c : Tree) (test : Expression) (yes_body : Block) (error : PartError) → length vs ≡ 4 → a ≡ get_or vs 1 a → b ≡ get_or vs 2 b → c ≡ get_or vs 3 c → at (to_part 1) (expression_in (view a)) ≡ Ok test → at (to_part 2) (body_in inside (view b)) ≡ Ok yes_body → Fails error (at (to_part 3) (body_in inside (view c))) → Fails error (of_word inside words.If (items_view (drop 1 vs)))
+if_ends_no inside vs a b c test yes_body error count at1 at2 at3 read read_yes fails = rw (behind_three vs a b c count at1 at2 at3, read, read_yes) (ends_then _ _ error fails)
+
+pub if_read : (inside : Bool) (vs : List Tree) (a b c : Tree) (test : Expression) (yes_body no_body : Block) → length vs ≡ 4 → a ≡ get_or vs 1 a → b ≡ get_or vs 2 b → c ≡ get_or vs 3 c → at (to_part 1) (expression_in (view a)) ≡ Ok test → at (to_part 2) (body_in inside (view b)) ≡ Ok yes_body → at (to_part 3) (body_in inside (view c)) ≡ Ok no_body → of_word inside words.If (items_view (drop 1 vs)) ≡ Ok (if_then test yes_body no_body)
+if_read inside vs a b c test yes_body no_body count at1 at2 at3 read read_yes read_no = rw (behind_three vs a b c count at1 at2 at3, read, read_yes, read_no) refl
+
+pub lock_ends : (inside : Bool) (vs : List Tree) (a b : Tree) (error : PartError) → length vs ≡ 3 → a ≡ get_or vs 1 a → b ≡ get_or vs 2 b → Fails error (at (to_part 1) (pairs_in (view a))) → Fails error (of_word inside words.Lock (items_view (drop 1 vs)))
+lock_ends inside vs a b error count at1 at2 fails = rw (behind_two vs a b count at1 at2) (ends_then _ _ error fails)
+
+pub lock_ends_body : (inside : Bool) (vs : List Tree) (a b : Tree) (pairs : List Locked) (error : PartError) → length vs ≡ 3 → a ≡ get_or vs 1 a → b ≡ get_or vs 2 b → at (to_part 1) (pairs_in (view a)) ≡ Ok pairs → Fails error (at (to_part 2) (body_in inside (view b))) → Fails error (of_word inside words.Lock (items_view (drop 1 vs)))
+lock_ends_body inside vs a b pairs error count at1 at2 read fails = rw (behind_two vs a b count at1 at2, read) (ends_then _ _ error fails)
+
+pub lock_read : (inside : Bool) (vs : List Tree) (a b : Tree) (pairs : List Locked) (body : Block) → length vs ≡ 3 → a ≡ get_or vs 1 a → b ≡ get_or vs 2 b → at (to_part 1) (pairs_in (view a)) ≡ Ok pairs → at (to_part 2) (body_in inside (view b)) ≡ Ok body → of_word inside words.Lock (items_view (drop 1 vs)) ≡ Ok (lock_in pairs body)
+lock_read inside vs a b pairs body count at1 at2 read read_body = rw (behind_two vs a b count at1 at2, read, read_body) refl
+
+pub while_ends_body : (inside : Bool) (vs : List Tree) (a b : Tree) (test : Expression) (error : PartError) → length vs ≡ 3 → a ≡ get_or vs 1 a → b ≡ get_or vs 2 b → at (to_part 1) (expression_in (view a)) ≡ Ok test → Fails error (at (to_part 2) (body_in inside (view b))) → Fails error (of_word inside words.While (items_view (drop 1 vs)))
+while_ends_body inside vs a b test error count at1 at2 read fails = rw (behind_two vs a b count at1 at2, read) (ends_then _ _ error fails)
+
+pub while_read : (inside : Bool) (vs : List Tree) (a b : Tree) (test : Expression) (body : Block) → length vs ≡ 3 → a ≡ get_or vs 1 a → b ≡ get_or vs 2 b → at (to_part 1) (expression_in (view a)) ≡ Ok test → at (to_part 2) (body_in inside (view b)) ≡ Ok body → of_word inside words.While (items_view (drop 1 vs)) ≡ Ok (while test body)
+while_read inside vs a b test body count at1 at2 read read_body = rw (behind_two vs a b count at1 at2, read, read_body) refl
+
+pub try_ends_handler : (inside : Bool) (vs : List Tree) (a b c : Tree) (body : Block) (variable : List ℕ) (error : PartError) → length vs ≡ 4 → a ≡ get_or vs 1 a → b ≡ get_or vs 2 b → c ≡ get_or vs 3 c → at (to_part 1) (body_in inside (view a)) ≡ Ok body → at (to_part 2) (name_in (view b)) ≡ Ok variable → Fails error (at (to_part 3) (body_in inside (view c))) → Fails error (of_word inside words.Try (items_view (drop 1 vs)))
+try_ends_handler inside vs a b c body variable error count at1 at2 at3 read read_name fails = rw (behind_three vs a b c count at1 at2 at3, read, read_name) (ends_then _ _ error fails)
+
+pub try_read : (inside : Bool) (vs : List Tree) (a b c : Tree) (body : Block) (variable : List ℕ) (handler : Block) → length vs ≡ 4 → a ≡ get_or vs 1 a → b ≡ get_or vs 2 b → c ≡ get_or vs 3 c → at (to_part 1) (body_in inside (view a)) ≡ Ok body → at (to_part 2) (name_in (view b)) ≡ Ok variable → at (to_part 3) (body_in inside (view c)) ≡ Ok handler → of_word inside words.Try (items_view (drop 1 vs)) ≡ Ok (try body variable handler)
+try_read inside vs a b c body variable handler count at1 at2 at3 read read_name read_handler = rw (behind_three vs a b c count at1 at2 at3, read, read_name, read_handler) refl

@@ -16,6 +16,7 @@ use flow_syntax::{Locked, Stmt};
 use flow_values::{PartError, Step, expression_at, misshapen, name_at, under};
 use json_tree::Tree;
 use std::alloc::Global;
+use with_value::with;
 
 /// A class and what gives a key.
 #[tactic(auto, using(flow_values::proofs::Parts::ends_then, crate::proofs::Pairs::locked_there, crate::proofs::Pairs::locked_not_there))]
@@ -25,8 +26,10 @@ fn pair_in(alloc: Global, parts: &[Tree<'_>]) -> Result<Locked, PartError>
     match two_parts(parts) {
         Some((class, key)) => {
             let class = name_at(alloc, class, 0)?;
-            let key = expression_at(alloc, key, 1)?;
-            Ok(Locked { class, key })
+            match expression_at(alloc, key, 1) {
+                Ok(key) => Ok(Locked { class, key }),
+                Err(error) => Err(error),
+            }
         }
         None => Err(misshapen(alloc)),
     }
@@ -243,8 +246,8 @@ fn if_in(alloc: Global, inside: bool, items: &[Tree<'_>]) -> Result<Stmt, PartEr
 {
     let (test, yes, no) = (&items[1], &items[2], &items[3]);
     let test = expression_at(alloc, test, 1)?;
-    let yes = body_at(alloc, inside, yes, 2)?;
-    let no = body_at(alloc, inside, no, 3)?;
+    let (yes, test) = with(body_at(alloc, inside, yes, 2), test)?;
+    let (no, test) = with(body_at(alloc, inside, no, 3), test)?;
     Ok(Stmt::if_else(test, yes, no))
 }
 
@@ -257,7 +260,7 @@ fn while_in(alloc: Global, inside: bool, items: &[Tree<'_>]) -> Result<Stmt, Par
 {
     let (test, body) = (&items[1], &items[2]);
     let test = expression_at(alloc, test, 1)?;
-    let body = body_at(alloc, inside, body, 2)?;
+    let (body, test) = with(body_at(alloc, inside, body, 2), test)?;
     Ok(Stmt::repeat(test, body))
 }
 

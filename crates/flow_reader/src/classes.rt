@@ -17,6 +17,7 @@ use flow_values::{PartError, Step, misshapen, under, value_in};
 use json_tree::{Member, Tree};
 use std::alloc::Global;
 use std::collections::BTreeMap;
+use with_value::with;
 
 /// Whether all keys are names.
 #[tactic(auto, using(crate::proofs::Members::name_here, crate::proofs::Members::no_name_here, crate::proofs::Members::all_names))]
@@ -61,9 +62,9 @@ fn bodies_from(
     for member in members {
         let name = Name::of(alloc, member.0.as_bytes())?;
         match body_under(alloc, inside, &name, &member.1) {
-            Ok(body) => bodies.insert(name, body)?,
+            Ok(body) => drop(bodies.insert(name, body)?),
             Err(error) => return Err(error),
-        };
+        }
     }
     Ok(bodies)
 }
@@ -133,8 +134,10 @@ fn class_of_two(
 {
     if first == "init" && second == "ops" {
         let init = init_at(alloc, init)?;
-        let operations = operations_at(alloc, operations)?;
-        Ok(Class { init, operations })
+        match with(operations_at(alloc, operations), init) {
+            Ok((operations, init)) => Ok(Class { init, operations }),
+            Err(error) => Err(error),
+        }
     } else {
         Err(misshapen(alloc))
     }
@@ -191,9 +194,9 @@ fn classes_from(alloc: Global, members: &[Member<'_>]) -> Result<BTreeMap<Name, 
     for member in members {
         let name = Name::of(alloc, member.0.as_bytes())?;
         match class_under(alloc, &name, &member.1) {
-            Ok(class) => classes.insert(name, class)?,
+            Ok(class) => drop(classes.insert(name, class)?),
             Err(error) => return Err(error),
-        };
+        }
     }
     Ok(classes)
 }

@@ -41,13 +41,21 @@ fn of_one(alloc: Global, key: &str, value: &Tree<'_>) -> Result<Flows, PartError
     ensures { Gives flows_of result (file_in (object (member key.now (view value.now) no_members))) }
 {
     if key == "classes" {
-        let classes = classes_at(alloc, value)?;
-        let flows = BTreeMap::new(alloc);
-        Ok(Flows { flows, classes })
+        match classes_at(alloc, value) {
+            Ok(classes) => Ok(Flows {
+                flows: BTreeMap::new(alloc),
+                classes,
+            }),
+            Err(error) => Err(error),
+        }
     } else if key == "flows" {
-        let flows = flows_at(alloc, value)?;
-        let classes = BTreeMap::new(alloc);
-        Ok(Flows { flows, classes })
+        match flows_at(alloc, value) {
+            Ok(flows) => Ok(Flows {
+                flows,
+                classes: BTreeMap::new(alloc),
+            }),
+            Err(error) => Err(error),
+        }
     } else {
         Err(misshapen(alloc))
     }
@@ -66,8 +74,10 @@ fn of_two(
 {
     if first == "classes" && second == "flows" {
         let classes = classes_at(alloc, classes)?;
-        let flows = flows_at(alloc, flows)?;
-        Ok(Flows { flows, classes })
+        match flows_at(alloc, flows) {
+            Ok(flows) => Ok(Flows { flows, classes }),
+            Err(error) => Err(error),
+        }
     } else {
         Err(misshapen(alloc))
     }

@@ -16,6 +16,7 @@ use flow_syntax::{Expr, Stmt};
 use flow_values::{PartError, expression_at, misshapen, name_at};
 use json_tree::Tree;
 use std::alloc::Global;
+use with_value::with;
 
 /// A part of a statement.
 pub(crate) type Part<'t, 'a> = &'t Tree<'a>;
@@ -93,10 +94,7 @@ fn only_value(alloc: Global, parts: &[Tree<'_>]) -> Result<Expr, PartError>
     ensures { Gives expression_of result (only_value (items_view parts.now)) }
 {
     match one_part(parts) {
-        Some(value) => {
-            let value = expression_at(alloc, value, 1)?;
-            Ok(value)
-        }
+        Some(value) => expression_at(alloc, value, 1),
         None => Err(misshapen(alloc)),
     }
 }
@@ -109,8 +107,10 @@ fn variable_and_value(alloc: Global, parts: &[Tree<'_>]) -> Result<(Name, Expr),
     match two_parts(parts) {
         Some((variable, value)) => {
             let variable = name_at(alloc, variable, 1)?;
-            let value = expression_at(alloc, value, 2)?;
-            Ok((variable, value))
+            match expression_at(alloc, value, 2) {
+                Ok(value) => Ok((variable, value)),
+                Err(error) => Err(error),
+            }
         }
         None => Err(misshapen(alloc)),
     }
@@ -125,8 +125,10 @@ fn activity_in(alloc: Global, parts: &[Tree<'_>]) -> Result<(Name, Name, Expr), 
         Some((variable, activity, argument)) => {
             let variable = name_at(alloc, variable, 1)?;
             let activity = name_at(alloc, activity, 2)?;
-            let argument = expression_at(alloc, argument, 3)?;
-            Ok((variable, activity, argument))
+            match expression_at(alloc, argument, 3) {
+                Ok(argument) => Ok((variable, activity, argument)),
+                Err(error) => Err(error),
+            }
         }
         None => Err(misshapen(alloc)),
     }
@@ -140,8 +142,10 @@ fn event_in(alloc: Global, parts: &[Tree<'_>]) -> Result<Stmt, PartError>
     match two_parts(parts) {
         Some((variable, name)) => {
             let variable = name_at(alloc, variable, 1)?;
-            let name = name_at(alloc, name, 2)?;
-            Ok(Stmt::Event(variable, name))
+            match name_at(alloc, name, 2) {
+                Ok(name) => Ok(Stmt::Event(variable, name)),
+                Err(error) => Err(error),
+            }
         }
         None => Err(misshapen(alloc)),
     }
@@ -157,8 +161,10 @@ fn sub_in(alloc: Global, parts: &[Tree<'_>]) -> Result<Stmt, PartError>
             let variable = name_at(alloc, variable, 1)?;
             let flow = name_at(alloc, flow, 2)?;
             let key = expression_at(alloc, key, 3)?;
-            let argument = expression_at(alloc, argument, 4)?;
-            Ok(Stmt::Sub(variable, flow, key, argument))
+            match with(expression_at(alloc, argument, 4), key) {
+                Ok((argument, key)) => Ok(Stmt::Sub(variable, flow, key, argument)),
+                Err(error) => Err(error),
+            }
         }
         None => Err(misshapen(alloc)),
     }
@@ -174,9 +180,11 @@ fn ask_in(alloc: Global, parts: &[Tree<'_>]) -> Result<Stmt, PartError>
             let variable = name_at(alloc, variable, 1)?;
             let class = name_at(alloc, class, 2)?;
             let key = expression_at(alloc, key, 3)?;
-            let operation = name_at(alloc, operation, 4)?;
-            let argument = expression_at(alloc, argument, 5)?;
-            Ok(Stmt::Ask(variable, class, key, operation, argument))
+            let (operation, key) = with(name_at(alloc, operation, 4), key)?;
+            match with(expression_at(alloc, argument, 5), key) {
+                Ok((argument, key)) => Ok(Stmt::Ask(variable, class, key, operation, argument)),
+                Err(error) => Err(error),
+            }
         }
         None => Err(misshapen(alloc)),
     }
@@ -191,9 +199,11 @@ fn signal_in(alloc: Global, parts: &[Tree<'_>]) -> Result<Stmt, PartError>
         Some((class, key, operation, argument)) => {
             let class = name_at(alloc, class, 1)?;
             let key = expression_at(alloc, key, 2)?;
-            let operation = name_at(alloc, operation, 3)?;
-            let argument = expression_at(alloc, argument, 4)?;
-            Ok(Stmt::Signal(class, key, operation, argument))
+            let (operation, key) = with(name_at(alloc, operation, 3), key)?;
+            match with(expression_at(alloc, argument, 4), key) {
+                Ok((argument, key)) => Ok(Stmt::Signal(class, key, operation, argument)),
+                Err(error) => Err(error),
+            }
         }
         None => Err(misshapen(alloc)),
     }
@@ -203,72 +213,90 @@ fn signal_in(alloc: Global, parts: &[Tree<'_>]) -> Result<Stmt, PartError>
 fn let_in(alloc: Global, parts: &[Tree<'_>]) -> Result<Stmt, PartError>
     ensures { Gives statement_of result (simple_in words.Let (items_view parts.now)) }
 {
-    let (variable, value) = variable_and_value(alloc, parts)?;
-    Ok(Stmt::Let(variable, value))
+    match variable_and_value(alloc, parts) {
+        Ok((variable, value)) => Ok(Stmt::Let(variable, value)),
+        Err(error) => Err(error),
+    }
 }
 
 #[tactic(auto, using(flow_values::proofs::Parts::ends_then))]
 fn spawn_in(alloc: Global, parts: &[Tree<'_>]) -> Result<Stmt, PartError>
     ensures { Gives statement_of result (simple_in words.Spawn (items_view parts.now)) }
 {
-    let (variable, activity, argument) = activity_in(alloc, parts)?;
-    Ok(Stmt::Spawn(variable, activity, argument))
+    match activity_in(alloc, parts) {
+        Ok((variable, activity, argument)) => Ok(Stmt::Spawn(variable, activity, argument)),
+        Err(error) => Err(error),
+    }
 }
 
 #[tactic(auto, using(flow_values::proofs::Parts::ends_then))]
 fn call_in(alloc: Global, parts: &[Tree<'_>]) -> Result<Stmt, PartError>
     ensures { Gives statement_of result (simple_in words.Call (items_view parts.now)) }
 {
-    let (variable, activity, argument) = activity_in(alloc, parts)?;
-    Ok(Stmt::Call(variable, activity, argument))
+    match activity_in(alloc, parts) {
+        Ok((variable, activity, argument)) => Ok(Stmt::Call(variable, activity, argument)),
+        Err(error) => Err(error),
+    }
 }
 
 #[tactic(auto, using(flow_values::proofs::Parts::ends_then))]
 fn timer_in(alloc: Global, parts: &[Tree<'_>]) -> Result<Stmt, PartError>
     ensures { Gives statement_of result (simple_in words.Timer (items_view parts.now)) }
 {
-    let (variable, delay) = variable_and_value(alloc, parts)?;
-    Ok(Stmt::Timer(variable, delay))
+    match variable_and_value(alloc, parts) {
+        Ok((variable, delay)) => Ok(Stmt::Timer(variable, delay)),
+        Err(error) => Err(error),
+    }
 }
 
 #[tactic(auto, using(flow_values::proofs::Parts::ends_then))]
 fn await_in(alloc: Global, parts: &[Tree<'_>]) -> Result<Stmt, PartError>
     ensures { Gives statement_of result (simple_in words.Await (items_view parts.now)) }
 {
-    let (variable, handle) = variable_and_value(alloc, parts)?;
-    Ok(Stmt::Await(variable, handle))
+    match variable_and_value(alloc, parts) {
+        Ok((variable, handle)) => Ok(Stmt::Await(variable, handle)),
+        Err(error) => Err(error),
+    }
 }
 
 #[tactic(auto, using(flow_values::proofs::Parts::ends_then))]
 fn all_in(alloc: Global, parts: &[Tree<'_>]) -> Result<Stmt, PartError>
     ensures { Gives statement_of result (simple_in words.All (items_view parts.now)) }
 {
-    let (variable, handles) = variable_and_value(alloc, parts)?;
-    Ok(Stmt::All(variable, handles))
+    match variable_and_value(alloc, parts) {
+        Ok((variable, handles)) => Ok(Stmt::All(variable, handles)),
+        Err(error) => Err(error),
+    }
 }
 
 #[tactic(auto, using(flow_values::proofs::Parts::ends_then))]
 fn any_in(alloc: Global, parts: &[Tree<'_>]) -> Result<Stmt, PartError>
     ensures { Gives statement_of result (simple_in words.Any (items_view parts.now)) }
 {
-    let (variable, handles) = variable_and_value(alloc, parts)?;
-    Ok(Stmt::Any(variable, handles))
+    match variable_and_value(alloc, parts) {
+        Ok((variable, handles)) => Ok(Stmt::Any(variable, handles)),
+        Err(error) => Err(error),
+    }
 }
 
 #[tactic(auto, using(flow_values::proofs::Parts::ends_then))]
 fn return_in(alloc: Global, parts: &[Tree<'_>]) -> Result<Stmt, PartError>
     ensures { Gives statement_of result (simple_in words.Return (items_view parts.now)) }
 {
-    let value = only_value(alloc, parts)?;
-    Ok(Stmt::Return(value))
+    match only_value(alloc, parts) {
+        Ok(value) => Ok(Stmt::Return(value)),
+        Err(error) => Err(error),
+    }
 }
 
 #[tactic(auto, using(flow_values::proofs::Parts::ends_then))]
 fn fail_in(alloc: Global, parts: &[Tree<'_>]) -> Result<Stmt, PartError>
     ensures { Gives statement_of result (simple_in words.Fail (items_view parts.now)) }
 {
-    let text = only_value(alloc, parts)?;
-    Ok(Stmt::Fail(text))
+    match only_value(alloc, parts) {
+        Ok(text) => Ok(Stmt::Fail(text)),
+        Err(error) => Err(error),
+    }
 }
 
 /// A statement with none in it, of a word and the parts behind it.

@@ -8,7 +8,7 @@ use flow_values::is_word;
 use json_tree::Tree;
 
 /// The word that a statement begins with.
-#[derive(Clone, Copy, Debug, PartialEq, Eq)]
+#[derive(Clone, Copy, PartialEq, Eq)]
 pub(crate) enum Word {
     Let,
     Spawn,

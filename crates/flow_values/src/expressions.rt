@@ -235,9 +235,12 @@ fn binary_of(alloc: Global, items: &[Tree<'_>]) -> Result<Expr, PartError>
     let (word, first, second) = (&items[0], &items[1], &items[2]);
     match binary_in(word) {
         Some(operation) => {
+            // In its box the first part is let go by one call where the second is none.
             let first = expression_at(alloc, first, 1)?;
+            let first = Box::new(alloc, first)?;
             let second = expression_at(alloc, second, 2)?;
-            Ok(Expr::Binary(operation, Box::new(alloc, first)?, Box::new(alloc, second)?))
+            let second = Box::new(alloc, second)?;
+            Ok(Expr::Binary(operation, first, second))
         }
         None => Err(misshapen(alloc)),
     }

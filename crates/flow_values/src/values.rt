@@ -166,7 +166,13 @@ pub fn value_in(alloc: Global, value: &Tree<'_>) -> Result<Value, PartError>
     ensures { Gives (λ v. v) result (value_in (view value.now)) }
 {
     match value.as_array() {
-        Some(parts) => Ok(Value::List(list_in(alloc, parts)?)),
-        None => Ok(value_of(scalar_in(alloc, value)?)),
+        Some(parts) => match list_in(alloc, parts) {
+            Ok(scalars) => Ok(Value::List(scalars)),
+            Err(error) => Err(error),
+        },
+        None => match scalar_in(alloc, value) {
+            Ok(scalar) => Ok(value_of(scalar)),
+            Err(error) => Err(error),
+        },
     }
 }

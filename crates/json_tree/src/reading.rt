@@ -1,6 +1,9 @@
 //! From bytes to a tree, in one pass over the tokens.
 
-ghost use Rattle.std.specs.Prelude.{◌≡◌, ◌<◌, IfOk, OnOk, length};
+ghost use Rattle.std.specs.Prelude.{◌≡◌, ◌<◌, IfOk, MatchResult, OnOk, length};
+ghost use Rattle.std.specs.BTreeMap.{insert_entry};
+ghost use Rattle.std.specs.Cmp.Lexicographic.{slice_cmp};
+ghost use Rattle.std.specs.Ordering.{nat_cmp};
 ghost use Rattle.std.specs.Str.{IsUtf8};
 ghost use Rattle.json.specs.Reads.{token_of};
 ghost use Rattle.serde_json.specs.Read.{read};
@@ -137,24 +140,41 @@ fn members_in<'a>(
     while let Some(name) = reader.next_key()? {
         let key = arena.try_alloc_str(name)?;
         let member = tree_in(alloc, arena, reader, levels)?;
-        drop(found.insert(key, member)?);
+        put(&mut found, key, member)?;
     }
-    let found = entries_of(alloc, found)?;
-    Ok(arena.try_alloc_slice_copy(&found)?)
+    entries_of(alloc, arena, found)
 }
 
-/// The members in the order of their keys.
+/// Puts a member in the place of one with that key.
+fn put<'a>(
+    found: &mut BTreeMap<&'a str, Tree<'a>>,
+    key: &'a str,
+    member: Tree<'a>,
+) -> Result<(), AllocError>
+    ensures { IfOk result (λ _. found.new.entries
+        ≡ insert_entry (λ a b. slice_cmp nat_cmp a.now b.now) found.old.entries key.entry member.entry) }
+{
+    drop(found.insert(key, member)?);
+    Ok(())
+}
+
+/// The members in the order of their keys, put into the arena.
 fn entries_of<'a>(
     alloc: Global,
+    arena: &'a Bump,
     found: BTreeMap<&'a str, Tree<'a>>,
-) -> Result<Vec<Member<'a>>, AllocError>
-    ensures { IfOk result (λ members. members.items ≡ found.entry.entries) }
+) -> Result<&'a [Member<'a>], ReadError>
+    ensures { MatchResult result
+        (λ members. members.now ≡ found.entry.entries) (λ e. e ≡ errors.Memory) }
 {
     let mut members = Vec::with_capacity(alloc, found.len())?;
-    for member in found {
-        members.push(member)?;
+    for (key, member) in &found {
+        // There is room for each, and this push has no way to fail.
+        members.push_reserved((*key, *member));
     }
-    Ok(members)
+    // The map is large, so it goes before the copy comes.
+    drop(found);
+    Ok(arena.try_alloc_slice_copy(&members)?)
 }
 
 /// The value that bytes are, put into the arena.

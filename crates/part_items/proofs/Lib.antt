@@ -14,3 +14,4 @@ pub mod Steps
 pub mod Values
 pub mod Words
 pub mod Writable
+pub mod Writes

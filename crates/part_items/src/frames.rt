@@ -6,7 +6,7 @@ use crate::items::Item;
 use std::marker::Model;
 
 /// The items of an entry, which a contract sees as a list.
-#[derive(Debug, Drop)]
+#[derive(Drop)]
 pub struct Items {
     items: Vec<Item>,
 }
@@ -37,7 +37,7 @@ impl Items {
 }
 
 /// An entry: its place in the log, the life of the partition that made it, and its items.
-#[derive(Debug, Drop)]
+#[derive(Drop)]
 pub struct Entry {
     /// Its place in the log.
     pub position: u64,
@@ -48,7 +48,7 @@ pub struct Entry {
 }
 
 /// What is written at once: a contract sees it as the list of its entries.
-#[derive(Debug, Drop)]
+#[derive(Drop)]
 pub struct Frame {
     entries: Vec<Entry>,
 }

@@ -3,7 +3,7 @@
 use dura_value::{Id, Message, Outcome};
 
 /// A step that a log keeps.
-#[derive(Debug, Drop)]
+#[derive(Drop)]
 pub enum Item {
     /// A request was taken.
     Took(Message),
@@ -21,7 +21,7 @@ pub enum Item {
 }
 
 /// A message on its way to another partition.
-#[derive(Debug, Drop)]
+#[derive(Drop)]
 pub struct Packet {
     /// The partition that sends it.
     pub src: u32,

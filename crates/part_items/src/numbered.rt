@@ -14,7 +14,7 @@ use dura_value::ReadError;
 use std::alloc::Global;
 
 /// Where a log goes on.
-#[derive(Clone, Copy, Debug, PartialEq, Eq)]
+#[derive(Clone, Copy, PartialEq, Eq)]
 pub struct Next {
     /// The place of its next entry.
     pub position: u64,

@@ -20,8 +20,10 @@ use with_value::with;
 fn take_took(alloc: Global, bytes: &[u8]) -> Result<(Item, &[u8]), FieldError>
     ensures { Takes item_of result (took_at bytes.now) }
 {
-    let (message, rest) = take_message(alloc, bytes)?;
-    Ok((Item::Took(message), rest))
+    match take_message(alloc, bytes) {
+        Ok((message, rest)) => Ok((Item::Took(message), rest)),
+        Err(error) => Err(error),
+    }
 }
 
 #[tactic(auto, unfolding(crate::specs::Grammar::got_at))]
@@ -32,8 +34,10 @@ fn take_got(alloc: Global, bytes: &[u8]) -> Result<(Item, &[u8]), FieldError>
     let (inc, rest) = take_count(rest)?;
     let (pos, rest) = take_count(rest)?;
     let (seq, rest) = take_count(rest)?;
-    let (message, rest) = take_message(alloc, rest)?;
-    Ok((Item::Got(src, inc, pos, seq, message), rest))
+    match take_message(alloc, rest) {
+        Ok((message, rest)) => Ok((Item::Got(src, inc, pos, seq, message), rest)),
+        Err(error) => Err(error),
+    }
 }
 
 #[tactic(auto, unfolding(crate::specs::Grammar::ran_at))]
@@ -42,8 +46,10 @@ fn take_ran(alloc: Global, bytes: &[u8]) -> Result<(Item, &[u8]), FieldError>
 {
     let (from, rest) = take_id(alloc, bytes)?;
     let ((to, rest), from) = with(take_id(alloc, rest), from)?;
-    let (((stamp, rest), from), to) = with(with(take_count(rest), from), to)?;
-    Ok((Item::Ran(from, to, stamp), rest))
+    match with(with(take_count(rest), from), to) {
+        Ok((((stamp, rest), from), to)) => Ok((Item::Ran(from, to, stamp), rest)),
+        Err(error) => Err(error),
+    }
 }
 
 #[tactic(auto, unfolding(crate::specs::Grammar::done_at))]
@@ -52,8 +58,10 @@ fn take_done(alloc: Global, bytes: &[u8]) -> Result<(Item, &[u8]), FieldError>
 {
     let (id, rest) = take_id(alloc, bytes)?;
     let ((task, rest), id) = with(take_u32(rest), id)?;
-    let ((outcome, rest), id) = with(take_outcome(alloc, rest), id)?;
-    Ok((Item::Done(id, task, outcome), rest))
+    match with(take_outcome(alloc, rest), id) {
+        Ok(((outcome, rest), id)) => Ok((Item::Done(id, task, outcome), rest)),
+        Err(error) => Err(error),
+    }
 }
 
 #[tactic(auto, unfolding(crate::specs::Grammar::fired_at))]
@@ -62,8 +70,10 @@ fn take_fired(alloc: Global, bytes: &[u8]) -> Result<(Item, &[u8]), FieldError>
 {
     let (id, rest) = take_id(alloc, bytes)?;
     let ((task, rest), id) = with(take_u32(rest), id)?;
-    let ((stamp, rest), id) = with(take_count(rest), id)?;
-    Ok((Item::Fired(id, task, stamp), rest))
+    match with(take_count(rest), id) {
+        Ok(((stamp, rest), id)) => Ok((Item::Fired(id, task, stamp), rest)),
+        Err(error) => Err(error),
+    }
 }
 
 #[tactic(auto, unfolding(crate::specs::Grammar::trim_at))]
@@ -73,8 +83,10 @@ fn take_trim(bytes: &[u8]) -> Result<(Item, &[u8]), FieldError>
     let (dst, rest) = take_u32(bytes)?;
     let (upto, rest) = take_count(rest)?;
     let (inc, rest) = take_count(rest)?;
-    let (pos, rest) = take_count(rest)?;
-    Ok((Item::Trim(dst, upto, inc, pos), rest))
+    match take_count(rest) {
+        Ok((pos, rest)) => Ok((Item::Trim(dst, upto, inc, pos), rest)),
+        Err(error) => Err(error),
+    }
 }
 
 /// An item.
@@ -125,8 +137,10 @@ pub(crate) fn take_entry_items(alloc: Global, bytes: &[u8]) -> Result<(Items, &[
     ensures { Takes items_of result (entry_items_at bytes.now) }
 {
     let (count, rest) = take_members(bytes)?;
-    let (items, rest) = take_items(alloc, count, rest)?;
-    Ok((Items::of(items), rest))
+    match take_items(alloc, count, rest) {
+        Ok((items, rest)) => Ok((Items::of(items), rest)),
+        Err(error) => Err(error),
+    }
 }
 
 /// An entry.

@@ -2,6 +2,8 @@
 
 ghost use Rattle.std.specs.Prelude.{◌≡◌, ◌++◌, OnOk};
 ghost use Rattle.std.specs.List.{All, flat_map};
+ghost use Rattle.dura_codec.specs.Spelling.{CanSpellBody, CanSpellOutcome};
+ghost use Rattle.dura_value.specs.Views.{body_of};
 ghost use Rattle.part_items.specs.Plain.{item_of, items_of, entry_of, entries_of};
 ghost use Rattle.part_items.specs.Spelling.{spell_item, spell_three, spell_heading, spell_entry, spell_frame, CanSpellItem, CanSpellEntry, CanSpellFrame};
 
@@ -9,6 +11,7 @@ use crate::frames::{Entry, Frame};
 use crate::items::Item;
 use crate::tags::{DONE, FIRED, GOT, RAN, TOOK, TRIM};
 use dura_codec::{write_id, write_message, write_outcome, write_u16, write_u32, write_u64};
+use dura_value::{Id, Message, Outcome};
 use std::alloc::AllocError;
 
 #[tactic(auto, unfolding(crate::specs::Spelling::spell_three))]
@@ -34,6 +37,59 @@ fn write_heading(
     write_u16(out, count)
 }
 
+fn write_got(
+    out: &mut Vec<u8>,
+    src: u32,
+    inc: u64,
+    pos: u64,
+    seq: u64,
+    message: &Message,
+) -> Result<(), AllocError>
+    requires { CanSpellBody (body_of message.now.body) }
+    ensures { OnOk result (out.new.items ≡ out.old.items ++ spell_item (item_of (Item.Got src inc pos seq message.now))) }
+{
+    out.push(GOT)?;
+    write_u32(out, src)?;
+    write_three(out, inc, pos, seq)?;
+    write_message(out, message)
+}
+
+fn write_ran(out: &mut Vec<u8>, from: &Id, to: &Id, stamp: u64) -> Result<(), AllocError>
+    ensures { OnOk result (out.new.items ≡ out.old.items ++ spell_item (item_of (Item.Ran from.now to.now stamp))) }
+{
+    out.push(RAN)?;
+    write_id(out, from)?;
+    write_id(out, to)?;
+    write_u64(out, stamp)
+}
+
+fn write_done(out: &mut Vec<u8>, id: &Id, task: u32, outcome: &Outcome) -> Result<(), AllocError>
+    requires { CanSpellOutcome outcome.now }
+    ensures { OnOk result (out.new.items ≡ out.old.items ++ spell_item (item_of (Item.Done id.now task outcome.now))) }
+{
+    out.push(DONE)?;
+    write_id(out, id)?;
+    write_u32(out, task)?;
+    write_outcome(out, outcome)
+}
+
+fn write_fired(out: &mut Vec<u8>, id: &Id, task: u32, stamp: u64) -> Result<(), AllocError>
+    ensures { OnOk result (out.new.items ≡ out.old.items ++ spell_item (item_of (Item.Fired id.now task stamp))) }
+{
+    out.push(FIRED)?;
+    write_id(out, id)?;
+    write_u32(out, task)?;
+    write_u64(out, stamp)
+}
+
+fn write_trim(out: &mut Vec<u8>, dst: u32, upto: u64, inc: u64, pos: u64) -> Result<(), AllocError>
+    ensures { OnOk result (out.new.items ≡ out.old.items ++ spell_item (item_of (Item.Trim dst upto inc pos))) }
+{
+    out.push(TRIM)?;
+    write_u32(out, dst)?;
+    write_three(out, upto, inc, pos)
+}
+
 fn write_item(out: &mut Vec<u8>, item: &Item) -> Result<(), AllocError>
     requires { CanSpellItem (item_of item.now) }
     ensures { OnOk result (out.new.items ≡ out.old.items ++ spell_item (item_of item.now)) }
@@ -43,35 +99,11 @@ fn write_item(out: &mut Vec<u8>, item: &Item) -> Result<(), AllocError>
             out.push(TOOK)?;
             write_message(out, message)
         }
-        Item::Got(src, inc, pos, seq, message) => {
-            out.push(GOT)?;
-            write_u32(out, *src)?;
-            write_three(out, *inc, *pos, *seq)?;
-            write_message(out, message)
-        }
-        Item::Ran(from, to, stamp) => {
-            out.push(RAN)?;
-            write_id(out, from)?;
-            write_id(out, to)?;
-            write_u64(out, *stamp)
-        }
-        Item::Done(id, task, outcome) => {
-            out.push(DONE)?;
-            write_id(out, id)?;
-            write_u32(out, *task)?;
-            write_outcome(out, outcome)
-        }
-        Item::Fired(id, task, stamp) => {
-            out.push(FIRED)?;
-            write_id(out, id)?;
-            write_u32(out, *task)?;
-            write_u64(out, *stamp)
-        }
-        Item::Trim(dst, upto, inc, pos) => {
-            out.push(TRIM)?;
-            write_u32(out, *dst)?;
-            write_three(out, *upto, *inc, *pos)
-        }
+        Item::Got(src, inc, pos, seq, message) => write_got(out, *src, *inc, *pos, *seq, message),
+        Item::Ran(from, to, stamp) => write_ran(out, from, to, *stamp),
+        Item::Done(id, task, outcome) => write_done(out, id, *task, outcome),
+        Item::Fired(id, task, stamp) => write_fired(out, id, *task, *stamp),
+        Item::Trim(dst, upto, inc, pos) => write_trim(out, *dst, *upto, *inc, *pos),
     }
 }
 

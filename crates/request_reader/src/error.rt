@@ -9,11 +9,11 @@ use std::alloc::{AllocError, AllocFailed};
 use thiserror::Error;
 
 /// Why a part of a line gave nothing.
-#[derive(Debug, Drop, Error)]
+#[derive(Drop)]
 pub(crate) enum ReadError {
-    #[error("not of the form that is read")]
+    /// It is not of the form that is read.
     Refused,
-    #[error("out of memory")]
+    /// Memory ran out.
     Memory,
 }
 

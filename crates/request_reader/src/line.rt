@@ -66,8 +66,10 @@ fn start_in(alloc: Global, number: u32, value: &Value) -> Result<(Id, Body), Rea
         return Err(ReadError::Refused);
     }
     let to = instance_at(alloc, value, "start")?;
-    let argument = value_at(alloc, value, "arg")?;
-    Ok((to, Body::Start(argument, Reply::Request(number))))
+    match with(value_at(alloc, value, "arg"), to) {
+        Ok((argument, to)) => Ok((to, Body::Start(argument, Reply::Request(number)))),
+        Err(error) => Err(error),
+    }
 }
 
 fn wait_in(alloc: Global, number: u32, value: &Value) -> Result<(Id, Body), ReadError>
@@ -76,8 +78,10 @@ fn wait_in(alloc: Global, number: u32, value: &Value) -> Result<(Id, Body), Read
     if !json::has_members(value, 3) {
         return Err(ReadError::Refused);
     }
-    let to = instance_at(alloc, value, "wait")?;
-    Ok((to, Body::Wait(number)))
+    match instance_at(alloc, value, "wait") {
+        Ok(to) => Ok((to, Body::Wait(number))),
+        Err(error) => Err(error),
+    }
 }
 
 fn raise_in(alloc: Global, number: u32, value: &Value) -> Result<(Id, Body), ReadError>
@@ -87,9 +91,11 @@ fn raise_in(alloc: Global, number: u32, value: &Value) -> Result<(Id, Body), Rea
         return Err(ReadError::Refused);
     }
     let to = instance_at(alloc, value, "raise")?;
-    let event = json::name_at(alloc, value, "event")?;
-    let value = value_at(alloc, value, "value")?;
-    Ok((to, Body::Raise(event, value, number)))
+    let (event, to) = with(json::name_at(alloc, value, "event"), to)?;
+    match with(value_at(alloc, value, "value"), to) {
+        Ok((value, to)) => Ok((to, Body::Raise(event, value, number))),
+        Err(error) => Err(error),
+    }
 }
 
 fn query_in(alloc: Global, number: u32, value: &Value) -> Result<(Id, Body), ReadError>
@@ -127,8 +133,8 @@ fn request_in(alloc: Global, value: &Value) -> Result<Request, ReadError>
     let Some(number) = number_in(value) else {
         return Err(ReadError::Refused);
     };
-    let sent = sent_in(alloc, number, value)?;
-    let (copy, (to, body)) = with(client.clone(), sent)?;
+    let (to, body) = sent_in(alloc, number, value)?;
+    let ((copy, to), body) = with(with(client.clone(), to), body)?;
     let from = Id::Client(copy);
     Ok(Request {
         client,

@@ -26,13 +26,25 @@ fn is_same_id(a: &Id, b: &Id) -> bool
 fn is_same_body(a: &Body, b: &Body) -> bool
     ensures { result ≡ body_eq (body_of a.now) (body_of b.now) }
 {
-    match (a, b) {
-        (Body::Start(argument, _), Body::Start(other, _)) => *argument == *other,
-        (Body::Raise(event, value, _), Body::Raise(other_event, other, _)) => {
-            event.as_bytes() == other_event.as_bytes() && *value == *other
-        }
-        (Body::Query(_), Body::Query(_)) => true,
-        (Body::Wait(_), Body::Wait(_)) => true,
+    match a {
+        Body::Start(argument, _) => match b {
+            Body::Start(other, _) => *argument == *other,
+            _ => false,
+        },
+        Body::Raise(event, value, _) => match b {
+            Body::Raise(other_event, other, _) => {
+                event.as_bytes() == other_event.as_bytes() && *value == *other
+            }
+            _ => false,
+        },
+        Body::Query(_) => match b {
+            Body::Query(_) => true,
+            _ => false,
+        },
+        Body::Wait(_) => match b {
+            Body::Wait(_) => true,
+            _ => false,
+        },
         _ => false,
     }
 }
@@ -85,10 +97,10 @@ fn with_request(line: u64, progress: Progress, request: Request) -> Result<Progr
     ensures read { Answers seen result (with_request line (seen progress) (request_of request)) }
     ensures stands { IfOk result Stands }
 {
-    let (client, (progress, request)) = with(copy_of(&request.client), (progress, request))?;
+    let ((client, progress), request) = with(with(copy_of(&request.client), progress), request)?;
     let pair = (client, request.number);
     let made = is_made(&progress, &pair, &request);
-    drop(pair);
+    drop(pair.0);
     match made {
         Some(true) => {
             drop(request);
