@@ -4,8 +4,9 @@ ghost use Rattle.std.specs.Prelude.{◌≡◌, ◌∷◌, [], OnOk, IfOk, length
 ghost use Rattle.dura_value.specs.Views.{id_of, spot_of, body_of};
 ghost use Rattle.flow_syntax.specs.Eval.{eval};
 ghost use Rattle.flow_syntax.specs.Views.{expression_of};
-ghost use Rattle.flow_syntax.specs.Machine.{having, by_rule, scheduled, calls, starts, asks, signals, with_task, with_handle, may_start, may_ask, may_signal, says, spot_of as spot_at};
+ghost use Rattle.flow_syntax.specs.Machine.{an_activity, of_activity, having, by_rule, scheduled, calls, starts, asks, signals, with_task, with_handle, may_start, may_ask, may_signal, says, spot_of as spot_at};
 ghost use Rattle.flow_eval.specs.Gives.{Gives};
+ghost use Rattle.flow_messages.specs.Views.{asked_of};
 ghost use Rattle.flow_tasks.specs.Views.{kind_of};
 ghost use Rattle.flow_replay.specs.Values.{pair_in};
 ghost use Rattle.flow_replay.specs.Views.{machine_of};
@@ -19,6 +20,22 @@ use flow_syntax::Expr;
 use flow_tasks::Kind;
 use std::alloc::{AllocError, Global};
 use with_value::with;
+
+/// An activity that is asked for.
+fn ask_for(number: u32, activity: &Name, argument: &Value) -> Result<Asked, AllocError>
+    ensures { IfOk result (λ asked. asked_of asked ≡ an_activity number activity.now argument.now) }
+{
+    let name = copy_name(activity)?;
+    Ok(Asked::Activity(number, name, copy_value(argument)?))
+}
+
+/// The task that waits for an activity.
+fn kind_for(activity: &Name, argument: &Value) -> Result<Kind, AllocError>
+    ensures { IfOk result (λ kind. kind_of kind ≡ of_activity activity.now argument.now) }
+{
+    let name = copy_name(activity)?;
+    Ok(Kind::Activity(name, copy_value(argument)?))
+}
 
 impl<'f> Machine<'f> {
     /// The number of the next task. More than have a number have no room.
@@ -55,15 +72,15 @@ impl<'f> Machine<'f> {
         &mut self,
         made: &mut Made,
         activity: &Name,
-        argument: Value,
+        argument: &Value,
     ) -> Result<(), AllocError>
-        ensures { OnOk result (Makes made.old made.new self.new (scheduled (machine_of self.old) activity.now argument)) }
+        ensures { OnOk result (Makes made.old made.new self.new (scheduled (machine_of self.old) activity.now argument.now)) }
     {
         let number = self.next_task()?;
-        let asked = Asked::Activity(number, copy_name(activity)?, copy_value(&argument)?);
+        let asked = ask_for(number, activity, argument)?;
         made.asked.push(asked)?;
-        self.add_task(Kind::Activity(copy_name(activity)?, argument))?;
-        Ok(())
+        let kind = kind_for(activity, argument)?;
+        self.add_task(kind)
     }
 
     pub(crate) fn step_spawn(
@@ -79,7 +96,9 @@ impl<'f> Machine<'f> {
         match self.value(alloc, argument) {
             Ok(value) => {
                 let (_, value) = with(self.handle(variable), value)?;
-                self.schedule(made, activity, value)
+                let scheduled = self.schedule(made, activity, &value);
+                drop(value);
+                scheduled
             }
             Err(error) => self.throw_error(alloc, made, error),
         }
@@ -99,7 +118,9 @@ impl<'f> Machine<'f> {
             Ok(value) => {
                 let (number, value) = with(self.next_task(), value)?;
                 let (_, value) = with(self.plan(Todo::Await(variable, number)), value)?;
-                self.schedule(made, activity, value)
+                let scheduled = self.schedule(made, activity, &value);
+                drop(value);
+                scheduled
             }
             Err(error) => self.throw_error(alloc, made, error),
         }

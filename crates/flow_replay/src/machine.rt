@@ -14,7 +14,7 @@ use flow_tasks::{KeptEvents, Section, Tasks};
 use std::alloc::{AllocError, Global};
 
 /// Something that is still to run. The statements are those of the flow, which is lent.
-#[derive(Debug, Drop)]
+#[derive(Drop)]
 pub enum Todo<'f> {
     /// These statements, the first of which is next.
     Body(&'f [Stmt]),
@@ -29,7 +29,7 @@ pub enum Todo<'f> {
 }
 
 /// How far an instance has come.
-#[derive(Debug, Drop)]
+#[derive(Drop)]
 pub enum Progress {
     /// It hasn't begun.
     Unborn,
@@ -42,7 +42,7 @@ pub enum Progress {
 }
 
 /// An instance of a flow.
-#[derive(Debug, Drop)]
+#[derive(Drop)]
 pub struct Machine<'f> {
     /// Its id.
     pub id: Id,

@@ -182,7 +182,7 @@ impl<'f> Machine<'f> {
 }
 
 /// Why an expression names no tasks.
-#[derive(Debug, Drop)]
+#[derive(Drop)]
 pub(crate) enum AwaitError {
     /// It gave no value.
     Eval(EvalError),

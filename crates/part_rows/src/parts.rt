@@ -16,9 +16,10 @@ use flow_messages::Entity;
 use id_maps::{IdMap, NumberMap};
 use std::alloc::{AllocError, Global};
 use timer_row::TimerRow;
+use with_value::with;
 
 /// What a partition among so many knows. After an Err, which is want of memory, it is only dropped.
-#[derive(Debug, Drop)]
+#[derive(Drop)]
 pub struct PartRows {
     /// How many partitions there are.
     pub partitions: u32,
@@ -84,22 +85,35 @@ impl PartRows {
         ensures partitions { IfOk result (λ copy. copy.partitions ≡ self.now.partitions) }
         ensures number { IfOk result (λ copy. copy.number ≡ self.now.number) }
     {
-        Ok(PartRows {
-            partitions: self.partitions,
-            number: self.number,
-            position: self.position,
-            incarnation: self.incarnation,
-            stamp: self.stamp,
-            taken: self.taken.copied(alloc, copy_message)?,
-            answers: self.answers.copied(alloc, copy_answer)?,
-            instances: self.instances.copied(alloc, |row| copy_row(alloc, row))?,
-            entities: self.entities.copied(alloc, copy_entity)?,
-            activities: self.activities.copied(alloc, copy_activity)?,
-            timers: self.timers.copy(alloc)?,
-            queue: self.queue.copy(alloc)?,
-            inboxes: self.inboxes.copy()?,
-            outboxes: self.outboxes.copy(alloc)?,
-        })
+        let mut copy = PartRows::new(alloc, self.partitions, self.number);
+        let copied = copy.copy_from(alloc, self);
+        let (_, copy) = with(copied, copy)?;
+        Ok(copy)
+    }
+
+    /// Knows what another partition knows.
+    fn copy_from(&mut self, alloc: Global, other: &PartRows) -> Result<(), AllocError>
+        requires { InOrder other.now.timers }
+        ensures same { OnOk result (part_of self.new ≡ part_of other.now) }
+        ensures order { OnOk result (InOrder self.new.timers) }
+        ensures partitions { OnOk result (self.new.partitions ≡ other.now.partitions) }
+        ensures number { OnOk result (self.new.number ≡ other.now.number) }
+    {
+        self.partitions = other.partitions;
+        self.number = other.number;
+        self.position = other.position;
+        self.incarnation = other.incarnation;
+        self.stamp = other.stamp;
+        self.taken = other.taken.copied(alloc, copy_message)?;
+        self.answers = other.answers.copied(alloc, copy_answer)?;
+        self.instances = other.instances.copied(alloc, |row| copy_row(alloc, row))?;
+        self.entities = other.entities.copied(alloc, copy_entity)?;
+        self.activities = other.activities.copied(alloc, copy_activity)?;
+        self.timers = other.timers.copy(alloc)?;
+        self.queue = other.queue.copy(alloc)?;
+        self.inboxes = other.inboxes.copy()?;
+        self.outboxes = other.outboxes.copy(alloc)?;
+        Ok(())
     }
 
     /// The entry that its items belong to.

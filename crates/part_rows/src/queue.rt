@@ -11,9 +11,25 @@ use dura_value::{Id, Message};
 use std::alloc::{AllocError, Global};
 use std::collections::VecDeque;
 use std::marker::Model;
+use with_value::with;
+
+/// Copies of these messages come behind the others.
+#[tactic(auto, using(crate::proofs::Copied::first_copied))]
+fn add_copies(
+    copies: &mut VecDeque<Message>,
+    messages: &VecDeque<Message>,
+) -> Result<(), AllocError>
+    ensures { OnOk result (copies.new.items ≡ copies.old.items ++ messages.now.items) }
+{
+    for message in messages.iter() {
+        let copy = copy_message(message)?;
+        copies.push_back(copy)?;
+    }
+    Ok(())
+}
 
 /// Messages in the order in which they came, which a contract sees as a list.
-#[derive(Debug, Drop)]
+#[derive(Drop)]
 pub struct Queue {
     messages: VecDeque<Message>,
 }
@@ -84,14 +100,12 @@ impl Queue {
     }
 
     /// The same messages.
-    #[tactic(auto, using(crate::proofs::Copied::first_copied))]
     pub fn copy(&self, alloc: Global) -> Result<Queue, AllocError>
         ensures { IfOk result (λ copy. copy ≡ self.now) }
     {
         let mut messages = VecDeque::with_capacity(alloc, self.messages.len())?;
-        for message in self.messages.iter() {
-            messages.push_back(copy_message(message)?)?;
-        }
+        let copied = add_copies(&mut messages, &self.messages);
+        let (_, messages) = with(copied, messages)?;
         Ok(Queue { messages })
     }
 }

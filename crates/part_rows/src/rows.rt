@@ -4,7 +4,7 @@ use dura_value::{Id, Name, Value};
 use flow_messages::Past;
 
 /// A client's request that waits for the end of an instance.
-#[derive(Clone, Debug, Drop)]
+#[derive(Clone, Drop)]
 pub struct Waiting {
     /// The client.
     pub client: Id,
@@ -13,7 +13,7 @@ pub struct Waiting {
 }
 
 /// An instance as it is kept.
-#[derive(Debug, Drop)]
+#[derive(Drop)]
 pub struct Row {
     /// Its last moment.
     pub stamp: u64,
@@ -24,7 +24,7 @@ pub struct Row {
 }
 
 /// An activity that is pending.
-#[derive(Clone, Debug, Drop)]
+#[derive(Clone, Drop)]
 pub struct Activity {
     /// Its name.
     pub name: Name,

@@ -1,6 +1,6 @@
 //! The streams from and to other partitions.
 
-ghost use Rattle.std.specs.Prelude.{◌≡◌, ◌+◌, length, nat_le, ◌≤◌, if◌then◌else◌, IfOk, OnOk};
+ghost use Rattle.std.specs.Prelude.{◌≡◌, ◌+◌, ◌++◌, length, nat_le, ◌≤◌, if◌then◌else◌, IfOk, OnOk};
 ghost use Rattle.dura_model.specs.Partition.{with_posted, with_inbox, begins_at, with_first};
 ghost use Rattle.part_rows.specs.Views.{posted_of, inbox_of, outbox_of, inboxes_of, outboxes_of, no_outbox, no_inbox};
 
@@ -9,9 +9,10 @@ use dura_value::Message;
 use id_maps::copy_numbers;
 use std::alloc::{AllocError, Global};
 use std::collections::{BTreeMap, VecDeque};
+use with_value::with;
 
 /// An entry by its partition, the life of the partition that made it, and its place there.
-#[derive(Clone, Copy, Debug)]
+#[derive(Clone, Copy)]
 pub struct Identity {
     /// The partition.
     pub partition: u32,
@@ -22,7 +23,7 @@ pub struct Identity {
 }
 
 /// A message to another partition, and the entry that sends it.
-#[derive(Debug, Drop)]
+#[derive(Drop)]
 pub struct Posted {
     /// The entry.
     pub entry: Identity,
@@ -31,7 +32,7 @@ pub struct Posted {
 }
 
 /// What is left of the stream to another partition.
-#[derive(Debug, Drop)]
+#[derive(Drop)]
 pub struct Outbox {
     /// The number of its first message.
     pub first: u64,
@@ -40,7 +41,7 @@ pub struct Outbox {
 }
 
 /// How far the stream from another partition was taken in.
-#[derive(Clone, Copy, Debug)]
+#[derive(Clone, Copy)]
 pub struct Inbox {
     /// The number of the next message.
     pub next: u64,
@@ -49,13 +50,13 @@ pub struct Inbox {
 }
 
 /// The streams from other partitions, which a contract sees as a function.
-#[derive(Debug, Drop)]
+#[derive(Drop)]
 pub struct Inboxes {
     boxes: BTreeMap<u32, Inbox>,
 }
 
 /// The streams to other partitions, which a contract sees as a function.
-#[derive(Debug, Drop)]
+#[derive(Drop)]
 pub struct Outboxes {
     boxes: BTreeMap<u32, Outbox>,
 }
@@ -72,16 +73,26 @@ impl Posted {
     }
 }
 
+/// Copies of these messages come behind the others.
+#[tactic(auto, using(crate::proofs::Copied::first_copied))]
+fn add_copies(copies: &mut VecDeque<Posted>, messages: &VecDeque<Posted>) -> Result<(), AllocError>
+    ensures { OnOk result (copies.new.items ≡ copies.old.items ++ messages.now.items) }
+{
+    for posted in messages.iter() {
+        let copy = posted.copy()?;
+        copies.push_back(copy)?;
+    }
+    Ok(())
+}
+
 impl Outbox {
     /// The same stream.
-    #[tactic(auto, using(crate::proofs::Copied::first_copied))]
     fn copy(&self, alloc: Global) -> Result<Outbox, AllocError>
         ensures { IfOk result (λ copy. outbox_of copy ≡ outbox_of self.now) }
     {
         let mut messages = VecDeque::with_capacity(alloc, self.messages.len())?;
-        for posted in self.messages.iter() {
-            messages.push_back(posted.copy()?)?;
-        }
+        let copied = add_copies(&mut messages, &self.messages);
+        let (_, messages) = with(copied, messages)?;
         Ok(Outbox {
             first: self.first,
             messages,

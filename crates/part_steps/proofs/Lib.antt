@@ -1,6 +1,7 @@
 pub mod Answering
 pub mod AtEnds
 pub mod Batching
+pub mod Copying
 pub mod Delivering
 pub mod Enabling
 pub mod Ending

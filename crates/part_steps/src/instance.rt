@@ -6,7 +6,7 @@ use flow_replay::Machine;
 use part_rows::Waiting;
 
 /// An instance: its machine, and who waits for its end.
-#[derive(Debug, Drop)]
+#[derive(Drop)]
 pub struct Instance<'f> {
     /// Its machine.
     pub machine: Machine<'f>,
@@ -15,7 +15,7 @@ pub struct Instance<'f> {
 }
 
 /// What a delivery or an event made.
-#[derive(Debug, Drop)]
+#[derive(Drop)]
 pub struct Effect<'f> {
     /// The instance, or none where it isn't there.
     pub instance: Option<Instance<'f>>,

@@ -1,6 +1,6 @@
 //! An instance is kept as a delivery or an event made it.
 
-ghost use Rattle.std.specs.Prelude.{◌≡◌, ◌<◌, map, IfOk, OnOk, option_map};
+ghost use Rattle.std.specs.Prelude.{◌≡◌, ◌<◌, ◌++◌, map, IfOk, OnOk, option_map};
 ghost use Rattle.dura_value.specs.Views.{id_of, messages_of};
 ghost use Rattle.flow_messages.specs.Views.{event_of, past_of};
 ghost use Rattle.timer_row.specs.Timers.{InOrder};
@@ -15,6 +15,7 @@ use dura_value::{Id, Message};
 use flow_messages::{Event, Past};
 use part_rows::{PartRows, Row, copy_message};
 use std::alloc::{AllocError, Global};
+use with_value::with;
 
 /// The history of a row, or none where there is no row.
 fn history_in(alloc: Global, row: Option<Row>) -> Vec<Past>
@@ -115,15 +116,25 @@ fn give_up_if(rows: &mut PartRows, id: &Id, gives_up: bool) -> Result<(), AllocE
     Ok(())
 }
 
+/// Copies of messages come behind the others.
+#[tactic(auto, using(crate::proofs::Copying::one_copied))]
+fn add_copies(copies: &mut Vec<Message>, messages: &[Message]) -> Result<(), AllocError>
+    ensures { OnOk result (copies.new.items ≡ copies.old.items ++ messages.now) }
+{
+    for message in messages {
+        let copy = copy_message(message)?;
+        copies.push(copy)?;
+    }
+    Ok(())
+}
+
 /// Copies of messages.
-#[tactic(auto, using(crate::proofs::Answering::one_copied))]
 fn copy_messages(alloc: Global, messages: &[Message]) -> Result<Vec<Message>, AllocError>
     ensures { IfOk result (λ copies. copies.items ≡ messages.now) }
 {
     let mut copies = Vec::new(alloc);
-    for message in messages {
-        copies.push(copy_message(message)?)?;
-    }
+    let added = add_copies(&mut copies, messages);
+    let (_, copies) = with(added, copies)?;
     Ok(copies)
 }
 
@@ -139,8 +150,8 @@ pub(crate) fn send(
     ensures timers { rows.new.timers ≡ rows.old.timers }
     ensures partitions { rows.new.partitions ≡ rows.old.partitions }
 {
-    let copies = copy_messages(alloc, &messages)?;
-    rows.post_all(alloc, messages)?;
+    let (copies, messages) = with(copy_messages(alloc, &messages), messages)?;
+    let (_, copies) = with(rows.post_all(alloc, messages), copies)?;
     Ok(copies)
 }
 

@@ -21,7 +21,7 @@ use std::alloc::{AllocError, Global};
 
 /// The state of one of so many partitions: all that it knows. `specs/States` says what it needs (`IsSound`), which each call
 /// keeps. Want of memory drops it.
-#[derive(Debug, Drop)]
+#[derive(Drop)]
 pub struct PartState {
     pub(crate) rows: PartRows,
 }
