@@ -22,7 +22,7 @@ pub trait SumActivities {
 
 /// The activities of the first path: `add` gives the sum of a list of two integers, or fails with `overflow`; with
 /// another argument it fails with `type`. Another name fails with `unknown`.
-#[derive(Clone, Copy, Debug)]
+#[derive(Clone, Copy)]
 pub struct SumTable;
 
 impl SumActivities for SumTable {

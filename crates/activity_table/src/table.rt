@@ -27,7 +27,7 @@ pub trait Activities {
 /// `echo` gives its argument, `add` the sum of a list of two integers, `concat` the texts of a list one after another, and
 /// `draw` the word that it is run with, its highest bit cleared; `fail` fails with its text. What doesn't fit fails with
 /// `overflow` or `size`, another argument with `type`, another name with `unknown`.
-#[derive(Clone, Copy, Debug)]
+#[derive(Clone, Copy)]
 pub struct Table;
 
 impl Activities for Table {

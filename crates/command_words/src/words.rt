@@ -33,7 +33,7 @@ const LEAST_SEGMENT: u64 = 4096;
 const MOST_SEGMENT: u64 = 2_147_483_648;
 
 /// How a run goes.
-#[derive(Clone, Copy, Debug, Drop, PartialEq, Eq)]
+#[derive(Clone, Copy, Drop, PartialEq, Eq)]
 pub struct RunOptions {
     /// How many partitions there are.
     pub partitions: u32,
@@ -46,7 +46,7 @@ pub struct RunOptions {
 }
 
 /// What the words ask for.
-#[derive(Clone, Copy, Debug, Drop, PartialEq, Eq)]
+#[derive(Clone, Copy, Drop, PartialEq, Eq)]
 pub enum Call {
     /// Run the requests.
     Run(RunOptions),

@@ -1,7 +1,7 @@
 // What a segment is of.
 
 /// The header of a segment.
-#[derive(Clone, Copy, Debug, PartialEq, Eq)]
+#[derive(Clone, Copy, PartialEq, Eq)]
 pub struct Header {
     /// The partition whose entries the segment holds.
     pub partition: u32,

@@ -20,7 +20,7 @@ const END: u64 = 1 << 31;
 const BASES: u64 = 1 << 63;
 
 /// Why bytes are no segment.
-#[derive(Debug, Drop)]
+#[derive(Drop)]
 pub(crate) enum ParseError {
     /// The first byte that is wrong or missing.
     At(u64),

@@ -14,7 +14,7 @@ pub struct Resting {
 }
 
 /// A frame is written behind the closed gate, and a closed gate behind it.
-#[derive(Debug, Drop)]
+#[derive(Drop)]
 pub struct Bodied {
     /// The file's number.
     pub file: u32,
@@ -27,7 +27,7 @@ pub struct Bodied {
 }
 
 /// The frame is on the disk behind the closed gate.
-#[derive(Debug, Drop)]
+#[derive(Drop)]
 pub struct Synced {
     /// The file's number.
     pub file: u32,
@@ -66,7 +66,7 @@ pub struct Broken {
 }
 
 /// What `reopen` found.
-#[derive(Debug, Drop)]
+#[derive(Drop)]
 pub struct Reopened {
     /// The log behind the frame where the gate reads open, else before it.
     pub log: Resting,

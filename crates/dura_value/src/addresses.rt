@@ -10,7 +10,7 @@ use std::alloc::AllocError;
 
 /// Who sends or receives a message. In order the clients come first, then the entities, then the instances of flows, each by
 /// name and then by key: that is the order of the written forms.
-#[derive(Clone, Debug, Drop, PartialEq, Eq, PartialOrd, Ord)]
+#[derive(Clone, Drop, PartialEq, Eq, PartialOrd, Ord)]
 pub enum Id {
     /// The client `#name`.
     Client(Name),

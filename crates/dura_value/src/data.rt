@@ -7,7 +7,7 @@ use std::alloc::{AllocError, Global};
 use std::marker::Model;
 
 /// A value that is no list.
-#[derive(Clone, Debug, Drop, PartialEq, Eq)]
+#[derive(Clone, Drop, PartialEq, Eq)]
 pub enum Scalar {
     /// Nothing.
     Null,
@@ -22,7 +22,7 @@ pub enum Scalar {
 }
 
 /// A list of scalars, which a contract sees as a list.
-#[derive(Clone, Debug, Drop)]
+#[derive(Clone, Drop)]
 pub struct Scalars {
     items: Vec<Scalar>,
 }
@@ -37,7 +37,7 @@ impl Model for Scalars {
 }
 
 /// A value.
-#[derive(Clone, Debug, Drop, PartialEq, Eq)]
+#[derive(Clone, Drop, PartialEq, Eq)]
 pub enum Value {
     /// Nothing.
     Null,

@@ -27,7 +27,7 @@ impl Model for Name {
 }
 
 /// A key, which a contract sees as its bytes.
-#[derive(Clone, Debug, Drop)]
+#[derive(Clone, Drop)]
 pub struct Key {
     bytes: Vec<u8>,
 }

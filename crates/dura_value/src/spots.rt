@@ -6,7 +6,7 @@ use crate::names::{Key, Name};
 use std::marker::Model;
 
 /// An entity by its class and key.
-#[derive(Clone, Debug, Drop, PartialEq, Eq, PartialOrd, Ord)]
+#[derive(Clone, Drop, PartialEq, Eq, PartialOrd, Ord)]
 pub struct Spot {
     /// Its class.
     pub class: Name,
@@ -15,7 +15,7 @@ pub struct Spot {
 }
 
 /// The set of a lock, which a contract sees as the list of its entities.
-#[derive(Clone, Debug, Drop)]
+#[derive(Clone, Drop)]
 pub struct Spots {
     spots: Vec<Spot>,
 }

@@ -9,7 +9,7 @@ use std::marker::Model;
 use thiserror::Error;
 
 /// A text, which a contract sees as its bytes.
-#[derive(Clone, Debug, Drop)]
+#[derive(Clone, Drop)]
 pub struct Text {
     bytes: Vec<u8>,
 }

@@ -9,7 +9,7 @@ use std::alloc::{AllocError, Global};
 use std::marker::Model;
 
 /// The value of each variable that was set, which a contract sees as a list of names with values.
-#[derive(Debug, Drop)]
+#[derive(Drop)]
 pub struct Variables {
     set: Vec<(Name, Value)>,
 }

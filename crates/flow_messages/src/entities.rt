@@ -8,7 +8,7 @@ ghost use Rattle.flow_messages.specs.Views.{entity_of};
 use dura_value::{Id, Value};
 
 /// An entity.
-#[derive(Debug, Drop)]
+#[derive(Drop)]
 pub struct Entity {
     /// Its value.
     pub value: Value,

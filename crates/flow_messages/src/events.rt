@@ -3,7 +3,7 @@
 use dura_value::{Answer, Id, Name, Reply, Value};
 
 /// An event of an instance.
-#[derive(Debug, Drop)]
+#[derive(Drop)]
 pub enum Event {
     /// Its start, by whom, with which argument, and who is answered.
     Started(Id, Value, Reply),
@@ -18,7 +18,7 @@ pub enum Event {
 }
 
 /// An event of a history, with its moment.
-#[derive(Debug, Drop)]
+#[derive(Drop)]
 pub struct Past {
     /// The event.
     pub event: Event,

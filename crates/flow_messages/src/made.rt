@@ -6,7 +6,7 @@ use dura_value::{Message, Name, Value};
 use std::alloc::Global;
 
 /// What a machine asks the outside for.
-#[derive(Debug, Drop)]
+#[derive(Drop)]
 pub enum Asked {
     /// The activity of this task, by its name and with its argument.
     Activity(u32, Name, Value),
@@ -15,7 +15,7 @@ pub enum Asked {
 }
 
 /// What a machine made, in the order in which it made it.
-#[derive(Debug, Drop)]
+#[derive(Drop)]
 pub struct Made {
     /// What it sent.
     pub messages: Vec<Message>,

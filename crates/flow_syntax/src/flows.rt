@@ -10,7 +10,7 @@ use std::alloc::{AllocError, Global};
 use std::collections::BTreeMap;
 
 /// A class of entities.
-#[derive(Debug, Drop)]
+#[derive(Drop)]
 pub struct Class {
     /// The value that its entities begin with.
     pub init: Value,
@@ -19,7 +19,7 @@ pub struct Class {
 }
 
 /// A file of flows and classes.
-#[derive(Debug, Drop)]
+#[derive(Drop)]
 pub struct Flows {
     /// Its flows.
     pub flows: BTreeMap<Name, Vec<Stmt>>,

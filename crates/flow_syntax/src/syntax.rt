@@ -3,7 +3,7 @@
 use dura_value::{Name, Scalar};
 
 /// An operation of one part.
-#[derive(Clone, Copy, Debug, PartialEq, Eq)]
+#[derive(Clone, Copy, PartialEq, Eq)]
 pub enum UnaryOp {
     /// The other truth value.
     Not,
@@ -14,7 +14,7 @@ pub enum UnaryOp {
 }
 
 /// An operation of two parts.
-#[derive(Clone, Copy, Debug, PartialEq, Eq)]
+#[derive(Clone, Copy, PartialEq, Eq)]
 pub enum BinaryOp {
     /// The sum of integers.
     Add,
@@ -43,7 +43,7 @@ pub enum BinaryOp {
 }
 
 /// An expression.
-#[derive(Debug, Drop)]
+#[derive(Drop)]
 pub enum Expr {
     /// A scalar, which stands for itself.
     Scalar(Scalar),
@@ -58,7 +58,7 @@ pub enum Expr {
 }
 
 /// An entity that is to be locked.
-#[derive(Debug, Drop)]
+#[derive(Drop)]
 pub struct Locked {
     /// Its class.
     pub class: Name,
@@ -67,7 +67,7 @@ pub struct Locked {
 }
 
 /// A statement. The variable that it sets comes first.
-#[derive(Debug, Drop)]
+#[derive(Drop)]
 pub enum Stmt {
     /// Sets a variable.
     Let(Name, Expr),

@@ -9,7 +9,7 @@ use std::alloc::{AllocError, Global};
 use std::collections::{BTreeMap, VecDeque};
 
 /// A queue of numbers for each name, which a contract sees as a function.
-#[derive(Debug, Drop)]
+#[derive(Drop)]
 pub(crate) struct NumbersByName {
     alloc: Global,
     queues: BTreeMap<Name, VecDeque<usize>>,

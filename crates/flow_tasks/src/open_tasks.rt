@@ -13,7 +13,7 @@ use std::alloc::{AllocError, Global};
 use std::collections::BTreeSet;
 
 /// The numbers of the tasks without a result that are looked for by what they are.
-#[derive(Debug, Drop)]
+#[derive(Drop)]
 pub(crate) struct OpenTasks {
     /// Asks and started flows.
     pub(crate) calls: BTreeSet<usize>,

@@ -10,7 +10,7 @@ use std::alloc::{AllocError, Global};
 use std::marker::Model;
 
 /// An event that was raised.
-#[derive(Debug, Drop)]
+#[derive(Drop)]
 pub struct Raised {
     /// Its name.
     pub name: Name,
@@ -19,7 +19,7 @@ pub struct Raised {
 }
 
 /// The events that are kept, the oldest first, which a contract sees as a list.
-#[derive(Debug, Drop)]
+#[derive(Drop)]
 pub struct KeptEvents {
     /// In the order in which they came. The place of one that was taken stays empty.
     slots: Vec<Option<Raised>>,

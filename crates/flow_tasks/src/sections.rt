@@ -10,7 +10,7 @@ use crate::tasks::Tasks;
 use dura_value::{Spot, Spots};
 
 /// Where an instance is as to sections.
-#[derive(Debug, Drop)]
+#[derive(Drop)]
 pub enum Section {
     /// Outside of any.
     Outside,

@@ -14,7 +14,7 @@ use std::alloc::{AllocError, Global};
 use std::marker::Model;
 
 /// What a task is.
-#[derive(Debug, Drop)]
+#[derive(Drop)]
 pub enum Kind {
     /// An activity with its argument.
     Activity(Name, Value),
@@ -31,7 +31,7 @@ pub enum Kind {
 }
 
 /// A task's result, and its place in the order in which results arrived.
-#[derive(Debug, Drop)]
+#[derive(Drop)]
 pub struct Arrival {
     /// The result.
     pub outcome: Outcome,
@@ -40,7 +40,7 @@ pub struct Arrival {
 }
 
 /// A task, with its result once it arrived.
-#[derive(Debug, Drop)]
+#[derive(Drop)]
 pub struct Task {
     /// What it is.
     pub kind: Kind,
@@ -65,7 +65,7 @@ impl Task {
 }
 
 /// The tasks of an instance by number, which a contract sees as a list.
-#[derive(Debug, Drop)]
+#[derive(Drop)]
 pub struct Tasks {
     tasks: Vec<Task>,
     /// Which of them have no result yet, so that nothing goes over all.
@@ -235,7 +235,7 @@ impl Tasks {
 }
 
 /// The place of a result, and when it came.
-#[derive(Clone, Copy, Debug, Drop)]
+#[derive(Clone, Copy, Drop)]
 struct Candidate {
     place: usize,
     order: u64,

@@ -23,7 +23,7 @@ use part_items::Frame;
 use site_model::Site;
 
 /// What became of the frame that was under way.
-#[derive(Clone, Copy, Debug, PartialEq, Eq)]
+#[derive(Clone, Copy, PartialEq, Eq)]
 pub enum Reopening {
     /// Its gate read open: its entries are settled.
     Settled,

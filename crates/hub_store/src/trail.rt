@@ -12,7 +12,7 @@ use std::alloc::Global;
 use std::marker::Model;
 
 /// An entry that was settled.
-#[derive(Debug, Drop)]
+#[derive(Drop)]
 pub struct Settled {
     /// The partition that it is of.
     pub partition: u32,
@@ -27,7 +27,7 @@ pub struct Settled {
 }
 
 /// A request whose answer was said.
-#[derive(Debug, Drop)]
+#[derive(Drop)]
 pub struct Said {
     /// The client that made it.
     pub client: Name,
@@ -36,7 +36,7 @@ pub struct Said {
 }
 
 /// What was settled, the first first. A contract sees it as a list.
-#[derive(Debug, Drop)]
+#[derive(Drop)]
 pub struct Trail {
     entries: Vec<Settled>,
 }

@@ -25,7 +25,7 @@ pub(crate) enum Way {
 }
 
 /// The device call that a frame has come to.
-#[derive(Clone, Copy, Debug, PartialEq, Eq)]
+#[derive(Clone, Copy, PartialEq, Eq)]
 pub enum Stage {
     /// None: no frame is under way.
     Resting,

@@ -20,7 +20,7 @@ pub(crate) fn copy_key(id: &Id) -> Result<Id, AllocError>
 }
 
 /// What is kept for each id, which a contract sees as a function.
-#[derive(Debug, Drop)]
+#[derive(Drop)]
 pub struct IdMap<V> {
     entries: BTreeMap<Id, V>,
 }

@@ -29,7 +29,7 @@ pub fn copy_numbers<V: Drop, F: Fn(&V) -> Result<V, AllocError>>(
 }
 
 /// What is kept for each id and number, as the tasks of instances. A contract sees it as a function.
-#[derive(Debug, Drop)]
+#[derive(Drop)]
 pub struct NumberMap<V> {
     entries: BTreeMap<Id, BTreeMap<u32, V>>,
 }

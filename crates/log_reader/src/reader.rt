@@ -5,7 +5,7 @@ use commit_log::{Header, Payload, Resting};
 use thiserror::Error;
 
 /// A log that is read frame by frame.
-#[derive(Debug, Drop)]
+#[derive(Drop)]
 pub struct LogReader {
     /// The file's number.
     pub file: u32,

@@ -21,7 +21,7 @@ pub struct Call {
 }
 
 /// Why there is no call.
-#[derive(Clone, Copy, Debug, PartialEq, Eq)]
+#[derive(Clone, Copy, PartialEq, Eq)]
 pub enum CallError {
     /// There is no directory, or a word is no text.
     Usage,

@@ -27,7 +27,7 @@ use std::alloc::Global;
 const LIVES: u64 = 1 << 62;
 
 /// What was recovered.
-#[derive(Debug, Drop)]
+#[derive(Drop)]
 pub struct Recovered {
     /// The state that the log's entries make, one after another.
     pub state: PartState,

@@ -7,7 +7,7 @@ use dura_value::Name;
 use flow_values::Path;
 
 /// What is wrong with a flows file.
-#[derive(Debug, Drop)]
+#[derive(Drop)]
 pub enum FlowsFault {
     /// It is no JSON.
     NotJson,
@@ -24,7 +24,7 @@ pub enum FlowsFault {
 }
 
 /// Where a plan is wrong.
-#[derive(Clone, Copy, Debug, PartialEq, Eq)]
+#[derive(Clone, Copy, PartialEq, Eq)]
 pub enum PlanPlace {
     /// It is no object of lists.
     Whole,
@@ -35,7 +35,7 @@ pub enum PlanPlace {
 }
 
 /// Why a run ended.
-#[derive(Debug, Drop)]
+#[derive(Drop)]
 pub enum Cause {
     /// Every request is answered, and each answer said.
     Done,

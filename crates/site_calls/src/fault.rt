@@ -6,7 +6,7 @@ use site_model::Failed;
 use std::io;
 
 /// Where the outside failed.
-#[derive(Clone, Copy, Debug, PartialEq, Eq)]
+#[derive(Clone, Copy, PartialEq, Eq)]
 pub enum FaultPlace {
     /// At the file with this number.
     File(u32),
@@ -17,7 +17,7 @@ pub enum FaultPlace {
 }
 
 /// What failed, for people.
-#[derive(Clone, Copy, Debug)]
+#[derive(Clone, Copy)]
 pub struct Fault {
     pub place: FaultPlace,
     pub error: io::Error,

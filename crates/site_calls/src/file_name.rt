@@ -5,7 +5,7 @@ ghost use Rattle.site_calls.specs.FileNumbers.{IsFileNumber, number_of, place_of
 use std::fmt;
 
 /// The name of a numbered file.
-#[derive(Clone, Copy, Debug, PartialEq, Eq)]
+#[derive(Clone, Copy, PartialEq, Eq)]
 pub enum FileName {
     /// The flows that are running.
     Flows,
@@ -18,7 +18,7 @@ pub enum FileName {
 }
 
 /// The four files of a partition.
-#[derive(Clone, Copy, Debug, PartialEq, Eq)]
+#[derive(Clone, Copy, PartialEq, Eq)]
 pub enum PartKind {
     /// The first of its two logs.
     FirstLog,

@@ -10,7 +10,7 @@ use std::io;
 const STEPS_BEFORE: u64 = 288;
 
 /// The standing after the calls so far, as far as code can know it.
-#[derive(Clone, Copy, Debug)]
+#[derive(Clone, Copy)]
 pub(crate) struct Known {
     /// How many steps there were, up to the last `u64`.
     pub(crate) moment: u64,

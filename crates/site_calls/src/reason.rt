@@ -3,7 +3,7 @@ use crate::file_name::FileName;
 use std::fmt;
 
 /// Why a call failed, where the system's error alone doesn't tell it.
-#[derive(Clone, Copy, Debug, PartialEq, Eq)]
+#[derive(Clone, Copy, PartialEq, Eq)]
 pub enum Reason {
     /// The null device can't be opened.
     NullDevice,

@@ -2,7 +2,7 @@
 
 /// One entry of the record, the oldest first. A write is a `Wrote` and then one `Byte` for each byte that a read gives
 /// since then. A line is one `Said` a byte.
-#[derive(Clone, Copy, Debug, PartialEq, Eq)]
+#[derive(Clone, Copy, PartialEq, Eq)]
 pub enum Kept {
     /// From this offset so many bytes are open to a crash.
     Wrote { file: u32, at: u64, size: u64 },

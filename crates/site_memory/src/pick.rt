@@ -9,7 +9,7 @@ use crate::walks::content_in;
 use std::alloc::{AllocError, Global};
 
 /// Which of the images that a crash may leave. They differ in the ranges that were written and not synced.
-#[derive(Clone, Copy, Debug, PartialEq, Eq)]
+#[derive(Clone, Copy, PartialEq, Eq)]
 pub enum Pick {
     /// The old bytes and the old length.
     Stable,

@@ -4,7 +4,7 @@ ghost use Rattle.site_memory.specs.Kinds.{slot_of};
 ghost use Rattle.site_memory.specs.declared.plan.Kind.{Kind};
 
 /// A kind of call.
-#[derive(Clone, Copy, Debug, PartialEq, Eq)]
+#[derive(Clone, Copy, PartialEq, Eq)]
 pub enum Kind {
     Length,
     Read,

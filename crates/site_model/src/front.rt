@@ -7,7 +7,7 @@ use crate::Site;
 use std::alloc::Global;
 
 /// Why bytes could not be read.
-#[derive(Clone, Copy, Debug, PartialEq, Eq)]
+#[derive(Clone, Copy, PartialEq, Eq)]
 pub enum FrontError {
     /// The site failed.
     Failed,

@@ -14,7 +14,7 @@ use std::collections::BTreeSet;
 /// The timers of a partition: at most one for each task of an instance. A contract sees when each is due.
 ///
 /// After an Err, which is want of memory, a row is only dropped.
-#[derive(Debug, Drop)]
+#[derive(Drop)]
 pub struct TimerRow {
     moments: NumberMap<u64>,
     order: BTreeSet<Timer>,

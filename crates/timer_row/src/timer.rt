@@ -6,7 +6,7 @@ use dura_value::Id;
 use std::alloc::AllocError;
 
 /// A timer. In order the one that is due first comes first; of those due at one moment the first by id, then by task.
-#[derive(Clone, Debug, Drop, PartialEq, Eq, PartialOrd, Ord)]
+#[derive(Clone, Drop, PartialEq, Eq, PartialOrd, Ord)]
 pub struct Timer {
     /// The moment that it is due at.
     pub due: u64,
