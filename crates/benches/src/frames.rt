@@ -1,18 +1,16 @@
-//! Writes and reads one large frame, as bytes and as JSON. Whoever holds a watch tells it what, how often, and how long the texts
-//! are: `codec_bench read 100 24`. With no words it does each once. It says `ok`.
+//! Writes and reads one large frame, as bytes and as JSON. The words say what, how often, and how long the texts are:
+//! `read 100 24`. With no words each is done once.
 //!
-//! - `frames` makes the frame, `texts` the same as JSON.
-#![tactic(auto)]
+//! - `frame` makes the frame, `texts` the same as JSON.
 
-mod frames;
+mod frame;
 mod texts;
 
 use anyhow::{Result, bail};
-use frames::make_frame;
+use frame::make_frame;
 use part_items::{read_frame, write_frame};
 use serde_json::Value;
 use std::alloc::Global;
-use std::env;
 use texts::make_json;
 
 /// What is done, how often, and how many bytes the texts have.
@@ -44,20 +42,19 @@ fn kind_of(word: &str) -> Result<Kind> {
     }
 }
 
-fn read_call(rt: &HostRuntime) -> Result<Call> {
-    let mut words = env::args(rt)?.skip(1);
+fn call_of(words: &[String]) -> Result<Call> {
     let mut call = Call {
         kind: Kind::All,
         times: 1,
         size: 24,
     };
-    if let Some(word) = words.next() {
+    if let Some(word) = words.get(0) {
         call.kind = kind_of(word.as_str())?;
     }
-    if let Some(word) = words.next() {
+    if let Some(word) = words.get(1) {
         call.times = word.parse::<u32>()?;
     }
-    if let Some(word) = words.next() {
+    if let Some(word) = words.get(2) {
         call.size = word.parse::<usize>()?;
     }
     Ok(call)
@@ -148,9 +145,8 @@ fn do_call(alloc: Global, call: &Call) -> Result<()> {
     }
 }
 
-fn main(rt: HostRuntime) -> Result<()> {
-    let call = read_call(&rt)?;
-    do_call(rt.alloc(), &call)?;
-    println!(rt; "ok")?;
-    Ok(())
+/// What the words say, or each once.
+pub fn do_words(alloc: Global, words: &[String]) -> Result<()> {
+    let call = call_of(words)?;
+    do_call(alloc, &call)
 }

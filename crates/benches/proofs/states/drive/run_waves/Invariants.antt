@@ -1,6 +1,6 @@
 use Rattle.std.proofs.Common.{◌<◌}
 use Rattle.part_steps.specs.States.{IsSound, state_of}
-use Rattle.state_bench.proofs.drive.run_waves.Given as goal
+use Rattle.benches.proofs.states.drive.run_waves.Given as goal
 
 -- its state is sound, in an entry that has begun
 abbrev pub invariant-loop-wave : goal.invariant-loop-wave

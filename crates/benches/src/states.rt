@@ -1,10 +1,8 @@
-//! Runs many instances in the state of one partition, to be timed from outside. `state_bench 10000 1 4 100` has 10,000 instances of
-//! `Sum` started, run and waited for by 4 clients in turn, 100 at a time, and does so once. That is 7 items for each instance: two
-//! requests that are taken, their deliveries and those of their answers, and an outcome. With no words it does a little. It says `ok`
-//! if each answer is right.
+//! Runs many instances in the state of one partition. The words `10000 1 4 100` have 10,000 instances of `Sum` started, run and
+//! waited for by 4 clients in turn, 100 at a time, and do so once. That is 7 items for each instance: two requests that are taken,
+//! their deliveries and those of their answers, and an outcome. With no words a little is done. Each answer must be right.
 //!
 //! - `drive` applies items, and `asking` makes them.
-#![tactic(auto)]
 
 ghost use Rattle.part_steps.specs.States.{IsSound};
 
@@ -18,10 +16,16 @@ use flow_reader::read_flows;
 use flow_syntax::Flows;
 use part_steps::PartState;
 use std::alloc::Global;
-use std::env;
 
 /// A sum, by one activity.
 const SUM: &[u8] = br#"{"flows":{"Sum":[["call","x","add",{"v":"arg"}],["return",{"v":"x"}]]}}"#;
+
+/// The crowd when no words say which.
+const LITTLE: Crowd = Crowd {
+    instances: 10,
+    clients: 4,
+    flight: 4,
+};
 
 /// Nothing is possible by itself any more, and each client has its answers.
 fn check_all(alloc: Global, state: &PartState, crowd: Crowd) -> Result<()>
@@ -66,45 +70,23 @@ fn call_of(instances: &str, times: &str, clients: &str, flight: &str) -> Result<
 }
 
 /// What the words say, or a little.
-fn read_call(rt: &HostRuntime) -> Result<(u32, Crowd)> {
-    let mut words = env::args(rt)?.skip(1);
-    let instances = words.next();
-    let times = words.next();
-    let clients = words.next();
-    let flight = words.next();
-    drop(words);
-    let call = match (&instances, &times, &clients, &flight) {
-        (Some(instances), Some(times), Some(clients), Some(flight)) => {
-            call_of(
-                instances.as_str(),
-                times.as_str(),
-                clients.as_str(),
-                flight.as_str(),
-            )
-        }
-        _ => Ok((
-            2,
-            Crowd {
-                instances: 10,
-                clients: 4,
-                flight: 4,
-            },
-        )),
-    };
-    drop(flight);
-    drop(clients);
-    drop(times);
-    drop(instances);
-    call
+fn read_call(words: &[String]) -> Result<(u32, Crowd)> {
+    match words {
+        [instances, times, clients, flight, ..] => call_of(
+            instances.as_str(),
+            times.as_str(),
+            clients.as_str(),
+            flight.as_str(),
+        ),
+        _ => Ok((2, LITTLE)),
+    }
 }
 
-fn main(rt: HostRuntime) -> Result<()> {
-    let alloc = rt.alloc();
-    let (times, crowd) = read_call(&rt)?;
+/// What the words say, or a little.
+pub fn do_words(alloc: Global, words: &[String]) -> Result<()> {
+    let (times, crowd) = read_call(words)?;
     let flows = read_flows(alloc, SUM)?;
     let ran = run_often(alloc, &flows, crowd, times);
     drop(flows);
-    ran?;
-    println!(rt; "ok")?;
-    Ok(())
+    ran
 }

@@ -3,7 +3,7 @@
 ghost use Rattle.std.specs.Prelude.{◌<◌, IfOk};
 ghost use Rattle.part_steps.specs.States.{IsSound, state_of};
 
-use crate::asking::{Crowd, end, start, wait};
+use crate::states::asking::{Crowd, end, start, wait};
 use anyhow::{Result, bail};
 use flow_syntax::Flows;
 use part_items::Item;

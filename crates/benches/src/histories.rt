@@ -1,24 +1,21 @@
-//! Replays long histories, and runs a flow through many steps, to be timed from outside. `replay_bench calls 10000 100` replays the
-//! flow `calls` from 10,000 events 100 times; `replay_bench steps 4998 100` runs 100 instances of `count` with that argument, each in
-//! one go of 10,000 steps; `replay_bench eval 7 1000` evaluates an operation on integers 1,000 times. With no words it does a little
-//! of each. It says `ok`.
+//! Replays long histories, and runs a flow through many steps. The words `calls 10000 100` replay the flow `calls` from 10,000
+//! events 100 times; `steps 4998 100` runs 100 instances of `count` with that argument, each in one go of 10,000 steps;
+//! `eval 7 1000` evaluates an operation on integers 1,000 times. With no words a little of each is done.
 //!
-//! - `flows` are the flows, `histories` what reaches them.
-#![tactic(auto)]
+//! - `flows` are the flows, `events` what reaches them.
 
+mod events;
 mod flows;
-mod histories;
 
 use anyhow::{Result, bail};
 use dura_value::{Id, Name, Scalar, Value};
+use events::{going_of, make_history, make_start};
 use flow_eval::{Variables, eval};
 use flow_messages::{Event, Past};
 use flow_replay::{Machine, Progress, replay};
 use flow_syntax::{BinaryOp, Expr, Flows, Stmt};
 use flows::{find_body, make_flows};
-use histories::{going_of, make_history, make_start};
 use std::alloc::Global;
-use std::env;
 use with_value::with;
 
 /// Flows that are replayed when no words say which.
@@ -181,26 +178,9 @@ fn do_call(alloc: Global, kind: &str, size: &str, times: &str) -> Result<()> {
 }
 
 /// What the words say, or a little of each.
-fn do_words(rt: &HostRuntime) -> Result<()> {
-    let mut words = env::args(rt)?.skip(1);
-    let kind = words.next();
-    let size = words.next();
-    let times = words.next();
-    drop(words);
-    let done = match (&kind, &size, &times) {
-        (Some(kind), Some(size), Some(times)) => {
-            do_call(rt.alloc(), kind.as_str(), size.as_str(), times.as_str())
-        }
-        _ => do_each(rt.alloc()),
-    };
-    drop(times);
-    drop(size);
-    drop(kind);
-    done
-}
-
-fn main(rt: HostRuntime) -> Result<()> {
-    do_words(&rt)?;
-    println!(rt; "ok")?;
-    Ok(())
+pub fn do_words(alloc: Global, words: &[String]) -> Result<()> {
+    match words {
+        [kind, size, times, ..] => do_call(alloc, kind.as_str(), size.as_str(), times.as_str()),
+        _ => do_each(alloc),
+    }
 }
