@@ -2,7 +2,9 @@
 
 ghost use Rattle.std.specs.Prelude.{◌<◌};
 
-use crate::programs::{NAP, Program, SUM, TRANSFERS, check_next, run_by, run_on, site_of};
+use crate::programs::{
+    NAP, Program, SUM, TRANSFERS, check_next, run_by, run_on, site_left, site_of,
+};
 use site_memory::{MemorySite, Pick};
 use site_model::Site;
 use std::alloc::Global;
@@ -27,10 +29,11 @@ fn check_moments(rt: &impl Abort, alloc: Global, program: Program, batch: &str, 
 {
     let site = site_of(rt, alloc, program, &[]);
     let prepared = site.moment();
-    let first = run_by(rt, alloc, site, batch).site;
+    let first = site_left(run_by(rt, alloc, site, batch));
     for moment in (prepared..=first.moment()).step_by(step) {
         check_images(rt, alloc, program, &first, moment);
     }
+    drop(first);
 }
 
 #[test]
@@ -57,15 +60,12 @@ fn the_transfers(rt: HostRuntime) {
 fn check_second_crash(rt: &impl Abort, alloc: Global, site: &MemorySite, moment: u64, pick: Pick) {
     let crashed = image(rt, alloc, site, moment, pick);
     let start = crashed.moment();
-    let second = run_on(rt, alloc, crashed).site;
+    let second = site_left(run_on(rt, alloc, crashed));
     for later in (start..=second.moment()).step_by(5) {
-        check_next(
-            rt,
-            alloc,
-            SUM,
-            image(rt, alloc, &second, later, Pick::Torn(0xC3)),
-        );
+        let crashed = image(rt, alloc, &second, later, Pick::Torn(0xC3));
+        check_next(rt, alloc, SUM, crashed);
     }
+    drop(second);
 }
 
 #[test]
@@ -73,9 +73,10 @@ fn two_crashes(rt: HostRuntime) {
     let alloc = rt.alloc();
     let site = site_of(&rt, alloc, SUM, &[]);
     let prepared = site.moment();
-    let first = run_on(&rt, alloc, site).site;
+    let first = site_left(run_on(&rt, alloc, site));
     for moment in prepared..=first.moment() {
         check_second_crash(&rt, alloc, &first, moment, Pick::Stable);
         check_second_crash(&rt, alloc, &first, moment, Pick::Torn(0xC3));
     }
+    drop(first);
 }

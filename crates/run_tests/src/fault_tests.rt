@@ -1,9 +1,10 @@
 //! Each call of the outside fails in turn.
 
 use crate::programs::{
-    NAP, PROGRAMS, Program, Run, SUM, check_end, check_next, check_tape, run_on, run_words, site_of,
+    NAP, PROGRAMS, Program, Run, SUM, check_end, check_next, check_tape, run_on, run_words,
+    site_left, site_of,
 };
-use site_memory::{Kind, Pick};
+use site_memory::{Kind, MemorySite, Pick};
 use std::alloc::Global;
 use std::process::Abort;
 
@@ -15,35 +16,46 @@ fn check_front(rt: &impl Abort, program: Program, tape: &[u8], is_say: bool) {
 
 /// The run ended by the fault of one call.
 fn check_fault(rt: &impl Abort, alloc: Global, program: Program, ended: &Run, kind: Kind) {
-    let faults = (ended.site.disk_faults(), ended.site.say_faults());
-    if kind == Kind::Say {
-        check_end(rt, ended, 6);
-        assert!(rt; faults == (0, 1));
-    } else {
-        check_end(rt, ended, 5);
-        assert!(rt; faults == (1, 0));
-    }
+    let is_say = kind == Kind::Say;
+    let (status, disk, say) = if is_say { (6, 0, 1) } else { (5, 1, 0) };
+    check_end(rt, ended, status);
+    assert!(rt; ended.site.disk_faults() == disk);
+    assert!(rt; ended.site.say_faults() == say);
     let tape = ended.site.tape(alloc).expect(rt, "memory");
-    check_front(rt, program, &tape, kind == Kind::Say);
+    check_front(rt, program, &tape, is_say);
+    drop(tape);
 }
 
 const PICKS: [Pick; 3] = [Pick::Stable, Pick::All, Pick::Torn(0xC3)];
 
+/// The next runs say all lines, whatever is left of what a run left.
+fn check_left(rt: &impl Abort, alloc: Global, program: Program, site: &MemorySite) {
+    let moment = site.record().len() as u64;
+    for pick in PICKS {
+        let image = site.image(alloc, moment, pick).expect(rt, "memory");
+        check_next(rt, alloc, program, image);
+    }
+}
+
+/// The run ended by the fault of one call, and the next runs say all lines.
+fn check_failed(rt: &impl Abort, alloc: Global, program: Program, ended: Run, kind: Kind) {
+    check_fault(rt, alloc, program, &ended, kind);
+    let site = site_left(ended);
+    check_left(rt, alloc, program, &site);
+    check_next(rt, alloc, program, site);
+}
+
 /// Whether the call with this number failed, with the next runs after it checked.
 fn fails_at(rt: &impl Abort, alloc: Global, program: Program, kind: Kind, number: u64) -> bool {
     let first = run_on(rt, alloc, site_of(rt, alloc, program, &[(kind, number)]));
-    if first.status == 0 {
+    let fails = first.status != 0;
+    if fails {
+        check_failed(rt, alloc, program, first, kind);
+    } else {
         assert!(rt; number == first.site.calls(kind));
-        return false;
+        drop(first);
     }
-    check_fault(rt, alloc, program, &first, kind);
-    for pick in PICKS {
-        let moment = first.site.record().len() as u64;
-        let image = first.site.image(alloc, moment, pick);
-        check_next(rt, alloc, program, image.expect(rt, "memory"));
-    }
-    check_next(rt, alloc, program, first.site);
-    true
+    fails
 }
 
 /// Each of these calls in turn fails, and there are at least so many.
@@ -66,19 +78,26 @@ fn each_fault_in_turn(rt: HostRuntime) {
     }
 }
 
+/// The run ended by a fault of the disk, after so many in all, and the next run says all lines.
+fn check_disk_fault(rt: &impl Abort, alloc: Global, program: Program, ended: Run, faults: u64) {
+    check_end(rt, &ended, 5);
+    assert!(rt; ended.site.disk_faults() == faults);
+    check_next(rt, alloc, program, site_left(ended));
+}
+
 /// Whether the device's call with this number after one that failed before it fails too, with the next runs checked.
 fn fails_again_at(rt: &impl Abort, alloc: Global, first: u64, second: u64) -> bool {
     let fails = [(Kind::Device, first), (Kind::Device, second)];
     let before = run_on(rt, alloc, site_of(rt, alloc, SUM, &fails));
-    assert!(rt; before.status == 5);
-    let after = run_on(rt, alloc, before.site);
-    if after.status == 0 {
-        return false;
+    check_end(rt, &before, 5);
+    let after = run_on(rt, alloc, site_left(before));
+    let fails = after.status != 0;
+    if fails {
+        check_disk_fault(rt, alloc, SUM, after, 2);
+    } else {
+        drop(after);
     }
-    check_end(rt, &after, 5);
-    assert!(rt; after.site.disk_faults() == 2);
-    check_next(rt, alloc, SUM, after.site);
-    true
+    fails
 }
 
 #[test]
@@ -97,27 +116,38 @@ fn two_faults_in_turn(rt: HostRuntime) {
 fn a_sync_fails(rt: HostRuntime) {
     let alloc = rt.alloc();
     let first = run_on(&rt, alloc, site_of(&rt, alloc, SUM, &[(Kind::Sync, 1)]));
-    check_end(&rt, &first, 5);
-    assert!(rt; first.site.disk_faults() == 1);
     check_tape(&rt, alloc, &first.site, b"");
-    check_next(&rt, alloc, SUM, first.site);
+    check_disk_fault(&rt, alloc, SUM, first, 1);
+}
+
+/// The run ended by a fault of the clock, and the next run says all lines.
+fn check_clock_fault(rt: &impl Abort, alloc: Global, ended: Run) {
+    check_end(rt, &ended, 7);
+    assert!(rt; ended.clock.faults() == 1);
+    check_next(rt, alloc, NAP, site_left(ended));
+}
+
+/// Whether the clock's call with this number failed, with the next run after it checked.
+fn clock_fails_at(rt: &impl Abort, alloc: Global, number: u64) -> bool {
+    let fails = vec![in alloc; number].expect(rt, "memory");
+    let first = run_words(rt, alloc, &["run"], site_of(rt, alloc, NAP, &[]), fails);
+    let fails = first.status != 0;
+    if fails {
+        check_clock_fault(rt, alloc, first);
+    } else {
+        drop(first);
+    }
+    fails
 }
 
 /// Each reading of the clock fails in turn, and each wait for it.
 #[test]
 fn the_clock_fails(rt: HostRuntime) {
-    let alloc = rt.alloc();
     let mut faults = 0;
     for number in 0..100 {
-        let fails = vec![in alloc; number].expect(&rt, "memory");
-        let site = site_of(&rt, alloc, NAP, &[]);
-        let first = run_words(&rt, alloc, &["run"], site, fails);
-        if first.status == 0 {
+        if !clock_fails_at(&rt, rt.alloc(), number) {
             break;
         }
-        check_end(&rt, &first, 7);
-        assert!(rt; first.clock.faults() == 1);
-        check_next(&rt, alloc, NAP, first.site);
         faults = number + 1;
     }
     assert!(rt; faults >= 3 && faults < 100);

@@ -57,7 +57,8 @@ pub(crate) fn site_of(
     site
 }
 
-fn texts(rt: &impl Abort, alloc: Global, words: &[&str]) -> Vec<Text> {
+/// The words of a call.
+pub(crate) fn texts(rt: &impl Abort, alloc: Global, words: &[&str]) -> Vec<Text> {
     let mut texts = Vec::new(alloc);
     for word in words {
         let text = Text::read(alloc, word.as_bytes()).expect(rt, "a text");
@@ -76,7 +77,9 @@ pub(crate) fn run_words(
 ) -> Run {
     let words = texts(rt, alloc, words);
     let clock = TickClock::new(0, fails);
-    run_alone(alloc, &words, site, clock, &Table)
+    let ended = run_alone(alloc, &words, site, clock, &Table);
+    drop(words);
+    ended
 }
 
 /// A run with so many items in an entry at the most.
@@ -89,6 +92,21 @@ pub(crate) fn run_on(rt: &impl Abort, alloc: Global, site: MemorySite) -> Run {
     run_words(rt, alloc, &["run"], site, Vec::new(alloc))
 }
 
+/// The site that a run left.
+pub(crate) fn site_left(ended: Run) -> MemorySite {
+    let Run {
+        cause,
+        trail,
+        site,
+        clock,
+        ..
+    } = ended;
+    drop(cause);
+    drop(trail);
+    drop(clock);
+    site
+}
+
 /// It ended so.
 pub(crate) fn check_end(rt: &impl Abort, ended: &Run, status: u8) {
     assert!(rt; ended.status == status);
@@ -98,15 +116,35 @@ pub(crate) fn check_end(rt: &impl Abort, ended: &Run, status: u8) {
 pub(crate) fn check_tape(rt: &impl Abort, alloc: Global, site: &MemorySite, lines: &[u8]) {
     let tape = site.tape(alloc).expect(rt, "memory");
     assert!(rt; tape.as_slice() == lines);
+    drop(tape);
+}
+
+/// The log on a site is this.
+pub(crate) fn check_kept(rt: &impl Abort, alloc: Global, site: &MemorySite, log: &[u8]) {
+    let kept = site.content(alloc, 16).expect(rt, "memory");
+    assert!(rt; kept.as_slice() == log);
+    drop(kept);
+}
+
+/// What stands on the tape of a site, with all lines behind it.
+pub(crate) fn tape_and_lines(
+    rt: &impl Abort,
+    alloc: Global,
+    program: Program,
+    site: &MemorySite,
+) -> Vec<u8> {
+    let mut tape = site.tape(alloc).expect(rt, "memory");
+    tape.extend_from_slice(program.lines.as_bytes())
+        .expect(rt, "memory");
+    tape
 }
 
 /// The next run on what a run left says all lines behind what stood there.
 pub(crate) fn check_next(rt: &impl Abort, alloc: Global, program: Program, site: MemorySite) {
-    let mut wanted = site.tape(alloc).expect(rt, "memory");
-    wanted
-        .extend_from_slice(program.lines.as_bytes())
-        .expect(rt, "memory");
+    let wanted = tape_and_lines(rt, alloc, program, &site);
     let next = run_on(rt, alloc, site);
     check_end(rt, &next, 0);
     check_tape(rt, alloc, &next.site, &wanted);
+    drop(next);
+    drop(wanted);
 }
