@@ -65,16 +65,76 @@ fn site_of(rt: &impl Abort, alloc: Global, first: &[u8], second: &[u8], fails: u
     site
 }
 
-fn recovered(
+/// What was recovered, as far as the tests ask.
+#[derive(Clone, Copy)]
+struct Found {
+    /// The log's file and its gate, if there is a log.
+    log: Option<(u32, u64)>,
+    incarnation: u64,
+    /// Whether client a's requests 1 and 2 were taken.
+    taken: (bool, bool),
+}
+
+/// What the tests ask of this, which is let go.
+fn found_of(rt: &impl Abort, alloc: Global, recovered: Recovered) -> Found {
+    let log = match &recovered.log {
+        Some(log) => Some((log.file, log.gate)),
+        None => None,
+    };
+    let incarnation = recovered.incarnation;
+    let client = Id::Client(Name::of(alloc, b"a").expect(rt, "memory"));
+    let taken = (
+        recovered.state.has_taken(&client, 1),
+        recovered.state.has_taken(&client, 2),
+    );
+    drop(client);
+    drop(recovered);
+    Found {
+        log,
+        incarnation,
+        taken,
+    }
+}
+
+/// What is recovered of these files, where the device call with this number fails. Nothing is written.
+fn recovered_at(
     rt: &impl Abort,
+    alloc: Global,
     first: &[u8],
     second: &[u8],
-    alloc: Global,
-) -> Result<Recovered, RecoverError> {
-    let mut site = site_of(rt, alloc, first, second, 1000);
-    let result = recover(alloc, &mut site, &Flows::new(alloc), DIGEST);
+    fails: u64,
+) -> Result<Found, RecoverError> {
+    let mut site = site_of(rt, alloc, first, second, fails);
+    let flows = Flows::new(alloc);
+    let result = recover(alloc, &mut site, &flows, DIGEST);
+    drop(flows);
     assert!(rt; site.calls(Kind::Write) == 0);
-    result
+    drop(site);
+    match result {
+        Ok(recovered) => Ok(found_of(rt, alloc, recovered)),
+        Err(error) => Err(error),
+    }
+}
+
+/// The number of a call that isn't made.
+const NO_CALL: u64 = 1000;
+
+fn found_in(rt: &impl Abort, alloc: Global, first: &[u8], second: &[u8]) -> Found {
+    recovered_at(rt, alloc, first, second, NO_CALL).expect(rt, "a state")
+}
+
+fn check_refused_at(
+    rt: &impl Abort,
+    alloc: Global,
+    first: &[u8],
+    second: &[u8],
+    fails: u64,
+    wanted: RecoverError,
+) {
+    match recovered_at(rt, alloc, first, second, fails) {
+        Ok(_) => panic!(rt; "recovered where call {fails} fails"),
+        Err(error) => assert!(rt; error == wanted, "{error} where call {fails} fails"),
+    }
 }
 
 fn check_refused(
@@ -84,46 +144,34 @@ fn check_refused(
     second: &[u8],
     wanted: RecoverError,
 ) {
-    match recovered(rt, first, second, alloc) {
-        Ok(_) => panic!(rt; "recovered"),
-        Err(error) => assert!(rt; error == wanted, "{error}"),
-    }
-}
-
-fn client(rt: &impl Abort, alloc: Global) -> Id {
-    Id::Client(Name::of(alloc, b"a").expect(rt, "memory"))
+    check_refused_at(rt, alloc, first, second, NO_CALL, wanted);
 }
 
 #[test]
 fn nothing_yet(rt: HostRuntime) {
     let alloc = rt.alloc();
     for (first, second) in [(&[] as &[u8], &[] as &[u8]), (&[0, 1, 2], &[0xC3])] {
-        let found = recovered(&rt, first, second, alloc).expect(&rt, "a state");
+        let found = found_in(&rt, alloc, first, second);
         assert!(rt; found.log.is_none());
         assert!(rt; found.incarnation == 0);
-        assert!(rt; !found.state.has_taken(&client(&rt, alloc), 1));
+        assert!(rt; found.taken == (false, false));
     }
 }
 
-fn check_first(rt: &impl Abort, alloc: Global, found: &Recovered, file: u32, gate: u64) {
-    match &found.log {
-        Some(log) => assert!(rt; (log.file, log.gate) == (file, gate)),
-        None => panic!(rt; "no log"),
-    }
-    let client = client(rt, alloc);
-    assert!(rt; found.state.has_taken(&client, 1));
-    assert!(rt; !found.state.has_taken(&client, 2));
+fn check_first(rt: &impl Abort, found: Found, file: u32, gate: u64) {
+    assert!(rt; found.log == Some((file, gate)));
+    assert!(rt; found.taken == (true, false));
 }
 
 #[test]
 fn one_entry(rt: HostRuntime) {
     let alloc = rt.alloc();
     let log = log_of(&rt, alloc, &HEADER, &[FIRST]);
-    let found = recovered(&rt, &log, &[], alloc).expect(&rt, "a state");
-    check_first(&rt, alloc, &found, 16, 76);
+    let found = found_in(&rt, alloc, &log, &[]);
+    check_first(&rt, found, 16, 76);
     assert!(rt; found.incarnation == 1);
-    let found = recovered(&rt, &[0], &log, alloc).expect(&rt, "a state");
-    check_first(&rt, alloc, &found, 17, 76);
+    let found = found_in(&rt, alloc, &[0], &log);
+    check_first(&rt, found, 17, 76);
 }
 
 #[test]
@@ -131,7 +179,7 @@ fn a_life_behind_the_last(rt: HostRuntime) {
     let alloc = rt.alloc();
     let second = with(with(with(FIRST, 9, &[1]), 17, &[5]), 37, &[2]);
     let log = log_of(&rt, alloc, &HEADER, &[FIRST, second]);
-    let found = recovered(&rt, &log, &[], alloc).expect(&rt, "a state");
+    let found = found_in(&rt, alloc, &log, &[]);
     assert!(rt; found.incarnation == 6);
 }
 
@@ -269,12 +317,7 @@ fn the_disk_fails(rt: HostRuntime) {
     let alloc = rt.alloc();
     let log = log_of(&rt, alloc, &HEADER, &[FIRST]);
     for call in 0..9 {
-        let mut site = site_of(&rt, alloc, &log, &[], call);
-        match recover(alloc, &mut site, &Flows::new(alloc), DIGEST) {
-            Ok(_) => panic!(rt; "recovered at {call}"),
-            Err(error) => assert!(rt; error == RecoverError::SiteFault, "{call}"),
-        }
+        check_refused_at(&rt, alloc, &log, &[], call, RecoverError::SiteFault);
     }
-    let mut site = site_of(&rt, alloc, &log, &[], 9);
-    let _found = recover(alloc, &mut site, &Flows::new(alloc), DIGEST).expect(&rt, "a state");
+    assert!(rt; recovered_at(&rt, alloc, &log, &[], 9).is_ok());
 }
