@@ -1,7 +1,5 @@
 // What no clause says: that each call gets through, in which order the calls are made, and that just one fault is counted.
-use crate::FILE;
-use crate::checks::believe;
-use crate::rows::{Row, check_rows};
+use crate::rows::{FILE, Row, check_rows};
 use crate::scripted::{CallKind, Mishap, Planned, ScriptedCalls};
 use site_calls::{CalledSite, FaultPlace, Unknown};
 use std::alloc::Global;
@@ -30,17 +28,6 @@ enum Left<'a> {
     Any,
     Order(&'a [CallKind]),
     Tape(&'a [u8]),
-    /// Each answer agreed, or not.
-    Tells(bool),
-}
-
-/// Where each answer agreed, what was read is believed.
-fn tells<R: Abort>(site: &Scripted<R>) -> bool {
-    let tells = site.calls().tells();
-    if tells {
-        believe(site);
-    }
-    tells
 }
 
 fn is_left<R: Abort>(site: &Scripted<R>, left: Left) -> bool {
@@ -48,7 +35,6 @@ fn is_left<R: Abort>(site: &Scripted<R>, left: Left) -> bool {
         Left::Any => true,
         Left::Order(order) => site.calls().order() == order,
         Left::Tape(tape) => site.calls().tape() == tape,
-        Left::Tells(wanted) => tells(site) == wanted,
     }
 }
 
@@ -244,25 +230,27 @@ fn a_call_that_a_signal_cuts_off_goes_on(rt: HostRuntime) {
     check_run(rt, rt.alloc(), 2, &plan, &rows, Left::Tape(b"said"));
 }
 
-/// A whole run of answers that agree.
 #[test]
-fn an_honest_run_tells(rt: HostRuntime) {
+fn a_shorter_write_keeps_what_is_behind_it(rt: HostRuntime) {
     let rows = [
         Row::Writes(FILE, b"ab"),
         Row::Syncs(FILE),
         Row::Writes(FILE, b"xyz"),
         Row::Reads(FILE, 0, b"xyz"),
+        Row::Writes(FILE, b"w"),
+        Row::Reads(FILE, 0, b"wyz"),
         Row::HasLength(FILE, 3),
         Row::Says(b"hi"),
     ];
-    check_run(rt, rt.alloc(), 2, &[], &rows, Left::Tells(true));
+    check_run(rt, rt.alloc(), 2, &[], &rows, Left::Tape(b"hi"));
 }
 
-/// A read that ends early is no answer of such a file, and what came before it tells.
+/// A read that the system ends early gives what came.
 #[test]
-fn a_dishonest_run_tells_nothing(rt: HostRuntime) {
-    let plan = [planned(CallKind::Read, 0, Mishap::GivesNothing)];
-    let rows = [Row::Writes(FILE, b"xyz"), Row::Reads(FILE, 0, b"")];
-    check_run(rt, rt.alloc(), 2, &plan, &rows[..1], Left::Tells(true));
-    check_run(rt, rt.alloc(), 2, &plan, &rows, Left::Tells(false));
+fn a_read_that_ends_early_gives_its_front(rt: HostRuntime) {
+    for (number, front) in [(0, b"".as_slice()), (1, b"xy")] {
+        let plan = [planned(CallKind::Read, number, Mishap::GivesNothing)];
+        let rows = [Row::Writes(FILE, b"xyz"), Row::Reads(FILE, 0, front)];
+        check_run(rt, rt.alloc(), 2, &plan, &rows, Left::Any);
+    }
 }

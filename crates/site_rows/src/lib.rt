@@ -1,13 +1,8 @@
-//! Tests of the sites, in memory, over recorded calls and over a real directory, and of the machine's clock.
+//! Tests of the sites, in memory, over calls that fail as planned and over a real directory, and of the machine's clock.
 //!
-//! - `ledger`: whether answers agree with the calls before them, as code. It is no test, since `specs/` names its types.
 //! - `rows`: calls of a site with what they are to give, as data, so that one function makes those of all tests.
 //! - `scripted`: calls on a file in memory, for the tests of the site over calls.
 #![tactic(auto)]
-
-mod ledger;
-
-pub use ledger::{Entry, FILE, Ledger, Replayed, Writing};
 
 #[cfg(test)]
 mod called_tests;

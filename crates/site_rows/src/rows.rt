@@ -1,11 +1,13 @@
 // Calls of a site with what they are to give, as rows of a table: one function makes them all, on any site.
-use crate::FILE;
 use site_calls::{CalledSite, Calls, Fault, FaultPlace, Reason, Unknown};
 use site_host::Host;
 use site_memory::MemorySite;
 use site_model::Site;
 use std::io::ErrorKind;
 use std::process::Abort;
+
+/// The one file that calls in memory have.
+pub(crate) const FILE: u32 = 17;
 
 /// Calls that say why the last one failed, where the system's error doesn't.
 pub(crate) trait Explained {

@@ -1,11 +1,8 @@
 // Calls on one file in memory, which are cut short and fail where a test says so.
-ghost use Rattle.std.specs.Prelude.{◌≡◌, ◌∷◌, ◌+◌, ◌≤◌, [], length, take, IsTrue};
-ghost use Rattle.site_calls.specs.Events.{Tells};
-ghost use Rattle.site_rows.specs.Ledger.{event_of, events_of, nothing_held};
+ghost use Rattle.std.specs.Prelude.{◌≡◌, ◌+◌, ◌≤◌, [], length, take};
 
-use crate::rows::Explained;
-use crate::{Entry, FILE, Ledger};
-use site_calls::{Calls, Reason};
+use crate::rows::{Explained, FILE};
+use site_calls::{Calls, Reason, Record};
 use std::alloc::Global;
 use std::io;
 use std::io::ErrorKind;
@@ -51,13 +48,14 @@ pub(crate) struct ScriptedCalls<R> {
     plan: Vec<Planned>,
     order: Vec<CallKind>,
     is_there: bool,
+    content: Vec<u8>,
     tape: Vec<u8>,
-    ledger: Ledger,
+    record: Record,
 }
 
 impl<R: Abort> ScriptedCalls<R> {
     pub(crate) fn new(rt: R, alloc: Global, most: usize, plan: Vec<Planned>) -> ScriptedCalls<R>
-        ensures { events_of result.ledger.entries.items ≡ [] }
+        ensures { result.record.events ≡ [] }
     {
         ScriptedCalls {
             rt,
@@ -66,8 +64,9 @@ impl<R: Abort> ScriptedCalls<R> {
             plan,
             order: Vec::new(alloc),
             is_there: false,
+            content: Vec::new(alloc),
             tape: Vec::new(alloc),
-            ledger: Ledger::new(alloc),
+            record: Record::new(),
         }
     }
 
@@ -81,13 +80,6 @@ impl<R: Abort> ScriptedCalls<R> {
         &self.tape
     }
 
-    /// Whether each answer agreed with the calls before it.
-    pub(crate) fn tells(&self) -> bool
-        ensures { IsTrue result → Tells nothing_held (events_of self.now.ledger.entries.items) }
-    {
-        self.ledger.tells()
-    }
-
     fn mishap_at(&self, kind: CallKind, number: usize) -> Option<Mishap> {
         for planned in &self.plan {
             if planned.kind == kind && planned.number == number {
@@ -99,7 +91,7 @@ impl<R: Abort> ScriptedCalls<R> {
 
     /// Makes a call, and says how many bytes it may move.
     fn call(&mut self, kind: CallKind) -> io::Result<usize>
-        ensures { self.new.ledger ≡ self.old.ledger }
+        ensures { self.new.record ≡ self.old.record }
     {
         let number = self.order.iter().filter(|made| **made == kind).count();
         self.order.push(kind).expect(&self.rt, "memory");
@@ -111,18 +103,18 @@ impl<R: Abort> ScriptedCalls<R> {
         }
     }
 
-    fn note(&mut self, entry: Entry)
-        ensures { events_of self.new.ledger.entries.items ≡ event_of entry ∷ events_of self.old.ledger.entries.items }
+    /// Puts bytes over those of the file from this offset on, and past its end.
+    fn put(&mut self, at: u64, bytes: &[u8])
+        ensures { self.new.record ≡ self.old.record }
     {
-        self.ledger
-            .note(self.alloc, entry)
-            .expect(&self.rt, "memory");
-    }
-
-    fn copied(&self, bytes: &[u8]) -> Vec<u8>
-        ensures { result.items ≡ bytes.now }
-    {
-        bytes.to_vec(self.alloc).expect(&self.rt, "memory")
+        let from = (at as usize).min(self.content.len());
+        let behind = from.saturating_add(bytes.len()).min(self.content.len());
+        let tail = self.content[behind..].to_vec(self.alloc);
+        let tail = tail.expect(&self.rt, "memory");
+        self.content.truncate(from);
+        let content = &mut self.content;
+        content.extend_from_slice(bytes).expect(&self.rt, "memory");
+        content.extend_from_slice(&tail).expect(&self.rt, "memory");
     }
 }
 
@@ -148,12 +140,12 @@ fn copy_some(content: &[u8], from: u64, most: usize, done: usize, out: &mut [u8]
 }
 
 impl<R: Abort> Calls for ScriptedCalls<R> {
-    ghost events = { λ calls. events_of calls.ledger.entries.items };
+    ghost events = { λ calls. calls.record.events };
 
     fn find(&mut self, file: u32) -> io::Result<bool> {
         self.call(CallKind::Find)?;
         let is_there = file == FILE && self.is_there;
-        self.note(Entry::Found { file, is_there });
+        self.record.found(file, is_there);
         Ok(is_there)
     }
 
@@ -163,96 +155,68 @@ impl<R: Abort> Calls for ScriptedCalls<R> {
             return Err(io::Error::from(ErrorKind::Unsupported));
         }
         self.is_there = true;
-        self.note(Entry::Made { file });
+        self.record.made(file);
         Ok(())
     }
 
     fn measure(&mut self, file: u32) -> io::Result<u64> {
         self.call(CallKind::Measure)?;
-        let size = self.ledger.content_of(file).len() as u64;
-        self.note(Entry::Measured { file, size });
+        let size = self.content.len() as u64;
+        self.record.measured(file, size);
         Ok(size)
     }
 
     fn read_some(&mut self, file: u32, at: u64, done: usize, out: &mut [u8]) -> io::Result<usize> {
         let most = self.call(CallKind::Read)?;
         let from = at.saturating_add(done as u64);
-        let count = copy_some(self.ledger.content_of(file), from, most, done, out);
-        let bytes = self.copied(&out[..done + count]);
-        self.note(Entry::Got {
-            file,
-            at,
-            want: out.len(),
-            count,
-            bytes,
-        });
+        let count = copy_some(&self.content, from, most, done, out);
+        let size = out.len();
+        self.record.got(file, at, size, count, &out[..done + count]);
         Ok(count)
     }
 
     fn begin_write(&mut self, file: u32, at: u64, size: usize) {
-        self.note(Entry::Begun { file, at, size });
+        self.record.begun(file, at, size);
     }
 
-    fn write_some(&mut self, _file: u32, _at: u64, done: usize, bytes: &[u8]) -> io::Result<usize> {
+    fn write_some(&mut self, _file: u32, at: u64, done: usize, bytes: &[u8]) -> io::Result<usize> {
         match self.call(CallKind::Write) {
             Ok(most) => {
                 let count = most.min(bytes.len() - done);
-                let bytes = self.copied(&bytes[..done + count]);
-                self.note(Entry::Put { bytes });
+                self.put(at.saturating_add(done as u64), &bytes[done..done + count]);
+                self.record.put(&bytes[..done + count]);
                 Ok(count)
             }
             Err(error) => {
-                let bytes = self.copied(&bytes[..done]);
-                self.note(Entry::Lost { bytes });
+                self.record.lost(&bytes[..done]);
                 Err(error)
             }
         }
     }
 
     fn flush(&mut self, file: u32) -> io::Result<()> {
-        match self.call(CallKind::Flush) {
-            Ok(_) => {
-                self.note(Entry::Flushed {
-                    file,
-                    is_safe: true,
-                });
-                Ok(())
-            }
-            Err(error) => {
-                self.note(Entry::Flushed {
-                    file,
-                    is_safe: false,
-                });
-                Err(error)
-            }
-        }
+        let answer = self.call(CallKind::Flush);
+        self.record.flushed(file, answer.is_ok());
+        answer.map(|_| ())
     }
 
     fn flush_names(&mut self) -> io::Result<()> {
-        match self.call(CallKind::Names) {
-            Ok(_) => {
-                self.note(Entry::Named { is_safe: true });
-                Ok(())
-            }
-            Err(error) => {
-                self.note(Entry::Named { is_safe: false });
-                Err(error)
-            }
-        }
+        let answer = self.call(CallKind::Names);
+        self.record.named(answer.is_ok());
+        answer.map(|_| ())
     }
 
     fn pass_over(&mut self, file: u32) {
-        self.note(Entry::Absent { file });
+        self.record.absent(file);
     }
 
     fn print_some(&mut self, done: usize, line: &[u8]) -> io::Result<usize> {
         let most = self.call(CallKind::Print)?;
         let count = most.min(line.len() - done);
-        let bytes = self.copied(&line[done..done + count]);
-        self.tape
-            .extend_from_slice(&bytes)
-            .expect(&self.rt, "memory");
-        self.note(Entry::Printed { bytes });
+        let bytes = &line[done..done + count];
+        let tape = self.tape.extend_from_slice(bytes);
+        tape.expect(&self.rt, "memory");
+        self.record.printed(bytes);
         Ok(count)
     }
 }
