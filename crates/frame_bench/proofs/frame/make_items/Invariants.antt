@@ -1,7 +1,7 @@
 use Rattle.std.proofs.Common.{◌≤◌, length, All}
 use Rattle.part_items.specs.Plain.{items_of}
 use Rattle.part_items.specs.Spelling.{CanSpellItem}
-use Rattle.benches.proofs.frames.frame.make_items.Given as goal
+use Rattle.frame_bench.proofs.frame.make_items.Given as goal
 
 -- there are as many as were made, and each can be written
 abbrev pub invariant-loop-index : goal.invariant-loop-index

@@ -1,7 +1,7 @@
 use Rattle.std.proofs.Common.{◌≤◌, length, All}
 use Rattle.part_items.specs.Plain.{entries_of}
 use Rattle.part_items.specs.Spelling.{CanSpellEntry}
-use Rattle.benches.proofs.frames.frame.make_frame.Given as goal
+use Rattle.frame_bench.proofs.frame.make_frame.Given as goal
 
 -- there are as many as were made, and each can be written
 abbrev pub invariant-loop-position : goal.invariant-loop-position

@@ -1,8 +1,8 @@
 use Rattle.std.proofs.Common.{arith, length-append}
 use Rattle.part_items.specs.Plain.{item_of}
 use Rattle.part_items.specs.Spelling.{CanSpellItem}
-use Rattle.benches.proofs.Each.{one_more}
-use Rattle.benches.proofs.frames.frame.make_items.Goals as goal
+use Rattle.frame_bench.proofs.Each.{one_more}
+use Rattle.frame_bench.proofs.frame.make_items.Goals as goal
 
 pub loop-index-preserved : goal.loop-index-preserved
 loop-index-preserved c = record {

@@ -1,7 +1,8 @@
-//! Writes and reads one large frame, as bytes and as JSON. The words say what, how often, and how long the texts are:
-//! `read 100 24`. With no words each is done once.
+//! Writes and reads one large frame, as bytes and as JSON, to be timed from outside. The words say what, how often, and how long the
+//! texts are: `frame_bench read 100 24`. With no words each is done once. It ends with `ok`.
 //!
 //! - `frame` makes the frame, `texts` the same as JSON.
+#![tactic(auto)]
 
 mod frame;
 mod texts;
@@ -11,6 +12,7 @@ use frame::make_frame;
 use part_items::{read_frame, write_frame};
 use serde_json::Value;
 use std::alloc::Global;
+use std::env;
 use texts::make_json;
 
 /// What is done, how often, and how many bytes the texts have.
@@ -146,7 +148,25 @@ fn do_call(alloc: Global, call: &Call) -> Result<()> {
 }
 
 /// What the words say, or each once.
-pub fn do_words(alloc: Global, words: &[String]) -> Result<()> {
+fn do_words(alloc: Global, words: &[String]) -> Result<()> {
     let call = call_of(words)?;
     do_call(alloc, &call)
+}
+
+/// The words of this process, of which the program's name is the first.
+fn words_of(rt: &HostRuntime) -> Result<Vec<String>> {
+    let mut words = Vec::new(rt.alloc());
+    for word in env::args(rt)? {
+        words.push(word)?;
+    }
+    Ok(words)
+}
+
+fn main(rt: HostRuntime) -> Result<()> {
+    let words = words_of(&rt)?;
+    let done = do_words(rt.alloc(), words.get(1..).unwrap_or(&[]));
+    drop(words);
+    done?;
+    println!(rt; "ok")?;
+    Ok(())
 }

@@ -1,8 +1,8 @@
 use Rattle.std.proofs.Common.{arith, length-append}
 use Rattle.part_items.specs.Plain.{entry_of}
 use Rattle.part_items.specs.Spelling.{CanSpellEntry}
-use Rattle.benches.proofs.Each.{one_more}
-use Rattle.benches.proofs.frames.frame.make_frame.Goals as goal
+use Rattle.frame_bench.proofs.Each.{one_more}
+use Rattle.frame_bench.proofs.frame.make_frame.Goals as goal
 
 pub loop-position-preserved : goal.loop-position-preserved
 loop-position-preserved c = record {
