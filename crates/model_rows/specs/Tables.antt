@@ -1,0 +1,5 @@
+pub mod Activities
+pub mod Checks
+pub mod Histories
+pub mod Tasks
+pub mod Timers
