@@ -1,2 +1,3 @@
 pub mod FlowRows
+pub mod Told
 pub mod Worked

@@ -178,3 +178,31 @@ words_no_help = refl
 pub words_no_version : asked_by (codes "--version" ∷ []) ≡ codes "usage"
 unfolding clap_on_literals digits chars
 words_no_version = refl
+
+pub words_one_partition : asked_by (codes "run" ∷ codes "--partitions" ∷ codes "1" ∷ []) ≡ codes "run 1 16 1048576 2147483648"
+unfolding clap_on_literals digits chars
+words_one_partition = refl
+
+pub words_most_batch : asked_by (codes "run" ∷ codes "--batch" ∷ codes "64" ∷ []) ≡ codes "run 1 64 1048576 2147483648"
+unfolding clap_on_literals digits chars
+words_most_batch = refl
+
+pub words_steps : asked_by (codes "run" ∷ codes "--steps" ∷ codes "7" ∷ []) ≡ codes "run 1 16 7 2147483648"
+unfolding clap_on_literals digits chars
+words_steps = refl
+
+pub words_segment : asked_by (codes "run" ∷ codes "--segment=4096" ∷ []) ≡ codes "run 1 16 1048576 4096"
+unfolding clap_on_literals digits chars
+words_segment = refl
+
+pub words_shown_partition : asked_by (codes "show" ∷ codes "--partitions" ∷ codes "1" ∷ []) ≡ codes "show 1"
+unfolding clap_on_literals digits chars
+words_shown_partition = refl
+
+pub words_help_of_run : asked_by (codes "run" ∷ codes "--help" ∷ []) ≡ codes "usage"
+unfolding clap_on_literals digits chars
+words_help_of_run = refl
+
+pub words_stop : asked_by (codes "stop" ∷ []) ≡ codes "usage"
+unfolding clap_on_literals digits chars
+words_stop = refl

@@ -1,6 +1,7 @@
-//! Worked rows: what becomes of request files and of words.
+//! Worked rows: what becomes of request files and of words, and of what clients are told.
 
 ghost use Rattle.std.specs.Prelude.{◌≡◌, [], ◌∷◌, codes};
+ghost use Rattle.reading_rows.specs.Ports.{BeginsSo, GoesOnSo, EndsSo};
 ghost use Rattle.reading_rows.specs.Rows.{asked_by, requests_of};
 
 /// Files of requests: how many are read, or the line or the number that is refused.
@@ -34,7 +35,7 @@ pub fn request_files()
 {}
 
 /// Words: what they ask for, or that the command refuses them.
-#[tactic(auto, using(crate::proofs::Worked::words_none, crate::proofs::Worked::words_run, crate::proofs::Worked::words_show, crate::proofs::Worked::words_all, crate::proofs::Worked::words_many_partitions, crate::proofs::Worked::words_no_partition, crate::proofs::Worked::words_leading_zero, crate::proofs::Worked::words_sign, crate::proofs::Worked::words_batch_above, crate::proofs::Worked::words_segment_below, crate::proofs::Worked::words_steps_none, crate::proofs::Worked::words_twice, crate::proofs::Worked::words_no_value, crate::proofs::Worked::words_unknown, crate::proofs::Worked::words_of_run, crate::proofs::Worked::words_further, crate::proofs::Worked::words_no_help, crate::proofs::Worked::words_no_version))]
+#[tactic(auto, using(crate::proofs::Worked::words_none, crate::proofs::Worked::words_run, crate::proofs::Worked::words_show, crate::proofs::Worked::words_all, crate::proofs::Worked::words_many_partitions, crate::proofs::Worked::words_no_partition, crate::proofs::Worked::words_leading_zero, crate::proofs::Worked::words_sign, crate::proofs::Worked::words_batch_above, crate::proofs::Worked::words_segment_below, crate::proofs::Worked::words_steps_none, crate::proofs::Worked::words_twice, crate::proofs::Worked::words_no_value, crate::proofs::Worked::words_unknown, crate::proofs::Worked::words_of_run, crate::proofs::Worked::words_further, crate::proofs::Worked::words_no_help, crate::proofs::Worked::words_no_version, crate::proofs::Worked::words_one_partition, crate::proofs::Worked::words_most_batch, crate::proofs::Worked::words_steps, crate::proofs::Worked::words_segment, crate::proofs::Worked::words_shown_partition, crate::proofs::Worked::words_help_of_run, crate::proofs::Worked::words_stop))]
 pub fn words()
     ensures of_none { asked_by ([]) ≡ codes "usage" }
     ensures of_run { asked_by (codes "run" ∷ []) ≡ codes "run 1 16 1048576 2147483648" }
@@ -54,4 +55,19 @@ pub fn words()
     ensures of_further { asked_by (codes "run" ∷ codes "on" ∷ []) ≡ codes "usage" }
     ensures of_no_help { asked_by (codes "help" ∷ []) ≡ codes "usage" }
     ensures of_no_version { asked_by (codes "--version" ∷ []) ≡ codes "usage" }
+    ensures of_one_partition { asked_by (codes "run" ∷ codes "--partitions" ∷ codes "1" ∷ []) ≡ codes "run 1 16 1048576 2147483648" }
+    ensures of_most_batch { asked_by (codes "run" ∷ codes "--batch" ∷ codes "64" ∷ []) ≡ codes "run 1 64 1048576 2147483648" }
+    ensures of_steps { asked_by (codes "run" ∷ codes "--steps" ∷ codes "7" ∷ []) ≡ codes "run 1 16 7 2147483648" }
+    ensures of_segment { asked_by (codes "run" ∷ codes "--segment=4096" ∷ []) ≡ codes "run 1 16 1048576 4096" }
+    ensures of_shown_partition { asked_by (codes "show" ∷ codes "--partitions" ∷ codes "1" ∷ []) ≡ codes "show 1" }
+    ensures of_help_of_run { asked_by (codes "run" ∷ codes "--help" ∷ []) ≡ codes "usage" }
+    ensures of_stop { asked_by (codes "stop" ∷ []) ≡ codes "usage" }
+{}
+
+/// Two clients' requests: what is due, and the lines of what was said.
+#[tactic(auto, using(crate::proofs::Told::begins, crate::proofs::Told::goes_on, crate::proofs::Told::ends))]
+pub fn ports()
+    ensures begun { BeginsSo }
+    ensures going_on { GoesOnSo }
+    ensures at_the_end { EndsSo }
 {}
