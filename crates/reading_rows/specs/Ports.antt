@@ -2,7 +2,7 @@
 use Rattle.std.specs.Prelude.{◌≡◌, ℕ, List, [], ◌∷◌, map, option_map, codes, Option, Some, None, pos}
 use Rattle.client_port.specs.Ports.{Ports, queues_of, all_due, due_of, after_said}
 use Rattle.dura_value.specs.declared.data.Value.TheVariants as values
-use Rattle.dura_value.specs.Ids.{Id, orchestration, client}
+use Rattle.dura_value.specs.Ids.{orchestration, client}
 use Rattle.dura_value.specs.Messages.{Answer, was_started, is_done, Body, start, query, wait, to_request}
 use Rattle.request_reader.specs.Line.{Request}
 
