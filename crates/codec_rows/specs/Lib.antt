@@ -1,4 +1,7 @@
+pub mod Begins
+pub mod Forms
 pub mod Frames
+pub mod Homes
 pub mod Ids
 pub mod Items
 pub mod Messages

@@ -1,6 +1,6 @@
 use Rattle.std.proofs.Common.{refl}
 use Rattle.dura_value.specs.Reading.{id_in, pair_at}
-use Rattle.value_laws.proofs.rows.texts_that_are_no_ids.Goals as goal
+use Rattle.codec_rows.proofs.homes.texts_that_are_no_ids.Goals as goal
 
 pub returns : goal.returns
 unfolding id_in pair_at

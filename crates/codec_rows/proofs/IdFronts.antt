@@ -8,10 +8,10 @@ use Rattle.dura_value.specs.Limits.{most_word_bytes}
 use Rattle.dura_value.specs.Names.{is_name, is_key, goes_on_name}
 use Rattle.dura_value.specs.Reading.{◌>>=◌, name_front, key_front, name_at, key_at, pair_at, id_in}
 use Rattle.dura_value.proofs.Ids.{both_true, and_true}
-use Rattle.value_laws.specs.Forms.{has_form}
-use Rattle.value_laws.specs.Begins.{IsName, IsKey, IsWritten, StopsAt}
-use Rattle.value_laws.proofs.WordFronts.{name_stops, key_stops}
-use Rattle.value_laws.proofs.PairFronts.{IsPair, pair_stops}
+use Rattle.codec_rows.specs.Forms.{has_form}
+use Rattle.codec_rows.specs.Begins.{IsName, IsKey, IsWritten, StopsAt}
+use Rattle.codec_rows.proofs.WordFronts.{name_stops, key_stops}
+use Rattle.codec_rows.proofs.PairFronts.{IsPair, pair_stops}
 
 -- ---- names and keys
 

@@ -1,5 +1,5 @@
 use Rattle.std.proofs.Common.{refl}
-use Rattle.value_laws.proofs.rows.digests.Goals as goal
+use Rattle.codec_rows.proofs.homes.digests.Goals as goal
 
 pub returns : goal.returns
 returns c = refl

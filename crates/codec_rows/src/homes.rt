@@ -1,6 +1,6 @@
 //! Rows of ids and digests, by computation.
 
-ghost use Rattle.value_laws.specs.Rows.{Digests, AreWritten, AreRead, LiveThere, InOrder, NoIds, AreWords};
+ghost use Rattle.codec_rows.specs.Homes.{Digests, AreWritten, AreRead, LiveThere, InOrder, NoIds, AreWords};
 
 /// The digests of some texts.
 pub fn digests()

@@ -1,6 +1,6 @@
 use Rattle.std.proofs.Common.{refl}
 use Rattle.dura_value.specs.Reading.{id_in, pair_at}
-use Rattle.value_laws.proofs.rows.ids.Goals as goal
+use Rattle.codec_rows.proofs.homes.ids.Goals as goal
 
 pub returns-clause-written : goal.returns-clause-written
 returns-clause-written c = refl
