@@ -1,6 +1,6 @@
 use Rattle.std.proofs.Common.{◌≤◌, codes, arith}
 use Rattle.dura_value.specs.Ids.{orchestration}
-use Rattle.engine_run.proofs.examples.runs_in_order.Goals as goal
+use Rattle.run_examples.proofs.runs_in_order.Goals as goal
 use Rattle.section_laws.proofs.Ordered.{never_overlaps}
 
 pub returns-clause-empty : goal.returns-clause-empty

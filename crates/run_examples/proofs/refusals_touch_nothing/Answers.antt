@@ -1,5 +1,5 @@
 use Rattle.std.proofs.Common.{inl, inr, refl}
-use Rattle.engine_run.proofs.examples.refusals_touch_nothing.Goals as goal
+use Rattle.run_examples.proofs.refusals_touch_nothing.Goals as goal
 
 pub returns-clause-input : goal.returns-clause-input
 returns-clause-input c = refl

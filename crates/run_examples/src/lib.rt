@@ -1,4 +1,5 @@
-//! Examples of what a call's clauses say. They are said of the definitions alone: the functions do nothing.
+//! Examples of what the clauses of `engine_run` say of single cases. They are said of the definitions alone: the functions do nothing.
+#![tactic(auto)]
 
 ghost use Rattle.std.specs.Prelude.{◌≡◌, ℕ, List, [], ◌∷◌, codes, slice_set};
 ghost use Rattle.dura_model.specs.Partition.{Partition, fresh};
@@ -6,7 +7,7 @@ ghost use Rattle.dura_value.specs.Items.{Entry};
 ghost use Rattle.engine_run.specs.Asked.{IsRequest, IsTaken};
 ghost use Rattle.engine_run.specs.Causes.{AsksFor, Answers, Untouched};
 ghost use Rattle.engine_run.specs.Ends.{AreAllSaid, IsFirstUnsaid, SaysWhole, RunEndsAs};
-ghost use Rattle.engine_run.specs.Examples.{nothing_asked, one_asked, starting, waiting, unsaid, two_unsaid, all_said, settled_once, ended_twice};
+ghost use Rattle.run_examples.specs.Examples.{nothing_asked, one_asked, starting, waiting, unsaid, two_unsaid, all_said, settled_once, ended_twice};
 ghost use Rattle.engine_run.specs.Headline.{IsOrderly, EndsEarly, RunsOn};
 ghost use Rattle.engine_run.specs.Job.{Keeps};
 ghost use Rattle.engine_run.specs.Kept.{IsClash, NoClash};

@@ -1,10 +1,10 @@
 use Rattle.std.proofs.Common.{◌≡◌, true, false, [], ◌∷◌, codes, refl, arith}
 use Rattle.std.proofs.lemmas.List.Elements.{All-from_recursion}
 use Rattle.dura_model.specs.Partition.{fresh}
-use Rattle.engine_run.specs.Examples.{starting, waiting}
+use Rattle.run_examples.specs.Examples.{starting, waiting}
 use Rattle.engine_run.specs.Kept.{clashes}
 use Rattle.engine_run.specs.Order.{no_later}
-use Rattle.engine_run.proofs.examples.requests_clash.Goals as goal
+use Rattle.run_examples.proofs.requests_clash.Goals as goal
 use Rattle.part_files.specs.Examples.{request_taken}
 use Rattle.request_reader.specs.Line.{Request}
 

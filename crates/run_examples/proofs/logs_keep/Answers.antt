@@ -1,6 +1,6 @@
 use Rattle.std.proofs.Common.{refl}
 use Rattle.commit_log.specs.Segment.{header_at}
-use Rattle.engine_run.proofs.examples.logs_keep.Goals as goal
+use Rattle.run_examples.proofs.logs_keep.Goals as goal
 use Rattle.part_files.specs.Kept.{entries_from}
 
 pub returns-clause-none : goal.returns-clause-none

@@ -1,5 +1,5 @@
 use Rattle.std.proofs.Common.{inl, inr, List, refl, ◌∙◌, ap}
-use Rattle.engine_run.proofs.examples.shows.Goals as goal
+use Rattle.run_examples.proofs.shows.Goals as goal
 use Rattle.site_model.specs.History.{Step, changes_of}
 
 pub returns-clause-nothing : goal.returns-clause-nothing

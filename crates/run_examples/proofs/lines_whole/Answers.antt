@@ -1,6 +1,6 @@
 use Rattle.std.proofs.Common.{◌≡◌, ◌*◌, ℕ, List, [], ◌∷◌, length, refl, ◌∙◌, ap, arith}
 use Rattle.std.proofs.lemmas.List.{length-append, append-nil}
-use Rattle.engine_run.proofs.examples.lines_whole.Goals as goal
+use Rattle.run_examples.proofs.lines_whole.Goals as goal
 use Rattle.hub_store.specs.Examples.{MayFollow, MaySay, request}
 use Rattle.hub_store.specs.Moments.{Told}
 use Rattle.hub_store.specs.Moments.Told.{silent, settles, says}

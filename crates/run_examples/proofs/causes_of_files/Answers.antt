@@ -1,5 +1,5 @@
 use Rattle.std.proofs.Common.{◌∙◌, sym}
-use Rattle.engine_run.proofs.examples.causes_of_files.Goals as goal
+use Rattle.run_examples.proofs.causes_of_files.Goals as goal
 use Rattle.run_inputs.proofs.Computed.{refusal_plan}
 
 pub returns-clause-theirs : goal.returns-clause-theirs

@@ -1,5 +1,5 @@
 use Rattle.std.proofs.Common.{inl, refl}
-use Rattle.engine_run.proofs.examples.calls_open.Goals as goal
+use Rattle.run_examples.proofs.calls_open.Goals as goal
 use Rattle.site_model.specs.Moments.Always.{begins}
 
 pub returns-clause-silent : goal.returns-clause-silent

@@ -1,10 +1,10 @@
 use Rattle.std.proofs.Common.{◌≡◌, true, false, [], ◌∷◌, Some, None, codes, refl, sym, ◌∙◌, ap, arith}
 use Rattle.std.proofs.lemmas.List.Elements.{All-from_recursion}
 use Rattle.client_port.specs.Ports.{due_of}
-use Rattle.engine_run.specs.Examples.{starting, unsaid, all_said}
+use Rattle.run_examples.specs.Examples.{starting, unsaid, all_said}
 use Rattle.engine_run.specs.Order.{no_later}
 use Rattle.engine_run.proofs.Ordered.{DueLater}
-use Rattle.engine_run.proofs.examples.answers_unsaid.Goals as goal
+use Rattle.run_examples.proofs.answers_unsaid.Goals as goal
 use Rattle.request_reader.specs.Line.{Request}
 
 pub returns-clause-all : goal.returns-clause-all

@@ -1,5 +1,5 @@
 use Rattle.std.proofs.Common.{refl, arith}
-use Rattle.engine_run.proofs.examples.files_ask.Goals as goal
+use Rattle.run_examples.proofs.files_ask.Goals as goal
 use Rattle.run_inputs.proofs.Computed.{flows_of_one, requests_of_one, refusal_good}
 
 pub returns-clause-held : goal.returns-clause-held

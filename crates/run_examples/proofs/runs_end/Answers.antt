@@ -1,5 +1,5 @@
 use Rattle.std.proofs.Common.{refl, arith}
-use Rattle.engine_run.proofs.examples.runs_end.Goals as goal
+use Rattle.run_examples.proofs.runs_end.Goals as goal
 
 pub returns-clause-labels : goal.returns-clause-labels
 returns-clause-labels c = λ rules latest o steps. (refl, omega arith)

@@ -1,8 +1,8 @@
 use Rattle.std.proofs.Common.{◌≡◌, true, false, codes, refl, subst}
 use Rattle.std.specs.Prelude.{is_some}
 use Rattle.dura_value.specs.Ids.{client}
-use Rattle.engine_run.specs.Examples.{starting}
-use Rattle.engine_run.proofs.examples.requests_taken.Goals as goal
+use Rattle.run_examples.specs.Examples.{starting}
+use Rattle.run_examples.proofs.requests_taken.Goals as goal
 use Rattle.part_files.specs.Examples.{request_taken}
 use Rattle.request_reader.specs.Line.{Request}
 
