@@ -1,20 +1,13 @@
-//! The command `netherite`: its words, and the real outside that it hands to the engine.
-//!
-//! - `call`: the words that the program was called with.
-//! - `hints`: what a person is told beside the cause.
+//! The command `netherite`: the real outside that it hands to the engine, and how it ends.
 #![tactic(auto)]
 
 ghost use Rattle.std.specs.Prelude.{◌≡◌};
 ghost use Rattle.std.specs.Process.{exit_status};
 ghost use Rattle.run_causes.specs.Causes.{status_of};
 
-mod call;
-mod hints;
-
 use activity_table::Table;
-use call::{CallError, read_call};
+use cli_call::{CallError, hint_cause, hint_command, read_call};
 use engine_run::run_recorded;
-use hints::{hint_cause, hint_command};
 use run_causes::Cause;
 use site_calls::{CalledSite, Start, Unknown};
 use site_host::Host;

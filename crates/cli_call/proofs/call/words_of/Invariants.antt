@@ -1,7 +1,7 @@
 use Rattle.std.proofs.Common.{◌≡◌, take, map, string_bytes}
 use Rattle.std.specs.List.{All}
 use Rattle.dura_value.specs.Text.{IsText}
-use Rattle.netherite_cli.proofs.call.words_of.Given as goal
+use Rattle.cli_call.proofs.call.words_of.Given as goal
 
 -- the words so far are those before the index, and texts
 abbrev pub invariant-loop-argument : goal.invariant-loop-argument

@@ -2,8 +2,8 @@
 ghost use Rattle.std.specs.Prelude.{◌≡◌, map, string_bytes, IfOk, IsErrOf};
 ghost use Rattle.std.specs.List.{All};
 ghost use Rattle.dura_value.specs.Text.{IsText};
-ghost use Rattle.netherite_cli.specs.Call.{IsCall, Spells};
-ghost use Rattle.netherite_cli.specs.declared.call.CallError.TheVariants.{Memory};
+ghost use Rattle.cli_call.specs.Call.{IsCall, Spells};
+ghost use Rattle.cli_call.specs.declared.call.CallError.TheVariants.{Memory};
 
 use dura_value::{Text, TextError};
 use std::alloc::{AllocFailed, Global};

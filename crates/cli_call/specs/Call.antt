@@ -3,7 +3,7 @@ use Rattle.std.specs.Prelude.{◌≡◌, List, ◌∷◌, map, string_bytes}
 use Rattle.std.specs.List.{All}
 use Rattle.std.specs.declared.string.String.{String}
 use Rattle.dura_value.specs.Text.{IsText}
-use Rattle.netherite_cli.specs.declared.call.Call.{Call}
+use Rattle.cli_call.specs.declared.call.Call.{Call}
 
 -- the program's name, a directory, and words that are texts
 abbrev pub IsCall : {Z : Type 0} → List (String Z) → Type 0

@@ -1,7 +1,7 @@
 use Rattle.std.proofs.Common.{subst, arith}
 use Rattle.dura_value.specs.Text.{IsText}
-use Rattle.netherite_cli.proofs.Words.{word_at}
-use Rattle.netherite_cli.proofs.call.words_of.Goals as goal
+use Rattle.cli_call.proofs.Words.{word_at}
+use Rattle.cli_call.proofs.call.words_of.Goals as goal
 
 pub returns-in-Err-clause-usage : goal.returns-in-Err-clause-usage
 returns-in-Err-clause-usage c = λ failed texts.

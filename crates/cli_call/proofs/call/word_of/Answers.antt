@@ -1,7 +1,7 @@
 use Rattle.std.proofs.Common.{subst}
 use Rattle.dura_value.specs.Text.{Explains}
-use Rattle.netherite_cli.proofs.Words.{not_utf8}
-use Rattle.netherite_cli.proofs.call.word_of.Goals as goal
+use Rattle.cli_call.proofs.Words.{not_utf8}
+use Rattle.cli_call.proofs.call.word_of.Goals as goal
 
 pub returns-in-Err-NotUtf8-clause-usage : goal.returns-in-Err-NotUtf8-clause-usage
 returns-in-Err-NotUtf8-clause-usage c = λ _ text.

@@ -5,13 +5,13 @@ use site_calls::{Fault, FaultPlace, FileName, Reason};
 use std::{fmt, fs};
 
 /// Tells which words are understood.
-pub(crate) fn hint_command(rt: &impl Eprint) {
+pub fn hint_command(rt: &impl Eprint) {
     let _ = eprintln!(rt; "  netherite DIRECTORY run [--batch N] [--steps N] [--segment BYTES]");
     let _ = eprintln!(rt; "  netherite DIRECTORY show");
 }
 
 /// Tells more of a cause than its text does: of a fault what failed and why, and of a file what is wrong with it.
-pub(crate) fn hint_cause(
+pub fn hint_cause(
     rt: &HostRuntime,
     directory: &str,
     cause: &Cause,
