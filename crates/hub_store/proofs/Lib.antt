@@ -2,6 +2,7 @@ pub mod AnswersWait
 pub mod Bodies
 pub mod Calls
 pub mod EveryMoment
+pub mod Faults
 pub mod FramesGo
 pub mod Later
 pub mod LogsStand
@@ -11,4 +12,6 @@ pub mod Payloads
 pub mod Saying
 pub mod Settling
 pub mod Standing
+pub mod Stops
 pub mod Stores
+pub mod Trails

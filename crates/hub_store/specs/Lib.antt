@@ -8,5 +8,6 @@ pub mod Origin
 pub mod Plain
 pub mod Runs
 pub mod Sound
+pub mod Stops
 pub mod Trail
 pub mod Ways

@@ -1,11 +1,13 @@
 //! The store: what owns the files and the tape while a call commits and says.
 //!
 //! It owns the site, what was settled, how far the frame of each partition has come, which requests' answers were said, and
-//! whether a device call failed. Each method makes one device call, and `reopen`, which goes on after one that failed, two.
+//! whether a device call failed. Each method makes one device call, and `reopen`, which goes on after one that failed, two. `commit`
+//! makes all of a commit's, one after another, and `stop` is why a call ends before all is done.
 #![tactic(auto)]
 
 mod begin;
 mod body;
+mod commits;
 mod end;
 mod examples;
 mod gate;
@@ -16,15 +18,18 @@ mod reopen;
 mod say;
 mod settle;
 mod start;
+mod stop;
 mod store;
 mod sync;
 mod trail;
 mod way;
 
+pub use commits::commit;
 pub use end::Ended;
 pub use refusal::{BodyRefusal, Refusal, SayError};
 pub use reopen::Reopening;
 pub use start::Start;
+pub use stop::Stop;
 pub use store::Store;
 pub use trail::{Said, Settled, Trail};
 pub use way::Stage;

@@ -1,10 +1,7 @@
 pub mod Entries
 pub mod Endings
-pub mod Faults
 pub mod Fillings
 pub mod Moments
 pub mod Puttings
 pub mod Queues
-pub mod Stops
-pub mod Trails
 pub mod Walks

@@ -4,7 +4,7 @@ ghost use Rattle.std.specs.Prelude.{◌≡◌, ◌<◌, ◌≤◌, List, true, E
 ghost use Rattle.flow_syntax.specs.Views.{flows_of};
 ghost use Rattle.hub_store.specs.Trail.{Said};
 ghost use Rattle.part_rounds.specs.Comes.{Comes, FillsNext, IsByNow};
-ghost use Rattle.part_rounds.specs.Commits.{is_of_clock};
+ghost use Rattle.hub_store.specs.Stops.{is_of_clock};
 ghost use Rattle.part_rounds.specs.Rounds.{pairs_of, HasSaid};
 ghost use Rattle.part_steps.specs.States.{state_of, count_of, IsSound};
 ghost use Rattle.run_rules.specs.Rules.{Rules};
@@ -12,11 +12,11 @@ ghost use Rattle.site_model.specs.Calls.{HasRisen};
 
 use crate::filling::Filling;
 use crate::filling_on::{Chance, gather};
-use crate::stop::Stop;
 use activity_table::Activities;
 use client_port::Port;
 use dura_value::Name;
 use flow_syntax::Flows;
+use hub_store::Stop;
 use part_steps::PartState;
 use site_model::{Clock, LAST_MOMENT};
 use std::alloc::Global;

@@ -15,12 +15,12 @@ ghost use Rattle.run_rules.specs.Rules.{Rules};
 use crate::filling::{Filling, fill};
 use crate::gathering::all_fit;
 use crate::outcomes::run_pending;
-use crate::stop::Stop;
 use crate::taking::take_due;
 use activity_table::Activities;
 use client_port::Port;
 use dura_value::Name;
 use flow_syntax::Flows;
+use hub_store::Stop;
 use part_steps::PartState;
 use std::alloc::Global;
 

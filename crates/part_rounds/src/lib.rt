@@ -5,7 +5,6 @@
 //!   all of it together, and `gathering` tells whether it can be written.
 //! - `committing` takes an entry to the log, and `laws` says of an entry that was filled that it may follow.
 //! - `saying` says what is answered.
-//! - `stop` is why a call ends before all is done.
 #![tactic(auto)]
 
 mod coming;
@@ -18,10 +17,7 @@ mod outcomes;
 mod rounds;
 mod ruled;
 mod saying;
-mod stop;
 mod taking;
 
-pub use committing::commit;
 pub use rounds::{End, drive};
 pub use ruled::Ruled;
-pub use stop::Stop;

@@ -10,7 +10,7 @@ use Rattle.hub_store.specs.Ways.{way_of}
 use Rattle.part_rounds.specs.Comes.{Leaves}
 use Rattle.part_rounds.specs.Commits.{IsFull}
 use Rattle.part_rounds.specs.Rounds.{pairs_of}
-use Rattle.part_rounds.specs.declared.stop.Stop.{Stop}
+use Rattle.hub_store.specs.declared.stop.Stop.{Stop}
 use Rattle.run_causes.specs.declared.cause.Cause.{Cause}
 use Rattle.run_causes.specs.declared.cause.Cause.TheVariants.{SayFault}
 

@@ -8,7 +8,7 @@ use Rattle.part_rounds.specs.Fills.{Fills}
 use Rattle.part_rounds.specs.Rounds.{pairs_of}
 use Rattle.part_rounds.proofs.Puttings.{no_items}
 use Rattle.part_steps.specs.States.{state_of}
-use Rattle.part_rounds.proofs.Stops.{ok_apart, risen_after, residual_not_clock, residual_of_clock}
+use Rattle.hub_store.proofs.Stops.{ok_apart, risen_after, residual_not_clock, residual_of_clock}
 use Rattle.part_rounds.proofs.coming.take_next.Goals as goal
 
 pub returns-in_default-clause-comes : goal.returns-in_default-clause-comes

@@ -10,7 +10,7 @@ use Rattle.part_items.specs.declared.items.Item.{Item}
 use Rattle.part_rounds.specs.Comes.{count_labels}
 use Rattle.part_rounds.specs.Rounds.{pairs_of}
 use Rattle.part_rounds.proofs.Entries.{entry_follows, entry_goes, labels_after}
-use Rattle.part_rounds.proofs.Stops.{ok_apart}
+use Rattle.hub_store.proofs.Stops.{ok_apart}
 use Rattle.part_rounds.proofs.committing.commit_items.Goals as goal
 use Rattle.run_rules.specs.Rules.{Follows}
 

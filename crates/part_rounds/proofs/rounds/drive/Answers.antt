@@ -9,7 +9,7 @@ use Rattle.run_rules.specs.Rules.{Rules}
 use Rattle.hub_store.specs.Ways.{stage_of, way_of}
 use Rattle.part_rounds.specs.Comes.{count_labels}
 use Rattle.part_rounds.specs.Rounds.{Stands, NoneUnsaid}
-use Rattle.part_rounds.proofs.Stops.{ok_apart, same_stop, residual_is, tape_not_full, tape_not_fault, tape_not_clock}
+use Rattle.hub_store.proofs.Stops.{ok_apart, same_stop, residual_is, tape_not_full, tape_not_fault, tape_not_clock}
 use Rattle.part_rounds.proofs.rounds.drive.Goals as goal
 use Rattle.part_steps.specs.States.{state_of}
 

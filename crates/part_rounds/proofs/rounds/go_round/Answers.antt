@@ -9,7 +9,7 @@ use Rattle.part_items.specs.Plain.{item_of, items_of}
 use Rattle.part_rounds.specs.Comes.{Comes, FillsNext, IsByNow}
 use Rattle.part_rounds.specs.Fills.{Fills, IsIdle}
 use Rattle.part_rounds.specs.Rounds.{pairs_of, NoneUnsaid, IsFilledTo}
-use Rattle.part_rounds.proofs.Stops.{ok_apart, same_stop, residual_is, clock_not_full, clock_not_fault, clock_not_said}
+use Rattle.hub_store.proofs.Stops.{ok_apart, same_stop, residual_is, clock_not_full, clock_not_fault, clock_not_said}
 use Rattle.part_rounds.proofs.rounds.go_round.Goals as goal
 use Rattle.part_steps.specs.States.{state_of}
 use Rattle.timer_row.specs.Timers.{NoTimer}

@@ -7,7 +7,7 @@ use Rattle.part_items.specs.Plain.{items_of}
 use Rattle.part_rounds.specs.Comes.{count_labels}
 use Rattle.part_rounds.specs.Rounds.{pairs_of, Stands, NoneUnsaid}
 use Rattle.part_rounds.proofs.Entries.{stands_after, place_after}
-use Rattle.part_rounds.proofs.Stops.{ok_apart, same_stop, disk_not_said, disk_not_clock, tape_not_full, tape_not_fault, tape_not_clock}
+use Rattle.hub_store.proofs.Stops.{ok_apart, same_stop, disk_not_said, disk_not_clock, tape_not_full, tape_not_fault, tape_not_clock}
 use Rattle.part_steps.specs.States.{state_of}
 use Rattle.site_model.specs.Calls.{HasRisen}
 use Rattle.part_rounds.proofs.rounds.settle_filling.Goals as goal

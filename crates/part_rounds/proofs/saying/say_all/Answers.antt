@@ -1,5 +1,5 @@
 use Rattle.std.proofs.Common.{◌∙◌, refl, arith}
-use Rattle.part_rounds.proofs.Stops.{ok_apart, same_stop, residual_is, risen_after}
+use Rattle.hub_store.proofs.Stops.{ok_apart, same_stop, residual_is, risen_after}
 use Rattle.part_rounds.proofs.saying.say_all.Goals as goal
 
 pub answers-preserved : goal.answers-preserved

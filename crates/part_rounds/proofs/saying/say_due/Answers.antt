@@ -2,7 +2,7 @@ use Rattle.std.proofs.Common.{◌≡◌, ◌∙◌, ℕ, List, None, get_or, tak
 use Rattle.part_steps.specs.States.{state_of}
 use Rattle.part_rounds.specs.Rounds.{next_answer}
 use Rattle.part_rounds.proofs.Queues.{still_none}
-use Rattle.part_rounds.proofs.Stops.{ok_apart, same_stop, residual_is, risen_after}
+use Rattle.hub_store.proofs.Stops.{ok_apart, same_stop, residual_is, risen_after}
 use Rattle.part_rounds.proofs.Walks.{all_next, all_whole}
 use Rattle.part_rounds.proofs.saying.say_due.Goals as goal
 

@@ -10,7 +10,7 @@ use Rattle.part_rounds.specs.Rounds.{pairs_of, HasSaid, KeepsDue}
 use Rattle.run_rules.specs.Rules.{count_told}
 use Rattle.hub_store.specs.Trail.{Said}
 use Rattle.part_rounds.proofs.Queues.{next_due, due_stays, before_last, said_on, counted_on}
-use Rattle.part_rounds.proofs.Stops.{ok_apart, err_apart, memory_not_said, residual_apart, residual_memory}
+use Rattle.hub_store.proofs.Stops.{ok_apart, err_apart, memory_not_said, residual_apart, residual_memory}
 use Rattle.part_rounds.proofs.saying.say_next.Goals as goal
 
 pub say-told-requires-clause-may : goal.say-told-requires-clause-may

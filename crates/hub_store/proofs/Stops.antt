@@ -7,9 +7,9 @@ use Rattle.hub_store.specs.Frames.{length_with}
 use Rattle.hub_store.specs.declared.refusal.BodyRefusal.{BodyRefusal}
 use Rattle.hub_store.specs.declared.refusal.BodyRefusal.TheVariants as refusals
 use Rattle.hub_store.specs.declared.way.Way.{Way}
-use Rattle.part_rounds.specs.Commits.{is_of_clock, is_of_disk, is_of_tape, stop_of_body}
-use Rattle.part_rounds.specs.declared.stop.Stop.{Stop}
-use Rattle.part_rounds.specs.declared.stop.Stop.TheVariants.{Full, SiteFault, SayFault, ClockFault, Memory}
+use Rattle.hub_store.specs.Stops.{is_of_clock, is_of_disk, is_of_tape, stop_of_body}
+use Rattle.hub_store.specs.declared.stop.Stop.{Stop}
+use Rattle.hub_store.specs.declared.stop.Stop.TheVariants.{Full, SiteFault, SayFault, ClockFault, Memory}
 use Rattle.site_model.specs.Calls.{HasRisen}
 
 -- answers that differ

@@ -1,6 +1,6 @@
 use Rattle.std.proofs.Common.{refl}
-use Rattle.part_rounds.proofs.Stops.{ok_apart, ok_no_refusal, fault_not_full, body_full, body_room, body_fault, body_of_disk}
-use Rattle.part_rounds.proofs.committing.write.Goals as goal
+use Rattle.hub_store.proofs.Stops.{ok_apart, ok_no_refusal, fault_not_full, body_full, body_room, body_fault, body_of_disk}
+use Rattle.hub_store.proofs.commits.write.Goals as goal
 
 pub returns-in-Err-clause-full : goal.returns-in-Err-clause-full
 returns-in-Err-clause-full g c long = body_full _ c.in-Err.refusal _ _ _ c.of_body.ensures refl refl (c.in-Err.ensures.full long)

@@ -3,9 +3,9 @@ use Rattle.hub_store.specs.Changes.{trail_in}
 use Rattle.hub_store.specs.Frames.{length_with}
 use Rattle.hub_store.specs.Ways.{way_of}
 use Rattle.part_items.specs.Plain.{entry_of}
-use Rattle.part_rounds.proofs.Stops.{ok_apart, ok_no_stop, fault_not_full, fault_of_disk, full_as, risen_after}
-use Rattle.part_rounds.proofs.Trails.{settled_one}
-use Rattle.part_rounds.proofs.committing.commit.Goals as goal
+use Rattle.hub_store.proofs.Stops.{ok_apart, ok_no_stop, fault_not_full, fault_of_disk, full_as, risen_after}
+use Rattle.hub_store.proofs.Trails.{settled_one}
+use Rattle.hub_store.proofs.commits.commit.Goals as goal
 
 pub returns-in-Ok-open-clause-trail : goal.returns-in-Ok-open-clause-trail
 returns-in-Ok-open-clause-trail g c =

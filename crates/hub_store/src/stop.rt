@@ -1,10 +1,10 @@
 //! Why a call ends before all is done.
 
 ghost use Rattle.std.specs.Prelude.{◌≡◌};
-ghost use Rattle.part_rounds.specs.Commits.{stop_of_body};
-ghost use Rattle.part_rounds.specs.declared.stop.Stop.TheVariants.{Memory};
+ghost use Rattle.hub_store.specs.Stops.{stop_of_body};
+ghost use Rattle.hub_store.specs.declared.stop.Stop.TheVariants.{Memory};
 
-use hub_store::BodyRefusal;
+use crate::refusal::BodyRefusal;
 use std::alloc::AllocError;
 
 /// Why a call ends before all is done.
