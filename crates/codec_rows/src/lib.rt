@@ -7,12 +7,9 @@
 //!   of the fault.
 //!
 //! Each law is a function that does nothing, whose contract says that the definitions have it. `frame_tests` reads and writes the
-//! example frame, each of its fronts, each of its bytes changed, and where a log goes on with it; `call_tests` calls what the program
-//! does without.
+//! example frame, each of its fronts, each of its bytes changed, and where a log goes on with it.
 #![tactic(auto)]
 
-#[cfg(test)]
-mod call_tests;
 #[cfg(test)]
 mod frame_tests;
 mod homes;
