@@ -6,12 +6,9 @@
 //! - `rows` has spellings by computation: tables of bytes with what they stand for, and of bytes that can't be read with the offset
 //!   of the fault.
 //!
-//! Each law is a function that does nothing, whose contract says that the definitions have it. `frame_tests` reads and writes the
-//! example frame, each of its fronts, each of its bytes changed, and where a log goes on with it.
+//! Each law is a function that does nothing, whose contract says that the definitions have it.
 #![tactic(auto)]
 
-#[cfg(test)]
-mod frame_tests;
 mod homes;
 mod laws;
 mod rows;
