@@ -1,9 +1,13 @@
-//! Tests of `hub_store`, on sites in memory.
+//! Tests of what logs are made of: frames as bytes, calls of `hub_store` and what recovery answers, on sites in memory.
 #![tactic(auto)]
 
 #[cfg(test)]
-mod again;
+mod frame_tests;
 #[cfg(test)]
-mod commits;
+mod left;
+#[cfg(test)]
+mod recovery_tests;
+#[cfg(test)]
+mod store_tests;
 #[cfg(test)]
 mod stores;
