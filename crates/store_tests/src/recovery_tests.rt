@@ -42,21 +42,31 @@ fn add(rt: &impl Abort, bytes: &mut Vec<u8>, part: &[u8], text: &str) {
     }
 }
 
+/// The example frame with the gate before it. Places are those of the frame.
+fn add_entry(rt: &impl Abort, bytes: &mut Vec<u8>, text: &str) {
+    bytes.extend_from_slice(&FRAME).expect(rt, "memory");
+    add(rt, bytes, &EXAMPLE, text);
+}
+
+/// One byte more, or only so many.
+fn add_or_cut(rt: &impl Abort, bytes: &mut Vec<u8>, text: &str) {
+    let (word, number) = numbered(rt, text, ' ');
+    if word == "cut" {
+        bytes.truncate(number);
+    } else {
+        let byte = u8::try_from(number).expect(rt, "a byte");
+        bytes.push(byte).expect(rt, "memory");
+    }
+}
+
 /// A part of a file by its name.
 fn add_part(rt: &impl Abort, bytes: &mut Vec<u8>, text: &str) {
-    match text.split(' ').next() {
-        Some("header") => add(rt, bytes, &HEADER, text),
-        Some("entry") => {
-            add(rt, bytes, &FRAME, "");
-            add(rt, bytes, &EXAMPLE, text);
-        }
-        Some("byte") => {
-            let byte = u8::try_from(numbered(rt, text, ' ').1).expect(rt, "a byte");
-            bytes.push(byte).expect(rt, "memory");
-        }
-        Some("cut") => bytes.truncate(numbered(rt, text, ' ').1),
-        Some("end") => bytes.push(0).expect(rt, "memory"),
-        _ => assert!(rt; text == "empty"),
+    if text.starts_with("header") {
+        add(rt, bytes, &HEADER, text);
+    } else if text.starts_with("entry") {
+        add_entry(rt, bytes, text);
+    } else if text != "empty" {
+        add_or_cut(rt, bytes, text);
     }
 }
 
@@ -151,8 +161,8 @@ fn one_entry(rt: HostRuntime) {
     check(
         &rt,
         rt.alloc(),
-        "header, entry, end | empty | log 16 to 76, life 1, taken true false
-byte 0 | header, entry, end | log 17 to 76, life 1, taken true false",
+        "header, entry, byte 0 | empty | log 16 to 76, life 1, taken true false
+byte 0 | header, entry, byte 0 | log 17 to 76, life 1, taken true false",
     );
 }
 
@@ -161,7 +171,7 @@ fn a_life_behind_the_last(rt: HostRuntime) {
     check(
         &rt,
         rt.alloc(),
-        "header, entry, entry 9=1 17=5 37=2, end | empty | log 16 to 119, life 6, taken true true",
+        "header, entry, entry 9=1 17=5 37=2, byte 0 | empty | log 16 to 119, life 6, taken true true",
     );
 }
 
@@ -171,9 +181,9 @@ fn entries_that_cannot_be(rt: HostRuntime) {
     check(
         &rt,
         rt.alloc(),
-        "header, entry, entry 9=1, end | empty | partition 0 has an illegal entry at position 1
-header, entry, entry 9=1, entry, end | empty | file 16 is damaged at offset 126
-header, entry 10=63 11=255 12=255 13=255 14=255 15=255 16=255 17=255, end | empty | partition 0 is past its last life with 4611686018427387904",
+        "header, entry, entry 9=1, byte 0 | empty | partition 0 has an illegal entry at position 1
+header, entry, entry 9=1, entry, byte 0 | empty | file 16 is damaged at offset 126
+header, entry 10=63 11=255 12=255 13=255 14=255 15=255 16=255 17=255, byte 0 | empty | partition 0 is past its last life with 4611686018427387904",
     );
 }
 
@@ -182,12 +192,12 @@ fn other_logs(rt: HostRuntime) {
     check(
         &rt,
         rt.alloc(),
-        "header 16=2, entry, end | empty | the log is of 2 partitions, and 1 are asked for
-empty | header 24=8, entry, end | the log is of flows with digest 8, and these have 7
-header, entry, end | header, entry, end | file 17 is damaged at offset 25
-header 32=1, entry 9=1, end | empty | file 16 is damaged at offset 25
-header, entry, end | header 32=1, entry 9=1, end | file 17 is damaged at offset 25
-header 32=1, entry 9=1, end | header, entry, end | file 16 is damaged at offset 25",
+        "header 16=2, entry, byte 0 | empty | the log is of 2 partitions, and 1 are asked for
+empty | header 24=8, entry, byte 0 | the log is of flows with digest 8, and these have 7
+header, entry, byte 0 | header, entry, byte 0 | file 17 is damaged at offset 25
+header 32=1, entry 9=1, byte 0 | empty | file 16 is damaged at offset 25
+header, entry, byte 0 | header 32=1, entry 9=1, byte 0 | file 17 is damaged at offset 25
+header 32=1, entry 9=1, byte 0 | header, entry, byte 0 | file 16 is damaged at offset 25",
     );
 }
 
@@ -196,11 +206,11 @@ fn cut_short(rt: HostRuntime) {
     check(
         &rt,
         rt.alloc(),
-        "header, entry, end, cut 20 | empty | file 16 is damaged at offset 17
-header, entry, end, cut 33 | empty | file 16 is damaged at offset 33
-header, entry, end, cut 35 | empty | file 16 is damaged at offset 34
-header, entry, end, cut 60 | empty | file 16 is damaged at offset 34
-header, entry, end, cut 76 | empty | file 16 is damaged at offset 34",
+        "header, entry, byte 0, cut 20 | empty | file 16 is damaged at offset 17
+header, entry, byte 0, cut 33 | empty | file 16 is damaged at offset 33
+header, entry, byte 0, cut 35 | empty | file 16 is damaged at offset 34
+header, entry, byte 0, cut 60 | empty | file 16 is damaged at offset 34
+header, entry, byte 0, cut 76 | empty | file 16 is damaged at offset 34",
     );
 }
 
@@ -211,14 +221,14 @@ fn the_disk_fails(rt: HostRuntime) {
         check_at(
             &rt,
             alloc,
-            "header, entry, end | empty | the disk failed",
+            "header, entry, byte 0 | empty | the disk failed",
             call,
         );
     }
     check_at(
         &rt,
         alloc,
-        "header, entry, end | empty | log 16 to 76, life 1, taken true false",
+        "header, entry, byte 0 | empty | log 16 to 76, life 1, taken true false",
         9,
     );
 }
