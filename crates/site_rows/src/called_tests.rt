@@ -1,256 +1,223 @@
 // What no clause says: that each call gets through, in which order the calls are made, and that just one fault is counted.
-use crate::rows::{FILE, Row, check_rows};
-use crate::scripted::{CallKind, Mishap, Planned, ScriptedCalls};
-use site_calls::{CalledSite, FaultPlace, Unknown};
+use crate::scripted::{FILE, ScriptedCalls};
+use crate::transcript::{Line, World, answers, check, read_line};
+use site_calls::{CalledSite, Fault, FaultPlace, Unknown};
 use std::alloc::Global;
 use std::io::ErrorKind;
-use std::process::Abort;
 
-type Scripted<R> = CalledSite<ScriptedCalls<R>, Unknown>;
+type Called = CalledSite<ScriptedCalls, Unknown>;
 
-fn planned(kind: CallKind, number: usize, mishap: Mishap) -> Planned {
-    Planned {
-        kind,
-        number,
-        mishap,
+/// A site on calls that move at most so many bytes, with this script.
+fn site_with(alloc: Global, line: &Line) -> Called {
+    CalledSite::new(
+        ScriptedCalls::new(alloc, line.first as usize, line.text),
+        Unknown,
+    )
+}
+
+fn restart(alloc: Global, site: &mut Called, line: &Line) -> bool {
+    *site = site_with(alloc, line);
+    true
+}
+
+fn has_failed(fault: Option<Fault>, wanted: &str) -> bool {
+    let (place, kind) = match wanted {
+        "file: other" => (FaultPlace::File(FILE), ErrorKind::Other),
+        "names: other" => (FaultPlace::Names, ErrorKind::Other),
+        "file: zero" => (FaultPlace::File(FILE), ErrorKind::WriteZero),
+        _ => (FaultPlace::Output, ErrorKind::WriteZero),
+    };
+    match fault {
+        Some(fault) => fault.place == place && fault.error.kind() == kind,
+        None => false,
     }
 }
 
-/// A site on whose calls this goes wrong, and which move at most so many bytes.
-fn site_with<R: Abort>(rt: R, alloc: Global, most: usize, plan: &[Planned]) -> Scripted<R> {
-    let plan = plan.to_vec(alloc).expect(&rt, "memory");
-    CalledSite::new(ScriptedCalls::new(rt, alloc, most, plan), Unknown)
-}
-
-/// What a run leaves beside its answers.
-#[derive(Clone, Copy)]
-enum Left<'a> {
-    Any,
-    Order(&'a [CallKind]),
-    Tape(&'a [u8]),
-}
-
-fn is_left<R: Abort>(site: &Scripted<R>, left: Left) -> bool {
-    match left {
-        Left::Any => true,
-        Left::Order(order) => site.calls().order() == order,
-        Left::Tape(tape) => site.calls().tape() == tape,
+impl World for Called {
+    fn is_right(&mut self, host: &HostRuntime, _path: &str, line: &Line) -> bool {
+        match line.verb {
+            "script" => restart(host.alloc(), self, line),
+            "left" => self.calls().has_left(line.text),
+            "tape" => self.calls().has_tape(line.bytes),
+            "faults" => self.disk_faults() == line.first && self.say_faults() == line.second,
+            "failed" => has_failed(self.fault(), line.text),
+            _ => answers(self, &mut [0; 16], line),
+        }
     }
 }
 
-/// On a site on whose calls this goes wrong the rows are right, and this is left.
-fn check_run<R: Abort + Copy>(
-    rt: R,
-    alloc: Global,
-    most: usize,
-    plan: &[Planned],
-    rows: &[Row],
-    left: Left,
-) {
-    let mut site = site_with(rt, alloc, most, plan);
-    check_rows(&rt, &mut site, &mut [0; 16], rows);
-    assert!(rt; is_left(&site, left));
-}
+const SITES: &str = "# a write through short calls reads back whole;
+    script 2;
+    write 17 netherite;
+    read 17 0 netherite;
+    read 17 6 ite;
+    read 17 9;
+    read 17 18446744073709551615;
+    say kept\n;
+    faults 0 0;
+    tape kept\n;
+# a new file has its name flushed before its bytes;
+    script 16 find make write find names flush end;
+    write 17 ab;
+    sync 17;
+    left end;
+# a later sync flushes no names, since the name is safe then;
+    script 16 find make write find names flush find flush end;
+    write 17 ab;
+    sync 17;
+    sync 17;
+    left end;
+# a file that is absent has no bytes, is safe as it is, and none of this makes it;
+    script 16 find find find end;
+    length 17 0;
+    read 17 0;
+    sync 17;
+    at 289;
+    left end;
+# each failing call is counted once, where just the call of the site in which it was made fails. The steps tell what it
+    left: a write that had begun, and no sync and no line that failed;
+# the first find;
+    script 16 find:fails;
+    fails write 17 ab;
+    length 17 0;
+    read 17 0;
+    sync 17;
+    say hi;
+    faults 1 0;
+    at 291;
+    left;
+# the first make;
+    script 16 find make:fails;
+    fails write 17 ab;
+    length 17 0;
+    read 17 0;
+    sync 17;
+    say hi;
+    faults 1 0;
+    at 291;
+    left;
+# the first write;
+    script 16 find make write:fails;
+    fails write 17 ab;
+    length 17 0;
+    read 17 0;
+    sync 17;
+    say hi;
+    faults 1 0;
+    at 292;
+    left;
+# the first measure;
+    script 16 find make write find measure:fails;
+    write 17 ab;
+    fails length 17;
+    read 17 0 ab;
+    sync 17;
+    say hi;
+    faults 1 0;
+    at 292;
+    left;
+# the first read;
+    script 16 find make write find measure find read:fails;
+    write 17 ab;
+    length 17 2;
+    fails read 17 0;
+    sync 17;
+    say hi;
+    faults 1 0;
+    at 292;
+    left;
+# the first names;
+    script 16 find make write find measure find read read find names:fails;
+    write 17 ab;
+    length 17 2;
+    read 17 0 ab;
+    fails sync 17;
+    say hi;
+    faults 1 0;
+    at 291;
+    left;
+# the first flush;
+    script 16 find make write find measure find read read find names flush:fails;
+    write 17 ab;
+    length 17 2;
+    read 17 0 ab;
+    fails sync 17;
+    say hi;
+    faults 1 0;
+    at 291;
+    left;
+# the first print;
+    script 16 find make write find measure find read read find names flush print:fails;
+    write 17 ab;
+    length 17 2;
+    read 17 0 ab;
+    sync 17;
+    fails say hi;
+    faults 0 1;
+    at 290;
+    left;
+# after a failed sync each later one fails, though the device would succeed;
+    script 16 find make write find names flush:fails find find end;
+    write 17 ab;
+    fails sync 17;
+    failed file: other;
+    fails sync 17;
+    fails sync 17;
+    failed file: other;
+    faults 3 0;
+    at 289;
+    left end;
+# after names that failed each later sync fails;
+    script 16 find make write find names:fails find find end;
+    write 17 ab;
+    fails sync 17;
+    failed names: other;
+    fails sync 17;
+    fails sync 17;
+    failed file: other;
+    faults 3 0;
+    at 289;
+    left end;
+# a call that writes nothing is a fault;
+    script 2 find make write write:nothing find read read print:nothing;
+    fails write 17 abcd;
+    failed file: zero;
+    read 17 0 ab;
+    fails say hi;
+    failed output: zero;
+    faults 1 1;
+    left;
+# a call that a signal cuts off goes on;
+    script 2 find make write write:cut write find read:cut read read:cut read read print print:cut print;
+    write 17 abcd;
+    read 17 0 abcd;
+    say said;
+    faults 0 0;
+    tape said;
+    left;
+# a shorter write keeps what is behind it;
+    script 2;
+    write 17 ab;
+    sync 17;
+    write 17 xyz;
+    read 17 0 xyz;
+    write 17 w;
+    read 17 0 wyz;
+    length 17 3;
+    say hi;
+    tape hi;
+# a read that the system ends early gives its front;
+    script 2 find make write write find read:nothing;
+    write 17 xyz;
+    read 17 0;
+    left;
+    script 2 find make write write find read read:nothing;
+    write 17 xyz;
+    read 17 0 xy;
+    left;";
 
 #[test]
-fn a_write_through_short_calls_reads_back_whole(rt: HostRuntime) {
-    let rows = [
-        Row::Writes(FILE, b"netherite"),
-        Row::Reads(FILE, 0, b"netherite"),
-        Row::Reads(FILE, 6, b"ite"),
-        Row::Reads(FILE, 9, b""),
-        Row::Reads(FILE, u64::MAX, b""),
-        Row::Says(b"kept\n"),
-        Row::HasFaults(0, 0),
-    ];
-    check_run(rt, rt.alloc(), 2, &[], &rows, Left::Tape(b"kept\n"));
-}
-
-#[test]
-fn a_new_file_has_its_name_flushed_before_its_bytes(rt: HostRuntime) {
-    let rows = [Row::Writes(FILE, b"ab"), Row::Syncs(FILE)];
-    let wanted = [
-        CallKind::Find,
-        CallKind::Make,
-        CallKind::Write,
-        CallKind::Find,
-        CallKind::Names,
-        CallKind::Flush,
-    ];
-    check_run(rt, rt.alloc(), 16, &[], &rows, Left::Order(&wanted));
-}
-
-/// The name is safe then, so only the file is flushed.
-#[test]
-fn a_later_sync_flushes_no_names(rt: HostRuntime) {
-    let rows = [Row::Writes(FILE, b"ab"), Row::Syncs(FILE), Row::Syncs(FILE)];
-    let wanted = [
-        CallKind::Find,
-        CallKind::Make,
-        CallKind::Write,
-        CallKind::Find,
-        CallKind::Names,
-        CallKind::Flush,
-        CallKind::Find,
-        CallKind::Flush,
-    ];
-    check_run(rt, rt.alloc(), 16, &[], &rows, Left::Order(&wanted));
-}
-
-/// A file that isn't there has no bytes, and none of this makes it.
-#[test]
-fn a_file_that_is_absent_is_safe_as_it_is(rt: HostRuntime) {
-    let rows = [
-        Row::HasLength(FILE, 0),
-        Row::Reads(FILE, 0, b""),
-        Row::Syncs(FILE),
-        Row::IsAt(289),
-    ];
-    let wanted = [CallKind::Find; 3];
-    check_run(rt, rt.alloc(), 16, &[], &rows, Left::Order(&wanted));
-}
-
-/// The call of the system that fails first, the calls of the site that fail with it, the faults and the steps.
-fn check_failing<R: Abort + Copy>(
-    rt: R,
-    alloc: Global,
-    kind: CallKind,
-    letters: &'static [u8],
-    faults: (u64, u64),
-    moment: u64,
-) {
-    let plan = [planned(kind, 0, Mishap::Fails)];
-    let rows = [
-        Row::Fails(letters),
-        Row::HasFaults(faults.0, faults.1),
-        Row::IsAt(moment),
-    ];
-    check_run(rt, alloc, 16, &plan, &rows, Left::Any);
-}
-
-/// Just the call of the site in which it was made fails, and one fault is counted. The steps tell what it left: a write
-/// that had begun, and no sync and no line that failed.
-#[test]
-fn each_failing_call_is_counted_once(rt: HostRuntime) {
-    let alloc = rt.alloc();
-    check_failing(rt, alloc, CallKind::Find, b"w....", (1, 0), 291);
-    check_failing(rt, alloc, CallKind::Make, b"w....", (1, 0), 291);
-    check_failing(rt, alloc, CallKind::Write, b"w....", (1, 0), 292);
-    check_failing(rt, alloc, CallKind::Measure, b".l...", (1, 0), 292);
-    check_failing(rt, alloc, CallKind::Read, b"..r..", (1, 0), 292);
-    check_failing(rt, alloc, CallKind::Names, b"...s.", (1, 0), 291);
-    check_failing(rt, alloc, CallKind::Flush, b"...s.", (1, 0), 291);
-    check_failing(rt, alloc, CallKind::Print, b"....p", (0, 1), 290);
-}
-
-/// After a sync that failed at this call two more fail, though the device would succeed.
-fn check_broken<R: Abort + Copy>(
-    rt: R,
-    alloc: Global,
-    kind: CallKind,
-    place: FaultPlace,
-    order: &[CallKind],
-) {
-    let plan = [planned(kind, 0, Mishap::Fails)];
-    let rows = [
-        Row::Writes(FILE, b"ab"),
-        Row::FailsToSync(FILE),
-        Row::FailedAt(place, ErrorKind::Other),
-        Row::FailsToSync(FILE),
-        Row::FailsToSync(FILE),
-        Row::FailedAt(FaultPlace::File(FILE), ErrorKind::Other),
-        Row::HasFaults(3, 0),
-        Row::IsAt(289),
-    ];
-    check_run(rt, alloc, 16, &plan, &rows, Left::Order(order));
-}
-
-#[test]
-fn after_a_failed_sync_each_later_one_fails(rt: HostRuntime) {
-    let wanted = [
-        CallKind::Find,
-        CallKind::Make,
-        CallKind::Write,
-        CallKind::Find,
-        CallKind::Names,
-        CallKind::Flush,
-        CallKind::Find,
-        CallKind::Find,
-    ];
-    let place = FaultPlace::File(FILE);
-    check_broken(rt, rt.alloc(), CallKind::Flush, place, &wanted);
-}
-
-#[test]
-fn after_names_that_failed_each_later_sync_fails(rt: HostRuntime) {
-    let wanted = [
-        CallKind::Find,
-        CallKind::Make,
-        CallKind::Write,
-        CallKind::Find,
-        CallKind::Names,
-        CallKind::Find,
-        CallKind::Find,
-    ];
-    let place = FaultPlace::Names;
-    check_broken(rt, rt.alloc(), CallKind::Names, place, &wanted);
-}
-
-#[test]
-fn a_call_that_writes_nothing_is_a_fault(rt: HostRuntime) {
-    let plan = [
-        planned(CallKind::Write, 1, Mishap::GivesNothing),
-        planned(CallKind::Print, 0, Mishap::GivesNothing),
-    ];
-    let rows = [
-        Row::FailsToWriteAll(FILE, b"abcd"),
-        Row::FailedAt(FaultPlace::File(FILE), ErrorKind::WriteZero),
-        Row::Reads(FILE, 0, b"ab"),
-        Row::FailsToSay(b"hi"),
-        Row::FailedAt(FaultPlace::Output, ErrorKind::WriteZero),
-        Row::HasFaults(1, 1),
-    ];
-    check_run(rt, rt.alloc(), 2, &plan, &rows, Left::Any);
-}
-
-#[test]
-fn a_call_that_a_signal_cuts_off_goes_on(rt: HostRuntime) {
-    let plan = [
-        planned(CallKind::Write, 1, Mishap::IsCutOff),
-        planned(CallKind::Read, 0, Mishap::IsCutOff),
-        planned(CallKind::Read, 2, Mishap::IsCutOff),
-        planned(CallKind::Print, 1, Mishap::IsCutOff),
-    ];
-    let rows = [
-        Row::Writes(FILE, b"abcd"),
-        Row::Reads(FILE, 0, b"abcd"),
-        Row::Says(b"said"),
-        Row::HasFaults(0, 0),
-    ];
-    check_run(rt, rt.alloc(), 2, &plan, &rows, Left::Tape(b"said"));
-}
-
-#[test]
-fn a_shorter_write_keeps_what_is_behind_it(rt: HostRuntime) {
-    let rows = [
-        Row::Writes(FILE, b"ab"),
-        Row::Syncs(FILE),
-        Row::Writes(FILE, b"xyz"),
-        Row::Reads(FILE, 0, b"xyz"),
-        Row::Writes(FILE, b"w"),
-        Row::Reads(FILE, 0, b"wyz"),
-        Row::HasLength(FILE, 3),
-        Row::Says(b"hi"),
-    ];
-    check_run(rt, rt.alloc(), 2, &[], &rows, Left::Tape(b"hi"));
-}
-
-/// A read that the system ends early gives what came.
-#[test]
-fn a_read_that_ends_early_gives_its_front(rt: HostRuntime) {
-    for (number, front) in [(0, b"".as_slice()), (1, b"xy")] {
-        let plan = [planned(CallKind::Read, number, Mishap::GivesNothing)];
-        let rows = [Row::Writes(FILE, b"xyz"), Row::Reads(FILE, 0, front)];
-        check_run(rt, rt.alloc(), 2, &plan, &rows, Left::Any);
-    }
+fn sites_over_calls(rt: HostRuntime) {
+    let mut site = site_with(rt.alloc(), &read_line("script"));
+    check(&rt, &rt, "", &mut site, SITES);
 }

@@ -1,13 +1,11 @@
 //! Tests of the sites, in memory, over calls that fail as planned and over a real directory, and of the machine's clock.
 //!
-//! - `rows`: calls of a site with what they are to give, as data, so that one function makes those of all tests.
+//! - `transcript`: calls of a site with what they give, as text, and the one function that makes those of all tests.
 //! - `scripted`: calls on a file in memory, for the tests of the site over calls.
 #![tactic(auto)]
 
 #[cfg(test)]
 mod called_tests;
-#[cfg(test)]
-mod checks;
 #[cfg(test)]
 mod clock_tests;
 #[cfg(test)]
@@ -15,6 +13,6 @@ mod file_tests;
 #[cfg(test)]
 mod memory_tests;
 #[cfg(test)]
-mod rows;
-#[cfg(test)]
 mod scripted;
+#[cfg(test)]
+mod transcript;

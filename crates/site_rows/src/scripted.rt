@@ -1,68 +1,34 @@
-// Calls on one file in memory, which are cut short and fail where a test says so.
+// Calls on one file in memory, which are cut short and fail where a script says so.
 ghost use Rattle.std.specs.Prelude.{◌≡◌, ◌+◌, ◌≤◌, [], length, take};
 
-use crate::rows::{Explained, FILE};
-use site_calls::{Calls, Reason, Record};
+use site_calls::{Calls, Record};
 use std::alloc::Global;
 use std::io;
 use std::io::ErrorKind;
-use std::process::Abort;
 
-/// A kind of call of the system.
-#[derive(Clone, Copy, PartialEq, Eq)]
-pub(crate) enum CallKind {
-    Find,
-    Make,
-    Measure,
-    Read,
-    Write,
-    Flush,
-    Names,
-    Print,
-}
+/// The one file.
+pub(crate) const FILE: u32 = 17;
 
-/// What goes wrong at a call.
-#[derive(Clone, Copy)]
-pub(crate) enum Mishap {
-    Fails,
-    /// A signal cuts it off.
-    IsCutOff,
-    /// It moves no byte.
-    GivesNothing,
-}
-
-/// At the call of this kind with this number, counted from 0.
-#[derive(Clone, Copy)]
-pub(crate) struct Planned {
-    pub(crate) kind: CallKind,
-    pub(crate) number: usize,
-    pub(crate) mishap: Mishap,
-}
-
-/// A call moves at most `most` bytes.
+/// A call moves at most `most` bytes. The script has a word for each call to come: its name, with `:fails`, with `:cut`
+/// where a signal cuts it off, or with `:nothing` where it moves no byte. A call that isn't the next one fails, and so do
+/// all behind the word `end`. Where the script has no word any more each gets through. Without memory none moves a byte.
 #[derive(Drop)]
-pub(crate) struct ScriptedCalls<R> {
-    rt: R,
-    alloc: Global,
+pub(crate) struct ScriptedCalls {
     most: usize,
-    plan: Vec<Planned>,
-    order: Vec<CallKind>,
+    script: &'static str,
     is_there: bool,
     content: Vec<u8>,
     tape: Vec<u8>,
     record: Record,
 }
 
-impl<R: Abort> ScriptedCalls<R> {
-    pub(crate) fn new(rt: R, alloc: Global, most: usize, plan: Vec<Planned>) -> ScriptedCalls<R>
+impl ScriptedCalls {
+    pub(crate) fn new(alloc: Global, most: usize, script: &'static str) -> ScriptedCalls
         ensures { result.record.events ≡ [] }
     {
         ScriptedCalls {
-            rt,
-            alloc,
             most,
-            plan,
-            order: Vec::new(alloc),
+            script,
             is_there: false,
             content: Vec::new(alloc),
             tape: Vec::new(alloc),
@@ -70,57 +36,58 @@ impl<R: Abort> ScriptedCalls<R> {
         }
     }
 
-    /// The calls so far, the oldest first.
-    pub(crate) fn order(&self) -> &[CallKind] {
-        &self.order
+    /// Whether this is left of the script.
+    pub(crate) fn has_left(&self, words: &str) -> bool {
+        self.script == words
     }
 
-    /// What is printed.
-    pub(crate) fn tape(&self) -> &[u8] {
-        &self.tape
-    }
-
-    fn mishap_at(&self, kind: CallKind, number: usize) -> Option<Mishap> {
-        for planned in &self.plan {
-            if planned.kind == kind && planned.number == number {
-                return Some(planned.mishap);
-            }
-        }
-        None
+    /// Whether this is printed.
+    pub(crate) fn has_tape(&self, bytes: &[u8]) -> bool {
+        self.tape.as_slice() == bytes
     }
 
     /// Makes a call, and says how many bytes it may move.
-    fn call(&mut self, kind: CallKind) -> io::Result<usize>
+    fn call(&mut self, name: &str) -> io::Result<usize>
         ensures { self.new.record ≡ self.old.record }
     {
-        let number = self.order.iter().filter(|made| **made == kind).count();
-        self.order.push(kind).expect(&self.rt, "memory");
-        match self.mishap_at(kind, number) {
-            None => Ok(self.most),
-            Some(Mishap::GivesNothing) => Ok(0),
-            Some(Mishap::IsCutOff) => Err(io::Error::from(ErrorKind::Interrupted)),
-            Some(Mishap::Fails) => Err(io::Error::other("it was planned")),
+        if self.script.is_empty() {
+            return Ok(self.most);
+        }
+        let (word, rest) = self.script.split_once(' ').unwrap_or((self.script, ""));
+        match word.strip_prefix(name) {
+            Some("") => {
+                self.script = rest;
+                Ok(self.most)
+            }
+            Some(":nothing") => {
+                self.script = rest;
+                Ok(0)
+            }
+            Some(":cut") => {
+                self.script = rest;
+                Err(io::Error::from(ErrorKind::Interrupted))
+            }
+            Some(":fails") => {
+                self.script = rest;
+                Err(io::Error::other("it was planned"))
+            }
+            _ => Err(io::Error::from(ErrorKind::NotFound)),
         }
     }
 
-    /// Puts bytes over those of the file from this offset on, and past its end.
-    fn put(&mut self, at: u64, bytes: &[u8])
+    /// Puts bytes over those of the file from this offset on, and past its end, if there is memory.
+    fn puts(&mut self, at: u64, bytes: &[u8]) -> bool
         ensures { self.new.record ≡ self.old.record }
     {
-        let from = (at as usize).min(self.content.len());
-        let behind = from.saturating_add(bytes.len()).min(self.content.len());
-        let tail = self.content[behind..].to_vec(self.alloc);
-        let tail = tail.expect(&self.rt, "memory");
-        self.content.truncate(from);
         let content = &mut self.content;
-        content.extend_from_slice(bytes).expect(&self.rt, "memory");
-        content.extend_from_slice(&tail).expect(&self.rt, "memory");
-    }
-}
-
-impl<R> Explained for ScriptedCalls<R> {
-    fn why(&self) -> Option<Reason> {
-        None
+        let from = (at as usize).min(content.len());
+        let end = from + bytes.len();
+        let size = end.max(content.len());
+        if content.resize(size, 0).is_err() {
+            return false;
+        }
+        content[from..end].copy_from_slice(bytes);
+        true
     }
 }
 
@@ -139,18 +106,18 @@ fn copy_some(content: &[u8], from: u64, most: usize, done: usize, out: &mut [u8]
     count
 }
 
-impl<R: Abort> Calls for ScriptedCalls<R> {
+impl Calls for ScriptedCalls {
     ghost events = { λ calls. calls.record.events };
 
     fn find(&mut self, file: u32) -> io::Result<bool> {
-        self.call(CallKind::Find)?;
+        self.call("find")?;
         let is_there = file == FILE && self.is_there;
         self.record.found(file, is_there);
         Ok(is_there)
     }
 
     fn make(&mut self, file: u32) -> io::Result<()> {
-        self.call(CallKind::Make)?;
+        self.call("make")?;
         if file != FILE {
             return Err(io::Error::from(ErrorKind::Unsupported));
         }
@@ -160,14 +127,14 @@ impl<R: Abort> Calls for ScriptedCalls<R> {
     }
 
     fn measure(&mut self, file: u32) -> io::Result<u64> {
-        self.call(CallKind::Measure)?;
+        self.call("measure")?;
         let size = self.content.len() as u64;
         self.record.measured(file, size);
         Ok(size)
     }
 
     fn read_some(&mut self, file: u32, at: u64, done: usize, out: &mut [u8]) -> io::Result<usize> {
-        let most = self.call(CallKind::Read)?;
+        let most = self.call("read")?;
         let from = at.saturating_add(done as u64);
         let count = copy_some(&self.content, from, most, done, out);
         let size = out.len();
@@ -180,10 +147,12 @@ impl<R: Abort> Calls for ScriptedCalls<R> {
     }
 
     fn write_some(&mut self, _file: u32, at: u64, done: usize, bytes: &[u8]) -> io::Result<usize> {
-        match self.call(CallKind::Write) {
+        match self.call("write") {
             Ok(most) => {
-                let count = most.min(bytes.len() - done);
-                self.put(at.saturating_add(done as u64), &bytes[done..done + count]);
+                let mut count = most.min(bytes.len() - done);
+                if !self.puts(at.saturating_add(done as u64), &bytes[done..done + count]) {
+                    count = 0;
+                }
                 self.record.put(&bytes[..done + count]);
                 Ok(count)
             }
@@ -195,15 +164,21 @@ impl<R: Abort> Calls for ScriptedCalls<R> {
     }
 
     fn flush(&mut self, file: u32) -> io::Result<()> {
-        let answer = self.call(CallKind::Flush);
+        let answer = self.call("flush");
         self.record.flushed(file, answer.is_ok());
-        answer.map(|_| ())
+        match answer {
+            Ok(_) => Ok(()),
+            Err(error) => Err(error),
+        }
     }
 
     fn flush_names(&mut self) -> io::Result<()> {
-        let answer = self.call(CallKind::Names);
+        let answer = self.call("names");
         self.record.named(answer.is_ok());
-        answer.map(|_| ())
+        match answer {
+            Ok(_) => Ok(()),
+            Err(error) => Err(error),
+        }
     }
 
     fn pass_over(&mut self, file: u32) {
@@ -211,12 +186,16 @@ impl<R: Abort> Calls for ScriptedCalls<R> {
     }
 
     fn print_some(&mut self, done: usize, line: &[u8]) -> io::Result<usize> {
-        let most = self.call(CallKind::Print)?;
-        let count = most.min(line.len() - done);
-        let bytes = &line[done..done + count];
-        let tape = self.tape.extend_from_slice(bytes);
-        tape.expect(&self.rt, "memory");
-        self.record.printed(bytes);
+        let most = self.call("print")?;
+        let mut count = most.min(line.len() - done);
+        if self
+            .tape
+            .extend_from_slice(&line[done..done + count])
+            .is_err()
+        {
+            count = 0;
+        }
+        self.record.printed(&line[done..done + count]);
         Ok(count)
     }
 }
