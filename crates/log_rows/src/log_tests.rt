@@ -1,9 +1,7 @@
-ghost use Rattle.std.specs.Prelude.{◌≡◌, ◌≢◌, ◌++◌, ◌∷◌, [], List, ℕ, IfOk, OnOk};
+ghost use Rattle.std.specs.Prelude.{◌≡◌, ◌≢◌, ◌∷◌, IfOk, OnOk};
 ghost use Rattle.site_model.specs.History.{changes_of, on, synced};
 ghost use Rattle.site_model.specs.Moments.{OnlyFile};
-ghost use Rattle.commit_log.specs.declared.header.Header.{Header};
-ghost use Rattle.commit_log.specs.States.{IsResting, IsSynced, IsSyncedThere, Rests};
-ghost use Rattle.commit_log.specs.Outcomes.{RestsAs};
+ghost use Rattle.commit_log.specs.States.{IsSyncedThere, Rests};
 
 use commit_log::{
     BodyError, Broken, Header, OpenError, Opened, Payload, Reopened, Resting, Synced, read_log,
@@ -121,8 +119,6 @@ fn synced<V: Site>(
 ) -> Result<Synced, BodyError>
     requires { V.tells site.old → Rests (changes_of log.file (V.history site.old)) log.gate }
     ensures told { V.tells site.new → V.tells site.old }
-    ensures frames { (h : Header) (payloads : List (List ℕ)) → IsResting (changes_of log.file (V.history site.old)) h payloads log.gate
-        → IfOk result (λ made. IsSynced (changes_of made.file (V.history site.new)) h payloads payload.now made.gate made.next) }
     ensures there { V.tells site.new → IfOk result (λ made. IsSyncedThere (changes_of made.file (V.history site.new)) made.gate made.next) }
     ensures file { IfOk result (λ made. made.file ≡ log.file) }
     ensures only { V.tells site.new → OnOk result (OnlyFile log.file (V.history site.old) (V.history site.new)) }
@@ -143,8 +139,6 @@ fn commit<V: Site>(
 ) -> Result<Resting, BodyError>
     requires { V.tells site.old → Rests (changes_of log.file (V.history site.old)) log.gate }
     ensures told { V.tells site.new → V.tells site.old }
-    ensures frames { (h : Header) (payloads : List (List ℕ)) → IsResting (changes_of log.file (V.history site.old)) h payloads log.gate
-        → IfOk result (λ made. RestsAs (V.history site.new) h (payloads ++ payload.now ∷ []) made) }
     ensures file { IfOk result (λ made. made.file ≡ log.file) }
     ensures only { V.tells site.new → OnOk result (OnlyFile log.file (V.history site.old) (V.history site.new)) }
 {
@@ -596,10 +590,6 @@ fn commit_on_both<V: Site>(
     requires first_rests { V.tells site.old → Rests (changes_of first.file (V.history site.old)) first.gate }
     requires second_rests { V.tells site.old → Rests (changes_of second.file (V.history site.old)) second.gate }
     ensures told { V.tells site.new → V.tells site.old }
-    ensures on_first { V.tells site.new → (h : Header) (payloads : List (List ℕ)) → IsResting (changes_of first.file (V.history site.old)) h payloads first.gate
-        → IfOk result (λ made. RestsAs (V.history site.new) h (payloads ++ one.now ∷ []) made.0) }
-    ensures on_second { V.tells site.new → (h : Header) (payloads : List (List ℕ)) → IsResting (changes_of second.file (V.history site.old)) h payloads second.gate
-        → IfOk result (λ made. RestsAs (V.history site.new) h (payloads ++ other.now ∷ []) made.1) }
 {
     let first = commit(alloc, site, first, one)?;
     let second = commit(alloc, site, second, other)?;
