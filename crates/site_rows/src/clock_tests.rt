@@ -1,4 +1,5 @@
-// What no clause says: that the clock gives moments at all, in milliseconds, and that a wait gives up.
+// What no clause says: that the clocks give moments at all, that of the machine in milliseconds, and that a wait gives up.
+use site_memory::TickClock;
 use site_model::{Clock, LAST_MOMENT};
 use std::process::Abort;
 use std::time::Duration;
@@ -50,4 +51,33 @@ fn reads_the_clock(rt: HostRuntime) {
     check_moments(&rt, &mut WallClock::new(rt));
     check_still(&rt);
     check_past_the_last(&rt);
+}
+
+/// Both are the same moment.
+fn check_same(rt: &impl Abort, value: u64, wanted: u64) {
+    assert!(rt; value == wanted);
+}
+
+fn check_first_waits(rt: &impl Abort, clock: &mut TickClock) {
+    check_same(rt, clock.latest(), 0);
+    check_same(rt, clock.now().expect(rt, "a moment"), 5);
+    clock.wait_until(9).expect_err(rt, "a fault");
+    check_same(rt, clock.wait_until(9).expect(rt, "a moment"), 9);
+    check_same(rt, clock.wait_until(3).expect(rt, "a moment"), 9);
+}
+
+fn check_last_wait(rt: &impl Abort, clock: &mut TickClock) {
+    clock.now().expect_err(rt, "a fault");
+    let last = clock.wait_until(LAST_MOMENT).expect(rt, "a moment");
+    check_same(rt, last, LAST_MOMENT);
+    check_same(rt, clock.latest(), LAST_MOMENT);
+    check_same(rt, clock.faults(), 2);
+}
+
+#[test]
+fn the_clock_moves_when_it_is_waited_for(rt: HostRuntime) {
+    let fails = [1, 4].to_vec(rt.alloc()).expect(&rt, "memory");
+    let mut clock = TickClock::new(5, fails);
+    check_first_waits(&rt, &mut clock);
+    check_last_wait(&rt, &mut clock);
 }
