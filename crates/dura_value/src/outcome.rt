@@ -4,7 +4,7 @@ use crate::data::Value;
 use crate::text::Text;
 
 /// What an activity, an instance or an entity's operation came to.
-#[derive(Clone, Drop, PartialEq, Eq)]
+#[derive(Clone, Drop)]
 pub enum Outcome {
     /// It ended with a value.
     Done(Value),

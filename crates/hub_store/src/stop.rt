@@ -8,7 +8,7 @@ use crate::refusal::BodyRefusal;
 use std::alloc::AllocError;
 
 /// Why a call ends before all is done.
-#[derive(Clone, Copy, PartialEq, Eq)]
+#[derive(Clone, Copy)]
 pub enum Stop {
     /// The partition's log would come to this length, which is not below the segment's.
     Full {

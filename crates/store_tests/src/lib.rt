@@ -1,6 +1,9 @@
-//! Tests of what logs are made of: frames as bytes, calls of `hub_store` and what recovery answers, on sites in memory.
+//! Tests of what logs are made of: frames as bytes, calls of `hub_store` and what recovery answers, on sites in memory; and each public
+//! call once that the program does without.
 #![tactic(auto)]
 
+#[cfg(test)]
+mod call_tests;
 #[cfg(test)]
 mod frame_tests;
 #[cfg(test)]

@@ -103,6 +103,7 @@ fn state_text(rt: &impl Abort, alloc: Global, recovered: Recovered) -> String {
         Some(log) => (log.file, log.gate),
         None => (0, 0),
     };
+    assert!(rt; recovered.log.is_some() == (file != 0));
     drop(recovered);
     format!(in alloc; "log {file} to {gate}, life {life}, taken {first} {second}").expect(
         rt, "memory",
