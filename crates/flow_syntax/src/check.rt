@@ -14,7 +14,7 @@ use std::collections::BTreeMap;
 use thiserror::Error;
 
 /// Where a file breaks a rule: a statement's number, flows by name before operations by class and name, each from the top.
-#[derive(Clone, Copy, Debug, PartialEq, Eq, Error)]
+#[derive(Clone, Copy, Debug, Error)]
 pub enum CheckError {
     /// The first statement of a wrong shape.
     #[error("statement {place} may not stand there")]

@@ -3,7 +3,7 @@
 use dura_value::{Name, Scalar};
 
 /// An operation of one part.
-#[derive(Clone, Copy, PartialEq, Eq)]
+#[derive(Clone, Copy)]
 pub enum UnaryOp {
     /// The other truth value.
     Not,
@@ -14,7 +14,7 @@ pub enum UnaryOp {
 }
 
 /// An operation of two parts.
-#[derive(Clone, Copy, PartialEq, Eq)]
+#[derive(Clone, Copy)]
 pub enum BinaryOp {
     /// The sum of integers.
     Add,
