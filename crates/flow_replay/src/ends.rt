@@ -1,8 +1,8 @@
 //! How a machine leaves its section, how it faults, and how it ends.
 
-ghost use Rattle.std.specs.Prelude.{◌≡◌, ◌++◌, IfOk, OnOk, option_map};
-ghost use Rattle.dura_value.specs.Views.{answer_of, messages_of};
-ghost use Rattle.flow_syntax.specs.Machine.{leaving, telling, ended};
+ghost use Rattle.std.specs.Prelude.{◌≡◌, ◌++◌, ◌∷◌, [], IfOk, OnOk, option_map};
+ghost use Rattle.dura_value.specs.Views.{answer_of, body_of as said_of, messages_of};
+ghost use Rattle.flow_syntax.specs.Machine.{says, leaving, telling, ended};
 ghost use Rattle.flow_replay.specs.Views.{machine_of, progress_of};
 ghost use Rattle.flow_replay.specs.Steps.{Makes, outcome_told};
 
@@ -37,20 +37,30 @@ impl<'f> Machine<'f> {
         }
     }
 
+    /// Sends this to whoever started it.
+    fn answer_starter(&self, messages: &mut Vec<Message>, body: Body) -> Result<(), AllocError>
+        ensures { OnOk result (messages_of messages.new.items ≡ messages_of messages.old.items ++ says (machine_of self.now) (machine_of self.now).starter (said_of body) ∷ []) }
+    {
+        let (to, body) = with(copy_id(&self.starter), body)?;
+        let (from, (to, body)) = with(copy_id(&self.id), (to, body))?;
+        messages.push(Message { from, to, body })?;
+        Ok(())
+    }
+
     /// Tells the instance that waits for this one's end.
     fn tell(&self, messages: &mut Vec<Message>, progress: &Progress) -> Result<(), AllocError>
         ensures { OnOk result (messages_of messages.new.items ≡ messages_of messages.old.items ++ telling (machine_of self.now) (machine_of self.now).reply (progress_of progress.now)) }
     {
-        if let Reply::Task(number) = self.reply {
-            if let Some(answer) = self.ending(progress)? {
-                messages.push(Message {
-                    from: copy_id(&self.id)?,
-                    to: copy_id(&self.starter)?,
-                    body: Body::Result(Reply::Task(number), answer),
-                })?;
-            }
+        let Reply::Task(number) = self.reply else {
+            return Ok(());
+        };
+        match self.ending(progress)? {
+            Some(answer) => self.answer_starter(
+                messages,
+                Body::Result(Reply::Task(number), answer),
+            ),
+            None => Ok(()),
         }
-        Ok(())
     }
 
     /// Ends: it leaves its section, and then its starter is told.
