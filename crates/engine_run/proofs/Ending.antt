@@ -7,7 +7,7 @@ use Rattle.commit_log.specs.Segment.{reading_of}
 use Rattle.commit_log.proofs.Written.{reads_closed}
 use Rattle.dura_model.specs.Partition.{Partition, enter}
 use Rattle.dura_value.specs.Items.{Entry}
-use Rattle.engine_run.specs.Ends.{AreAllSaid, IsFirstUnsaid, IsAtRest, WouldFill, EndsAs, IsRestCause, cause_of_stop}
+use Rattle.engine_run.specs.Ends.{AreAllSaid, IsFirstUnsaid, IsAtRest, WouldFill, EndsAs, IsRestCause, IsLateCause, cause_of_stop}
 use Rattle.engine_run.specs.Asked.{IsRequest}
 use Rattle.engine_run.proofs.FileAsked.{due_taken}
 use Rattle.engine_run.proofs.Quieted.{quiet_behind}
@@ -109,3 +109,56 @@ module _ (MayFollow : List Settled → List Said → ℕ → List Entry → Type
 -- rounds that stop for another cause stopped for another reason
 pub other_stop : {X : Type 0} (stop : Stop) → cause_of_stop stop ≢ SayFault → (result : Result X Stop) → result ≡ Err stop → result ≢ Err stops.SayFault
 other_stop stop other result is said = let same : stop ≡ stops.SayFault = cc (is, said) in other (ap cause_of_stop same)
+
+-- a cause of rounds at rest is a late one
+pub rest_late : (queues : List Queue) (clients : List (List ℕ)) (cause : Cause) → IsRestCause queues clients cause → IsLateCause cause
+rest_late queues clients Done is = tt
+rest_late queues clients Usage is = absurd is
+rest_late queues clients (BadFlows fault) is = absurd is
+rest_late queues clients (BadRequests line) is = absurd is
+rest_late queues clients (Clash client number) is = absurd is
+rest_late queues clients (BadPlan place) is = absurd is
+rest_late queues clients (TooLong file) is = absurd is
+rest_late queues clients (Waiting client number) is = tt
+rest_late queues clients (Long labels) is = absurd is
+rest_late queues clients SiteFault is = absurd is
+rest_late queues clients SayFault is = absurd is
+rest_late queues clients ClockFault is = absurd is
+rest_late queues clients (Damaged file offset) is = absurd is
+rest_late queues clients (Illegal partition position) is = absurd is
+rest_late queues clients (Unclosed partition position src seq) is = absurd is
+rest_late queues clients (OtherShape found asked) is = absurd is
+rest_late queues clients (OtherFlows found given) is = absurd is
+rest_late queues clients Memory is = absurd is
+rest_late queues clients (Full partition length_then) is = absurd is
+rest_late queues clients (Spent partition number) is = absurd is
+
+-- a cause of rounds that stop is a late one
+pub stop_late : (stop : Stop) → IsLateCause (cause_of_stop stop)
+stop_late (stops.Full partition length_then) = tt
+stop_late stops.SiteFault = tt
+stop_late stops.SayFault = tt
+stop_late stops.ClockFault = tt
+stop_late stops.Memory = tt
+
+-- a fault stops rounds alone that is why they stop
+pub site_stop : (stop : Stop) → cause_of_stop stop ≡ SiteFault → stop ≡ stops.SiteFault
+site_stop (stops.Full partition length_then) is = absurd (cc is)
+site_stop stops.SiteFault is = refl
+site_stop stops.SayFault is = absurd (cc is)
+site_stop stops.ClockFault is = absurd (cc is)
+site_stop stops.Memory is = absurd (cc is)
+
+pub say_stop : (stop : Stop) → cause_of_stop stop ≡ SayFault → stop ≡ stops.SayFault
+say_stop (stops.Full partition length_then) is = absurd (cc is)
+say_stop stops.SiteFault is = absurd (cc is)
+say_stop stops.SayFault is = refl
+say_stop stops.ClockFault is = absurd (cc is)
+say_stop stops.Memory is = absurd (cc is)
+
+pub clock_stop : (stop : Stop) → cause_of_stop stop ≡ ClockFault → stop ≡ stops.ClockFault
+clock_stop (stops.Full partition length_then) is = absurd (cc is)
+clock_stop stops.SiteFault is = absurd (cc is)
+clock_stop stops.SayFault is = absurd (cc is)
+clock_stop stops.ClockFault is = refl
+clock_stop stops.Memory is = absurd (cc is)

@@ -1,6 +1,6 @@
 use Rattle.std.proofs.Common.{◌≢◌, ◌∙◌, ◌≤◌, ℕ, List, [], Err, sym, ap, subst, arith}
-use Rattle.engine_run.specs.Ends.{EndsAs}
-use Rattle.engine_run.proofs.Ending.{at_rest, rest_ends, stop_ends, other_stop}
+use Rattle.engine_run.specs.Ends.{EndsAs, IsLateCause, IsRestCause}
+use Rattle.engine_run.proofs.Ending.{at_rest, rest_ends, rest_late, stop_ends, stop_late, other_stop, site_stop, say_stop, clock_stop}
 use Rattle.engine_run.proofs.running.drive_on.Goals as goal
 use Rattle.hub_store.specs.Changes.{trail_in, told_in}
 use Rattle.hub_store.specs.Trail.{Settled, Said, of_part}
@@ -14,43 +14,140 @@ use Rattle.hub_store.specs.declared.stop.Stop.{Stop}
 use Rattle.run_causes.specs.declared.cause.Cause.{Cause}
 use Rattle.run_causes.specs.declared.cause.Cause.TheVariants.{SayFault}
 
-pub returns-in-Err-clause-ends : goal.returns-in-Err-clause-ends
-returns-in-Err-clause-ends g c tells =
-    let new = c.drive.new.store in
-    let rules = g.N.Ruled.rules in
-    let steps = g.V.Site.history new.site in
-    let told = c.drive.ensures.sound.told tells in
-    let fits = told.logs 0 (omega (arith, g.met.N.Ruled.one)) in
-    let latest = g.C.Clock.latest c.drive.new.clock in
-    let raised = c.drive.ensures.latest in
-    let later = c.drive.ensures.moments in
-    let above : new.latest ≤ latest = omega (arith, raised, later, c.requires.moment) in
-    let segment = c.drive.ensures.segment ∙ c.requires.segment in
-    subst (λ (cause : Cause). EndsAs (g.N.Start.may_follow latest) g.N.Start.may_say rules latest g.N.Start.origin steps (trail_in new) c.args.options.steps c.args.options.segment cause) (sym c.cause_of.ensures)
-    (stop_ends (g.N.Start.may_follow latest) g.N.Start.may_say rules latest g.N.Start.origin steps (trail_in new) (told_in new) new.latest above c.args.options.steps c.args.options.segment (way_of new.ways.items 0) c.in-Err.stop c.requires.fits
-    (λ partition length_then is. subst (λ (n : ℕ). IsFull rules new.latest (of_part 0 (trail_in new)) (pairs_of (told_in new)) n (way_of new.ways.items 0) partition length_then) segment
-    (c.in-Err.ensures.full partition length_then (ap (λ (stop : Stop). Err stop) is)))
-    fits)
+pub drive-requires-clause-sound : goal.drive-requires-clause-sound
+drive-requires-clause-sound g c = c.requires.sound
 
-pub returns-in-Ok-clause-ends : goal.returns-in-Ok-clause-ends
-returns-in-Ok-clause-ends g c tells =
-    let new = c.drive.new.store in
-    let rules = g.N.Ruled.rules in
-    let o = g.N.Start.origin in
-    let steps = g.V.Site.history new.site in
-    let told = c.drive.ensures.sound.told tells in
-    let latest = g.C.Clock.latest c.drive.new.clock in
-    let queues = c.drive.new.port.queues in
-    let clients = c.args.clients.now in
-    let raised = c.drive.ensures.latest in
-    let later = c.drive.ensures.moments in
-    let above : new.latest ≤ latest = omega (arith, raised, later, c.requires.moment) in
-    let may : (trail : List Settled) (told : List Said) (partition : ℕ) (going : List Entry) → g.N.Start.may_follow new.latest trail told partition going → g.N.Start.may_follow latest trail told partition going =
-    λ trail told partition going follows. g.N.Start.later_follows new.latest latest trail told partition going above follows in
-    let stands = with_later (g.N.Start.may_follow new.latest) (g.N.Start.may_follow latest) g.N.Start.may_say may o steps (trail_in new) (told_in new) [] (told.rests (c.drive.ensures.sound.uncut c.in-Ok-Rest.ensures.still)) in
-    let leaves = subst (Leaves rules (o.logs 0) new.latest (of_part 0 (trail_in new)) queues clients c.args.options.steps) c.in-Ok-Rest.field-0-is c.in-Ok-Rest.ensures.leaves in
-    let rest = at_rest (g.N.Start.may_follow latest) g.N.Start.may_say rules latest o steps (trail_in new) (told_in new) new.latest queues clients c.in-Ok-Rest.state stands c.in-Ok-Rest.ensures.said (c.requires.asked (c.drive.ensures.tells tells)) c.requires.clients leaves.0 leaves.1 in
-    rest_ends (g.N.Start.may_follow latest) g.N.Start.may_say rules latest o steps (trail_in new) (told_in new) queues clients c.args.options.steps c.args.options.segment c.in-Ok.cause rest c.requires.clients c.in-Ok.ensures
+pub drive-requires-clause-going : goal.drive-requires-clause-going
+drive-requires-clause-going g c = c.requires.going
 
-pub returns-in-Err-clause-whole : goal.returns-in-Err-clause-whole
-returns-in-Err-clause-whole g c other = c.drive.ensures.whole (other_stop c.in-Err.stop (subst (λ (cause : Cause). cause ≢ SayFault) c.cause_of.ensures other) c.drive.result c.in-Err.is)
+pub drive-requires-clause-rests : goal.drive-requires-clause-rests
+drive-requires-clause-rests g c = c.requires.rests
+
+pub drive-requires-clause-flows : goal.drive-requires-clause-flows
+drive-requires-clause-flows g c = c.requires.flows
+
+pub drive-requires-clause-life : goal.drive-requires-clause-life
+drive-requires-clause-life g c = c.requires.life
+
+pub drive-requires-clause-short : goal.drive-requires-clause-short
+drive-requires-clause-short g c = c.requires.short
+
+pub drive-requires-clause-some : goal.drive-requires-clause-some
+drive-requires-clause-some g c = c.requires.some
+
+pub drive-requires-clause-few : goal.drive-requires-clause-few
+drive-requires-clause-few g c = c.requires.few
+
+pub drive-requires-clause-stands : goal.drive-requires-clause-stands
+drive-requires-clause-stands g c = c.requires.stands
+
+pub drive-requires-clause-new : goal.drive-requires-clause-new
+drive-requires-clause-new g c = c.requires.new
+
+pub drive-requires-clause-own : goal.drive-requires-clause-own
+drive-requires-clause-own g c = c.requires.own
+
+pub drive-requires-clause-one : goal.drive-requires-clause-one
+drive-requires-clause-one g c = c.requires.one
+
+pub drive-requires-clause-room : goal.drive-requires-clause-room
+drive-requires-clause-room g c = c.requires.room
+
+pub drive-requires-clause-said : goal.drive-requires-clause-said
+drive-requires-clause-said g c = c.requires.said
+
+pub returns-in-Ok : goal.returns-in-Ok
+returns-in-Ok g c = record {
+      tells = c.drive.ensures.tells;
+      sound = c.drive.ensures.sound;
+      moment = omega (arith, c.drive.ensures.latest, c.drive.ensures.moments, c.requires.moment);
+      whole = λ other. c.drive.ensures.sound.uncut c.in-Ok-Rest.ensures.still;
+      ends = λ tells. 
+        let new = c.drive.new.store in
+        let rules = g.N.Ruled.rules in
+        let o = g.N.Start.origin in
+        let steps = g.V.Site.history new.site in
+        let told = c.drive.ensures.sound.told tells in
+        let latest = g.C.Clock.latest c.drive.new.clock in
+        let queues = c.drive.new.port.queues in
+        let clients = c.args.clients.now in
+        let raised = c.drive.ensures.latest in
+        let later = c.drive.ensures.moments in
+        let above : new.latest ≤ latest = omega (arith, raised, later, c.requires.moment) in
+        let may : (trail : List Settled) (told : List Said) (partition : ℕ) (going : List Entry) → g.N.Start.may_follow new.latest trail told partition going → g.N.Start.may_follow latest trail told partition going =
+        λ trail told partition going follows. g.N.Start.later_follows new.latest latest trail told partition going above follows in
+        let stands = with_later (g.N.Start.may_follow new.latest) (g.N.Start.may_follow latest) g.N.Start.may_say may o steps (trail_in new) (told_in new) [] (told.rests (c.drive.ensures.sound.uncut c.in-Ok-Rest.ensures.still)) in
+        let leaves = subst (Leaves rules (o.logs 0) new.latest (of_part 0 (trail_in new)) queues clients c.args.options.steps) c.in-Ok-Rest.field-0-is c.in-Ok-Rest.ensures.leaves in
+        let rest = at_rest (g.N.Start.may_follow latest) g.N.Start.may_say rules latest o steps (trail_in new) (told_in new) new.latest queues clients c.in-Ok-Rest.state stands c.in-Ok-Rest.ensures.said (c.requires.asked (c.drive.ensures.tells tells)) c.requires.clients leaves.0 leaves.1 in
+        rest_ends (g.N.Start.may_follow latest) g.N.Start.may_say rules latest o steps (trail_in new) (told_in new) queues clients c.args.options.steps c.args.options.segment c.in-Ok.cause rest c.requires.clients c.in-Ok.ensures;
+      late = rest_late c.drive.new.port.queues c.args.clients.now c.in-Ok.cause c.in-Ok.ensures;
+      fault = λ is. absurd (subst (IsRestCause c.drive.new.port.queues c.args.clients.now) is c.in-Ok.ensures);
+      say_fault = λ is. absurd (subst (IsRestCause c.drive.new.port.queues c.args.clients.now) is c.in-Ok.ensures);
+      clock_fault = λ is. absurd (subst (IsRestCause c.drive.new.port.queues c.args.clients.now) is c.in-Ok.ensures);
+      later = c.drive.ensures.later;
+      say_later = c.drive.ensures.say_later;
+      clock_later = c.drive.ensures.clock_later;
+    }
+
+pub returns-in-Err-rest_cause : goal.returns-in-Err-rest_cause
+returns-in-Err-rest_cause g c = record {
+      tells = c.drive.ensures.tells;
+      sound = c.drive.ensures.sound;
+      moment = omega (arith, c.drive.ensures.latest, c.drive.ensures.moments, c.requires.moment);
+      whole = λ other. c.drive.ensures.sound.uncut c.in-Ok-Rest.ensures.still;
+      ends = λ tells. tt;
+      late = tt;
+      fault = λ is. absurd (cc is);
+      say_fault = λ is. absurd (cc is);
+      clock_fault = λ is. absurd (cc is);
+      later = c.drive.ensures.later;
+      say_later = c.drive.ensures.say_later;
+      clock_later = c.drive.ensures.clock_later;
+    }
+
+pub returns-in-Ok-Long : goal.returns-in-Ok-Long
+returns-in-Ok-Long g c = record {
+      tells = c.drive.ensures.tells;
+      sound = c.drive.ensures.sound;
+      moment = omega (arith, c.drive.ensures.latest, c.drive.ensures.moments, c.requires.moment);
+      whole = λ other. c.drive.ensures.sound.uncut c.in-Ok-Long.ensures.still;
+      ends = λ tells. subst (Leaves g.N.Ruled.rules (g.N.Start.origin.logs 0) c.drive.new.store.latest (of_part 0 (trail_in c.drive.new.store)) c.drive.new.port.queues c.args.clients.now c.args.options.steps) c.in-Ok-Long.field-0-is c.in-Ok-Long.ensures.leaves;
+      late = tt;
+      fault = λ is. absurd (cc is);
+      say_fault = λ is. absurd (cc is);
+      clock_fault = λ is. absurd (cc is);
+      later = c.drive.ensures.later;
+      say_later = c.drive.ensures.say_later;
+      clock_later = c.drive.ensures.clock_later;
+    }
+
+pub returns-in-Err : goal.returns-in-Err
+returns-in-Err g c = record {
+      tells = c.drive.ensures.tells;
+      sound = c.drive.ensures.sound;
+      moment = omega (arith, c.drive.ensures.latest, c.drive.ensures.moments, c.requires.moment);
+      whole = λ other. c.drive.ensures.whole (other_stop c.in-Err.stop (subst (λ (cause : Cause). cause ≢ SayFault) c.cause_of.ensures other) c.drive.result c.in-Err.is);
+      ends = λ tells. 
+        let new = c.drive.new.store in
+        let rules = g.N.Ruled.rules in
+        let steps = g.V.Site.history new.site in
+        let told = c.drive.ensures.sound.told tells in
+        let fits = told.logs 0 (omega (arith, g.met.N.Ruled.one)) in
+        let latest = g.C.Clock.latest c.drive.new.clock in
+        let raised = c.drive.ensures.latest in
+        let later = c.drive.ensures.moments in
+        let above : new.latest ≤ latest = omega (arith, raised, later, c.requires.moment) in
+        let segment = c.drive.ensures.segment ∙ c.requires.segment in
+        subst (λ (cause : Cause). EndsAs (g.N.Start.may_follow latest) g.N.Start.may_say rules latest g.N.Start.origin steps (trail_in new) c.args.options.steps c.args.options.segment cause) (sym c.cause_of.ensures)
+        (stop_ends (g.N.Start.may_follow latest) g.N.Start.may_say rules latest g.N.Start.origin steps (trail_in new) (told_in new) new.latest above c.args.options.steps c.args.options.segment (way_of new.ways.items 0) c.in-Err.stop c.requires.fits
+        (λ partition length_then is. subst (λ (n : ℕ). IsFull rules new.latest (of_part 0 (trail_in new)) (pairs_of (told_in new)) n (way_of new.ways.items 0) partition length_then) segment
+        (c.in-Err.ensures.full partition length_then (ap (λ (stop : Stop). Err stop) is)))
+        fits);
+      late = subst IsLateCause (sym c.cause_of.ensures) (stop_late c.in-Err.stop);
+      fault = λ is. c.in-Err.ensures.fault (ap (λ (stop : Stop). Err stop) (site_stop c.in-Err.stop (sym c.cause_of.ensures ∙ is)));
+      say_fault = λ is. c.in-Err.ensures.say_fault (ap (λ (stop : Stop). Err stop) (say_stop c.in-Err.stop (sym c.cause_of.ensures ∙ is)));
+      clock_fault = λ is. c.in-Err.ensures.clock_fault (ap (λ (stop : Stop). Err stop) (clock_stop c.in-Err.stop (sym c.cause_of.ensures ∙ is)));
+      later = c.drive.ensures.later;
+      say_later = c.drive.ensures.say_later;
+      clock_later = c.drive.ensures.clock_later;
+    }

@@ -1,18 +1,75 @@
-use Rattle.std.proofs.Common.{◌≡◌, ◌⊎◌, ◌∙◌, inl, ℕ, List, [], map, sym, ap, subst}
+use Rattle.std.proofs.Common.{◌≡◌, ◌≤◌, ◌⊎◌, ◌∙◌, inl, inr, ℕ, List, [], map, sym, ap, subst, arith}
 use Rattle.client_port.specs.Clients.{clients_of}
 use Rattle.client_port.specs.Ports.{Queue, queues_of}
 use Rattle.dura_value.specs.Items.{Entry}
-use Rattle.engine_run.specs.Ends.{GoesOn, Stays}
+use Rattle.engine_run.specs.Ends.{GoesOn, Stays, IsLateCause}
 use Rattle.engine_run.proofs.Queues.{clients_named, nothing_said}
 use Rattle.engine_run.proofs.Runs.{run_further, nothing_before}
 use Rattle.engine_run.proofs.running.go.Goals as goal
 use Rattle.hub_store.specs.Changes.{trail_in, told_in}
-use Rattle.hub_store.specs.Trail.{Settled, Said}
+use Rattle.hub_store.specs.Trail.{Settled, Said, of_part}
 use Rattle.hub_store.proofs.Later.{with_later, moments_later}
-use Rattle.part_rounds.specs.Rounds.{HasSaid}
+use Rattle.part_rounds.specs.Rounds.{HasSaid, Stands}
+use Rattle.part_steps.specs.States.{state_of}
 use Rattle.request_reader.specs.Line.{request_of}
 use Rattle.run_causes.specs.declared.cause.Cause.{Cause}
+use Rattle.run_causes.specs.Causes.{status_of}
 use Rattle.run_rules.specs.Rules.{Rules}
+use Rattle.site_model.specs.Calls.{HasRisen}
+
+pub begin-requires-clause-short : goal.begin-requires-clause-short
+begin-requires-clause-short g c = c.requires.short
+
+pub begin-requires-clause-origin : goal.begin-requires-clause-origin
+begin-requires-clause-origin g c = c.requires.origin
+
+pub drive_on-cause-requires-clause-sound : goal.drive_on-cause-requires-clause-sound
+drive_on-cause-requires-clause-sound g c = c.in-Ok-begin.ensures.sound
+
+pub drive_on-cause-requires-clause-going : goal.drive_on-cause-requires-clause-going
+drive_on-cause-requires-clause-going g c = c.in-Ok-begin.ensures.going
+
+pub drive_on-cause-requires-clause-rests : goal.drive_on-cause-requires-clause-rests
+drive_on-cause-requires-clause-rests g c = c.in-Ok-begin.ensures.rest 0 (omega (arith, g.met.N.Ruled.one))
+
+pub drive_on-cause-requires-clause-new : goal.drive_on-cause-requires-clause-new
+drive_on-cause-requires-clause-new g c = c.in-Ok-begin.ensures.trail
+
+pub drive_on-cause-requires-clause-moment : goal.drive_on-cause-requires-clause-moment
+drive_on-cause-requires-clause-moment g c = omega (arith, c.in-Ok-begin.ensures.latest)
+
+pub drive_on-cause-requires-clause-segment : goal.drive_on-cause-requires-clause-segment
+drive_on-cause-requires-clause-segment g c = c.in-Ok-begin.ensures.segment
+
+pub drive_on-cause-requires-clause-fits : goal.drive_on-cause-requires-clause-fits
+drive_on-cause-requires-clause-fits g c = c.requires.fits
+
+pub drive_on-cause-requires-clause-flows : goal.drive_on-cause-requires-clause-flows
+drive_on-cause-requires-clause-flows g c = ap (λ (r : Rules). r.flows) c.requires.rules
+
+pub drive_on-cause-requires-clause-life : goal.drive_on-cause-requires-clause-life
+drive_on-cause-requires-clause-life g c = sym (ap (λ (r : Rules). r.life) c.requires.rules)
+
+pub drive_on-cause-requires-clause-short : goal.drive_on-cause-requires-clause-short
+drive_on-cause-requires-clause-short g c = c.requires.can.young
+
+pub drive_on-cause-requires-clause-some : goal.drive_on-cause-requires-clause-some
+drive_on-cause-requires-clause-some g c = c.requires.some
+
+pub drive_on-cause-requires-clause-few : goal.drive_on-cause-requires-clause-few
+drive_on-cause-requires-clause-few g c = c.requires.few
+
+pub drive_on-cause-requires-clause-stands : goal.drive_on-cause-requires-clause-stands
+drive_on-cause-requires-clause-stands g c = subst (λ (t : List Settled). Stands g.N.Ruled.rules (g.N.Start.origin.logs 0) (of_part 0 t) (state_of c.args.prepared.state)) (sym c.in-Ok-begin.ensures.trail) c.requires.stands
+
+pub drive_on-cause-requires-clause-own : goal.drive_on-cause-requires-clause-own
+drive_on-cause-requires-clause-own g c = c.requires.can.sound
+
+pub drive_on-cause-requires-clause-one : goal.drive_on-cause-requires-clause-one
+drive_on-cause-requires-clause-one g c = c.requires.can.alone
+
+pub drive_on-cause-requires-clause-asked : goal.drive_on-cause-requires-clause-asked
+drive_on-cause-requires-clause-asked g c = λ tells. c.requires.asked (subst g.V.Site.tells c.in-Ok-begin.ensures.site tells)
 
 pub drive_on-cause-requires-clause-said : goal.drive_on-cause-requires-clause-said
 drive_on-cause-requires-clause-said g c =
@@ -30,31 +87,111 @@ drive_on-cause-requires-clause-clients g c =
     ∙ clients_named (map request_of c.args.prepared.requests.items)
     ∙ sym (ap clients_of asked)
 
-pub returns-clause-goes : goal.returns-clause-goes
-returns-clause-goes g c tells =
-    let end = c.end_with-2 in
-    let store = c.drive_on-cause.new.store in
-    let site_is = end.ensures.site ∙ c.end-site.ensures.site in
-    let trail_is = end.ensures.trail ∙ c.end-site.ensures.trail in
-    let tells_then = subst g.V.Site.tells site_is tells in
-    let told = c.drive_on-cause.ensures.sound.told tells_then in
-    let latest = g.C.Clock.latest c.drive_on-cause.new.clock in
-    let later : (trail : List Settled) (told : List Said) (partition : ℕ) (going : List Entry) → g.N.Start.may_follow store.latest trail told partition going → g.N.Start.may_follow latest trail told partition going =
-    λ trail told partition going may. g.N.Start.later_follows store.latest latest trail told partition going c.drive_on-cause.ensures.moment may in
-    let most = c.args.options.steps in
-    let segment = c.args.options.segment in
-    let goes : GoesOn (g.N.Start.may_follow latest) g.N.Start.may_say g.N.Ruled.rules latest g.N.Start.origin (g.V.Site.history store.site) (trail_in store) most segment c.drive_on-cause.result = record {
-      every = moments_later (g.N.Start.may_follow store.latest) (g.N.Start.may_follow latest) g.N.Start.may_say later g.N.Start.origin (g.V.Site.history store.site) (trail_in store) (c.end-site.ensures.every tells_then);
-      further = run_further told.runs;
-      nothing = nothing_before told.runs;
-      whole = λ other. (
-        told_in store,
-        with_later (g.N.Start.may_follow store.latest) (g.N.Start.may_follow latest) g.N.Start.may_say later g.N.Start.origin (g.V.Site.history store.site) (trail_in store) (told_in store) [] (c.end-site.ensures.whole tells_then (c.drive_on-cause.ensures.whole other)),
-      );
-      ends = c.drive_on-cause.ensures.ends tells_then;
-    } in
-    subst (λ (n : ℕ). GoesOn (g.N.Start.may_follow n) g.N.Start.may_say g.N.Ruled.rules n g.N.Start.origin (g.V.Site.history end.result.site) end.result.trail most segment end.result.cause ⊎ Stays (g.V.Site.history c.args.site) (g.V.Site.history end.result.site) end.result.trail end.result.cause)
-    (ap g.C.Clock.latest (sym end.ensures.clock))
-    (inl (subst (λ (cause : Cause). GoesOn (g.N.Start.may_follow latest) g.N.Start.may_say g.N.Ruled.rules latest g.N.Start.origin (g.V.Site.history end.result.site) end.result.trail most segment cause) (sym end.ensures.cause)
-    (subst (λ (t : List Settled). GoesOn (g.N.Start.may_follow latest) g.N.Start.may_say g.N.Ruled.rules latest g.N.Start.origin (g.V.Site.history end.result.site) t most segment c.drive_on-cause.result) (sym trail_is)
-    (subst (λ site. GoesOn (g.N.Start.may_follow latest) g.N.Start.may_say g.N.Ruled.rules latest g.N.Start.origin (g.V.Site.history site) (trail_in store) most segment c.drive_on-cause.result) (sym site_is) goes))))
+pub returns-then-position-ge-PLACES : goal.returns-then-position-ge-PLACES
+returns-then-position-ge-PLACES g c =
+    let site_is = c.end_with.ensures.site in
+    let wanting = c.end_with.ensures.cause in record {
+      told = λ tells. subst g.V.Site.tells site_is tells;
+      status = c.end_with.ensures.status ∙ ap status_of (sym wanting);
+      late = subst IsLateCause (sym wanting) tt;
+      goes = λ tells. inr (record { same = ap g.V.Site.history site_is; nothing = c.end_with.ensures.trail ∙ c.none-nothing.ensures; wanting = wanting });
+      fault = λ is. absurd (cc (wanting, is));
+      say_fault = λ is. absurd (cc (wanting, is));
+      clock_fault = λ is. absurd (cc (wanting, is));
+      later = omega (arith, ap g.V.Site.disk_faults site_is);
+      say_later = omega (arith, ap g.V.Site.say_faults site_is);
+      clock_later = omega (arith, ap g.C.Clock.clock_faults c.end_with.ensures.clock);
+    }
+
+pub returns-in_default : goal.returns-in_default
+returns-in_default g c =
+    let site_is = c.end_with-in_default.ensures.site in
+    let wanting = c.end_with-in_default.ensures.cause in record {
+      told = λ tells. subst g.V.Site.tells site_is tells;
+      status = c.end_with-in_default.ensures.status ∙ ap status_of (sym wanting);
+      late = subst IsLateCause (sym wanting) tt;
+      goes = λ tells. inr (record { same = ap g.V.Site.history site_is; nothing = c.end_with-in_default.ensures.trail ∙ c.none-nothing.ensures; wanting = wanting });
+      fault = λ is. absurd (cc (wanting, is));
+      say_fault = λ is. absurd (cc (wanting, is));
+      clock_fault = λ is. absurd (cc (wanting, is));
+      later = omega (arith, ap g.V.Site.disk_faults site_is);
+      say_later = omega (arith, ap g.V.Site.say_faults site_is);
+      clock_later = omega (arith, ap g.C.Clock.clock_faults c.end_with-in_default.ensures.clock);
+    }
+
+pub returns-in_default-vec : goal.returns-in_default-vec
+returns-in_default-vec g c =
+    let site_is = c.end_with-in_default-vec.ensures.site in
+    let wanting = c.end_with-in_default-vec.ensures.cause in record {
+      told = λ tells. subst g.V.Site.tells site_is tells;
+      status = c.end_with-in_default-vec.ensures.status ∙ ap status_of (sym wanting);
+      late = subst IsLateCause (sym wanting) tt;
+      goes = λ tells. inr (record { same = ap g.V.Site.history site_is; nothing = c.end_with-in_default-vec.ensures.trail ∙ c.none-nothing.ensures; wanting = wanting });
+      fault = λ is. absurd (cc (wanting, is));
+      say_fault = λ is. absurd (cc (wanting, is));
+      clock_fault = λ is. absurd (cc (wanting, is));
+      later = omega (arith, ap g.V.Site.disk_faults site_is);
+      say_later = omega (arith, ap g.V.Site.say_faults site_is);
+      clock_later = omega (arith, ap g.C.Clock.clock_faults c.end_with-in_default-vec.ensures.clock);
+    }
+
+pub returns-in-Err : goal.returns-in-Err
+returns-in-Err g c =
+    let site_is = c.end_with-in-Err.ensures.site ∙ c.in-Err.ensures.back in
+    let wanting = c.end_with-in-Err.ensures.cause in record {
+      told = λ tells. subst g.V.Site.tells site_is tells;
+      status = c.end_with-in-Err.ensures.status ∙ ap status_of (sym wanting);
+      late = subst IsLateCause (sym wanting) tt;
+      goes = λ tells. inr (record { same = ap g.V.Site.history site_is; nothing = c.end_with-in-Err.ensures.trail ∙ c.none-nothing.ensures; wanting = wanting });
+      fault = λ is. absurd (cc (wanting, is));
+      say_fault = λ is. absurd (cc (wanting, is));
+      clock_fault = λ is. absurd (cc (wanting, is));
+      later = omega (arith, ap g.V.Site.disk_faults site_is);
+      say_later = omega (arith, ap g.V.Site.say_faults site_is);
+      clock_later = omega (arith, ap g.C.Clock.clock_faults c.end_with-in-Err.ensures.clock);
+    }
+
+pub returns : goal.returns
+returns g c =
+    let end = c.end_with-2.ensures in
+    let driven = c.drive_on-cause.ensures in
+    let begun_is = c.in-Ok-begin.ensures.site in
+    let site_is = end.site ∙ c.end-site.ensures.site in
+    let now = c.drive_on-cause.new.store.site in record {
+      told = λ tells. subst g.V.Site.tells begun_is (driven.tells (subst g.V.Site.tells site_is tells));
+      status = end.status ∙ ap status_of (sym end.cause);
+      late = subst IsLateCause (sym end.cause) driven.late;
+      goes = λ tells. 
+        let end = c.end_with-2 in
+        let store = c.drive_on-cause.new.store in
+        let site_is = end.ensures.site ∙ c.end-site.ensures.site in
+        let trail_is = end.ensures.trail ∙ c.end-site.ensures.trail in
+        let tells_then = subst g.V.Site.tells site_is tells in
+        let told = c.drive_on-cause.ensures.sound.told tells_then in
+        let latest = g.C.Clock.latest c.drive_on-cause.new.clock in
+        let later : (trail : List Settled) (told : List Said) (partition : ℕ) (going : List Entry) → g.N.Start.may_follow store.latest trail told partition going → g.N.Start.may_follow latest trail told partition going =
+        λ trail told partition going may. g.N.Start.later_follows store.latest latest trail told partition going c.drive_on-cause.ensures.moment may in
+        let most = c.args.options.steps in
+        let segment = c.args.options.segment in
+        let goes : GoesOn (g.N.Start.may_follow latest) g.N.Start.may_say g.N.Ruled.rules latest g.N.Start.origin (g.V.Site.history store.site) (trail_in store) most segment c.drive_on-cause.result = record {
+          every = moments_later (g.N.Start.may_follow store.latest) (g.N.Start.may_follow latest) g.N.Start.may_say later g.N.Start.origin (g.V.Site.history store.site) (trail_in store) (c.end-site.ensures.every tells_then);
+          further = run_further told.runs;
+          nothing = nothing_before told.runs;
+          whole = λ other. (
+            told_in store,
+            with_later (g.N.Start.may_follow store.latest) (g.N.Start.may_follow latest) g.N.Start.may_say later g.N.Start.origin (g.V.Site.history store.site) (trail_in store) (told_in store) [] (c.end-site.ensures.whole tells_then (c.drive_on-cause.ensures.whole other)),
+          );
+          ends = c.drive_on-cause.ensures.ends tells_then;
+        } in
+        subst (λ (n : ℕ). GoesOn (g.N.Start.may_follow n) g.N.Start.may_say g.N.Ruled.rules n g.N.Start.origin (g.V.Site.history end.result.site) end.result.trail most segment end.result.cause ⊎ Stays (g.V.Site.history c.args.site) (g.V.Site.history end.result.site) end.result.trail end.result.cause)
+        (ap g.C.Clock.latest (sym end.ensures.clock))
+        (inl (subst (λ (cause : Cause). GoesOn (g.N.Start.may_follow latest) g.N.Start.may_say g.N.Ruled.rules latest g.N.Start.origin (g.V.Site.history end.result.site) end.result.trail most segment cause) (sym end.ensures.cause)
+        (subst (λ (t : List Settled). GoesOn (g.N.Start.may_follow latest) g.N.Start.may_say g.N.Ruled.rules latest g.N.Start.origin (g.V.Site.history end.result.site) t most segment c.drive_on-cause.result) (sym trail_is)
+        (subst (λ site. GoesOn (g.N.Start.may_follow latest) g.N.Start.may_say g.N.Ruled.rules latest g.N.Start.origin (g.V.Site.history site) (trail_in store) most segment c.drive_on-cause.result) (sym site_is) goes))));
+      fault = λ is. subst (λ site. HasRisen (g.V.Site.disk_faults c.args.site) (g.V.Site.disk_faults site)) (sym site_is) (subst (λ site. HasRisen (g.V.Site.disk_faults site) (g.V.Site.disk_faults now)) begun_is (driven.fault (sym end.cause ∙ is)));
+      say_fault = λ is. subst (λ site. HasRisen (g.V.Site.say_faults c.args.site) (g.V.Site.say_faults site)) (sym site_is) (subst (λ site. HasRisen (g.V.Site.say_faults site) (g.V.Site.say_faults now)) begun_is (driven.say_fault (sym end.cause ∙ is)));
+      clock_fault = λ is. subst (λ clock. HasRisen (g.C.Clock.clock_faults c.args.clock) (g.C.Clock.clock_faults clock)) (sym end.clock) (driven.clock_fault (sym end.cause ∙ is));
+      later = omega (arith, ap g.V.Site.disk_faults site_is, ap g.V.Site.disk_faults begun_is, driven.later);
+      say_later = omega (arith, ap g.V.Site.say_faults site_is, ap g.V.Site.say_faults begun_is, driven.say_later);
+      clock_later = omega (arith, ap g.C.Clock.clock_faults end.clock, driven.clock_later);
+    }
