@@ -12,5 +12,6 @@ pub mod Queues
 pub mod Quieted
 pub mod Refusing
 pub mod Runs
+pub mod Shown
 pub mod Standing
 pub mod Words

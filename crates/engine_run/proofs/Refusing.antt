@@ -93,3 +93,25 @@ late_answers files (Unclosed partition position src seq) is ready = absurd is
 late_answers files (OtherShape found asked) is ready = absurd is
 late_answers files (OtherFlows found given) is ready = absurd is
 late_answers files (Spent partition number) is ready = absurd is
+
+pub late_untouched : (old new : List Step) (cause : Cause) → IsLateCause cause → Untouched old new cause
+late_untouched old new Done is = tt
+late_untouched old new Usage is = absurd is
+late_untouched old new (BadFlows fault) is = absurd is
+late_untouched old new (BadRequests line) is = absurd is
+late_untouched old new (Clash client number) is = absurd is
+late_untouched old new (BadPlan place) is = absurd is
+late_untouched old new (TooLong file) is = absurd is
+late_untouched old new (Waiting client number) is = tt
+late_untouched old new (Long labels) is = tt
+late_untouched old new SiteFault is = tt
+late_untouched old new SayFault is = tt
+late_untouched old new ClockFault is = tt
+late_untouched old new (Damaged file offset) is = absurd is
+late_untouched old new (Illegal partition position) is = absurd is
+late_untouched old new (Unclosed partition position src seq) is = absurd is
+late_untouched old new (OtherShape found asked) is = absurd is
+late_untouched old new (OtherFlows found given) is = absurd is
+late_untouched old new Memory is = tt
+late_untouched old new (Full partition length) is = tt
+late_untouched old new (Spent partition number) is = absurd is

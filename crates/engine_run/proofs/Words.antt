@@ -7,6 +7,7 @@ use Rattle.clap.specs.Walk.{Row, Text, first_of}
 use Rattle.command_words.specs.Command.{netherite, number_of, partitions_of, run_of, call_of, call_in}
 use Rattle.command_words.specs.Numbers.{is_decimal, decimal, number_in}
 use Rattle.command_words.specs.Reading.{guard, where_it, ◌>>=◌}
+use Rattle.command_words.specs.declared.words.Call.{Call}
 use Rattle.command_words.specs.declared.words.Call.TheVariants.{Run, Show}
 use Rattle.command_words.specs.declared.words.RunOptions.{RunOptions}
 
@@ -67,3 +68,13 @@ pub run_is_within : (words : List (List ℕ)) (options : RunOptions) → call_in
 run_is_within words options is =
     let step = both (subcommand_of netherite words) (λ sub. call_of sub.0 sub.1) (Run options) (guarded (length (fault_of netherite words) == 0) _ (Run options) is) in
     call_within step.0.0 step.0.1 options step.2
+
+-- words call for one thing
+pub run_same : (call : Option Call) (one other : RunOptions) → call ≡ Some (Run one) → call ≡ Some (Run other) → one ≡ other
+run_same call one other is also = cc (is, also)
+
+pub run_no_show : (call : Option Call) (options : RunOptions) (partitions : ℕ) → call ≡ Some (Run options) → call ≡ Some (Show partitions) → ⊥
+run_no_show call options partitions is also = absurd (cc (is, also))
+
+pub none_no_call : (call : Option Call) (some : Call) → call ≡ None → call ≡ Some some → ⊥
+none_no_call call some is also = absurd (cc (is, also))

@@ -1,16 +1,128 @@
-use Rattle.std.proofs.Common.{inl, refl, ap, subst}
-use Rattle.engine_run.specs.Opening.{IsLogCause}
+use Rattle.std.proofs.Common.{◌≡◌, ◌∙◌, inl, inr, ℕ, List, Ok, Err, refl, sym, ap, subst, arith}
+use Rattle.std.proofs.Math.Nat.{le_of_eq}
+use Rattle.engine_run.specs.Opening.{IsLogCause, RecoversAs}
+use Rattle.engine_run.specs.Showing.{ShowsAs}
+use Rattle.engine_run.proofs.Shown.{syncs_tape, flows_shown, logs_shown}
 use Rattle.engine_run.proofs.showing.show.Goals as goal
-use Rattle.site_model.specs.History.{changes_of}
+use Rattle.flow_syntax.specs.Views.{flows_of}
+use Rattle.part_steps.specs.States.{state_of}
+use Rattle.recover_core.specs.Recovering.{OnlySyncs}
+use Rattle.recover_core.proofs.LogsFound.{risen_later}
+use Rattle.run_causes.specs.declared.cause.Cause.{Cause}
+use Rattle.run_inputs.specs.Input.{IsFlowsCause}
+use Rattle.site_model.specs.History.{Step, changes_of, content_of, tape}
+use Rattle.state_lines.specs.Fronts.{SaysTable}
 
-pub returns-in-Err-clause-nothing : goal.returns-in-Err-clause-nothing
-returns-in-Err-clause-nothing g c = record { mid = g.V.Site.history c.args.site.now; syncs = inl refl; files = λ file. ap (changes_of file) c.read_flow_file.ensures.unchanged }
+pub returns-in-Err : goal.returns-in-Err
+returns-in-Err g c =
+    let read = c.read_flow_file.ensures in
+    let old = g.V.Site.history c.args.site.now in
+    let early = c.in-Err.ensures.flows_cause in record {
+      told = read.told;
+      shows = λ tells. flows_shown (λ f. content_of f old) (tape old) (tape (g.V.Site.history c.read_flow_file.new.site)) c.in-Err.cause early (c.in-Err.ensures.reads tells) (ap tape read.unchanged);
+      nothing = record { mid = old; syncs = inl refl; files = λ file. ap (changes_of file) read.unchanged };
+      fault = λ is. c.in-Err.ensures.fault (ap (λ (cause : Cause). Err cause) is);
+      say_fault = λ is. absurd (subst IsFlowsCause is early);
+      no_clock = λ is. subst IsFlowsCause is early;
+      no_usage = λ is. subst IsFlowsCause is early;
+      later = read.later;
+      say_later = le_of_eq (sym read.say_faults);
+    }
 
-pub returns-in-Err-recover_logs-clause-say_fault : goal.returns-in-Err-recover_logs-clause-say_fault
-returns-in-Err-recover_logs-clause-say_fault g c is = absurd (subst IsLogCause is c.in-Err-recover_logs.ensures.early)
+pub returns-in-Err-recover_logs : goal.returns-in-Err-recover_logs
+returns-in-Err-recover_logs g c =
+    let read = c.read_flow_file.ensures in
+    let recover = c.recover_logs.ensures in
+    let file = c.in-Ok.file in
+    let old = g.V.Site.history c.args.site.now in
+    let now = g.V.Site.history c.recover_logs.new.site in
+    let cause = c.in-Err-recover_logs.cause in
+    let early = c.in-Err-recover_logs.ensures.early in
+    let syncs = subst (λ (s : List Step). OnlySyncs s now) read.unchanged recover.syncs in record {
+      told = λ tells. read.told (recover.told tells);
+      shows = λ tells.
+          let recovers = subst (λ (s : List Step). RecoversAs (flows_of file.flows) file.digest (λ f. content_of f s) (Err cause)) read.unchanged (c.in-Err-recover_logs.ensures.recovers tells) in
+          subst (λ (e : Cause). ShowsAs (λ f. content_of f old) (tape old) (tape now) e) (sym recovers.1)
+          (logs_shown (λ f. content_of f old) (tape old) (tape now) (flows_of file.flows) file.digest (c.in-Ok.ensures.reads (recover.told tells)) recovers.0 recovers.2 (syncs_tape old now syncs));
+      nothing = record { mid = now; syncs = syncs; files = λ f. refl };
+      fault = λ is. risen_later _ _ _ read.later recover.later (c.in-Err-recover_logs.ensures.fault (ap (λ (cause : Cause). Err cause) is));
+      say_fault = λ is. absurd (subst IsLogCause is early);
+      no_clock = λ is. subst IsLogCause is early;
+      no_usage = λ is. subst IsLogCause is early;
+      later = omega (arith, read.later, recover.later);
+      say_later = le_of_eq (sym (recover.say_faults ∙ read.say_faults));
+    }
 
-pub returns-in-Err-recover_logs-clause-no_clock : goal.returns-in-Err-recover_logs-clause-no_clock
-returns-in-Err-recover_logs-clause-no_clock g c is = subst IsLogCause is c.in-Err-recover_logs.ensures.early
+pub returns-in-Ok-said : goal.returns-in-Ok-said
+returns-in-Ok-said g c =
+    let read = c.read_flow_file.ensures in
+    let recover = c.recover_logs.ensures in
+    let said = c.say_table-said.ensures in
+    let file = c.in-Ok.file in
+    let flows = flows_of file.flows in
+    let found = c.in-Ok-recover_logs.recovered in
+    let state = state_of found.state in
+    let old = g.V.Site.history c.args.site.now in
+    let mid = g.V.Site.history c.recover_logs.new.site in
+    let now = g.V.Site.history c.say_table-said.new.site in
+    let syncs = subst (λ (s : List Step). OnlySyncs s mid) read.unchanged recover.syncs in
+    let before = recover.say_faults ∙ read.say_faults in record {
+      told = λ tells. read.told (recover.told (said.tells tells));
+      shows = λ tells.
+          let told = said.tells tells in
+          let recovers = subst (λ (s : List Step). RecoversAs flows file.digest (λ f. content_of f s) (Ok found)) read.unchanged (c.in-Ok-recover_logs.ensures.recovers told) in
+          (flows, state, record { digest = file.digest; flows_in_file = c.in-Ok.ensures.reads (recover.told told); entries = recovers.entries; keeps = record { kept = recovers.kept; made = recovers.placed } }, subst (λ (t : List ℕ). SaysTable flows state t (tape now)) (syncs_tape old mid syncs) c.in-Ok-said.ensures.said);
+      nothing = record { mid = mid; syncs = syncs; files = said.files };
+      fault = λ is. absurd (cc is);
+      say_fault = λ is. absurd (cc is);
+      no_clock = λ is. absurd (cc is);
+      no_usage = λ is. absurd (cc is);
+      later = omega (arith, read.later, recover.later, said.disk_faults);
+      say_later = omega (arith, before, said.later);
+    }
 
-pub returns-in-Err-recover_logs-clause-no_usage : goal.returns-in-Err-recover_logs-clause-no_usage
-returns-in-Err-recover_logs-clause-no_usage g c is = subst IsLogCause is c.in-Err-recover_logs.ensures.early
+pub returns-in-Err-SayFault-clause-told : goal.returns-in-Err-SayFault-clause-told
+returns-in-Err-SayFault-clause-told g c = let read = c.read_flow_file.ensures in let recover = c.recover_logs.ensures in let said = c.say_table-said.ensures in λ tells. read.told (recover.told (said.tells tells))
+
+pub returns-in-Err-SayFault-clause-nothing : goal.returns-in-Err-SayFault-clause-nothing
+returns-in-Err-SayFault-clause-nothing g c = let read = c.read_flow_file.ensures in let recover = c.recover_logs.ensures in let said = c.say_table-said.ensures in let mid = g.V.Site.history c.recover_logs.new.site in let syncs = subst (λ (s : List Step). OnlySyncs s mid) read.unchanged recover.syncs in record { mid = mid; syncs = syncs; files = said.files }
+
+pub returns-in-Err-SayFault-clause-fault : goal.returns-in-Err-SayFault-clause-fault
+returns-in-Err-SayFault-clause-fault g c = λ is. absurd (cc is)
+
+pub returns-in-Err-SayFault-clause-no_clock : goal.returns-in-Err-SayFault-clause-no_clock
+returns-in-Err-SayFault-clause-no_clock g c = λ is. absurd (cc is)
+
+pub returns-in-Err-SayFault-clause-no_usage : goal.returns-in-Err-SayFault-clause-no_usage
+returns-in-Err-SayFault-clause-no_usage g c = λ is. absurd (cc is)
+
+pub returns-in-Err-SayFault-clause-later : goal.returns-in-Err-SayFault-clause-later
+returns-in-Err-SayFault-clause-later g c = let read = c.read_flow_file.ensures in let recover = c.recover_logs.ensures in let said = c.say_table-said.ensures in omega (arith, read.later, recover.later, said.disk_faults)
+
+pub returns-in-Err-SayFault-clause-say_later : goal.returns-in-Err-SayFault-clause-say_later
+returns-in-Err-SayFault-clause-say_later g c = let read = c.read_flow_file.ensures in let recover = c.recover_logs.ensures in let said = c.say_table-said.ensures in let before = recover.say_faults ∙ read.say_faults in omega (arith, before, said.later)
+
+pub returns-clause-told : goal.returns-clause-told
+returns-clause-told g c = let read = c.read_flow_file.ensures in let recover = c.recover_logs.ensures in let said = c.say_table-said.ensures in λ tells. read.told (recover.told (said.tells tells))
+
+pub returns-clause-nothing : goal.returns-clause-nothing
+returns-clause-nothing g c = let read = c.read_flow_file.ensures in let recover = c.recover_logs.ensures in let said = c.say_table-said.ensures in let mid = g.V.Site.history c.recover_logs.new.site in let syncs = subst (λ (s : List Step). OnlySyncs s mid) read.unchanged recover.syncs in record { mid = mid; syncs = syncs; files = said.files }
+
+pub returns-clause-fault : goal.returns-clause-fault
+returns-clause-fault g c = λ is. absurd (cc is)
+
+pub returns-clause-say_fault : goal.returns-clause-say_fault
+returns-clause-say_fault g c = λ is. absurd (cc is)
+
+pub returns-clause-no_clock : goal.returns-clause-no_clock
+returns-clause-no_clock g c = λ is. absurd (cc is)
+
+pub returns-clause-no_usage : goal.returns-clause-no_usage
+returns-clause-no_usage g c = λ is. absurd (cc is)
+
+pub returns-clause-later : goal.returns-clause-later
+returns-clause-later g c = let read = c.read_flow_file.ensures in let recover = c.recover_logs.ensures in let said = c.say_table-said.ensures in omega (arith, read.later, recover.later, said.disk_faults)
+
+pub returns-clause-say_later : goal.returns-clause-say_later
+returns-clause-say_later g c = let read = c.read_flow_file.ensures in let recover = c.recover_logs.ensures in let said = c.say_table-said.ensures in let before = recover.say_faults ∙ read.say_faults in omega (arith, before, said.later)
+

@@ -1,0 +1,52 @@
+-- What is shown where nothing is said.
+use Rattle.std.proofs.Common.{◌≡◌, inl, inr, ℕ, List, Err, ap}
+use Rattle.engine_run.specs.Opening.{cause_of_recovery}
+use Rattle.engine_run.specs.Showing.{ShowsAs}
+use Rattle.flow_syntax.specs.Syntax.{Flows}
+use Rattle.recover_core.specs.Recovering.{Recovers, OnlySyncs}
+use Rattle.recover_core.specs.declared.error.RecoverError.{RecoverError}
+use Rattle.recover_core.specs.declared.error.RecoverError.TheVariants as errors
+use Rattle.run_causes.specs.declared.cause.Cause.{Cause}
+use Rattle.run_causes.specs.declared.cause.Cause.TheVariants.{Done, Usage, BadFlows, BadRequests, Clash, BadPlan, TooLong, Waiting, Long, SiteFault, SayFault, ClockFault, Damaged, Illegal, Unclosed, OtherShape, OtherFlows, Memory, Full, Spent}
+use Rattle.run_inputs.specs.Input.{HasFlows, IsFlowsCause, Refuses}
+use Rattle.run_inputs.specs.Refusal.{flows_refusal}
+use Rattle.site_model.specs.History.{Step, tape}
+
+-- syncs say nothing
+pub syncs_tape : (old new : List Step) → OnlySyncs old new → tape new ≡ tape old
+syncs_tape old new (inl is) = ap tape is
+syncs_tape old new (inr (inl is)) = ap tape is
+syncs_tape old new (inr (inr is)) = ap tape is
+
+-- flows that were refused
+pub flows_shown : (files : ℕ → List ℕ) (old new : List ℕ) (cause : Cause) → IsFlowsCause cause → Refuses (flows_refusal files) cause → new ≡ old → ShowsAs files old new cause
+flows_shown files old new Done is refuses same = absurd is
+flows_shown files old new Usage is refuses same = absurd is
+flows_shown files old new (BadFlows fault) is refuses same = (refuses, same)
+flows_shown files old new (BadRequests line) is refuses same = absurd is
+flows_shown files old new (Clash client number) is refuses same = absurd is
+flows_shown files old new (BadPlan place) is refuses same = absurd is
+flows_shown files old new (TooLong file) is refuses same = (refuses, same)
+flows_shown files old new (Waiting client number) is refuses same = absurd is
+flows_shown files old new (Long labels) is refuses same = absurd is
+flows_shown files old new SiteFault is refuses same = same
+flows_shown files old new SayFault is refuses same = absurd is
+flows_shown files old new ClockFault is refuses same = absurd is
+flows_shown files old new (Damaged file offset) is refuses same = absurd is
+flows_shown files old new (Illegal partition position) is refuses same = absurd is
+flows_shown files old new (Unclosed partition position src seq) is refuses same = absurd is
+flows_shown files old new (OtherShape found asked) is refuses same = absurd is
+flows_shown files old new (OtherFlows found given) is refuses same = absurd is
+flows_shown files old new Memory is refuses same = inl same
+flows_shown files old new (Full partition length) is refuses same = absurd is
+flows_shown files old new (Spent partition number) is refuses same = absurd is
+
+-- logs that were refused
+pub logs_shown : (files : ℕ → List ℕ) (old new : List ℕ) (flows : Flows) (digest : ℕ) → HasFlows files flows digest → (error : RecoverError) → Recovers flows digest files (Err error) → new ≡ old → ShowsAs files old new (cause_of_recovery error)
+logs_shown files old new flows digest has (errors.Damaged file offset) recovers same = ((flows, digest, has, recovers), same)
+logs_shown files old new flows digest has (errors.OtherShape found asked) recovers same = ((flows, digest, has, recovers), same)
+logs_shown files old new flows digest has (errors.OtherFlows found given) recovers same = ((flows, digest, has, recovers), same)
+logs_shown files old new flows digest has (errors.Illegal partition position) recovers same = ((flows, digest, has, recovers), same)
+logs_shown files old new flows digest has (errors.Spent partition number) recovers same = ((flows, digest, has, recovers), same)
+logs_shown files old new flows digest has errors.SiteFault recovers same = same
+logs_shown files old new flows digest has errors.Memory recovers same = inl same
