@@ -1,4 +1,4 @@
-use Rattle.std.proofs.Common.{◌≡◌, ◌∙◌, List, None, Ok, Err, map, refl, sym, ap, subst}
+use Rattle.std.proofs.Common.{◌≡◌, ◌∙◌, List, None, Ok, Err, map, refl, sym, ap, subst, arith}
 use Rattle.std.specs.Prelude.{IfSome}
 use Rattle.std.proofs.lemmas.Result.{err_from_is_err_and}
 use Rattle.commit_log.specs.States.{IsFormatting}
@@ -138,3 +138,114 @@ returns-clause-opens g c tells job asks =
     (some_with found.log (λ l. (Ok c.in_ok-log.log ≡ Ok l) × (now ≡ g.V.Site.history c.recover_logs.new.site)) (λ l. now ≡ both_synced old) (λ l is. is.1 ∙ synced) c.in_ok-log.ensures.there)
     (λ is. subst (λ (s : List Step). LeavesOnly 16 s now (IsFormatting (content_of 16 s) (header_with file.digest))) synced (c.in_ok-log.ensures.during is tells kept)) keeps.kept in
     subst (λ (j : Job). OpensOnly j old now) (same_job (λ f. content_of f old) own job asked asks) opens
+
+pub returns-in_err-file-clause-told : goal.returns-in_err-file-clause-told
+returns-in_err-file-clause-told g c = c.read_input.ensures.told
+
+pub returns-in_err-file-clause-later : goal.returns-in_err-file-clause-later
+returns-in_err-file-clause-later g c = c.read_input.ensures.later
+
+pub returns-in_err-file-clause-say_faults : goal.returns-in_err-file-clause-say_faults
+returns-in_err-file-clause-say_faults g c = c.read_input.ensures.say_faults
+
+pub returns-in_err-file-clause-asks : goal.returns-in_err-file-clause-asks
+returns-in_err-file-clause-asks g c = λ tells. let p = err_from_is_err_and c.from_residual.result c.from_residual.ensures.1 in rw p.1 tt
+
+pub returns-in_err-file-clause-prepared : goal.returns-in_err-file-clause-prepared
+returns-in_err-file-clause-prepared g c = λ tells. let p = err_from_is_err_and c.from_residual.result c.from_residual.ensures.1 in rw p.1 tt
+
+pub returns-in_err-file-clause-no_clash : goal.returns-in_err-file-clause-no_clash
+returns-in_err-file-clause-no_clash g c = let p = err_from_is_err_and c.from_residual.result c.from_residual.ensures.1 in rw p.1 tt
+
+pub returns-in_err-file-clause-can : goal.returns-in_err-file-clause-can
+returns-in_err-file-clause-can g c = let p = err_from_is_err_and c.from_residual.result c.from_residual.ensures.1 in rw p.1 tt
+
+pub returns-in_err-state-clause-told : goal.returns-in_err-state-clause-told
+returns-in_err-state-clause-told g c = λ tells. c.read_input.ensures.told (c.recover_logs.ensures.told tells)
+
+pub returns-in_err-state-clause-later : goal.returns-in_err-state-clause-later
+returns-in_err-state-clause-later g c = omega (arith, c.read_input.ensures.later, c.recover_logs.ensures.later)
+
+pub returns-in_err-state-clause-say_faults : goal.returns-in_err-state-clause-say_faults
+returns-in_err-state-clause-say_faults g c = c.recover_logs.ensures.say_faults ∙ c.read_input.ensures.say_faults
+
+pub returns-in_err-state-clause-asks : goal.returns-in_err-state-clause-asks
+returns-in_err-state-clause-asks g c = λ tells. let p = err_from_is_err_and c.from_residual-in_err-state.result c.from_residual-in_err-state.ensures.1 in rw p.1 tt
+
+pub returns-in_err-state-clause-prepared : goal.returns-in_err-state-clause-prepared
+returns-in_err-state-clause-prepared g c = λ tells. let p = err_from_is_err_and c.from_residual-in_err-state.result c.from_residual-in_err-state.ensures.1 in rw p.1 tt
+
+pub returns-in_err-state-clause-no_clash : goal.returns-in_err-state-clause-no_clash
+returns-in_err-state-clause-no_clash g c = let p = err_from_is_err_and c.from_residual-in_err-state.result c.from_residual-in_err-state.ensures.1 in rw p.1 tt
+
+pub returns-in_err-state-clause-can : goal.returns-in_err-state-clause-can
+returns-in_err-state-clause-can g c = let p = err_from_is_err_and c.from_residual-in_err-state.result c.from_residual-in_err-state.ensures.1 in rw p.1 tt
+
+pub returns-in_err-refuse_clash-clause-told : goal.returns-in_err-refuse_clash-clause-told
+returns-in_err-refuse_clash-clause-told g c = λ tells. c.read_input.ensures.told (c.recover_logs.ensures.told tells)
+
+pub returns-in_err-refuse_clash-clause-later : goal.returns-in_err-refuse_clash-clause-later
+returns-in_err-refuse_clash-clause-later g c = omega (arith, c.read_input.ensures.later, c.recover_logs.ensures.later)
+
+pub returns-in_err-refuse_clash-clause-say_faults : goal.returns-in_err-refuse_clash-clause-say_faults
+returns-in_err-refuse_clash-clause-say_faults g c = c.recover_logs.ensures.say_faults ∙ c.read_input.ensures.say_faults
+
+pub returns-in_err-refuse_clash-clause-asks : goal.returns-in_err-refuse_clash-clause-asks
+returns-in_err-refuse_clash-clause-asks g c = λ tells. let p = err_from_is_err_and c.from_residual-in_err-refuse_clash.result c.from_residual-in_err-refuse_clash.ensures.1 in rw p.1 tt
+
+pub returns-in_err-refuse_clash-clause-prepared : goal.returns-in_err-refuse_clash-clause-prepared
+returns-in_err-refuse_clash-clause-prepared g c = λ tells. let p = err_from_is_err_and c.from_residual-in_err-refuse_clash.result c.from_residual-in_err-refuse_clash.ensures.1 in rw p.1 tt
+
+pub returns-in_err-refuse_clash-clause-no_clash : goal.returns-in_err-refuse_clash-clause-no_clash
+returns-in_err-refuse_clash-clause-no_clash g c = let p = err_from_is_err_and c.from_residual-in_err-refuse_clash.result c.from_residual-in_err-refuse_clash.ensures.1 in rw p.1 tt
+
+pub returns-in_err-refuse_clash-clause-can : goal.returns-in_err-refuse_clash-clause-can
+returns-in_err-refuse_clash-clause-can g c = let p = err_from_is_err_and c.from_residual-in_err-refuse_clash.result c.from_residual-in_err-refuse_clash.ensures.1 in rw p.1 tt
+
+pub returns-in_err-log-clause-told : goal.returns-in_err-log-clause-told
+returns-in_err-log-clause-told g c = λ tells. c.read_input.ensures.told (c.recover_logs.ensures.told (c.open_log.ensures.told tells))
+
+pub returns-in_err-log-clause-later : goal.returns-in_err-log-clause-later
+returns-in_err-log-clause-later g c = omega (arith, c.read_input.ensures.later, c.recover_logs.ensures.later, c.open_log.ensures.later)
+
+pub returns-in_err-log-clause-say_faults : goal.returns-in_err-log-clause-say_faults
+returns-in_err-log-clause-say_faults g c = c.open_log.ensures.say_faults ∙ c.recover_logs.ensures.say_faults ∙ c.read_input.ensures.say_faults
+
+pub returns-in_err-log-clause-asks : goal.returns-in_err-log-clause-asks
+returns-in_err-log-clause-asks g c = λ tells. let p = err_from_is_err_and c.from_residual-in_err-log.result c.from_residual-in_err-log.ensures.1 in rw p.1 tt
+
+pub returns-in_err-log-clause-prepared : goal.returns-in_err-log-clause-prepared
+returns-in_err-log-clause-prepared g c = λ tells. let p = err_from_is_err_and c.from_residual-in_err-log.result c.from_residual-in_err-log.ensures.1 in rw p.1 tt
+
+pub returns-in_err-log-clause-no_clash : goal.returns-in_err-log-clause-no_clash
+returns-in_err-log-clause-no_clash g c = let p = err_from_is_err_and c.from_residual-in_err-log.result c.from_residual-in_err-log.ensures.1 in rw p.1 tt
+
+pub returns-in_err-log-clause-can : goal.returns-in_err-log-clause-can
+returns-in_err-log-clause-can g c = let p = err_from_is_err_and c.from_residual-in_err-log.result c.from_residual-in_err-log.ensures.1 in rw p.1 tt
+
+pub returns-clause-told : goal.returns-clause-told
+returns-clause-told g c = λ tells. c.read_input.ensures.told (c.recover_logs.ensures.told (c.open_log.ensures.told tells))
+
+pub returns-clause-later : goal.returns-clause-later
+returns-clause-later g c = omega (arith, c.read_input.ensures.later, c.recover_logs.ensures.later, c.open_log.ensures.later)
+
+pub returns-clause-say_faults : goal.returns-clause-say_faults
+returns-clause-say_faults g c = c.open_log.ensures.say_faults ∙ c.recover_logs.ensures.say_faults ∙ c.read_input.ensures.say_faults
+
+pub returns-clause-asks : goal.returns-clause-asks
+returns-clause-asks g c = λ tells. c.in_ok-file.ensures.reads (c.recover_logs.ensures.told (c.open_log.ensures.told tells))
+
+pub returns-clause-can : goal.returns-clause-can
+returns-clause-can g c = record { sound = c.in_ok-state.ensures.begins.sound; alone = c.in_ok-state.ensures.begins.alone; younger = c.in_ok-state.ensures.begins.younger; young = c.in_ok-state.ensures.begins.young }
+
+pub returns-clause-answers : goal.returns-clause-answers
+returns-clause-answers g c = λ tells. tt
+
+pub returns-clause-early : goal.returns-clause-early
+returns-clause-early g c = tt
+
+pub returns-clause-untouched : goal.returns-clause-untouched
+returns-clause-untouched g c = tt
+
+pub returns-clause-fault : goal.returns-clause-fault
+returns-clause-fault g c = λ is. absurd (cc is)
