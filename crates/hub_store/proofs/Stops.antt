@@ -1,6 +1,6 @@
 -- Why a call stops.
 use Rattle.std.proofs.Common.{◌≡◌, inl, inr, ℕ, ◌≤◌, true, false, List, Result, Ok, Err, sym, ◌∙◌, ap, subst, arith}
-use Rattle.std.specs.Prelude.{◌⊎◌, IsErrAnd, IfErr}
+use Rattle.std.specs.Prelude.{◌⊎◌, IsErrAnd, IfErr, IfOk, OnOk}
 use Rattle.std.proofs.lemmas.Bool.{cases_lt}
 use Rattle.dura_value.specs.Items.{Entry}
 use Rattle.hub_store.specs.Frames.{length_with}
@@ -124,3 +124,16 @@ residual_not_clock (Err y) stop has is clock = let same : Memory ≡ ClockFault 
 pub residual_of_clock : {T : Type 0} (r : Result T Stop) (stop : Stop) → IsErrAnd r (λ y. y ≡ stop) → stop ≡ Memory → IfErr r (λ s. is_of_clock s ≡ true)
 residual_of_clock (Ok x) stop has is = tt
 residual_of_clock (Err y) stop has is = ap is_of_clock (has ∙ is)
+
+pub residual_of_tape : {T : Type 0} (r : Result T Stop) → IsErrAnd r (λ stop. stop ≡ Memory) → IfErr r (λ s. is_of_tape s ≡ true)
+residual_of_tape (Ok x) has = absurd has
+residual_of_tape (Err y) has = ap is_of_tape has
+
+-- where the answer of a `?` is an error, nothing is said of a value
+pub residual_on_ok : {T : Type 0} (A : Type 0) (r : Result T Stop) (stop : Stop) → IsErrAnd r (λ y. y ≡ stop) → OnOk r A
+residual_on_ok A (Ok x) stop has = absurd has
+residual_on_ok A (Err y) stop has = tt
+
+pub residual_if_ok : {T : Type 0} (A : T → Type 0) (r : Result T Stop) (stop : Stop) → IsErrAnd r (λ y. y ≡ stop) → IfOk r A
+residual_if_ok A (Ok x) stop has = absurd has
+residual_if_ok A (Err y) stop has = tt

@@ -1,5 +1,5 @@
-use Rattle.std.proofs.Common.{◌∙◌, sym, ap, subst, arith}
-use Rattle.std.proofs.lemmas.Bool.{eqb-true}
+use Rattle.std.proofs.Common.{◌∙◌, refl, sym, ap, subst, arith}
+use Rattle.std.proofs.lemmas.Bool.{eqb-true, eqb-false}
 use Rattle.std.specs.Vec.{vec_len}
 use Rattle.dura_model.specs.Partition.{Partition}
 use Rattle.timer_row.specs.Timers.{NoTimer}
@@ -8,50 +8,121 @@ use Rattle.part_rounds.specs.Fills.{Fills}
 use Rattle.part_rounds.specs.Rounds.{pairs_of}
 use Rattle.part_rounds.proofs.Puttings.{no_items}
 use Rattle.part_steps.specs.States.{state_of}
-use Rattle.hub_store.proofs.Stops.{ok_apart, risen_after, residual_not_clock, residual_of_clock}
+use Rattle.hub_store.proofs.Stops.{ok_apart, risen_after, residual_not_clock, residual_of_clock, residual_if_ok}
 use Rattle.part_rounds.proofs.coming.take_next.Goals as goal
 
-pub returns-in_default-clause-comes : goal.returns-in_default-clause-comes
-returns-in_default-clause-comes g c =
-    let empty = eqb-true (vec_len c.in_ok-first.first.items) 0 (sym c.is_empty.ensures ∙ c.if-not-is_empty.false) in
-    let none = c.in_ok-first.ensures.none (no_items c.in_ok-first.first.items.items (omega (arith, empty))) in
-    (c.in_ok-first.ensures.under_way.sound, c.in_ok-first.ensures.under_way.one, none.0, (c.in-Ok.now, none.1), subst (λ (p : Partition). NoTimer p.timers) none.0 c.in_default.ensures.none)
+pub returns-in-Err : goal.returns-in-Err
+returns-in-Err g c =
+    let same = c.in-Err.ensures.failed in
+    record {
+      fills = λ rules told same said. tt;
+      comes = tt;
+      moment = tt;
+      latest = omega (arith, same);
+      stops = refl;
+      fault = λ is. c.in-Err.ensures.cause.risen;
+      later = c.now.ensures.cause.later;
+    }
 
-pub returns-clause-fills : goal.returns-clause-fills
-returns-clause-fills g c = λ rules told same said.
-    let empty = eqb-true (vec_len c.in_ok-first.first.items) 0 (sym c.is_empty.ensures ∙ c.if-not-is_empty.false) in
-    let none = c.in_ok-first.ensures.none (no_items c.in_ok-first.first.items.items (omega (arith, empty))) in
-    subst (λ (p : Partition). Fills rules (pairs_of told) p (items_of c.in_ok-second.second.items.items) (state_of c.in_ok-second.second.state)) none.0 (c.in_ok-second.ensures.fills rules told same said)
+pub returns-in_err-first : goal.returns-in_err-first
+returns-in_err-first g c =
+    let first = c.in-Ok.ensures.latest in
+    record {
+      fills = λ rules told same said. residual_if_ok _ c.from_residual.result _ c.from_residual.ensures.1;
+      comes = residual_if_ok _ c.from_residual.result _ c.from_residual.ensures.1;
+      moment = residual_if_ok _ c.from_residual.result _ c.from_residual.ensures.1;
+      latest = omega (arith, first);
+      stops = residual_of_clock _ _ c.from_residual.ensures.1 c.in_err-first.ensures.stops;
+      fault = λ is. absurd (residual_not_clock _ _ c.from_residual.ensures.1 c.in_err-first.ensures.stops is);
+      later = c.now.ensures.cause.later;
+    }
 
-pub returns-clause-moment : goal.returns-clause-moment
-returns-clause-moment g c =
+pub returns-then-not-is_empty : goal.returns-then-not-is_empty
+returns-then-not-is_empty g c =
+    let some = eqb-false (vec_len c.in_ok-first.first.items) 0 (sym c.is_empty.ensures ∙ c.if-not-is_empty.true) in
+    let first = c.in-Ok.ensures.latest in
+    record {
+      fills = c.in_ok-first.ensures.fills;
+      comes = (c.in_ok-first.ensures.under_way, omega (arith, some), c.in_ok-first.ensures.few, c.in_ok-first.ensures.fit);
+      moment = (c.in_ok-first.ensures.moment, omega (arith, first));
+      latest = omega (arith, first);
+      stops = tt;
+      fault = λ is. absurd (ok_apart _ _ is);
+      later = c.now.ensures.cause.later;
+    }
+
+pub returns-in_default : goal.returns-in_default
+returns-in_default g c =
     let empty = eqb-true (vec_len c.in_ok-first.first.items) 0 (sym c.is_empty.ensures ∙ c.if-not-is_empty.false) in
     let none = c.in_ok-first.ensures.none (no_items c.in_ok-first.first.items.items (omega (arith, empty))) in
+    let first = c.in-Ok.ensures.latest in
+    record {
+      fills = λ rules told same said. tt;
+      comes = (c.in_ok-first.ensures.under_way.sound, c.in_ok-first.ensures.under_way.one, none.0, (c.in-Ok.now, none.1), subst (λ (p : Partition). NoTimer p.timers) none.0 c.in_default.ensures.none);
+      moment = tt;
+      latest = omega (arith, first);
+      stops = tt;
+      fault = λ is. absurd (ok_apart _ _ is);
+      later = c.now.ensures.cause.later;
+    }
+
+pub returns-in-Err-wait_until : goal.returns-in-Err-wait_until
+returns-in-Err-wait_until g c =
+    let first = c.in-Ok.ensures.latest in
+    let second = c.in-Err-wait_until.ensures.failed in
+    record {
+      fills = λ rules told same said. tt;
+      comes = tt;
+      moment = tt;
+      latest = omega (arith, first, second);
+      stops = refl;
+      fault = λ is. risen_after _ _ _ c.now.ensures.cause.later c.wait_until.ensures.cause.later c.in-Err-wait_until.ensures.cause.risen;
+      later = omega (arith, c.now.ensures.cause.later, c.wait_until.ensures.cause.later);
+    }
+
+pub returns-in_err-second : goal.returns-in_err-second
+returns-in_err-second g c =
+    let first = c.in-Ok.ensures.latest in
+    let second = c.in-Ok-wait_until.ensures.latest in
+    record {
+      fills = λ rules told same said. residual_if_ok _ c.from_residual-in_err-second.result _ c.from_residual-in_err-second.ensures.1;
+      comes = residual_if_ok _ c.from_residual-in_err-second.result _ c.from_residual-in_err-second.ensures.1;
+      moment = residual_if_ok _ c.from_residual-in_err-second.result _ c.from_residual-in_err-second.ensures.1;
+      latest = omega (arith, first, second);
+      stops = residual_of_clock _ _ c.from_residual-in_err-second.ensures.1 c.in_err-second.ensures.stops;
+      fault = λ is. absurd (residual_not_clock _ _ c.from_residual-in_err-second.ensures.1 c.in_err-second.ensures.stops is);
+      later = omega (arith, c.now.ensures.cause.later, c.wait_until.ensures.cause.later);
+    }
+
+pub returns-then-is_empty : goal.returns-then-is_empty
+returns-then-is_empty g c =
+    let first = c.in-Ok.ensures.latest in
+    let second = c.in-Ok-wait_until.ensures.latest in
+    record {
+      fills = λ rules told same said. tt;
+      comes = tt;
+      moment = tt;
+      latest = omega (arith, first, second);
+      stops = refl;
+      fault = λ is. absurd (cc is);
+      later = omega (arith, c.now.ensures.cause.later, c.wait_until.ensures.cause.later);
+    }
+
+pub returns : goal.returns
+returns g c =
+    let some = eqb-false (vec_len c.in_ok-second.second.items) 0 (sym c.is_empty-2.ensures ∙ c.if-is_empty.false) in
+    let empty = eqb-true (vec_len c.in_ok-first.first.items) 0 (sym c.is_empty.ensures ∙ c.if-not-is_empty.false) in
+    let none = c.in_ok-first.ensures.none (no_items c.in_ok-first.first.items.items (omega (arith, empty))) in
+    let first = c.in-Ok.ensures.latest in
+    let second = c.in-Ok-wait_until.ensures.latest in
     let same = ap (λ (p : Partition). p.stamp) none.0 in
     let low = c.in_ok-second.ensures.moment in
-    let later = c.in-Ok-wait_until.ensures.latest in
-    (omega (arith, same, low), omega (arith, later))
-
-pub returns-clause-fault : goal.returns-clause-fault
-returns-clause-fault g c is = absurd (ok_apart _ _ is)
-
-pub returns-in_default-clause-fault : goal.returns-in_default-clause-fault
-returns-in_default-clause-fault g c is = absurd (ok_apart _ _ is)
-
-pub returns-in-Err-clause-fault : goal.returns-in-Err-clause-fault
-returns-in-Err-clause-fault g c is = c.in-Err.ensures.cause.risen
-
-pub returns-in-Err-wait_until-clause-fault : goal.returns-in-Err-wait_until-clause-fault
-returns-in-Err-wait_until-clause-fault g c is = risen_after _ _ _ c.now.ensures.cause.later c.wait_until.ensures.cause.later c.in-Err-wait_until.ensures.cause.risen
-
-pub returns-in_err-first-clause-fault : goal.returns-in_err-first-clause-fault
-returns-in_err-first-clause-fault g c is = absurd (residual_not_clock _ _ c.from_residual.ensures.1 c.in_err-first.ensures.stops is)
-
-pub returns-in_err-first-clause-stops : goal.returns-in_err-first-clause-stops
-returns-in_err-first-clause-stops g c = residual_of_clock _ _ c.from_residual.ensures.1 c.in_err-first.ensures.stops
-
-pub returns-in_err-second-clause-fault : goal.returns-in_err-second-clause-fault
-returns-in_err-second-clause-fault g c is = absurd (residual_not_clock _ _ c.from_residual-in_err-second.ensures.1 c.in_err-second.ensures.stops is)
-
-pub returns-in_err-second-clause-stops : goal.returns-in_err-second-clause-stops
-returns-in_err-second-clause-stops g c = residual_of_clock _ _ c.from_residual-in_err-second.ensures.1 c.in_err-second.ensures.stops
+    record {
+      fills = λ rules told same said. subst (λ (p : Partition). Fills rules (pairs_of told) p (items_of c.in_ok-second.second.items.items) (state_of c.in_ok-second.second.state)) none.0 (c.in_ok-second.ensures.fills rules told same said);
+      comes = (c.in_ok-second.ensures.under_way, omega (arith, some), c.in_ok-second.ensures.few, c.in_ok-second.ensures.fit);
+      moment = (omega (arith, same, low), omega (arith, second));
+      latest = omega (arith, first, second);
+      stops = tt;
+      fault = λ is. absurd (ok_apart _ _ is);
+      later = omega (arith, c.now.ensures.cause.later, c.wait_until.ensures.cause.later);
+    }
