@@ -3,6 +3,7 @@ use Rattle.dura_model.specs.Partition.{Partition, enter}
 use Rattle.dura_value.specs.Items.{Entry}
 use Rattle.hub_store.specs.Changes.{trail_in, told_in}
 use Rattle.hub_store.specs.Trail.{Settled, of_part}
+use Rattle.hub_store.specs.Ways.{stage_of, way_of}
 use Rattle.part_items.specs.Plain.{items_of}
 use Rattle.part_rounds.specs.Comes.{count_labels}
 use Rattle.part_rounds.specs.Rounds.{pairs_of, Stands, NoneUnsaid}
@@ -32,75 +33,88 @@ enter-requires-clause-room g c =
     let same = ap (λ (p : Partition). p.position) c.requires.filled.after_is in
     omega (arith, place, same, c.requires.room)
 
-pub returns-in-Ok-say_due-clause-entered : goal.returns-in-Ok-say_due-clause-entered
-returns-in-Ok-say_due-clause-entered g c =
+pub returns-in-Err : goal.returns-in-Err
+returns-in-Err g c =
+    let told = c.commit_items.ensures.say_faults in
+    record {
+      tells = c.commit_items.ensures.tells;
+      sound = c.commit_items.ensures.sound;
+      segment = c.commit_items.ensures.segment;
+      latest = c.commit_items.ensures.latest;
+      whole = λ apart. c.commit_items.ensures.whole ∙ c.requires.sound.uncut c.requires.going;
+      stage = tt;
+      still = tt;
+      said = tt;
+      entered = tt;
+      unsaid = tt;
+      labels = tt;
+      full = λ of n is. c.in-Err.ensures.full of n (same_stop _ _ _ _ refl refl is);
+      fault = λ is. c.in-Err.ensures.fault (same_stop _ _ _ _ refl refl is);
+      say_fault = λ is. absurd (disk_not_said _ _ c.in-Err.ensures.stops refl is);
+      no_clock = λ is. disk_not_clock _ _ c.in-Err.ensures.stops refl is;
+      later = c.commit_items.ensures.later;
+      say_later = omega (arith, told);
+    }
+
+pub returns-in-Err-say_due : goal.returns-in-Err-say_due
+returns-in-Err-say_due g c =
+    let put = c.say_due.ensures.disk_faults in
+    let told = c.commit_items.ensures.say_faults in
+    record {
+      tells = λ t. c.commit_items.ensures.tells (c.say_due.ensures.tells t);
+      sound = c.say_due.ensures.sound;
+      segment = c.say_due.ensures.segment ∙ c.commit_items.ensures.segment;
+      latest = c.say_due.ensures.latest ∙ c.commit_items.ensures.latest;
+      whole = λ apart. c.in-Err-say_due.ensures.whole (λ is. apart (same_stop _ _ _ _ refl refl is));
+      stage = tt;
+      still = tt;
+      said = tt;
+      entered = tt;
+      unsaid = tt;
+      labels = tt;
+      full = λ of n is. absurd (tape_not_full _ _ of n c.in-Err-say_due.ensures.stops refl is);
+      fault = λ is. absurd (tape_not_fault _ _ c.in-Err-say_due.ensures.stops refl is);
+      say_fault = λ is. subst (λ (n : ℕ). HasRisen n (g.V.Site.say_faults c.say_due.new.store.site)) c.commit_items.ensures.say_faults (c.in-Err-say_due.ensures.fault (same_stop _ _ _ _ refl refl is));
+      no_clock = λ is. tape_not_clock _ _ c.in-Err-say_due.ensures.stops refl is;
+      later = omega (arith, put, c.commit_items.ensures.later);
+      say_later = omega (arith, told, c.say_due.ensures.later);
+    }
+
+pub returns-in-Ok-say_due : goal.returns-in-Ok-say_due
+returns-in-Ok-say_due g c =
     let log = g.N.Start.origin.logs 0 in
     let behind = stands_after g.N.Ruled.rules log c.args.store.now.latest (of_part 0 (trail_in c.args.store.now)) (pairs_of (told_in c.args.store.now)) c.args.position c.args.life (items_of c.args.filling.items.items) c.requires.filled.filled in
     let stands = subst (λ (l : List Entry). Stands g.N.Ruled.rules log l (state_of c.args.filling.state)) (sym c.in-Ok.ensures.trail) (subst (Stands g.N.Ruled.rules log _) c.requires.filled.after_is behind) in
+    let put = c.say_due.ensures.disk_faults in
+    let told = c.commit_items.ensures.say_faults in
     record {
-      before = state_of c.args.filling.state;
-      stands = subst (λ (t : List Settled). Stands g.N.Ruled.rules log (of_part 0 t) (state_of c.args.filling.state)) (sym c.say_due.ensures.trail) stands;
-      timely =
-          let after = ap (λ (p : Partition). p.stamp) c.requires.filled.after_is in
-          let timely = c.requires.filled.filled.timely in
-          let said = c.say_due.ensures.latest in
-          let put = c.commit_items.ensures.latest in
-          omega (arith, after, timely, said, put);
-      entered = c.enter.ensures.entered ∙ ap (λ (life : ℕ). enter life (state_of c.args.filling.state)) c.requires.filled.filled.life_is;
-      sound = c.enter.ensures.sound;
-      one = c.enter.ensures.partitions ∙ c.requires.way.one;
+      tells = λ t. c.commit_items.ensures.tells (c.say_due.ensures.tells t);
+      sound = c.say_due.ensures.sound;
+      segment = c.say_due.ensures.segment ∙ c.commit_items.ensures.segment;
+      latest = c.say_due.ensures.latest ∙ c.commit_items.ensures.latest;
+      whole = λ apart. c.in-Ok-say_due.ensures.whole (λ is. ok_apart _ _ is);
+      stage = ap (λ ways. stage_of (way_of ways.items 0)) c.say_due.ensures.ways ∙ c.in-Ok.ensures.stage;
+      still = c.in-Ok-say_due.ensures.still;
+      said = c.in-Ok-say_due.ensures.said;
+      entered = record {
+        before = state_of c.args.filling.state;
+        stands = subst (λ (t : List Settled). Stands g.N.Ruled.rules log (of_part 0 t) (state_of c.args.filling.state)) (sym c.say_due.ensures.trail) stands;
+        timely =
+            let after = ap (λ (p : Partition). p.stamp) c.requires.filled.after_is in
+            let timely = c.requires.filled.filled.timely in
+            let said = c.say_due.ensures.latest in
+            let put = c.commit_items.ensures.latest in
+            omega (arith, after, timely, said, put);
+        entered = c.enter.ensures.entered ∙ ap (λ (life : ℕ). enter life (state_of c.args.filling.state)) c.requires.filled.filled.life_is;
+        sound = c.enter.ensures.sound;
+        one = c.enter.ensures.partitions ∙ c.requires.way.one;
+      };
+      unsaid = let entered = c.enter.ensures.entered in subst (λ (p : Partition). NoneUnsaid p c.say_due.new.port.queues c.args.clients.now) (sym entered) c.in-Ok-say_due.ensures.none;
+      labels = ap (λ (t : List Settled). count_labels (of_part 0 t)) c.say_due.ensures.trail ∙ c.in-Ok.ensures.labels;
+      full = λ of n is. absurd (ok_apart _ _ is);
+      fault = λ is. absurd (ok_apart _ _ is);
+      say_fault = λ is. absurd (ok_apart _ _ is);
+      no_clock = λ is. ok_apart _ _ is;
+      later = omega (arith, put, c.commit_items.ensures.later);
+      say_later = omega (arith, told, c.say_due.ensures.later);
     }
-
-pub returns-in-Ok-say_due-clause-unsaid : goal.returns-in-Ok-say_due-clause-unsaid
-returns-in-Ok-say_due-clause-unsaid g c =
-    let entered = c.enter.ensures.entered in
-    subst (λ (p : Partition). NoneUnsaid p c.say_due.new.port.queues c.args.clients.now) (sym entered) c.in-Ok-say_due.ensures.none
-
-pub returns-in-Ok-say_due-clause-labels : goal.returns-in-Ok-say_due-clause-labels
-returns-in-Ok-say_due-clause-labels g c = ap (λ (t : List Settled). count_labels (of_part 0 t)) c.say_due.ensures.trail ∙ c.in-Ok.ensures.labels
-
-pub returns-in-Err-clause-full : goal.returns-in-Err-clause-full
-returns-in-Err-clause-full g c of n is = c.in-Err.ensures.full of n (same_stop _ _ _ _ refl refl is)
-
-pub returns-in-Err-clause-fault : goal.returns-in-Err-clause-fault
-returns-in-Err-clause-fault g c is = c.in-Err.ensures.fault (same_stop _ _ _ _ refl refl is)
-
-pub returns-in-Err-clause-say_fault : goal.returns-in-Err-clause-say_fault
-returns-in-Err-clause-say_fault g c is = absurd (disk_not_said _ _ c.in-Err.ensures.stops refl is)
-
-pub returns-in-Err-clause-no_clock : goal.returns-in-Err-clause-no_clock
-returns-in-Err-clause-no_clock g c is = disk_not_clock _ _ c.in-Err.ensures.stops refl is
-
-pub returns-in-Err-clause-whole : goal.returns-in-Err-clause-whole
-returns-in-Err-clause-whole g c apart = c.commit_items.ensures.whole ∙ c.requires.sound.uncut c.requires.going
-
-pub returns-in-Err-say_due-clause-full : goal.returns-in-Err-say_due-clause-full
-returns-in-Err-say_due-clause-full g c of n is = absurd (tape_not_full _ _ of n c.in-Err-say_due.ensures.stops refl is)
-
-pub returns-in-Err-say_due-clause-fault : goal.returns-in-Err-say_due-clause-fault
-returns-in-Err-say_due-clause-fault g c is = absurd (tape_not_fault _ _ c.in-Err-say_due.ensures.stops refl is)
-
-pub returns-in-Err-say_due-clause-say_fault : goal.returns-in-Err-say_due-clause-say_fault
-returns-in-Err-say_due-clause-say_fault g c is =
-    subst (λ (n : ℕ). HasRisen n (g.V.Site.say_faults c.say_due.new.store.site)) c.commit_items.ensures.say_faults (c.in-Err-say_due.ensures.fault (same_stop _ _ _ _ refl refl is))
-
-pub returns-in-Err-say_due-clause-no_clock : goal.returns-in-Err-say_due-clause-no_clock
-returns-in-Err-say_due-clause-no_clock g c is = tape_not_clock _ _ c.in-Err-say_due.ensures.stops refl is
-
-pub returns-in-Err-say_due-clause-whole : goal.returns-in-Err-say_due-clause-whole
-returns-in-Err-say_due-clause-whole g c apart = c.in-Err-say_due.ensures.whole (λ is. apart (same_stop _ _ _ _ refl refl is))
-
-pub returns-in-Ok-say_due-clause-full : goal.returns-in-Ok-say_due-clause-full
-returns-in-Ok-say_due-clause-full g c of n is = absurd (ok_apart _ _ is)
-
-pub returns-in-Ok-say_due-clause-fault : goal.returns-in-Ok-say_due-clause-fault
-returns-in-Ok-say_due-clause-fault g c is = absurd (ok_apart _ _ is)
-
-pub returns-in-Ok-say_due-clause-say_fault : goal.returns-in-Ok-say_due-clause-say_fault
-returns-in-Ok-say_due-clause-say_fault g c is = absurd (ok_apart _ _ is)
-
-pub returns-in-Ok-say_due-clause-no_clock : goal.returns-in-Ok-say_due-clause-no_clock
-returns-in-Ok-say_due-clause-no_clock g c is = ok_apart _ _ is
-
-pub returns-in-Ok-say_due-clause-whole : goal.returns-in-Ok-say_due-clause-whole
-returns-in-Ok-say_due-clause-whole g c apart = c.in-Ok-say_due.ensures.whole (λ is. ok_apart _ _ is)
