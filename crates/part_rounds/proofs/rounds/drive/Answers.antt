@@ -1,4 +1,4 @@
-use Rattle.std.proofs.Common.{◌≡◌, ◌∙◌, ℕ, List, [], Ok, refl, sym, ap, subst, arith}
+use Rattle.std.proofs.Common.{◌≡◌, ◌∙◌, ◌+◌, ℕ, List, [], Ok, refl, sym, ap, subst, arith}
 use Rattle.dura_model.specs.Partition.{Partition, enter}
 use Rattle.dura_value.specs.Items.{Entry}
 use Rattle.hub_store.specs.Changes.{trail_in}
@@ -7,9 +7,9 @@ use Rattle.hub_store.specs.Trail.{Settled, of_part}
 use Rattle.part_files.specs.Placing.{placed}
 use Rattle.run_rules.specs.Rules.{Rules}
 use Rattle.hub_store.specs.Ways.{stage_of, way_of}
-use Rattle.part_rounds.specs.Comes.{count_labels}
+use Rattle.part_rounds.specs.Comes.{LeavesRound, count_labels}
 use Rattle.part_rounds.specs.Rounds.{Stands, NoneUnsaid}
-use Rattle.hub_store.proofs.Stops.{ok_apart, same_stop, residual_is, tape_not_full, tape_not_fault, tape_not_clock}
+use Rattle.hub_store.proofs.Stops.{ok_apart, same_stop, residual_is, tape_not_full, tape_not_fault, tape_not_clock, risen_after, residual_on_ok, residual_if_ok}
 use Rattle.part_rounds.proofs.rounds.drive.Goals as goal
 use Rattle.part_steps.specs.States.{state_of}
 
@@ -46,47 +46,124 @@ rounds-init g c =
       clock_later = omega arith;
     }
 
-pub returns-in_err-next-clause-full : goal.returns-in_err-next-clause-full
-returns-in_err-next-clause-full g c of n is = c.in_err-next.ensures.full of n (same_stop _ _ _ _ refl (residual_is _ _ c.from_residual.ensures.1) is)
+pub rounds-preserved : goal.rounds-preserved
+rounds-preserved g c =
+    let leaves = subst (LeavesRound g.N.Ruled.rules (g.N.Start.origin.logs 0) c.go_round.new.store.latest (of_part 0 (trail_in c.rounds.store)) (of_part 0 (trail_in c.go_round.new.store)) c.go_round.new.port.queues c.args.clients.now) c.in-On.is c.in_ok-next.ensures.leaves in
+    let few = leaves.3 in
+    let latest = c.go_round.ensures.latest in
+    let latest_before = c.rounds.invariant.latest in
+    let moments = c.go_round.ensures.moments in
+    record {
+      tells = λ t. c.rounds.invariant.tells (c.go_round.ensures.tells t);
+      sound = c.go_round.ensures.sound;
+      segment = c.go_round.ensures.segment ∙ c.rounds.invariant.segment;
+      latest = omega (arith, latest, latest_before, moments);
+      moments = omega (arith, moments, c.rounds.invariant.moments);
+      stage = c.in_ok-next.ensures.stage;
+      still = c.in_ok-next.ensures.still;
+      said = c.in_ok-next.ensures.said;
+      entered = leaves.0;
+      unsaid = leaves.1;
+      count = ap (λ (n : ℕ). n + c.in-On.more) c.rounds.invariant.count ∙ sym leaves.4;
+      few = omega (arith, few, c.rounds-test.true);
+      later = omega (arith, c.go_round.ensures.later, c.rounds.invariant.later);
+      say_later = omega (arith, c.go_round.ensures.say_later, c.rounds.invariant.say_later);
+      clock_later = omega (arith, c.go_round.ensures.clock_later, c.rounds.invariant.clock_later);
+    }
 
-pub returns-in_err-next-clause-whole : goal.returns-in_err-next-clause-whole
-returns-in_err-next-clause-whole g c apart = c.in_err-next.ensures.whole (λ is. apart (same_stop _ _ _ _ (residual_is _ _ c.from_residual.ensures.1) refl is))
+pub returns-in_err-next : goal.returns-in_err-next
+returns-in_err-next g c =
+    let latest = c.go_round.ensures.latest in
+    let latest_before = c.rounds.invariant.latest in
+    let moments = c.go_round.ensures.moments in
+    record {
+      tells = λ t. c.rounds.invariant.tells (c.go_round.ensures.tells t);
+      sound = c.go_round.ensures.sound;
+      segment = c.go_round.ensures.segment ∙ c.rounds.invariant.segment;
+      latest = omega (arith, latest, latest_before, moments);
+      whole = λ apart. c.in_err-next.ensures.whole (λ is. apart (same_stop _ _ _ _ (residual_is _ _ c.from_residual.ensures.1) refl is));
+      moments = omega (arith, moments, c.rounds.invariant.moments);
+      stage = residual_on_ok _ c.from_residual.result _ c.from_residual.ensures.1;
+      still = residual_on_ok _ c.from_residual.result _ c.from_residual.ensures.1;
+      said = residual_on_ok _ c.from_residual.result _ c.from_residual.ensures.1;
+      leaves = residual_if_ok _ c.from_residual.result _ c.from_residual.ensures.1;
+      full = λ of n is. c.in_err-next.ensures.full of n (same_stop _ _ _ _ refl (residual_is _ _ c.from_residual.ensures.1) is);
+      fault = λ is. risen_after _ _ _ c.rounds.invariant.later c.go_round.ensures.later (c.in_err-next.ensures.fault (same_stop _ _ _ _ refl (residual_is _ _ c.from_residual.ensures.1) is));
+      say_fault = λ is. risen_after _ _ _ c.rounds.invariant.say_later c.go_round.ensures.say_later (c.in_err-next.ensures.say_fault (same_stop _ _ _ _ refl (residual_is _ _ c.from_residual.ensures.1) is));
+      clock_fault = λ is. risen_after _ _ _ c.rounds.invariant.clock_later c.go_round.ensures.clock_later (c.in_err-next.ensures.clock_fault (same_stop _ _ _ _ refl (residual_is _ _ c.from_residual.ensures.1) is));
+      later = omega (arith, c.go_round.ensures.later, c.rounds.invariant.later);
+      say_later = omega (arith, c.go_round.ensures.say_later, c.rounds.invariant.say_later);
+      clock_later = omega (arith, c.go_round.ensures.clock_later, c.rounds.invariant.clock_later);
+    }
 
-pub returns-in-Err-clause-full : goal.returns-in-Err-clause-full
-returns-in-Err-clause-full g c of n is = absurd (tape_not_full _ _ of n c.in-Err.ensures.stops refl is)
+pub returns-in-Over : goal.returns-in-Over
+returns-in-Over g c =
+    let leaves = subst (LeavesRound g.N.Ruled.rules (g.N.Start.origin.logs 0) c.go_round.new.store.latest (of_part 0 (trail_in c.rounds.store)) (of_part 0 (trail_in c.go_round.new.store)) c.go_round.new.port.queues c.args.clients.now) c.in-Over.is c.in_ok-next.ensures.leaves in
+    let latest = c.go_round.ensures.latest in
+    let latest_before = c.rounds.invariant.latest in
+    let moments = c.go_round.ensures.moments in
+    record {
+      tells = λ t. c.rounds.invariant.tells (c.go_round.ensures.tells t);
+      sound = c.go_round.ensures.sound;
+      segment = c.go_round.ensures.segment ∙ c.rounds.invariant.segment;
+      latest = omega (arith, latest, latest_before, moments);
+      whole = λ apart. c.go_round.ensures.sound.uncut c.in_ok-next.ensures.still;
+      moments = omega (arith, moments, c.rounds.invariant.moments);
+      stage = c.in_ok-next.ensures.stage;
+      still = c.in_ok-next.ensures.still;
+      said = c.in_ok-next.ensures.said;
+      leaves = leaves;
+      full = λ of n is. absurd (ok_apart _ _ is);
+      fault = λ is. absurd (ok_apart _ _ is);
+      say_fault = λ is. absurd (ok_apart _ _ is);
+      clock_fault = λ is. absurd (ok_apart _ _ is);
+      later = omega (arith, c.go_round.ensures.later, c.rounds.invariant.later);
+      say_later = omega (arith, c.go_round.ensures.say_later, c.rounds.invariant.say_later);
+      clock_later = omega (arith, c.go_round.ensures.clock_later, c.rounds.invariant.clock_later);
+    }
 
-pub returns-in-Err-clause-fault : goal.returns-in-Err-clause-fault
-returns-in-Err-clause-fault g c is = absurd (tape_not_fault _ _ c.in-Err.ensures.stops refl is)
+pub returns : goal.returns
+returns g c =
+    record {
+      tells = c.rounds.invariant.tells;
+      sound = c.rounds.invariant.sound;
+      segment = c.rounds.invariant.segment;
+      latest = c.rounds.invariant.latest;
+      whole = λ apart. c.rounds.invariant.sound.uncut c.rounds.invariant.still;
+      moments = c.rounds.invariant.moments;
+      stage = c.rounds.invariant.stage;
+      still = c.rounds.invariant.still;
+      said = c.rounds.invariant.said;
+      leaves = (c.rounds.invariant.count, omega (arith, c.rounds-test.false));
+      full = λ of n is. absurd (ok_apart _ _ is);
+      fault = λ is. absurd (ok_apart _ _ is);
+      say_fault = λ is. absurd (ok_apart _ _ is);
+      clock_fault = λ is. absurd (ok_apart _ _ is);
+      later = c.rounds.invariant.later;
+      say_later = c.rounds.invariant.say_later;
+      clock_later = c.rounds.invariant.clock_later;
+    }
 
-pub returns-in-Err-clause-say_fault : goal.returns-in-Err-clause-say_fault
-returns-in-Err-clause-say_fault g c is = c.in-Err.ensures.fault (same_stop _ _ _ _ refl refl is)
-
-pub returns-in-Err-clause-clock_fault : goal.returns-in-Err-clause-clock_fault
-returns-in-Err-clause-clock_fault g c is = absurd (tape_not_clock _ _ c.in-Err.ensures.stops refl is)
-
-pub returns-in-Err-clause-whole : goal.returns-in-Err-clause-whole
-returns-in-Err-clause-whole g c apart = c.in-Err.ensures.whole (λ is. apart (same_stop _ _ _ _ refl refl is))
-
-pub returns-clause-full : goal.returns-clause-full
-returns-clause-full g c of n is = absurd (ok_apart _ _ is)
-
-pub returns-clause-fault : goal.returns-clause-fault
-returns-clause-fault g c is = absurd (ok_apart _ _ is)
-
-pub returns-clause-say_fault : goal.returns-clause-say_fault
-returns-clause-say_fault g c is = absurd (ok_apart _ _ is)
-
-pub returns-clause-clock_fault : goal.returns-clause-clock_fault
-returns-clause-clock_fault g c is = absurd (ok_apart _ _ is)
-
-pub returns-in-Over-clause-full : goal.returns-in-Over-clause-full
-returns-in-Over-clause-full g c of n is = absurd (ok_apart _ _ is)
-
-pub returns-in-Over-clause-fault : goal.returns-in-Over-clause-fault
-returns-in-Over-clause-fault g c is = absurd (ok_apart _ _ is)
-
-pub returns-in-Over-clause-say_fault : goal.returns-in-Over-clause-say_fault
-returns-in-Over-clause-say_fault g c is = absurd (ok_apart _ _ is)
-
-pub returns-in-Over-clause-clock_fault : goal.returns-in-Over-clause-clock_fault
-returns-in-Over-clause-clock_fault g c is = absurd (ok_apart _ _ is)
+pub returns-in-Err : goal.returns-in-Err
+returns-in-Err g c =
+    let same = c.say_due.ensures.latest in
+    let disk = c.say_due.ensures.disk_faults in
+    record {
+      tells = c.say_due.ensures.tells;
+      sound = c.say_due.ensures.sound;
+      segment = c.say_due.ensures.segment;
+      latest = omega (arith, same);
+      whole = λ apart. c.in-Err.ensures.whole (λ is. apart (same_stop _ _ _ _ refl refl is));
+      moments = omega arith;
+      stage = tt;
+      still = tt;
+      said = tt;
+      leaves = tt;
+      full = λ of n is. absurd (tape_not_full _ _ of n c.in-Err.ensures.stops refl is);
+      fault = λ is. absurd (tape_not_fault _ _ c.in-Err.ensures.stops refl is);
+      say_fault = λ is. c.in-Err.ensures.fault (same_stop _ _ _ _ refl refl is);
+      clock_fault = λ is. absurd (tape_not_clock _ _ c.in-Err.ensures.stops refl is);
+      later = omega (arith, disk);
+      say_later = c.say_due.ensures.later;
+      clock_later = omega arith;
+    }

@@ -1,4 +1,4 @@
-use Rattle.std.proofs.Common.{◌∙◌, ◌<◌, ◌-◌, List, refl, sym, ap, subst, arith}
+use Rattle.std.proofs.Common.{◌∙◌, ℕ, ◌<◌, ◌+◌, ◌-◌, List, length, refl, sym, ap, subst, arith}
 use Rattle.std.proofs.lemmas.List.{length-map}
 use Rattle.dura_model.specs.Partition.{Partition}
 use Rattle.flow_syntax.specs.Syntax.{Flows}
@@ -6,12 +6,13 @@ use Rattle.flow_syntax.specs.Views.{flows_of}
 use Rattle.hub_store.specs.Changes.{trail_in, told_in}
 use Rattle.hub_store.specs.Trail.{Settled, Said, of_part}
 use Rattle.part_items.specs.Plain.{item_of, items_of}
-use Rattle.part_rounds.specs.Comes.{Comes, FillsNext, IsByNow}
+use Rattle.part_rounds.specs.Comes.{Comes, FillsNext, IsByNow, count_labels}
 use Rattle.part_rounds.specs.Fills.{Fills, IsIdle}
 use Rattle.part_rounds.specs.Rounds.{pairs_of, NoneUnsaid, IsFilledTo}
-use Rattle.hub_store.proofs.Stops.{ok_apart, same_stop, residual_is, clock_not_full, clock_not_fault, clock_not_said}
+use Rattle.hub_store.proofs.Stops.{ok_apart, same_stop, residual_is, clock_not_full, clock_not_fault, clock_not_said, residual_on_ok, residual_if_ok}
 use Rattle.part_rounds.proofs.rounds.go_round.Goals as goal
 use Rattle.part_steps.specs.States.{state_of}
+use Rattle.site_model.specs.Calls.{HasRisen}
 use Rattle.timer_row.specs.Timers.{NoTimer}
 
 pub settle_filling-requires-clause-filled : goal.settle_filling-requires-clause-filled
@@ -52,11 +53,133 @@ settle_filling-requires-clause-filled g c =
       after_is = refl;
     }))
 
-pub returns-in-Rest-clause-leaves : goal.returns-in-Rest-clause-leaves
-returns-in-Rest-clause-leaves g c =
+pub returns-then-position-ge-PLACES : goal.returns-then-position-ge-PLACES
+returns-then-position-ge-PLACES g c =
+    record {
+      tells = λ t. t;
+      sound = c.requires.sound;
+      segment = refl;
+      latest = omega arith;
+      whole = λ apart. c.requires.sound.uncut c.requires.going;
+      moments = omega arith;
+      stage = tt;
+      still = tt;
+      said = tt;
+      leaves = tt;
+      full = λ of n is. absurd (cc is);
+      fault = λ is. absurd (cc is);
+      say_fault = λ is. absurd (cc is);
+      clock_fault = λ is. absurd (cc is);
+      later = omega arith;
+      say_later = omega arith;
+      clock_later = omega arith;
+    }
+
+pub returns-in_err-filling : goal.returns-in_err-filling
+returns-in_err-filling g c =
+    record {
+      tells = λ t. t;
+      sound = c.requires.sound;
+      segment = refl;
+      latest = omega arith;
+      whole = λ apart. c.requires.sound.uncut c.requires.going;
+      moments = c.take_next.ensures.latest;
+      stage = residual_on_ok _ c.from_residual.result _ c.from_residual.ensures.1;
+      still = residual_on_ok _ c.from_residual.result _ c.from_residual.ensures.1;
+      said = residual_on_ok _ c.from_residual.result _ c.from_residual.ensures.1;
+      leaves = residual_if_ok _ c.from_residual.result _ c.from_residual.ensures.1;
+      full = λ of n is. absurd (clock_not_full _ _ of n c.in_err-filling.ensures.stops (residual_is _ _ c.from_residual.ensures.1) is);
+      fault = λ is. absurd (clock_not_fault _ _ c.in_err-filling.ensures.stops (residual_is _ _ c.from_residual.ensures.1) is);
+      say_fault = λ is. absurd (clock_not_said _ _ c.in_err-filling.ensures.stops (residual_is _ _ c.from_residual.ensures.1) is);
+      clock_fault = λ is. c.in_err-filling.ensures.fault (same_stop _ _ _ _ refl (residual_is _ _ c.from_residual.ensures.1) is);
+      later = omega arith;
+      say_later = omega arith;
+      clock_later = c.take_next.ensures.later;
+    }
+
+pub returns-in_err-state-in-Filled : goal.returns-in_err-state-in-Filled
+returns-in_err-state-in-Filled g c =
+    let site = c.raise.ensures.site in
+    let raised = c.raise.ensures.latest in
+    let by_now = subst (IsByNow (state_of c.args.state) (g.C.Clock.latest c.take_next.new.clock)) c.in-Filled.is c.in_ok-filling.ensures.moment in
+    let low = by_now.1 in
+    let same = c.settle_filling.ensures.latest in
+    let disk = c.settle_filling.ensures.later in
+    let tape = c.settle_filling.ensures.say_later in
+    let disk_site = ap g.V.Site.disk_faults site in
+    let tape_site = ap g.V.Site.say_faults site in
+    record {
+      tells = λ t. subst g.V.Site.tells site (c.settle_filling.ensures.tells t);
+      sound = c.settle_filling.ensures.sound;
+      segment = c.settle_filling.ensures.segment ∙ c.raise.ensures.segment;
+      latest = omega (arith, same, raised, low);
+      whole = λ apart. c.in_err-state-in-Filled.ensures.whole (λ is. apart (same_stop _ _ _ _ (residual_is _ _ c.from_residual-in_err-state-in-Filled.ensures.1) refl is));
+      moments = c.take_next.ensures.latest;
+      stage = residual_on_ok _ c.from_residual-in_err-state-in-Filled.result _ c.from_residual-in_err-state-in-Filled.ensures.1;
+      still = residual_on_ok _ c.from_residual-in_err-state-in-Filled.result _ c.from_residual-in_err-state-in-Filled.ensures.1;
+      said = residual_on_ok _ c.from_residual-in_err-state-in-Filled.result _ c.from_residual-in_err-state-in-Filled.ensures.1;
+      leaves = residual_if_ok _ c.from_residual-in_err-state-in-Filled.result _ c.from_residual-in_err-state-in-Filled.ensures.1;
+      full = λ of n is. c.in_err-state-in-Filled.ensures.full of n (same_stop _ _ _ _ refl (residual_is _ _ c.from_residual-in_err-state-in-Filled.ensures.1) is);
+      fault = λ is. subst (λ n. HasRisen n (g.V.Site.disk_faults c.settle_filling.new.store.site)) disk_site (c.in_err-state-in-Filled.ensures.fault (same_stop _ _ _ _ refl (residual_is _ _ c.from_residual-in_err-state-in-Filled.ensures.1) is));
+      say_fault = λ is. subst (λ n. HasRisen n (g.V.Site.say_faults c.settle_filling.new.store.site)) tape_site (c.in_err-state-in-Filled.ensures.say_fault (same_stop _ _ _ _ refl (residual_is _ _ c.from_residual-in_err-state-in-Filled.ensures.1) is));
+      clock_fault = λ is. absurd (c.in_err-state-in-Filled.ensures.no_clock (same_stop _ _ _ _ refl (residual_is _ _ c.from_residual-in_err-state-in-Filled.ensures.1) is));
+      later = omega (arith, disk, disk_site);
+      say_later = omega (arith, tape, tape_site);
+      clock_later = c.take_next.ensures.later;
+    }
+
+pub returns-in_ok-state-in-Filled : goal.returns-in_ok-state-in-Filled
+returns-in_ok-state-in-Filled g c =
+    let site = c.raise.ensures.site in
+    let raised = c.raise.ensures.latest in
+    let by_now = subst (IsByNow (state_of c.args.state) (g.C.Clock.latest c.take_next.new.clock)) c.in-Filled.is c.in_ok-filling.ensures.moment in
+    let low = by_now.1 in
+    let same = c.settle_filling.ensures.latest in
+    let disk = c.settle_filling.ensures.later in
+    let tape = c.settle_filling.ensures.say_later in
+    let disk_site = ap g.V.Site.disk_faults site in
+    let tape_site = ap g.V.Site.say_faults site in
+    let comes = subst (Comes (flows_of c.args.flows.now) (state_of c.args.state) c.args.port.now.queues c.args.clients.now c.args.limit) c.in-Filled.is c.in_ok-filling.ensures.comes in
+    let some = comes.1 in
+    let many = comes.2 in
+    let labels = c.in_ok-state-in-Filled.ensures.labels in
+    let trail = ap (λ (t : List Settled). count_labels (of_part 0 t)) c.raise.ensures.trail in
+    record {
+      tells = λ t. subst g.V.Site.tells site (c.settle_filling.ensures.tells t);
+      sound = c.settle_filling.ensures.sound;
+      segment = c.settle_filling.ensures.segment ∙ c.raise.ensures.segment;
+      latest = omega (arith, same, raised, low);
+      whole = λ apart. c.in_ok-state-in-Filled.ensures.whole (λ is. ok_apart _ _ is);
+      moments = c.take_next.ensures.latest;
+      stage = c.in_ok-state-in-Filled.ensures.stage;
+      still = c.in_ok-state-in-Filled.ensures.still;
+      said = c.in_ok-state-in-Filled.ensures.said;
+      leaves = (c.in_ok-state-in-Filled.ensures.entered, c.in_ok-state-in-Filled.ensures.unsaid, omega (arith, some, c.len-more.ensures), omega (arith, many, c.requires.few, c.len-more.ensures), omega (arith, labels, trail, c.len-more.ensures));
+      full = λ of n is. absurd (ok_apart _ _ is);
+      fault = λ is. absurd (ok_apart _ _ is);
+      say_fault = λ is. absurd (ok_apart _ _ is);
+      clock_fault = λ is. absurd (ok_apart _ _ is);
+      later = omega (arith, disk, disk_site);
+      say_later = omega (arith, tape, tape_site);
+      clock_later = c.take_next.ensures.later;
+    }
+
+pub returns-in-Rest : goal.returns-in-Rest
+returns-in-Rest g c =
     let entered = c.requires.entered in
     let queues = c.args.port.now.queues in
-    let comes = subst (Comes (flows_of c.args.flows.now) (state_of c.args.state) queues c.args.clients.now c.args.limit) c.in-Rest.is c.in_ok-filling.ensures.comes in (
+    let comes = subst (Comes (flows_of c.args.flows.now) (state_of c.args.state) queues c.args.clients.now c.args.limit) c.in-Rest.is c.in_ok-filling.ensures.comes in
+    record {
+      tells = λ t. t;
+      sound = c.requires.sound;
+      segment = refl;
+      latest = omega arith;
+      whole = λ apart. c.requires.sound.uncut c.requires.going;
+      moments = c.take_next.ensures.latest;
+      stage = c.requires.rests;
+      still = c.requires.going;
+      said = c.requires.said;
+      leaves = (
       record { before = entered.before; stands = entered.stands; timely = entered.timely; entered = comes.2 ∙ entered.entered; sound = comes.0; one = comes.1 },
       record {
         now = comes.3.0;
@@ -65,61 +188,12 @@ returns-in-Rest-clause-leaves g c =
         timers = subst (λ (p : Partition). NoTimer p.timers) (sym comes.2) comes.4;
         said = subst (λ (p : Partition). NoneUnsaid p queues c.args.clients.now) (sym comes.2) c.requires.unsaid;
       },
-    )
-
-pub returns-in_err-state-in-Filled-clause-full : goal.returns-in_err-state-in-Filled-clause-full
-returns-in_err-state-in-Filled-clause-full g c of n is =
-    c.in_err-state-in-Filled.ensures.full of n (same_stop _ _ _ _ refl (residual_is _ _ c.from_residual-in_err-state-in-Filled.ensures.1) is)
-
-pub returns-in_err-state-in-Filled-clause-clock_fault : goal.returns-in_err-state-in-Filled-clause-clock_fault
-returns-in_err-state-in-Filled-clause-clock_fault g c is =
-    absurd (c.in_err-state-in-Filled.ensures.no_clock (same_stop _ _ _ _ refl (residual_is _ _ c.from_residual-in_err-state-in-Filled.ensures.1) is))
-
-pub returns-in_err-state-in-Filled-clause-whole : goal.returns-in_err-state-in-Filled-clause-whole
-returns-in_err-state-in-Filled-clause-whole g c apart =
-    c.in_err-state-in-Filled.ensures.whole (λ is. apart (same_stop _ _ _ _ (residual_is _ _ c.from_residual-in_err-state-in-Filled.ensures.1) refl is))
-
-pub returns-in_err-filling-clause-full : goal.returns-in_err-filling-clause-full
-returns-in_err-filling-clause-full g c of n is = absurd (clock_not_full _ _ of n c.in_err-filling.ensures.stops (residual_is _ _ c.from_residual.ensures.1) is)
-
-pub returns-in_err-filling-clause-fault : goal.returns-in_err-filling-clause-fault
-returns-in_err-filling-clause-fault g c is = absurd (clock_not_fault _ _ c.in_err-filling.ensures.stops (residual_is _ _ c.from_residual.ensures.1) is)
-
-pub returns-in_err-filling-clause-say_fault : goal.returns-in_err-filling-clause-say_fault
-returns-in_err-filling-clause-say_fault g c is = absurd (clock_not_said _ _ c.in_err-filling.ensures.stops (residual_is _ _ c.from_residual.ensures.1) is)
-
-pub returns-in_err-filling-clause-clock_fault : goal.returns-in_err-filling-clause-clock_fault
-returns-in_err-filling-clause-clock_fault g c is = c.in_err-filling.ensures.fault (same_stop _ _ _ _ refl (residual_is _ _ c.from_residual.ensures.1) is)
-
-pub returns-in_err-filling-clause-whole : goal.returns-in_err-filling-clause-whole
-returns-in_err-filling-clause-whole g c apart = c.requires.sound.uncut c.requires.going
-
-pub returns-in_ok-state-in-Filled-clause-full : goal.returns-in_ok-state-in-Filled-clause-full
-returns-in_ok-state-in-Filled-clause-full g c of n is = absurd (ok_apart _ _ is)
-
-pub returns-in_ok-state-in-Filled-clause-fault : goal.returns-in_ok-state-in-Filled-clause-fault
-returns-in_ok-state-in-Filled-clause-fault g c is = absurd (ok_apart _ _ is)
-
-pub returns-in_ok-state-in-Filled-clause-say_fault : goal.returns-in_ok-state-in-Filled-clause-say_fault
-returns-in_ok-state-in-Filled-clause-say_fault g c is = absurd (ok_apart _ _ is)
-
-pub returns-in_ok-state-in-Filled-clause-clock_fault : goal.returns-in_ok-state-in-Filled-clause-clock_fault
-returns-in_ok-state-in-Filled-clause-clock_fault g c is = absurd (ok_apart _ _ is)
-
-pub returns-in_ok-state-in-Filled-clause-whole : goal.returns-in_ok-state-in-Filled-clause-whole
-returns-in_ok-state-in-Filled-clause-whole g c apart = c.in_ok-state-in-Filled.ensures.whole (λ is. ok_apart _ _ is)
-
-pub returns-in-Rest-clause-full : goal.returns-in-Rest-clause-full
-returns-in-Rest-clause-full g c of n is = absurd (ok_apart _ _ is)
-
-pub returns-in-Rest-clause-fault : goal.returns-in-Rest-clause-fault
-returns-in-Rest-clause-fault g c is = absurd (ok_apart _ _ is)
-
-pub returns-in-Rest-clause-say_fault : goal.returns-in-Rest-clause-say_fault
-returns-in-Rest-clause-say_fault g c is = absurd (ok_apart _ _ is)
-
-pub returns-in-Rest-clause-clock_fault : goal.returns-in-Rest-clause-clock_fault
-returns-in-Rest-clause-clock_fault g c is = absurd (ok_apart _ _ is)
-
-pub returns-in-Rest-clause-whole : goal.returns-in-Rest-clause-whole
-returns-in-Rest-clause-whole g c apart = c.requires.sound.uncut c.requires.going
+    );
+      full = λ of n is. absurd (ok_apart _ _ is);
+      fault = λ is. absurd (ok_apart _ _ is);
+      say_fault = λ is. absurd (ok_apart _ _ is);
+      clock_fault = λ is. absurd (ok_apart _ _ is);
+      later = omega arith;
+      say_later = omega arith;
+      clock_later = c.take_next.ensures.later;
+    }
