@@ -162,3 +162,13 @@ clock_stop stops.SiteFault is = absurd (cc is)
 clock_stop stops.SayFault is = absurd (cc is)
 clock_stop stops.ClockFault is = refl
 clock_stop stops.Memory is = absurd (cc is)
+
+-- want of memory is no fault
+pub memory_no_site : (cause : Cause) → cause ≡ Memory → cause ≡ SiteFault → ⊥
+memory_no_site cause is also = absurd (cc (is, also))
+
+pub memory_no_say : (cause : Cause) → cause ≡ Memory → cause ≡ SayFault → ⊥
+memory_no_say cause is also = absurd (cc (is, also))
+
+pub memory_no_clock : (cause : Cause) → cause ≡ Memory → cause ≡ ClockFault → ⊥
+memory_no_clock cause is also = absurd (cc (is, also))

@@ -1,8 +1,10 @@
 use Rattle.std.proofs.Common.{◌≡◌, ◌≤◌, ◌⊎◌, ◌∙◌, inl, inr, ℕ, List, [], map, sym, ap, subst, arith}
+use Rattle.std.proofs.Math.Nat.{le_of_eq}
 use Rattle.client_port.specs.Clients.{clients_of}
 use Rattle.client_port.specs.Ports.{Queue, queues_of}
 use Rattle.dura_value.specs.Items.{Entry}
 use Rattle.engine_run.specs.Ends.{GoesOn, Stays, IsLateCause}
+use Rattle.engine_run.proofs.Ending.{memory_no_site, memory_no_say, memory_no_clock}
 use Rattle.engine_run.proofs.Queues.{clients_named, nothing_said}
 use Rattle.engine_run.proofs.Runs.{run_further, nothing_before}
 use Rattle.engine_run.proofs.running.go.Goals as goal
@@ -95,12 +97,12 @@ returns-then-position-ge-PLACES g c =
       status = c.end_with.ensures.status ∙ ap status_of (sym wanting);
       late = subst IsLateCause (sym wanting) tt;
       goes = λ tells. inr (record { same = ap g.V.Site.history site_is; nothing = c.end_with.ensures.trail ∙ c.none-nothing.ensures; wanting = wanting });
-      fault = λ is. absurd (cc (wanting, is));
-      say_fault = λ is. absurd (cc (wanting, is));
-      clock_fault = λ is. absurd (cc (wanting, is));
-      later = omega (arith, ap g.V.Site.disk_faults site_is);
-      say_later = omega (arith, ap g.V.Site.say_faults site_is);
-      clock_later = omega (arith, ap g.C.Clock.clock_faults c.end_with.ensures.clock);
+      fault = λ is. absurd (memory_no_site c.end_with.result.cause wanting is);
+      say_fault = λ is. absurd (memory_no_say c.end_with.result.cause wanting is);
+      clock_fault = λ is. absurd (memory_no_clock c.end_with.result.cause wanting is);
+      later = le_of_eq (ap g.V.Site.disk_faults (sym site_is));
+      say_later = le_of_eq (ap g.V.Site.say_faults (sym site_is));
+      clock_later = le_of_eq (ap g.C.Clock.clock_faults (sym c.end_with.ensures.clock));
     }
 
 pub returns-in_default : goal.returns-in_default
@@ -111,12 +113,12 @@ returns-in_default g c =
       status = c.end_with-in_default.ensures.status ∙ ap status_of (sym wanting);
       late = subst IsLateCause (sym wanting) tt;
       goes = λ tells. inr (record { same = ap g.V.Site.history site_is; nothing = c.end_with-in_default.ensures.trail ∙ c.none-nothing.ensures; wanting = wanting });
-      fault = λ is. absurd (cc (wanting, is));
-      say_fault = λ is. absurd (cc (wanting, is));
-      clock_fault = λ is. absurd (cc (wanting, is));
-      later = omega (arith, ap g.V.Site.disk_faults site_is);
-      say_later = omega (arith, ap g.V.Site.say_faults site_is);
-      clock_later = omega (arith, ap g.C.Clock.clock_faults c.end_with-in_default.ensures.clock);
+      fault = λ is. absurd (memory_no_site c.end_with-in_default.result.cause wanting is);
+      say_fault = λ is. absurd (memory_no_say c.end_with-in_default.result.cause wanting is);
+      clock_fault = λ is. absurd (memory_no_clock c.end_with-in_default.result.cause wanting is);
+      later = le_of_eq (ap g.V.Site.disk_faults (sym site_is));
+      say_later = le_of_eq (ap g.V.Site.say_faults (sym site_is));
+      clock_later = le_of_eq (ap g.C.Clock.clock_faults (sym c.end_with-in_default.ensures.clock));
     }
 
 pub returns-in_default-vec : goal.returns-in_default-vec
@@ -127,12 +129,12 @@ returns-in_default-vec g c =
       status = c.end_with-in_default-vec.ensures.status ∙ ap status_of (sym wanting);
       late = subst IsLateCause (sym wanting) tt;
       goes = λ tells. inr (record { same = ap g.V.Site.history site_is; nothing = c.end_with-in_default-vec.ensures.trail ∙ c.none-nothing.ensures; wanting = wanting });
-      fault = λ is. absurd (cc (wanting, is));
-      say_fault = λ is. absurd (cc (wanting, is));
-      clock_fault = λ is. absurd (cc (wanting, is));
-      later = omega (arith, ap g.V.Site.disk_faults site_is);
-      say_later = omega (arith, ap g.V.Site.say_faults site_is);
-      clock_later = omega (arith, ap g.C.Clock.clock_faults c.end_with-in_default-vec.ensures.clock);
+      fault = λ is. absurd (memory_no_site c.end_with-in_default-vec.result.cause wanting is);
+      say_fault = λ is. absurd (memory_no_say c.end_with-in_default-vec.result.cause wanting is);
+      clock_fault = λ is. absurd (memory_no_clock c.end_with-in_default-vec.result.cause wanting is);
+      later = le_of_eq (ap g.V.Site.disk_faults (sym site_is));
+      say_later = le_of_eq (ap g.V.Site.say_faults (sym site_is));
+      clock_later = le_of_eq (ap g.C.Clock.clock_faults (sym c.end_with-in_default-vec.ensures.clock));
     }
 
 pub returns-in-Err : goal.returns-in-Err
@@ -143,12 +145,12 @@ returns-in-Err g c =
       status = c.end_with-in-Err.ensures.status ∙ ap status_of (sym wanting);
       late = subst IsLateCause (sym wanting) tt;
       goes = λ tells. inr (record { same = ap g.V.Site.history site_is; nothing = c.end_with-in-Err.ensures.trail ∙ c.none-nothing.ensures; wanting = wanting });
-      fault = λ is. absurd (cc (wanting, is));
-      say_fault = λ is. absurd (cc (wanting, is));
-      clock_fault = λ is. absurd (cc (wanting, is));
-      later = omega (arith, ap g.V.Site.disk_faults site_is);
-      say_later = omega (arith, ap g.V.Site.say_faults site_is);
-      clock_later = omega (arith, ap g.C.Clock.clock_faults c.end_with-in-Err.ensures.clock);
+      fault = λ is. absurd (memory_no_site c.end_with-in-Err.result.cause wanting is);
+      say_fault = λ is. absurd (memory_no_say c.end_with-in-Err.result.cause wanting is);
+      clock_fault = λ is. absurd (memory_no_clock c.end_with-in-Err.result.cause wanting is);
+      later = le_of_eq (ap g.V.Site.disk_faults (sym site_is));
+      say_later = le_of_eq (ap g.V.Site.say_faults (sym site_is));
+      clock_later = le_of_eq (ap g.C.Clock.clock_faults (sym c.end_with-in-Err.ensures.clock));
     }
 
 pub returns : goal.returns
@@ -191,7 +193,7 @@ returns g c =
       fault = λ is. subst (λ site. HasRisen (g.V.Site.disk_faults c.args.site) (g.V.Site.disk_faults site)) (sym site_is) (subst (λ site. HasRisen (g.V.Site.disk_faults site) (g.V.Site.disk_faults now)) begun_is (driven.fault (sym end.cause ∙ is)));
       say_fault = λ is. subst (λ site. HasRisen (g.V.Site.say_faults c.args.site) (g.V.Site.say_faults site)) (sym site_is) (subst (λ site. HasRisen (g.V.Site.say_faults site) (g.V.Site.say_faults now)) begun_is (driven.say_fault (sym end.cause ∙ is)));
       clock_fault = λ is. subst (λ clock. HasRisen (g.C.Clock.clock_faults c.args.clock) (g.C.Clock.clock_faults clock)) (sym end.clock) (driven.clock_fault (sym end.cause ∙ is));
-      later = omega (arith, ap g.V.Site.disk_faults site_is, ap g.V.Site.disk_faults begun_is, driven.later);
-      say_later = omega (arith, ap g.V.Site.say_faults site_is, ap g.V.Site.say_faults begun_is, driven.say_later);
-      clock_later = omega (arith, ap g.C.Clock.clock_faults end.clock, driven.clock_later);
+      later = subst (λ site. g.V.Site.disk_faults c.args.site ≤ g.V.Site.disk_faults site) (sym site_is) (subst (λ site. g.V.Site.disk_faults site ≤ g.V.Site.disk_faults now) begun_is driven.later);
+      say_later = subst (λ site. g.V.Site.say_faults c.args.site ≤ g.V.Site.say_faults site) (sym site_is) (subst (λ site. g.V.Site.say_faults site ≤ g.V.Site.say_faults now) begun_is driven.say_later);
+      clock_later = subst (λ clock. g.C.Clock.clock_faults c.args.clock ≤ g.C.Clock.clock_faults clock) (sym end.clock) driven.clock_later;
     }
