@@ -58,96 +58,96 @@ drive-requires-clause-said g c = c.requires.said
 
 pub returns-in-Ok : goal.returns-in-Ok
 returns-in-Ok g c = record {
-      tells = c.drive.ensures.tells;
-      sound = c.drive.ensures.sound;
-      moment = omega (arith, c.drive.ensures.latest, c.drive.ensures.moments, c.requires.moment);
-      whole = λ other. c.drive.ensures.sound.uncut c.in-Ok-Rest.ensures.still;
-      ends = λ tells. 
-        let new = c.drive.new.store in
-        let rules = g.N.Ruled.rules in
-        let o = g.N.Start.origin in
-        let steps = g.V.Site.history new.site in
-        let told = c.drive.ensures.sound.told tells in
-        let latest = g.C.Clock.latest c.drive.new.clock in
-        let queues = c.drive.new.port.queues in
-        let clients = c.args.clients.now in
-        let raised = c.drive.ensures.latest in
-        let later = c.drive.ensures.moments in
-        let above : new.latest ≤ latest = omega (arith, raised, later, c.requires.moment) in
-        let may : (trail : List Settled) (told : List Said) (partition : ℕ) (going : List Entry) → g.N.Start.may_follow new.latest trail told partition going → g.N.Start.may_follow latest trail told partition going =
-        λ trail told partition going follows. g.N.Start.later_follows new.latest latest trail told partition going above follows in
-        let stands = with_later (g.N.Start.may_follow new.latest) (g.N.Start.may_follow latest) g.N.Start.may_say may o steps (trail_in new) (told_in new) [] (told.rests (c.drive.ensures.sound.uncut c.in-Ok-Rest.ensures.still)) in
-        let leaves = subst (Leaves rules (o.logs 0) new.latest (of_part 0 (trail_in new)) queues clients c.args.options.steps) c.in-Ok-Rest.field-0-is c.in-Ok-Rest.ensures.leaves in
-        let rest = at_rest (g.N.Start.may_follow latest) g.N.Start.may_say rules latest o steps (trail_in new) (told_in new) new.latest queues clients c.in-Ok-Rest.state stands c.in-Ok-Rest.ensures.said (c.requires.asked (c.drive.ensures.tells tells)) c.requires.clients leaves.0 leaves.1 in
-        rest_ends (g.N.Start.may_follow latest) g.N.Start.may_say rules latest o steps (trail_in new) (told_in new) queues clients c.args.options.steps c.args.options.segment c.in-Ok.cause rest c.requires.clients c.in-Ok.ensures;
-      late = rest_late c.drive.new.port.queues c.args.clients.now c.in-Ok.cause c.in-Ok.ensures;
-      fault = λ is. absurd (subst (IsRestCause c.drive.new.port.queues c.args.clients.now) is c.in-Ok.ensures);
-      say_fault = λ is. absurd (subst (IsRestCause c.drive.new.port.queues c.args.clients.now) is c.in-Ok.ensures);
-      clock_fault = λ is. absurd (subst (IsRestCause c.drive.new.port.queues c.args.clients.now) is c.in-Ok.ensures);
-      later = c.drive.ensures.later;
-      say_later = c.drive.ensures.say_later;
-      clock_later = c.drive.ensures.clock_later;
-    }
+  tells = c.drive.ensures.tells;
+  sound = c.drive.ensures.sound;
+  moment = omega (arith, c.drive.ensures.latest, c.drive.ensures.moments, c.requires.moment);
+  whole = λ other. c.drive.ensures.sound.uncut c.in-Ok-Rest.ensures.still;
+  ends = λ tells.
+      let new = c.drive.new.store in
+      let rules = g.N.Ruled.rules in
+      let o = g.N.Start.origin in
+      let steps = g.V.Site.history new.site in
+      let told = c.drive.ensures.sound.told tells in
+      let latest = g.C.Clock.latest c.drive.new.clock in
+      let queues = c.drive.new.port.queues in
+      let clients = c.args.clients.now in
+      let raised = c.drive.ensures.latest in
+      let later = c.drive.ensures.moments in
+      let above : new.latest ≤ latest = omega (arith, raised, later, c.requires.moment) in
+      let may : (trail : List Settled) (told : List Said) (partition : ℕ) (going : List Entry) → g.N.Start.may_follow new.latest trail told partition going → g.N.Start.may_follow latest trail told partition going =
+      λ trail told partition going follows. g.N.Start.later_follows new.latest latest trail told partition going above follows in
+      let stands = with_later (g.N.Start.may_follow new.latest) (g.N.Start.may_follow latest) g.N.Start.may_say may o steps (trail_in new) (told_in new) [] (told.rests (c.drive.ensures.sound.uncut c.in-Ok-Rest.ensures.still)) in
+      let leaves = subst (Leaves rules (o.logs 0) new.latest (of_part 0 (trail_in new)) queues clients c.args.options.steps) c.in-Ok-Rest.field-0-is c.in-Ok-Rest.ensures.leaves in
+      let rest = at_rest (g.N.Start.may_follow latest) g.N.Start.may_say rules latest o steps (trail_in new) (told_in new) new.latest queues clients c.in-Ok-Rest.state stands c.in-Ok-Rest.ensures.said (c.requires.asked (c.drive.ensures.tells tells)) c.requires.clients leaves.0 leaves.1 in
+      rest_ends (g.N.Start.may_follow latest) g.N.Start.may_say rules latest o steps (trail_in new) (told_in new) queues clients c.args.options.steps c.args.options.segment c.in-Ok.cause rest c.requires.clients c.in-Ok.ensures;
+  late = rest_late c.drive.new.port.queues c.args.clients.now c.in-Ok.cause c.in-Ok.ensures;
+  fault = λ is. absurd (subst (IsRestCause c.drive.new.port.queues c.args.clients.now) is c.in-Ok.ensures);
+  say_fault = λ is. absurd (subst (IsRestCause c.drive.new.port.queues c.args.clients.now) is c.in-Ok.ensures);
+  clock_fault = λ is. absurd (subst (IsRestCause c.drive.new.port.queues c.args.clients.now) is c.in-Ok.ensures);
+  later = c.drive.ensures.later;
+  say_later = c.drive.ensures.say_later;
+  clock_later = c.drive.ensures.clock_later;
+}
 
 pub returns-in-Err-rest_cause : goal.returns-in-Err-rest_cause
 returns-in-Err-rest_cause g c = record {
-      tells = c.drive.ensures.tells;
-      sound = c.drive.ensures.sound;
-      moment = omega (arith, c.drive.ensures.latest, c.drive.ensures.moments, c.requires.moment);
-      whole = λ other. c.drive.ensures.sound.uncut c.in-Ok-Rest.ensures.still;
-      ends = λ tells. tt;
-      late = tt;
-      fault = λ is. absurd (cc is);
-      say_fault = λ is. absurd (cc is);
-      clock_fault = λ is. absurd (cc is);
-      later = c.drive.ensures.later;
-      say_later = c.drive.ensures.say_later;
-      clock_later = c.drive.ensures.clock_later;
-    }
+  tells = c.drive.ensures.tells;
+  sound = c.drive.ensures.sound;
+  moment = omega (arith, c.drive.ensures.latest, c.drive.ensures.moments, c.requires.moment);
+  whole = λ other. c.drive.ensures.sound.uncut c.in-Ok-Rest.ensures.still;
+  ends = λ tells. tt;
+  late = tt;
+  fault = λ is. absurd (cc is);
+  say_fault = λ is. absurd (cc is);
+  clock_fault = λ is. absurd (cc is);
+  later = c.drive.ensures.later;
+  say_later = c.drive.ensures.say_later;
+  clock_later = c.drive.ensures.clock_later;
+}
 
 pub returns-in-Ok-Long : goal.returns-in-Ok-Long
 returns-in-Ok-Long g c = record {
-      tells = c.drive.ensures.tells;
-      sound = c.drive.ensures.sound;
-      moment = omega (arith, c.drive.ensures.latest, c.drive.ensures.moments, c.requires.moment);
-      whole = λ other. c.drive.ensures.sound.uncut c.in-Ok-Long.ensures.still;
-      ends = λ tells. subst (Leaves g.N.Ruled.rules (g.N.Start.origin.logs 0) c.drive.new.store.latest (of_part 0 (trail_in c.drive.new.store)) c.drive.new.port.queues c.args.clients.now c.args.options.steps) c.in-Ok-Long.field-0-is c.in-Ok-Long.ensures.leaves;
-      late = tt;
-      fault = λ is. absurd (cc is);
-      say_fault = λ is. absurd (cc is);
-      clock_fault = λ is. absurd (cc is);
-      later = c.drive.ensures.later;
-      say_later = c.drive.ensures.say_later;
-      clock_later = c.drive.ensures.clock_later;
-    }
+  tells = c.drive.ensures.tells;
+  sound = c.drive.ensures.sound;
+  moment = omega (arith, c.drive.ensures.latest, c.drive.ensures.moments, c.requires.moment);
+  whole = λ other. c.drive.ensures.sound.uncut c.in-Ok-Long.ensures.still;
+  ends = λ tells. subst (Leaves g.N.Ruled.rules (g.N.Start.origin.logs 0) c.drive.new.store.latest (of_part 0 (trail_in c.drive.new.store)) c.drive.new.port.queues c.args.clients.now c.args.options.steps) c.in-Ok-Long.field-0-is c.in-Ok-Long.ensures.leaves;
+  late = tt;
+  fault = λ is. absurd (cc is);
+  say_fault = λ is. absurd (cc is);
+  clock_fault = λ is. absurd (cc is);
+  later = c.drive.ensures.later;
+  say_later = c.drive.ensures.say_later;
+  clock_later = c.drive.ensures.clock_later;
+}
 
 pub returns-in-Err : goal.returns-in-Err
 returns-in-Err g c = record {
-      tells = c.drive.ensures.tells;
-      sound = c.drive.ensures.sound;
-      moment = omega (arith, c.drive.ensures.latest, c.drive.ensures.moments, c.requires.moment);
-      whole = λ other. c.drive.ensures.whole (other_stop c.in-Err.stop (subst (λ (cause : Cause). cause ≢ SayFault) c.cause_of.ensures other) c.drive.result c.in-Err.is);
-      ends = λ tells. 
-        let new = c.drive.new.store in
-        let rules = g.N.Ruled.rules in
-        let steps = g.V.Site.history new.site in
-        let told = c.drive.ensures.sound.told tells in
-        let fits = told.logs 0 (omega (arith, g.met.N.Ruled.one)) in
-        let latest = g.C.Clock.latest c.drive.new.clock in
-        let raised = c.drive.ensures.latest in
-        let later = c.drive.ensures.moments in
-        let above : new.latest ≤ latest = omega (arith, raised, later, c.requires.moment) in
-        let segment = c.drive.ensures.segment ∙ c.requires.segment in
-        subst (λ (cause : Cause). EndsAs (g.N.Start.may_follow latest) g.N.Start.may_say rules latest g.N.Start.origin steps (trail_in new) c.args.options.steps c.args.options.segment cause) (sym c.cause_of.ensures)
-        (stop_ends (g.N.Start.may_follow latest) g.N.Start.may_say rules latest g.N.Start.origin steps (trail_in new) (told_in new) new.latest above c.args.options.steps c.args.options.segment (way_of new.ways.items 0) c.in-Err.stop c.requires.fits
-        (λ partition length_then is. subst (λ (n : ℕ). IsFull rules new.latest (of_part 0 (trail_in new)) (pairs_of (told_in new)) n (way_of new.ways.items 0) partition length_then) segment
-        (c.in-Err.ensures.full partition length_then (ap (λ (stop : Stop). Err stop) is)))
-        fits);
-      late = subst IsLateCause (sym c.cause_of.ensures) (stop_late c.in-Err.stop);
-      fault = λ is. c.in-Err.ensures.fault (ap (λ (stop : Stop). Err stop) (site_stop c.in-Err.stop (sym c.cause_of.ensures ∙ is)));
-      say_fault = λ is. c.in-Err.ensures.say_fault (ap (λ (stop : Stop). Err stop) (say_stop c.in-Err.stop (sym c.cause_of.ensures ∙ is)));
-      clock_fault = λ is. c.in-Err.ensures.clock_fault (ap (λ (stop : Stop). Err stop) (clock_stop c.in-Err.stop (sym c.cause_of.ensures ∙ is)));
-      later = c.drive.ensures.later;
-      say_later = c.drive.ensures.say_later;
-      clock_later = c.drive.ensures.clock_later;
-    }
+  tells = c.drive.ensures.tells;
+  sound = c.drive.ensures.sound;
+  moment = omega (arith, c.drive.ensures.latest, c.drive.ensures.moments, c.requires.moment);
+  whole = λ other. c.drive.ensures.whole (other_stop c.in-Err.stop (subst (λ (cause : Cause). cause ≢ SayFault) c.cause_of.ensures other) c.drive.result c.in-Err.is);
+  ends = λ tells.
+      let new = c.drive.new.store in
+      let rules = g.N.Ruled.rules in
+      let steps = g.V.Site.history new.site in
+      let told = c.drive.ensures.sound.told tells in
+      let fits = told.logs 0 (omega (arith, g.met.N.Ruled.one)) in
+      let latest = g.C.Clock.latest c.drive.new.clock in
+      let raised = c.drive.ensures.latest in
+      let later = c.drive.ensures.moments in
+      let above : new.latest ≤ latest = omega (arith, raised, later, c.requires.moment) in
+      let segment = c.drive.ensures.segment ∙ c.requires.segment in
+      subst (λ (cause : Cause). EndsAs (g.N.Start.may_follow latest) g.N.Start.may_say rules latest g.N.Start.origin steps (trail_in new) c.args.options.steps c.args.options.segment cause) (sym c.cause_of.ensures)
+      (stop_ends (g.N.Start.may_follow latest) g.N.Start.may_say rules latest g.N.Start.origin steps (trail_in new) (told_in new) new.latest above c.args.options.steps c.args.options.segment (way_of new.ways.items 0) c.in-Err.stop c.requires.fits
+      (λ partition length_then is. subst (λ (n : ℕ). IsFull rules new.latest (of_part 0 (trail_in new)) (pairs_of (told_in new)) n (way_of new.ways.items 0) partition length_then) segment
+      (c.in-Err.ensures.full partition length_then (ap (λ (stop : Stop). Err stop) is)))
+      fits);
+  late = subst IsLateCause (sym c.cause_of.ensures) (stop_late c.in-Err.stop);
+  fault = λ is. c.in-Err.ensures.fault (ap (λ (stop : Stop). Err stop) (site_stop c.in-Err.stop (sym c.cause_of.ensures ∙ is)));
+  say_fault = λ is. c.in-Err.ensures.say_fault (ap (λ (stop : Stop). Err stop) (say_stop c.in-Err.stop (sym c.cause_of.ensures ∙ is)));
+  clock_fault = λ is. c.in-Err.ensures.clock_fault (ap (λ (stop : Stop). Err stop) (clock_stop c.in-Err.stop (sym c.cause_of.ensures ∙ is)));
+  later = c.drive.ensures.later;
+  say_later = c.drive.ensures.say_later;
+  clock_later = c.drive.ensures.clock_later;
+}

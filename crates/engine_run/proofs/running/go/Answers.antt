@@ -163,33 +163,33 @@ returns g c =
       told = λ tells. subst g.V.Site.tells begun_is (driven.tells (subst g.V.Site.tells site_is tells));
       status = end.status ∙ ap status_of (sym end.cause);
       late = subst IsLateCause (sym end.cause) driven.late;
-      goes = λ tells. 
-        let end = c.end_with-2 in
-        let store = c.drive_on-cause.new.store in
-        let site_is = end.ensures.site ∙ c.end-site.ensures.site in
-        let trail_is = end.ensures.trail ∙ c.end-site.ensures.trail in
-        let tells_then = subst g.V.Site.tells site_is tells in
-        let told = c.drive_on-cause.ensures.sound.told tells_then in
-        let latest = g.C.Clock.latest c.drive_on-cause.new.clock in
-        let later : (trail : List Settled) (told : List Said) (partition : ℕ) (going : List Entry) → g.N.Start.may_follow store.latest trail told partition going → g.N.Start.may_follow latest trail told partition going =
-        λ trail told partition going may. g.N.Start.later_follows store.latest latest trail told partition going c.drive_on-cause.ensures.moment may in
-        let most = c.args.options.steps in
-        let segment = c.args.options.segment in
-        let goes : GoesOn (g.N.Start.may_follow latest) g.N.Start.may_say g.N.Ruled.rules latest g.N.Start.origin (g.V.Site.history store.site) (trail_in store) most segment c.drive_on-cause.result = record {
-          every = moments_later (g.N.Start.may_follow store.latest) (g.N.Start.may_follow latest) g.N.Start.may_say later g.N.Start.origin (g.V.Site.history store.site) (trail_in store) (c.end-site.ensures.every tells_then);
-          further = run_further told.runs;
-          nothing = nothing_before told.runs;
-          whole = λ other. (
-            told_in store,
-            with_later (g.N.Start.may_follow store.latest) (g.N.Start.may_follow latest) g.N.Start.may_say later g.N.Start.origin (g.V.Site.history store.site) (trail_in store) (told_in store) [] (c.end-site.ensures.whole tells_then (c.drive_on-cause.ensures.whole other)),
-          );
-          ends = c.drive_on-cause.ensures.ends tells_then;
-        } in
-        subst (λ (n : ℕ). GoesOn (g.N.Start.may_follow n) g.N.Start.may_say g.N.Ruled.rules n g.N.Start.origin (g.V.Site.history end.result.site) end.result.trail most segment end.result.cause ⊎ Stays (g.V.Site.history c.args.site) (g.V.Site.history end.result.site) end.result.trail end.result.cause)
-        (ap g.C.Clock.latest (sym end.ensures.clock))
-        (inl (subst (λ (cause : Cause). GoesOn (g.N.Start.may_follow latest) g.N.Start.may_say g.N.Ruled.rules latest g.N.Start.origin (g.V.Site.history end.result.site) end.result.trail most segment cause) (sym end.ensures.cause)
-        (subst (λ (t : List Settled). GoesOn (g.N.Start.may_follow latest) g.N.Start.may_say g.N.Ruled.rules latest g.N.Start.origin (g.V.Site.history end.result.site) t most segment c.drive_on-cause.result) (sym trail_is)
-        (subst (λ site. GoesOn (g.N.Start.may_follow latest) g.N.Start.may_say g.N.Ruled.rules latest g.N.Start.origin (g.V.Site.history site) (trail_in store) most segment c.drive_on-cause.result) (sym site_is) goes))));
+      goes = λ tells.
+          let end = c.end_with-2 in
+          let store = c.drive_on-cause.new.store in
+          let site_is = end.ensures.site ∙ c.end-site.ensures.site in
+          let trail_is = end.ensures.trail ∙ c.end-site.ensures.trail in
+          let tells_then = subst g.V.Site.tells site_is tells in
+          let told = c.drive_on-cause.ensures.sound.told tells_then in
+          let latest = g.C.Clock.latest c.drive_on-cause.new.clock in
+          let later : (trail : List Settled) (told : List Said) (partition : ℕ) (going : List Entry) → g.N.Start.may_follow store.latest trail told partition going → g.N.Start.may_follow latest trail told partition going =
+          λ trail told partition going may. g.N.Start.later_follows store.latest latest trail told partition going c.drive_on-cause.ensures.moment may in
+          let most = c.args.options.steps in
+          let segment = c.args.options.segment in
+          let goes : GoesOn (g.N.Start.may_follow latest) g.N.Start.may_say g.N.Ruled.rules latest g.N.Start.origin (g.V.Site.history store.site) (trail_in store) most segment c.drive_on-cause.result = record {
+            every = moments_later (g.N.Start.may_follow store.latest) (g.N.Start.may_follow latest) g.N.Start.may_say later g.N.Start.origin (g.V.Site.history store.site) (trail_in store) (c.end-site.ensures.every tells_then);
+            further = run_further told.runs;
+            nothing = nothing_before told.runs;
+            whole = λ other. (
+              told_in store,
+              with_later (g.N.Start.may_follow store.latest) (g.N.Start.may_follow latest) g.N.Start.may_say later g.N.Start.origin (g.V.Site.history store.site) (trail_in store) (told_in store) [] (c.end-site.ensures.whole tells_then (c.drive_on-cause.ensures.whole other)),
+            );
+            ends = c.drive_on-cause.ensures.ends tells_then;
+          } in
+          subst (λ (n : ℕ). GoesOn (g.N.Start.may_follow n) g.N.Start.may_say g.N.Ruled.rules n g.N.Start.origin (g.V.Site.history end.result.site) end.result.trail most segment end.result.cause ⊎ Stays (g.V.Site.history c.args.site) (g.V.Site.history end.result.site) end.result.trail end.result.cause)
+          (ap g.C.Clock.latest (sym end.ensures.clock))
+          (inl (subst (λ (cause : Cause). GoesOn (g.N.Start.may_follow latest) g.N.Start.may_say g.N.Ruled.rules latest g.N.Start.origin (g.V.Site.history end.result.site) end.result.trail most segment cause) (sym end.ensures.cause)
+          (subst (λ (t : List Settled). GoesOn (g.N.Start.may_follow latest) g.N.Start.may_say g.N.Ruled.rules latest g.N.Start.origin (g.V.Site.history end.result.site) t most segment c.drive_on-cause.result) (sym trail_is)
+          (subst (λ site. GoesOn (g.N.Start.may_follow latest) g.N.Start.may_say g.N.Ruled.rules latest g.N.Start.origin (g.V.Site.history site) (trail_in store) most segment c.drive_on-cause.result) (sym site_is) goes))));
       fault = λ is. subst (λ site. HasRisen (g.V.Site.disk_faults c.args.site) (g.V.Site.disk_faults site)) (sym site_is) (subst (λ site. HasRisen (g.V.Site.disk_faults site) (g.V.Site.disk_faults now)) begun_is (driven.fault (sym end.cause ∙ is)));
       say_fault = λ is. subst (λ site. HasRisen (g.V.Site.say_faults c.args.site) (g.V.Site.say_faults site)) (sym site_is) (subst (λ site. HasRisen (g.V.Site.say_faults site) (g.V.Site.say_faults now)) begun_is (driven.say_fault (sym end.cause ∙ is)));
       clock_fault = λ is. subst (λ clock. HasRisen (g.C.Clock.clock_faults c.args.clock) (g.C.Clock.clock_faults clock)) (sym end.clock) (driven.clock_fault (sym end.cause ∙ is));

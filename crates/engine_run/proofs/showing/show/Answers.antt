@@ -1,4 +1,4 @@
-use Rattle.std.proofs.Common.{◌≡◌, ◌∙◌, inl, inr, ℕ, List, Ok, Err, refl, sym, ap, subst, arith}
+use Rattle.std.proofs.Common.{◌∙◌, inl, ℕ, List, Ok, Err, refl, sym, ap, subst, arith}
 use Rattle.std.proofs.Math.Nat.{le_of_eq}
 use Rattle.engine_run.specs.Opening.{IsLogCause, RecoversAs}
 use Rattle.engine_run.specs.Showing.{ShowsAs}
@@ -125,4 +125,3 @@ returns-clause-later g c = let read = c.read_flow_file.ensures in let recover = 
 
 pub returns-clause-say_later : goal.returns-clause-say_later
 returns-clause-say_later g c = let read = c.read_flow_file.ensures in let recover = c.recover_logs.ensures in let said = c.say_table-said.ensures in let before = recover.say_faults ∙ read.say_faults in omega (arith, before, said.later)
-

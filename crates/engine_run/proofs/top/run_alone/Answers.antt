@@ -1,4 +1,4 @@
-use Rattle.std.proofs.Common.{◌≡◌, ◌≤◌, ◌∙◌, inl, inr, ℕ, Some, refl, sym, ap, subst, arith}
+use Rattle.std.proofs.Common.{◌≤◌, ◌∙◌, inl, inr, refl, sym, ap, subst, arith}
 use Rattle.std.proofs.Math.Nat.{le_of_eq}
 use Rattle.command_words.specs.Command.{call_in}
 use Rattle.command_words.specs.declared.words.Call.TheVariants.{Run, Show}
@@ -116,13 +116,13 @@ returns-in-Err-Memory g c =
       answers = λ tells options asked. subst (Answers (λ file. content_of file old)) (sym end.cause) tt;
       untouched = λ options asked. subst (Untouched old now) (sym end.cause) tt;
       headline = λ tells options is job asks entries begin keeps given.
-        let old = g.V.Site.history c.args.site in
-        let site_is = c.end_with-in-Err-Memory.ensures.site in
-        let told = subst g.V.Site.tells site_is tells in
-        inr (record {
-          nothing = c.end_with-in-Err-Memory.ensures.trail ∙ c.none-in-Err-Memory.ensures;
-          opening = subst (λ site. Always (IsOpening job entries old) old (g.V.Site.history site)) (sym site_is) (opening_first job entries old (λ f. g.met.V.Site.inside c.args.site f told));
-        });
+          let old = g.V.Site.history c.args.site in
+          let site_is = c.end_with-in-Err-Memory.ensures.site in
+          let told = subst g.V.Site.tells site_is tells in
+          inr (record {
+            nothing = c.end_with-in-Err-Memory.ensures.trail ∙ c.none-in-Err-Memory.ensures;
+            opening = subst (λ site. Always (IsOpening job entries old) old (g.V.Site.history site)) (sym site_is) (opening_first job entries old (λ f. g.met.V.Site.inside c.args.site f told));
+          });
       shows = λ tells partitions asked. subst (ShowsAs (λ file. content_of file old) (tape old) (tape now)) (sym end.cause) (inl (ap (λ site. tape (g.V.Site.history site)) end.site));
       writes_nothing = λ partitions asked. record { mid = g.V.Site.history c.args.site; syncs = inl refl; files = λ file. ap (λ site. changes_of file (g.V.Site.history site)) c.end_with-in-Err-Memory.ensures.site };
       fault = λ is. absurd (cc (end.cause, is));

@@ -76,35 +76,35 @@ returns-in-Ok g c =
       status = gone.status;
       no_usage = λ usage. subst IsLateCause usage gone.late;
       answers = λ tells.
-        let p = c.in-Ok.prepared in
-        let told = c.go_named.ensures.told tells in
-        let prepared = c.in-Ok.ensures.prepared told in
-        late_answers (λ file. content_of file (g.V.Site.history c.args.site)) c.go_named.result.cause c.go_named.ensures.late
-        (job_of p, c.in-Ok.ensures.asks told, (prepared.entries, state_of p.state, prepared.keeps, c.in-Ok.ensures.no_clash));
+          let p = c.in-Ok.prepared in
+          let told = c.go_named.ensures.told tells in
+          let prepared = c.in-Ok.ensures.prepared told in
+          late_answers (λ file. content_of file (g.V.Site.history c.args.site)) c.go_named.result.cause c.go_named.ensures.late
+          (job_of p, c.in-Ok.ensures.asks told, (prepared.entries, state_of p.state, prepared.keeps, c.in-Ok.ensures.no_clash));
       untouched = late_untouched (g.V.Site.history c.args.site) (g.V.Site.history c.go_named.result.site) c.go_named.result.cause gone.late;
       headline = λ tells job asks.
-        let p = c.in-Ok.prepared in
-        let own = job_of p in
-        let state = state_of p.state in
-        let old = g.V.Site.history c.args.site in
-        let steps = g.V.Site.history c.prepare.new.site in
-        let end = c.go_named.result in
-        let new = g.V.Site.history end.site in
-        let told = c.go_named.ensures.told tells in
-        let prepared = c.in-Ok.ensures.prepared told in
-        let asked = c.in-Ok.ensures.asks told in
-        let opens = c.in-Ok.ensures.opens told own asked in
-        let core : Headline own (λ file. content_of file old) old new end.trail c.args.options.steps c.args.options.segment (g.C.Clock.latest end.clock) end.cause = λ entries begin keeps given.
-        let same = same_entries own (λ file. content_of file old) prepared.entries entries state begin prepared.keeps keeps in
-        let same_begin = same_state own (λ file. content_of file old) prepared.entries entries state begin prepared.keeps keeps in
-        elim (c.go_named.ensures.goes tells) [
-          | inl goes ↦
-              let runs = runs_on own old steps new prepared.entries state prepared.keeps (subst (AreGivenIn own) (sym same) given) p.log prepared.opened opens p.life prepared.life_is c.in-Ok.ensures.can.younger end.trail c.args.options.steps c.args.options.segment (g.C.Clock.latest end.clock) end.cause goes in
-              inl (subst (λ (l : List Entry). RunsOn own l begin old new end.trail c.args.options.steps c.args.options.segment (g.C.Clock.latest end.clock) end.cause) same
-              (subst (λ (q : Partition). RunsOn own prepared.entries q old new end.trail c.args.options.steps c.args.options.segment (g.C.Clock.latest end.clock) end.cause) same_begin runs))
-          | inr stays ↦ inr (record { nothing = stays.nothing; opening = subst (Always (IsOpening own entries old) old) (sym stays.same) (opens entries begin keeps given) })
-        ] in
-        subst (λ (j : Job). Headline j (λ file. content_of file old) old new end.trail c.args.options.steps c.args.options.segment (g.C.Clock.latest end.clock) end.cause) (same_job (λ file. content_of file old) own job asked asks) core;
+          let p = c.in-Ok.prepared in
+          let own = job_of p in
+          let state = state_of p.state in
+          let old = g.V.Site.history c.args.site in
+          let steps = g.V.Site.history c.prepare.new.site in
+          let end = c.go_named.result in
+          let new = g.V.Site.history end.site in
+          let told = c.go_named.ensures.told tells in
+          let prepared = c.in-Ok.ensures.prepared told in
+          let asked = c.in-Ok.ensures.asks told in
+          let opens = c.in-Ok.ensures.opens told own asked in
+          let core : Headline own (λ file. content_of file old) old new end.trail c.args.options.steps c.args.options.segment (g.C.Clock.latest end.clock) end.cause = λ entries begin keeps given.
+          let same = same_entries own (λ file. content_of file old) prepared.entries entries state begin prepared.keeps keeps in
+          let same_begin = same_state own (λ file. content_of file old) prepared.entries entries state begin prepared.keeps keeps in
+          elim (c.go_named.ensures.goes tells) [
+            | inl goes ↦
+                let runs = runs_on own old steps new prepared.entries state prepared.keeps (subst (AreGivenIn own) (sym same) given) p.log prepared.opened opens p.life prepared.life_is c.in-Ok.ensures.can.younger end.trail c.args.options.steps c.args.options.segment (g.C.Clock.latest end.clock) end.cause goes in
+                inl (subst (λ (l : List Entry). RunsOn own l begin old new end.trail c.args.options.steps c.args.options.segment (g.C.Clock.latest end.clock) end.cause) same
+                (subst (λ (q : Partition). RunsOn own prepared.entries q old new end.trail c.args.options.steps c.args.options.segment (g.C.Clock.latest end.clock) end.cause) same_begin runs))
+            | inr stays ↦ inr (record { nothing = stays.nothing; opening = subst (Always (IsOpening own entries old) old) (sym stays.same) (opens entries begin keeps given) })
+          ] in
+          subst (λ (j : Job). Headline j (λ file. content_of file old) old new end.trail c.args.options.steps c.args.options.segment (g.C.Clock.latest end.clock) end.cause) (same_job (λ file. content_of file old) own job asked asks) core;
       fault = λ is. risen_later _ _ _ prepare.later gone.later (gone.fault is);
       say_fault = λ is. subst (λ (n : ℕ). HasRisen n (g.V.Site.say_faults c.go_named.result.site)) prepare.say_faults (gone.say_fault is);
       clock_fault = gone.clock_fault;
@@ -124,13 +124,13 @@ returns-in-Err g c =
       answers = λ tells. subst (Answers (λ file. content_of file old)) (sym end.cause) (c.in-Err.ensures.answers (subst g.V.Site.tells end.site tells));
       untouched = subst (λ (cause : Cause). Untouched old (g.V.Site.history c.end_with.result.site) cause) (sym end.cause) (subst (λ site. Untouched old (g.V.Site.history site) c.in-Err.cause) (sym end.site) c.in-Err.ensures.untouched);
       headline = λ tells job asks entries begin keeps given.
-        let old = g.V.Site.history c.args.site in
-        let site_is = c.end_with.ensures.site in
-        let told = subst g.V.Site.tells site_is tells in
-        inr (record {
-          nothing = c.end_with.ensures.trail ∙ c.none.ensures;
-          opening = subst (λ site. Always (IsOpening job entries old) old (g.V.Site.history site)) (sym site_is) (c.in-Err.ensures.opens told job asks entries begin keeps given);
-        });
+          let old = g.V.Site.history c.args.site in
+          let site_is = c.end_with.ensures.site in
+          let told = subst g.V.Site.tells site_is tells in
+          inr (record {
+            nothing = c.end_with.ensures.trail ∙ c.none.ensures;
+            opening = subst (λ site. Always (IsOpening job entries old) old (g.V.Site.history site)) (sym site_is) (c.in-Err.ensures.opens told job asks entries begin keeps given);
+          });
       fault = λ is. subst (λ site. HasRisen (g.V.Site.disk_faults c.args.site) (g.V.Site.disk_faults site)) (sym end.site) (c.in-Err.ensures.fault (ap (λ (cause : Cause). Err cause) (sym end.cause ∙ is)));
       say_fault = λ is. absurd (subst IsEarlyCause (sym end.cause ∙ is) c.in-Err.ensures.early);
       clock_fault = λ is. absurd (subst IsEarlyCause (sym end.cause ∙ is) c.in-Err.ensures.early);
