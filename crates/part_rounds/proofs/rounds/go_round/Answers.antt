@@ -1,4 +1,4 @@
-use Rattle.std.proofs.Common.{◌∙◌, ℕ, ◌<◌, ◌+◌, ◌-◌, List, length, refl, sym, ap, subst, arith}
+use Rattle.std.proofs.Common.{◌∙◌, ◌<◌, ◌-◌, List, refl, sym, ap, subst, arith}
 use Rattle.std.proofs.lemmas.List.{length-map}
 use Rattle.dura_model.specs.Partition.{Partition}
 use Rattle.flow_syntax.specs.Syntax.{Flows}
@@ -180,15 +180,15 @@ returns-in-Rest g c =
       still = c.requires.going;
       said = c.requires.said;
       leaves = (
-      record { before = entered.before; stands = entered.stands; timely = entered.timely; entered = comes.2 ∙ entered.entered; sound = comes.0; one = comes.1 },
-      record {
-        now = comes.3.0;
-        idle = subst (λ (p : Partition). IsIdle g.N.Ruled.rules.flows p queues c.args.clients.now comes.3.0) (sym comes.2)
-            (subst (λ (f : Flows). IsIdle f (state_of c.args.state) queues c.args.clients.now comes.3.0) (sym c.requires.flows) comes.3.1);
-        timers = subst (λ (p : Partition). NoTimer p.timers) (sym comes.2) comes.4;
-        said = subst (λ (p : Partition). NoneUnsaid p queues c.args.clients.now) (sym comes.2) c.requires.unsaid;
-      },
-    );
+        record { before = entered.before; stands = entered.stands; timely = entered.timely; entered = comes.2 ∙ entered.entered; sound = comes.0; one = comes.1 },
+        record {
+          now = comes.3.0;
+          idle = subst (λ (p : Partition). IsIdle g.N.Ruled.rules.flows p queues c.args.clients.now comes.3.0) (sym comes.2)
+              (subst (λ (f : Flows). IsIdle f (state_of c.args.state) queues c.args.clients.now comes.3.0) (sym c.requires.flows) comes.3.1);
+          timers = subst (λ (p : Partition). NoTimer p.timers) (sym comes.2) comes.4;
+          said = subst (λ (p : Partition). NoneUnsaid p queues c.args.clients.now) (sym comes.2) c.requires.unsaid;
+        },
+      );
       full = λ of n is. absurd (ok_apart _ _ is);
       fault = λ is. absurd (ok_apart _ _ is);
       say_fault = λ is. absurd (ok_apart _ _ is);

@@ -69,23 +69,23 @@ returns-in_default g c =
     let state = state_of c.args.state.now in
     let none : due_of name c.args.port.now.queues ≡ None = sym c.next_of.ensures ∙ ap (option_map (λ x. request_of x.now)) c.in_default.is in
     record {
-  tells = λ t. t;
-  sound = c.requires.sound;
-  trail = refl;
-  ways = refl;
-  segment = refl;
-  latest = refl;
-  whole = λ apart. c.requires.sound.uncut c.requires.going;
-  still = c.requires.going;
-  said = c.requires.said;
-  more = λ is. absurd (cc is);
-  none = λ is. (ap (option_and_then (λ (r : Request). state.answers (client name) r.number)) none, refl);
-  stops = tt;
-  fault = λ is. absurd (ok_apart _ _ is);
-  later = omega arith;
-  disk_faults = refl;
-  others = λ other apart. refl;
-}
+      tells = λ t. t;
+      sound = c.requires.sound;
+      trail = refl;
+      ways = refl;
+      segment = refl;
+      latest = refl;
+      whole = λ apart. c.requires.sound.uncut c.requires.going;
+      still = c.requires.going;
+      said = c.requires.said;
+      more = λ is. absurd (cc is);
+      none = λ is. (ap (option_and_then (λ (r : Request). state.answers (client name) r.number)) none, refl);
+      stops = tt;
+      fault = λ is. absurd (ok_apart _ _ is);
+      later = omega arith;
+      disk_faults = refl;
+      others = λ other apart. refl;
+    }
 
 pub returns-in_default-answer : goal.returns-in_default-answer
 returns-in_default-answer g c =
@@ -94,25 +94,25 @@ returns-in_default-answer g c =
     let r = request_of c.in-Some.request.now in
     let due : due_of name c.args.port.now.queues ≡ Some r = sym c.next_of.ensures ∙ ap (option_map (λ x. request_of x.now)) c.in-Some.is in
     let none : state.answers (client name) r.number ≡ None =
-        ap (λ (i : OwnId). state.answers (id_of i) r.number) (sym c.in_ok-id.ensures) ∙ sym c.answer-answer.ensures ∙ ap (option_map (λ x. answer_of x.now)) c.in_default-answer.is in
+    ap (λ (i : OwnId). state.answers (id_of i) r.number) (sym c.in_ok-id.ensures) ∙ sym c.answer-answer.ensures ∙ ap (option_map (λ x. answer_of x.now)) c.in_default-answer.is in
     record {
-  tells = λ t. t;
-  sound = c.requires.sound;
-  trail = refl;
-  ways = refl;
-  segment = refl;
-  latest = refl;
-  whole = λ apart. c.requires.sound.uncut c.requires.going;
-  still = c.requires.going;
-  said = c.requires.said;
-  more = λ is. absurd (cc is);
-  none = λ is. (ap (option_and_then (λ (r : Request). state.answers (client name) r.number)) due ∙ none, refl);
-  stops = tt;
-  fault = λ is. absurd (ok_apart _ _ is);
-  later = omega arith;
-  disk_faults = refl;
-  others = λ other apart. refl;
-}
+      tells = λ t. t;
+      sound = c.requires.sound;
+      trail = refl;
+      ways = refl;
+      segment = refl;
+      latest = refl;
+      whole = λ apart. c.requires.sound.uncut c.requires.going;
+      still = c.requires.going;
+      said = c.requires.said;
+      more = λ is. absurd (cc is);
+      none = λ is. (ap (option_and_then (λ (r : Request). state.answers (client name) r.number)) due ∙ none, refl);
+      stops = tt;
+      fault = λ is. absurd (ok_apart _ _ is);
+      later = omega arith;
+      disk_faults = refl;
+      others = λ other apart. refl;
+    }
 
 pub returns-in_err-id : goal.returns-in_err-id
 returns-in_err-id g c = record {
