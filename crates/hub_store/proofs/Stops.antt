@@ -129,6 +129,10 @@ pub residual_of_tape : {T : Type 0} (r : Result T Stop) → IsErrAnd r (λ stop.
 residual_of_tape (Ok x) has = absurd has
 residual_of_tape (Err y) has = ap is_of_tape has
 
+pub residual_of_stop : {T : Type 0} (r : Result T Stop) (stop : Stop) → IsErrAnd r (λ y. y ≡ stop) → is_of_tape stop ≡ true → IfErr r (λ s. is_of_tape s ≡ true)
+residual_of_stop (Ok x) stop has is = absurd has
+residual_of_stop (Err y) stop has is = ap is_of_tape has ∙ is
+
 -- where the answer of a `?` is an error, nothing is said of a value
 pub residual_on_ok : {T : Type 0} (A : Type 0) (r : Result T Stop) (stop : Stop) → IsErrAnd r (λ y. y ≡ stop) → OnOk r A
 residual_on_ok A (Ok x) stop has = absurd has

@@ -1,5 +1,8 @@
-use Rattle.std.proofs.Common.{◌∙◌, refl, arith}
-use Rattle.hub_store.proofs.Stops.{ok_apart, same_stop, residual_is, risen_after}
+use Rattle.std.proofs.Common.{◌≡◌, ◌∙◌, Bool, Ok, None, refl, sym, ap, subst, arith}
+use Rattle.client_port.specs.Ports.{Ports}
+use Rattle.part_rounds.specs.Rounds.{next_answer}
+use Rattle.hub_store.proofs.Stops.{ok_apart, same_stop, residual_is, residual_of_stop, residual_on_ok, risen_after}
+use Rattle.part_steps.specs.States.{state_of}
 use Rattle.part_rounds.proofs.saying.say_all.Goals as goal
 
 pub answers-preserved : goal.answers-preserved
@@ -17,12 +20,43 @@ answers-preserved g c = record {
   disk_faults = c.say_next.ensures.disk_faults ∙ c.answers.invariant.disk_faults;
 }
 
-pub returns-in_err-say_next-clause-fault : goal.returns-in_err-say_next-clause-fault
-returns-in_err-say_next-clause-fault g c is =
-    risen_after _ _ _ c.answers.invariant.later c.say_next.ensures.later (c.in_err-say_next.ensures.fault (same_stop _ _ _ _ refl (residual_is _ _ c.from_residual.ensures.1) is))
+pub returns-in_err-say_next : goal.returns-in_err-say_next
+returns-in_err-say_next g c =
+    record {
+      tells = λ t. c.answers.invariant.tells (c.say_next.ensures.tells t);
+      sound = c.say_next.ensures.sound;
+      trail = c.say_next.ensures.trail ∙ c.answers.invariant.trail;
+      ways = c.say_next.ensures.ways ∙ c.answers.invariant.ways;
+      segment = c.say_next.ensures.segment ∙ c.answers.invariant.segment;
+      latest = c.say_next.ensures.latest ∙ c.answers.invariant.latest;
+      whole = λ apart. c.in_err-say_next.ensures.whole (λ is. apart (same_stop _ _ _ _ (residual_is _ _ c.from_residual.ensures.1) refl is));
+      still = residual_on_ok _ c.from_residual.result _ c.from_residual.ensures.1;
+      said = residual_on_ok _ c.from_residual.result _ c.from_residual.ensures.1;
+      none = residual_on_ok _ c.from_residual.result _ c.from_residual.ensures.1;
+      others = residual_on_ok _ c.from_residual.result _ c.from_residual.ensures.1;
+      stops = residual_of_stop _ _ c.from_residual.ensures.1 c.in_err-say_next.ensures.stops;
+      fault = λ is. risen_after _ _ _ c.answers.invariant.later c.say_next.ensures.later (c.in_err-say_next.ensures.fault (same_stop _ _ _ _ refl (residual_is _ _ c.from_residual.ensures.1) is));
+      later = omega (arith, c.say_next.ensures.later, c.answers.invariant.later);
+      disk_faults = c.say_next.ensures.disk_faults ∙ c.answers.invariant.disk_faults;
+    }
 
-pub returns-in_err-say_next-clause-whole : goal.returns-in_err-say_next-clause-whole
-returns-in_err-say_next-clause-whole g c apart = c.in_err-say_next.ensures.whole (λ is. apart (same_stop _ _ _ _ (residual_is _ _ c.from_residual.ensures.1) refl is))
-
-pub returns-clause-fault : goal.returns-clause-fault
-returns-clause-fault g c is = absurd (ok_apart _ _ is)
+pub returns : goal.returns
+returns g c =
+    let none = c.in_ok-say_next.ensures.none (ap (λ (b : Bool). Ok b) c.if-branch.false) in
+    record {
+      tells = λ t. c.answers.invariant.tells (c.say_next.ensures.tells t);
+      sound = c.say_next.ensures.sound;
+      trail = c.say_next.ensures.trail ∙ c.answers.invariant.trail;
+      ways = c.say_next.ensures.ways ∙ c.answers.invariant.ways;
+      segment = c.say_next.ensures.segment ∙ c.answers.invariant.segment;
+      latest = c.say_next.ensures.latest ∙ c.answers.invariant.latest;
+      whole = λ apart. c.say_next.ensures.sound.uncut c.in_ok-say_next.ensures.still;
+      still = c.in_ok-say_next.ensures.still;
+      said = c.in_ok-say_next.ensures.said;
+      none = subst (λ (port : Ports). next_answer (state_of c.args.state.now) port.queues c.args.client.now ≡ None) (sym none.1) none.0;
+      others = λ other apart. c.in_ok-say_next.ensures.others other apart ∙ c.answers.invariant.others other apart;
+      stops = tt;
+      fault = λ is. absurd (ok_apart _ _ is);
+      later = omega (arith, c.say_next.ensures.later, c.answers.invariant.later);
+      disk_faults = c.say_next.ensures.disk_faults ∙ c.answers.invariant.disk_faults;
+    }

@@ -2,7 +2,7 @@ use Rattle.std.proofs.Common.{◌≡◌, ◌∙◌, ℕ, List, None, get_or, tak
 use Rattle.part_steps.specs.States.{state_of}
 use Rattle.part_rounds.specs.Rounds.{next_answer}
 use Rattle.part_rounds.proofs.Queues.{still_none}
-use Rattle.hub_store.proofs.Stops.{ok_apart, same_stop, residual_is, risen_after}
+use Rattle.hub_store.proofs.Stops.{ok_apart, same_stop, residual_is, residual_of_stop, residual_on_ok, risen_after}
 use Rattle.part_rounds.proofs.Walks.{all_next, all_whole}
 use Rattle.part_rounds.proofs.saying.say_due.Goals as goal
 
@@ -30,16 +30,40 @@ loop-client-preserved g c =
       disk_faults = c.say_all.ensures.disk_faults ∙ c.loop-client.invariant.disk_faults;
     }
 
-pub returns-clause-none : goal.returns-clause-none
-returns-clause-none g c =
-    all_whole (λ (n : List ℕ). next_answer (state_of c.args.state.now) c.loop-client.port.queues n ≡ None) c.args.clients.now c.loop-client.client-index c.loop-client-test.false c.loop-client.invariant.none
+pub returns-in_err-say_all : goal.returns-in_err-say_all
+returns-in_err-say_all g c =
+    record {
+      tells = λ t. c.loop-client.invariant.tells (c.say_all.ensures.tells t);
+      sound = c.say_all.ensures.sound;
+      trail = c.say_all.ensures.trail ∙ c.loop-client.invariant.trail;
+      ways = c.say_all.ensures.ways ∙ c.loop-client.invariant.ways;
+      segment = c.say_all.ensures.segment ∙ c.loop-client.invariant.segment;
+      latest = c.say_all.ensures.latest ∙ c.loop-client.invariant.latest;
+      whole = λ apart. c.in_err-say_all.ensures.whole (λ is. apart (same_stop _ _ _ _ (residual_is _ _ c.from_residual.ensures.1) refl is));
+      still = residual_on_ok _ c.from_residual.result _ c.from_residual.ensures.1;
+      said = residual_on_ok _ c.from_residual.result _ c.from_residual.ensures.1;
+      none = residual_on_ok _ c.from_residual.result _ c.from_residual.ensures.1;
+      stops = residual_of_stop _ _ c.from_residual.ensures.1 c.in_err-say_all.ensures.stops;
+      fault = λ is. risen_after _ _ _ c.loop-client.invariant.later c.say_all.ensures.later (c.in_err-say_all.ensures.fault (same_stop _ _ _ _ refl (residual_is _ _ c.from_residual.ensures.1) is));
+      later = omega (arith, c.say_all.ensures.later, c.loop-client.invariant.later);
+      disk_faults = c.say_all.ensures.disk_faults ∙ c.loop-client.invariant.disk_faults;
+    }
 
-pub returns-in_err-say_all-clause-fault : goal.returns-in_err-say_all-clause-fault
-returns-in_err-say_all-clause-fault g c is =
-    risen_after _ _ _ c.loop-client.invariant.later c.say_all.ensures.later (c.in_err-say_all.ensures.fault (same_stop _ _ _ _ refl (residual_is _ _ c.from_residual.ensures.1) is))
-
-pub returns-in_err-say_all-clause-whole : goal.returns-in_err-say_all-clause-whole
-returns-in_err-say_all-clause-whole g c apart = c.in_err-say_all.ensures.whole (λ is. apart (same_stop _ _ _ _ (residual_is _ _ c.from_residual.ensures.1) refl is))
-
-pub returns-clause-fault : goal.returns-clause-fault
-returns-clause-fault g c is = absurd (ok_apart _ _ is)
+pub returns : goal.returns
+returns g c =
+    record {
+      tells = c.loop-client.invariant.tells;
+      sound = c.loop-client.invariant.sound;
+      trail = c.loop-client.invariant.trail;
+      ways = c.loop-client.invariant.ways;
+      segment = c.loop-client.invariant.segment;
+      latest = c.loop-client.invariant.latest;
+      whole = λ apart. c.loop-client.invariant.sound.uncut c.loop-client.invariant.still;
+      still = c.loop-client.invariant.still;
+      said = c.loop-client.invariant.said;
+      none = all_whole (λ (n : List ℕ). next_answer (state_of c.args.state.now) c.loop-client.port.queues n ≡ None) c.args.clients.now c.loop-client.client-index c.loop-client-test.false c.loop-client.invariant.none;
+      stops = tt;
+      fault = λ is. absurd (ok_apart _ _ is);
+      later = c.loop-client.invariant.later;
+      disk_faults = c.loop-client.invariant.disk_faults;
+    }
