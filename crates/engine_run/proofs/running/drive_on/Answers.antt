@@ -1,6 +1,6 @@
-use Rattle.std.proofs.Common.{◌≢◌, ◌∙◌, ◌≤◌, ℕ, List, [], Err, sym, ap, subst, arith}
+use Rattle.std.proofs.Common.{◌≢◌, ◌∙◌, ◌≤◌, ℕ, List, [], Err, refl, sym, ap, subst, arith}
 use Rattle.engine_run.specs.Ends.{EndsAs, IsLateCause, IsRestCause}
-use Rattle.engine_run.proofs.Ending.{at_rest, rest_ends, rest_late, stop_ends, stop_late, other_stop, site_stop, say_stop, clock_stop}
+use Rattle.engine_run.proofs.Ending.{at_rest, rest_ends, rest_late, stop_ends, stop_late, other_stop, site_stop, say_stop, clock_stop, memory_no_site, memory_no_say, memory_no_clock}
 use Rattle.engine_run.proofs.running.drive_on.Goals as goal
 use Rattle.hub_store.specs.Changes.{trail_in, told_in}
 use Rattle.hub_store.specs.Trail.{Settled, Said, of_part}
@@ -12,7 +12,7 @@ use Rattle.part_rounds.specs.Commits.{IsFull}
 use Rattle.part_rounds.specs.Rounds.{pairs_of}
 use Rattle.hub_store.specs.declared.stop.Stop.{Stop}
 use Rattle.run_causes.specs.declared.cause.Cause.{Cause}
-use Rattle.run_causes.specs.declared.cause.Cause.TheVariants.{SayFault}
+use Rattle.run_causes.specs.declared.cause.Cause.TheVariants.{SayFault, Memory}
 
 pub drive-requires-clause-sound : goal.drive-requires-clause-sound
 drive-requires-clause-sound g c = c.requires.sound
@@ -97,9 +97,9 @@ returns-in-Err-rest_cause g c = record {
   whole = λ other. c.drive.ensures.sound.uncut c.in-Ok-Rest.ensures.still;
   ends = λ tells. tt;
   late = tt;
-  fault = λ is. absurd (cc is);
-  say_fault = λ is. absurd (cc is);
-  clock_fault = λ is. absurd (cc is);
+  fault = λ is. absurd (memory_no_site Memory refl is);
+  say_fault = λ is. absurd (memory_no_say Memory refl is);
+  clock_fault = λ is. absurd (memory_no_clock Memory refl is);
   later = c.drive.ensures.later;
   say_later = c.drive.ensures.say_later;
   clock_later = c.drive.ensures.clock_later;

@@ -7,6 +7,7 @@ use Rattle.engine_run.specs.Causes.{Answers, Untouched}
 use Rattle.engine_run.specs.Headline.{Headline}
 use Rattle.engine_run.specs.Opened.{IsOpening}
 use Rattle.engine_run.specs.Showing.{ShowsAs, WritesNothing}
+use Rattle.engine_run.proofs.Ending.{memory_no_site, memory_no_say, memory_no_clock}
 use Rattle.engine_run.proofs.Opens.{opening_first}
 use Rattle.engine_run.proofs.Words.{run_is_within, run_same, run_no_show, none_no_call}
 use Rattle.engine_run.proofs.top.run_alone.Goals as goal
@@ -125,9 +126,9 @@ returns-in-Err-Memory g c =
           });
       shows = λ tells partitions asked. subst (ShowsAs (λ file. content_of file old) (tape old) (tape now)) (sym end.cause) (inl (ap (λ site. tape (g.V.Site.history site)) end.site));
       writes_nothing = λ partitions asked. record { mid = g.V.Site.history c.args.site; syncs = inl refl; files = λ file. ap (λ site. changes_of file (g.V.Site.history site)) c.end_with-in-Err-Memory.ensures.site };
-      fault = λ is. absurd (cc (end.cause, is));
-      say_fault = λ is. absurd (cc (end.cause, is));
-      clock_fault = λ is. absurd (cc (end.cause, is));
+      fault = λ is. absurd (memory_no_site c.end_with-in-Err-Memory.result.cause end.cause is);
+      say_fault = λ is. absurd (memory_no_say c.end_with-in-Err-Memory.result.cause end.cause is);
+      clock_fault = λ is. absurd (memory_no_clock c.end_with-in-Err-Memory.result.cause end.cause is);
       later = le_of_eq (ap g.V.Site.disk_faults (sym end.site));
       say_later = le_of_eq (ap g.V.Site.say_faults (sym end.site));
       clock_later = le_of_eq (ap g.C.Clock.clock_faults (sym end.clock));
