@@ -1,5 +1,5 @@
 -- Why rounds end.
-use Rattle.std.proofs.Common.{◌≡◌, ◌≢◌, ◌<◌, ◌≤◌, ℕ, List, [], ◌∷◌, Result, Err, get_or, refl, sym, ◌∙◌, ap, subst, arith}
+use Rattle.std.proofs.Common.{max, ◌≡◌, ◌≢◌, ◌<◌, ◌≤◌, ℕ, List, [], ◌∷◌, Result, Err, get_or, refl, sym, ◌∙◌, ap, subst, arith}
 use Rattle.std.specs.List.{All}
 use Rattle.client_port.specs.Clients.{clients_of}
 use Rattle.client_port.specs.Ports.{Queue}
@@ -172,3 +172,7 @@ memory_no_say cause is also = absurd (cc (is, also))
 
 pub memory_no_clock : (cause : Cause) → cause ≡ Memory → cause ≡ ClockFault → ⊥
 memory_no_clock cause is also = absurd (cc (is, also))
+
+-- no moment is above the clock's latest
+pub moment_above : (old new before now : ℕ) → new ≤ max old now → before ≤ now → old ≤ before → new ≤ now
+moment_above old new before now raised later under = omega (arith, raised, later, under)

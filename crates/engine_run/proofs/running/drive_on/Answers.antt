@@ -1,6 +1,6 @@
 use Rattle.std.proofs.Common.{◌≢◌, ◌∙◌, ◌≤◌, ℕ, List, [], Err, refl, sym, ap, subst, arith}
 use Rattle.engine_run.specs.Ends.{EndsAs, IsLateCause, IsRestCause}
-use Rattle.engine_run.proofs.Ending.{at_rest, rest_ends, rest_late, stop_ends, stop_late, other_stop, site_stop, say_stop, clock_stop, memory_no_site, memory_no_say, memory_no_clock}
+use Rattle.engine_run.proofs.Ending.{at_rest, rest_ends, rest_late, stop_ends, stop_late, other_stop, site_stop, say_stop, clock_stop, memory_no_site, memory_no_say, memory_no_clock, moment_above}
 use Rattle.engine_run.proofs.running.drive_on.Goals as goal
 use Rattle.hub_store.specs.Changes.{trail_in, told_in}
 use Rattle.hub_store.specs.Trail.{Settled, Said, of_part}
@@ -60,7 +60,7 @@ pub returns-in-Ok : goal.returns-in-Ok
 returns-in-Ok g c = record {
   tells = c.drive.ensures.tells;
   sound = c.drive.ensures.sound;
-  moment = omega (arith, c.drive.ensures.latest, c.drive.ensures.moments, c.requires.moment);
+  moment = moment_above _ _ _ _ c.drive.ensures.latest c.drive.ensures.moments c.requires.moment;
   whole = λ other. c.drive.ensures.sound.uncut c.in-Ok-Rest.ensures.still;
   ends = λ tells.
       let new = c.drive.new.store in
@@ -73,7 +73,7 @@ returns-in-Ok g c = record {
       let clients = c.args.clients.now in
       let raised = c.drive.ensures.latest in
       let later = c.drive.ensures.moments in
-      let above : new.latest ≤ latest = omega (arith, raised, later, c.requires.moment) in
+      let above : new.latest ≤ latest = moment_above _ _ _ _ raised later c.requires.moment in
       let may : (trail : List Settled) (told : List Said) (partition : ℕ) (going : List Entry) → g.N.Start.may_follow new.latest trail told partition going → g.N.Start.may_follow latest trail told partition going =
       λ trail told partition going follows. g.N.Start.later_follows new.latest latest trail told partition going above follows in
       let stands = with_later (g.N.Start.may_follow new.latest) (g.N.Start.may_follow latest) g.N.Start.may_say may o steps (trail_in new) (told_in new) [] (told.rests (c.drive.ensures.sound.uncut c.in-Ok-Rest.ensures.still)) in
@@ -93,7 +93,7 @@ pub returns-in-Err-rest_cause : goal.returns-in-Err-rest_cause
 returns-in-Err-rest_cause g c = record {
   tells = c.drive.ensures.tells;
   sound = c.drive.ensures.sound;
-  moment = omega (arith, c.drive.ensures.latest, c.drive.ensures.moments, c.requires.moment);
+  moment = moment_above _ _ _ _ c.drive.ensures.latest c.drive.ensures.moments c.requires.moment;
   whole = λ other. c.drive.ensures.sound.uncut c.in-Ok-Rest.ensures.still;
   ends = λ tells. tt;
   late = tt;
@@ -109,7 +109,7 @@ pub returns-in-Ok-Long : goal.returns-in-Ok-Long
 returns-in-Ok-Long g c = record {
   tells = c.drive.ensures.tells;
   sound = c.drive.ensures.sound;
-  moment = omega (arith, c.drive.ensures.latest, c.drive.ensures.moments, c.requires.moment);
+  moment = moment_above _ _ _ _ c.drive.ensures.latest c.drive.ensures.moments c.requires.moment;
   whole = λ other. c.drive.ensures.sound.uncut c.in-Ok-Long.ensures.still;
   ends = λ tells. subst (Leaves g.N.Ruled.rules (g.N.Start.origin.logs 0) c.drive.new.store.latest (of_part 0 (trail_in c.drive.new.store)) c.drive.new.port.queues c.args.clients.now c.args.options.steps) c.in-Ok-Long.field-0-is c.in-Ok-Long.ensures.leaves;
   late = tt;
@@ -125,7 +125,7 @@ pub returns-in-Err : goal.returns-in-Err
 returns-in-Err g c = record {
   tells = c.drive.ensures.tells;
   sound = c.drive.ensures.sound;
-  moment = omega (arith, c.drive.ensures.latest, c.drive.ensures.moments, c.requires.moment);
+  moment = moment_above _ _ _ _ c.drive.ensures.latest c.drive.ensures.moments c.requires.moment;
   whole = λ other. c.drive.ensures.whole (other_stop c.in-Err.stop (subst (λ (cause : Cause). cause ≢ SayFault) c.cause_of.ensures other) c.drive.result c.in-Err.is);
   ends = λ tells.
       let new = c.drive.new.store in
@@ -136,7 +136,7 @@ returns-in-Err g c = record {
       let latest = g.C.Clock.latest c.drive.new.clock in
       let raised = c.drive.ensures.latest in
       let later = c.drive.ensures.moments in
-      let above : new.latest ≤ latest = omega (arith, raised, later, c.requires.moment) in
+      let above : new.latest ≤ latest = moment_above _ _ _ _ raised later c.requires.moment in
       let segment = c.drive.ensures.segment ∙ c.requires.segment in
       subst (λ (cause : Cause). EndsAs (g.N.Start.may_follow latest) g.N.Start.may_say rules latest g.N.Start.origin steps (trail_in new) c.args.options.steps c.args.options.segment cause) (sym c.cause_of.ensures)
       (stop_ends (g.N.Start.may_follow latest) g.N.Start.may_say rules latest g.N.Start.origin steps (trail_in new) (told_in new) new.latest above c.args.options.steps c.args.options.segment (way_of new.ways.items 0) c.in-Err.stop c.requires.fits
