@@ -14,6 +14,7 @@ ghost use Rattle.site_model.specs.History.{changes_of, content_of, IsKept};
 ghost use Rattle.site_model.specs.Moments.{LeavesOnly};
 
 use commit_log::{Header, Resting};
+use flow_steps::Machines;
 use flow_syntax::Flows;
 use recover_core::{RecoverError, Recovered, recover};
 use run_causes::Cause;
@@ -62,7 +63,8 @@ pub(crate) fn recover_logs<V: Site>(
     ensures later { V.disk_faults site.old ≤ V.disk_faults site.new }
     ensures say_faults { V.say_faults site.new ≡ V.say_faults site.old }
 {
-    match recover(alloc, site, flows, digest) {
+    let machines = Machines::of(flows);
+    match recover(alloc, site, &machines, digest) {
         Ok(recovered) => Ok(recovered),
         Err(error) => Err(cause_of(error)),
     }

@@ -29,6 +29,7 @@ use activity_table::Activities;
 use client_port::Port;
 use command_words::RunOptions;
 use dura_value::{Name, Request};
+use flow_steps::Machines;
 use flow_syntax::Flows;
 use hub_store::{Ended as Settled, Stage, Stop, Store, Trail};
 use part_rounds::{End, Ruled, drive};
@@ -137,9 +138,10 @@ fn drive_on<V: Site, N: Ruled, C: Clock, A: Activities>(
     ensures say_later { V.say_faults store.old.site ≤ V.say_faults store.new.site }
     ensures clock_later { C.clock_faults clock.old ≤ C.clock_faults clock.new }
 {
+    let machines = Machines::of(flows);
     match drive(
         alloc,
-        flows,
+        &machines,
         acts,
         clock,
         store,

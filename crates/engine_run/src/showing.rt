@@ -6,6 +6,7 @@ ghost use Rattle.site_model.specs.Calls.{HasRisen};
 ghost use Rattle.site_model.specs.History.{content_of, tape};
 
 use crate::opening::recover_logs;
+use flow_steps::Machines;
 use run_causes::Cause;
 use run_inputs::{FlowFile, read_flow_file};
 use site_model::Site;
@@ -32,7 +33,8 @@ pub(crate) fn show<V: Site>(alloc: Global, site: &mut V) -> Cause
         Ok(recovered) => recovered,
         Err(cause) => return cause,
     };
-    let said = say_table(alloc, site, &flows, &recovered.state);
+    let machines = Machines::of(&flows);
+    let said = say_table(alloc, site, &machines, &recovered.state);
     drop(recovered);
     match said {
         Ok(()) => Cause::Done,

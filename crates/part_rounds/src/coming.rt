@@ -1,7 +1,6 @@
 //! What comes next.
 
 ghost use Rattle.std.specs.Prelude.{◌≡◌, ◌<◌, ◌≤◌, List, true, Err, IfOk, IfErr};
-ghost use Rattle.flow_syntax.specs.Views.{flows_of};
 ghost use Rattle.hub_store.specs.Trail.{Said};
 ghost use Rattle.part_rounds.specs.Comes.{Comes, FillsNext, IsByNow};
 ghost use Rattle.hub_store.specs.Stops.{is_of_clock};
@@ -15,8 +14,8 @@ use crate::filling_on::{Chance, gather};
 use activity_table::Activities;
 use client_port::Port;
 use dura_value::Name;
-use flow_syntax::Flows;
 use hub_store::Stop;
+use part_rows::Reactions;
 use part_steps::PartState;
 use site_model::{Clock, LAST_MOMENT};
 use std::alloc::Global;
@@ -31,9 +30,9 @@ pub(crate) enum Coming {
 
 /// Reads the clock and fills an entry that has begun. Where nothing is possible it waits until the first timer is due, and fills it
 /// then; a timer that is due behind the last moment is never reached, which ends in `Memory`.
-pub(crate) fn take_next<A: Activities, C: Clock>(
+pub(crate) fn take_next<R: Reactions, A: Activities, C: Clock>(
     alloc: Global,
-    flows: &Flows,
+    reactions: &R,
     acts: &A,
     clock: &mut C,
     state: PartState,
@@ -46,8 +45,8 @@ pub(crate) fn take_next<A: Activities, C: Clock>(
     requires one { count_of state ≡ 1 }
     requires begun { 0 < (state_of state).position }
     requires some { 0 < limit }
-    ensures fills { (rules : Rules) (told : List Said) → rules.flows ≡ flows_of flows.now → HasSaid rules told port.now.queues → IfOk result (λ next. FillsNext rules (pairs_of told) (state_of state) next) }
-    ensures comes { IfOk result (λ next. Comes (flows_of flows.now) (state_of state) port.now.queues clients.now limit next) }
+    ensures fills { (rules : Rules) (told : List Said) → rules.flows ≡ R.flows reactions.now → HasSaid rules told port.now.queues → IfOk result (λ next. FillsNext rules (pairs_of told) (state_of state) next) }
+    ensures comes { IfOk result (λ next. Comes (R.flows reactions.now) (state_of state) port.now.queues clients.now limit next) }
     ensures moment { IfOk result (λ next. IsByNow (state_of state) (C.latest clock.new) next) }
     ensures latest { C.latest clock.old ≤ C.latest clock.new }
     ensures stops { IfErr result (λ stop. is_of_clock stop ≡ true) }
@@ -62,7 +61,7 @@ pub(crate) fn take_next<A: Activities, C: Clock>(
         }
     };
     let chance = Chance { now, word };
-    let first = gather(alloc, flows, acts, state, port, clients, chance, limit)?;
+    let first = gather(alloc, reactions, acts, state, port, clients, chance, limit)?;
     if !first.items.is_empty() {
         return Ok(Coming::Filled(first, now));
     }
@@ -79,7 +78,7 @@ pub(crate) fn take_next<A: Activities, C: Clock>(
         }
     };
     let chance = Chance { now: later, word };
-    let second = gather(alloc, flows, acts, state, port, clients, chance, limit)?;
+    let second = gather(alloc, reactions, acts, state, port, clients, chance, limit)?;
     if second.items.is_empty() {
         drop(second);
         return Err(Stop::Memory);

@@ -1,14 +1,13 @@
 //! Filling an entry.
 
 ghost use Rattle.std.specs.Prelude.{◌≡◌, ◌<◌, ◌≤◌, ◌-◌, max, IfOk, length};
-ghost use Rattle.flow_syntax.specs.Views.{flows_of};
 ghost use Rattle.part_rounds.specs.Fills.{IsUnderWay, GoesOn, Puts};
 ghost use Rattle.part_steps.specs.Enabled.{NoneEnabled, moment_at};
 ghost use Rattle.part_steps.specs.States.{state_of};
 ghost use Rattle.run_rules.specs.Rules.{Rules, Told};
 
-use flow_syntax::Flows;
 use part_items::Item;
+use part_rows::Reactions;
 use part_steps::{PartState, Verdict, next_items};
 use std::alloc::{AllocError, Global};
 use with_value::with;
@@ -23,17 +22,17 @@ pub(crate) struct Filling {
 }
 
 /// Puts an item behind the others, where it is accepted.
-pub(crate) fn put(
+pub(crate) fn put<R: Reactions>(
     alloc: Global,
-    flows: &Flows,
+    reactions: &R,
     filling: Filling,
     item: Item,
 ) -> Result<Filling, AllocError>
     requires way { IsUnderWay filling }
-    ensures puts { IfOk result (λ next. Puts (flows_of flows.now) filling item next) }
+    ensures puts { IfOk result (λ next. Puts (R.flows reactions.now) filling item next) }
 {
     let Filling { state, mut items } = filling;
-    let verdict = match state.apply(alloc, flows, &item) {
+    let verdict = match state.apply(alloc, reactions, &item) {
         Ok(verdict) => verdict,
         Err(error) => {
             drop(item);
@@ -54,25 +53,25 @@ pub(crate) fn put(
 }
 
 /// Puts the deliveries and timers that are possible now behind the others, up to so many items in all.
-pub(crate) fn fill(
+pub(crate) fn fill<R: Reactions>(
     alloc: Global,
-    flows: &Flows,
+    reactions: &R,
     filling: Filling,
     now: u64,
     limit: u32,
 ) -> Result<Filling, AllocError>
     requires way { IsUnderWay filling }
     requires room { length filling.items.items ≤ limit }
-    ensures goes_on { (rules : Rules) (told : Told) → rules.flows ≡ flows_of flows.now → IfOk result (λ next. GoesOn rules told filling next) }
+    ensures goes_on { (rules : Rules) (told : Told) → rules.flows ≡ R.flows reactions.now → IfOk result (λ next. GoesOn rules told filling next) }
     ensures under_way { IfOk result (λ next. IsUnderWay next) }
     ensures few { IfOk result (λ next. length next.items.items ≤ limit) }
     ensures moment { IfOk result (λ next. (state_of next.state).stamp ≤ max (state_of filling.state).stamp now) }
     ensures none { length filling.items.items < limit → IfOk result (λ next. length next.items.items ≡ length filling.items.items
-        → (state_of next.state ≡ state_of filling.state) × NoneEnabled (flows_of flows.now) 1 (state_of filling.state) (moment_at (state_of filling.state) now)) }
+        → (state_of next.state ≡ state_of filling.state) × NoneEnabled (R.flows reactions.now) 1 (state_of filling.state) (moment_at (state_of filling.state) now)) }
 {
     let Filling { state, mut items } = filling;
     let room = limit.saturating_sub(items.len() as u32);
-    let mut batch = next_items(alloc, flows, state, now, room)?;
+    let mut batch = next_items(alloc, reactions, state, now, room)?;
     match items.append(&mut batch.items) {
         Ok(()) => Ok(Filling {
             state: batch.state,

@@ -3,7 +3,6 @@
 ghost use Rattle.std.specs.Prelude.{◌≡◌, ◌<◌, ◌≤◌, max, List, [], IfOk, IfErr, length};
 ghost use Rattle.std.specs.List.{All};
 ghost use Rattle.part_items.specs.ItemFits.{FitsItem};
-ghost use Rattle.flow_syntax.specs.Views.{flows_of};
 ghost use Rattle.hub_store.specs.Trail.{Said};
 ghost use Rattle.part_items.specs.Plain.{items_of};
 ghost use Rattle.part_rounds.specs.Fills.{IsUnderWay, Fills, GoesOn, CantTake, IsIdle};
@@ -19,8 +18,8 @@ use crate::taking::take_due;
 use activity_table::Activities;
 use client_port::Port;
 use dura_value::Name;
-use flow_syntax::Flows;
 use hub_store::Stop;
+use part_rows::Reactions;
 use part_steps::PartState;
 use std::alloc::Global;
 
@@ -35,9 +34,9 @@ pub(crate) struct Chance {
 
 /// Fills an entry on with what is due of clients, and then with the deliveries and timers that are possible now, up to so many items
 /// in all. Items that can't be written are taken for want of memory: values are within the limits by the rules of the language.
-pub(crate) fn fill_on(
+pub(crate) fn fill_on<R: Reactions>(
     alloc: Global,
-    flows: &Flows,
+    reactions: &R,
     filling: Filling,
     port: &Port,
     clients: &[Name],
@@ -46,18 +45,18 @@ pub(crate) fn fill_on(
 ) -> Result<Filling, Stop>
     requires way { IsUnderWay filling }
     requires room { length filling.items.items ≤ limit }
-    ensures goes_on { (rules : Rules) (told : List Said) → rules.flows ≡ flows_of flows.now → HasSaid rules told port.now.queues → IfOk result (λ next. GoesOn rules (pairs_of told) filling next) }
+    ensures goes_on { (rules : Rules) (told : List Said) → rules.flows ≡ R.flows reactions.now → HasSaid rules told port.now.queues → IfOk result (λ next. GoesOn rules (pairs_of told) filling next) }
     ensures few { IfOk result (λ next. length next.items.items ≤ limit) }
     ensures moment { IfOk result (λ next. (state_of next.state).stamp ≤ max (state_of filling.state).stamp now) }
     ensures fit { IfOk result (λ next. All FitsItem (items_of next.items.items)) }
     ensures under_way { IfOk result (λ next. IsUnderWay next) }
     ensures longer { IfOk result (λ next. length filling.items.items ≤ length next.items.items) }
     ensures none { length filling.items.items < limit → IfOk result (λ next. length next.items.items ≡ length filling.items.items → (state_of next.state ≡ state_of filling.state)
-        × All (λ name. CantTake (flows_of flows.now) (state_of filling.state) port.now.queues name) clients.now × NoneEnabled (flows_of flows.now) 1 (state_of filling.state) (moment_at (state_of filling.state) now)) }
+        × All (λ name. CantTake (R.flows reactions.now) (state_of filling.state) port.now.queues name) clients.now × NoneEnabled (R.flows reactions.now) 1 (state_of filling.state) (moment_at (state_of filling.state) now)) }
     ensures stops { IfErr result (λ stop. stop ≡ Stop.Memory) }
 {
-    let taken = take_due(alloc, flows, filling, port, clients, limit)?;
-    let filled = fill(alloc, flows, taken, now, limit)?;
+    let taken = take_due(alloc, reactions, filling, port, clients, limit)?;
+    let filled = fill(alloc, reactions, taken, now, limit)?;
     if !all_fit(&filled.items) {
         drop(filled);
         return Err(Stop::Memory);
@@ -67,9 +66,9 @@ pub(crate) fn fill_on(
 
 /// Fills an entry that has begun: with the outcome of an activity that is pending, then with what is due of clients, then with the
 /// deliveries and timers that are possible now.
-pub(crate) fn gather<A: Activities>(
+pub(crate) fn gather<R: Reactions, A: Activities>(
     alloc: Global,
-    flows: &Flows,
+    reactions: &R,
     acts: &A,
     state: PartState,
     port: &Port,
@@ -81,20 +80,20 @@ pub(crate) fn gather<A: Activities>(
     requires one { count_of state ≡ 1 }
     requires begun { 0 < (state_of state).position }
     requires some { 0 < limit }
-    ensures fills { (rules : Rules) (told : List Said) → rules.flows ≡ flows_of flows.now → HasSaid rules told port.now.queues → IfOk result (λ next. Fills rules (pairs_of told) (state_of state) (items_of next.items.items) (state_of next.state)) }
+    ensures fills { (rules : Rules) (told : List Said) → rules.flows ≡ R.flows reactions.now → HasSaid rules told port.now.queues → IfOk result (λ next. Fills rules (pairs_of told) (state_of state) (items_of next.items.items) (state_of next.state)) }
     ensures under_way { IfOk result (λ next. IsUnderWay next) }
     ensures few { IfOk result (λ next. length next.items.items ≤ limit) }
     ensures moment { IfOk result (λ next. (state_of next.state).stamp ≤ max (state_of state).stamp chance.now) }
     ensures fit { IfOk result (λ next. All FitsItem (items_of next.items.items)) }
     ensures none { IfOk result (λ next. next.items.items ≡ [] → (state_of next.state ≡ state_of state)
-        × IsIdle (flows_of flows.now) (state_of state) port.now.queues clients.now chance.now) }
+        × IsIdle (R.flows reactions.now) (state_of state) port.now.queues clients.now chance.now) }
     ensures stops { IfErr result (λ stop. stop ≡ Stop.Memory) }
 {
     let begun = Filling {
         state,
         items: Vec::new(alloc),
     };
-    let ended = run_pending(alloc, flows, acts, begun, chance.word)?;
-    let filled = fill_on(alloc, flows, ended, port, clients, chance.now, limit)?;
+    let ended = run_pending(alloc, reactions, acts, begun, chance.word)?;
+    let filled = fill_on(alloc, reactions, ended, port, clients, chance.now, limit)?;
     Ok(filled)
 }

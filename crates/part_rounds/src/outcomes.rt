@@ -3,7 +3,6 @@
 ghost use Rattle.std.specs.List.{All};
 ghost use Rattle.std.specs.Prelude.{◌≡◌, ◌≤◌, [], true, IfOk, IfSome, IfNone, length};
 ghost use Rattle.activity_table.specs.Table.{may};
-ghost use Rattle.flow_syntax.specs.Views.{flows_of};
 ghost use Rattle.part_items.specs.Plain.{item_of, items_of};
 ghost use Rattle.part_rounds.specs.Fills.{IsUnderWay, GoesOn, IsOfPending, CantEnd};
 ghost use Rattle.part_steps.specs.Quiet.{NoActivity};
@@ -14,9 +13,8 @@ use crate::filling::{Filling, put};
 use activity_table::Activities;
 use dura_value::Outcome;
 use flow_messages::copy_id;
-use flow_syntax::Flows;
 use part_items::Item;
-use part_rows::Activity;
+use part_rows::{Activity, Reactions};
 use part_steps::PartState;
 use std::alloc::{AllocError, Global};
 use with_value::with;
@@ -58,16 +56,16 @@ fn outcome_of_pending<A: Activities>(
 }
 
 /// Runs the activity that is pending first, and puts its outcome.
-pub(crate) fn run_pending<A: Activities>(
+pub(crate) fn run_pending<R: Reactions, A: Activities>(
     alloc: Global,
-    flows: &Flows,
+    reactions: &R,
     acts: &A,
     filling: Filling,
     word: u64,
 ) -> Result<Filling, AllocError>
     requires way { IsUnderWay filling }
     requires empty { filling.items.items ≡ [] }
-    ensures goes_on { (rules : Rules) (told : Told) → rules.flows ≡ flows_of flows.now → IfOk result (λ next. GoesOn rules told filling next) }
+    ensures goes_on { (rules : Rules) (told : Told) → rules.flows ≡ R.flows reactions.now → IfOk result (λ next. GoesOn rules told filling next) }
     ensures few { IfOk result (λ next. length next.items.items ≤ 1) }
     ensures moment { IfOk result (λ next. (state_of next.state).stamp ≡ (state_of filling.state).stamp) }
     ensures none { IfOk result (λ next. next.items.items ≡ [] → state_of next.state ≡ state_of filling.state) }
@@ -83,7 +81,7 @@ pub(crate) fn run_pending<A: Activities>(
     };
     match pending {
         Some(item) => {
-            let next = put(alloc, flows, filling, item)?;
+            let next = put(alloc, reactions, filling, item)?;
             Ok(next)
         }
         None => Ok(filling),

@@ -1,7 +1,6 @@
 //! One round after the other.
 
 ghost use Rattle.std.specs.Prelude.{◌≡◌, ◌≢◌, ◌<◌, ◌≤◌, ◌+◌, ◌^◌, max, ℕ, [], false, Err, IfOk, OnOk, length};
-ghost use Rattle.flow_syntax.specs.Views.{flows_of};
 ghost use Rattle.hub_store.specs.Changes.{stage_at, trail_in, told_in};
 ghost use Rattle.hub_store.specs.Sound.{IsSound};
 ghost use Rattle.hub_store.specs.Trail.{of_part};
@@ -22,8 +21,8 @@ use crate::saying::say_due;
 use activity_table::{Activities, word};
 use client_port::Port;
 use dura_value::Name;
-use flow_syntax::Flows;
 use hub_store::{Stage, Stop, Store};
+use part_rows::Reactions;
 use part_steps::PartState;
 use site_model::{Clock, Site};
 use std::alloc::Global;
@@ -101,9 +100,9 @@ fn settle_filling<V: Site, N: Ruled>(
 
 /// One round in an entry that has begun: what comes next is committed, and what it answers is said. The word that an activity
 /// runs with is a digest of this life and the entry's place.
-fn go_round<V: Site, N: Ruled, A: Activities, C: Clock>(
+fn go_round<V: Site, N: Ruled, R: Reactions, A: Activities, C: Clock>(
     alloc: Global,
-    flows: &Flows,
+    reactions: &R,
     acts: &A,
     clock: &mut C,
     store: &mut Store<V, N>,
@@ -116,7 +115,7 @@ fn go_round<V: Site, N: Ruled, A: Activities, C: Clock>(
     requires sound { IsSound store.old }
     requires going { store.old.halted ≡ false }
     requires rests { stage_at store.old 0 ≡ Stage.Resting }
-    requires flows { N.rules.flows ≡ flows_of flows.now }
+    requires flows { N.rules.flows ≡ R.flows reactions.now }
     requires life { life ≡ N.rules.life }
     requires short { life < 2 ^ 62 }
     requires some { 0 < limit }
@@ -149,7 +148,7 @@ fn go_round<V: Site, N: Ruled, A: Activities, C: Clock>(
     }
     let chance = word(life, 0, position);
     match take_next(
-        alloc, flows, acts, clock, state, port, clients, chance, limit,
+        alloc, reactions, acts, clock, state, port, clients, chance, limit,
     )? {
         Coming::Filled(filling, now) => {
             store.raise(now);
@@ -163,9 +162,9 @@ fn go_round<V: Site, N: Ruled, A: Activities, C: Clock>(
 
 /// Goes on round by round from a settled state, until nothing is possible any more, or until there are as many labels as there may be:
 /// first what is answered already is said.
-pub fn drive<V: Site, N: Ruled, A: Activities, C: Clock>(
+pub fn drive<V: Site, N: Ruled, R: Reactions, A: Activities, C: Clock>(
     alloc: Global,
-    flows: &Flows,
+    reactions: &R,
     acts: &A,
     clock: &mut C,
     store: &mut Store<V, N>,
@@ -179,7 +178,7 @@ pub fn drive<V: Site, N: Ruled, A: Activities, C: Clock>(
     requires sound { IsSound store.old }
     requires going { store.old.halted ≡ false }
     requires rests { stage_at store.old 0 ≡ Stage.Resting }
-    requires flows { N.rules.flows ≡ flows_of flows.now }
+    requires flows { N.rules.flows ≡ R.flows reactions.now }
     requires life { life ≡ N.rules.life }
     requires short { life < 2 ^ 62 }
     requires some { 0 < limit }
@@ -219,7 +218,7 @@ pub fn drive<V: Site, N: Ruled, A: Activities, C: Clock>(
     let mut labels = 0u64;
     'rounds: while labels < steps as u64 {
         match go_round(
-            alloc, flows, acts, clock, store, port, clients, state, life, limit,
+            alloc, reactions, acts, clock, store, port, clients, state, life, limit,
         )? {
             Round::On(next, more) => {
                 state = next;

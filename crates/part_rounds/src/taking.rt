@@ -6,7 +6,6 @@ ghost use Rattle.dura_value.specs.Views.{message_of};
 ghost use Rattle.client_port.specs.Ports.{due_of};
 ghost use Rattle.dura_value.specs.Ids.{client as a_client};
 ghost use Rattle.dura_value.specs.Items.{took};
-ghost use Rattle.flow_syntax.specs.Views.{flows_of};
 ghost use Rattle.hub_store.specs.Trail.{Said};
 ghost use Rattle.part_items.specs.Plain.{item_of, items_of};
 ghost use Rattle.part_rounds.specs.Fills.{IsUnderWay, GoesOn, CantTake};
@@ -19,9 +18,8 @@ use crate::filling::{Filling, put};
 use crate::saying::client_of;
 use client_port::Port;
 use dura_value::{Message, Name};
-use flow_syntax::Flows;
 use part_items::Item;
-use part_rows::copy_message;
+use part_rows::{Reactions, copy_message};
 use part_steps::PartState;
 use std::alloc::{AllocError, Global};
 
@@ -43,20 +41,20 @@ fn due_message(state: &PartState, port: &Port, client: &Name) -> Result<Option<M
 }
 
 /// Takes what is due of a client, if it is accepted.
-fn take_of(
+fn take_of<R: Reactions>(
     alloc: Global,
-    flows: &Flows,
+    reactions: &R,
     filling: Filling,
     port: &Port,
     client: &Name,
 ) -> Result<Filling, AllocError>
     requires way { IsUnderWay filling }
-    ensures goes_on { (rules : Rules) (told : List Said) → rules.flows ≡ flows_of flows.now → HasSaid rules told port.now.queues → IfOk result (λ next. GoesOn rules (pairs_of told) filling next) }
+    ensures goes_on { (rules : Rules) (told : List Said) → rules.flows ≡ R.flows reactions.now → HasSaid rules told port.now.queues → IfOk result (λ next. GoesOn rules (pairs_of told) filling next) }
     ensures under_way { IfOk result (λ next. IsUnderWay next) }
     ensures longer { IfOk result (λ next. length filling.items.items ≤ length next.items.items) }
     ensures one { IfOk result (λ next. length next.items.items ≤ length filling.items.items + 1) }
     ensures moment { IfOk result (λ next. (state_of next.state).stamp ≡ (state_of filling.state).stamp) }
-    ensures none { IfOk result (λ next. length next.items.items ≡ length filling.items.items → (state_of next.state ≡ state_of filling.state) × CantTake (flows_of flows.now) (state_of filling.state) port.now.queues client.now) }
+    ensures none { IfOk result (λ next. length next.items.items ≡ length filling.items.items → (state_of next.state ≡ state_of filling.state) × CantTake (R.flows reactions.now) (state_of filling.state) port.now.queues client.now) }
 {
     let due = match due_message(&filling.state, port, client) {
         Ok(due) => due,
@@ -67,7 +65,7 @@ fn take_of(
     };
     match due {
         Some(message) => {
-            let next = put(alloc, flows, filling, Item::Took(message))?;
+            let next = put(alloc, reactions, filling, Item::Took(message))?;
             Ok(next)
         }
         None => Ok(filling),
@@ -75,9 +73,9 @@ fn take_of(
 }
 
 /// Takes what is due of these clients, up to so many items in all.
-pub(crate) fn take_due(
+pub(crate) fn take_due<R: Reactions>(
     alloc: Global,
-    flows: &Flows,
+    reactions: &R,
     filling: Filling,
     port: &Port,
     clients: &[Name],
@@ -85,20 +83,20 @@ pub(crate) fn take_due(
 ) -> Result<Filling, AllocError>
     requires way { IsUnderWay filling }
     requires room { length filling.items.items ≤ limit }
-    ensures goes_on { (rules : Rules) (told : List Said) → rules.flows ≡ flows_of flows.now → HasSaid rules told port.now.queues → IfOk result (λ next. GoesOn rules (pairs_of told) filling next) }
+    ensures goes_on { (rules : Rules) (told : List Said) → rules.flows ≡ R.flows reactions.now → HasSaid rules told port.now.queues → IfOk result (λ next. GoesOn rules (pairs_of told) filling next) }
     ensures under_way { IfOk result (λ next. IsUnderWay next) }
     ensures longer { IfOk result (λ next. length filling.items.items ≤ length next.items.items) }
     ensures few { IfOk result (λ next. length next.items.items ≤ limit) }
     ensures moment { IfOk result (λ next. (state_of next.state).stamp ≡ (state_of filling.state).stamp) }
     ensures none { length filling.items.items < limit → IfOk result (λ next. length next.items.items ≡ length filling.items.items
-        → (state_of next.state ≡ state_of filling.state) × All (λ name. CantTake (flows_of flows.now) (state_of filling.state) port.now.queues name) clients.now) }
+        → (state_of next.state ≡ state_of filling.state) × All (λ name. CantTake (R.flows reactions.now) (state_of filling.state) port.now.queues name) clients.now) }
 {
     let mut filling = filling;
     for client in clients {
         if filling.items.len() as u64 == limit as u64 {
             return Ok(filling);
         }
-        filling = take_of(alloc, flows, filling, port, client)?;
+        filling = take_of(alloc, reactions, filling, port, client)?;
     }
     Ok(filling)
 }

@@ -2,4 +2,5 @@ pub mod Accepts
 pub mod Open
 pub mod Parts
 pub mod Queues
+pub mod Reactions
 pub mod Views

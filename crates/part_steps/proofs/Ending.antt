@@ -19,7 +19,7 @@ some_same : {X : Type 0} {x y : X} → Some x ≡ Some y → x ≡ y
 some_same is = cc
 
 -- outputs without answers
-abbrev alone : List Message → Outputs
+abbrev pub alone : List Message → Outputs
 alone sent = record { sent = sent; answers = [] }
 
 module _ (flows : Flows) (count : ℕ) (p : Partition) (id : Id) (task : ℕ) where

@@ -1,11 +1,8 @@
-pub mod Answering
-pub mod AtEnds
 pub mod Batching
 pub mod Copying
 pub mod Delivering
 pub mod Enabling
 pub mod Ending
-pub mod EventsOf
 pub mod Looking
 pub mod PutBack
 pub mod Sound

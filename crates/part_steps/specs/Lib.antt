@@ -1,10 +1,9 @@
 pub mod Applied
 pub mod Batches
 pub mod Enabled
-pub mod Ends
+pub mod Kept
 pub mod Listing
 pub mod Outputs
 pub mod Quiet
 pub mod Reached
 pub mod States
-pub mod Views

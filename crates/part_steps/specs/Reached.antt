@@ -3,11 +3,11 @@ use Rattle.std.specs.Prelude.{ℕ, List, Bool, false, ◌&&◌, nat_le, Option, 
 use Rattle.dura_value.specs.Ids.{Id, orchestration, entity, client}
 use Rattle.dura_value.specs.Messages.{Body}
 use Rattle.flow_syntax.specs.Syntax.{Flows}
-use Rattle.flow_syntax.specs.Entity.{Delivered, deliver as deliver_to}
+use Rattle.flow_syntax.specs.Entity.{Delivered}
 use Rattle.dura_model.specs.Deliveries.{to_instance}
-use Rattle.dura_model.specs.Steps.{entity_of}
 use Rattle.dura_model.specs.Partition.{Row, Partition, instance_at, event_of, stands_in, entity_after, client_received}
 use Rattle.part_rows.specs.Open.{lets_in, last_at}
+use Rattle.part_rows.specs.Reactions.{delivered}
 
 -- whether a receiver takes what a sender sends it at this moment, which isn't before its last
 abbrev pub takes_at : Partition → (from to : Id) → ℕ → Bool
@@ -20,7 +20,7 @@ instance_reached flows count p from to stamp body =
 
 -- what a message makes of an entity of a class at this moment
 abbrev pub delivered_at : Flows → Partition → (class : List ℕ) → (from to : Id) → ℕ → Body → Delivered
-delivered_at flows p class from to stamp body = deliver_to flows (record (entity_of flows class (p.entities to)) { last = stamp }) class from to body
+delivered_at flows p class from to stamp body = delivered flows class (p.entities to) from to stamp body
 
 -- a message reaches an entity of a class
 abbrev pub entity_reached : Flows → ℕ → Partition → (class : List ℕ) → (from to : Id) → ℕ → Body → Partition

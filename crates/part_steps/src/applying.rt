@@ -3,32 +3,26 @@
 ghost use Rattle.std.specs.Prelude.{◌≡◌, ◌<◌, ◌∷◌, [], Some, None, is_some, map, IfOk, OnOk};
 ghost use Rattle.dura_value.specs.Items.{ran, ended, fired};
 ghost use Rattle.dura_value.specs.Views.{id_of, answer_of, body_of as said_of, message_of, messages_of};
-ghost use Rattle.flow_syntax.specs.Machine.{resulted};
-ghost use Rattle.flow_syntax.specs.Views.{flows_of};
-ghost use Rattle.flow_messages.specs.Views.{event_of};
 ghost use Rattle.timer_row.specs.Timers.{InOrder};
 ghost use Rattle.part_items.specs.Plain.{item_of};
-ghost use Rattle.dura_model.specs.Deliveries.{goes_on_from};
 ghost use Rattle.dura_model.specs.Steps.{answer_of as answer_to};
-ghost use Rattle.dura_model.specs.Partition.{raised_to, got_in, trim_in, stands_in, accepted};
+ghost use Rattle.dura_model.specs.Partition.{raised_to, got_in, trim_in, accepted};
 ghost use Rattle.dura_model.specs.World.{at_number};
 ghost use Rattle.part_rows.specs.Accepts.{accepted_request};
 ghost use Rattle.part_rows.specs.Views.{identity_of};
 ghost use Rattle.part_rows.specs.Parts.{part_of};
+ghost use Rattle.part_rows.specs.Reactions.{reaction_of};
 ghost use Rattle.part_steps.specs.Applied.{Applied};
+ghost use Rattle.part_steps.specs.Kept.{kept_in};
 ghost use Rattle.part_steps.specs.Outputs.{sent_to, answered_to, answered_of, outputs_by, outputs_of};
 ghost use Rattle.part_steps.specs.Reached.{fires_at, reached};
-ghost use Rattle.part_steps.specs.Views.{instance_of};
 
-use crate::ends::go_on_from;
-use crate::instance::Instance;
 use crate::keeping::keep;
-use crate::reaching::{answers_to, instance_at, reach, takes_at};
+use crate::reaching::{answers_to, reach, takes_at};
 use dura_value::{Answer, Answered, Answers, Id, Message, Messages, Outcome, Outputs};
 use flow_messages::{Event, copy_text, copy_value};
-use flow_syntax::Flows;
 use part_items::Item;
-use part_rows::{Identity, PartRows, copy_message};
+use part_rows::{Identity, PartRows, Reaction, Reactions, copy_message};
 use std::alloc::{AllocError, Global};
 use with_value::with;
 
@@ -101,30 +95,30 @@ fn let_go(alloc: Global, rows: &mut PartRows, reader: Identity, number: u64) -> 
 }
 
 /// A message that left the queue reaches its receiver, who takes it.
-fn reach_first(
+fn reach_first<R: Reactions>(
     alloc: Global,
-    flows: &Flows,
+    reactions: &R,
     rows: &mut PartRows,
     message: &Message,
     stamp: u64,
 ) -> Result<Outputs, AllocError>
     requires order { InOrder rows.old.timers }
     requires partitions { 0 < rows.old.partitions }
-    ensures outputs { IfOk result (λ made. outputs_of made ≡ record { sent = sent_to (flows_of flows.now) (raised_to stamp (part_of rows.old)) (id_of message.now.from) (id_of message.now.to) stamp (said_of message.now.body); answers = answered_to (raised_to stamp (part_of rows.old)) (id_of message.now.to) (Some (said_of message.now.body)) }) }
-    ensures stands { OnOk result (part_of rows.new ≡ reached (flows_of flows.now) rows.old.partitions (raised_to stamp (part_of rows.old)) (id_of message.now.from) (id_of message.now.to) stamp (said_of message.now.body)) }
+    ensures outputs { IfOk result (λ made. outputs_of made ≡ record { sent = sent_to (R.flows reactions.now) (raised_to stamp (part_of rows.old)) (id_of message.now.from) (id_of message.now.to) stamp (said_of message.now.body); answers = answered_to (raised_to stamp (part_of rows.old)) (id_of message.now.to) (Some (said_of message.now.body)) }) }
+    ensures stands { OnOk result (part_of rows.new ≡ reached (R.flows reactions.now) rows.old.partitions (raised_to stamp (part_of rows.old)) (id_of message.now.from) (id_of message.now.to) stamp (said_of message.now.body)) }
     ensures order { OnOk result (InOrder rows.new.timers) }
     ensures partitions { rows.new.partitions ≡ rows.old.partitions }
 {
     rows.raise_to(stamp);
     let answers = answers_to(alloc, rows, &message.to, &message.body)?;
-    let sent = reach(alloc, flows, rows, message, stamp)?;
+    let sent = reach(alloc, reactions, rows, message, stamp)?;
     Ok(outputs(sent, answers))
 }
 
 /// The first message of a link is delivered at this moment.
-fn run(
+fn run<R: Reactions>(
     alloc: Global,
-    flows: &Flows,
+    reactions: &R,
     rows: &mut PartRows,
     from: &Id,
     to: &Id,
@@ -132,7 +126,7 @@ fn run(
 ) -> Result<Option<Outputs>, AllocError>
     requires order { InOrder rows.old.timers }
     requires partitions { 0 < rows.old.partitions }
-    ensures applied { IfOk result (λ made. Applied made (part_of rows.old) (part_of rows.new) (accepted (flows_of flows.now) rows.old.partitions (part_of rows.old) (ran (id_of from.now) (id_of to.now) stamp)) (outputs_by (flows_of flows.now) (part_of rows.old) (ran (id_of from.now) (id_of to.now) stamp))) }
+    ensures applied { IfOk result (λ made. Applied made (part_of rows.old) (part_of rows.new) (accepted (R.flows reactions.now) rows.old.partitions (part_of rows.old) (ran (id_of from.now) (id_of to.now) stamp)) (outputs_by (R.flows reactions.now) (part_of rows.old) (ran (id_of from.now) (id_of to.now) stamp))) }
     ensures order { OnOk result (InOrder rows.new.timers) }
     ensures partitions { rows.new.partitions ≡ rows.old.partitions }
 {
@@ -142,30 +136,27 @@ fn run(
     let Some(message) = rows.queue.take_first(from, to) else {
         return Ok(None);
     };
-    let made = reach_first(alloc, flows, rows, &message, stamp);
+    let made = reach_first(alloc, reactions, rows, &message, stamp);
     drop(message);
     Ok(Some(made?))
 }
 
-/// An event reaches an instance, which goes on. What it sends comes back.
-fn go_on(
+/// An instance stands as an event made it. What it sends comes back.
+fn keep_event(
     alloc: Global,
     rows: &mut PartRows,
     id: &Id,
-    instance: Instance<'_>,
-    event: Event,
     stamp: u64,
+    made: Reaction,
 ) -> Result<Outputs, AllocError>
     requires order { InOrder rows.old.timers }
     requires partitions { 0 < rows.old.partitions }
-    ensures outputs { IfOk result (λ made. outputs_of made ≡ record { sent = (goes_on_from (instance_of instance.entry) (event_of event) stamp []).sent; answers = [] }) }
-    ensures stands { OnOk result (part_of rows.new ≡ stands_in rows.old.partitions (part_of rows.old) (id_of id.now) stamp (Some (event_of event)) (goes_on_from (instance_of instance.entry) (event_of event) stamp [])) }
+    ensures outputs { IfOk result (λ outputs. outputs_of outputs ≡ record { sent = (reaction_of made).sent; answers = [] }) }
+    ensures stands { OnOk result (part_of rows.new ≡ kept_in rows.old.partitions (part_of rows.old) (id_of id.now) stamp (reaction_of made)) }
     ensures order { OnOk result (InOrder rows.new.timers) }
     ensures partitions { rows.new.partitions ≡ rows.old.partitions }
 {
-    let gone_on = go_on_from(alloc, instance, &event, stamp, Vec::new(alloc));
-    let (effect, event) = with(gone_on, event)?;
-    let sent = keep(alloc, rows, id, stamp, Some(event), effect)?;
+    let sent = keep(alloc, rows, id, stamp, made)?;
     Ok(sent_alone(alloc, sent))
 }
 
@@ -196,9 +187,9 @@ fn drop_activity(rows: &mut PartRows, id: &Id, task: u32)
 }
 
 /// A pending activity is over.
-fn finish(
+fn finish<R: Reactions>(
     alloc: Global,
-    flows: &Flows,
+    reactions: &R,
     rows: &mut PartRows,
     id: &Id,
     task: u32,
@@ -206,22 +197,22 @@ fn finish(
 ) -> Result<Option<Outputs>, AllocError>
     requires order { InOrder rows.old.timers }
     requires partitions { 0 < rows.old.partitions }
-    ensures applied { IfOk result (λ made. Applied made (part_of rows.old) (part_of rows.new) (accepted (flows_of flows.now) rows.old.partitions (part_of rows.old) (ended (id_of id.now) task outcome.now)) (outputs_by (flows_of flows.now) (part_of rows.old) (ended (id_of id.now) task outcome.now))) }
+    ensures applied { IfOk result (λ made. Applied made (part_of rows.old) (part_of rows.new) (accepted (R.flows reactions.now) rows.old.partitions (part_of rows.old) (ended (id_of id.now) task outcome.now)) (outputs_by (R.flows reactions.now) (part_of rows.old) (ended (id_of id.now) task outcome.now))) }
     ensures order { OnOk result (InOrder rows.new.timers) }
     ensures partitions { rows.new.partitions ≡ rows.old.partitions }
 {
     if !is_pending(rows, id, task) {
         return Ok(None);
     }
-    let Some(instance) = instance_at(alloc, flows, rows, id)? else {
+    let Some(row) = rows.instances.get(id) else {
         return Ok(None);
     };
+    let stamp = row.stamp;
+    let answer = answer_of(outcome)?;
+    let made = reactions.go_on(alloc, id, row, Event::Resulted(task, answer), stamp)?;
     drop_activity(rows, id, task);
-    let (answer, instance) = with(answer_of(outcome), instance)?;
-    let event = Event::Resulted(task, answer);
-    let stamp = instance.machine.last;
-    let made = go_on(alloc, rows, id, instance, event, stamp)?;
-    Ok(Some(made))
+    let outputs = keep_event(alloc, rows, id, stamp, made)?;
+    Ok(Some(outputs))
 }
 
 /// Whether a timer of an instance's task is pending and due, and the instance's last moment isn't later.
@@ -235,9 +226,9 @@ fn may_fire(rows: &PartRows, id: &Id, task: u32, stamp: u64) -> bool
 }
 
 /// A pending timer fires at this moment.
-fn fire(
+fn fire<R: Reactions>(
     alloc: Global,
-    flows: &Flows,
+    reactions: &R,
     rows: &mut PartRows,
     id: &Id,
     task: u32,
@@ -245,32 +236,33 @@ fn fire(
 ) -> Result<Option<Outputs>, AllocError>
     requires order { InOrder rows.old.timers }
     requires partitions { 0 < rows.old.partitions }
-    ensures applied { IfOk result (λ made. Applied made (part_of rows.old) (part_of rows.new) (accepted (flows_of flows.now) rows.old.partitions (part_of rows.old) (fired (id_of id.now) task stamp)) (outputs_by (flows_of flows.now) (part_of rows.old) (fired (id_of id.now) task stamp))) }
+    ensures applied { IfOk result (λ made. Applied made (part_of rows.old) (part_of rows.new) (accepted (R.flows reactions.now) rows.old.partitions (part_of rows.old) (fired (id_of id.now) task stamp)) (outputs_by (R.flows reactions.now) (part_of rows.old) (fired (id_of id.now) task stamp))) }
     ensures order { OnOk result (InOrder rows.new.timers) }
     ensures partitions { rows.new.partitions ≡ rows.old.partitions }
 {
     if !may_fire(rows, id, task, stamp) {
         return Ok(None);
     }
-    let Some(instance) = instance_at(alloc, flows, rows, id)? else {
+    let Some(row) = rows.instances.get(id) else {
         return Ok(None);
     };
-    let (_, instance) = with(rows.take_timer(id, task), instance)?;
+    let made = reactions.go_on(alloc, id, row, Event::Fired(task), stamp)?;
+    let (_, made) = with(rows.take_timer(id, task), made)?;
     rows.raise_to(stamp);
-    let made = go_on(alloc, rows, id, instance, Event::Fired(task), stamp)?;
-    Ok(Some(made))
+    let outputs = keep_event(alloc, rows, id, stamp, made)?;
+    Ok(Some(outputs))
 }
 
 /// An item is applied to all that a partition knows, where it is accepted; else nothing changes.
-pub(crate) fn apply_item(
+pub(crate) fn apply_item<R: Reactions>(
     alloc: Global,
-    flows: &Flows,
+    reactions: &R,
     rows: &mut PartRows,
     item: &Item,
 ) -> Result<Option<Outputs>, AllocError>
     requires order { InOrder rows.old.timers }
     requires partitions { 0 < rows.old.partitions }
-    ensures applied { IfOk result (λ made. Applied made (part_of rows.old) (part_of rows.new) (accepted (flows_of flows.now) rows.old.partitions (part_of rows.old) (item_of item.now)) (outputs_by (flows_of flows.now) (part_of rows.old) (item_of item.now))) }
+    ensures applied { IfOk result (λ made. Applied made (part_of rows.old) (part_of rows.new) (accepted (R.flows reactions.now) rows.old.partitions (part_of rows.old) (item_of item.now)) (outputs_by (R.flows reactions.now) (part_of rows.old) (item_of item.now))) }
     ensures order { OnOk result (InOrder rows.new.timers) }
     ensures partitions { rows.new.partitions ≡ rows.old.partitions }
 {
@@ -284,9 +276,9 @@ pub(crate) fn apply_item(
             let made = get(alloc, rows, source, *number, message)?;
             Ok(made)
         }
-        Item::Ran(from, to, stamp) => run(alloc, flows, rows, from, to, *stamp),
-        Item::Done(id, task, outcome) => finish(alloc, flows, rows, id, *task, outcome),
-        Item::Fired(id, task, stamp) => fire(alloc, flows, rows, id, *task, *stamp),
+        Item::Ran(from, to, stamp) => run(alloc, reactions, rows, from, to, *stamp),
+        Item::Done(id, task, outcome) => finish(alloc, reactions, rows, id, *task, outcome),
+        Item::Fired(id, task, stamp) => fire(alloc, reactions, rows, id, *task, *stamp),
         Item::Trim(partition, number, incarnation, position) => {
             let reader = identity(*partition, *incarnation, *position);
             Ok(let_go(alloc, rows, reader, *number))

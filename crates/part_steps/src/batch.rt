@@ -1,7 +1,6 @@
 //! The items of an entry that a partition makes by itself.
 
 ghost use Rattle.std.specs.Prelude.{◌≡◌, ◌<◌, ◌≤◌, ◌++◌, ◌∷◌, [], length, map, IfOk};
-ghost use Rattle.flow_syntax.specs.Views.{flows_of};
 ghost use Rattle.part_items.specs.Plain.{items_of};
 ghost use Rattle.part_steps.specs.Batches.{GoesOn};
 ghost use Rattle.part_steps.specs.Enabled.{moment_at, NoneEnabled, Makes};
@@ -10,8 +9,8 @@ ghost use Rattle.part_steps.specs.States.{IsSound, state_of, count_of};
 
 use crate::state::{PartState, Verdict};
 use dura_value::Outputs;
-use flow_syntax::Flows;
 use part_items::Item;
+use part_rows::Reactions;
 use std::alloc::{AllocError, Global};
 use with_value::with;
 
@@ -57,21 +56,21 @@ fn with_item(
 }
 
 /// A batch goes on with what is possible now.
-pub(crate) fn add_next(
+pub(crate) fn add_next<R: Reactions>(
     alloc: Global,
-    flows: &Flows,
+    reactions: &R,
     batch: Batch,
     now: u64,
 ) -> Result<Turn, AllocError>
     requires sound { IsSound batch.state }
     requires begun { 0 < (state_of batch.state).position }
-    ensures { IfOk result (λ turn. GoesOn (flows_of flows.now) now batch turn) }
+    ensures { IfOk result (λ turn. GoesOn (R.flows reactions.now) now batch turn) }
 {
     let (enabled, batch) = with(batch.state.enabled(now), batch)?;
     let Some(item) = enabled else {
         return Ok(Turn::Over(batch));
     };
-    let (verdict, item) = with(batch.state.apply(alloc, flows, &item), item)?;
+    let (verdict, item) = with(batch.state.apply(alloc, reactions, &item), item)?;
     match verdict {
         Verdict::Accepted(state, made) => {
             let next = with_item(state, batch.items, batch.outputs, item, made)?;
@@ -84,18 +83,18 @@ pub(crate) fn add_next(
 /// Deliveries and timers that are possible now, each after those before it, up to this many. There are none only where nothing
 /// is possible. They are applied as they are chosen, so that each is chosen in the state that it meets.
 #[tactic(auto, using(crate::proofs::Batching::filled_first, crate::proofs::Batching::filled_more, crate::proofs::Batching::none_at_first, crate::proofs::Batching::over_filled))]
-pub fn next_items(
+pub fn next_items<R: Reactions>(
     alloc: Global,
-    flows: &Flows,
+    reactions: &R,
     state: PartState,
     now: u64,
     limit: u32,
 ) -> Result<Batch, AllocError>
     requires sound { IsSound state }
     requires begun { 0 < (state_of state).position }
-    ensures made { IfOk result (λ batch. Makes (flows_of flows.now) (count_of state) now (state_of state) (items_of batch.items.items) (map outputs_of batch.outputs.items) (state_of batch.state)) }
+    ensures made { IfOk result (λ batch. Makes (R.flows reactions.now) (count_of state) now (state_of state) (items_of batch.items.items) (map outputs_of batch.outputs.items) (state_of batch.state)) }
     ensures limit { IfOk result (λ batch. length batch.items.items ≤ limit) }
-    ensures none { IfOk result (λ batch. 0 < limit → batch.items.items ≡ [] → NoneEnabled (flows_of flows.now) (count_of state) (state_of state) (moment_at (state_of state) now)) }
+    ensures none { IfOk result (λ batch. 0 < limit → batch.items.items ≡ [] → NoneEnabled (R.flows reactions.now) (count_of state) (state_of state) (moment_at (state_of state) now)) }
     ensures partitions { IfOk result (λ batch. count_of batch.state ≡ count_of state) }
     ensures entry { IfOk result (λ batch. (state_of batch.state).position ≡ (state_of state).position) }
     ensures sound { IfOk result (λ batch. IsSound batch.state) }
@@ -106,7 +105,7 @@ pub fn next_items(
         outputs: Vec::new(alloc),
     };
     for _ in 0..limit {
-        match add_next(alloc, flows, batch, now)? {
+        match add_next(alloc, reactions, batch, now)? {
             Turn::More(next) => batch = next,
             Turn::Over(last) => return Ok(last),
         }

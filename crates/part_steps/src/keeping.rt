@@ -5,15 +5,15 @@ ghost use Rattle.dura_value.specs.Views.{id_of, messages_of};
 ghost use Rattle.flow_messages.specs.Views.{event_of, past_of};
 ghost use Rattle.timer_row.specs.Timers.{InOrder};
 ghost use Rattle.dura_model.specs.World.{at_id};
-ghost use Rattle.dura_model.specs.Partition.{history_of, with_event, row_after, post_all, given_up_in, stands_in};
+ghost use Rattle.dura_model.specs.Partition.{history_of, with_event, post_all, given_up_in};
+ghost use Rattle.part_rows.specs.Reactions.{waits_of, reaction_of};
 ghost use Rattle.part_rows.specs.Views.{row_of};
 ghost use Rattle.part_rows.specs.Parts.{part_of};
-ghost use Rattle.part_steps.specs.Views.{instance_of, effect_of};
+ghost use Rattle.part_steps.specs.Kept.{next_row, kept_in};
 
-use crate::instance::{Effect, Instance};
 use dura_value::{Id, Message};
 use flow_messages::{Event, Past};
-use part_rows::{PartRows, Row, copy_message};
+use part_rows::{PartRows, Reaction, Row, Waiting, copy_message};
 use std::alloc::{AllocError, Global};
 use with_value::with;
 
@@ -41,19 +41,17 @@ fn add_event(
     Ok(history)
 }
 
-/// The row of an instance after a delivery or an event at this moment.
+/// The row of an instance for whose end these wait, after a delivery or an event at this moment.
 fn next_row(
     alloc: Global,
     row: Option<Row>,
     stamp: u64,
     event: Option<Event>,
-    instance: Instance<'_>,
+    waiting: Vec<Waiting>,
 ) -> Result<Row, AllocError>
-    ensures { IfOk result (λ next. row_of next ≡ row_after (option_map row_of row) stamp (option_map event_of event) (instance_of instance.entry)) }
+    ensures { IfOk result (λ next. row_of next ≡ next_row (option_map row_of row) stamp (option_map event_of event) (waits_of waiting.items)) }
 {
-    let Instance { machine, waiting } = instance;
-    drop(machine);
-    let history = add_event(history_in(alloc, row), stamp, event)?;
+    let (history, waiting) = with(add_event(history_in(alloc, row), stamp, event), waiting)?;
     Ok(Row {
         stamp,
         history,
@@ -67,13 +65,13 @@ fn next_or_none(
     row: Option<Row>,
     stamp: u64,
     event: Option<Event>,
-    instance: Option<Instance<'_>>,
+    waiting: Option<Vec<Waiting>>,
 ) -> Result<Option<Row>, AllocError>
-    ensures { IfOk result (λ next. option_map row_of next ≡ option_map (row_after (option_map row_of row) stamp (option_map event_of event)) (option_map instance_of instance.entry)) }
+    ensures { IfOk result (λ next. option_map row_of next ≡ option_map (next_row (option_map row_of row) stamp (option_map event_of event)) (option_map (λ w. waits_of w.items) waiting)) }
 {
-    match instance {
-        Some(instance) => {
-            let next = next_row(alloc, row, stamp, event, instance)?;
+    match waiting {
+        Some(waiting) => {
+            let next = next_row(alloc, row, stamp, event, waiting)?;
             Ok(Some(next))
         }
         None => {
@@ -91,14 +89,14 @@ fn put_row(
     id: &Id,
     stamp: u64,
     event: Option<Event>,
-    instance: Option<Instance<'_>>,
+    waiting: Option<Vec<Waiting>>,
 ) -> Result<(), AllocError>
-    ensures put { OnOk result (part_of rows.new ≡ record (part_of rows.old) { instances = at_id (part_of rows.old).instances (id_of id.now) (option_map (row_after ((part_of rows.old).instances (id_of id.now)) stamp (option_map event_of event)) (option_map instance_of instance.entry)) }) }
+    ensures put { OnOk result (part_of rows.new ≡ record (part_of rows.old) { instances = at_id (part_of rows.old).instances (id_of id.now) (option_map (next_row ((part_of rows.old).instances (id_of id.now)) stamp (option_map event_of event)) (option_map (λ w. waits_of w.items) waiting)) }) }
     ensures timers { rows.new.timers ≡ rows.old.timers }
     ensures partitions { rows.new.partitions ≡ rows.old.partitions }
 {
     let row = rows.take_instance(id);
-    let next = next_or_none(alloc, row, stamp, event, instance)?;
+    let next = next_or_none(alloc, row, stamp, event, waiting)?;
     rows.replace_instance(id, next)?;
     Ok(())
 }
@@ -161,19 +159,18 @@ pub(crate) fn keep(
     rows: &mut PartRows,
     id: &Id,
     stamp: u64,
-    event: Option<Event>,
-    effect: Effect<'_>,
+    made: Reaction,
 ) -> Result<Vec<Message>, AllocError>
     requires order { InOrder rows.old.timers }
     requires partitions { 0 < rows.old.partitions }
-    ensures sent { IfOk result (λ sent. messages_of sent.items ≡ (effect_of effect.entry).sent) }
-    ensures stands { OnOk result (part_of rows.new ≡ stands_in rows.old.partitions (part_of rows.old) (id_of id.now) stamp (option_map event_of event) (effect_of effect.entry)) }
+    ensures sent { IfOk result (λ sent. messages_of sent.items ≡ (reaction_of made).sent) }
+    ensures stands { OnOk result (part_of rows.new ≡ kept_in rows.old.partitions (part_of rows.old) (id_of id.now) stamp (reaction_of made)) }
     ensures order { OnOk result (InOrder rows.new.timers) }
     ensures partitions { rows.new.partitions ≡ rows.old.partitions }
 {
-    put_row(alloc, rows, id, stamp, event, effect.instance)?;
-    give_up_if(rows, id, effect.gives_up)?;
-    rows.ask_all(alloc, id, effect.asked)?;
-    let sent = send(alloc, rows, effect.sent)?;
+    put_row(alloc, rows, id, stamp, made.event, made.waiting)?;
+    give_up_if(rows, id, made.gives_up)?;
+    rows.ask_all(alloc, id, made.asked)?;
+    let sent = send(alloc, rows, made.sent)?;
     Ok(sent)
 }

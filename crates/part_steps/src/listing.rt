@@ -3,22 +3,15 @@
 ghost use Rattle.std.specs.Prelude.{◌≡◌, Some, is_some, IfOk, IfSome, IfNone, option_map};
 ghost use Rattle.dura_value.specs.Messages.{is_value};
 ghost use Rattle.dura_value.specs.Views.{id_of, answer_of};
-ghost use Rattle.flow_syntax.specs.Views.{flows_of};
 ghost use Rattle.flow_messages.specs.Views.{entity_of};
 ghost use Rattle.id_maps.specs.Order.{IsNextBehind, NoneBehind};
-ghost use Rattle.dura_model.specs.Deliveries.{standing};
-ghost use Rattle.dura_model.specs.Partition.{instance_in};
-ghost use Rattle.part_rows.specs.Views.{row_of};
 ghost use Rattle.part_steps.specs.Listing.{entity_standing, instance_standing};
 ghost use Rattle.part_steps.specs.States.{state_of};
 
-use crate::deliveries::instance_of_row;
-use crate::present::stand;
 use crate::state::PartState;
 use dura_value::{Answer, Id};
 use flow_messages::{Entity, copy_value};
-use flow_syntax::Flows;
-use part_rows::Row;
+use part_rows::Reactions;
 use std::alloc::{AllocError, Global};
 
 /// What a query of an entity is answered.
@@ -26,16 +19,6 @@ fn standing_of_entity(entity: &Entity) -> Result<Answer, AllocError>
     ensures { IfOk result (λ answer. answer_of answer ≡ is_value (entity_of entity.now).value) }
 {
     Ok(Answer::Value(copy_value(&entity.value)?))
-}
-
-/// What a query of the instance that a row stands for is answered.
-fn standing_of_row(alloc: Global, flows: &Flows, id: &Id, row: &Row) -> Result<Answer, AllocError>
-    ensures { IfOk result (λ answer. answer_of answer ≡ standing (instance_in (flows_of flows.now) (id_of id.now) (row_of row.now)).machine.progress) }
-{
-    let instance = instance_of_row(alloc, flows, id, row)?;
-    let standing = stand(&instance.machine.progress);
-    drop(instance);
-    standing
 }
 
 impl PartState {
@@ -55,19 +38,19 @@ impl PartState {
     }
 
     /// The first instance behind the last one, or of all, with the answer that a query of it would get: its history is replayed.
-    pub fn next_instance(
+    pub fn next_instance<R: Reactions>(
         &self,
         alloc: Global,
-        flows: &Flows,
+        reactions: &R,
         last: Option<&Id>,
     ) -> Result<Option<(&Id, Answer)>, AllocError>
         ensures next { IfOk result (λ found. IfSome found (λ one. IsNextBehind (λ id. is_some ((state_of self.now).instances id)) (option_map (λ id. id_of id.now) last.entry) (id_of one.0.now))) }
-        ensures answer { IfOk result (λ found. IfSome found (λ one. instance_standing (flows_of flows.now) (state_of self.now) (id_of one.0.now) ≡ Some (answer_of one.1))) }
+        ensures answer { IfOk result (λ found. IfSome found (λ one. instance_standing (R.flows reactions.now) (state_of self.now) (id_of one.0.now) ≡ Some (answer_of one.1))) }
         ensures none { IfOk result (λ found. IfNone found (NoneBehind (λ id. is_some ((state_of self.now).instances id)) (option_map (λ id. id_of id.now) last.entry))) }
     {
         match self.rows.instances.next(last) {
             Some((id, row)) => {
-                let answer = standing_of_row(alloc, flows, id, row)?;
+                let answer = reactions.standing(alloc, id, row)?;
                 Ok(Some((id, answer)))
             }
             None => Ok(None),

@@ -3,7 +3,6 @@
 ghost use Rattle.std.specs.Prelude.{◌≡◌, ◌<◌, ◌≤◌, ◌^◌, Some, None, IfOk, IfSome, IfNone};
 ghost use Rattle.dura_value.specs.Views.{id_of, answer_of};
 ghost use Rattle.flow_syntax.specs.Syntax.{Flows as PlainFlows};
-ghost use Rattle.flow_syntax.specs.Views.{flows_of};
 ghost use Rattle.part_items.specs.Plain.{item_of};
 ghost use Rattle.dura_model.specs.Partition.{fresh, enter, accepted};
 ghost use Rattle.part_steps.specs.Applied.{Becomes};
@@ -14,9 +13,8 @@ ghost use Rattle.part_steps.specs.States.{IsSound, state_of, count_of};
 use crate::applying::apply_item;
 use dura_value::Outputs;
 use flow_messages::copy_id;
-use flow_syntax::Flows;
 use part_items::Item;
-use part_rows::PartRows;
+use part_rows::{PartRows, Reactions};
 use std::alloc::{AllocError, Global};
 
 /// The state of one of so many partitions: all that it knows. `specs/States` says what it needs (`IsSound`), which each call
@@ -75,13 +73,18 @@ impl PartState {
     }
 
     /// An item of the entry that has begun is applied, where it is legal.
-    pub fn apply(self, alloc: Global, flows: &Flows, item: &Item) -> Result<Verdict, AllocError>
+    pub fn apply<R: Reactions>(
+        self,
+        alloc: Global,
+        reactions: &R,
+        item: &Item,
+    ) -> Result<Verdict, AllocError>
         requires sound { IsSound self }
         requires begun { 0 < (state_of self).position }
-        ensures { IfOk result (λ verdict. Becomes verdict self (accepted (flows_of flows.now) (count_of self) (state_of self) (item_of item.now)) (outputs_by (flows_of flows.now) (state_of self) (item_of item.now))) }
+        ensures { IfOk result (λ verdict. Becomes verdict self (accepted (R.flows reactions.now) (count_of self) (state_of self) (item_of item.now)) (outputs_by (R.flows reactions.now) (state_of self) (item_of item.now))) }
     {
         let mut rows = self.rows;
-        match apply_item(alloc, flows, &mut rows, item)? {
+        match apply_item(alloc, reactions, &mut rows, item)? {
             Some(made) => Ok(Verdict::Accepted(PartState { rows }, made)),
             None => Ok(Verdict::Refused(PartState { rows })),
         }

@@ -2,7 +2,6 @@
 ghost use Rattle.std.specs.Prelude.{◌≡◌, ◌⊎◌, ◌≤◌, ◌∷◌, ℕ, List, Err, OnOk, IfOk, IfErr};
 ghost use Rattle.site_model.specs.History.{on, synced};
 ghost use Rattle.site_model.specs.Calls.{HasRisen};
-ghost use Rattle.flow_syntax.specs.Views.{flows_of};
 ghost use Rattle.dura_value.specs.Items.{Entry};
 ghost use Rattle.part_files.specs.Kept.{keeps};
 ghost use Rattle.part_files.specs.Logs.{fault_of};
@@ -14,8 +13,8 @@ use crate::error::RecoverError;
 use crate::progress::Placing;
 use crate::reading::read_on;
 use commit_log::{Header, Resting};
-use flow_syntax::Flows;
 use log_reader::{FrameError, OpenError, open_log};
+use part_rows::Reactions;
 use site_model::Site;
 use std::alloc::Global;
 
@@ -48,14 +47,14 @@ pub(crate) enum LogFile {
 }
 
 /// Opens a log file, and reads all of it.
-fn read_file<V: Site>(
+fn read_file<V: Site, R: Reactions>(
     alloc: Global,
     site: &mut V,
-    flows: &Flows,
+    reactions: &R,
     file: u32,
 ) -> Result<LogFile, FrameError>
     ensures told { V.tells site.new → V.tells site.old }
-    ensures says { V.tells site.new → SaysFile (V.history site.new) (flows_of flows.now) file result }
+    ensures says { V.tells site.new → SaysFile (V.history site.new) (R.flows reactions.now) file result }
     ensures ready { IfOk result IsReadyFile }
     ensures syncs { (V.history site.new ≡ on file synced ∷ V.history site.old) ⊎ (V.history site.new ≡ V.history site.old) }
     ensures synced { OnOk result (V.history site.new ≡ on file synced ∷ V.history site.old) }
@@ -70,7 +69,7 @@ fn read_file<V: Site>(
         Err(OpenError::SiteFault) => return Err(FrameError::SiteFault),
     };
     let header = reader.header;
-    let (log, progress) = read_on(alloc, site, flows, reader)?;
+    let (log, progress) = read_on(alloc, site, reactions, reader)?;
     Ok(LogFile::Log(Found {
         header,
         log,
@@ -102,15 +101,15 @@ fn fit(header: Header, digest: u64) -> Result<(), RecoverError>
 }
 
 /// Refuses a file that is damaged, of another number of partitions or of other flows, in this order.
-pub(crate) fn open_file<V: Site>(
+pub(crate) fn open_file<V: Site, R: Reactions>(
     alloc: Global,
     site: &mut V,
-    flows: &Flows,
+    reactions: &R,
     digest: u64,
     file: u32,
 ) -> Result<LogFile, RecoverError>
     ensures told { V.tells site.new → V.tells site.old }
-    ensures says { V.tells site.new → SaysFits (V.history site.new) (flows_of flows.now) digest file result }
+    ensures says { V.tells site.new → SaysFits (V.history site.new) (R.flows reactions.now) digest file result }
     ensures ready { IfOk result IsReadyFile }
     ensures syncs { (V.history site.new ≡ on file synced ∷ V.history site.old) ⊎ (V.history site.new ≡ V.history site.old) }
     ensures synced { OnOk result (V.history site.new ≡ on file synced ∷ V.history site.old) }
@@ -118,7 +117,7 @@ pub(crate) fn open_file<V: Site>(
     ensures later { V.disk_faults site.old ≤ V.disk_faults site.new }
     ensures say_faults { V.say_faults site.new ≡ V.say_faults site.old }
 {
-    let found = match read_file(alloc, site, flows, file) {
+    let found = match read_file(alloc, site, reactions, file) {
         Ok(LogFile::Log(found)) => found,
         Ok(LogFile::Fresh) => return Ok(LogFile::Fresh),
         Err(FrameError::Damaged { offset }) => return Err(RecoverError::Damaged { file, offset }),

@@ -1,31 +1,30 @@
 // The entries of a log make the state, one after another.
 ghost use Rattle.std.specs.Prelude.{◌≡◌, ◌≤◌, ◌<◌, ◌+◌, ◌^◌, [], ◌∷◌, IfOk, length};
-ghost use Rattle.flow_syntax.specs.Views.{flows_of};
 ghost use Rattle.part_items.specs.Plain.{items_of, entry_of, entries_of, next_of};
 ghost use Rattle.part_steps.specs.States.{IsSound, state_of, count_of};
 ghost use Rattle.part_files.specs.Placing.{all_accepted};
 ghost use Rattle.recover_core.specs.Progress.{Makes, GoesOnAs, GoesOn, IsReady, IsReadyFor, IsNext, position_in};
 
 use crate::progress::{Placing, Progress};
-use flow_syntax::Flows;
 use part_items::{Entry, Item, Next};
+use part_rows::Reactions;
 use part_steps::{PartState, Verdict};
 use std::alloc::{AllocError, Global};
 
 /// The state that items make one after another, or none where one of them isn't accepted.
-fn place_items(
+fn place_items<R: Reactions>(
     alloc: Global,
-    flows: &Flows,
+    reactions: &R,
     state: PartState,
     items: &[Item],
 ) -> Result<Option<PartState>, AllocError>
     requires sound { IsSound state }
     requires begun { 0 < (state_of state).position }
-    ensures { IfOk result (λ made. Makes made state (all_accepted (flows_of flows.now) (count_of state) (state_of state) (items_of items.now))) }
+    ensures { IfOk result (λ made. Makes made state (all_accepted (R.flows reactions.now) (count_of state) (state_of state) (items_of items.now))) }
 {
     let mut state = state;
     for item in items {
-        match state.apply(alloc, flows, item)? {
+        match state.apply(alloc, reactions, item)? {
             Verdict::Accepted(next, _) => state = next,
             Verdict::Refused(state) => {
                 drop(state);
@@ -37,40 +36,40 @@ fn place_items(
 }
 
 /// What an entry makes of a state, or that it isn't accepted.
-fn place_on(
+fn place_on<R: Reactions>(
     alloc: Global,
-    flows: &Flows,
+    reactions: &R,
     placing: Placing,
     entry: &Entry,
 ) -> Result<Placing, AllocError>
     requires ready { IsReadyFor entry.now.incarnation placing }
     requires room { position_in placing < 2 ^ 62 }
-    ensures { IfOk result (λ new. GoesOnAs (flows_of flows.now) (entry_of entry.now) placing new) }
+    ensures { IfOk result (λ new. GoesOnAs (R.flows reactions.now) (entry_of entry.now) placing new) }
 {
     let state = match placing {
         Placing::Stuck(position) => return Ok(Placing::Stuck(position)),
         Placing::On(state) => state,
     };
     let entered = state.enter(entry.incarnation);
-    match place_items(alloc, flows, entered, entry.items.as_slice())? {
+    match place_items(alloc, reactions, entered, entry.items.as_slice())? {
         Some(made) => Ok(Placing::On(made)),
         None => Ok(Placing::Stuck(entry.position)),
     }
 }
 
 /// An entry is placed behind those before.
-fn place_entry(
+fn place_entry<R: Reactions>(
     alloc: Global,
-    flows: &Flows,
+    reactions: &R,
     progress: Progress,
     entry: &Entry,
 ) -> Result<Progress, AllocError>
     requires ready { IsReady progress }
     requires room { position_in progress.placing < 2 ^ 62 }
     requires next { IsNext (next_of progress.next) (entry_of entry.now ∷ []) }
-    ensures { IfOk result (λ new. GoesOn (flows_of flows.now) (entry_of entry.now ∷ []) progress new) }
+    ensures { IfOk result (λ new. GoesOn (R.flows reactions.now) (entry_of entry.now ∷ []) progress new) }
 {
-    let placing = place_on(alloc, flows, progress.placing, entry)?;
+    let placing = place_on(alloc, reactions, progress.placing, entry)?;
     Ok(Progress {
         next: Next {
             position: entry.position + 1,
@@ -82,20 +81,20 @@ fn place_entry(
 }
 
 /// Entries are placed one after another. From one on that isn't accepted none is.
-pub(crate) fn place_entries(
+pub(crate) fn place_entries<R: Reactions>(
     alloc: Global,
-    flows: &Flows,
+    reactions: &R,
     progress: Progress,
     entries: &[Entry],
 ) -> Result<Progress, AllocError>
     requires ready { IsReady progress }
     requires room { position_in progress.placing + length entries.now ≤ 2 ^ 62 }
     requires next { IsNext (next_of progress.next) (entries_of entries.now) }
-    ensures { IfOk result (λ new. GoesOn (flows_of flows.now) (entries_of entries.now) progress new) }
+    ensures { IfOk result (λ new. GoesOn (R.flows reactions.now) (entries_of entries.now) progress new) }
 {
     let mut progress = progress;
     for entry in entries {
-        progress = place_entry(alloc, flows, progress, entry)?;
+        progress = place_entry(alloc, reactions, progress, entry)?;
     }
     Ok(progress)
 }

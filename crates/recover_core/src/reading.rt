@@ -3,7 +3,6 @@ ghost use Rattle.std.specs.Prelude.{◌≡◌, ◌≤◌, ◌<◌, ◌+◌, ◌*
 ghost use Rattle.site_model.specs.History.{changes_of, content_of, IsKept};
 ghost use Rattle.site_model.specs.Calls.{HasRisen};
 ghost use Rattle.dura_value.specs.Items.{Entry};
-ghost use Rattle.flow_syntax.specs.Views.{flows_of};
 ghost use Rattle.log_reader.specs.Frames.{HasRead};
 ghost use Rattle.part_items.specs.Numbered.{next_frame_in};
 ghost use Rattle.part_items.specs.Plain.{next_of};
@@ -14,9 +13,9 @@ use crate::placing::place_entries;
 use crate::progress::Progress;
 use commit_log::Resting;
 use dura_value::ReadError;
-use flow_syntax::Flows;
 use log_reader::{FrameError, LogReader, Next};
 use part_items::read_next_frame;
+use part_rows::Reactions;
 use site_model::Site;
 use std::alloc::Global;
 
@@ -39,9 +38,9 @@ pub(crate) enum Turn {
 }
 
 /// The entries of the frame behind the gate at this offset are placed.
-fn place_frame(
+fn place_frame<R: Reactions>(
     alloc: Global,
-    flows: &Flows,
+    reactions: &R,
     progress: Progress,
     gate: u64,
     payload: &[u8],
@@ -49,7 +48,7 @@ fn place_frame(
     requires ready { IsReady progress }
     requires room { position_in progress.placing ≤ 64 * gate }
     requires below { gate + 5 + length payload.now < 2 ^ 31 }
-    ensures { PlacesFrame (flows_of flows.now) progress gate (next_frame_in (next_of progress.next) payload.now) result }
+    ensures { PlacesFrame (R.flows reactions.now) progress gate (next_frame_in (next_of progress.next) payload.now) result }
 {
     let frame = match read_next_frame(alloc, progress.next, payload) {
         Ok(frame) => frame,
@@ -64,24 +63,24 @@ fn place_frame(
             });
         }
     };
-    match place_entries(alloc, flows, progress, frame.entries()) {
+    match place_entries(alloc, reactions, progress, frame.entries()) {
         Ok(placed) => Ok(placed),
         Err(_) => Err(FrameError::Memory),
     }
 }
 
 /// Reads the next frame, if there is one, and places its entries.
-fn read_step<V: Site>(
+fn read_step<V: Site, R: Reactions>(
     alloc: Global,
     site: &mut V,
-    flows: &Flows,
+    reactions: &R,
     reading: Reading,
 ) -> Result<Turn, FrameError>
     requires { CanGoOn reading }
     ensures told { V.tells site.new → V.tells site.old }
     ensures reads { V.tells site.new → reading.reader.size ≡ length (content_of reading.reader.file (V.history site.old)) → (payloads : List (List ℕ)) (entries : List Entry)
-        → HasReadTo (flows_of flows.now) (content_of reading.reader.file (V.history site.old)) reading.reader.header payloads entries reading.reader.gate reading.progress
-        → ReadsOn (flows_of flows.now) (content_of reading.reader.file (V.history site.old)) reading.reader.header payloads entries result }
+        → HasReadTo (R.flows reactions.now) (content_of reading.reader.file (V.history site.old)) reading.reader.header payloads entries reading.reader.gate reading.progress
+        → ReadsOn (R.flows reactions.now) (content_of reading.reader.file (V.history site.old)) reading.reader.header payloads entries result }
     ensures rests { V.tells site.new → (payloads : List (List ℕ)) → HasRead (content_of reading.reader.file (V.history site.old)) reading.reader.header payloads reading.reader.gate
         → IsKept (changes_of reading.reader.file (V.history site.old)) → RestsAfter (V.history site.new) reading.reader.header payloads result }
     ensures there { StaysThere reading result }
@@ -100,7 +99,7 @@ fn read_step<V: Site>(
             return Err(error);
         }
     };
-    let progress = place_frame(alloc, flows, progress, gate, payload.as_bytes())?;
+    let progress = place_frame(alloc, reactions, progress, gate, payload.as_bytes())?;
     Ok(Turn::More(Reading {
         reader: behind,
         progress,
@@ -108,14 +107,14 @@ fn read_step<V: Site>(
 }
 
 /// Reads all frames of a log that was opened, and places their entries.
-pub(crate) fn read_on<V: Site>(
+pub(crate) fn read_on<V: Site, R: Reactions>(
     alloc: Global,
     site: &mut V,
-    flows: &Flows,
+    reactions: &R,
     reader: LogReader,
 ) -> Result<(Resting, Progress), FrameError>
     ensures told { V.tells site.new → V.tells site.old }
-    ensures reads { V.tells site.new → IsOpened (V.history site.old) reader → ReadsAll (V.history site.old) (flows_of flows.now) reader result }
+    ensures reads { V.tells site.new → IsOpened (V.history site.old) reader → ReadsAll (V.history site.old) (R.flows reactions.now) reader result }
     ensures there { IfOk result (λ end. end.0.file ≡ reader.file) }
     ensures ready { IfOk result (λ end. IsReady end.1) }
     ensures unchanged { V.history site.new ≡ V.history site.old }
@@ -126,7 +125,7 @@ pub(crate) fn read_on<V: Site>(
     let progress = Progress::new(alloc, reader.header.base);
     let mut reading = Reading { reader, progress };
     'frames: loop {
-        match read_step(alloc, site, flows, reading)? {
+        match read_step(alloc, site, reactions, reading)? {
             Turn::More(more) => reading = more,
             Turn::End(log, progress) => return Ok((log, progress)),
         }

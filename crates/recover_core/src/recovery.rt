@@ -4,7 +4,6 @@ ghost use Rattle.site_model.specs.History.{content_of};
 ghost use Rattle.site_model.specs.Calls.{HasRisen};
 ghost use Rattle.dura_value.specs.Items.{Entry};
 ghost use Rattle.flow_syntax.specs.Syntax.{Flows as PlainFlows};
-ghost use Rattle.flow_syntax.specs.Views.{flows_of};
 ghost use Rattle.dura_model.specs.Partition.{fresh};
 ghost use Rattle.part_files.specs.Logs.{logs_in};
 ghost use Rattle.part_files.specs.Placing.{placed, next_life};
@@ -18,7 +17,7 @@ use crate::error::RecoverError;
 use crate::files::{Found, open_file};
 use crate::progress::Placing;
 use commit_log::Resting;
-use flow_syntax::Flows;
+use part_rows::Reactions;
 use part_steps::PartState;
 use site_model::Site;
 use std::alloc::Global;
@@ -75,14 +74,14 @@ fn end(found: Found) -> Result<Recovered, RecoverError>
 /// nothing is written. Of each file the bytes are looked at first, then of how many partitions and of which flows it is;
 /// then whether both can stand; then the entries, one after another; and then whether a life is left.
 #[tactic(auto, using(crate::proofs::LogsFound::risen_later))]
-pub fn recover<V: Site>(
+pub fn recover<V: Site, R: Reactions>(
     alloc: Global,
     site: &mut V,
-    flows: &Flows,
+    reactions: &R,
     digest: u64,
 ) -> Result<Recovered, RecoverError>
     ensures told { V.tells site.new → V.tells site.old }
-    ensures recovers { V.tells site.new → Recovers (flows_of flows.now) digest (λ file. content_of file (V.history site.old)) result }
+    ensures recovers { V.tells site.new → Recovers (R.flows reactions.now) digest (λ file. content_of file (V.history site.old)) result }
     ensures begins { IfOk result CanBegin }
     ensures syncs { OnlySyncs (V.history site.old) (V.history site.new) }
     ensures synced { OnOk result (V.history site.new ≡ both_synced (V.history site.old)) }
@@ -91,8 +90,8 @@ pub fn recover<V: Site>(
     ensures later { V.disk_faults site.old ≤ V.disk_faults site.new }
     ensures say_faults { V.say_faults site.new ≡ V.say_faults site.old }
 {
-    let first = open_file(alloc, site, flows, digest, FIRST_LOG)?;
-    let second = match open_file(alloc, site, flows, digest, SECOND_LOG) {
+    let first = open_file(alloc, site, reactions, digest, FIRST_LOG)?;
+    let second = match open_file(alloc, site, reactions, digest, SECOND_LOG) {
         Ok(second) => second,
         Err(error) => {
             drop(first);

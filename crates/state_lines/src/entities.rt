@@ -2,7 +2,6 @@
 
 ghost use Rattle.std.specs.Prelude.{◌≡◌, ◌≤◌, ℕ, Err, IfOk, IfErr, IfSome, IfNone, OnOk, option_map};
 ghost use Rattle.dura_value.specs.Views.{id_of, answer_of};
-ghost use Rattle.flow_syntax.specs.Views.{flows_of};
 ghost use Rattle.part_steps.specs.States.{state_of};
 ghost use Rattle.site_model.specs.History.{changes_of, tape};
 ghost use Rattle.site_model.specs.Calls.{HasRisen};
@@ -12,17 +11,17 @@ ghost use Rattle.state_lines.specs.Table.{has_entity, answer_at, entity_answer};
 use crate::error::ShowError;
 use crate::row::say_line;
 use dura_value::{Answer, Id};
-use flow_syntax::Flows;
+use part_rows::Reactions;
 use part_steps::PartState;
 use site_model::Site;
 use std::alloc::Global;
 
 /// What a query of an entity with this answer is told: an entity of a class that isn't there has no value.
-fn answer_at(flows: &Flows, id: &Id, answer: Answer) -> Answer
-    ensures { answer_of result ≡ answer_at (flows_of flows.now) (id_of id.now) (answer_of answer) }
+fn answer_at<R: Reactions>(reactions: &R, id: &Id, answer: Answer) -> Answer
+    ensures { answer_of result ≡ answer_at (R.flows reactions.now) (id_of id.now) (answer_of answer) }
 {
     match id {
-        Id::Entity(class, _) if flows.class_of(class).is_none() => {
+        Id::Entity(class, _) if !reactions.has_class(class) => {
             drop(answer);
             Answer::None
         }
@@ -32,17 +31,17 @@ fn answer_at(flows: &Flows, id: &Id, answer: Answer) -> Answer
 
 /// Says the line of the first entity behind the last one, or of all, and gives its id.
 #[tactic(auto, using(crate::proofs::Saying::answered_so))]
-fn say_next<'a, V: Site>(
+fn say_next<'a, V: Site, R: Reactions>(
     alloc: Global,
     site: &mut V,
-    flows: &Flows,
+    reactions: &R,
     state: &'a PartState,
     last: Option<&Id>,
 ) -> Result<Option<&'a Id>, ShowError>
     ensures told { V.tells site.new → V.tells site.old }
-    ensures said { IfOk result (λ found. IfSome found (λ id. SaysNext (has_entity (state_of state.now)) (entity_answer (flows_of flows.now) (state_of state.now)) (option_map (λ id. id_of id.now) last.entry) (id_of id.now) (tape (V.history site.old)) (tape (V.history site.new)))) }
+    ensures said { IfOk result (λ found. IfSome found (λ id. SaysNext (has_entity (state_of state.now)) (entity_answer (R.flows reactions.now) (state_of state.now)) (option_map (λ id. id_of id.now) last.entry) (id_of id.now) (tape (V.history site.old)) (tape (V.history site.new)))) }
     ensures none { IfOk result (λ found. IfNone found (SaysNone (has_entity (state_of state.now)) (option_map (λ id. id_of id.now) last.entry) (tape (V.history site.old)) (tape (V.history site.new)))) }
-    ensures part { IfErr result (λ error. StopsAtNext (has_entity (state_of state.now)) (entity_answer (flows_of flows.now) (state_of state.now)) (option_map (λ id. id_of id.now) last.entry) error (tape (V.history site.old)) (tape (V.history site.new))) }
+    ensures part { IfErr result (λ error. StopsAtNext (has_entity (state_of state.now)) (entity_answer (R.flows reactions.now) (state_of state.now)) (option_map (λ id. id_of id.now) last.entry) error (tape (V.history site.old)) (tape (V.history site.new))) }
     ensures files { (file : ℕ) → changes_of file (V.history site.new) ≡ changes_of file (V.history site.old) }
     ensures fault { result ≡ Err ShowError.SayFault → HasRisen (V.say_faults site.old) (V.say_faults site.new) }
     ensures later { V.say_faults site.old ≤ V.say_faults site.new }
@@ -50,7 +49,7 @@ fn say_next<'a, V: Site>(
 {
     match state.next_entity(last)? {
         Some((id, answer)) => {
-            let answer = answer_at(flows, id, answer);
+            let answer = answer_at(reactions, id, answer);
             let said = say_line(alloc, site, id, &answer);
             drop(answer);
             said?;
@@ -62,22 +61,22 @@ fn say_next<'a, V: Site>(
 
 /// Says the lines of all entities, in the order of their ids.
 #[tactic(auto, using(crate::proofs::Saying::begun, crate::proofs::Saying::one_said, crate::proofs::Saying::all_said, crate::proofs::Saying::stopped))]
-pub(crate) fn say_entities<V: Site>(
+pub(crate) fn say_entities<V: Site, R: Reactions>(
     alloc: Global,
     site: &mut V,
-    flows: &Flows,
+    reactions: &R,
     state: &PartState,
 ) -> Result<(), ShowError>
     ensures told { V.tells site.new → V.tells site.old }
-    ensures said { OnOk result (SaysAll (has_entity (state_of state.now)) (entity_answer (flows_of flows.now) (state_of state.now)) (tape (V.history site.old)) (tape (V.history site.new))) }
-    ensures part { IfErr result (λ error. StopsAt (has_entity (state_of state.now)) (entity_answer (flows_of flows.now) (state_of state.now)) error (tape (V.history site.old)) (tape (V.history site.new))) }
+    ensures said { OnOk result (SaysAll (has_entity (state_of state.now)) (entity_answer (R.flows reactions.now) (state_of state.now)) (tape (V.history site.old)) (tape (V.history site.new))) }
+    ensures part { IfErr result (λ error. StopsAt (has_entity (state_of state.now)) (entity_answer (R.flows reactions.now) (state_of state.now)) error (tape (V.history site.old)) (tape (V.history site.new))) }
     ensures files { (file : ℕ) → changes_of file (V.history site.new) ≡ changes_of file (V.history site.old) }
     ensures fault { result ≡ Err ShowError.SayFault → HasRisen (V.say_faults site.old) (V.say_faults site.new) }
     ensures later { V.say_faults site.old ≤ V.say_faults site.new }
     ensures disk_faults { V.disk_faults site.new ≡ V.disk_faults site.old }
 {
     let mut last = None;
-    'lines: while let Some(id) = say_next(alloc, site, flows, state, last)? {
+    'lines: while let Some(id) = say_next(alloc, site, reactions, state, last)? {
         last = Some(id);
     }
     Ok(())

@@ -2,6 +2,7 @@
 
 use crate::frame_tests::EXAMPLE;
 use dura_value::{Id, Name};
+use flow_steps::Machines;
 use flow_syntax::Flows;
 use recover_core::{RecoverError, Recovered, recover};
 use site_memory::{Kind, MemorySite};
@@ -121,7 +122,7 @@ fn told(rt: &impl Abort, alloc: Global, found: Result<Recovered, RecoverError>) 
 /// What is recovered of these files. Nothing is written.
 fn recovered_of(rt: &impl Abort, alloc: Global, mut site: MemorySite) -> String {
     let flows = Flows::new(alloc);
-    let result = recover(alloc, &mut site, &flows, DIGEST);
+    let result = recover(alloc, &mut site, &Machines::of(&flows), DIGEST);
     drop(flows);
     assert!(rt; site.calls(Kind::Write) == 0);
     drop(site);

@@ -24,7 +24,7 @@ pub drive-requires-clause-rests : goal.drive-requires-clause-rests
 drive-requires-clause-rests g c = c.requires.rests
 
 pub drive-requires-clause-flows : goal.drive-requires-clause-flows
-drive-requires-clause-flows g c = c.requires.flows
+drive-requires-clause-flows g c = c.requires.flows ∙ sym c.of-machines.ensures
 
 pub drive-requires-clause-life : goal.drive-requires-clause-life
 drive-requires-clause-life g c = c.requires.life

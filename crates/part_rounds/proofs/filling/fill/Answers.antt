@@ -1,6 +1,5 @@
 use Rattle.std.proofs.Common.{◌≡◌, ◌∙◌, ◌++◌, map, arith}
 use Rattle.std.proofs.Math.Facts.{Fits-le}
-use Rattle.flow_syntax.specs.Views.{flows_of}
 use Rattle.part_steps.specs.Outputs.{outputs_of}
 use Rattle.part_steps.specs.States.{state_of, count_of}
 use Rattle.part_rounds.proofs.Moments.{makes_by}
@@ -11,18 +10,18 @@ pub overflow_cast-len : goal.overflow_cast-len
 overflow_cast-len c = Fits-le (omega (arith, c.len.ensures, c.requires.room)) c.ranges.limit
 
 pub returns-in-Ok-clause-goes_on : goal.returns-in-Ok-clause-goes_on
-returns-in-Ok-clause-goes_on c = λ rules told same.
+returns-in-Ok-clause-goes_on g c = λ rules told same.
     let items : c.append.new.self.items ≡ c.args.filling.items.items ++ c.in_ok-batch.batch.items.items = c.in-Ok.ensures.items in
-    filled_goes_on rules told (flows_of c.args.flows.now) c.args.filling _ (count_of c.args.filling.state) c.args.now c.in_ok-batch.batch.items.items (map outputs_of c.in_ok-batch.batch.outputs.items) same c.requires.way.one
+    filled_goes_on rules told (g.R.Reactions.flows c.args.reactions.now) c.args.filling _ (count_of c.args.filling.state) c.args.now c.in_ok-batch.batch.items.items (map outputs_of c.in_ok-batch.batch.outputs.items) same c.requires.way.one
     c.in_ok-batch.ensures.made items
     (record { sound = c.in_ok-batch.ensures.sound; one = c.in_ok-batch.ensures.partitions ∙ c.requires.way.one; begun = omega (arith, c.in_ok-batch.ensures.entry, c.requires.way.begun) })
     c.in_ok-batch.ensures.entry
 
 pub returns-in-Ok-clause-none : goal.returns-in-Ok-clause-none
-returns-in-Ok-clause-none c = λ less same.
+returns-in-Ok-clause-none g c = λ less same.
     let items : c.append.new.self.items ≡ c.args.filling.items.items ++ c.in_ok-batch.batch.items.items = c.in-Ok.ensures.items in
-    filled_in_vain (flows_of c.args.flows.now) (count_of c.args.filling.state) c.args.now (state_of c.args.filling.state) (state_of c.in_ok-batch.batch.state) c.args.filling.items.items c.in_ok-batch.batch.items.items c.append.new.self.items
+    filled_in_vain (g.R.Reactions.flows c.args.reactions.now) (count_of c.args.filling.state) c.args.now (state_of c.args.filling.state) (state_of c.in_ok-batch.batch.state) c.args.filling.items.items c.in_ok-batch.batch.items.items c.append.new.self.items
     (map outputs_of c.in_ok-batch.batch.outputs.items) c.requires.way.one c.in_ok-batch.ensures.made items same (c.in_ok-batch.ensures.none (omega (arith, less, c.saturating_sub-room.ensures, c.len.ensures)))
 
 pub returns-in-Ok-clause-moment : goal.returns-in-Ok-clause-moment
-returns-in-Ok-clause-moment c = makes_by c.in_ok-batch.ensures.made
+returns-in-Ok-clause-moment g c = makes_by c.in_ok-batch.ensures.made

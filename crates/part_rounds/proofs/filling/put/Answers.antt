@@ -1,7 +1,6 @@
 use Rattle.std.proofs.Common.{◌≡◌, [], ◌∷◌, ◌++◌, sym, subst}
 use Rattle.std.specs.Prelude.{is_ok, if◌then◌else◌}
 use Rattle.dura_model.specs.Partition.{accepted}
-use Rattle.flow_syntax.specs.Views.{flows_of}
 use Rattle.part_items.specs.Plain.{item_of}
 use Rattle.part_steps.specs.Applied.{Becomes}
 use Rattle.part_steps.specs.Outputs.{outputs_by}
@@ -12,8 +11,8 @@ use Rattle.part_rounds.proofs.Puttings.{accepted_puts}
 use Rattle.part_rounds.proofs.filling.put.Goals as goal
 
 pub returns-in_ok-state-in-Accepted : goal.returns-in_ok-state-in-Accepted
-returns-in_ok-state-in-Accepted c =
-    let flows = flows_of c.args.flows.now in
+returns-in_ok-state-in-Accepted g c =
+    let flows = g.R.Reactions.flows c.args.reactions.now in
     let old = c.args.filling in
     let item = item_of c.args.item in
     let made = subst (λ v. Becomes v old.state (accepted flows (count_of old.state) (state_of old.state) item) (outputs_by flows (state_of old.state) item)) c.in-Accepted.is c.in-Ok.ensures in

@@ -1,7 +1,6 @@
 use Rattle.std.proofs.Common.{◌≡◌, ◌∙◌, ℕ, List, [], length, refl, sym, ap, subst, arith}
 use Rattle.std.specs.List.{All}
 use Rattle.dura_model.specs.Partition.{Partition, fresh}
-use Rattle.flow_syntax.specs.Views.{flows_of}
 use Rattle.part_items.specs.Plain.{items_of}
 use Rattle.part_items.specs.declared.items.Item.{Item}
 use Rattle.part_rounds.specs.Fills.{Fills, CantTake}
@@ -13,7 +12,7 @@ use Rattle.part_rounds.proofs.Puttings.{goes_on_both, no_items}
 use Rattle.part_rounds.proofs.filling_on.gather.Goals as goal
 
 pub fill_on-requires-clause-way : goal.fill_on-requires-clause-way
-fill_on-requires-clause-way g c = (c.in_ok-ended.ensures.goes_on (record { flows = flows_of c.args.flows.now; begin = fresh 0; life = 0; requests = [] }) [] refl).way
+fill_on-requires-clause-way g c = (c.in_ok-ended.ensures.goes_on (record { flows = g.R.Reactions.flows c.args.reactions.now; begin = fresh 0; life = 0; requests = [] }) [] refl).way
 
 pub returns-clause-fills : goal.returns-clause-fills
 returns-clause-fills g c = λ rules told same said.
@@ -30,7 +29,7 @@ returns-clause-none g c = λ empty.
       filled.0 ∙ ended,
       record {
         outcomes = c.in_ok-ended.ensures.idle before;
-        requests = subst (λ (p : Partition). All (λ (name : List ℕ). CantTake (flows_of c.args.flows.now) p c.args.port.now.queues name) c.args.clients.now) ended filled.1;
-        steps = subst (λ (p : Partition). NoneEnabled (flows_of c.args.flows.now) 1 p (moment_at p c.args.chance.now)) ended filled.2;
+        requests = subst (λ (p : Partition). All (λ (name : List ℕ). CantTake (g.R.Reactions.flows c.args.reactions.now) p c.args.port.now.queues name) c.args.clients.now) ended filled.1;
+        steps = subst (λ (p : Partition). NoneEnabled (g.R.Reactions.flows c.args.reactions.now) 1 p (moment_at p c.args.chance.now)) ended filled.2;
       },
     )

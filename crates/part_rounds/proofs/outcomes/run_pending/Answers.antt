@@ -1,5 +1,4 @@
 use Rattle.std.proofs.Common.{◌≡◌, IfSome, length, ap, subst, arith}
-use Rattle.flow_syntax.specs.Views.{flows_of}
 use Rattle.part_items.specs.Plain.{item_of}
 use Rattle.part_steps.specs.States.{state_of}
 use Rattle.part_rounds.specs.Fills.{IsOfPending}
@@ -10,32 +9,32 @@ use Rattle.part_rounds.proofs.outcomes.run_pending.Goals as goal
 
 pub returns-in_ok-next-in-Some-clause-idle : goal.returns-in_ok-next-in-Some-clause-idle
 returns-in_ok-next-in-Some-clause-idle g c =
-    put_idle (flows_of c.args.flows.now) c.args.filling c.in_ok-next-in-Some.next c.in-Some.item c.in_ok-next-in-Some.ensures.puts
+    put_idle (g.R.Reactions.flows c.args.reactions.now) c.args.filling c.in_ok-next-in-Some.next c.in-Some.item c.in_ok-next-in-Some.ensures.puts
     (subst (λ o. IfSome o (λ one. IsOfPending (state_of c.args.filling.state) (item_of one))) c.in-Some.is c.in-Ok.ensures.some)
 
 pub returns-in_ok-next-in-Some-clause-goes_on : goal.returns-in_ok-next-in-Some-clause-goes_on
 returns-in_ok-next-in-Some-clause-goes_on g c = λ rules told same.
     let pending = subst (λ o. IfSome o (λ one. IsOfPending (state_of c.args.filling.state) (item_of one))) c.in-Some.is c.in-Ok.ensures.some in
-    ended_goes_on rules told (flows_of c.args.flows.now) c.args.filling c.in_ok-next-in-Some.next c.in-Some.item same c.requires.empty c.in_ok-next-in-Some.ensures.puts pending
+    ended_goes_on rules told (g.R.Reactions.flows c.args.reactions.now) c.args.filling c.in_ok-next-in-Some.next c.in-Some.item same c.requires.empty c.in_ok-next-in-Some.ensures.puts pending
 
 pub returns-in_ok-next-in-Some-clause-moment : goal.returns-in_ok-next-in-Some-clause-moment
 returns-in_ok-next-in-Some-clause-moment g c =
     let pending = subst (λ o. IfSome o (λ one. IsOfPending (state_of c.args.filling.state) (item_of one))) c.in-Some.is c.in-Ok.ensures.some in
-    puts_still (flows_of c.args.flows.now) c.args.filling c.in_ok-next-in-Some.next c.in-Some.item c.in_ok-next-in-Some.ensures.puts
+    puts_still (g.R.Reactions.flows c.args.reactions.now) c.args.filling c.in_ok-next-in-Some.next c.in-Some.item c.in_ok-next-in-Some.ensures.puts
     (outcome_still (state_of c.args.filling.state) (item_of c.in-Some.item) pending)
 
 pub returns-in_ok-next-in-Some-clause-few : goal.returns-in_ok-next-in-Some-clause-few
 returns-in_ok-next-in-Some-clause-few g c =
     let none : length c.args.filling.items.items ≡ 0 = ap length c.requires.empty in
-    let one = puts_one (flows_of c.args.flows.now) c.args.filling c.in_ok-next-in-Some.next c.in-Some.item c.in_ok-next-in-Some.ensures.puts in
+    let one = puts_one (g.R.Reactions.flows c.args.reactions.now) c.args.filling c.in_ok-next-in-Some.next c.in-Some.item c.in_ok-next-in-Some.ensures.puts in
     omega (arith, none, one)
 
 pub returns-in_ok-next-in-Some-clause-none : goal.returns-in_ok-next-in-Some-clause-none
-returns-in_ok-next-in-Some-clause-none g c = puts_none (flows_of c.args.flows.now) c.args.filling c.in_ok-next-in-Some.next c.in-Some.item c.in_ok-next-in-Some.ensures.puts
+returns-in_ok-next-in-Some-clause-none g c = puts_none (g.R.Reactions.flows c.args.reactions.now) c.args.filling c.in_ok-next-in-Some.next c.in-Some.item c.in_ok-next-in-Some.ensures.puts
 
 pub returns-in_ok-next-in-Some-clause-settled : goal.returns-in_ok-next-in-Some-clause-settled
 returns-in_ok-next-in-Some-clause-settled g c =
-    puts_only (IsOfPending (state_of c.args.filling.state)) (flows_of c.args.flows.now) c.args.filling c.in_ok-next-in-Some.next c.in-Some.item c.requires.empty c.in_ok-next-in-Some.ensures.puts
+    puts_only (IsOfPending (state_of c.args.filling.state)) (g.R.Reactions.flows c.args.reactions.now) c.args.filling c.in_ok-next-in-Some.next c.in-Some.item c.requires.empty c.in_ok-next-in-Some.ensures.puts
     (subst (λ o. IfSome o (λ one. IsOfPending (state_of c.args.filling.state) (item_of one))) c.in-Some.is c.in-Ok.ensures.some)
 
 pub returns-in-None-clause-goes_on : goal.returns-in-None-clause-goes_on

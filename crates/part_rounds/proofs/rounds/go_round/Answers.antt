@@ -2,7 +2,6 @@ use Rattle.std.proofs.Common.{◌∙◌, ◌<◌, ◌-◌, List, refl, sym, ap, 
 use Rattle.std.proofs.lemmas.List.{length-map}
 use Rattle.dura_model.specs.Partition.{Partition}
 use Rattle.flow_syntax.specs.Syntax.{Flows}
-use Rattle.flow_syntax.specs.Views.{flows_of}
 use Rattle.hub_store.specs.Changes.{trail_in, told_in}
 use Rattle.hub_store.specs.Trail.{Settled, Said, of_part}
 use Rattle.part_items.specs.Plain.{item_of, items_of}
@@ -21,7 +20,7 @@ settle_filling-requires-clause-filled g c =
     let told = told_in c.args.store.now in
     let filling = c.in-Filled.filling in
     let entered = c.requires.entered in
-    let comes = subst (Comes (flows_of c.args.flows.now) (state_of c.args.state) c.args.port.now.queues c.args.clients.now c.args.limit) c.in-Filled.is c.in_ok-filling.ensures.comes in
+    let comes = subst (Comes (g.R.Reactions.flows c.args.reactions.now) (state_of c.args.state) c.args.port.now.queues c.args.clients.now c.args.limit) c.in-Filled.is c.in_ok-filling.ensures.comes in
     let fills = subst (FillsNext rules (pairs_of told) (state_of c.args.state)) c.in-Filled.is (c.in_ok-filling.ensures.fills rules told c.requires.flows c.requires.said) in
     let place = ap (λ (p : Partition). p.position) entered.entered in
     let many = length-map filling.items.items item_of in
@@ -139,7 +138,7 @@ returns-in_ok-state-in-Filled g c =
     let tape = c.settle_filling.ensures.say_later in
     let disk_site = ap g.V.Site.disk_faults site in
     let tape_site = ap g.V.Site.say_faults site in
-    let comes = subst (Comes (flows_of c.args.flows.now) (state_of c.args.state) c.args.port.now.queues c.args.clients.now c.args.limit) c.in-Filled.is c.in_ok-filling.ensures.comes in
+    let comes = subst (Comes (g.R.Reactions.flows c.args.reactions.now) (state_of c.args.state) c.args.port.now.queues c.args.clients.now c.args.limit) c.in-Filled.is c.in_ok-filling.ensures.comes in
     let some = comes.1 in
     let many = comes.2 in
     let labels = c.in_ok-state-in-Filled.ensures.labels in
@@ -168,7 +167,7 @@ pub returns-in-Rest : goal.returns-in-Rest
 returns-in-Rest g c =
     let entered = c.requires.entered in
     let queues = c.args.port.now.queues in
-    let comes = subst (Comes (flows_of c.args.flows.now) (state_of c.args.state) queues c.args.clients.now c.args.limit) c.in-Rest.is c.in_ok-filling.ensures.comes in
+    let comes = subst (Comes (g.R.Reactions.flows c.args.reactions.now) (state_of c.args.state) queues c.args.clients.now c.args.limit) c.in-Rest.is c.in_ok-filling.ensures.comes in
     record {
       tells = λ t. t;
       sound = c.requires.sound;

@@ -1,6 +1,5 @@
 use Rattle.std.proofs.Common.{◌∙◌, ℕ, List, subst, arith}
 use Rattle.dura_model.specs.Partition.{Partition}
-use Rattle.flow_syntax.specs.Views.{flows_of}
 use Rattle.part_rounds.specs.Fills.{CantTake}
 use Rattle.part_rounds.specs.Rounds.{pairs_of}
 use Rattle.part_rounds.proofs.Puttings.{goes_on_both}
@@ -9,8 +8,8 @@ use Rattle.part_steps.specs.States.{state_of}
 use Rattle.part_rounds.proofs.taking.take_due.Goals as goal
 
 pub loop-client-preserved : goal.loop-client-preserved
-loop-client-preserved c =
-    let flows = flows_of c.args.flows.now in
+loop-client-preserved g c =
+    let flows = g.R.Reactions.flows c.args.reactions.now in
     let queues = c.args.port.now.queues in
     let first = state_of c.args.filling.state in
     record {
@@ -30,6 +29,6 @@ loop-client-preserved c =
     }
 
 pub returns-clause-none : goal.returns-clause-none
-returns-clause-none c = λ less same.
+returns-clause-none g c = λ less same.
     let before = c.loop-client.invariant.still same in
-    (before.0, all_whole (λ (name : List ℕ). CantTake (flows_of c.args.flows.now) (state_of c.args.filling.state) c.args.port.now.queues name) c.args.clients.now c.loop-client.client-index c.loop-client-test.false before.1)
+    (before.0, all_whole (λ (name : List ℕ). CantTake (g.R.Reactions.flows c.args.reactions.now) (state_of c.args.filling.state) c.args.port.now.queues name) c.args.clients.now c.loop-client.client-index c.loop-client-test.false before.1)

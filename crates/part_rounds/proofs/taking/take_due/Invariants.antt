@@ -1,6 +1,5 @@
 use Rattle.std.proofs.Common.{◌≡◌, ◌≤◌, List, length, take}
 use Rattle.std.specs.List.{All}
-use Rattle.flow_syntax.specs.Views.{flows_of}
 use Rattle.hub_store.specs.Trail.{Said}
 use Rattle.part_rounds.specs.Fills.{IsUnderWay, GoesOn, CantTake}
 use Rattle.part_rounds.specs.Rounds.{pairs_of, HasSaid}
@@ -10,12 +9,12 @@ use Rattle.part_rounds.proofs.taking.take_due.Given as goal
 
 -- where nothing came in so far, of none of those before anything can be taken
 abbrev pub invariant-loop-client : goal.invariant-loop-client
-invariant-loop-client l = record {
+invariant-loop-client g l = record {
   way : IsUnderWay l.filling;
   few : length l.filling.items.items ≤ l.limit;
   moment : (state_of l.filling.state).stamp ≡ (state_of l.fn.filling.state).stamp;
   longer : length l.fn.filling.items.items ≤ length l.filling.items.items;
-  goes_on : (rules : Rules) (told : List Said) → rules.flows ≡ flows_of l.flows → HasSaid rules told l.port.queues → GoesOn rules (pairs_of told) l.fn.filling l.filling;
+  goes_on : (rules : Rules) (told : List Said) → rules.flows ≡ g.R.Reactions.flows l.reactions → HasSaid rules told l.port.queues → GoesOn rules (pairs_of told) l.fn.filling l.filling;
   still : length l.filling.items.items ≡ length l.fn.filling.items.items → (state_of l.filling.state ≡ state_of l.fn.filling.state)
-      × All (λ name. CantTake (flows_of l.flows) (state_of l.fn.filling.state) l.port.queues name) (take l.client-index l.clients);
+      × All (λ name. CantTake (g.R.Reactions.flows l.reactions) (state_of l.fn.filling.state) l.port.queues name) (take l.client-index l.clients);
 }

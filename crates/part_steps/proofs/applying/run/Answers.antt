@@ -2,7 +2,6 @@ use Rattle.std.proofs.Common.{◌∙◌, ap, sym}
 use Rattle.dura_value.specs.Ids.{id_eq}
 use Rattle.dura_value.specs.Views.{id_of, body_of}
 use Rattle.dura_value.proofs.Ids.{both_true, id_same}
-use Rattle.flow_syntax.specs.Views.{flows_of}
 use Rattle.part_rows.specs.Parts.{part_of}
 use Rattle.part_rows.specs.declared.parts.PartRows.{PartRows}
 use Rattle.part_steps.specs.Outputs.{outputs_of}
@@ -10,7 +9,7 @@ use Rattle.part_steps.proofs.Delivering.{run_accepts, run_outputs}
 use Rattle.part_steps.proofs.applying.run.Goals as goal
 
 pub returns-clause-applied : goal.returns-clause-applied
-returns-clause-applied c =
+returns-clause-applied g c =
     let was = part_of c.args.rows.now in
     let from = id_of c.args.from.now in
     let to = id_of c.args.to.now in
@@ -20,8 +19,8 @@ returns-clause-applied c =
     let sender = sym (id_same from (id_of message.from) both.0) in
     let receiver = sym (id_same to (id_of message.to) both.1) in
     let left = ap (λ q. record was { queue = q }) c.take_first.ensures.rest in (
-      run_accepts (flows_of c.args.flows.now) c.args.rows.now.partitions was from to c.args.stamp (part_of mid) (part_of c.reach_first-made.new.rows) (id_of message.from) (id_of message.to) (body_of message.body)
+      run_accepts (g.R.Reactions.flows c.args.reactions.now) c.args.rows.now.partitions was from to c.args.stamp (part_of mid) (part_of c.reach_first-made.new.rows) (id_of message.from) (id_of message.to) (body_of message.body)
           (sym c.takes_at.ensures ∙ c.if-not-takes_at.false) c.in-Some.ensures.first left sender receiver c.in_ok-made.ensures.stands,
-      run_outputs (flows_of c.args.flows.now) c.args.rows.now.partitions was from to c.args.stamp (part_of mid) (id_of message.from) (id_of message.to) (body_of message.body) (outputs_of c.in_ok-made.field-0)
+      run_outputs (g.R.Reactions.flows c.args.reactions.now) c.args.rows.now.partitions was from to c.args.stamp (part_of mid) (id_of message.from) (id_of message.to) (body_of message.body) (outputs_of c.in_ok-made.field-0)
           c.in-Some.ensures.first left sender receiver c.in_ok-made.ensures.outputs,
     )

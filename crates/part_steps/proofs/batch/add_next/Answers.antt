@@ -1,7 +1,6 @@
 use Rattle.std.proofs.Common.{◌≡◌, ◌∙◌, Option, Some, None, IfOk, sym, subst}
 use Rattle.std.specs.Prelude.{IfSome}
 use Rattle.flow_syntax.specs.Syntax.{Flows}
-use Rattle.flow_syntax.specs.Views.{flows_of}
 use Rattle.part_items.specs.Plain.{item_of}
 use Rattle.part_items.specs.declared.items.Item.{Item}
 use Rattle.dura_model.specs.Partition.{accepted}
@@ -16,10 +15,10 @@ use Rattle.part_steps.specs.declared.batch.Batch.{Batch}
 use Rattle.part_steps.proofs.batch.add_next.Goals as goal
 
 pub unreachable-requires : goal.unreachable-requires
-unreachable-requires c =
+unreachable-requires g c =
     let s = c.args.batch.state in
     let t = c.in_ok-enabled.batch.state in
-    let flows = flows_of c.args.flows.now in
+    let flows = g.R.Reactions.flows c.args.reactions.now in
     let item = item_of c.in-Some.item in
     let some = subst (λ r. IfOk r (λ x. IfSome x (λ one. (f : Flows) → IsEnabled f (count_of s) (state_of s) (moment_at (state_of s) c.args.now) (item_of one)))) c.in_ok-enabled.ensures.ok.0 c.enabled.ensures.some in
     let there = subst (λ (x : Option Item). IfSome x (λ one. (f : Flows) → IsEnabled f (count_of s) (state_of s) (moment_at (state_of s) c.args.now) (item_of one))) c.in-Some.is some flows in
@@ -30,10 +29,10 @@ unreachable-requires c =
     cc wrong
 
 pub returns : goal.returns
-returns c =
+returns g c =
     let s = c.args.batch.state in
     let t = c.in_ok-enabled.batch.state in
-    let flows = flows_of c.args.flows.now in
+    let flows = g.R.Reactions.flows c.args.reactions.now in
     let some = subst (λ r. IfOk r (λ x. IfSome x (λ one. (f : Flows) → IsEnabled f (count_of s) (state_of s) (moment_at (state_of s) c.args.now) (item_of one)))) c.in_ok-enabled.ensures.ok.0 c.enabled.ensures.some in
     let there = subst (λ (x : Option Item). IfSome x (λ one. (f : Flows) → IsEnabled f (count_of s) (state_of s) (moment_at (state_of s) c.args.now) (item_of one))) c.in-Some.is some flows in
     let here = subst (λ (b : Batch). IsEnabled flows (count_of b.state) (state_of b.state) (moment_at (state_of b.state) c.args.now) (item_of c.in-Some.item)) (sym c.in_ok-enabled.ensures.ok.1) there in

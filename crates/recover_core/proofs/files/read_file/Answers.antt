@@ -1,7 +1,6 @@
 use Rattle.std.proofs.Common.{◌≡◌, ◌∙◌, inl, Err, sym, subst, rules, List}
 use Rattle.std.proofs.lemmas.Result.{err_from_is_err_and}
 use Rattle.site_model.specs.History.{Step, content_of}
-use Rattle.flow_syntax.specs.Views.{flows_of}
 use Rattle.log_reader.specs.declared.reader.OpenError.{OpenError}
 use Rattle.log_reader.specs.declared.reader.OpenError.TheVariants as unopened
 use Rattle.log_reader.specs.Outcomes.{Opens}
@@ -28,7 +27,7 @@ pub returns-clause-says : goal.returns-clause-says
 returns-clause-says g c tells =
     let old = g.V.Site.history c.args.site.now in
     let mid = g.V.Site.history c.open_log.new.site in
-    let flows = flows_of c.args.flows.now in
+    let flows = g.R.Reactions.flows c.args.reactions.now in
     let reader = c.in-Ok.reader in
     let opens = c.in-Ok.ensures.opens (c.read_on.ensures.told tells) in
     let all = c.in_ok-log.ensures.reads tells (is_opened c.args.file old mid c.in-Ok.ensures.synced reader c.in-Ok.ensures.place opens) in
@@ -39,7 +38,7 @@ pub returns-in_err-log-clause-says : goal.returns-in_err-log-clause-says
 returns-in_err-log-clause-says g c tells =
     let old = g.V.Site.history c.args.site.now in
     let mid = g.V.Site.history c.open_log.new.site in
-    let flows = flows_of c.args.flows.now in
+    let flows = g.R.Reactions.flows c.args.reactions.now in
     let reader = c.in-Ok.reader in
     let p = err_from_is_err_and c.from_residual.result c.from_residual.ensures.1 in
     let opens = c.in-Ok.ensures.opens (c.read_on.ensures.told tells) in

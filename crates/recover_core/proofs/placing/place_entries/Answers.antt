@@ -1,5 +1,4 @@
 use Rattle.std.proofs.Common.{◌+◌, ◌∷◌, [], List, drop, take, sym, subst, arith}
-use Rattle.flow_syntax.specs.Views.{flows_of}
 use Rattle.dura_value.specs.Items as plain
 use Rattle.part_items.specs.Numbered as numbered
 use Rattle.part_items.specs.Plain.{entry_of, entries_of, next_of}
@@ -9,10 +8,10 @@ use Rattle.recover_core.proofs.Walks.{rest_is, front_is, all_before, front_short
 use Rattle.recover_core.proofs.placing.place_entries.Goals as goal
 
 pub loop-entry-init : goal.loop-entry-init
-loop-entry-init c = record { placed = none_placed (flows_of c.args.flows.now) c.args.progress c.requires.ready; next = c.requires.next }
+loop-entry-init g c = record { placed = none_placed (g.R.Reactions.flows c.args.reactions.now) c.args.progress c.requires.ready; next = c.requires.next }
 
 pub place_entry-requires : goal.place_entry-requires
-place_entry-requires c =
+place_entry-requires g c =
     let all = c.args.entries.now in
     let next = subst (IsNext (next_of c.loop-entry.progress.next)) (rest_is entry_of all c.loop-entry.entry-index c.entry-item.result c.loop-entry-test.true c.entry-item.is) c.loop-entry.invariant.next in
     record {
@@ -22,8 +21,8 @@ place_entry-requires c =
     }
 
 pub loop-entry-preserved : goal.loop-entry-preserved
-loop-entry-preserved c =
-    let flows = flows_of c.args.flows.now in
+loop-entry-preserved g c =
+    let flows = g.R.Reactions.flows c.args.reactions.now in
     let all = c.args.entries.now in
     let i = c.loop-entry.entry-index in
     let entry = c.entry-item.result in
@@ -37,4 +36,4 @@ loop-entry-preserved c =
     }
 
 pub returns : goal.returns
-returns c = subst (λ (l : List plain.Entry). GoesOn (flows_of c.args.flows.now) l c.args.progress c.loop-entry.progress) (all_before entry_of c.args.entries.now c.loop-entry.entry-index c.loop-entry-test.false) c.loop-entry.invariant.placed
+returns g c = subst (λ (l : List plain.Entry). GoesOn (g.R.Reactions.flows c.args.reactions.now) l c.args.progress c.loop-entry.progress) (all_before entry_of c.args.entries.now c.loop-entry.entry-index c.loop-entry-test.false) c.loop-entry.invariant.placed

@@ -1,5 +1,4 @@
 use Rattle.std.proofs.Common.{◌<◌, ◌+◌, List, drop, subst, arith}
-use Rattle.flow_syntax.specs.Views.{flows_of}
 use Rattle.dura_value.specs.Items as plain
 use Rattle.part_items.specs.Plain.{item_of, items_of}
 use Rattle.dura_model.specs.Partition.{accepted}
@@ -13,14 +12,14 @@ use Rattle.recover_core.proofs.Walks.{rest_is, none_left}
 use Rattle.recover_core.proofs.placing.place_items.Goals as goal
 
 pub loop-item-init : goal.loop-item-init
-loop-item-init c = none_applied (flows_of c.args.flows.now) c.args.state (items_of c.args.items.now) c.requires.sound
+loop-item-init g c = none_applied (g.R.Reactions.flows c.args.reactions.now) c.args.state (items_of c.args.items.now) c.requires.sound
 
 pub apply-requires-clause-begun : goal.apply-requires-clause-begun
-apply-requires-clause-begun c = let same = c.loop-item.invariant.position in let some = c.requires.begun in omega (arith, same, some)
+apply-requires-clause-begun g c = let same = c.loop-item.invariant.position in let some = c.requires.begun in omega (arith, same, some)
 
 pub loop-item-preserved : goal.loop-item-preserved
-loop-item-preserved c =
-    let flows = flows_of c.args.flows.now in
+loop-item-preserved g c =
+    let flows = g.R.Reactions.flows c.args.reactions.now in
     let s = c.loop-item.state in
     let all = c.args.items.now in
     let item = item_of c.item-item.result in
@@ -30,8 +29,8 @@ loop-item-preserved c =
     one_applied flows c.args.state s c.in-Accepted.next (items_of all) (items_of (drop (c.loop-item.item-index + 1) all)) item so_far done.0 done.4 done.2 done.3 (stays_in_life flows item s (state_of c.in-Accepted.next) so_far.sound begun done.0)
 
 pub returns-in-Refused : goal.returns-in-Refused
-returns-in-Refused c =
-    let flows = flows_of c.args.flows.now in
+returns-in-Refused g c =
+    let flows = g.R.Reactions.flows c.args.reactions.now in
     let s = c.loop-item.state in
     let all = c.args.items.now in
     let item = item_of c.item-item.result in
@@ -40,7 +39,7 @@ returns-in-Refused c =
     one_refused flows c.args.state s (items_of all) (items_of (drop (c.loop-item.item-index + 1) all)) item so_far done.0
 
 pub returns : goal.returns
-returns c =
-    let flows = flows_of c.args.flows.now in
+returns g c =
+    let flows = g.R.Reactions.flows c.args.reactions.now in
     let all = c.args.items.now in
     all_applied flows c.args.state c.loop-item.state (items_of all) (subst (λ (l : List plain.Item). HasApplied flows c.args.state c.loop-item.state (items_of all) l) (none_left item_of all c.loop-item.item-index c.loop-item-test.false) c.loop-item.invariant)

@@ -1,9 +1,8 @@
 use Rattle.std.proofs.Common.{drop}
-use Rattle.flow_syntax.specs.Views.{flows_of}
 use Rattle.part_items.specs.Plain.{items_of}
 use Rattle.recover_core.proofs.EntriesPlaced.{HasApplied}
 use Rattle.recover_core.proofs.placing.place_items.Given as goal
 
 -- the items before this one are applied
 abbrev pub invariant-loop-item : goal.invariant-loop-item
-invariant-loop-item l = HasApplied (flows_of l.flows) l.fn.state l.state (items_of l.items) (items_of (drop l.item-index l.items))
+invariant-loop-item g l = HasApplied (g.R.Reactions.flows l.reactions) l.fn.state l.state (items_of l.items) (items_of (drop l.item-index l.items))

@@ -1,5 +1,4 @@
 use Rattle.std.proofs.Common.{◌<◌, ◌^◌, Option, sym, ap, subst, arith}
-use Rattle.flow_syntax.specs.Views.{flows_of}
 use Rattle.dura_model.specs.Partition.{Partition}
 use Rattle.part_items.specs.Plain.{items_of, entry_of}
 use Rattle.part_steps.specs.declared.state.PartState.{PartState}
@@ -12,10 +11,10 @@ use Rattle.recover_core.proofs.EntriesPlaced.{made_on, stuck_on, still_stuck}
 use Rattle.recover_core.proofs.placing.place_on.Goals as goal
 
 pub returns-in-Stuck : goal.returns-in-Stuck
-returns-in-Stuck c = subst (λ (p : Placing). GoesOnAs (flows_of c.args.flows.now) (entry_of c.args.entry.now) p (Stuck c.in-Stuck.position)) (sym c.in-Stuck.is) (still_stuck (flows_of c.args.flows.now) (entry_of c.args.entry.now) c.in-Stuck.position)
+returns-in-Stuck g c = subst (λ (p : Placing). GoesOnAs (g.R.Reactions.flows c.args.reactions.now) (entry_of c.args.entry.now) p (Stuck c.in-Stuck.position)) (sym c.in-Stuck.is) (still_stuck (g.R.Reactions.flows c.args.reactions.now) (entry_of c.args.entry.now) c.in-Stuck.position)
 
 pub enter-entered-requires : goal.enter-entered-requires
-enter-entered-requires c =
+enter-entered-requires g c =
     let ready = subst (IsReadyFor c.args.entry.now.incarnation) c.in-On.is c.requires.ready in
     record {
       sound = ready.0;
@@ -24,11 +23,11 @@ enter-entered-requires c =
     }
 
 pub place_items-requires-clause-begun : goal.place_items-requires-clause-begun
-place_items-requires-clause-begun c = let at = ap (λ (p : Partition). p.position) c.enter-entered.ensures.entered in omega (arith, at)
+place_items-requires-clause-begun g c = let at = ap (λ (p : Partition). p.position) c.enter-entered.ensures.entered in omega (arith, at)
 
 pub returns-in-Some : goal.returns-in-Some
-returns-in-Some c =
-    let flows = flows_of c.args.flows.now in
+returns-in-Some g c =
+    let flows = g.R.Reactions.flows c.args.reactions.now in
     let entry = entry_of c.args.entry.now in
     let entered = c.enter-entered.result in
     let items = items_of c.as_slice.result.now in
@@ -38,8 +37,8 @@ returns-in-Some c =
     (made_on flows entry c.in-On.state entered items ready c.enter-entered.ensures.entered c.enter-entered.ensures.partitions (ap items_of c.as_slice.ensures) c.in-Some.made done)
 
 pub returns-in-None : goal.returns-in-None
-returns-in-None c =
-    let flows = flows_of c.args.flows.now in
+returns-in-None g c =
+    let flows = g.R.Reactions.flows c.args.reactions.now in
     let entry = entry_of c.args.entry.now in
     let entered = c.enter-entered.result in
     let items = items_of c.as_slice.result.now in

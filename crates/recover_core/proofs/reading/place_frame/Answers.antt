@@ -1,6 +1,5 @@
 use Rattle.std.proofs.Common.{◌≡◌, ◌+◌, List, length, sym, ap, subst, arith}
 use Rattle.std.proofs.lemmas.List.{length-map}
-use Rattle.flow_syntax.specs.Views.{flows_of}
 use Rattle.part_items.specs.declared.frames.Entry.{Entry}
 use Rattle.part_items.specs.Plain.{entry_of, entries_of, next_of}
 use Rattle.part_files.specs.Kept.{in_file}
@@ -9,12 +8,12 @@ use Rattle.recover_core.proofs.NextFrames.{next_frame}
 use Rattle.recover_core.proofs.reading.place_frame.Goals as goal
 
 pub returns-in-Err-Bad : goal.returns-in-Err-Bad
-returns-in-Err-Bad c =
+returns-in-Err-Bad g c =
     let is = rw c.in-Err-Bad.field-0-is at c.in-Err-Bad.ensures in
     rw c.in-Err-Bad.field-0-is (ap (in_file (c.args.gate + 5)) is)
 
 pub place_entries-requires : goal.place_entries-requires
-place_entries-requires c =
+place_entries-requires g c =
     let of = next_frame (next_of c.args.progress.next) c.args.payload.now (entries_of c.in-Ok.frame) c.in-Ok.ensures in
     let same : c.entries.result.now ≡ c.in-Ok.frame = c.entries.ensures in
     record {
@@ -29,11 +28,11 @@ place_entries-requires c =
     }
 
 pub returns-in-Ok-place_entries : goal.returns-in-Ok-place_entries
-returns-in-Ok-place_entries c =
+returns-in-Ok-place_entries g c =
     let of = next_frame (next_of c.args.progress.next) c.args.payload.now (entries_of c.in-Ok.frame) c.in-Ok.ensures in
     let same : c.entries.result.now ≡ c.in-Ok.frame = c.entries.ensures in (
       entries_of c.in-Ok.frame,
       c.in-Ok.ensures,
-      subst (λ (l : List Entry). GoesOn (flows_of c.args.flows.now) (entries_of l) c.args.progress c.in-Ok-place_entries.placed) same c.in-Ok-place_entries.ensures,
+      subst (λ (l : List Entry). GoesOn (g.R.Reactions.flows c.args.reactions.now) (entries_of l) c.args.progress c.in-Ok-place_entries.placed) same c.in-Ok-place_entries.ensures,
       of.1,
     )

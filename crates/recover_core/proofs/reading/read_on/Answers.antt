@@ -1,6 +1,5 @@
 use Rattle.std.proofs.Common.{◌∙◌, [], Ok, refl, subst, arith}
 use Rattle.site_model.specs.History.{content_of}
-use Rattle.flow_syntax.specs.Views.{flows_of}
 use Rattle.recover_core.specs.declared.reading.Turn.{Turn}
 use Rattle.recover_core.specs.Files.{ReadsOn, RestsAfter, StaysThere}
 use Rattle.recover_core.proofs.FramesRead.{none_read, reads_over, rests_over}
@@ -9,7 +8,7 @@ use Rattle.recover_core.proofs.reading.read_on.Goals as goal
 pub frames-init : goal.frames-init
 frames-init g c =
     let reader = c.args.reader in
-    let flows = flows_of c.args.flows.now in
+    let flows = g.R.Reactions.flows c.args.reactions.now in
     let progress = c.new-progress.result in
     record {
       can = record { ready = c.new-progress.ensures.ready; room = let none = c.new-progress.ensures.first in omega (arith, none) };
@@ -26,7 +25,7 @@ frames-init g c =
 pub frames-preserved : goal.frames-preserved
 frames-preserved g c =
     let inv = c.frames.invariant in
-    let flows = flows_of c.args.flows.now in
+    let flows = g.R.Reactions.flows c.args.reactions.now in
     let reading = c.frames.reading in
     let steps = g.V.Site.history c.frames.site in
     let old = g.V.Site.history c.args.site.now in
@@ -57,7 +56,7 @@ frames-smaller g c =
 pub returns-in-End-clause-reads : goal.returns-in-End-clause-reads
 returns-in-End-clause-reads g c tells opened =
     let inv = c.frames.invariant in
-    let flows = flows_of c.args.flows.now in
+    let flows = g.R.Reactions.flows c.args.reactions.now in
     let reading = c.frames.reading in
     let steps = g.V.Site.history c.frames.site in
     let old = g.V.Site.history c.args.site.now in

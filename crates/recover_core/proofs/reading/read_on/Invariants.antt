@@ -1,7 +1,6 @@
 use Rattle.std.proofs.Common.{◌≡◌, ◌≤◌, ◌-◌, ◌^◌, ℕ, List}
 use Rattle.dura_value.specs.Items.{Entry}
 use Rattle.site_model.specs.History.{content_of}
-use Rattle.flow_syntax.specs.Views.{flows_of}
 use Rattle.recover_core.specs.Files.{IsOpened, HasReadTo, CanGoOn}
 use Rattle.recover_core.proofs.reading.read_on.Given as goal
 
@@ -15,7 +14,7 @@ invariant-frames g l = record {
   told : g.V.Site.tells l.site → g.V.Site.tells l.fn.site;
   unchanged : g.V.Site.history l.site ≡ g.V.Site.history l.fn.site;
   read : g.V.Site.tells l.site → IsOpened (g.V.Site.history l.fn.site) l.fn.reader
-      → (payloads : List (List ℕ)) × (entries : List Entry) × HasReadTo (flows_of l.flows) (content_of l.fn.reader.file (g.V.Site.history l.fn.site)) l.fn.reader.header payloads entries l.reading.reader.gate l.reading.progress;
+      → (payloads : List (List ℕ)) × (entries : List Entry) × HasReadTo (g.R.Reactions.flows l.reactions) (content_of l.fn.reader.file (g.V.Site.history l.fn.site)) l.fn.reader.header payloads entries l.reading.reader.gate l.reading.progress;
   later : g.V.Site.disk_faults l.fn.site ≤ g.V.Site.disk_faults l.site;
   say_faults : g.V.Site.say_faults l.site ≡ g.V.Site.say_faults l.fn.site;
 }

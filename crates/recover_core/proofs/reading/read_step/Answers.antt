@@ -1,7 +1,6 @@
 use Rattle.std.proofs.Common.{◌≡◌, List, ℕ, length, Ok, Err, refl, ap, subst, arith}
 use Rattle.std.proofs.lemmas.Result.{err_from_is_err_and}
 use Rattle.site_model.specs.History.{content_of}
-use Rattle.flow_syntax.specs.Views.{flows_of}
 use Rattle.part_items.specs.Numbered.{next_frame_in}
 use Rattle.part_items.specs.Plain.{next_of}
 use Rattle.recover_core.specs.Files.{PlacesFrame}
@@ -13,7 +12,7 @@ returns-in-Ok-End-clause-reads g c tells size_is payloads entries has =
     let reader = c.args.reading.reader in
     let content = content_of reader.file (g.V.Site.history c.args.site.now) in
     let goes = rw c.in-Ok-End.field-0-is at (c.in-Ok-End.ensures.found tells size_is payloads has.read) in
-    (end_read (flows_of c.args.flows.now) content reader.header payloads entries reader.gate c.args.reading.progress has c.in-Ok-End.log.gate goes.0 goes.1, has.progress)
+    (end_read (g.R.Reactions.flows c.args.reactions.now) content reader.header payloads entries reader.gate c.args.reading.progress has c.in-Ok-End.log.gate goes.0 goes.1, has.progress)
 
 pub returns-in-Ok-End-clause-rests : goal.returns-in-Ok-End-clause-rests
 returns-in-Ok-End-clause-rests g c tells payloads read kept = rw c.in-Ok-End.field-0-is at (c.in-Ok-End.ensures.rests tells payloads read kept)
@@ -25,7 +24,7 @@ pub returns-in-Err-clause-reads : goal.returns-in-Err-clause-reads
 returns-in-Err-clause-reads g c tells size_is payloads entries has =
     let reader = c.args.reading.reader in
     let content = content_of reader.file (g.V.Site.history c.args.site.now) in
-    gate_refused (flows_of c.args.flows.now) content reader.header payloads entries reader.gate c.args.reading.progress has reader c.in-Err.error refl (c.in-Err.ensures.found tells size_is payloads has.read)
+    gate_refused (g.R.Reactions.flows c.args.reactions.now) content reader.header payloads entries reader.gate c.args.reading.progress has reader c.in-Err.error refl (c.in-Err.ensures.found tells size_is payloads has.read)
 
 pub place_frame-requires : goal.place_frame-requires
 place_frame-requires g c =
@@ -49,12 +48,12 @@ returns-clause-reads g c tells size_is payloads entries has =
     let read = subst (λ (bytes : List ℕ). next_frame_in (next_of c.args.reading.progress.next) bytes ≡ Ok placed.0) c.as_bytes.ensures placed.1 in (
       c.in-Ok-Frame.payload,
       placed.0,
-      more_read (flows_of c.args.flows.now) content reader.header payloads entries reader.gate c.args.reading.progress has c.in-Ok-Frame.payload c.in-Ok-Frame.behind.gate placed.0 c.in_ok-progress.progress goes.0 goes.1 place.3 read placed.2,
+      more_read (g.R.Reactions.flows c.args.reactions.now) content reader.header payloads entries reader.gate c.args.reading.progress has c.in-Ok-Frame.payload c.in-Ok-Frame.behind.gate placed.0 c.in_ok-progress.progress goes.0 goes.1 place.3 read placed.2,
     )
 
 pub returns-in_err-progress-clause-reads : goal.returns-in_err-progress-clause-reads
 returns-in_err-progress-clause-reads g c tells size_is payloads entries has =
-    let flows = flows_of c.args.flows.now in
+    let flows = g.R.Reactions.flows c.args.reactions.now in
     let reader = c.args.reading.reader in
     let progress = c.args.reading.progress in
     let error = c.in_err-progress.field-0.0 in

@@ -3,7 +3,6 @@ use Rattle.std.proofs.lemmas.Result.{err_from_is_err_and}
 use Rattle.dura_model.specs.Partition.{Partition}
 use Rattle.part_steps.specs.States.{state_of}
 use Rattle.site_model.specs.History.{content_of}
-use Rattle.flow_syntax.specs.Views.{flows_of}
 use Rattle.part_files.specs.Logs.{logs_in}
 use Rattle.part_files.specs.Stands.{alone_with}
 use Rattle.recover_core.specs.Chosen.{Chooses}
@@ -16,14 +15,14 @@ returns-in_err-first-clause-recovers g c tells =
     let old = g.V.Site.history c.args.site.now in
     let one = g.V.Site.history c.open_file.new.site in
     let p = err_from_is_err_and c.from_residual.result c.from_residual.ensures.1 in
-    rw (p.1, p.2) (first_refused (flows_of c.args.flows.now) c.args.digest old one (first_content old one c.open_file.ensures.syncs) (second_untouched old one c.open_file.ensures.syncs) c.in_err-first.field-0.0 (c.in_err-first.ensures.says tells))
+    rw (p.1, p.2) (first_refused (g.R.Reactions.flows c.args.reactions.now) c.args.digest old one (first_content old one c.open_file.ensures.syncs) (second_untouched old one c.open_file.ensures.syncs) c.in_err-first.field-0.0 (c.in_err-first.ensures.says tells))
 
 pub returns-in_err-first-clause-syncs : goal.returns-in_err-first-clause-syncs
 returns-in_err-first-clause-syncs g c = only_first (g.V.Site.history c.args.site.now) (g.V.Site.history c.open_file.new.site) c.open_file.ensures.syncs
 
 pub returns-in-Err-clause-recovers : goal.returns-in-Err-clause-recovers
 returns-in-Err-clause-recovers g c tells =
-    let flows = flows_of c.args.flows.now in
+    let flows = g.R.Reactions.flows c.args.reactions.now in
     let old = g.V.Site.history c.args.site.now in
     let one = g.V.Site.history c.open_file.new.site in
     let two = g.V.Site.history c.open_file-2.new.site in
@@ -37,7 +36,7 @@ returns-in-Err-clause-syncs g c = only_both (g.V.Site.history c.args.site.now) (
 
 pub returns-in_err-found-clause-recovers : goal.returns-in_err-found-clause-recovers
 returns-in_err-found-clause-recovers g c tells =
-    let flows = flows_of c.args.flows.now in
+    let flows = g.R.Reactions.flows c.args.reactions.now in
     let old = g.V.Site.history c.args.site.now in
     let one = g.V.Site.history c.open_file.new.site in
     let two = g.V.Site.history c.open_file-2.new.site in
@@ -53,7 +52,7 @@ returns-in_err-found-clause-syncs g c = only_both (g.V.Site.history c.args.site.
 
 pub returns-in-Some-clause-recovers : goal.returns-in-Some-clause-recovers
 returns-in-Some-clause-recovers g c tells =
-    let flows = flows_of c.args.flows.now in
+    let flows = g.R.Reactions.flows c.args.reactions.now in
     let old = g.V.Site.history c.args.site.now in
     let one = g.V.Site.history c.open_file.new.site in
     let two = g.V.Site.history c.open_file-2.new.site in
@@ -67,7 +66,7 @@ returns-in-Some-clause-recovers g c tells =
 
 pub returns-in-Some-clause-rests : goal.returns-in-Some-clause-rests
 returns-in-Some-clause-rests g c tells =
-    let flows = flows_of c.args.flows.now in
+    let flows = g.R.Reactions.flows c.args.reactions.now in
     let old = g.V.Site.history c.args.site.now in
     let one = g.V.Site.history c.open_file.new.site in
     let two = g.V.Site.history c.open_file-2.new.site in
@@ -84,7 +83,7 @@ returns-in-Some-clause-syncs g c = only_both (g.V.Site.history c.args.site.now) 
 
 pub returns-in-None-clause-recovers : goal.returns-in-None-clause-recovers
 returns-in-None-clause-recovers g c tells =
-    let flows = flows_of c.args.flows.now in
+    let flows = g.R.Reactions.flows c.args.reactions.now in
     let old = g.V.Site.history c.args.site.now in
     let one = g.V.Site.history c.open_file.new.site in
     let two = g.V.Site.history c.open_file-2.new.site in
