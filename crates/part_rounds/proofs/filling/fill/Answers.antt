@@ -7,7 +7,7 @@ use Rattle.part_rounds.proofs.Puttings.{filled_goes_on, filled_in_vain}
 use Rattle.part_rounds.proofs.filling.fill.Goals as goal
 
 pub overflow_cast-len : goal.overflow_cast-len
-overflow_cast-len c = Fits-le (omega (arith, c.len.ensures, c.requires.room)) c.ranges.limit
+overflow_cast-len g c = Fits-le (omega (arith, c.len.ensures, c.requires.room)) c.ranges.limit
 
 pub returns-in-Ok-clause-goes_on : goal.returns-in-Ok-clause-goes_on
 returns-in-Ok-clause-goes_on g c = λ rules told same.

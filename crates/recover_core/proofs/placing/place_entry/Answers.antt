@@ -3,10 +3,10 @@ use Rattle.recover_core.proofs.EntriesPlaced.{ready_later}
 use Rattle.recover_core.proofs.placing.place_entry.Goals as goal
 
 pub place_on-requires-clause-ready : goal.place_on-requires-clause-ready
-place_on-requires-clause-ready c = ready_later c.args.progress.placing c.args.progress.next.incarnation c.args.entry.now.incarnation c.requires.next.1 c.requires.ready.0
+place_on-requires-clause-ready g c = ready_later c.args.progress.placing c.args.progress.next.incarnation c.args.entry.now.incarnation c.requires.next.1 c.requires.ready.0
 
 pub returns : goal.returns
-returns c = record {
+returns g c = record {
   next = refl;
   life = refl;
   placed = c.in_ok-placing.ensures.placed;
