@@ -4,6 +4,7 @@ use Rattle.engine_run.specs.Opening.{IsLogCause, RecoversAs}
 use Rattle.engine_run.specs.Showing.{ShowsAs}
 use Rattle.engine_run.proofs.Shown.{syncs_tape, flows_shown, logs_shown}
 use Rattle.engine_run.proofs.showing.show.Goals as goal
+use Rattle.flow_syntax.specs.Syntax.{Flows}
 use Rattle.flow_syntax.specs.Views.{flows_of}
 use Rattle.part_steps.specs.States.{state_of}
 use Rattle.recover_core.specs.Recovering.{OnlySyncs}
@@ -71,7 +72,7 @@ returns-in-Ok-said g c =
       shows = λ tells.
           let told = said.tells tells in
           let recovers = subst (λ (s : List Step). RecoversAs flows file.digest (λ f. content_of f s) (Ok found)) read.unchanged (c.in-Ok-recover_logs.ensures.recovers told) in
-          (flows, state, record { digest = file.digest; flows_in_file = c.in-Ok.ensures.reads (recover.told told); entries = recovers.entries; keeps = record { kept = recovers.kept; made = recovers.placed } }, subst (λ (t : List ℕ). SaysTable flows state t (tape now)) (syncs_tape old mid syncs) c.in-Ok-said.ensures.said);
+          (flows, state, record { digest = file.digest; flows_in_file = c.in-Ok.ensures.reads (recover.told told); entries = recovers.entries; keeps = record { kept = recovers.kept; made = recovers.placed } }, subst (λ (t : List ℕ). SaysTable flows state t (tape now)) (syncs_tape old mid syncs) (subst (λ (f : Flows). SaysTable f state (tape mid) (tape now)) c.of-machines.ensures c.in-Ok-said.ensures.said));
       nothing = record { mid = mid; syncs = syncs; files = said.files };
       fault = λ is. absurd (cc is);
       say_fault = λ is. absurd (cc is);
