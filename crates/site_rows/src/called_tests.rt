@@ -8,16 +8,9 @@ use std::io::ErrorKind;
 type Called = CalledSite<ScriptedCalls, Unknown>;
 
 /// A site on calls that move at most so many bytes, with this script.
-fn site_with(alloc: Global, line: &Line) -> Called {
-    CalledSite::new(
-        ScriptedCalls::new(alloc, line.first as usize, line.text),
-        Unknown,
-    )
-}
-
-fn restart(alloc: Global, site: &mut Called, line: &Line) -> bool {
-    *site = site_with(alloc, line);
-    true
+fn site_with(alloc: Global, line: Line) -> Called {
+    let calls = ScriptedCalls::new(alloc, line.first as usize, line.text);
+    CalledSite::new(calls, Unknown)
 }
 
 fn has_failed(fault: Option<Fault>, wanted: &str) -> bool {
@@ -34,14 +27,17 @@ fn has_failed(fault: Option<Fault>, wanted: &str) -> bool {
 }
 
 impl World for Called {
-    fn is_right(&mut self, host: &HostRuntime, _path: &str, line: &Line) -> bool {
+    fn is_right(&mut self, host: &HostRuntime, line: Line) -> bool {
         match line.verb {
-            "script" => restart(host.alloc(), self, line),
             "left" => self.calls().has_left(line.text),
             "tape" => self.calls().has_tape(line.bytes),
             "faults" => self.disk_faults() == line.first && self.say_faults() == line.second,
             "failed" => has_failed(self.fault(), line.text),
-            _ => answers(self, &mut [0; 16], line),
+            "script" => {
+                *self = site_with(host.alloc(), line);
+                true
+            }
+            _ => answers(self, line, 16),
         }
     }
 }
@@ -218,6 +214,7 @@ const SITES: &str = "# a write through short calls reads back whole;
 
 #[test]
 fn sites_over_calls(rt: HostRuntime) {
-    let mut site = site_with(rt.alloc(), &read_line("script"));
-    check(&rt, &rt, "", &mut site, SITES);
+    let alloc = rt.alloc();
+    let mut site = site_with(alloc, read_line("script"));
+    check(&rt, &rt, &mut site, SITES);
 }

@@ -1,76 +1,66 @@
 // What no clause says: which bytes the disk gives, which names the files have, what is refused, and when a fault is
 // counted.
-use crate::transcript::{Line, World, answers, check, read_line};
+ghost use Rattle.std.specs.Prelude.{◌≡◌, [], IfOk};
+
+use crate::transcript::{Line, World, answers, check};
 use site_calls::{CalledSite, Calls, FileName, Reason, Unknown};
 use site_host::Host;
-use std::alloc::AllocError;
-use std::env::Env;
-use std::process::Abort;
-use std::rt::{Clock, Files};
-use std::time::{SystemTime, UNIX_EPOCH};
-use std::{env, fs};
+use std::alloc::{AllocError, Global};
+use std::fs;
+use std::fs::{File, Permissions};
+use std::os::unix::fs::PermissionsExt;
+use std::rt::Files;
+
+/// The directory, in the one where the tests run.
+const DIRECTORY: &str = "trial";
 
 type Disk = CalledSite<Host<HostRuntime>, Unknown>;
 
-fn site_at(rt: &impl Abort, host: &HostRuntime, path: &str) -> Disk {
-    let calls = Host::open(*host, host.alloc(), path).expect(rt, "memory");
-    CalledSite::new(calls, Unknown)
+/// Calls on the directory, where nothing is opened before the first one.
+trait Opened<R>: Calls {
+    fn open(rt: R, alloc: Global) -> Result<Self, AllocError>
+        ensures { IfOk result (λ calls. Self.events calls ≡ []) };
+
+    /// Why the last call failed, where the system's error doesn't tell it.
+    fn why(&self) -> Option<Reason>;
 }
 
-/// May not be written any more.
-fn protect(files: &impl Files, file: &str) -> bool {
-    let Ok(metadata) = fs::metadata(files, file) else {
-        return false;
-    };
-    let mut permissions = metadata.permissions();
-    permissions.set_readonly(true);
-    fs::set_permissions(files, file, permissions).is_ok()
+impl<R: Files<File = File> + Print + Drop> Opened<R> for Host<R> {
+    fn open(rt: R, alloc: Global) -> Result<Host<R>, AllocError> {
+        Host::open(rt, alloc, DIRECTORY)
+    }
+
+    fn why(&self) -> Option<Reason> {
+        self.reason()
+    }
 }
 
-fn has_text<R: Files + AllocGlobal>(files: &R, file: &str, wanted: &str) -> bool {
-    match fs::read_to_string(files, file) {
+fn new_site<C: Opened<HostRuntime>>(
+    host: &HostRuntime,
+) -> Result<CalledSite<C, Unknown>, AllocError> {
+    Ok(CalledSite::new(C::open(*host, host.alloc())?, Unknown))
+}
+
+fn has_text<R: Files + AllocGlobal>(rt: &R, file: &str, wanted: &str) -> bool {
+    match fs::read_to_string(rt, file) {
         Ok(text) => text.as_str() == wanted,
         Err(_) => false,
     }
 }
 
-/// The flows get a second name.
-fn link<R: Files + AllocGlobal>(files: &R, path: &str, file: &str) -> bool {
-    match path_in(files, path, "flows.json") {
-        Ok(flows) => fs::hard_link(files, flows.as_str(), file).is_ok(),
-        Err(_) => false,
-    }
-}
-
-fn is_file_right<R: Files + AllocGlobal>(
-    files: &R,
-    verb: &str,
-    path: &str,
-    file: &str,
-    text: &str,
-) -> bool {
-    match verb {
-        "put" => fs::write(files, file, text).is_ok(),
-        "holds" => has_text(files, file, text),
-        "absent" => matches!(fs::exists(files, file), Ok(false)),
-        "protect" => protect(files, file),
-        "link" => link(files, path, file),
-        _ => fs::create_dir(files, file).is_ok(),
-    }
-}
-
-fn path_in<R: AllocGlobal>(rt: &R, path: &str, name: &str) -> Result<String, AllocError> {
-    format!(in rt.alloc(); "{path}/{name}")
-}
-
-/// `file VERB NAME [TEXT]`
-fn does_to_file<R: Files + AllocGlobal>(rt: &R, path: &str, line: &Line) -> bool {
-    let line = read_line(line.text);
-    let (name, text) = line.text.split_once(' ').unwrap_or((line.text, ""));
-    match path_in(rt, path, name) {
-        Ok(file) => is_file_right(rt, line.verb, path, file.as_str(), text),
-        Err(_) => false,
-    }
+/// `VERB FILE [TEXT]`
+fn does_to_file<R: Files + AllocGlobal>(rt: &R, text: &str) -> bool {
+    let (verb, rest) = text.split_once(' ').unwrap_or((text, ""));
+    let (file, text) = rest.split_once(' ').unwrap_or((rest, ""));
+    let done = match verb {
+        "put" => fs::write(rt, file, text),
+        "protect" => fs::set_permissions(rt, file, Permissions::from_mode(0o444)),
+        "link" => fs::hard_link(rt, text, file),
+        "directory" => fs::create_dir(rt, file),
+        "absent" => return matches!(fs::exists(rt, file), Ok(false)),
+        _ => return has_text(rt, file, text),
+    };
+    done.is_ok()
 }
 
 fn is_for(reason: Option<Reason>, wanted: &str) -> bool {
@@ -82,26 +72,22 @@ fn is_for(reason: Option<Reason>, wanted: &str) -> bool {
     reason == Some(wanted)
 }
 
-/// Calls that say why the last one failed, where the system's error doesn't.
-trait Explained {
-    fn why(&self) -> Option<Reason>;
-}
-
-impl<R> Explained for Host<R> {
-    fn why(&self) -> Option<Reason> {
-        self.reason()
-    }
-}
-
-impl<C: Calls + Explained> World for CalledSite<C, Unknown> {
-    fn is_right(&mut self, host: &HostRuntime, path: &str, line: &Line) -> bool {
+impl<C: Opened<HostRuntime> + Drop> World for CalledSite<C, Unknown> {
+    fn is_right(&mut self, host: &HostRuntime, line: Line) -> bool {
         match line.verb {
-            "come" => fs::create_dir(host, path).is_ok(),
-            "go" => fs::remove_dir_all(host, path).is_ok(),
-            "file" => does_to_file(host, path, line),
+            "come" => fs::create_dir(host, DIRECTORY).is_ok(),
+            "go" => fs::remove_dir_all(host, DIRECTORY).is_ok(),
+            "file" => does_to_file(host, line.text),
             "reason" => is_for(self.calls().why(), line.text),
             "faults" => self.disk_faults() == line.first && self.say_faults() == line.second,
-            _ => answers(self, &mut [0; 8], line),
+            "visit" => match new_site(host) {
+                Ok(new) => {
+                    *self = new;
+                    true
+                }
+                Err(_) => false,
+            },
+            _ => answers(self, line, 8),
         }
     }
 }
@@ -113,9 +99,9 @@ const SITES: &str =
     length 17 0;
     read 17 0;
     sync 17;
-    file absent p00.log1;
+    file absent trial/p00.log1;
     write 17 netherite;
-    measured 17 6 ra;
+    inside 17 6 ra;
     length 17 9;
     sync 17;
     sync 17;
@@ -132,13 +118,13 @@ const SITES: &str =
 # names its files;
     come;
     write 16 p00.log0;
-    file holds p00.log0 p00.log0;
+    file holds trial/p00.log0 p00.log0;
     write 21 p01.log1;
-    file holds p01.log1 p01.log1;
+    file holds trial/p01.log1 p01.log1;
     write 58 p10.ck0;
-    file holds p10.ck0 p10.ck0;
+    file holds trial/p10.ck0 p10.ck0;
     write 143 p31.ck1;
-    file holds p31.ck1 p31.ck1;
+    file holds trial/p31.ck1 p31.ck1;
     faults 0 0;
     go;
     visit;
@@ -147,10 +133,10 @@ const SITES: &str =
     fails write 0 x;
     fails write 1 x;
     fails write 2 x;
-    file absent flows.json;
-    file put flows.json flows;
-    file put requests.jsonl requests;
-    file put plan.json plan;
+    file absent trial/flows.json;
+    file put trial/flows.json flows;
+    file put trial/requests.jsonl requests;
+    file put trial/plan.json plan;
     read 0 0 flows;
     read 1 0 requests;
     read 2 0 plan;
@@ -167,8 +153,8 @@ const SITES: &str =
     visit;
 # refuses one file under two names. A log that is a link to an input is refused, and the input stays as it was;
     come;
-    file put flows.json flows;
-    file link p00.log0;
+    file put trial/flows.json flows;
+    file link trial/p00.log0 trial/flows.json;
     read 0 0 flows;
     fails length 16;
     reason flows;
@@ -208,7 +194,7 @@ const SITES: &str =
     fails write 4294967295 x;
     fails sync 4294967295;
     faults 16 0;
-    file directory plan.json;
+    file directory trial/plan.json;
     fails length 2;
     reason not regular;
     fails write 2 x;
@@ -220,13 +206,14 @@ const SITES: &str =
     visit;
 # reads what may not be written;
     come;
-    file put flows.json {};
-    file protect flows.json;
+    file put trial/flows.json {};
+    file protect trial/flows.json;
     read 0 0 {};
     sync 0;
     go;";
 
 const HOLDS: &str = "
+    visit;
     come;
     length 16 0;";
 
@@ -238,48 +225,20 @@ const LOCKED: &str = "
     faults 3 0;";
 
 const HELD: &str = "
+    write 16 held;
+    visit;
     read 16 0 held;
     faults 0 0;
     go;";
 
-/// A path whose last name holds the time in nanoseconds.
-fn new_path<R: Clock + Env + AllocGlobal + Abort>(rt: &R) -> String {
-    let now = SystemTime::now(rt).expect(rt, "a time");
-    let since = now
-        .duration_since(UNIX_EPOCH)
-        .expect(rt, "a time since 1970");
-    let parent = env::temp_dir(rt).expect(rt, "a folder");
-    let name = since.as_nanos();
-    format!(in rt.alloc(); "{}/netherite-{name}", parent.as_str()).expect(rt, "memory")
-}
-
-/// Two sites are made, and nothing is opened before the first call. The first is called, then the other, then the first.
-fn visit(
-    rt: &impl Abort,
-    host: &HostRuntime,
-    path: &str,
-    first: &'static str,
-    other: &'static str,
-    last: &'static str,
-) {
-    let mut site = site_at(rt, host, path);
-    check(rt, host, path, &mut site, first);
-    check(rt, host, path, &mut site_at(rt, host, path), other);
-    check(rt, host, path, &mut site, last);
-}
-
+/// While one run holds the directory another fails. A run of the tests that failed may have left it.
 #[test]
 fn sites_over_a_directory(rt: HostRuntime) {
-    let path = new_path(&rt);
-    for transcript in SITES.split("\n    visit;") {
-        visit(&rt, &rt, path.as_str(), transcript, "", "");
-    }
-}
-
-/// While one run holds the directory another fails.
-#[test]
-fn holds_its_directory(rt: HostRuntime) {
-    let path = new_path(&rt);
-    visit(&rt, &rt, path.as_str(), HOLDS, LOCKED, "write 16 held;");
-    visit(&rt, &rt, path.as_str(), HELD, "", "");
+    let _ = fs::remove_dir_all(&rt, DIRECTORY);
+    let mut site: Disk = new_site(&rt).expect(&rt, "memory");
+    check(&rt, &rt, &mut site, SITES);
+    check(&rt, &rt, &mut site, HOLDS);
+    let mut other: Disk = new_site(&rt).expect(&rt, "memory");
+    check(&rt, &rt, &mut other, LOCKED);
+    check(&rt, &rt, &mut site, HELD);
 }

@@ -1,69 +1,29 @@
 // What no clause says of the site in memory: that each call gets through where none is listed to fail.
-use crate::transcript::{Line, World, answers, check};
+use crate::transcript::{Line, World, answers, check, read_line};
 use site_memory::{Kept, Kind, MemorySite, Pick};
 use site_model::Site;
-use std::alloc::Global;
-use std::process::Abort;
+use std::alloc::{AllocError, Global};
 
-/// A site with room for so many bytes and so many calls, where no call fails.
-fn make_room(alloc: Global, site: &mut MemorySite, line: &Line) -> bool {
-    match MemorySite::new(alloc, line.first, line.second, Vec::new(alloc)) {
-        Ok(made) => {
-            *site = made;
-            true
-        }
-        Err(_) => false,
-    }
-}
-
-/// From an offset in the file on.
-fn writes_inside(alloc: Global, site: &mut MemorySite, line: &Line) -> bool {
-    let length = match site.content(alloc, line.file) {
-        Ok(content) => content.len() as u64,
-        Err(_) => return false,
-    };
-    line.second <= length && site.write(line.file, line.second, line.bytes).is_err() == line.fails
-}
-
-fn has_content(alloc: Global, site: &MemorySite, file: u32, wanted: &[u8]) -> bool {
-    match site.content(alloc, file) {
-        Ok(content) => content.as_slice() == wanted,
-        Err(_) => false,
-    }
-}
-
-fn has_tape(alloc: Global, site: &MemorySite, wanted: &[u8]) -> bool {
-    match site.tape(alloc) {
-        Ok(tape) => tape.as_slice() == wanted,
+fn are(bytes: Result<Vec<u8>, AllocError>, wanted: &str) -> bool {
+    match bytes {
+        Ok(bytes) => bytes.as_slice() == wanted.as_bytes(),
         Err(_) => false,
     }
 }
 
 /// A crash leaves this of a file, and that of the tape: `FILE MOMENT CONTENT/TAPE`.
-fn has_image(alloc: Global, site: &MemorySite, line: &Line, pick: Pick) -> bool {
+fn has_image(alloc: Global, site: &MemorySite, line: Line, pick: Pick) -> bool {
     let (content, tape) = line.text.split_once('/').unwrap_or(("?", ""));
     match site.image(alloc, line.second, pick) {
         Ok(image) => {
-            has_content(alloc, &image, line.file, content.as_bytes())
-                && has_tape(alloc, &image, tape.as_bytes())
-        }
-        Err(_) => false,
-    }
-}
-
-/// The site goes on with what a crash leaves.
-fn crash(alloc: Global, site: &mut MemorySite, line: &Line) -> bool {
-    match site.image(alloc, line.first, Pick::Stable) {
-        Ok(image) => {
-            *site = image;
-            true
+            are(image.content(alloc, line.file), content) && are(image.tape(alloc), tape)
         }
         Err(_) => false,
     }
 }
 
 /// So much is kept: first a write of the 4 bytes of file 1, and last a byte that was said.
-fn is_kept(record: &[Kept], line: &Line) -> bool {
+fn is_kept(record: &[Kept], line: Line) -> bool {
     let first = Kept::Wrote {
         file: 1,
         at: 0,
@@ -74,36 +34,50 @@ fn is_kept(record: &[Kept], line: &Line) -> bool {
         && record.ends_with(&[Kept::Said(b'\n')])
 }
 
+/// A site with room for so many bytes and so many calls, where the listed calls fail or none.
+fn site_with(alloc: Global, line: Line) -> Result<MemorySite, AllocError> {
+    let fails: &[(Kind, u64)] = if line.text == "listed" { &FAILS } else { &[] };
+    MemorySite::new(alloc, line.first, line.second, fails.to_vec(alloc)?)
+}
+
+/// What the site shows, or a call that each site has.
+fn shows(alloc: Global, site: &mut MemorySite, line: Line) -> bool {
+    match line.verb {
+        "content" => are(site.content(alloc, line.file), line.text),
+        "tape" => are(site.tape(alloc), line.text),
+        "kept" => is_kept(site.record(), line),
+        "reads" => site.calls(Kind::Read) == line.first,
+        "syncs" => site.calls(Kind::Sync) == line.first,
+        "calls" => site.calls(Kind::Device) == line.first,
+        "faults" => site.disk_faults() == line.first && site.say_faults() == line.second,
+        _ => answers(site, line, 4),
+    }
+}
+
 impl World for MemorySite {
-    fn is_right(&mut self, host: &HostRuntime, _path: &str, line: &Line) -> bool {
+    fn is_right(&mut self, host: &HostRuntime, line: Line) -> bool {
         let alloc = host.alloc();
-        match line.verb {
-            "room" => make_room(alloc, self, line),
-            "prepare" => self.prepare(line.file, 0, line.bytes).is_err() == line.fails,
-            "inside" => writes_inside(alloc, self, line),
-            "content" => has_content(alloc, self, line.file, line.bytes),
-            "tape" => has_tape(alloc, self, line.bytes),
-            "stable" => has_image(alloc, self, line, Pick::Stable),
-            "all" => has_image(alloc, self, line, Pick::All),
-            "torn" => has_image(alloc, self, line, Pick::Torn(b'?')),
-            "crash" => crash(alloc, self, line),
-            "kept" => is_kept(self.record(), line),
-            "reads" => self.calls(Kind::Read) == line.first,
-            "syncs" => self.calls(Kind::Sync) == line.first,
-            "calls" => self.calls(Kind::Device) == line.first,
-            "faults" => self.disk_faults() == line.first && self.say_faults() == line.second,
-            _ => answers(self, &mut [0; 4], line),
+        let made = match line.verb {
+            "prepare" => return self.prepare(line.file, 0, line.bytes).is_err() == line.fails,
+            "stable" => return has_image(alloc, self, line, Pick::Stable),
+            "all" => return has_image(alloc, self, line, Pick::All),
+            "torn" => return has_image(alloc, self, line, Pick::Torn(b'?')),
+            "room" => site_with(alloc, line),
+            "crash" => self.image(alloc, line.first, Pick::Stable),
+            _ => return shows(alloc, self, line),
+        };
+        match made {
+            Ok(made) => {
+                *self = made;
+                true
+            }
+            Err(_) => false,
         }
     }
 }
 
-/// A site where these calls fail.
-fn site_with(rt: &impl Abort, alloc: Global, fails: &[(Kind, u64)]) -> MemorySite {
-    let fails = fails.to_vec(alloc).expect(rt, "memory");
-    MemorySite::new(alloc, 100, 20, fails).expect(rt, "memory")
-}
-
 const SITES: &str = "# a file reads what was written;
+    room 100 20;
     read 1 0;
     write 1 abcd;
     inside 1 1 XY;
@@ -125,7 +99,7 @@ const SITES: &str = "# a file reads what was written;
     tape hi\n;
     kept 22;
     reads 6;
-    calls 14;
+    calls 16;
 # without room nothing is kept;
     room 4 3;
     fails prepare 1 abcde;
@@ -163,24 +137,9 @@ const SITES: &str = "# a file reads what was written;
     crash 6;
     length 2 0;
     say more;
-    tape kmore;";
-
-#[test]
-fn sites_in_memory(rt: HostRuntime) {
-    let mut site = site_with(&rt, rt.alloc(), &[]);
-    check(&rt, &rt, "", &mut site, SITES);
-}
-
-const FAILS: [(Kind, u64); 6] = [
-    (Kind::Length, 0),
-    (Kind::Read, 0),
-    (Kind::Write, 1),
-    (Kind::Sync, 0),
-    (Kind::Device, 5),
-    (Kind::Say, 0),
-];
-
-const FAILING: &str = "
+    tape kmore;
+# a listed call fails and is counted;
+    room 100 20 listed;
     fails length 1;
     fails read 1;
     write 1 ab;
@@ -198,10 +157,21 @@ const FAILING: &str = "
     faults 5 1;
     tape li!;";
 
+/// The calls that fail where they are listed.
+const FAILS: [(Kind, u64); 6] = [
+    (Kind::Length, 0),
+    (Kind::Read, 0),
+    (Kind::Write, 1),
+    (Kind::Sync, 0),
+    (Kind::Device, 6),
+    (Kind::Say, 0),
+];
+
 #[test]
-fn a_listed_call_fails_and_is_counted(rt: HostRuntime) {
-    let mut site = site_with(&rt, rt.alloc(), &FAILS);
-    check(&rt, &rt, "", &mut site, FAILING);
+fn sites_in_memory(rt: HostRuntime) {
+    let alloc = rt.alloc();
+    let mut site = MemorySite::new(alloc, 0, 0, Vec::new(alloc)).expect(&rt, "memory");
+    check(&rt, &rt, &mut site, SITES);
 }
 
 /// Takes a site that tells, which is proved where it is called.
@@ -212,7 +182,7 @@ fn believe<V: Site>(_site: &V)
 /// A site in memory always tells, also after calls that failed.
 #[test]
 fn a_site_in_memory_tells(rt: HostRuntime) {
-    let mut site = site_with(&rt, rt.alloc(), &[(Kind::Sync, 0)]);
+    let mut site = site_with(rt.alloc(), read_line("room 100 20 listed")).expect(&rt, "memory");
     believe(&site);
     site.sync(1).expect_err(&rt, "a fault");
     believe(&site);

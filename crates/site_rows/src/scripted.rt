@@ -54,25 +54,18 @@ impl ScriptedCalls {
             return Ok(self.most);
         }
         let (word, rest) = self.script.split_once(' ').unwrap_or((self.script, ""));
-        match word.strip_prefix(name) {
-            Some("") => {
-                self.script = rest;
-                Ok(self.most)
-            }
-            Some(":nothing") => {
-                self.script = rest;
-                Ok(0)
-            }
-            Some(":cut") => {
-                self.script = rest;
-                Err(io::Error::from(ErrorKind::Interrupted))
-            }
-            Some(":fails") => {
-                self.script = rest;
-                Err(io::Error::other("it was planned"))
-            }
-            _ => Err(io::Error::from(ErrorKind::NotFound)),
+        let (called, end) = word.split_once(':').unwrap_or((word, ""));
+        if called != name {
+            return Err(io::Error::from(ErrorKind::NotFound));
         }
+        self.script = rest;
+        let kind = match end {
+            "" => return Ok(self.most),
+            "nothing" => return Ok(0),
+            "cut" => ErrorKind::Interrupted,
+            _ => ErrorKind::Other,
+        };
+        Err(io::Error::from(kind))
     }
 
     /// Puts bytes over those of the file from this offset on, and past its end, if there is memory.

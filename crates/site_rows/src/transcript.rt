@@ -17,9 +17,9 @@ pub(crate) struct Line {
 }
 
 /// A site, and what lies behind it.
-pub(crate) trait World: Site {
-    /// Makes the call of this line, and says whether it gives what the line says. A directory has this path.
-    fn is_right(&mut self, host: &HostRuntime, path: &str, line: &Line) -> bool;
+pub(crate) trait World {
+    /// Makes the call of this line, and says whether it gives what the line says.
+    fn is_right(&mut self, host: &HostRuntime, line: Line) -> bool;
 }
 
 /// The number that stands first in the text, or 0, and what is behind it.
@@ -51,36 +51,32 @@ pub(crate) fn read_line(text: &'static str) -> Line {
 pub(crate) fn check(
     rt: &impl Abort,
     host: &HostRuntime,
-    path: &str,
     world: &mut impl World,
     transcript: &'static str,
 ) {
-    for (number, text) in transcript.split_terminator(';').enumerate() {
-        let text = text.trim_start();
-        assert!(rt;
-            world.is_right(host, path, &read_line(text)),
-            "line {number}: {text}"
-        );
+    for text in transcript.split_terminator(';') {
+        let line = read_line(text.trim_start());
+        assert!(rt; world.is_right(host, line), "not so: {text}");
     }
 }
 
-fn has_length(site: &mut impl Site, line: &Line) -> bool {
+fn has_length(site: &mut impl Site, line: Line) -> bool {
     match site.length(line.file) {
         Ok(length) => !line.fails && length == line.second,
         Err(_) => line.fails,
     }
 }
 
-fn reads(site: &mut impl Site, out: &mut [u8], line: &Line) -> bool {
-    out.fill(b'.');
-    match site.read(line.file, line.second, out) {
+fn reads(site: &mut impl Site, line: Line, room: usize) -> bool {
+    let mut out = [b'.'; 16];
+    match site.read(line.file, line.second, &mut out[..room.min(16)]) {
         Ok(count) => !line.fails && count == line.bytes.len() && out.starts_with(line.bytes),
         Err(_) => line.fails,
     }
 }
 
 /// From an offset in the file on. It is measured before.
-fn writes_inside(site: &mut impl Site, line: &Line) -> bool {
+fn writes_inside(site: &mut impl Site, line: Line) -> bool {
     match site.length(line.file) {
         Ok(length) if line.second <= length => {
             site.write(line.file, line.second, line.bytes).is_err() == line.fails
@@ -89,16 +85,17 @@ fn writes_inside(site: &mut impl Site, line: &Line) -> bool {
     }
 }
 
-/// The call of this line that each site has. A write is at the file's start. A read asks for as many bytes as `out` has.
-pub(crate) fn answers(site: &mut impl Site, out: &mut [u8], line: &Line) -> bool {
-    match line.verb {
-        "write" => site.write(line.file, 0, line.bytes).is_err() == line.fails,
-        "measured" => writes_inside(site, line),
-        "length" => has_length(site, line),
-        "read" => reads(site, out, line),
-        "sync" => site.sync(line.file).is_err() == line.fails,
-        "say" if !line.bytes.is_empty() => site.say(line.bytes).is_err() == line.fails,
-        "at" => site.moment() == line.first,
-        word => word == "#",
-    }
+/// The call of this line that each site has. A write is at the file's start. A read asks for so many bytes, up to 16.
+pub(crate) fn answers(site: &mut impl Site, line: Line, room: usize) -> bool {
+    let answer = match line.verb {
+        "length" => return has_length(site, line),
+        "read" => return reads(site, line, room),
+        "inside" => return writes_inside(site, line),
+        "write" => site.write(line.file, 0, line.bytes),
+        "sync" => site.sync(line.file),
+        "say" if !line.bytes.is_empty() => site.say(line.bytes),
+        "at" => return site.moment() == line.first,
+        word => return word == "#",
+    };
+    answer.is_err() == line.fails
 }
