@@ -1,5 +1,5 @@
 -- Step after step.
-use Rattle.std.proofs.Common.{◌≡◌, ◌∙◌, ◌++◌, ℕ, zero, suc, List, Bool, true, false, refl, ap, sym, subst, append_assoc}
+use Rattle.std.proofs.Common.{◌≡◌, ◌∙◌, ◌++◌, ℕ, zero, suc, List, Bool, true, false, Result, Ok, Err, OnOk, refl, ap, sym, subst, append_assoc}
 use Rattle.dura_value.specs.Messages.{Message}
 use Rattle.flow_syntax.specs.Machine.{Machine, Asked, Resumed, Next, stays, goes, only, and_then, go, go_on, next_of}
 use Rattle.flow_replay.specs.declared.machine.Machine.{Machine as OwnMachine}
@@ -68,7 +68,12 @@ stayed false k start was now before m total is moves leads = stays_by k start wa
 stayed true k start was now before m total is moves leads = absurd (cc is)
 
 -- no step is left
-pub ran_out : (k : ℕ) (start was now : Made) (before : Machine) (m : OwnMachine) (total : Resumed) → k ≡ 0 → Makes was now m (stopped before (next_of before)) → Leads start was (go k before) total → Makes start now m total
+ran_out : (k : ℕ) (start was now : Made) (before : Machine) (m : OwnMachine) (total : Resumed) → k ≡ 0 → Makes was now m (stopped before (next_of before)) → Leads start was (go k before) total → Makes start now m total
 ran_out k start was now before m total is makes leads =
     makes_all start was now m (stopped before (next_of before)) total makes
     (subst (λ (s : Resumed). Leads start was s total) (at_stop before (next_of before)) (subst (λ (j : ℕ). Leads start was (go j before) total) is leads))
+
+pub ran_out_at_last : {E : Type 0} (result : Result Unit E) (k : ℕ) (start was now : Made) (before : Machine) (m : OwnMachine) (total : Resumed) → k ≡ 0 → OnOk result (Makes was now m (stopped before (next_of before)))
+    → Leads start was (go k before) total → OnOk result (Makes start now m total)
+ran_out_at_last (Ok x) k start was now before m total is makes leads = ran_out k start was now before m total is makes leads
+ran_out_at_last (Err e) k start was now before m total is makes leads = tt

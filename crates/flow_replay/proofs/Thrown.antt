@@ -1,17 +1,18 @@
 -- What a fault passes over.
-use Rattle.std.proofs.Common.{◌≡◌, ◌∙◌, ◌++◌, ℕ, List, [], ◌∷◌, refl, ap, sym, append_assoc}
+use Rattle.std.proofs.Common.{◌≡◌, ◌∙◌, ◌++◌, ℕ, List, [], ◌∷◌, Result, Ok, Err, OnOk, refl, ap, sym, append_assoc}
 use Rattle.std.proofs.lemmas.List.{append-nil}
 use Rattle.dura_value.specs.Messages.{Message, Reply, to_nobody, to_task, to_request}
 use Rattle.flow_syntax.specs.Syntax.{Block, nothing, first_then}
-use Rattle.flow_syntax.specs.Eval.{set_in}
-use Rattle.dura_value.specs.declared.data.Value.TheVariants as values
 use Rattle.flow_syntax.specs.Machine.{Machine, Todo, run, wait_lock, unlock, end_try, Resumed, only, and_then, leaving, telling, thrown, todo, ended, Progress, unborn, running, done, failed, outside, acquiring, inside, Section}
 use Rattle.flow_replay.specs.declared.machine.Todo.{Todo as OwnTodo}
 use Rattle.flow_replay.specs.declared.machine.Todo.TheVariants as todos_own
 use Rattle.flow_syntax.specs.declared.syntax.Stmt.{Stmt}
 use Rattle.std.specs.Borrow.{Bor}
-use Rattle.flow_replay.specs.Steps.{with_rest}
-use Rattle.flow_replay.specs.Views.{body_of, todos_of, rest_of}
+use Rattle.flow_messages.specs.declared.made.Made.{Made}
+use Rattle.flow_replay.specs.declared.machine.Machine.{Machine as OwnMachine}
+use Rattle.flow_replay.specs.Steps.{Makes, Leads, with_rest, caught}
+use Rattle.flow_replay.proofs.Leading.{leads_to}
+use Rattle.flow_replay.specs.Views.{machine_of, body_of, todos_of, rest_of}
 
 -- a body is passed over
 pub over_body : (m : Machine) (fault : List ℕ) (body : Block) (rest : List Todo) → thrown m fault (todo body ++ rest) ≡ thrown m fault rest
@@ -83,11 +84,13 @@ passes m fault todos_own.Unlock not_unlock not_try todos = absurd (not_unlock re
 passes m fault (todos_own.EndTry variable handler) not_unlock not_try todos = absurd (not_try variable handler refl)
 
 -- the end of a try goes on with its handler
-pub caught : (m : Machine) (fault : List ℕ) (rest less after : List OwnTodo) (variable : Bor (List ℕ)) (handler : Bor (List Stmt)) → rest ≡ less ++ todos_own.EndTry variable handler ∷ [] → after ≡ less ++ todos_own.Body handler ∷ []
-    → thrown m fault (rest_of rest) ≡ only (record m { variables = set_in m.variables variable.now (values.Text fault); rest = rest_of after })
-caught m fault rest less after variable handler is then =
-    taken m fault rest less (todos_own.EndTry variable handler) is
-    ∙ ap (λ (ts : List Todo). only (record m { variables = set_in m.variables variable.now (values.Text fault); rest = ts })) (sym (ap rest_of then ∙ rest_last less (todos_own.Body handler)))
+pub caught_by : (m : Machine) (fault : List ℕ) (rest less : List OwnTodo) (variable : Bor (List ℕ)) (handler : Bor (List Stmt)) → rest ≡ less ++ todos_own.EndTry variable handler ∷ []
+    → thrown m fault (rest_of rest) ≡ only (caught (with_rest m (rest_of less)) variable.now (body_of handler) fault)
+caught_by m fault rest less variable handler is = taken m fault rest less (todos_own.EndTry variable handler) is
+
+pub catches : {E : Type 0} (r : Result Unit E) (start now : Made) (after : OwnMachine) (next : Machine) (more total : Resumed) → more ≡ only next → OnOk r (machine_of after ≡ next) → Leads start now more total → OnOk r (Makes start now after total)
+catches (Ok x) start now after next more total is caught_it leads = leads_to start now after more total (is ∙ ap only (sym caught_it)) leads
+catches (Err e) start now after next more total is caught_it leads = tt
 
 -- the end of a section is kept to
 pub unlocked : (m now : Machine) (fault : List ℕ) (rest less : List OwnTodo) → rest ≡ less ++ todos_own.Unlock ∷ [] → now ≡ (leaving (with_rest m (rest_of less)) m.section).machine

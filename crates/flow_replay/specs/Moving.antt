@@ -2,7 +2,7 @@
 use Rattle.std.specs.Prelude.{◌≡◌, ℕ, List, [], ◌∷◌, ◌++◌, length, codes, Bool, true, false, Option, Some, None}
 use Rattle.flow_syntax.specs.declared.syntax.Stmt.{Stmt}
 use Rattle.flow_syntax.specs.Views.{block_of}
-use Rattle.flow_syntax.specs.Syntax.{Expression, await, await_all, await_any}
+use Rattle.flow_syntax.specs.Syntax.{Expression, Statement, await, await_all, await_any}
 use Rattle.flow_syntax.specs.Machine as plain
 use Rattle.flow_replay.specs.declared.machine.Todo.{Todo}
 use Rattle.flow_replay.specs.Views.{todos_of}
@@ -65,3 +65,10 @@ AnyBlocks blocks m handles = (variable : List ℕ) → Blocks blocks (λ was. pl
 abbrev pub stopped : plain.Machine → plain.Next → plain.Resumed
 stopped m (plain.stays r) = r
 stopped m (plain.goes r) = plain.ended m (plain.failed (codes "budget"))
+
+-- a statement that waits for no task
+abbrev pub NeverWaits : Statement → Type 0
+NeverWaits (await variable handle) = ⊥
+NeverWaits (await_all variable handles) = ⊥
+NeverWaits (await_any variable handles) = ⊥
+NeverWaits other = Unit {0}

@@ -1,8 +1,8 @@
 -- What a step of a machine changes, and what it makes.
-use Rattle.std.specs.Prelude.{◌≡◌, List, ◌++◌, map, codes, Bool, true, false, Option, Some, None}
-use Rattle.dura_value.specs.Messages.{Answer, is_done, has_failed}
+use Rattle.std.specs.Prelude.{◌≡◌, ℕ, List, ◌++◌, map, codes, Bool, true, false}
 use Rattle.dura_value.specs.Views.{messages_of}
-use Rattle.flow_syntax.specs.Eval.{Variables}
+use Rattle.dura_value.specs.declared.data.Value.TheVariants.{Text}
+use Rattle.flow_syntax.specs.Eval.{Variables, set_in}
 use Rattle.flow_syntax.specs.Syntax.{Block}
 use Rattle.flow_syntax.specs.Machine as plain
 use Rattle.flow_eval.specs.declared.fault.EvalError.{EvalError}
@@ -33,12 +33,6 @@ Moves true was now m (plain.goes r) = Makes was now m r
 Moves false was now m (plain.stays r) = Makes was now m r
 Moves true was now m (plain.stays r) = ⊥
 Moves false was now m (plain.goes r) = ⊥
-
--- what a task that waits for an end is told of it
-abbrev pub outcome_told : plain.Progress → Option Answer
-outcome_told (plain.done value) = Some (is_done value)
-outcome_told (plain.failed text) = Some (has_failed text)
-outcome_told other = None
 
 -- What was made by now, and then what more is made, is all that is made from the start.
 pub record Leads (start now : Made) (more total : plain.Resumed) : Type 0 where
@@ -77,3 +71,7 @@ Waits false before now m old next = (machine_of m ≡ old) × (now ≡ before) �
 -- a machine that has these variables, and the statements of a body before it
 abbrev pub begun : plain.Machine → Variables → Block → plain.Machine
 begun m variables body = record m { variables = variables; rest = plain.todo body; progress = plain.running }
+
+-- a machine at the end of a try, whose handler is before the rest
+abbrev pub caught : plain.Machine → (variable : List ℕ) → Block → (fault : List ℕ) → plain.Machine
+caught m variable handler fault = record m { variables = set_in m.variables variable (Text fault); rest = plain.todo handler ++ m.rest }

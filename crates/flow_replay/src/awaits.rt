@@ -3,7 +3,7 @@
 ghost use Rattle.std.specs.Prelude.{◌≡◌, OnOk, IfSome, IfNone, IfOk, Ok, Err};
 ghost use Rattle.flow_syntax.specs.Syntax.{await};
 ghost use Rattle.flow_syntax.specs.Views.{expression_of};
-ghost use Rattle.flow_syntax.specs.Machine.{listens, to_handle, waits_for, awaited, arrival_of as arrival_at, task_at, statement_step, gets, arrived, kept_value, without_kept};
+ghost use Rattle.flow_syntax.specs.Machine.{listens, awaited, arrival_of as arrival_at, task_at, statement_step, gets, arrived, kept_value, without_kept};
 ghost use Rattle.flow_tasks.specs.Views.{arrival_of};
 ghost use Rattle.flow_replay.specs.Views.{machine_of};
 ghost use Rattle.flow_replay.specs.Steps.{Makes, Waits, ThrowsHandle, with_events};
@@ -21,6 +21,7 @@ impl<'f> Machine<'f> {
         ensures { OnOk result (machine_of self.new ≡ arrived (machine_of self.old) number outcome) }
     {
         let Some(later) = self.arrivals.checked_add(1) else {
+            drop(outcome);
             return Err(AllocError);
         };
         if self.tasks.arrive(number, outcome, self.arrivals) {
@@ -100,25 +101,6 @@ impl<'f> Machine<'f> {
         Ok(true)
     }
 
-    /// Waits for the task that a value names.
-    pub(crate) fn await_value(
-        &mut self,
-        alloc: Global,
-        made: &mut Made,
-        variable: &Name,
-        value: &Value,
-    ) -> Result<bool, AllocError>
-        ensures { IfOk result (λ went. Waits went made.old made.new self.new (machine_of self.old) (λ was. waits_for (machine_of self.old) (to_handle (machine_of self.old).tasks value.now) (λ n. awaited was (machine_of self.old) variable.now (arrival_at (task_at (machine_of self.old).tasks n))))) }
-    {
-        match self.tasks.handle(value) {
-            Ok(number) => self.await_task(made, variable, number),
-            Err(fault) => {
-                self.throw_handle(alloc, made, fault)?;
-                Ok(true)
-            }
-        }
-    }
-
     pub(crate) fn step_await(
         &mut self,
         alloc: Global,
@@ -128,15 +110,10 @@ impl<'f> Machine<'f> {
     ) -> Result<bool, AllocError>
         ensures { IfOk result (λ went. Waits went made.old made.new self.new (machine_of self.old) (λ was. statement_step was (machine_of self.old) (await variable.now (expression_of handle.now)))) }
     {
-        match self.value(alloc, handle) {
-            Ok(value) => {
-                let waited = self.await_value(alloc, made, variable, &value);
-                drop(value);
-                let went = waited?;
-                Ok(went)
-            }
-            Err(error) => {
-                self.throw_error(alloc, made, error)?;
+        match self.handle_in(alloc, handle) {
+            Ok(number) => self.await_task(made, variable, number),
+            Err(fault) => {
+                self.throw_await(alloc, made, fault)?;
                 Ok(true)
             }
         }

@@ -118,10 +118,11 @@ impl<'f> Machine<'f> {
         };
         let blocks = self.todo_blocks(alloc, &todo)?;
         self.plan(todo)?;
-        if !blocks {
-            self.fail(alloc, made, "budget")?;
+        if blocks {
+            Ok(())
+        } else {
+            self.fail(alloc, made, "budget")
         }
-        Ok(())
     }
 
     /// What a machine comes to that has taken all its steps.

@@ -1,7 +1,8 @@
 //! The steps of statements that ask for something: activities, instances, entities, timers and events.
 
 ghost use Rattle.std.specs.Prelude.{◌≡◌, ◌∷◌, [], OnOk, IfOk, length};
-ghost use Rattle.dura_value.specs.Views.{id_of, spot_of, body_of};
+ghost use Rattle.dura_value.specs.Views.{id_of, reply_of, spot_of, body_of};
+ghost use Rattle.dura_value.specs.Messages.{at_spot, operate};
 ghost use Rattle.flow_syntax.specs.Eval.{eval};
 ghost use Rattle.flow_syntax.specs.Views.{expression_of};
 ghost use Rattle.flow_syntax.specs.Machine.{an_activity, of_activity, having, by_rule, scheduled, calls, starts, asks, signals, with_task, with_handle, may_start, may_ask, may_signal, says, spot_of as spot_at};
@@ -64,8 +65,7 @@ impl<'f> Machine<'f> {
     pub(crate) fn add_task(&mut self, kind: Kind) -> Result<(), AllocError>
         ensures { OnOk result (machine_of self.new ≡ with_task (machine_of self.old) (kind_of kind)) }
     {
-        self.tasks.push(kind)?;
-        Ok(())
+        self.tasks.push(kind)
     }
 
     fn schedule(
@@ -93,12 +93,13 @@ impl<'f> Machine<'f> {
     ) -> Result<(), AllocError>
         ensures { OnOk result (Goes made.old made.new self.new (having (machine_of self.old) (eval (machine_of self.old).variables (expression_of argument.now)) (scheduled (with_handle (machine_of self.old) variable.now) activity.now))) }
     {
+        let number = self.next_task()?;
         match self.value(alloc, argument) {
             Ok(value) => {
-                let (_, value) = with(self.handle(variable), value)?;
                 let scheduled = self.schedule(made, activity, &value);
                 drop(value);
-                scheduled
+                scheduled?;
+                self.set(variable, Value::Int(number as i64))
             }
             Err(error) => self.throw_error(alloc, made, error),
         }
@@ -114,13 +115,13 @@ impl<'f> Machine<'f> {
     ) -> Result<(), AllocError>
         ensures { OnOk result (Goes made.old made.new self.new (having (machine_of self.old) (eval (machine_of self.old).variables (expression_of argument.now)) (calls (machine_of self.old) variable.now activity.now))) }
     {
+        let number = self.next_task()?;
         match self.value(alloc, argument) {
             Ok(value) => {
-                let (number, value) = with(self.next_task(), value)?;
-                let (_, value) = with(self.plan(Todo::Await(variable, number)), value)?;
                 let scheduled = self.schedule(made, activity, &value);
                 drop(value);
-                scheduled
+                scheduled?;
+                self.plan(Todo::Await(variable, number))
             }
             Err(error) => self.throw_error(alloc, made, error),
         }
@@ -187,6 +188,23 @@ impl<'f> Machine<'f> {
         }
     }
 
+    /// Sends an operation to an entity.
+    fn operate(
+        &self,
+        made: &mut Made,
+        spot: &Spot,
+        operation: &Name,
+        argument: Value,
+        reply: Reply,
+    ) -> Result<(), AllocError>
+        ensures { OnOk result (Makes made.old made.new self.now (record { machine = machine_of self.now; sent = says (machine_of self.now) (at_spot (spot_of spot.now)) (operate operation.now argument (reply_of reply)) ∷ []; asked = [] })) }
+    {
+        let (operation, argument) = with(copy_name(operation), argument)?;
+        let body = Body::Op(operation, argument, reply);
+        let (to, body) = with(entity_id(spot), body)?;
+        self.send(made, to, body)
+    }
+
     fn ask(
         &mut self,
         made: &mut Made,
@@ -198,10 +216,8 @@ impl<'f> Machine<'f> {
         ensures { OnOk result (Makes made.old made.new self.new (asks (machine_of self.old) variable.now (spot_of spot) operation.now argument)) }
     {
         let (number, (spot, argument)) = with(self.handle(variable), (spot, argument))?;
-        let (operation, (spot, argument)) = with(copy_name(operation), (spot, argument))?;
-        let body = Body::Op(operation, argument, Reply::Task(number));
-        let (to, (spot, body)) = with(entity_id(&spot), (spot, body))?;
-        let (_, spot) = with(self.send(made, to, body), spot)?;
+        let sent = self.operate(made, &spot, operation, argument, Reply::Task(number));
+        let (_, spot) = with(sent, spot)?;
         self.add_task(Kind::Entity(spot))
     }
 
@@ -234,20 +250,6 @@ impl<'f> Machine<'f> {
         }
     }
 
-    fn signal(
-        &mut self,
-        made: &mut Made,
-        spot: &Spot,
-        operation: &Name,
-        argument: Value,
-    ) -> Result<(), AllocError>
-        ensures { OnOk result (Makes made.old made.new self.new (signals (machine_of self.old) (spot_of spot.now) operation.now argument)) }
-    {
-        let (to, argument) = with(entity_id(spot), argument)?;
-        let (operation, (to, argument)) = with(copy_name(operation), (to, argument))?;
-        self.send(made, to, Body::Op(operation, argument, Reply::None))
-    }
-
     pub(crate) fn step_signal(
         &mut self,
         alloc: Global,
@@ -265,7 +267,7 @@ impl<'f> Machine<'f> {
                 let (class, (key, argument)) = with(copy_name(class), pair)?;
                 let spot = Spot { class, key };
                 if self.section.may_signal(&spot) {
-                    let signalled = self.signal(made, &spot, operation, argument);
+                    let signalled = self.operate(made, &spot, operation, argument, Reply::None);
                     drop(spot);
                     signalled
                 } else {

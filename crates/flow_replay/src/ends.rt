@@ -1,13 +1,14 @@
 //! How a machine leaves its section, how it faults, and how it ends.
 
-ghost use Rattle.std.specs.Prelude.{◌≡◌, ◌++◌, ◌∷◌, [], IfOk, OnOk, option_map};
-ghost use Rattle.dura_value.specs.Views.{answer_of, body_of as said_of, messages_of};
+ghost use Rattle.std.specs.Prelude.{◌≡◌, ◌∷◌, [], OnOk};
+ghost use Rattle.dura_value.specs.Messages.{result as told, to_task};
+ghost use Rattle.dura_value.specs.Views.{answer_of};
 ghost use Rattle.flow_syntax.specs.Machine.{says, leaving, telling, ended};
 ghost use Rattle.flow_replay.specs.Views.{machine_of, progress_of};
-ghost use Rattle.flow_replay.specs.Steps.{Makes, outcome_told};
+ghost use Rattle.flow_replay.specs.Steps.{Makes};
 
-use crate::machine::{Machine, Progress};
-use dura_value::{Answer, Body, Message, Reply};
+use crate::machine::{Machine, Progress, put};
+use dura_value::{Answer, Body, Reply};
 use flow_messages::{Made, copy_id, copy_text, copy_value, release_all};
 use flow_tasks::Section;
 use std::alloc::AllocError;
@@ -26,40 +27,29 @@ impl<'f> Machine<'f> {
         Ok(())
     }
 
-    /// The answer to whoever waits for its end, where a task does.
-    fn ending(&self, progress: &Progress) -> Result<Option<Answer>, AllocError>
-        ensures { IfOk result (λ answer. option_map answer_of answer ≡ outcome_told (progress_of progress.now)) }
+    /// Tells its starter, where a task of it waits.
+    fn answer_starter(&self, made: &mut Made, number: u32, answer: Answer) -> Result<(), AllocError>
+        ensures { OnOk result (Makes made.old made.new self.now (record { machine = machine_of self.now; sent = says (machine_of self.now) (machine_of self.now).starter (told (to_task number) (answer_of answer)) ∷ []; asked = [] })) }
     {
-        match progress {
-            Progress::Done(value) => Ok(Some(Answer::Done(copy_value(value)?))),
-            Progress::Failed(text) => Ok(Some(Answer::Failed(copy_text(text)?))),
-            Progress::Unborn | Progress::Running => Ok(None),
-        }
+        let (to, answer) = with(copy_id(&self.starter), answer)?;
+        self.send(made, to, Body::Result(Reply::Task(number), answer))
     }
 
-    /// Sends this to whoever started it.
-    fn answer_starter(&self, messages: &mut Vec<Message>, body: Body) -> Result<(), AllocError>
-        ensures { OnOk result (messages_of messages.new.items ≡ messages_of messages.old.items ++ says (machine_of self.now) (machine_of self.now).starter (said_of body) ∷ []) }
-    {
-        let (to, body) = with(copy_id(&self.starter), body)?;
-        let (from, (to, body)) = with(copy_id(&self.id), (to, body))?;
-        messages.push(Message { from, to, body })?;
-        Ok(())
-    }
-
-    /// Tells the instance that waits for this one's end.
-    fn tell(&self, messages: &mut Vec<Message>, progress: &Progress) -> Result<(), AllocError>
-        ensures { OnOk result (messages_of messages.new.items ≡ messages_of messages.old.items ++ telling (machine_of self.now) (machine_of self.now).reply (progress_of progress.now)) }
+    /// Tells the instance that waits for its end, where there is one, what it came to.
+    fn tell(&self, made: &mut Made) -> Result<(), AllocError>
+        ensures { OnOk result (Makes made.old made.new self.now (record { machine = machine_of self.now; sent = telling (machine_of self.now) (machine_of self.now).reply (machine_of self.now).progress; asked = [] })) }
     {
         let Reply::Task(number) = self.reply else {
             return Ok(());
         };
-        match self.ending(progress)? {
-            Some(answer) => self.answer_starter(
-                messages,
-                Body::Result(Reply::Task(number), answer),
-            ),
-            None => Ok(()),
+        match &self.progress {
+            Progress::Done(value) => {
+                self.answer_starter(made, number, Answer::Done(copy_value(value)?))
+            }
+            Progress::Failed(text) => {
+                self.answer_starter(made, number, Answer::Failed(copy_text(text)?))
+            }
+            Progress::Unborn | Progress::Running => Ok(()),
         }
     }
 
@@ -67,10 +57,9 @@ impl<'f> Machine<'f> {
     pub(crate) fn end(&mut self, made: &mut Made, progress: Progress) -> Result<(), AllocError>
         ensures { OnOk result (Makes made.old made.new self.new (ended (machine_of self.old) (progress_of progress))) }
     {
-        let (_, progress) = with(self.leave(made), progress)?;
-        let (_, progress) = with(self.tell(&mut made.messages, &progress), progress)?;
         self.rest.clear();
-        self.progress = progress;
-        Ok(())
+        put(&mut self.progress, progress);
+        self.leave(made)?;
+        self.tell(made)
     }
 }

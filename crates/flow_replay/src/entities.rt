@@ -4,65 +4,40 @@ ghost use Rattle.std.specs.Prelude.{◌≡◌, ◌∷◌, [], Some, None, suc, �
 ghost use Rattle.dura_value.specs.Messages.{entity_at, is_value, is_missing, to_request};
 ghost use Rattle.dura_value.specs.Views.{id_of, reply_of, answer_of, body_of as said_of, messages_of, spots_of};
 ghost use Rattle.flow_syntax.specs.Views.{block_of, flows_of};
-ghost use Rattle.flow_syntax.specs.Entity.{takes, answering, operated, operation_of, body_begun, body_answer, new_value, lock_goes_on, deliver};
+ghost use Rattle.flow_syntax.specs.Entity.{takes, answering, operated, operation_of, body_answer, new_value, lock_goes_on, deliver};
+ghost use Rattle.flow_syntax.specs.Machine.{go, most_steps};
 ghost use Rattle.flow_replay.specs.Views.{machine_of, progress_of, body_of};
 ghost use Rattle.flow_messages.specs.Views.{entity_of};
+ghost use Rattle.flow_replay.specs.Steps.{begun};
 ghost use Rattle.flow_replay.specs.Entities.{Delivers, Finishes, body_run, shown_class};
 
-use crate::machine::{Machine, Progress};
+use crate::machine::{Machine, Progress, put};
 use dura_value::{Answer, Body, Id, Message, Name, Reply, Spots, Value};
-use flow_eval::Variables;
 use flow_messages::{
     Entity, Made, answer_reply, copy_id, copy_text, copy_value, pass_on, word_text,
 };
 use flow_syntax::{Class, Flows, Stmt};
 use std::alloc::{AllocError, Global};
-use with_value::with;
 
-/// The variables that an operation's body begins with.
-fn for_operation(alloc: Global, value: &Value, argument: &Value) -> Result<Variables, AllocError>
-    ensures { IfOk result (λ set. set ≡ (codes "self", value.now) ∷ (codes "arg", argument.now) ∷ []) }
-{
-    let mut variables = Variables::new(alloc);
-    variables.set(Name::of(alloc, b"self")?, copy_value(value)?)?;
-    variables.set(Name::of(alloc, b"arg")?, copy_value(argument)?)?;
-    Ok(variables)
-}
-
-/// The machine of an operation's body before its first step.
-fn begin_operation<'f>(
-    alloc: Global,
-    at: &Id,
-    value: &Value,
-    argument: &Value,
-    body: &'f [Stmt],
-) -> Result<Machine<'f>, AllocError>
-    ensures { IfOk result (λ m. machine_of m ≡ body_begun (id_of at.now) value.now argument.now (block_of body.now)) }
-{
-    let variables = for_operation(alloc, value, argument)?;
-    let mut machine = Machine::new(alloc, at, None)?;
-    let begun = machine.run_body(variables, body);
-    let (_, machine) = with(begun, machine)?;
-    Ok(machine)
-}
-
-/// The machine that ran an operation's body.
-#[tactic(auto, unfolding(crate::specs::Entities::body_run))]
-fn run_operation<'f>(
-    alloc: Global,
-    at: &Id,
-    value: &Value,
-    argument: &Value,
-    body: &'f [Stmt],
-) -> Result<Machine<'f>, AllocError>
-    ensures { IfOk result (λ m. machine_of m ≡ body_run (id_of at.now) value.now argument.now (block_of body.now)) }
-{
-    let mut machine = begin_operation(alloc, at, value, argument, body)?;
-    let mut made = Made::new(alloc);
-    let gone = machine.go(alloc, &mut made);
-    drop(made);
-    let (_, machine) = with(gone, machine)?;
-    Ok(machine)
+impl<'f> Machine<'f> {
+    /// Runs the body of an operation, with the entity's value and the argument.
+    fn run_operation(
+        &mut self,
+        alloc: Global,
+        value: &Value,
+        argument: &Value,
+        body: &'f [Stmt],
+    ) -> Result<(), AllocError>
+        ensures { OnOk result (machine_of self.new ≡ (go most_steps (begun (machine_of self.old) ((codes "self", value.now) ∷ (codes "arg", argument.now) ∷ []) (block_of body.now))).machine) }
+    {
+        self.run_body(alloc, body)?;
+        self.give(alloc, b"self", value)?;
+        self.give(alloc, b"arg", argument)?;
+        let mut made = Made::new(alloc);
+        let gone = self.go(alloc, &mut made);
+        drop(made);
+        gone
+    }
 }
 
 /// The value that an operation's body returned, or its fault.
@@ -92,22 +67,29 @@ fn keep(alloc: Global, entity: &mut Entity, end: &Machine<'_>) -> Result<(), All
 {
     if let Progress::Done(_) = &end.progress {
         if let Some(value) = end.variables.get(&Name::of(alloc, b"self")?) {
-            entity.value = copy_value(value)?;
+            put(&mut entity.value, copy_value(value)?);
         }
     }
     Ok(())
 }
 
-/// An operation's body has come to its end, which answers.
-fn finish(alloc: Global, entity: &mut Entity, end: &Machine<'_>) -> Result<Answer, AllocError>
-    ensures { IfOk result (λ answer. Finishes answer entity.new (entity_of entity.old) (machine_of end.now)) }
+/// The body of an operation runs on a machine, and its end answers.
+fn finish<'f>(
+    alloc: Global,
+    entity: &mut Entity,
+    machine: &mut Machine<'f>,
+    argument: &Value,
+    body: &'f [Stmt],
+) -> Result<Answer, AllocError>
+    ensures { IfOk result (λ answer. Finishes answer entity.new (entity_of entity.old) (go most_steps (begun (machine_of machine.old) ((codes "self", entity.old.value) ∷ (codes "arg", argument.now) ∷ []) (block_of body.now))).machine) }
 {
-    keep(alloc, entity, end)?;
-    let answer = end_answer(alloc, &end.progress)?;
-    Ok(answer)
+    machine.run_operation(alloc, &entity.value, argument, body)?;
+    keep(alloc, entity, machine)?;
+    end_answer(alloc, &machine.progress)
 }
 
 /// An operation's body runs, and its end answers.
+#[tactic(auto, unfolding(crate::specs::Entities::body_run))]
 fn run(
     alloc: Global,
     entity: &mut Entity,
@@ -117,9 +99,9 @@ fn run(
 ) -> Result<Answer, AllocError>
     ensures { IfOk result (λ answer. Finishes answer entity.new (entity_of entity.old) (body_run (id_of at.now) entity.old.value argument.now (block_of body.now))) }
 {
-    let end = run_operation(alloc, at, &entity.value, argument, body)?;
-    let answer = finish(alloc, entity, &end);
-    drop(end);
+    let mut machine = Machine::new(alloc, at, None)?;
+    let answer = finish(alloc, entity, &mut machine, argument, body);
+    drop(machine);
     answer
 }
 
@@ -179,8 +161,7 @@ fn take_operation(
     ensures { IfOk result (λ sent. Delivers sent.items entity.new (operated (entity_of entity.old) (id_of message.now.from) (id_of message.now.to) argument.now (reply_of reply.now) (operation_of (option_map shown_class class.entry) operation.now))) }
 {
     let body = operation_in(class, operation);
-    let sent = operate(alloc, entity, message, body, argument, reply)?;
-    Ok(sent)
+    operate(alloc, entity, message, body, argument, reply)
 }
 
 /// A lock is taken for the instance of this id, and goes on.
@@ -195,9 +176,10 @@ fn take_lock(
 ) -> Result<Vec<Message>, AllocError>
     ensures { IfOk result (λ sent. Delivers sent.items entity.new (record { entity = record (entity_of entity.old) { holder = Some (id_of id.now) }; sent = lock_goes_on (id_of at.now) (id_of id.now) task (spots_of set.now) (suc index) (entity_at (spots_of set.now) (suc index)) ∷ [] })) }
 {
+    put(&mut entity.holder, Some(copy_id(id)?));
+    let next = pass_on(at, id, task, set, index as usize + 1)?;
     let mut sent = Vec::new(alloc);
-    sent.push(pass_on(at, id, task, set, index as usize + 1)?)?;
-    entity.holder = Some(copy_id(id)?);
+    sent.push(next)?;
     Ok(sent)
 }
 

@@ -4,10 +4,11 @@ ghost use Rattle.std.specs.Prelude.{◌≡◌, ◌∷◌, [], pos, length, ◌<�
 ghost use Rattle.dura_value.specs.declared.data.Scalar.TheVariants.{Int};
 ghost use Rattle.flow_syntax.specs.Syntax.{await, scalar};
 ghost use Rattle.flow_syntax.specs.Views.{statement_of};
+ghost use Rattle.flow_syntax.specs.Machine as plain;
 ghost use Rattle.flow_syntax.specs.Machine.{statement_step, running_step, next_of, go, most_steps};
 ghost use Rattle.flow_replay.specs.Views.{machine_of, todos_of};
-ghost use Rattle.flow_replay.specs.Steps.{Makes, Moves, Waits};
-ghost use Rattle.flow_replay.specs.Moving.{Pops, Splits, Takes, todo_step};
+ghost use Rattle.flow_replay.specs.Steps.{Goes, Makes, Moves, Waits};
+ghost use Rattle.flow_replay.specs.Moving.{NeverWaits, Pops, Splits, Takes, todo_step};
 
 use crate::machine::{Machine, Progress, Todo};
 use dura_value::{Name, Value};
@@ -56,6 +57,43 @@ impl<'f> Machine<'f> {
         Ok(None)
     }
 
+    /// The step of a statement that never waits. `one` is the statement by itself.
+    fn step_on(
+        &mut self,
+        alloc: Global,
+        made: &mut Made,
+        statement: &'f Stmt,
+        one: &'f [Stmt],
+    ) -> Result<(), AllocError>
+        requires one { one.now ≡ statement.now ∷ [] }
+        requires goes_on { NeverWaits (statement_of statement.now) }
+        ensures { OnOk result ((was : plain.Machine) → Goes made.old made.new self.new (statement_step was (machine_of self.old) (statement_of statement.now))) }
+    {
+        match statement {
+            Stmt::Let(x, value) => self.step_let(alloc, made, x, value),
+            Stmt::Spawn(x, name, value) => self.step_spawn(alloc, made, x, name, value),
+            Stmt::Call(x, name, value) => self.step_call(alloc, made, x, name, value),
+            Stmt::Sub(x, name, key, value) => self.step_sub(alloc, made, x, name, key, value),
+            Stmt::Ask(x, class, key, name, value) => {
+                self.step_ask(alloc, made, x, class, key, name, value)
+            }
+            Stmt::Timer(x, delay) => self.step_timer(alloc, made, x, delay),
+            Stmt::Event(x, name) => self.step_event(x, name),
+            Stmt::Signal(class, key, name, value) => {
+                self.step_signal(alloc, made, class, key, name, value)
+            }
+            Stmt::Lock(spots, body) => self.step_lock(alloc, made, spots, body),
+            Stmt::If(test, yes, no) => self.step_if(alloc, made, test, yes, no),
+            Stmt::While(test, body) => self.step_while(alloc, made, test, body, one),
+            Stmt::Try(body, x, handler) => self.step_try(body, x, handler),
+            Stmt::Return(value) => self.step_return(alloc, made, value),
+            Stmt::Fail(text) => self.step_fail(alloc, made, text),
+            Stmt::Await(_, _) => Ok(()),
+            Stmt::All(_, _) => Ok(()),
+            Stmt::Any(_, _) => Ok(()),
+        }
+    }
+
     /// The step of a statement, and whether it went on. `one` is the statement by itself.
     fn step_statement(
         &mut self,
@@ -68,32 +106,14 @@ impl<'f> Machine<'f> {
         ensures { IfOk result (λ went. Waits went made.old made.new self.new (machine_of self.old) (λ was. statement_step was (machine_of self.old) (statement_of statement.now))) }
     {
         match statement {
-            Stmt::Let(x, value) => self.step_let(alloc, made, x, value)?,
-            Stmt::Spawn(x, name, value) => self.step_spawn(alloc, made, x, name, value)?,
-            Stmt::Call(x, name, value) => self.step_call(alloc, made, x, name, value)?,
-            Stmt::Sub(x, name, key, value) => self.step_sub(alloc, made, x, name, key, value)?,
-            Stmt::Ask(x, class, key, name, value) => self.step_ask(
-                alloc, made, x, class, key, name, value,
-            )?,
-            Stmt::Timer(x, delay) => self.step_timer(alloc, made, x, delay)?,
-            Stmt::Event(x, name) => self.step_event(x, name)?,
-            Stmt::Await(x, handle) => {
-                let went = self.step_await(alloc, made, x, handle)?;
-                return Ok(went);
+            Stmt::Await(x, handle) => self.step_await(alloc, made, x, handle),
+            Stmt::All(x, handles) => self.step_all(alloc, made, x, handles),
+            Stmt::Any(x, handles) => self.step_any(alloc, made, x, handles),
+            _ => {
+                self.step_on(alloc, made, statement, one)?;
+                Ok(true)
             }
-            Stmt::All(x, handles) => return self.step_all(alloc, made, x, handles),
-            Stmt::Any(x, handles) => return self.step_any(alloc, made, x, handles),
-            Stmt::Signal(class, key, name, value) => self.step_signal(
-                alloc, made, class, key, name, value,
-            )?,
-            Stmt::Lock(spots, body) => self.step_lock(alloc, made, spots, body)?,
-            Stmt::If(test, yes, no) => self.step_if(alloc, made, test, yes, no)?,
-            Stmt::While(test, body) => self.step_while(alloc, made, test, body, one)?,
-            Stmt::Try(body, x, handler) => self.step_try(body, x, handler)?,
-            Stmt::Return(value) => self.step_return(alloc, made, value)?,
-            Stmt::Fail(text) => self.step_fail(alloc, made, text)?,
         }
-        Ok(true)
     }
 
     /// Waits for the task of a call.
@@ -109,8 +129,7 @@ impl<'f> Machine<'f> {
     {
         let number = number as usize;
         if number < self.tasks.len() {
-            let went = self.await_task(made, variable, number)?;
-            return Ok(went);
+            return self.await_task(made, variable, number);
         }
         self.throw_word(alloc, made, "handle")?;
         Ok(true)
@@ -176,8 +195,7 @@ impl<'f> Machine<'f> {
                 return Ok(());
             }
         }
-        self.stop(alloc, made)?;
-        Ok(())
+        self.stop(alloc, made)
     }
 }
 

@@ -11,9 +11,9 @@ ghost use Rattle.flow_replay.specs.Views.{machine_of};
 ghost use Rattle.flow_replay.specs.Steps.{Makes, Goes};
 
 use crate::machine::{Machine, Todo};
-use dura_value::{Body, Spot, Spots};
+use dura_value::{Spot, Spots};
 use flow_eval::{EvalError, to_key};
-use flow_messages::{Made, copy_id, copy_name, copy_spots, entity_id};
+use flow_messages::{Made, copy_name, copy_spots, pass_on};
 use flow_syntax::{Locked, Stmt};
 use flow_tasks::{Kind, Section, set_of};
 use std::alloc::{AllocError, Global};
@@ -62,15 +62,12 @@ impl<'f> Machine<'f> {
     fn ask_for(&self, made: &mut Made, number: u32, set: &Spots) -> Result<(), AllocError>
         ensures { OnOk result (Makes made.old made.new self.now (record { machine = machine_of self.now; sent = locking (machine_of self.now) number (spots_of set.now) (entity_at (spots_of set.now) 0); asked = [] })) }
     {
-        match set.as_slice().first() {
-            Some(first) => {
-                let to = entity_id(first)?;
-                let (id, to) = with(copy_id(&self.id), to)?;
-                let (set, (id, to)) = with(copy_spots(set), (id, to))?;
-                self.send(made, to, Body::Lock(id, number, set, 0))
-            }
-            None => Ok(()),
+        if set.as_slice().is_empty() {
+            return Ok(());
         }
+        let lock = pass_on(&self.id, &self.id, number, set, 0)?;
+        made.messages.push(lock)?;
+        Ok(())
     }
 
     pub(crate) fn step_lock(

@@ -14,7 +14,7 @@ use flow_tasks::{KeptEvents, Section, Tasks};
 use std::alloc::{AllocError, Global};
 
 /// Something that is still to run. The statements are those of the flow, which is lent.
-#[derive(Drop)]
+#[derive(Clone, Copy)]
 pub enum Todo<'f> {
     /// These statements, the first of which is next.
     Body(&'f [Stmt]),
@@ -102,4 +102,12 @@ impl<'f> Machine<'f> {
         self.rest.push(todo)?;
         Ok(())
     }
+}
+
+/// Puts a value into a place. An assignment would do the same; but it lets what was there go part by part where it stands, each of
+/// which is to be proved there, and here it is one call.
+pub(crate) fn put<T: Drop>(place: &mut T, value: T)
+    ensures { place.new ≡ value }
+{
+    *place = value;
 }

@@ -1,14 +1,15 @@
 //! What an event makes of a machine.
 
-ghost use Rattle.std.specs.Prelude.{◌≡◌, ◌∷◌, [], codes, OnOk, IfOk};
+ghost use Rattle.std.specs.Prelude.{◌≡◌, [], true, OnOk, IfOk};
+ghost use Rattle.dura_value.specs.Names.{is_name};
 ghost use Rattle.dura_value.specs.Views.{answer_of};
-ghost use Rattle.flow_syntax.specs.Machine.{with_answer, outcome_of, heard, oldest_listener, granted_in, recorded, granted_late, goes_on, begins, resumed_by, resume};
+ghost use Rattle.flow_syntax.specs.Machine.{sets, with_answer, outcome_of, heard, oldest_listener, granted_in, recorded, granted_late, goes_on, begins, resumed_by, resume};
 ghost use Rattle.flow_messages.specs.Views.{event_of};
 ghost use Rattle.flow_replay.specs.Views.{machine_of};
 ghost use Rattle.flow_replay.specs.Steps.{Makes, Resumes, begun};
 ghost use Rattle.flow_syntax.specs.Views.{block_of};
 
-use crate::machine::{Machine, Progress, Todo};
+use crate::machine::{Machine, Progress, Todo, put};
 use dura_value::{Answer, Name, Outcome, Value};
 use flow_eval::Variables;
 use flow_messages::{
@@ -17,18 +18,10 @@ use flow_messages::{
 use flow_syntax::Stmt;
 use flow_tasks::Section;
 use std::alloc::{AllocError, Global};
+use with_value::with;
 
 /// The most events of one instance.
 const MOST_EVENTS: u32 = 10_000;
-
-/// The variables that a flow begins with.
-fn with_argument(alloc: Global, argument: &Value) -> Result<Variables, AllocError>
-    ensures { IfOk result (λ set. set ≡ (codes "arg", argument.now) ∷ []) }
-{
-    let mut variables = Variables::new(alloc);
-    variables.set(Name::of(alloc, b"arg")?, copy_value(argument)?)?;
-    Ok(variables)
-}
 
 impl<'f> Machine<'f> {
     /// The result of a task arrives, where the answer is one.
@@ -101,19 +94,29 @@ impl<'f> Machine<'f> {
         }
     }
 
-    /// Its first statements are those of a body, with these variables.
-    pub(crate) fn run_body(
-        &mut self,
-        variables: Variables,
-        body: &'f [Stmt],
-    ) -> Result<(), AllocError>
-        ensures { OnOk result (machine_of self.new ≡ begun (machine_of self.old) variables (block_of body.now)) }
+    /// Its first statements are those of a body, and it has no variable yet.
+    pub(crate) fn run_body(&mut self, alloc: Global, body: &'f [Stmt]) -> Result<(), AllocError>
+        ensures { OnOk result (machine_of self.new ≡ begun (machine_of self.old) [] (block_of body.now)) }
     {
-        self.variables = variables;
+        put(&mut self.variables, Variables::new(alloc));
         self.rest.clear();
-        self.rest.push(Todo::Body(body))?;
-        self.progress = Progress::Running;
-        Ok(())
+        put(&mut self.progress, Progress::Running);
+        self.plan(Todo::Body(body))
+    }
+
+    /// A variable of this name gets a copy of a value.
+    pub(crate) fn give(
+        &mut self,
+        alloc: Global,
+        name: &[u8],
+        value: &Value,
+    ) -> Result<(), AllocError>
+        requires { is_name name.now ≡ true }
+        ensures { OnOk result (machine_of self.new ≡ (sets (machine_of self.old) name.now value.now).machine) }
+    {
+        let name = Name::of(alloc, name)?;
+        let (value, name) = with(copy_value(value), name)?;
+        self.variables.set(name, value)
     }
 
     /// It begins with its argument, where its flow is known.
@@ -123,11 +126,12 @@ impl<'f> Machine<'f> {
         let Event::Started(sender, argument, reply) = event else {
             return self.fail(alloc, made, "unknown");
         };
-        self.starter = copy_id(sender)?;
+        put(&mut self.starter, copy_id(sender)?);
         self.reply = copy_reply(reply);
         match self.body {
             Some(body) => {
-                self.run_body(with_argument(alloc, argument)?, body)?;
+                self.run_body(alloc, body)?;
+                self.give(alloc, b"arg", argument)?;
                 self.go_on(alloc, made)
             }
             None => self.fail(alloc, made, "unknown"),

@@ -101,10 +101,7 @@ impl<'f> Machine<'f> {
         ensures { IfOk result (λ went. Waits went made.old made.new self.new (machine_of self.old) (λ was. statement_step was (machine_of self.old) (await_all variable.now (expression_of handles.now)))) }
     {
         match self.handles_in(alloc, handles) {
-            Ok(handles) => {
-                let went = self.await_tasks(alloc, made, variable, &handles)?;
-                Ok(went)
-            }
+            Ok(handles) => self.await_tasks(alloc, made, variable, &handles),
             Err(fault) => {
                 self.throw_await(alloc, made, fault)?;
                 Ok(true)
@@ -122,10 +119,7 @@ impl<'f> Machine<'f> {
         ensures { IfOk result (λ went. Waits went made.old made.new self.new (machine_of self.old) (λ was. statement_step was (machine_of self.old) (await_any variable.now (expression_of handles.now)))) }
     {
         match self.handles_in(alloc, handles) {
-            Ok(handles) => {
-                let went = self.await_first(alloc, made, variable, &handles)?;
-                Ok(went)
-            }
+            Ok(handles) => self.await_first(alloc, made, variable, &handles),
             Err(fault) => {
                 self.throw_await(alloc, made, fault)?;
                 Ok(true)
@@ -166,7 +160,7 @@ impl<'f> Machine<'f> {
     }
 
     /// Throws why an expression names no tasks.
-    fn throw_await(
+    pub(crate) fn throw_await(
         &mut self,
         alloc: Global,
         made: &mut Made,

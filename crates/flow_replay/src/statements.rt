@@ -16,6 +16,7 @@ use flow_eval::{EvalError, eval, to_text, to_truth};
 use flow_messages::{Made, copy_name, copy_text};
 use flow_syntax::{Expr, Stmt};
 use std::alloc::{AllocError, Global};
+use with_value::with;
 
 impl<'f> Machine<'f> {
     /// What an expression gives with the machine's variables.
@@ -29,7 +30,8 @@ impl<'f> Machine<'f> {
     pub(crate) fn set(&mut self, variable: &Name, value: Value) -> Result<(), AllocError>
         ensures { OnOk result (machine_of self.new ≡ (sets (machine_of self.old) variable.now value).machine) }
     {
-        self.variables.set(copy_name(variable)?, value)
+        let (name, value) = with(copy_name(variable), value)?;
+        self.variables.set(name, value)
     }
 
     pub(crate) fn step_let(
@@ -89,8 +91,7 @@ impl<'f> Machine<'f> {
         match self.test(alloc, test) {
             Ok(true) => {
                 self.plan(Todo::Body(one))?;
-                self.plan(Todo::Body(body))?;
-                Ok(())
+                self.plan(Todo::Body(body))
             }
             Ok(false) => Ok(()),
             Err(error) => self.throw_error(alloc, made, error),
@@ -106,8 +107,7 @@ impl<'f> Machine<'f> {
         ensures { OnOk result (machine_of self.new ≡ with_rest (machine_of self.old) (todo (block_of body.now) ++ end_try variable.now (block_of handler.now) ∷ (machine_of self.old).rest)) }
     {
         self.plan(Todo::EndTry(variable, handler))?;
-        self.plan(Todo::Body(body))?;
-        Ok(())
+        self.plan(Todo::Body(body))
     }
 
     pub(crate) fn step_return(

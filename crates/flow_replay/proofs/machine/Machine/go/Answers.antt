@@ -1,7 +1,7 @@
 use Rattle.std.proofs.Common.{◌≡◌, ◌<◌, ◌-◌, ◌+◌, suc, arith}
 use Rattle.flow_syntax.specs.Machine.{go, most_steps}
 use Rattle.flow_replay.specs.Views.{machine_of}
-use Rattle.flow_replay.proofs.Steps.{went, stayed, ran_out}
+use Rattle.flow_replay.proofs.Steps.{went, stayed, ran_out_at_last}
 use Rattle.flow_replay.proofs.machine.Machine.go.Goals as goal
 
 pub returns-then-not-went : goal.returns-then-not-went
@@ -17,4 +17,4 @@ loop-preserved c =
 pub returns : goal.returns
 returns c =
     let none : most_steps - c.loop.counter ≡ 0 = omega (arith, c.loop-test.false) in
-    ran_out (most_steps - c.loop.counter) c.args.made.now c.loop.made c.stop.new.made (machine_of c.loop.self) c.stop.new.self (go most_steps (machine_of c.args.self.now)) none c.in_ok-stop.ensures c.loop.invariant
+    ran_out_at_last c.stop.result (most_steps - c.loop.counter) c.args.made.now c.loop.made c.stop.new.made (machine_of c.loop.self) c.stop.new.self (go most_steps (machine_of c.args.self.now)) none c.stop.ensures c.loop.invariant

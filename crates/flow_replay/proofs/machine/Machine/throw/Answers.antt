@@ -1,12 +1,10 @@
 use Rattle.std.proofs.Common.{◌∙◌, ◌++◌, ◌∷◌, [], ap, sym, subst}
 use Rattle.std.specs.Option.{option_to_list}
-use Rattle.dura_value.specs.declared.data.Value.TheVariants as values
-use Rattle.flow_syntax.specs.Eval.{set_in}
-use Rattle.flow_syntax.specs.Machine.{only, leaving, thrown, throws}
+use Rattle.flow_syntax.specs.Machine.{leaving, thrown, throws}
 use Rattle.flow_replay.specs.Views.{machine_of, rest_of}
 use Rattle.flow_replay.specs.Steps.{Leads, with_rest}
-use Rattle.flow_replay.proofs.Leading.{leads_to, leads_on}
-use Rattle.flow_replay.proofs.Thrown.{passed, passes, caught, unlocked}
+use Rattle.flow_replay.proofs.Leading.{leads_on}
+use Rattle.flow_replay.proofs.Thrown.{passed, passes, caught_by, catches, unlocked}
 use Rattle.flow_replay.proofs.machine.Machine.throw.Goals as goal
 
 pub loop-todo-preserved : goal.loop-todo-preserved
@@ -21,13 +19,8 @@ returns-in-EndTry c =
     let m = machine_of c.loop-todo.self in
     let f = c.args.fault.now in
     let is = c.pop.ensures.items ∙ ap (λ o. c.pop.new.self.items ++ option_to_list o) c.in-Some.is ∙ ap (λ t. c.pop.new.self.items ++ t ∷ []) c.in-EndTry.is in
-    let name = c.in_ok-copy_name-in-EndTry.ensures in
-    let text = c.in_ok-copy_text-in-EndTry.ensures in
-    let set = c.in_ok-set-in-EndTry.ensures.ok ∙ ap (λ n. set_in m.variables n (values.Text c.in_ok-copy_text-in-EndTry.field-0)) name ∙ ap (λ t. set_in m.variables c.in-EndTry.variable.now (values.Text t)) text in
-    let after = c.push.new.self.items in
-    let caught_it = caught m f c.loop-todo.self.rest.items c.pop.new.self.items after c.in-EndTry.variable c.in-EndTry.handler is c.in_ok-push-in-EndTry.ensures.items in
-    leads_to c.args.made.now c.loop-todo.made _ (thrown m f (rest_of c.loop-todo.self.rest.items)) (throws (machine_of c.args.self.now) f)
-    (caught_it ∙ ap (λ vs. only (record m { variables = vs; rest = rest_of after })) (sym set)) c.loop-todo.invariant
+    catches c.catch.result c.args.made.now c.loop-todo.made c.catch.new.self _ (thrown m f (rest_of c.loop-todo.self.rest.items)) (throws (machine_of c.args.self.now) f)
+    (caught_by m f c.loop-todo.self.rest.items c.pop.new.self.items c.in-EndTry.variable c.in-EndTry.handler is) c.catch.ensures c.loop-todo.invariant
 
 pub loop-todo-preserved-in_ok-leave-in-Unlock : goal.loop-todo-preserved-in_ok-leave-in-Unlock
 loop-todo-preserved-in_ok-leave-in-Unlock c =
