@@ -1,6 +1,5 @@
 -- What an activity may give.
-use Rattle.std.specs.Prelude.{◌≡◌, ℕ, ℤ, Bool, ◌+ℤ◌, List, [], ◌∷◌, codes, if◌then◌else◌}
-use Rattle.std.specs.Str.{bytes_eq}
+use Rattle.std.specs.Prelude.{ℤ, Bool, ◌+ℤ◌, List, [], ◌∷◌, codes, if◌then◌else◌}
 use Rattle.std.specs.Prelude.{pos, negsuc, ◌^◌, nat_lt}
 use Rattle.dura_value.specs.declared.data.Scalar.{Scalar}
 use Rattle.dura_value.specs.declared.data.Scalar.TheVariants as scalars
@@ -22,7 +21,3 @@ sum_of other = Failed (codes "type")
 abbrev pub added : Value → Outcome
 added (values.List parts) = sum_of parts
 added other = Failed (codes "type")
-
--- Of this activity, with this argument, this may be the outcome.
-abbrev pub May : List ℕ → Value → Outcome → Type 0
-May name argument outcome = outcome ≡ (if bytes_eq name (codes "add") then added argument else Failed (codes "unknown"))

@@ -4,7 +4,7 @@ ghost use Rattle.std.specs.Prelude.{◌≡◌, true, IfOk};
 ghost use Rattle.std.specs.Option.{option_map};
 ghost use Rattle.activity_table.specs.Table.{may, joined, concatenated, failing, shipped};
 
-use crate::sum_activities::{added, failed};
+use crate::adding::{added, failed};
 use dura_value::{Outcome, Scalar, Text, TextError, Value};
 use std::alloc::{AllocError, Global};
 

@@ -4,7 +4,6 @@ ghost use Rattle.std.specs.Prelude.{◌≡◌, OnOk, IfSome, IfNone, IfOk, Ok, E
 ghost use Rattle.flow_syntax.specs.Syntax.{await};
 ghost use Rattle.flow_syntax.specs.Views.{expression_of};
 ghost use Rattle.flow_syntax.specs.Machine.{listens, awaited, arrival_of as arrival_at, task_at, statement_step, gets, arrived, kept_value, without_kept};
-ghost use Rattle.flow_tasks.specs.Views.{arrival_of};
 ghost use Rattle.flow_replay.specs.Views.{machine_of};
 ghost use Rattle.flow_replay.specs.Steps.{Makes, Waits, ThrowsHandle, with_events};
 

@@ -1,6 +1,6 @@
 //! Whether a machine would take another step.
 
-ghost use Rattle.std.specs.Prelude.{◌≡◌, ◌≤◌, length, pos, IfOk, OnOk};
+ghost use Rattle.std.specs.Prelude.{◌≤◌, length, pos, IfOk, OnOk};
 ghost use Rattle.flow_syntax.specs.Views.{expression_of, statement_of};
 ghost use Rattle.dura_value.specs.declared.data.Scalar.TheVariants.{Int};
 ghost use Rattle.flow_syntax.specs.Syntax.{scalar};

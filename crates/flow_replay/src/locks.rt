@@ -1,6 +1,6 @@
 //! The step of a lock.
 
-ghost use Rattle.std.specs.Prelude.{◌≡◌, [], OnOk, map};
+ghost use Rattle.std.specs.Prelude.{[], OnOk, map};
 ghost use Rattle.dura_value.specs.Messages.{entity_at, set_of};
 ghost use Rattle.dura_value.specs.Views.{spot_of, spots_of};
 ghost use Rattle.flow_replay.specs.Values.{spot_in};

@@ -1,6 +1,6 @@
 //! The steps of statements that wait for several tasks.
 
-ghost use Rattle.std.specs.Prelude.{◌≡◌, IfOk, OnOk, Some};
+ghost use Rattle.std.specs.Prelude.{IfOk, OnOk, Some};
 ghost use Rattle.flow_syntax.specs.Views.{expression_of};
 ghost use Rattle.flow_syntax.specs.Syntax.{await_all, await_any};
 ghost use Rattle.flow_syntax.specs.Machine.{statement_step, awaited_all, awaited_any, all_arrived, first_arrived, all_values};

@@ -1,6 +1,6 @@
 //! The steps of statements that compute and branch.
 
-ghost use Rattle.std.specs.Prelude.{◌≡◌, ◌++◌, ◌∷◌, [], OnOk};
+ghost use Rattle.std.specs.Prelude.{◌≡◌, ◌++◌, ◌∷◌, OnOk};
 ghost use Rattle.flow_syntax.specs.Eval.{eval};
 ghost use Rattle.flow_replay.specs.Values.{truth_in, text_in};
 ghost use Rattle.flow_syntax.specs.Views.{expression_of, block_of};

@@ -1,6 +1,6 @@
 //! Each kind of message to an instance that isn't there.
 
-ghost use Rattle.std.specs.Prelude.{◌≡◌, ◌++◌, ◌∷◌, [], Some, None, option_map, IfOk};
+ghost use Rattle.std.specs.Prelude.{◌≡◌, [], Some, None, option_map, IfOk};
 ghost use Rattle.dura_value.specs.Views.{id_of, reply_of, body_of as said_of, messages_of};
 ghost use Rattle.flow_syntax.specs.Machine.{new_machine, started};
 ghost use Rattle.flow_syntax.specs.Views.{flows_of};

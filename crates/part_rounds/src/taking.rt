@@ -1,17 +1,15 @@
 //! Taking what clients ask.
 
 ghost use Rattle.std.specs.List.{All};
-ghost use Rattle.std.specs.Prelude.{◌≡◌, ◌<◌, ◌≤◌, ◌+◌, ℕ, List, true, is_some, Some, IfOk, IfSome, IfNone, length};
+ghost use Rattle.std.specs.Prelude.{◌≡◌, ◌<◌, ◌≤◌, ◌+◌, List, true, is_some, Some, IfOk, IfSome, IfNone, length};
 ghost use Rattle.dura_value.specs.Views.{message_of};
 ghost use Rattle.client_port.specs.Ports.{due_of};
 ghost use Rattle.dura_value.specs.Ids.{client as a_client};
-ghost use Rattle.dura_value.specs.Items.{took};
 ghost use Rattle.hub_store.specs.Trail.{Said};
-ghost use Rattle.part_items.specs.Plain.{item_of, items_of};
 ghost use Rattle.part_rounds.specs.Fills.{IsUnderWay, GoesOn, CantTake};
 ghost use Rattle.part_rounds.specs.Rounds.{pairs_of, HasSaid};
 ghost use Rattle.part_steps.specs.States.{state_of};
-ghost use Rattle.request_reader.specs.Line.{Request, request_of};
+ghost use Rattle.request_reader.specs.Line.{Request};
 ghost use Rattle.run_rules.specs.Rules.{Rules};
 
 use crate::filling::{Filling, put};

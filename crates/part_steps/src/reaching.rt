@@ -1,12 +1,12 @@
 //! A message reaches its receiver.
 
-ghost use Rattle.std.specs.Prelude.{◌≡◌, ◌<◌, ◌&&◌, ◌∷◌, [], Some, map, true, nat_le, IfOk, OnOk, option_map};
-ghost use Rattle.dura_value.specs.Ids.{orchestration, entity, client};
-ghost use Rattle.dura_value.specs.Views.{id_of, body_of as said_of, message_of, messages_of};
+ghost use Rattle.std.specs.Prelude.{◌≡◌, ◌<◌, ◌&&◌, Some, map, IfOk, OnOk};
+ghost use Rattle.dura_value.specs.Ids.{entity, client};
+ghost use Rattle.dura_value.specs.Views.{id_of, body_of as said_of, messages_of};
 ghost use Rattle.timer_row.specs.Timers.{InOrder};
 ghost use Rattle.dura_model.specs.Deliveries.{to_instance};
 ghost use Rattle.dura_model.specs.World.{at_id};
-ghost use Rattle.dura_model.specs.Partition.{instance_at, client_received};
+ghost use Rattle.dura_model.specs.Partition.{instance_at};
 ghost use Rattle.part_rows.specs.Parts.{part_of};
 ghost use Rattle.part_steps.specs.Outputs.{sent_to, answered_to, answered_of};
 ghost use Rattle.part_steps.specs.Reached.{takes_at, instance_reached, delivered_at, entity_reached, reached};

@@ -1,7 +1,6 @@
 //! The state of a partition.
 
 ghost use Rattle.std.specs.Prelude.{◌≡◌, ◌<◌, ◌≤◌, ◌^◌, Some, None, IfOk, IfSome, IfNone};
-ghost use Rattle.dura_value.specs.Views.{id_of, answer_of};
 ghost use Rattle.flow_syntax.specs.Syntax.{Flows as PlainFlows};
 ghost use Rattle.part_items.specs.Plain.{item_of};
 ghost use Rattle.dura_model.specs.Partition.{fresh, enter, accepted};

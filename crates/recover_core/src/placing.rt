@@ -1,5 +1,5 @@
 // The entries of a log make the state, one after another.
-ghost use Rattle.std.specs.Prelude.{◌≡◌, ◌≤◌, ◌<◌, ◌+◌, ◌^◌, [], ◌∷◌, IfOk, length};
+ghost use Rattle.std.specs.Prelude.{◌≤◌, ◌<◌, ◌+◌, ◌^◌, [], ◌∷◌, IfOk, length};
 ghost use Rattle.part_items.specs.Plain.{items_of, entry_of, entries_of, next_of};
 ghost use Rattle.part_steps.specs.States.{IsSound, state_of, count_of};
 ghost use Rattle.part_files.specs.Placing.{all_accepted};

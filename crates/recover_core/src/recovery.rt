@@ -1,5 +1,5 @@
 // What the two log files of a partition that is alone stand for.
-ghost use Rattle.std.specs.Prelude.{◌≡◌, ◌≤◌, ℕ, List, Err, OnOk, IfOk, IfSome};
+ghost use Rattle.std.specs.Prelude.{◌≡◌, ◌≤◌, List, Err, OnOk, IfOk, IfSome};
 ghost use Rattle.site_model.specs.History.{content_of};
 ghost use Rattle.site_model.specs.Calls.{HasRisen};
 ghost use Rattle.dura_value.specs.Items.{Entry};

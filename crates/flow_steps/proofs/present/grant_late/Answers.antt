@@ -1,4 +1,4 @@
-use Rattle.std.proofs.Common.{◌≡◌, ◌∙◌, false, List, Some, map, IfOk, ap, subst}
+use Rattle.std.proofs.Common.{◌∙◌, false, List, Some, map, IfOk, ap, subst}
 use Rattle.dura_value.specs.Messages.{Message}
 use Rattle.dura_value.specs.Views.{messages_of}
 use Rattle.flow_syntax.specs.Machine.{Machine, Asked, was_granted, resume}

@@ -17,10 +17,10 @@ returns c =
     let was = instance_of c.in_ok-instance.instance in
     let instance = subst (λ r. IfOk r (λ o. instance_of o ≡ instance_in (flows_by c.args.self.now) (id_of c.args.id.now) (row_of c.args.row.now))) c.in_ok-instance.ensures.ok.0 c.instance_of_row.ensures in
     let effect =
-        subst (λ r. IfOk r (λ e. effect_of e ≡ goes_on_from was (seen c.in_ok-instance.event) stamp (messages_of c.new.result.items))) c.in_ok-effect.ensures.ok.0 c.go_on_from-gone_on.ensures
-        ∙ ap (λ before. goes_on_from was (seen c.in_ok-instance.event) stamp (messages_of before)) c.new.ensures.items
-        ∙ ap (λ (e : Event). goes_on_from was (seen e) stamp []) c.in_ok-instance.ensures.ok.1
-        ∙ ap (λ (o : Orchestration). goes_on_from o event stamp []) instance in
+    subst (λ r. IfOk r (λ e. effect_of e ≡ goes_on_from was (seen c.in_ok-instance.event) stamp (messages_of c.new.result.items))) c.in_ok-effect.ensures.ok.0 c.go_on_from-gone_on.ensures
+    ∙ ap (λ before. goes_on_from was (seen c.in_ok-instance.event) stamp (messages_of before)) c.new.ensures.items
+    ∙ ap (λ (e : Event). goes_on_from was (seen e) stamp []) c.in_ok-instance.ensures.ok.1
+    ∙ ap (λ (o : Orchestration). goes_on_from o event stamp []) instance in
     c.as_reaction.ensures
     ∙ ap (λ (e : Event). reaction (Some (seen e)) (effect_of c.in_ok-effect.effect)) (c.in_ok-effect.ensures.ok.1 ∙ c.in_ok-instance.ensures.ok.1)
     ∙ ap (reaction (Some event)) effect
