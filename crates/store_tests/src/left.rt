@@ -44,44 +44,53 @@ fn frame_of(position: u8) -> [u8; 54] {
     frame
 }
 
-/// The file holds so many frames, of the entries from position 0 on.
-fn check_content(rt: &impl Abort, alloc: Global, site: &MemorySite, frames: u8) {
+/// How many frames the file holds, which are of the entries from position 0 on.
+fn frames_in(rt: &impl Abort, alloc: Global, site: &MemorySite) -> u64 {
+    let content = site.content(alloc, FILE).expect(rt, "memory");
+    let frames = content.len().saturating_sub(EMPTY.len()) / FRAME.len();
     let mut wanted = Vec::from_slice(alloc, &EMPTY).expect(rt, "memory");
-    for position in 0..frames {
+    for position in 0..u8::try_from(frames).expect(rt, "few") {
         let frame = frame_of(position);
         wanted.extend_from_slice(&frame).expect(rt, "memory");
     }
     wanted.push(0).expect(rt, "memory");
-    assert!(rt; site.content(alloc, FILE).expect(rt, "memory") == wanted);
+    assert!(rt; content == wanted);
+    frames as u64
 }
 
-fn check_log(rt: &impl Abort, found: &Opened) {
-    assert!(rt; found.header == HEADER);
-    assert!(rt; found.log.gate == 141);
-    assert!(rt; found.payloads.len() == 2);
-    for (position, payload) in (0..2).zip(&found.payloads) {
-        assert!(rt; payload.as_bytes() == &frame_of(position)[5..]);
+/// How many frames are read back, with the log that goes on behind them.
+fn frames_of(rt: &impl Abort, found: &Opened) -> u64 {
+    assert!(rt; found.header == HEADER && found.log.gate == 141 && found.payloads.len() == 2);
+    for position in 0..2u8 {
+        let frame = frame_of(position);
+        assert!(rt; found.payloads[usize::from(position)].as_bytes() == &frame[5..]);
     }
+    found.payloads.len() as u64
 }
 
-/// The file holds two frames, and they are read back.
-fn check_file(rt: &impl Abort, alloc: Global, site: &mut MemorySite) {
+fn frames_read(rt: &impl Abort, alloc: Global, site: &mut MemorySite) -> u64 {
     let found = read_log(alloc, site, FILE).expect(rt, "a log");
-    check_log(rt, &found);
+    let frames = frames_of(rt, &found);
     drop(found);
+    frames
 }
 
-fn check_tape(rt: &impl Abort, alloc: Global, site: &MemorySite) {
-    assert!(rt; site.tape(alloc).expect(rt, "memory").as_slice() == LINE);
+/// How many lines were said: the one that can be.
+fn lines_said(rt: &impl Abort, alloc: Global, site: &MemorySite) -> u64 {
+    let tape = site.tape(alloc).expect(rt, "memory");
+    assert!(rt; tape.as_slice() == LINE);
+    1
 }
 
 /// When the entry at this position was settled, once, in its life.
 fn settled_at(rt: &impl Abort, rows: &[Settled], position: usize) -> u64 {
-    let Some(row) = rows.get(position) else {
-        panic!(rt; "an entry was not settled");
-    };
-    assert!(rt; (row.partition, row.position, row.incarnation) == (0, position as u64, 0));
-    assert!(rt; row.items.as_slice().len() == 1);
+    let row = rows.get(position).expect(rt, "an entry that was settled");
+    assert!(rt;
+        row.partition == 0
+            && row.position == position as u64
+            && row.incarnation == 0
+            && row.items.as_slice().len() == 1
+    );
     row.at
 }
 
@@ -91,41 +100,35 @@ pub(crate) fn numbered<'a>(rt: &impl Abort, text: &'a str) -> (&'a str, u64) {
     (word, number.parse().expect(rt, "a number"))
 }
 
-/// The file's bytes or its line are as the line says, which has so many of them.
-fn check_bytes(rt: &impl Abort, alloc: Global, site: &mut MemorySite, word: &str, number: u64) {
+/// The number that a line with this word is to have.
+fn found_of(
+    rt: &impl Abort,
+    alloc: Global,
+    site: &mut MemorySite,
+    rows: &[Settled],
+    word: &str,
+) -> u64 {
     match word {
-        "frames" => check_content(rt, alloc, site, u8::try_from(number).expect(rt, "few")),
-        "lines" => check_tape(rt, alloc, site),
-        _ => {
-            assert!(rt; word == "frames read");
-            check_file(rt, alloc, site);
-        }
-    }
-}
-
-/// What a line says is so.
-fn check_line(rt: &impl Abort, alloc: Global, site: &mut MemorySite, rows: &[Settled], line: &str) {
-    let (word, number) = numbered(rt, line);
-    let found = match word {
         "settled" => rows.len() as u64,
         "first at" => settled_at(rt, rows, 0),
         "second at" => settled_at(rt, rows, 1),
         "disk faults" => site.disk_faults(),
         "say faults" => site.say_faults(),
         "moment" => site.moment(),
-        _ => {
-            check_bytes(rt, alloc, site, word, number);
-            number
-        }
-    };
-    assert!(rt; found == number, "{line}, and not {found}");
+        "frames" => frames_in(rt, alloc, site),
+        "frames read" => frames_read(rt, alloc, site),
+        "lines" => lines_said(rt, alloc, site),
+        _ => panic!(rt; "no such word"),
+    }
 }
 
 /// What each line says is so.
 pub(crate) fn check_left(rt: &impl Abort, alloc: Global, ended: Ended<MemorySite>, lines: &str) {
     let Ended { mut site, trail } = ended;
     for line in lines.lines() {
-        check_line(rt, alloc, &mut site, trail.as_slice(), line);
+        let (word, number) = numbered(rt, line);
+        let found = found_of(rt, alloc, &mut site, trail.as_slice(), word);
+        assert!(rt; found == number, "{line}, and not {found}");
     }
     drop(site);
     drop(trail);

@@ -116,12 +116,7 @@ fn check(rt: &impl Abort, alloc: Global, texts: &str) {
 }
 
 /// Seven calls in six steps format the file, and each commit has four.
-#[test]
-fn two_frames_are_committed(rt: HostRuntime) {
-    check(
-        &rt,
-        rt.alloc(),
-        "segment 1048576
+const TWO_FRAMES_ARE_COMMITTED: &str = "segment 1048576
 write: ok
 sync: ok
 gate: ok
@@ -137,17 +132,10 @@ first at 10
 second at 14
 lines 1
 frames 2
-frames read 2",
-    );
-}
+frames read 2";
 
 /// Each call comes in its turn alone.
-#[test]
-fn calls_out_of_turn(rt: HostRuntime) {
-    check(
-        &rt,
-        rt.alloc(),
-        "segment 1048576
+const CALLS_OUT_OF_TURN: &str = "segment 1048576
 sync: no frame
 gate: no frame
 settle: no frame
@@ -165,17 +153,10 @@ settle: ok
 reopen: no frame
 end
 settled 1
-moment 10",
-    );
-}
+moment 10";
 
 /// A frame brings the file to 88 bytes, which is room or not.
-#[test]
-fn a_full_log(rt: HostRuntime) {
-    check(
-        &rt,
-        rt.alloc(),
-        "segment 88
+const FULL_LOG: &str = "segment 88
 write: full at 88
 end
 settled 0
@@ -184,16 +165,9 @@ frames 0
 segment 89
 write: ok
 end
-settled 0",
-    );
-}
+settled 0";
 
-#[test]
-fn a_fault_at_each_call(rt: HostRuntime) {
-    check(
-        &rt,
-        rt.alloc(),
-        "device 7
+const FAULT_AT_EACH_CALL: &str = "device 7
 write: fault
 end
 settled 0
@@ -231,18 +205,11 @@ say 0
 say: fault
 end
 disk faults 0
-say faults 1",
-    );
-}
+say faults 1";
 
 /// The sync behind the gate fails, and the frame is settled when the log is opened again, which is a sync and a read. Either of them may
 /// fail before. Or the sync of the frame fails, it is dropped, and the next one goes in its place.
-#[test]
-fn a_log_opened_again(rt: HostRuntime) {
-    check(
-        &rt,
-        rt.alloc(),
-        "device 10
+const LOG_OPENED_AGAIN: &str = "device 10
 write: ok
 sync: ok
 gate: ok
@@ -322,6 +289,14 @@ end
 settled 1
 first at 13
 disk faults 2
-frames 1",
-    );
+frames 1";
+
+#[test]
+fn transcripts(rt: HostRuntime) {
+    let alloc = rt.alloc();
+    check(&rt, alloc, TWO_FRAMES_ARE_COMMITTED);
+    check(&rt, alloc, CALLS_OUT_OF_TURN);
+    check(&rt, alloc, FULL_LOG);
+    check(&rt, alloc, FAULT_AT_EACH_CALL);
+    check(&rt, alloc, LOG_OPENED_AGAIN);
 }

@@ -16,3 +16,13 @@ body-requires-clause-behind g c =
     let next = subst (λ s. goes_on (g.N.Start.origin.logs 0) (of_part 0 (trail_in s)) ≡ next_at position) (sym same) c.requires.going.goes.next in
     let frame = subst (λ (r : Result Frame AllocError). IfOk r (λ frame. entries_of frame ≡ trimming position ∷ [])) c.expect-frame.ensures c.frame_at.ensures in
     trimming_goes _ _ position next frame c.requires.position
+
+-- where the body was refused or failed the transcript is over
+pub returns-in-Err-Full-eq0-eq88 : goal.returns-in-Err-Full-eq0-eq88
+returns-in-Err-Full-eq0-eq88 g c = c.body.ensures.sound
+
+pub returns-in-Err-SiteFault : goal.returns-in-Err-SiteFault
+returns-in-Err-SiteFault g c = c.body.ensures.sound
+
+pub returns-in-Err : goal.returns-in-Err
+returns-in-Err g c = c.body.ensures.sound
