@@ -148,72 +148,44 @@ fn check(rt: &impl Abort, alloc: Global, lines: &str) {
     }
 }
 
-#[test]
-fn nothing_yet(rt: HostRuntime) {
-    check(
-        &rt,
-        rt.alloc(),
-        "empty | empty | log 0 to 0, life 0, taken false false
-byte 0, byte 1, byte 2 | byte 195 | log 0 to 0, life 0, taken false false",
-    );
-}
+const NOTHING_YET: &str = "empty | empty | log 0 to 0, life 0, taken false false
+byte 0, byte 1, byte 2 | byte 195 | log 0 to 0, life 0, taken false false";
 
-#[test]
-fn one_entry(rt: HostRuntime) {
-    check(
-        &rt,
-        rt.alloc(),
-        "header, entry, byte 0 | empty | log 16 to 76, life 1, taken true false
-byte 0 | header, entry, byte 0 | log 17 to 76, life 1, taken true false",
-    );
-}
+const ONE_ENTRY: &str = "header, entry, byte 0 | empty | log 16 to 76, life 1, taken true false
+byte 0 | header, entry, byte 0 | log 17 to 76, life 1, taken true false";
 
-#[test]
-fn a_life_behind_the_last(rt: HostRuntime) {
-    check(
-        &rt,
-        rt.alloc(),
-        "header, entry, entry 9=1 17=5 37=2, byte 0 | empty | log 16 to 119, life 6, taken true true",
-    );
-}
+const LIFE_BEHIND_THE_LAST: &str =
+    "header, entry, entry 9=1 17=5 37=2, byte 0 | empty | log 16 to 119, life 6, taken true true";
 
 /// The same request once more; bytes that are wrong behind it, which come first; the last life.
-#[test]
-fn entries_that_cannot_be(rt: HostRuntime) {
-    check(
-        &rt,
-        rt.alloc(),
-        "header, entry, entry 9=1, byte 0 | empty | partition 0 has an illegal entry at position 1
+const ENTRIES_THAT_CANNOT_BE: &str =
+    "header, entry, entry 9=1, byte 0 | empty | partition 0 has an illegal entry at position 1
 header, entry, entry 9=1, entry, byte 0 | empty | file 16 is damaged at offset 126
-header, entry 10=63 11=255 12=255 13=255 14=255 15=255 16=255 17=255, byte 0 | empty | partition 0 is past its last life with 4611686018427387904",
-    );
-}
+header, entry 10=63 11=255 12=255 13=255 14=255 15=255 16=255 17=255, byte 0 | empty | partition 0 is past its last life with 4611686018427387904";
 
-#[test]
-fn other_logs(rt: HostRuntime) {
-    check(
-        &rt,
-        rt.alloc(),
-        "header 16=2, entry, byte 0 | empty | the log is of 2 partitions, and 1 are asked for
+const OTHER_LOGS: &str =
+    "header 16=2, entry, byte 0 | empty | the log is of 2 partitions, and 1 are asked for
 empty | header 24=8, entry, byte 0 | the log is of flows with digest 8, and these have 7
 header, entry, byte 0 | header, entry, byte 0 | file 17 is damaged at offset 25
 header 32=1, entry 9=1, byte 0 | empty | file 16 is damaged at offset 25
 header, entry, byte 0 | header 32=1, entry 9=1, byte 0 | file 17 is damaged at offset 25
-header 32=1, entry 9=1, byte 0 | header, entry, byte 0 | file 16 is damaged at offset 25",
-    );
-}
+header 32=1, entry 9=1, byte 0 | header, entry, byte 0 | file 16 is damaged at offset 25";
 
-#[test]
-fn cut_short(rt: HostRuntime) {
-    check(
-        &rt,
-        rt.alloc(),
-        "header, entry, byte 0, cut 20 | empty | file 16 is damaged at offset 17
+const CUT_SHORT: &str = "header, entry, byte 0, cut 20 | empty | file 16 is damaged at offset 17
 header, entry, byte 0, cut 33 | empty | file 16 is damaged at offset 33
 header, entry, byte 0, cut 35 | empty | file 16 is damaged at offset 34
 header, entry, byte 0, cut 60 | empty | file 16 is damaged at offset 34
-header, entry, byte 0, cut 76 | empty | file 16 is damaged at offset 34",
-    );
+header, entry, byte 0, cut 76 | empty | file 16 is damaged at offset 34";
+
+#[test]
+fn log_files(rt: HostRuntime) {
+    let alloc = rt.alloc();
+    check(&rt, alloc, NOTHING_YET);
+    check(&rt, alloc, ONE_ENTRY);
+    check(&rt, alloc, LIFE_BEHIND_THE_LAST);
+    check(&rt, alloc, ENTRIES_THAT_CANNOT_BE);
+    check(&rt, alloc, OTHER_LOGS);
+    check(&rt, alloc, CUT_SHORT);
 }
 
 #[test]
