@@ -1,4 +1,5 @@
 pub mod Answers
+pub mod ByWord
 pub mod Classes
 pub mod Faults
 pub mod Files

@@ -40,11 +40,7 @@ fn locked_in(alloc: Global, value: &Tree<'_>) -> Result<Locked, PartError>
 {
     match value {
         Tree::Array(parts) => pair_in(alloc, parts),
-        Tree::Null => Err(misshapen(alloc)),
-        Tree::Bool(_) => Err(misshapen(alloc)),
-        Tree::Number(_) => Err(misshapen(alloc)),
-        Tree::String(_) => Err(misshapen(alloc)),
-        Tree::Object(_) => Err(misshapen(alloc)),
+        _ => Err(misshapen(alloc)),
     }
 }
 
@@ -80,11 +76,7 @@ fn pairs_in(alloc: Global, value: &Tree<'_>) -> Result<Vec<Locked>, PartError>
 {
     match value {
         Tree::Array(parts) => few_pairs(alloc, parts),
-        Tree::Null => Err(misshapen(alloc)),
-        Tree::Bool(_) => Err(misshapen(alloc)),
-        Tree::Number(_) => Err(misshapen(alloc)),
-        Tree::String(_) => Err(misshapen(alloc)),
-        Tree::Object(_) => Err(misshapen(alloc)),
+        _ => Err(misshapen(alloc)),
     }
 }
 
@@ -106,11 +98,7 @@ pub(crate) fn body_in(alloc: Global, inside: bool, value: &Tree<'_>) -> Result<V
 {
     match value {
         Tree::Array(items) => statements_in(alloc, inside, items),
-        Tree::Null => Err(misshapen(alloc)),
-        Tree::Bool(_) => Err(misshapen(alloc)),
-        Tree::Number(_) => Err(misshapen(alloc)),
-        Tree::String(_) => Err(misshapen(alloc)),
-        Tree::Object(_) => Err(misshapen(alloc)),
+        _ => Err(misshapen(alloc)),
     }
 }
 
@@ -154,11 +142,7 @@ fn statement_in(alloc: Global, inside: bool, value: &Tree<'_>) -> Result<Stmt, P
 {
     match value {
         Tree::Array(items) => array_in(alloc, inside, items),
-        Tree::Null => Err(misshapen(alloc)),
-        Tree::Bool(_) => Err(misshapen(alloc)),
-        Tree::Number(_) => Err(misshapen(alloc)),
-        Tree::String(_) => Err(misshapen(alloc)),
-        Tree::Object(_) => Err(misshapen(alloc)),
+        _ => Err(misshapen(alloc)),
     }
 }
 

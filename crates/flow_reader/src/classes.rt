@@ -93,11 +93,7 @@ pub(crate) fn bodies_in(
 {
     match value {
         Tree::Object(members) => bodies_of_members(alloc, inside, members),
-        Tree::Null => Err(misshapen(alloc)),
-        Tree::Bool(_) => Err(misshapen(alloc)),
-        Tree::Number(_) => Err(misshapen(alloc)),
-        Tree::String(_) => Err(misshapen(alloc)),
-        Tree::Array(_) => Err(misshapen(alloc)),
+        _ => Err(misshapen(alloc)),
     }
 }
 
@@ -165,11 +161,7 @@ fn class_in(alloc: Global, value: &Tree<'_>) -> Result<Class, PartError>
 {
     match value {
         Tree::Object(members) => class_of_members(alloc, members),
-        Tree::Null => Err(misshapen(alloc)),
-        Tree::Bool(_) => Err(misshapen(alloc)),
-        Tree::Number(_) => Err(misshapen(alloc)),
-        Tree::String(_) => Err(misshapen(alloc)),
-        Tree::Array(_) => Err(misshapen(alloc)),
+        _ => Err(misshapen(alloc)),
     }
 }
 
@@ -223,10 +215,6 @@ pub(crate) fn classes_in(
 {
     match value {
         Tree::Object(members) => classes_of_members(alloc, members),
-        Tree::Null => Err(misshapen(alloc)),
-        Tree::Bool(_) => Err(misshapen(alloc)),
-        Tree::Number(_) => Err(misshapen(alloc)),
-        Tree::String(_) => Err(misshapen(alloc)),
-        Tree::Array(_) => Err(misshapen(alloc)),
+        _ => Err(misshapen(alloc)),
     }
 }

@@ -105,10 +105,6 @@ pub(crate) fn file_in(alloc: Global, value: &Tree<'_>) -> Result<Flows, PartErro
 {
     match value {
         Tree::Object(members) => of_members(alloc, members),
-        Tree::Null => Err(misshapen(alloc)),
-        Tree::Bool(_) => Err(misshapen(alloc)),
-        Tree::Number(_) => Err(misshapen(alloc)),
-        Tree::String(_) => Err(misshapen(alloc)),
-        Tree::Array(_) => Err(misshapen(alloc)),
+        _ => Err(misshapen(alloc)),
     }
 }

@@ -5,9 +5,9 @@ ghost use Rattle.json_tree.specs.View.{items_view, view};
 ghost use Rattle.flow_values.specs.Answers.{Gives};
 ghost use Rattle.flow_values.specs.Expressions.{expression_in};
 ghost use Rattle.flow_values.specs.Faults.{at, to_part};
-ghost use Rattle.flow_reader.specs.Statements.{activity_in, ask_in, event_in, five_parts, four_parts, one_part, only_value, signal_in, simple_in, sub_in, three_parts, two_parts, variable_and_value};
+ghost use Rattle.flow_reader.specs.Statements.{ask_in, event_in, five_parts, four_parts, one_part, signal_in, simple_in, sub_in, three_parts, two_parts};
+ghost use Rattle.flow_reader.specs.ByWord.{activity_statement, of_activity, of_value, of_variable, value_statement, variable_statement};
 ghost use Rattle.flow_values.specs.Values.{name_in};
-ghost use Rattle.flow_reader.specs.declared.words.Word.TheVariants as words;
 ghost use Rattle.flow_syntax.specs.Views.{expression_of, statement_of};
 
 use crate::words::Word;
@@ -88,27 +88,53 @@ fn five_parts<'t, 'a>(
     }
 }
 
-/// The only part, an expression.
+/// The statement of a word, of an expression alone.
+fn of_value(word: Word, value: Expr) -> Stmt
+    ensures { statement_of result ≡ of_value word (expression_of value) }
+{
+    match word {
+        Word::Return => Stmt::Return(value),
+        _ => Stmt::Fail(value),
+    }
+}
+
+/// The statement of a word whose only part is an expression.
 #[tactic(auto, using(flow_values::proofs::Parts::ends_then))]
-fn only_value(alloc: Global, parts: &[Tree<'_>]) -> Result<Expr, PartError>
-    ensures { Gives expression_of result (only_value (items_view parts.now)) }
+fn value_statement(alloc: Global, word: Word, parts: &[Tree<'_>]) -> Result<Stmt, PartError>
+    ensures { Gives statement_of result (value_statement word (items_view parts.now)) }
 {
     match one_part(parts) {
-        Some(value) => expression_at(alloc, value, 1),
+        Some(value) => match expression_at(alloc, value, 1) {
+            Ok(value) => Ok(of_value(word, value)),
+            Err(error) => Err(error),
+        },
         None => Err(misshapen(alloc)),
     }
 }
 
-/// A variable and an expression.
+/// The statement of a word, of a variable and an expression.
+fn of_variable(word: Word, variable: Name, value: Expr) -> Stmt
+    ensures { statement_of result ≡ of_variable word variable (expression_of value) }
+{
+    match word {
+        Word::Let => Stmt::Let(variable, value),
+        Word::Timer => Stmt::Timer(variable, value),
+        Word::Await => Stmt::Await(variable, value),
+        Word::All => Stmt::All(variable, value),
+        _ => Stmt::Any(variable, value),
+    }
+}
+
+/// The statement of a word whose parts are a variable and an expression.
 #[tactic(auto, using(flow_values::proofs::Parts::ends_then))]
-fn variable_and_value(alloc: Global, parts: &[Tree<'_>]) -> Result<(Name, Expr), PartError>
-    ensures { Gives (λ p. (p.0, expression_of p.1)) result (variable_and_value (items_view parts.now)) }
+fn variable_statement(alloc: Global, word: Word, parts: &[Tree<'_>]) -> Result<Stmt, PartError>
+    ensures { Gives statement_of result (variable_statement word (items_view parts.now)) }
 {
     match two_parts(parts) {
         Some((variable, value)) => {
             let variable = name_at(alloc, variable, 1)?;
             match expression_at(alloc, value, 2) {
-                Ok(value) => Ok((variable, value)),
+                Ok(value) => Ok(of_variable(word, variable, value)),
                 Err(error) => Err(error),
             }
         }
@@ -116,17 +142,27 @@ fn variable_and_value(alloc: Global, parts: &[Tree<'_>]) -> Result<(Name, Expr),
     }
 }
 
-/// A variable, an activity and its argument.
+/// The statement of a word, of a variable, an activity and its argument.
+fn of_activity(word: Word, variable: Name, activity: Name, argument: Expr) -> Stmt
+    ensures { statement_of result ≡ of_activity word variable activity (expression_of argument) }
+{
+    match word {
+        Word::Spawn => Stmt::Spawn(variable, activity, argument),
+        _ => Stmt::Call(variable, activity, argument),
+    }
+}
+
+/// The statement of a word whose parts are a variable, an activity and its argument.
 #[tactic(auto, using(flow_values::proofs::Parts::ends_then))]
-fn activity_in(alloc: Global, parts: &[Tree<'_>]) -> Result<(Name, Name, Expr), PartError>
-    ensures { Gives (λ p. (p.0, p.1, expression_of p.2)) result (activity_in (items_view parts.now)) }
+fn activity_statement(alloc: Global, word: Word, parts: &[Tree<'_>]) -> Result<Stmt, PartError>
+    ensures { Gives statement_of result (activity_statement word (items_view parts.now)) }
 {
     match three_parts(parts) {
         Some((variable, activity, argument)) => {
             let variable = name_at(alloc, variable, 1)?;
             let activity = name_at(alloc, activity, 2)?;
             match expression_at(alloc, argument, 3) {
-                Ok(argument) => Ok((variable, activity, argument)),
+                Ok(argument) => Ok(of_activity(word, variable, activity, argument)),
                 Err(error) => Err(error),
             }
         }
@@ -209,114 +245,24 @@ fn signal_in(alloc: Global, parts: &[Tree<'_>]) -> Result<Stmt, PartError>
     }
 }
 
-#[tactic(auto, using(flow_values::proofs::Parts::ends_then))]
-fn let_in(alloc: Global, parts: &[Tree<'_>]) -> Result<Stmt, PartError>
-    ensures { Gives statement_of result (simple_in words.Let (items_view parts.now)) }
-{
-    match variable_and_value(alloc, parts) {
-        Ok((variable, value)) => Ok(Stmt::Let(variable, value)),
-        Err(error) => Err(error),
-    }
-}
-
-#[tactic(auto, using(flow_values::proofs::Parts::ends_then))]
-fn spawn_in(alloc: Global, parts: &[Tree<'_>]) -> Result<Stmt, PartError>
-    ensures { Gives statement_of result (simple_in words.Spawn (items_view parts.now)) }
-{
-    match activity_in(alloc, parts) {
-        Ok((variable, activity, argument)) => Ok(Stmt::Spawn(variable, activity, argument)),
-        Err(error) => Err(error),
-    }
-}
-
-#[tactic(auto, using(flow_values::proofs::Parts::ends_then))]
-fn call_in(alloc: Global, parts: &[Tree<'_>]) -> Result<Stmt, PartError>
-    ensures { Gives statement_of result (simple_in words.Call (items_view parts.now)) }
-{
-    match activity_in(alloc, parts) {
-        Ok((variable, activity, argument)) => Ok(Stmt::Call(variable, activity, argument)),
-        Err(error) => Err(error),
-    }
-}
-
-#[tactic(auto, using(flow_values::proofs::Parts::ends_then))]
-fn timer_in(alloc: Global, parts: &[Tree<'_>]) -> Result<Stmt, PartError>
-    ensures { Gives statement_of result (simple_in words.Timer (items_view parts.now)) }
-{
-    match variable_and_value(alloc, parts) {
-        Ok((variable, delay)) => Ok(Stmt::Timer(variable, delay)),
-        Err(error) => Err(error),
-    }
-}
-
-#[tactic(auto, using(flow_values::proofs::Parts::ends_then))]
-fn await_in(alloc: Global, parts: &[Tree<'_>]) -> Result<Stmt, PartError>
-    ensures { Gives statement_of result (simple_in words.Await (items_view parts.now)) }
-{
-    match variable_and_value(alloc, parts) {
-        Ok((variable, handle)) => Ok(Stmt::Await(variable, handle)),
-        Err(error) => Err(error),
-    }
-}
-
-#[tactic(auto, using(flow_values::proofs::Parts::ends_then))]
-fn all_in(alloc: Global, parts: &[Tree<'_>]) -> Result<Stmt, PartError>
-    ensures { Gives statement_of result (simple_in words.All (items_view parts.now)) }
-{
-    match variable_and_value(alloc, parts) {
-        Ok((variable, handles)) => Ok(Stmt::All(variable, handles)),
-        Err(error) => Err(error),
-    }
-}
-
-#[tactic(auto, using(flow_values::proofs::Parts::ends_then))]
-fn any_in(alloc: Global, parts: &[Tree<'_>]) -> Result<Stmt, PartError>
-    ensures { Gives statement_of result (simple_in words.Any (items_view parts.now)) }
-{
-    match variable_and_value(alloc, parts) {
-        Ok((variable, handles)) => Ok(Stmt::Any(variable, handles)),
-        Err(error) => Err(error),
-    }
-}
-
-#[tactic(auto, using(flow_values::proofs::Parts::ends_then))]
-fn return_in(alloc: Global, parts: &[Tree<'_>]) -> Result<Stmt, PartError>
-    ensures { Gives statement_of result (simple_in words.Return (items_view parts.now)) }
-{
-    match only_value(alloc, parts) {
-        Ok(value) => Ok(Stmt::Return(value)),
-        Err(error) => Err(error),
-    }
-}
-
-#[tactic(auto, using(flow_values::proofs::Parts::ends_then))]
-fn fail_in(alloc: Global, parts: &[Tree<'_>]) -> Result<Stmt, PartError>
-    ensures { Gives statement_of result (simple_in words.Fail (items_view parts.now)) }
-{
-    match only_value(alloc, parts) {
-        Ok(text) => Ok(Stmt::Fail(text)),
-        Err(error) => Err(error),
-    }
-}
-
 /// A statement with none in it, of a word and the parts behind it.
 pub(crate) fn simple_in(alloc: Global, word: Word, parts: &[Tree<'_>]) -> Result<Stmt, PartError>
     ensures { Gives statement_of result (simple_in word (items_view parts.now)) }
 {
     match word {
-        Word::Let => let_in(alloc, parts),
-        Word::Spawn => spawn_in(alloc, parts),
-        Word::Call => call_in(alloc, parts),
+        Word::Let => variable_statement(alloc, word, parts),
+        Word::Spawn => activity_statement(alloc, word, parts),
+        Word::Call => activity_statement(alloc, word, parts),
         Word::Sub => sub_in(alloc, parts),
         Word::Ask => ask_in(alloc, parts),
-        Word::Timer => timer_in(alloc, parts),
+        Word::Timer => variable_statement(alloc, word, parts),
         Word::Event => event_in(alloc, parts),
-        Word::Await => await_in(alloc, parts),
-        Word::All => all_in(alloc, parts),
-        Word::Any => any_in(alloc, parts),
+        Word::Await => variable_statement(alloc, word, parts),
+        Word::All => variable_statement(alloc, word, parts),
+        Word::Any => variable_statement(alloc, word, parts),
         Word::Signal => signal_in(alloc, parts),
-        Word::Return => return_in(alloc, parts),
-        Word::Fail => fail_in(alloc, parts),
+        Word::Return => value_statement(alloc, word, parts),
+        Word::Fail => value_statement(alloc, word, parts),
         Word::Lock | Word::If | Word::While | Word::Try => Err(misshapen(alloc)),
     }
 }
