@@ -4,3 +4,4 @@ pub mod Counts
 pub mod Known
 pub mod Members
 pub mod Pairs
+pub mod Shapes

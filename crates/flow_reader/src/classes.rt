@@ -142,16 +142,11 @@ fn class_of_two(
 fn class_of_members(alloc: Global, members: &[Member<'_>]) -> Result<Class, PartError>
     ensures { Gives class_of result (class_in (object (members_view members.now))) }
 {
-    let mut entries = members.iter();
-    match entries.next() {
-        Some(first) => match entries.next() {
-            Some(second) => match entries.next() {
-                Some(_) => Err(misshapen(alloc)),
-                None => class_of_two(alloc, first.0, &first.1, second.0, &second.1),
-            },
-            None => Err(misshapen(alloc)),
-        },
-        None => Err(misshapen(alloc)),
+    match members {
+        [] => Err(misshapen(alloc)),
+        [_] => Err(misshapen(alloc)),
+        [first, second] => class_of_two(alloc, first.0, &first.1, second.0, &second.1),
+        _ => Err(misshapen(alloc)),
     }
 }
 

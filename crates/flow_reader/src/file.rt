@@ -86,16 +86,11 @@ fn of_two(
 fn of_members(alloc: Global, members: &[Member<'_>]) -> Result<Flows, PartError>
     ensures { Gives flows_of result (file_in (object (members_view members.now))) }
 {
-    let mut entries = members.iter();
-    match entries.next() {
-        Some(first) => match entries.next() {
-            Some(second) => match entries.next() {
-                Some(_) => Err(misshapen(alloc)),
-                None => of_two(alloc, first.0, &first.1, second.0, &second.1),
-            },
-            None => of_one(alloc, first.0, &first.1),
-        },
-        None => Ok(Flows::new(alloc)),
+    match members {
+        [] => Ok(Flows::new(alloc)),
+        [one] => of_one(alloc, one.0, &one.1),
+        [first, second] => of_two(alloc, first.0, &first.1, second.0, &second.1),
+        _ => Err(misshapen(alloc)),
     }
 }
 
