@@ -116,6 +116,11 @@ impl PartRows {
         Ok(())
     }
 
+    /// Lets go of all that it knows. Where another crate drops it, the drop of each of its parts is proved there once more.
+    pub fn let_go(self) {
+        drop(self);
+    }
+
     /// The entry that its items belong to.
     pub fn entry(&self) -> Identity
         ensures { identity_of result ≡ entry_of (part_of self.now) }

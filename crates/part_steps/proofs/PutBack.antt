@@ -1,19 +1,19 @@
 -- A row that is taken out and put back.
-use Rattle.std.proofs.Common.{◌≡◌, ◌∙◌, ℕ, List, Option, Some, None, refl, ap, sym}
+use Rattle.std.proofs.Common.{◌≡◌, ◌∙◌, ℕ, List, [], Option, Some, None, refl, ap, sym}
 use Rattle.std.specs.Prelude.{option_map}
-use Rattle.dura_value.specs.Ids.{Id, entity}
+use Rattle.dura_value.specs.Ids.{Id, orchestration, entity, client}
 use Rattle.dura_value.specs.Messages.{Body}
 use Rattle.flow_syntax.specs.Syntax.{Flows}
 use Rattle.flow_syntax.specs.Machine.{Event}
 use Rattle.flow_syntax.specs.Entity.{Entity}
 use Rattle.dura_model.specs.World.{Orchestration, at_id}
-use Rattle.dura_model.specs.Deliveries.{Effect}
-use Rattle.dura_model.specs.Partition.{Row, Partition, row_after, post_all, asked_in, given_up_in, stands_in}
+use Rattle.dura_model.specs.Deliveries.{Effect, to_instance}
+use Rattle.dura_model.specs.Partition.{Row, Partition, row_after, post_all, asked_in, given_up_in, stands_in, instance_at, client_received}
 use Rattle.part_rows.proofs.Seen.{set_again}
 use Rattle.part_rows.specs.Reactions.{Reaction, reaction, delivered}
 use Rattle.part_steps.specs.Kept.{next_row, kept_in}
 use Rattle.part_steps.specs.Outputs.{sent_to}
-use Rattle.part_steps.specs.Reached.{delivered_at, entity_reached, reached}
+use Rattle.part_steps.specs.Reached.{delivered_at, instance_reached, entity_reached, reached}
 
 pub row_put_back : (old middle new : Partition) (id : Id) (row next : Option Row) (stamp : ℕ) (event : Option Event) (waiting : Option (List (Id × ℕ)))
     → row ≡ old.instances id → middle ≡ record old { instances = at_id old.instances id None } → next ≡ option_map (next_row row stamp event) waiting → new ≡ record middle { instances = at_id middle.instances id next }
@@ -57,3 +57,18 @@ entity_sends flows p class key from to stamp body is =
 pub entity_stands : (flows : Flows) (count : ℕ) (p : Partition) (class key : List ℕ) (from to : Id) (stamp : ℕ) (body : Body) → to ≡ entity class key → reached flows count p from to stamp body ≡ entity_reached flows count p class from to stamp body
 entity_stands flows count p class key from to stamp body is =
     ap (λ (t : Id). reached flows count p from t stamp body) is ∙ sym (ap (λ (t : Id). entity_reached flows count p class from t stamp body) is)
+
+pub instance_sends : (flows : Flows) (p : Partition) (flow key : List ℕ) (from to : Id) (stamp : ℕ) (body : Body) → to ≡ orchestration flow key → sent_to flows p from to stamp body ≡ (to_instance flows (instance_at flows p to) from to stamp body).sent
+instance_sends flows p flow key from to stamp body is =
+    ap (λ (t : Id). sent_to flows p from t stamp body) is ∙ sym (ap (λ (t : Id). (to_instance flows (instance_at flows p t) from t stamp body).sent) is)
+
+pub instance_stands : (flows : Flows) (count : ℕ) (p : Partition) (flow key : List ℕ) (from to : Id) (stamp : ℕ) (body : Body) → to ≡ orchestration flow key → reached flows count p from to stamp body ≡ instance_reached flows count p from to stamp body
+instance_stands flows count p flow key from to stamp body is =
+    ap (λ (t : Id). reached flows count p from t stamp body) is ∙ sym (ap (λ (t : Id). instance_reached flows count p from t stamp body) is)
+
+pub client_sends : (flows : Flows) (p : Partition) (name : List ℕ) (from to : Id) (stamp : ℕ) (body : Body) → to ≡ client name → sent_to flows p from to stamp body ≡ []
+client_sends flows p name from to stamp body is = ap (λ (t : Id). sent_to flows p from t stamp body) is
+
+pub client_stands : (flows : Flows) (count : ℕ) (p : Partition) (name : List ℕ) (from to : Id) (stamp : ℕ) (body : Body) → to ≡ client name → reached flows count p from to stamp body ≡ client_received p to body
+client_stands flows count p name from to stamp body is =
+    ap (λ (t : Id). reached flows count p from t stamp body) is ∙ sym (ap (λ (t : Id). client_received p t body) is)

@@ -1,6 +1,6 @@
 //! The items of an entry that a partition makes by itself.
 
-ghost use Rattle.std.specs.Prelude.{◌≡◌, ◌<◌, ◌≤◌, ◌++◌, ◌∷◌, [], length, map, IfOk};
+ghost use Rattle.std.specs.Prelude.{◌≡◌, ◌<◌, ◌≤◌, ◌++◌, ◌∷◌, [], length, map, IfOk, OnOk};
 ghost use Rattle.part_items.specs.Plain.{items_of};
 ghost use Rattle.part_steps.specs.Batches.{GoesOn};
 ghost use Rattle.part_steps.specs.Enabled.{moment_at, NoneEnabled, Makes};
@@ -12,7 +12,6 @@ use dura_value::Outputs;
 use part_items::Item;
 use part_rows::Reactions;
 use std::alloc::{AllocError, Global};
-use with_value::with;
 
 /// Items, applied one after another.
 #[derive(Drop)]
@@ -46,13 +45,32 @@ fn with_item(
     ensures items { IfOk result (λ batch. batch.items.items ≡ items.items ++ item ∷ []) }
     ensures outputs { IfOk result (λ batch. batch.outputs.items ≡ outputs.items ++ made ∷ []) }
 {
-    let ((_, state), made) = with(with(items.push(item), state), made)?;
-    let (_, state) = with(outputs.push(made), state)?;
-    Ok(Batch {
-        state,
-        items,
-        outputs,
-    })
+    match add_item(&mut items, &mut outputs, item, made) {
+        Ok(()) => Ok(Batch {
+            state,
+            items,
+            outputs,
+        }),
+        Err(error) => {
+            state.let_go();
+            Err(error)
+        }
+    }
+}
+
+/// An item comes behind the others, and what it made behind what they made.
+fn add_item(
+    items: &mut Vec<Item>,
+    outputs: &mut Vec<Outputs>,
+    item: Item,
+    made: Outputs,
+) -> Result<(), AllocError>
+    ensures items { OnOk result (items.new.items ≡ items.old.items ++ item ∷ []) }
+    ensures outputs { OnOk result (outputs.new.items ≡ outputs.old.items ++ made ∷ []) }
+{
+    items.push(item)?;
+    outputs.push(made)?;
+    Ok(())
 }
 
 /// A batch goes on with what is possible now.
@@ -66,11 +84,23 @@ pub(crate) fn add_next<R: Reactions>(
     requires begun { 0 < (state_of batch.state).position }
     ensures { IfOk result (λ turn. GoesOn (R.flows reactions.now) now batch turn) }
 {
-    let (enabled, batch) = with(batch.state.enabled(now), batch)?;
+    let enabled = match batch.state.enabled(now) {
+        Ok(enabled) => enabled,
+        Err(error) => {
+            batch.state.let_go();
+            return Err(error);
+        }
+    };
     let Some(item) = enabled else {
         return Ok(Turn::Over(batch));
     };
-    let (verdict, item) = with(batch.state.apply(alloc, reactions, &item), item)?;
+    let verdict = match batch.state.apply(alloc, reactions, &item) {
+        Ok(verdict) => verdict,
+        Err(error) => {
+            drop(item);
+            return Err(error);
+        }
+    };
     match verdict {
         Verdict::Accepted(state, made) => {
             let next = with_item(state, batch.items, batch.outputs, item, made)?;

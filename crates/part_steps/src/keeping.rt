@@ -115,7 +115,6 @@ fn give_up_if(rows: &mut PartRows, id: &Id, gives_up: bool) -> Result<(), AllocE
 }
 
 /// Copies of messages come behind the others.
-#[tactic(auto, using(crate::proofs::Copying::one_copied))]
 fn add_copies(copies: &mut Vec<Message>, messages: &[Message]) -> Result<(), AllocError>
     ensures { OnOk result (copies.new.items ≡ copies.old.items ++ messages.now) }
 {

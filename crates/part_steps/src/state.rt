@@ -56,6 +56,11 @@ impl PartState {
         Ok(PartState { rows })
     }
 
+    /// Lets go of all that it knows. Where another crate drops it, the drop of each of its parts is proved there once more.
+    pub fn let_go(self) {
+        self.rows.let_go();
+    }
+
     /// An entry of this life begins. Positions are below 2^62.
     pub fn enter(self, incarnation: u64) -> PartState
         requires sound { IsSound self }
@@ -83,7 +88,14 @@ impl PartState {
         ensures { IfOk result (λ verdict. Becomes verdict self (accepted (R.flows reactions.now) (count_of self) (state_of self) (item_of item.now)) (outputs_by (R.flows reactions.now) (state_of self) (item_of item.now))) }
     {
         let mut rows = self.rows;
-        match apply_item(alloc, reactions, &mut rows, item)? {
+        let made = match apply_item(alloc, reactions, &mut rows, item) {
+            Ok(made) => made,
+            Err(error) => {
+                rows.let_go();
+                return Err(error);
+            }
+        };
+        match made {
             Some(made) => Ok(Verdict::Accepted(PartState { rows }, made)),
             None => Ok(Verdict::Refused(PartState { rows })),
         }

@@ -14,5 +14,5 @@ returns-in-Some g c =
     let new = c.apply_item.new.rows in
     let flows = g.R.Reactions.flows c.args.reactions.now in
     let item = item_of c.args.item.now in
-    let done = subst (λ (made : Option Outputs). Applied made (part_of old) (part_of new) (accepted flows old.partitions (part_of old) item) (outputs_by flows (part_of old) item)) c.in-Some.is c.in_ok-made.ensures.applied in
-    (done.0, done.1, c.in_ok-made.ensures.partitions, same_entry flows old.partitions old.number item (part_of old) (part_of new) c.requires.sound.below c.requires.sound.belongs c.requires.begun done.0, applied_sound old new flows item c.requires.sound c.requires.begun c.in_ok-made.ensures.order c.in_ok-made.ensures.partitions done.0)
+    let done = subst (λ (made : Option Outputs). Applied made (part_of old) (part_of new) (accepted flows old.partitions (part_of old) item) (outputs_by flows (part_of old) item)) c.in-Some.is c.in-Ok.ensures.applied in
+    (done.0, done.1, c.in-Ok.ensures.partitions, same_entry flows old.partitions old.number item (part_of old) (part_of new) c.requires.sound.below c.requires.sound.belongs c.requires.begun done.0, applied_sound old new flows item c.requires.sound c.requires.begun c.in-Ok.ensures.order c.in-Ok.ensures.partitions done.0)
