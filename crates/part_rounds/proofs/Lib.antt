@@ -1,4 +1,5 @@
 pub mod Entries
+pub mod Counts
 pub mod Endings
 pub mod Fillings
 pub mod Moments

@@ -56,7 +56,7 @@ pub(crate) fn take_next<R: Reactions, A: Activities, C: Clock>(
     let now = match clock.now() {
         Ok(now) => now,
         Err(_) => {
-            drop(state);
+            state.let_go();
             return Err(Stop::ClockFault);
         }
     };
@@ -73,14 +73,14 @@ pub(crate) fn take_next<R: Reactions, A: Activities, C: Clock>(
     let later = match clock.wait_until(due.min(LAST_MOMENT)) {
         Ok(later) => later,
         Err(_) => {
-            drop(state);
+            state.let_go();
             return Err(Stop::ClockFault);
         }
     };
     let chance = Chance { now: later, word };
     let second = gather(alloc, reactions, acts, state, port, clients, chance, limit)?;
     if second.items.is_empty() {
-        drop(second);
+        second.let_go();
         return Err(Stop::Memory);
     }
     Ok(Coming::Filled(second, later))

@@ -8,17 +8,24 @@ ghost use Rattle.run_rules.specs.Rules.{Rules, Told};
 
 use part_items::Item;
 use part_rows::Reactions;
-use part_steps::{PartState, Verdict, next_items};
+use part_steps::{Batch, PartState, Verdict, next_items};
 use std::alloc::{AllocError, Global};
-use with_value::with;
 
 /// The items that an entry is filled with so far, and the state that they make.
-#[derive(Drop)]
 pub(crate) struct Filling {
     /// The state.
     pub(crate) state: PartState,
     /// The items.
     pub(crate) items: Vec<Item>,
+}
+
+impl Filling {
+    /// Lets go of both.
+    pub(crate) fn let_go(self) {
+        let Filling { state, items } = self;
+        state.let_go();
+        drop(items);
+    }
 }
 
 /// Puts an item behind the others, where it is accepted.
@@ -42,8 +49,13 @@ pub(crate) fn put<R: Reactions>(
     match verdict {
         Verdict::Accepted(state, outputs) => {
             drop(outputs);
-            let (_, state) = with(items.push(item), state)?;
-            Ok(Filling { state, items })
+            match items.push(item) {
+                Ok(()) => Ok(Filling { state, items }),
+                Err(error) => {
+                    state.let_go();
+                    Err(error.into())
+                }
+            }
         }
         Verdict::Refused(state) => {
             drop(item);
@@ -71,14 +83,17 @@ pub(crate) fn fill<R: Reactions>(
 {
     let Filling { state, mut items } = filling;
     let room = limit.saturating_sub(items.len() as u32);
-    let mut batch = next_items(alloc, reactions, state, now, room)?;
-    match items.append(&mut batch.items) {
-        Ok(()) => Ok(Filling {
-            state: batch.state,
-            items,
-        }),
+    let batch = next_items(alloc, reactions, state, now, room)?;
+    let Batch {
+        state,
+        items: mut more,
+        outputs,
+    } = batch;
+    drop(outputs);
+    match items.append(&mut more) {
+        Ok(()) => Ok(Filling { state, items }),
         Err(error) => {
-            drop(batch);
+            state.let_go();
             Err(error)
         }
     }

@@ -58,7 +58,7 @@ pub(crate) fn fill_on<R: Reactions>(
     let taken = take_due(alloc, reactions, filling, port, clients, limit)?;
     let filled = fill(alloc, reactions, taken, now, limit)?;
     if !all_fit(&filled.items) {
-        drop(filled);
+        filled.let_go();
         return Err(Stop::Memory);
     }
     Ok(filled)

@@ -75,7 +75,7 @@ pub(crate) fn run_pending<R: Reactions, A: Activities>(
     let pending = match outcome_of_pending(alloc, acts, &filling.state, word) {
         Ok(pending) => pending,
         Err(error) => {
-            drop(filling);
+            filling.let_go();
             return Err(error);
         }
     };

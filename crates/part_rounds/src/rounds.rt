@@ -85,14 +85,14 @@ fn settle_filling<V: Site, N: Ruled>(
     match commit_items(alloc, store, position, life, items) {
         Ok(()) => {}
         Err(stop) => {
-            drop(state);
+            state.let_go();
             return Err(stop);
         }
     }
     match say_due(alloc, store, &state, port, clients) {
         Ok(()) => Ok(state.enter(life)),
         Err(stop) => {
-            drop(state);
+            state.let_go();
             Err(stop)
         }
     }
@@ -143,7 +143,7 @@ fn go_round<V: Site, N: Ruled, R: Reactions, A: Activities, C: Clock>(
 {
     let position = state.position() - 1;
     if position >= PLACES {
-        drop(state);
+        state.let_go();
         return Err(Stop::Memory);
     }
     let chance = word(life, 0, position);
@@ -210,7 +210,7 @@ pub fn drive<V: Site, N: Ruled, R: Reactions, A: Activities, C: Clock>(
     match say_due(alloc, store, &state, port, clients) {
         Ok(()) => {}
         Err(stop) => {
-            drop(state);
+            state.let_go();
             return Err(stop);
         }
     }
@@ -227,6 +227,6 @@ pub fn drive<V: Site, N: Ruled, R: Reactions, A: Activities, C: Clock>(
             Round::Over(last) => return Ok(End::Rest(last)),
         }
     }
-    drop(state);
+    state.let_go();
     Ok(End::Long(labels))
 }

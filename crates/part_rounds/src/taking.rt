@@ -57,7 +57,7 @@ fn take_of<R: Reactions>(
     let due = match due_message(&filling.state, port, client) {
         Ok(due) => due,
         Err(error) => {
-            drop(filling);
+            filling.let_go();
             return Err(error);
         }
     };

@@ -4,6 +4,7 @@ use Rattle.std.specs.Vec.{vec_len}
 use Rattle.dura_model.specs.Partition.{Partition}
 use Rattle.timer_row.specs.Timers.{NoTimer}
 use Rattle.part_items.specs.Plain.{items_of}
+use Rattle.part_rounds.proofs.Counts.{low_same, low_both, low_max, moment_low}
 use Rattle.part_rounds.specs.Fills.{Fills}
 use Rattle.part_rounds.specs.Rounds.{pairs_of}
 use Rattle.part_rounds.proofs.Puttings.{no_items}
@@ -18,7 +19,7 @@ returns-in-Err g c =
       fills = λ rules told same said. tt;
       comes = tt;
       moment = tt;
-      latest = omega (arith, same);
+      latest = low_same _ _ same;
       stops = refl;
       fault = λ is. c.in-Err.ensures.cause.risen;
       later = c.now.ensures.cause.later;
@@ -31,7 +32,7 @@ returns-in_err-first g c =
       fills = λ rules told same said. residual_if_ok _ c.from_residual.result _ c.from_residual.ensures.1;
       comes = residual_if_ok _ c.from_residual.result _ c.from_residual.ensures.1;
       moment = residual_if_ok _ c.from_residual.result _ c.from_residual.ensures.1;
-      latest = omega (arith, first);
+      latest = low_max _ _ _ first;
       stops = residual_of_clock _ _ c.from_residual.ensures.1 c.in_err-first.ensures.stops;
       fault = λ is. absurd (residual_not_clock _ _ c.from_residual.ensures.1 c.in_err-first.ensures.stops is);
       later = c.now.ensures.cause.later;
@@ -44,8 +45,8 @@ returns-then-not-is_empty g c =
     record {
       fills = c.in_ok-first.ensures.fills;
       comes = (c.in_ok-first.ensures.under_way, omega (arith, some), c.in_ok-first.ensures.few, c.in_ok-first.ensures.fit);
-      moment = (c.in_ok-first.ensures.moment, omega (arith, first));
-      latest = omega (arith, first);
+      moment = (c.in_ok-first.ensures.moment, moment_low _ _ _ first);
+      latest = low_max _ _ _ first;
       stops = tt;
       fault = λ is. absurd (ok_apart _ _ is);
       later = c.now.ensures.cause.later;
@@ -60,7 +61,7 @@ returns-in_default g c =
       fills = λ rules told same said. tt;
       comes = (c.in_ok-first.ensures.under_way.sound, c.in_ok-first.ensures.under_way.one, none.0, (c.in-Ok.now, none.1), subst (λ (p : Partition). NoTimer p.timers) none.0 c.in_default.ensures.none);
       moment = tt;
-      latest = omega (arith, first);
+      latest = low_max _ _ _ first;
       stops = tt;
       fault = λ is. absurd (ok_apart _ _ is);
       later = c.now.ensures.cause.later;
@@ -74,10 +75,10 @@ returns-in-Err-wait_until g c =
       fills = λ rules told same said. tt;
       comes = tt;
       moment = tt;
-      latest = omega (arith, first, second);
+      latest = low_both _ _ _ (low_max _ _ _ first) (low_same _ _ second);
       stops = refl;
       fault = λ is. risen_after _ _ _ c.now.ensures.cause.later c.wait_until.ensures.cause.later c.in-Err-wait_until.ensures.cause.risen;
-      later = omega (arith, c.now.ensures.cause.later, c.wait_until.ensures.cause.later);
+      later = low_both _ _ _ c.now.ensures.cause.later c.wait_until.ensures.cause.later;
     }
 
 pub returns-in_err-second : goal.returns-in_err-second
@@ -88,10 +89,10 @@ returns-in_err-second g c =
       fills = λ rules told same said. residual_if_ok _ c.from_residual-in_err-second.result _ c.from_residual-in_err-second.ensures.1;
       comes = residual_if_ok _ c.from_residual-in_err-second.result _ c.from_residual-in_err-second.ensures.1;
       moment = residual_if_ok _ c.from_residual-in_err-second.result _ c.from_residual-in_err-second.ensures.1;
-      latest = omega (arith, first, second);
+      latest = low_both _ _ _ (low_max _ _ _ first) (low_max _ _ _ second);
       stops = residual_of_clock _ _ c.from_residual-in_err-second.ensures.1 c.in_err-second.ensures.stops;
       fault = λ is. absurd (residual_not_clock _ _ c.from_residual-in_err-second.ensures.1 c.in_err-second.ensures.stops is);
-      later = omega (arith, c.now.ensures.cause.later, c.wait_until.ensures.cause.later);
+      later = low_both _ _ _ c.now.ensures.cause.later c.wait_until.ensures.cause.later;
     }
 
 pub returns-then-is_empty : goal.returns-then-is_empty
@@ -102,10 +103,10 @@ returns-then-is_empty g c =
       fills = λ rules told same said. tt;
       comes = tt;
       moment = tt;
-      latest = omega (arith, first, second);
+      latest = low_both _ _ _ (low_max _ _ _ first) (low_max _ _ _ second);
       stops = refl;
       fault = λ is. absurd (cc is);
-      later = omega (arith, c.now.ensures.cause.later, c.wait_until.ensures.cause.later);
+      later = low_both _ _ _ c.now.ensures.cause.later c.wait_until.ensures.cause.later;
     }
 
 pub returns : goal.returns
@@ -120,9 +121,9 @@ returns g c =
     record {
       fills = λ rules told same said. subst (λ (p : Partition). Fills rules (pairs_of told) p (items_of c.in_ok-second.second.items.items) (state_of c.in_ok-second.second.state)) none.0 (c.in_ok-second.ensures.fills rules told same said);
       comes = (c.in_ok-second.ensures.under_way, omega (arith, some), c.in_ok-second.ensures.few, c.in_ok-second.ensures.fit);
-      moment = (omega (arith, same, low), omega (arith, second));
-      latest = omega (arith, first, second);
+      moment = (omega (arith, same, low), moment_low _ _ _ second);
+      latest = low_both _ _ _ (low_max _ _ _ first) (low_max _ _ _ second);
       stops = tt;
       fault = λ is. absurd (ok_apart _ _ is);
-      later = omega (arith, c.now.ensures.cause.later, c.wait_until.ensures.cause.later);
+      later = low_both _ _ _ c.now.ensures.cause.later c.wait_until.ensures.cause.later;
     }

@@ -7,6 +7,7 @@ use Rattle.hub_store.specs.Trail.{Settled, of_part}
 use Rattle.part_files.specs.Placing.{placed}
 use Rattle.run_rules.specs.Rules.{Rules}
 use Rattle.hub_store.specs.Ways.{stage_of, way_of}
+use Rattle.part_rounds.proofs.Counts.{low_self, low_same, low_both, same_below_first, latest_both, few_more}
 use Rattle.part_rounds.specs.Comes.{LeavesRound, count_labels}
 use Rattle.part_rounds.specs.Rounds.{Stands, NoneUnsaid}
 use Rattle.hub_store.proofs.Stops.{ok_apart, same_stop, residual_is, tape_not_full, tape_not_fault, tape_not_clock, risen_after, residual_on_ok, residual_if_ok}
@@ -25,8 +26,8 @@ rounds-init g c =
       tells = c.say_due.ensures.tells;
       sound = c.say_due.ensures.sound;
       segment = c.say_due.ensures.segment;
-      latest = let same = c.say_due.ensures.latest in omega (arith, same);
-      moments = omega arith;
+      latest = same_below_first _ _ _ c.say_due.ensures.latest;
+      moments = low_self _;
       stage = ap (λ ways. stage_of (way_of ways.items 0)) c.say_due.ensures.ways ∙ c.requires.rests;
       still = c.in-Ok.ensures.still;
       said = c.in-Ok.ensures.said;
@@ -41,9 +42,9 @@ rounds-init g c =
       unsaid = subst (λ (p : Partition). NoneUnsaid p c.say_due.new.port.queues c.args.clients.now) (sym c.enter-state.ensures.entered) c.in-Ok.ensures.none;
       count = sym (ap (λ (t : List Settled). count_labels (of_part 0 t)) (c.say_due.ensures.trail ∙ c.requires.new));
       few = omega arith;
-      later = let same = c.say_due.ensures.disk_faults in omega (arith, same);
+      later = low_same _ _ c.say_due.ensures.disk_faults;
       say_later = c.say_due.ensures.later;
-      clock_later = omega arith;
+      clock_later = low_self _;
     }
 
 pub rounds-preserved : goal.rounds-preserved
@@ -57,18 +58,18 @@ rounds-preserved g c =
       tells = λ t. c.rounds.invariant.tells (c.go_round.ensures.tells t);
       sound = c.go_round.ensures.sound;
       segment = c.go_round.ensures.segment ∙ c.rounds.invariant.segment;
-      latest = omega (arith, latest, latest_before, moments);
-      moments = omega (arith, moments, c.rounds.invariant.moments);
+      latest = latest_both _ _ _ _ _ latest latest_before moments;
+      moments = low_both _ _ _ c.rounds.invariant.moments moments;
       stage = c.in_ok-next.ensures.stage;
       still = c.in_ok-next.ensures.still;
       said = c.in_ok-next.ensures.said;
       entered = leaves.0;
       unsaid = leaves.1;
       count = ap (λ (n : ℕ). n + c.in-On.more) c.rounds.invariant.count ∙ sym leaves.4;
-      few = omega (arith, few, c.rounds-test.true);
-      later = omega (arith, c.go_round.ensures.later, c.rounds.invariant.later);
-      say_later = omega (arith, c.go_round.ensures.say_later, c.rounds.invariant.say_later);
-      clock_later = omega (arith, c.go_round.ensures.clock_later, c.rounds.invariant.clock_later);
+      few = few_more _ _ _ c.rounds-test.true few;
+      later = low_both _ _ _ c.rounds.invariant.later c.go_round.ensures.later;
+      say_later = low_both _ _ _ c.rounds.invariant.say_later c.go_round.ensures.say_later;
+      clock_later = low_both _ _ _ c.rounds.invariant.clock_later c.go_round.ensures.clock_later;
     }
 
 pub returns-in_err-next : goal.returns-in_err-next
@@ -80,9 +81,9 @@ returns-in_err-next g c =
       tells = λ t. c.rounds.invariant.tells (c.go_round.ensures.tells t);
       sound = c.go_round.ensures.sound;
       segment = c.go_round.ensures.segment ∙ c.rounds.invariant.segment;
-      latest = omega (arith, latest, latest_before, moments);
+      latest = latest_both _ _ _ _ _ latest latest_before moments;
       whole = λ apart. c.in_err-next.ensures.whole (λ is. apart (same_stop _ _ _ _ (residual_is _ _ c.from_residual.ensures.1) refl is));
-      moments = omega (arith, moments, c.rounds.invariant.moments);
+      moments = low_both _ _ _ c.rounds.invariant.moments moments;
       stage = residual_on_ok _ c.from_residual.result _ c.from_residual.ensures.1;
       still = residual_on_ok _ c.from_residual.result _ c.from_residual.ensures.1;
       said = residual_on_ok _ c.from_residual.result _ c.from_residual.ensures.1;
@@ -91,9 +92,9 @@ returns-in_err-next g c =
       fault = λ is. risen_after _ _ _ c.rounds.invariant.later c.go_round.ensures.later (c.in_err-next.ensures.fault (same_stop _ _ _ _ refl (residual_is _ _ c.from_residual.ensures.1) is));
       say_fault = λ is. risen_after _ _ _ c.rounds.invariant.say_later c.go_round.ensures.say_later (c.in_err-next.ensures.say_fault (same_stop _ _ _ _ refl (residual_is _ _ c.from_residual.ensures.1) is));
       clock_fault = λ is. risen_after _ _ _ c.rounds.invariant.clock_later c.go_round.ensures.clock_later (c.in_err-next.ensures.clock_fault (same_stop _ _ _ _ refl (residual_is _ _ c.from_residual.ensures.1) is));
-      later = omega (arith, c.go_round.ensures.later, c.rounds.invariant.later);
-      say_later = omega (arith, c.go_round.ensures.say_later, c.rounds.invariant.say_later);
-      clock_later = omega (arith, c.go_round.ensures.clock_later, c.rounds.invariant.clock_later);
+      later = low_both _ _ _ c.rounds.invariant.later c.go_round.ensures.later;
+      say_later = low_both _ _ _ c.rounds.invariant.say_later c.go_round.ensures.say_later;
+      clock_later = low_both _ _ _ c.rounds.invariant.clock_later c.go_round.ensures.clock_later;
     }
 
 pub returns-in-Over : goal.returns-in-Over
@@ -106,9 +107,9 @@ returns-in-Over g c =
       tells = λ t. c.rounds.invariant.tells (c.go_round.ensures.tells t);
       sound = c.go_round.ensures.sound;
       segment = c.go_round.ensures.segment ∙ c.rounds.invariant.segment;
-      latest = omega (arith, latest, latest_before, moments);
+      latest = latest_both _ _ _ _ _ latest latest_before moments;
       whole = λ apart. c.go_round.ensures.sound.uncut c.in_ok-next.ensures.still;
-      moments = omega (arith, moments, c.rounds.invariant.moments);
+      moments = low_both _ _ _ c.rounds.invariant.moments moments;
       stage = c.in_ok-next.ensures.stage;
       still = c.in_ok-next.ensures.still;
       said = c.in_ok-next.ensures.said;
@@ -117,9 +118,9 @@ returns-in-Over g c =
       fault = λ is. absurd (ok_apart _ _ is);
       say_fault = λ is. absurd (ok_apart _ _ is);
       clock_fault = λ is. absurd (ok_apart _ _ is);
-      later = omega (arith, c.go_round.ensures.later, c.rounds.invariant.later);
-      say_later = omega (arith, c.go_round.ensures.say_later, c.rounds.invariant.say_later);
-      clock_later = omega (arith, c.go_round.ensures.clock_later, c.rounds.invariant.clock_later);
+      later = low_both _ _ _ c.rounds.invariant.later c.go_round.ensures.later;
+      say_later = low_both _ _ _ c.rounds.invariant.say_later c.go_round.ensures.say_later;
+      clock_later = low_both _ _ _ c.rounds.invariant.clock_later c.go_round.ensures.clock_later;
     }
 
 pub returns : goal.returns
@@ -152,9 +153,9 @@ returns-in-Err g c =
       tells = c.say_due.ensures.tells;
       sound = c.say_due.ensures.sound;
       segment = c.say_due.ensures.segment;
-      latest = omega (arith, same);
+      latest = same_below_first _ _ _ same;
       whole = λ apart. c.in-Err.ensures.whole (λ is. apart (same_stop _ _ _ _ refl refl is));
-      moments = omega arith;
+      moments = low_self _;
       stage = tt;
       still = tt;
       said = tt;
@@ -163,7 +164,7 @@ returns-in-Err g c =
       fault = λ is. absurd (tape_not_fault _ _ c.in-Err.ensures.stops refl is);
       say_fault = λ is. c.in-Err.ensures.fault (same_stop _ _ _ _ refl refl is);
       clock_fault = λ is. absurd (tape_not_clock _ _ c.in-Err.ensures.stops refl is);
-      later = omega (arith, disk);
+      later = low_same _ _ disk;
       say_later = c.say_due.ensures.later;
-      clock_later = omega arith;
+      clock_later = low_self _;
     }

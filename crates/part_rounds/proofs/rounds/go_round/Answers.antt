@@ -5,6 +5,7 @@ use Rattle.flow_syntax.specs.Syntax.{Flows}
 use Rattle.hub_store.specs.Changes.{trail_in, told_in}
 use Rattle.hub_store.specs.Trail.{Settled, Said, of_part}
 use Rattle.part_items.specs.Plain.{item_of, items_of}
+use Rattle.part_rounds.proofs.Counts.{low_self, low_from, below_first, raised_below}
 use Rattle.part_rounds.specs.Comes.{Comes, FillsNext, IsByNow, count_labels}
 use Rattle.part_rounds.specs.Fills.{Fills, IsIdle}
 use Rattle.part_rounds.specs.Rounds.{pairs_of, NoneUnsaid, IsFilledTo}
@@ -58,9 +59,9 @@ returns-then-position-ge-PLACES g c =
       tells = λ t. t;
       sound = c.requires.sound;
       segment = refl;
-      latest = omega arith;
+      latest = below_first _ _;
       whole = λ apart. c.requires.sound.uncut c.requires.going;
-      moments = omega arith;
+      moments = low_self _;
       stage = tt;
       still = tt;
       said = tt;
@@ -69,9 +70,9 @@ returns-then-position-ge-PLACES g c =
       fault = λ is. absurd (cc is);
       say_fault = λ is. absurd (cc is);
       clock_fault = λ is. absurd (cc is);
-      later = omega arith;
-      say_later = omega arith;
-      clock_later = omega arith;
+      later = low_self _;
+      say_later = low_self _;
+      clock_later = low_self _;
     }
 
 pub returns-in_err-filling : goal.returns-in_err-filling
@@ -80,7 +81,7 @@ returns-in_err-filling g c =
       tells = λ t. t;
       sound = c.requires.sound;
       segment = refl;
-      latest = omega arith;
+      latest = below_first _ _;
       whole = λ apart. c.requires.sound.uncut c.requires.going;
       moments = c.take_next.ensures.latest;
       stage = residual_on_ok _ c.from_residual.result _ c.from_residual.ensures.1;
@@ -91,8 +92,8 @@ returns-in_err-filling g c =
       fault = λ is. absurd (clock_not_fault _ _ c.in_err-filling.ensures.stops (residual_is _ _ c.from_residual.ensures.1) is);
       say_fault = λ is. absurd (clock_not_said _ _ c.in_err-filling.ensures.stops (residual_is _ _ c.from_residual.ensures.1) is);
       clock_fault = λ is. c.in_err-filling.ensures.fault (same_stop _ _ _ _ refl (residual_is _ _ c.from_residual.ensures.1) is);
-      later = omega arith;
-      say_later = omega arith;
+      later = low_self _;
+      say_later = low_self _;
       clock_later = c.take_next.ensures.later;
     }
 
@@ -111,7 +112,7 @@ returns-in_err-state-in-Filled g c =
       tells = λ t. subst g.V.Site.tells site (c.settle_filling.ensures.tells t);
       sound = c.settle_filling.ensures.sound;
       segment = c.settle_filling.ensures.segment ∙ c.raise.ensures.segment;
-      latest = omega (arith, same, raised, low);
+      latest = raised_below _ _ _ _ _ same raised low;
       whole = λ apart. c.in_err-state-in-Filled.ensures.whole (λ is. apart (same_stop _ _ _ _ (residual_is _ _ c.from_residual-in_err-state-in-Filled.ensures.1) refl is));
       moments = c.take_next.ensures.latest;
       stage = residual_on_ok _ c.from_residual-in_err-state-in-Filled.result _ c.from_residual-in_err-state-in-Filled.ensures.1;
@@ -122,8 +123,8 @@ returns-in_err-state-in-Filled g c =
       fault = λ is. subst (λ n. HasRisen n (g.V.Site.disk_faults c.settle_filling.new.store.site)) disk_site (c.in_err-state-in-Filled.ensures.fault (same_stop _ _ _ _ refl (residual_is _ _ c.from_residual-in_err-state-in-Filled.ensures.1) is));
       say_fault = λ is. subst (λ n. HasRisen n (g.V.Site.say_faults c.settle_filling.new.store.site)) tape_site (c.in_err-state-in-Filled.ensures.say_fault (same_stop _ _ _ _ refl (residual_is _ _ c.from_residual-in_err-state-in-Filled.ensures.1) is));
       clock_fault = λ is. absurd (c.in_err-state-in-Filled.ensures.no_clock (same_stop _ _ _ _ refl (residual_is _ _ c.from_residual-in_err-state-in-Filled.ensures.1) is));
-      later = omega (arith, disk, disk_site);
-      say_later = omega (arith, tape, tape_site);
+      later = low_from _ _ _ disk_site disk;
+      say_later = low_from _ _ _ tape_site tape;
       clock_later = c.take_next.ensures.later;
     }
 
@@ -147,7 +148,7 @@ returns-in_ok-state-in-Filled g c =
       tells = λ t. subst g.V.Site.tells site (c.settle_filling.ensures.tells t);
       sound = c.settle_filling.ensures.sound;
       segment = c.settle_filling.ensures.segment ∙ c.raise.ensures.segment;
-      latest = omega (arith, same, raised, low);
+      latest = raised_below _ _ _ _ _ same raised low;
       whole = λ apart. c.in_ok-state-in-Filled.ensures.whole (λ is. ok_apart _ _ is);
       moments = c.take_next.ensures.latest;
       stage = c.in_ok-state-in-Filled.ensures.stage;
@@ -158,8 +159,8 @@ returns-in_ok-state-in-Filled g c =
       fault = λ is. absurd (ok_apart _ _ is);
       say_fault = λ is. absurd (ok_apart _ _ is);
       clock_fault = λ is. absurd (ok_apart _ _ is);
-      later = omega (arith, disk, disk_site);
-      say_later = omega (arith, tape, tape_site);
+      later = low_from _ _ _ disk_site disk;
+      say_later = low_from _ _ _ tape_site tape;
       clock_later = c.take_next.ensures.later;
     }
 
@@ -172,7 +173,7 @@ returns-in-Rest g c =
       tells = λ t. t;
       sound = c.requires.sound;
       segment = refl;
-      latest = omega arith;
+      latest = below_first _ _;
       whole = λ apart. c.requires.sound.uncut c.requires.going;
       moments = c.take_next.ensures.latest;
       stage = c.requires.rests;
@@ -192,7 +193,7 @@ returns-in-Rest g c =
       fault = λ is. absurd (ok_apart _ _ is);
       say_fault = λ is. absurd (ok_apart _ _ is);
       clock_fault = λ is. absurd (ok_apart _ _ is);
-      later = omega arith;
-      say_later = omega arith;
+      later = low_self _;
+      say_later = low_self _;
       clock_later = c.take_next.ensures.later;
     }

@@ -5,6 +5,7 @@ use Rattle.hub_store.specs.Changes.{trail_in, told_in}
 use Rattle.hub_store.specs.Trail.{Settled, of_part}
 use Rattle.hub_store.specs.Ways.{stage_of, way_of}
 use Rattle.part_items.specs.Plain.{items_of}
+use Rattle.part_rounds.proofs.Counts.{low_same, low_from, low_to}
 use Rattle.part_rounds.specs.Comes.{count_labels}
 use Rattle.part_rounds.specs.Rounds.{pairs_of, Stands, NoneUnsaid}
 use Rattle.part_rounds.proofs.Entries.{stands_after, place_after}
@@ -53,7 +54,7 @@ returns-in-Err g c =
       say_fault = λ is. absurd (disk_not_said _ _ c.in-Err.ensures.stops refl is);
       no_clock = λ is. disk_not_clock _ _ c.in-Err.ensures.stops refl is;
       later = c.commit_items.ensures.later;
-      say_later = omega (arith, told);
+      say_later = low_same _ _ told;
     }
 
 pub returns-in-Err-say_due : goal.returns-in-Err-say_due
@@ -76,8 +77,8 @@ returns-in-Err-say_due g c =
       fault = λ is. absurd (tape_not_fault _ _ c.in-Err-say_due.ensures.stops refl is);
       say_fault = λ is. subst (λ (n : ℕ). HasRisen n (g.V.Site.say_faults c.say_due.new.store.site)) c.commit_items.ensures.say_faults (c.in-Err-say_due.ensures.fault (same_stop _ _ _ _ refl refl is));
       no_clock = λ is. tape_not_clock _ _ c.in-Err-say_due.ensures.stops refl is;
-      later = omega (arith, put, c.commit_items.ensures.later);
-      say_later = omega (arith, told, c.say_due.ensures.later);
+      later = low_to _ _ _ put c.commit_items.ensures.later;
+      say_later = low_from _ _ _ told c.say_due.ensures.later;
     }
 
 pub returns-in-Ok-say_due : goal.returns-in-Ok-say_due
@@ -115,6 +116,6 @@ returns-in-Ok-say_due g c =
       fault = λ is. absurd (ok_apart _ _ is);
       say_fault = λ is. absurd (ok_apart _ _ is);
       no_clock = λ is. ok_apart _ _ is;
-      later = omega (arith, put, c.commit_items.ensures.later);
-      say_later = omega (arith, told, c.say_due.ensures.later);
+      later = low_to _ _ _ put c.commit_items.ensures.later;
+      say_later = low_from _ _ _ told c.say_due.ensures.later;
     }

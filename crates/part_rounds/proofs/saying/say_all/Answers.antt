@@ -1,5 +1,6 @@
-use Rattle.std.proofs.Common.{◌≡◌, ◌∙◌, Bool, Ok, None, refl, sym, ap, subst, arith}
+use Rattle.std.proofs.Common.{◌≡◌, ◌∙◌, Bool, Ok, None, refl, sym, ap, subst}
 use Rattle.client_port.specs.Ports.{Ports}
+use Rattle.part_rounds.proofs.Counts.{low_both}
 use Rattle.part_rounds.specs.Rounds.{next_answer}
 use Rattle.hub_store.proofs.Stops.{ok_apart, same_stop, residual_is, residual_of_stop, residual_on_ok, risen_after}
 use Rattle.part_steps.specs.States.{state_of}
@@ -16,7 +17,7 @@ answers-preserved g c = record {
   still = c.in_ok-say_next.ensures.still;
   said = c.in_ok-say_next.ensures.said;
   others = λ other apart. c.in_ok-say_next.ensures.others other apart ∙ c.answers.invariant.others other apart;
-  later = omega (arith, c.say_next.ensures.later, c.answers.invariant.later);
+  later = low_both _ _ _ c.answers.invariant.later c.say_next.ensures.later;
   disk_faults = c.say_next.ensures.disk_faults ∙ c.answers.invariant.disk_faults;
 }
 
@@ -36,7 +37,7 @@ returns-in_err-say_next g c =
       others = residual_on_ok _ c.from_residual.result _ c.from_residual.ensures.1;
       stops = residual_of_stop _ _ c.from_residual.ensures.1 c.in_err-say_next.ensures.stops;
       fault = λ is. risen_after _ _ _ c.answers.invariant.later c.say_next.ensures.later (c.in_err-say_next.ensures.fault (same_stop _ _ _ _ refl (residual_is _ _ c.from_residual.ensures.1) is));
-      later = omega (arith, c.say_next.ensures.later, c.answers.invariant.later);
+      later = low_both _ _ _ c.answers.invariant.later c.say_next.ensures.later;
       disk_faults = c.say_next.ensures.disk_faults ∙ c.answers.invariant.disk_faults;
     }
 
@@ -57,6 +58,6 @@ returns g c =
       others = λ other apart. c.in_ok-say_next.ensures.others other apart ∙ c.answers.invariant.others other apart;
       stops = tt;
       fault = λ is. absurd (ok_apart _ _ is);
-      later = omega (arith, c.say_next.ensures.later, c.answers.invariant.later);
+      later = low_both _ _ _ c.answers.invariant.later c.say_next.ensures.later;
       disk_faults = c.say_next.ensures.disk_faults ∙ c.answers.invariant.disk_faults;
     }

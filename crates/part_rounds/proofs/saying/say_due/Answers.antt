@@ -1,5 +1,6 @@
-use Rattle.std.proofs.Common.{◌≡◌, ◌∙◌, ℕ, List, None, get_or, take, refl, arith}
+use Rattle.std.proofs.Common.{◌≡◌, ◌∙◌, ℕ, List, None, get_or, take, refl}
 use Rattle.part_steps.specs.States.{state_of}
+use Rattle.part_rounds.proofs.Counts.{low_both}
 use Rattle.part_rounds.specs.Rounds.{next_answer}
 use Rattle.part_rounds.proofs.Queues.{still_none}
 use Rattle.hub_store.proofs.Stops.{ok_apart, same_stop, residual_is, residual_of_stop, residual_on_ok, risen_after}
@@ -26,7 +27,7 @@ loop-client-preserved g c =
       none = all_next (λ (n : List ℕ). next_answer state after n ≡ None) clients place name c.loop-client-test.true c.client-item.is
           (λ k d inside. still_none state name (get_or (take place clients) k d) before after c.in_ok-say_all.ensures.others c.in_ok-say_all.ensures.none (c.loop-client.invariant.none k d inside))
           c.in_ok-say_all.ensures.none;
-      later = omega (arith, c.say_all.ensures.later, c.loop-client.invariant.later);
+      later = low_both _ _ _ c.loop-client.invariant.later c.say_all.ensures.later;
       disk_faults = c.say_all.ensures.disk_faults ∙ c.loop-client.invariant.disk_faults;
     }
 
@@ -45,7 +46,7 @@ returns-in_err-say_all g c =
       none = residual_on_ok _ c.from_residual.result _ c.from_residual.ensures.1;
       stops = residual_of_stop _ _ c.from_residual.ensures.1 c.in_err-say_all.ensures.stops;
       fault = λ is. risen_after _ _ _ c.loop-client.invariant.later c.say_all.ensures.later (c.in_err-say_all.ensures.fault (same_stop _ _ _ _ refl (residual_is _ _ c.from_residual.ensures.1) is));
-      later = omega (arith, c.say_all.ensures.later, c.loop-client.invariant.later);
+      later = low_both _ _ _ c.loop-client.invariant.later c.say_all.ensures.later;
       disk_faults = c.say_all.ensures.disk_faults ∙ c.loop-client.invariant.disk_faults;
     }
 

@@ -1,4 +1,4 @@
-use Rattle.std.proofs.Common.{◌≡◌, List, Some, None, refl, sym, ◌∙◌, ap, subst, arith}
+use Rattle.std.proofs.Common.{◌≡◌, List, Some, None, refl, sym, ◌∙◌, ap, subst}
 use Rattle.std.specs.Option.{option_and_then, option_map}
 use Rattle.client_port.specs.Ports.{Ports, at_client, with_said, due_of}
 use Rattle.dura_value.specs.declared.addresses.Id.{Id as OwnId}
@@ -7,6 +7,7 @@ use Rattle.hub_store.specs.Changes.{asked, trail_in, told_in}
 use Rattle.part_steps.specs.States.{state_of}
 use Rattle.dura_value.specs.Ids.{client}
 use Rattle.request_reader.specs.Line.{Request, request_of}
+use Rattle.part_rounds.proofs.Counts.{low_self}
 use Rattle.part_rounds.specs.Rounds.{pairs_of, HasSaid, KeepsDue}
 use Rattle.run_rules.specs.Rules.{count_told}
 use Rattle.hub_store.specs.Trail.{Said}
@@ -82,7 +83,7 @@ returns-in_default g c =
       none = λ is. (ap (option_and_then (λ (r : Request). state.answers (client name) r.number)) none, refl);
       stops = tt;
       fault = λ is. absurd (ok_apart _ _ is);
-      later = omega arith;
+      later = low_self _;
       disk_faults = refl;
       others = λ other apart. refl;
     }
@@ -109,7 +110,7 @@ returns-in_default-answer g c =
       none = λ is. (ap (option_and_then (λ (r : Request). state.answers (client name) r.number)) due ∙ none, refl);
       stops = tt;
       fault = λ is. absurd (ok_apart _ _ is);
-      later = omega arith;
+      later = low_self _;
       disk_faults = refl;
       others = λ other apart. refl;
     }
@@ -129,7 +130,7 @@ returns-in_err-id g c = record {
   none = λ is. absurd (residual_apart _ _ _ c.from_residual.ensures.1 is);
   stops = residual_of_tape _ c.from_residual.ensures.1;
   fault = λ is. absurd (memory_not_said _ (residual_memory _ c.from_residual.ensures.1) is);
-  later = omega arith;
+  later = low_self _;
   disk_faults = refl;
   others = residual_on_ok _ c.from_residual.result _ c.from_residual.ensures.1;
 }
@@ -149,7 +150,7 @@ returns-in_err-line g c = record {
   none = λ is. absurd (residual_apart _ _ _ c.from_residual-in_err-line.ensures.1 is);
   stops = residual_of_tape _ c.from_residual-in_err-line.ensures.1;
   fault = λ is. absurd (memory_not_said _ (residual_memory _ c.from_residual-in_err-line.ensures.1) is);
-  later = omega arith;
+  later = low_self _;
   disk_faults = refl;
   others = residual_on_ok _ c.from_residual-in_err-line.result _ c.from_residual-in_err-line.ensures.1;
 }

@@ -1,0 +1,44 @@
+-- Counts and moments that only rise. A tactic reads all that is known where it stands, so each step of them is a lemma.
+use Rattle.std.proofs.Common.{◌≡◌, ℕ, ◌≤◌, ◌<◌, ◌+◌, arith}
+use Rattle.std.specs.Prelude.{max}
+
+pub low_self : (n : ℕ) → n ≤ n
+low_self n = omega arith
+
+pub low_same : (a b : ℕ) → b ≡ a → a ≤ b
+low_same a b same = omega arith
+
+pub low_both : (a b c : ℕ) → a ≤ b → b ≤ c → a ≤ c
+low_both a b c first then = omega arith
+
+-- one that begins where another is, or ends there
+pub low_from : (a b c : ℕ) → b ≡ a → b ≤ c → a ≤ c
+low_from a b c same then = omega arith
+
+pub low_to : (a b c : ℕ) → c ≡ b → a ≤ b → a ≤ c
+low_to a b c same first = omega arith
+
+-- the greater of two
+pub below_first : (a b : ℕ) → a ≤ max a b
+below_first a b = omega arith
+
+pub same_below_first : (a b c : ℕ) → c ≡ a → c ≤ max a b
+same_below_first a b c same = omega arith
+
+pub low_max : (a b t : ℕ) → b ≡ max a t → a ≤ b
+low_max a b t is = omega arith
+
+pub moment_low : (a b t : ℕ) → b ≡ max a t → t ≤ b
+moment_low a b t is = omega arith
+
+-- the latest moment behind one that was raised to a moment that the clock gave
+pub raised_below : (old raised now t clock : ℕ) → now ≡ raised → raised ≡ max old t → t ≤ clock → now ≤ max old clock
+raised_below old raised now t clock same is low = omega arith
+
+-- the latest moment behind two steps
+pub latest_both : (old mid now before after : ℕ) → now ≤ max mid after → mid ≤ max old before → before ≤ after → now ≤ max old after
+latest_both old mid now before after then first rise = omega arith
+
+-- labels that are more by few
+pub few_more : (labels steps more : ℕ) → labels < steps → more ≤ 64 → labels + more ≤ steps + 63
+few_more labels steps more less few = omega arith
