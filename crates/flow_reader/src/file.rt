@@ -1,6 +1,5 @@
 //! The shape of a whole file.
 
-ghost use Rattle.std.specs.Prelude.{◌≡◌};
 ghost use Rattle.serde_json.specs.Data.{member, no_members, object};
 ghost use Rattle.json_tree.specs.View.{members_view, view};
 ghost use Rattle.flow_values.specs.Answers.{Gives};

@@ -3,11 +3,8 @@
 ghost use Rattle.std.specs.Prelude.{◌≡◌, option_map};
 ghost use Rattle.json_tree.specs.View.{items_view, view};
 ghost use Rattle.flow_values.specs.Answers.{Gives};
-ghost use Rattle.flow_values.specs.Expressions.{expression_in};
-ghost use Rattle.flow_values.specs.Faults.{at, to_part};
 ghost use Rattle.flow_reader.specs.Statements.{ask_in, event_in, five_parts, four_parts, one_part, signal_in, simple_in, sub_in, three_parts, two_parts};
 ghost use Rattle.flow_reader.specs.ByWord.{activity_statement, of_activity, of_value, of_variable, value_statement, variable_statement};
-ghost use Rattle.flow_values.specs.Values.{name_in};
 ghost use Rattle.flow_syntax.specs.Views.{expression_of, statement_of};
 
 use crate::words::Word;
