@@ -6,8 +6,6 @@ mod crash_tests;
 #[cfg(test)]
 mod fault_tests;
 #[cfg(test)]
-mod log_tests;
-#[cfg(test)]
 mod programs;
 #[cfg(test)]
 mod run_tests;

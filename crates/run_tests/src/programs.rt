@@ -58,7 +58,7 @@ pub(crate) fn site_of(
 }
 
 /// The words of a call.
-pub(crate) fn texts(rt: &impl Abort, alloc: Global, words: &[&str]) -> Vec<Text> {
+fn texts(rt: &impl Abort, alloc: Global, words: &[&str]) -> Vec<Text> {
     let mut texts = Vec::new(alloc);
     for word in words {
         let text = Text::read(alloc, word.as_bytes()).expect(rt, "a text");

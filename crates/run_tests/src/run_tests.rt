@@ -1,12 +1,10 @@
 //! Runs without faults.
 
 use crate::programs::{
-    NAP, PROGRAMS, Program, SUM, check_end, check_kept, check_tape, run_by, run_on, run_words,
-    site_left, site_of, tape_and_lines, texts,
+    NAP, PROGRAMS, Program, SUM, check_end, check_kept, check_tape, run_by, run_on, site_left,
+    site_of, tape_and_lines,
 };
-use activity_table::Table;
-use engine_run::run;
-use site_memory::{MemorySite, TickClock};
+use site_memory::MemorySite;
 use std::alloc::Global;
 use std::process::Abort;
 
@@ -42,19 +40,6 @@ fn each_program_and_again(rt: HostRuntime) {
     }
 }
 
-#[test]
-fn the_top_call(rt: HostRuntime) {
-    let alloc = rt.alloc();
-    let words = texts(&rt, alloc, &["run"]);
-    let site = site_of(&rt, alloc, SUM, &[]);
-    let clock = TickClock::new(0, Vec::new(alloc));
-    let ended = run(&rt, alloc, &words, site, clock, &Table);
-    drop(words);
-    check_end(&rt, &ended, 0);
-    check_tape(&rt, alloc, &ended.site, SUM.lines.as_bytes());
-    drop(ended);
-}
-
 /// By single labels there are seven: two requests taken, four messages delivered, and an activity over.
 #[test]
 fn labels_of_the_sum(rt: HostRuntime) {
@@ -76,29 +61,4 @@ fn the_clock_behind_a_nap(rt: HostRuntime) {
     let ended = run_on(&rt, alloc, site_of(&rt, alloc, NAP, &[]));
     assert!(rt; ended.clock.latest() >= 10);
     drop(ended);
-}
-
-const NO_COMMANDS: [&[&str]; 5] = [
-    &[],
-    &["run", "--partitions"],
-    &["run", "--partitions", "33"],
-    &["run", "--partitions", "1", "1"],
-    &["walk"],
-];
-
-/// These words are no command, and nothing is said.
-fn check_no_command(rt: &impl Abort, alloc: Global, words: &[&str]) {
-    let site = site_of(rt, alloc, SUM, &[]);
-    let ended = run_words(rt, alloc, words, site, Vec::new(alloc));
-    check_end(rt, &ended, 1);
-    check_tape(rt, alloc, &ended.site, b"");
-    drop(ended);
-}
-
-#[test]
-fn refused_words(rt: HostRuntime) {
-    let alloc = rt.alloc();
-    for words in NO_COMMANDS {
-        check_no_command(&rt, alloc, words);
-    }
 }
