@@ -2,9 +2,9 @@ use Rattle.std.proofs.Common.{◌≡◌, Ok, Err, sym, ap, subst, ◌+◌, ◌�
 use Rattle.hub_store.specs.Changes.{trail_in, going_at}
 use Rattle.hub_store.specs.Frames.{goes_on}
 use Rattle.hub_store.specs.Trail.{of_part}
-use Rattle.store_tests.specs.Stores.{next_at, IsAt}
-use Rattle.store_tests.proofs.Going.{next_after, goes_still, goes_rests}
-use Rattle.store_tests.proofs.stores.reopen.Goals as goal
+use Rattle.run_tests.specs.Stores.{next_at, IsAt}
+use Rattle.run_tests.proofs.Going.{next_after, goes_still, goes_rests}
+use Rattle.run_tests.proofs.stores.reopen.Goals as goal
 
 pub returns-in-Ok-Settled : goal.returns-in-Ok-Settled
 returns-in-Ok-Settled g c =

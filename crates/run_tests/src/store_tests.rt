@@ -7,7 +7,7 @@ ghost use Rattle.dura_value.specs.Items.{Entry};
 ghost use Rattle.hub_store.specs.Opened.{IsOrigin, HasBegun};
 ghost use Rattle.hub_store.specs.Sound.{IsSound};
 ghost use Rattle.hub_store.specs.Trail.{Settled, Said};
-ghost use Rattle.store_tests.specs.Stores.{header, IsGoing};
+ghost use Rattle.run_tests.specs.Stores.{header, IsGoing};
 
 use crate::left::{check_left, numbered};
 use crate::stores::{begun, call, formatted};

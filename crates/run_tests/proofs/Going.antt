@@ -21,7 +21,7 @@ use Rattle.hub_store.specs.Ways.{stage_of, going_in}
 use Rattle.hub_store.specs.declared.way.Way.{Way}
 use Rattle.hub_store.specs.declared.way.Way.TheVariants.{Resting, Bodied, Synced, Gated, Broken, Away}
 use Rattle.hub_store.specs.declared.way.Stage.TheVariants as stages
-use Rattle.store_tests.specs.Stores.{letting_go, trimming, next_at, Goes, IsAt}
+use Rattle.run_tests.specs.Stores.{letting_go, trimming, next_at, Goes, IsAt}
 
 item_fits : AllByRecursion FitsItem (letting_go ∷ [])
 item_fits = ((record { partition_fits = omega arith; incarnation_fits = omega arith; position_fits = omega arith }, omega arith), tt)

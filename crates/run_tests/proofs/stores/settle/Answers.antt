@@ -1,9 +1,9 @@
 use Rattle.std.proofs.Common.{Err, sym, ap, subst, ◌+◌, ◌∙◌, length}
 use Rattle.site_memory.specs.Memory.{memory_history}
 use Rattle.hub_store.specs.Changes.{trail_in, going_at}
-use Rattle.store_tests.specs.Stores.{IsGoing}
-use Rattle.store_tests.proofs.Going.{next_after, goes_still, goes_rests}
-use Rattle.store_tests.proofs.stores.settle.Goals as goal
+use Rattle.run_tests.specs.Stores.{IsGoing}
+use Rattle.run_tests.proofs.Going.{next_after, goes_still, goes_rests}
+use Rattle.run_tests.proofs.stores.settle.Goals as goal
 
 pub returns-in-Ok : goal.returns-in-Ok
 returns-in-Ok g c =

@@ -1,4 +1,4 @@
-use Rattle.store_tests.proofs.stores.call.Goals as goal
+use Rattle.run_tests.proofs.stores.call.Goals as goal
 
 pub reopen-requires-clause-place : goal.reopen-requires-clause-place
 reopen-requires-clause-place g c = c.requires

@@ -1,5 +1,5 @@
-use Rattle.store_tests.specs.Stores.{IsAt}
-use Rattle.store_tests.proofs.store_tests.play.Given as goal
+use Rattle.run_tests.specs.Stores.{IsAt}
+use Rattle.run_tests.proofs.store_tests.play.Given as goal
 
 -- the store is at its place
 abbrev pub invariant-loop-line : goal.invariant-loop-line

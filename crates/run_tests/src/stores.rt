@@ -7,7 +7,7 @@ ghost use Rattle.dura_value.specs.Items.{Entry as plain};
 ghost use Rattle.part_items.specs.Plain.{entries_of};
 ghost use Rattle.hub_store.specs.Opened.{IsOrigin, HasBegun};
 ghost use Rattle.hub_store.specs.Trail.{Settled, Said};
-ghost use Rattle.store_tests.specs.Stores.{header, trimming, IsGoing, HasFailed, IsAt};
+ghost use Rattle.run_tests.specs.Stores.{header, trimming, IsGoing, HasFailed, IsAt};
 
 use commit_log::{Header, Resting};
 use dura_value::Name;

@@ -1,7 +1,7 @@
 use Rattle.std.proofs.Common.{[]}
 use Rattle.site_memory.specs.Memory.{memory_history}
-use Rattle.store_tests.specs.Stores.{header}
-use Rattle.store_tests.proofs.store_tests.check_lines.Given as goal
+use Rattle.run_tests.specs.Stores.{header}
+use Rattle.run_tests.proofs.store_tests.check_lines.Given as goal
 
 -- the one log is the segment that was just formatted, and any frame and any line may follow
 abbrev pub ghosts-play_begun : goal.ghosts-play_begun

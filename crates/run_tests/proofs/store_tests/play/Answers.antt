@@ -1,5 +1,5 @@
-use Rattle.store_tests.proofs.Going.{sound_at}
-use Rattle.store_tests.proofs.store_tests.play.Goals as goal
+use Rattle.run_tests.proofs.Going.{sound_at}
+use Rattle.run_tests.proofs.store_tests.play.Goals as goal
 
 pub loop-line-init : goal.loop-line-init
 loop-line-init g c = c.requires

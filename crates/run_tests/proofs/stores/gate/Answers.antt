@@ -1,7 +1,7 @@
 use Rattle.std.proofs.Common.{Err, sym, ap, subst, ◌∙◌}
-use Rattle.store_tests.specs.Stores.{IsGoing}
-use Rattle.store_tests.proofs.Going.{goes_still}
-use Rattle.store_tests.proofs.stores.gate.Goals as goal
+use Rattle.run_tests.specs.Stores.{IsGoing}
+use Rattle.run_tests.proofs.Going.{goes_still}
+use Rattle.run_tests.proofs.stores.gate.Goals as goal
 
 pub returns-in-Ok : goal.returns-in-Ok
 returns-in-Ok g c =

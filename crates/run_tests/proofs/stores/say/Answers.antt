@@ -1,4 +1,4 @@
-use Rattle.store_tests.proofs.stores.say.Goals as goal
+use Rattle.run_tests.proofs.stores.say.Goals as goal
 
 pub returns-in-Err-SayFault : goal.returns-in-Err-SayFault
 returns-in-Err-SayFault g c = c.say.ensures.sound

@@ -5,9 +5,9 @@ use Rattle.part_items.specs.declared.frames.Frame.{Frame}
 use Rattle.hub_store.specs.Changes.{trail_in}
 use Rattle.hub_store.specs.Frames.{goes_on}
 use Rattle.hub_store.specs.Trail.{of_part}
-use Rattle.store_tests.specs.Stores.{trimming, next_at}
-use Rattle.store_tests.proofs.Going.{trimming_goes}
-use Rattle.store_tests.proofs.stores.write.Goals as goal
+use Rattle.run_tests.specs.Stores.{trimming, next_at}
+use Rattle.run_tests.proofs.Going.{trimming_goes}
+use Rattle.run_tests.proofs.stores.write.Goals as goal
 
 pub body-requires-clause-behind : goal.body-requires-clause-behind
 body-requires-clause-behind g c =
