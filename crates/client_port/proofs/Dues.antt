@@ -26,6 +26,13 @@ taken due qs i q r lt at is so = rw (map-append (λ b. request_of b.now) due (r 
 pub passed : (due : List (Bor OwnRequest)) (qs : List OwnQueue) (i : ℕ) (q : OwnQueue) → i < length qs → q ≡ get_or qs i q → first_due (queue_of q) ≡ None → with_rest due (drop i qs) ≡ all_due (map queue_of qs) → with_rest due (drop (i + 1) qs) ≡ all_due (map queue_of qs)
 passed due qs i q lt at is so = sym (ap (λ rs. map (λ r. request_of r.now) due ++ rs) (rw (add-one, drop-cons qs i q lt, ← at, is) refl)) ∙ so
 
+clients_from : (qs : List OwnQueue) (i : ℕ) (q : OwnQueue) → i < length qs → q ≡ get_or qs i q → map (λ q. q.client) (map queue_of (drop i qs)) ≡ q.client ∷ map (λ q. q.client) (map queue_of (drop (i + 1) qs))
+clients_from qs i q lt at = rw (add-one, drop-cons qs i q lt, ← at) refl
+
+-- a queue's client is named too
+pub named : (names more all : List (List ℕ)) (qs : List OwnQueue) (i : ℕ) (q : OwnQueue) (name : List ℕ) → i < length qs → q ≡ get_or qs i q → name ≡ q.client → more ≡ names ++ name ∷ [] → names ++ map (λ q. q.client) (map queue_of (drop i qs)) ≡ all → more ++ map (λ q. q.client) (map queue_of (drop (i + 1) qs)) ≡ all
+named names more all qs i q name lt at same longer so = rw (longer, append_assoc, same) (sym (ap (λ rs. names ++ rs) (clients_from qs i q lt at)) ∙ so)
+
 above : (a b : ℕ) → b ≤ a → nat_lt a b ≡ false
 above a b e = grind (arith, nat_tests)
 

@@ -7,10 +7,9 @@ ghost use Rattle.client_port.specs.Ports.{all_due, at_client, first_due, is_of, 
 ghost use Rattle.client_port.specs.Views.{queue_of};
 ghost use Rattle.request_reader.specs.Line.{request_of};
 
-use dura_value::{Name, Request};
+use dura_value::{Name, Request, with};
 use std::alloc::{AllocError, Global};
 use std::collections::BTreeMap;
-use with_value::with;
 
 /// A client's requests in their order.
 #[derive(Drop)]
@@ -41,7 +40,6 @@ pub(crate) fn first_due(queue: &Queue) -> Option<&Request>
 }
 
 /// The first request of each client that wasn't said.
-#[tactic(auto, using(crate::proofs::Dues::taken, crate::proofs::Dues::passed))]
 pub(crate) fn all_due(alloc: Global, queues: &[Queue]) -> Result<Vec<&Request>, AllocError>
     ensures { IfOk result (λ due. map (λ r. request_of r.now) due.items ≡ all_due (map queue_of queues.now)) }
 {
@@ -144,7 +142,6 @@ impl Queues {
     }
 
     /// The client's first request opens its queue.
-    #[tactic(auto, using(crate::proofs::Changes::opened))]
     fn open(&mut self, alloc: Global, request: Request) -> Result<(), AllocError>
         requires stands { Stands self.old }
         requires new { None ≡ position_from (is_of request.client) 0 (all_of self.old) }
@@ -185,7 +182,6 @@ impl Queues {
 }
 
 /// The requests of a file by client.
-#[tactic(auto, using(crate::proofs::Changes::one_more))]
 pub(crate) fn queues_of(alloc: Global, requests: Vec<Request>) -> Result<Queues, AllocError>
     ensures queues { IfOk result (λ queues. all_of queues ≡ queues_of (map request_of requests.items)) }
     ensures stands { IfOk result Stands }

@@ -2,6 +2,8 @@
 
 ghost use Rattle.std.specs.Prelude.{◌≡◌, ◌≢◌, [], ◌≤◌, ◌<◌, ◌^◌, map, IfOk, IfErr, IfSome};
 ghost use Rattle.clap.specs.Faults.{fault_of};
+ghost use Rattle.clap.specs.Values.{kind_of};
+ghost use Rattle.clap.specs.declared.error.kind.ErrorKind.TheVariants.{OutOfMemory};
 ghost use Rattle.clap.specs.Matches.{found_of};
 ghost use Rattle.clap.specs.Simple.{subcommand_of, subcommand_rows_of};
 ghost use Rattle.clap.specs.Walk.{rows_of};
@@ -73,6 +75,17 @@ impl From<AllocError> for WordsError {
     }
 }
 
+/// Why `clap` makes nothing of the words.
+fn error_of(error: clap::Error) -> WordsError
+    ensures { result ≢ Memory → kind_of error ≢ OutOfMemory }
+{
+    if error.kind() == ErrorKind::OutOfMemory {
+        WordsError::Memory
+    } else {
+        WordsError::Usage
+    }
+}
+
 /// What `clap` makes of the words.
 fn matches_of<'a>(alloc: Global, words: &'a [&'a str]) -> Result<ArgMatches<'a>, WordsError>
     ensures ok { IfOk result (λ m. (fault_of netherite (map (λ word. word.now) words.now) ≡ [])
@@ -82,13 +95,7 @@ fn matches_of<'a>(alloc: Global, words: &'a [&'a str]) -> Result<ArgMatches<'a>,
     let command = command::netherite(alloc)?;
     match command.try_get_matches_from(words) {
         Ok(matches) => Ok(matches),
-        Err(error) => {
-            if error.kind() == ErrorKind::OutOfMemory {
-                Err(WordsError::Memory)
-            } else {
-                Err(WordsError::Usage)
-            }
-        }
+        Err(error) => Err(error_of(error)),
     }
 }
 

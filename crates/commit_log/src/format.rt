@@ -69,8 +69,10 @@ fn write_safely<V: Site>(site: &mut V, file: u32, at: u64, bytes: &[u8]) -> Resu
     ensures cause { HasCause (V.disk_faults site.old) (V.disk_faults site.new) result }
     ensures say_faults { V.say_faults site.new ≡ V.say_faults site.old }
 {
-    site.write(file, at, bytes)?;
-    site.sync(file)
+    match site.write(file, at, bytes) {
+        Ok(()) => site.sync(file),
+        Err(failed) => Err(failed),
+    }
 }
 
 /// Whether the first of at least two bytes isn't open.
@@ -81,12 +83,18 @@ fn is_closed<V: Site>(site: &mut V, file: u32) -> Result<bool, Failed>
     ensures cause { HasCause (V.disk_faults site.old) (V.disk_faults site.new) result }
     ensures say_faults { V.say_faults site.new ≡ V.say_faults site.old }
 {
-    if site.length(file)? <= 1 {
+    let length = match site.length(file) {
+        Ok(length) => length,
+        Err(failed) => return Err(failed),
+    };
+    if length <= 1 {
         return Ok(false);
     }
     let mut byte = [OPEN_GATE];
-    let count = site.read(file, 0, &mut byte)?;
-    Ok(count == 1 && byte[0] != OPEN_GATE)
+    match site.read(file, 0, &mut byte) {
+        Ok(count) => Ok(count == 1 && byte[0] != OPEN_GATE),
+        Err(failed) => Err(failed),
+    }
 }
 
 /// Closes the first byte where it isn't closed and stable already, and syncs. Where it is, it isn't written: of a byte

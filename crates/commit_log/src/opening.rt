@@ -2,6 +2,7 @@
 use crate::header::Header;
 use crate::payload::Payload;
 use crate::states::Resting;
+use std::fmt;
 use thiserror::Error;
 
 /// A log that was opened.
@@ -16,7 +17,7 @@ pub struct Opened {
 }
 
 /// Why no log was opened.
-#[derive(Clone, Copy, Debug, Drop, PartialEq, Eq, Error)]
+#[derive(Clone, Copy, Drop, Error)]
 pub enum OpenError {
     /// The file holds no segment yet.
     #[error("the log is fresh")]
@@ -35,4 +36,11 @@ pub enum OpenError {
     /// Memory ran out.
     #[error("out of memory")]
     Memory,
+}
+
+// Each error has a debug form, and the message serves.
+impl fmt::Debug for OpenError {
+    fn fmt<W: fmt::Write>(&self, f: &mut fmt::Formatter<W>) -> fmt::Result {
+        fmt::Display::fmt(self, f)
+    }
 }

@@ -20,10 +20,14 @@ fn synced_gate<V: Site>(site: &mut V, file: u32, gate: u64) -> Result<bool, Fail
     ensures cause { HasCause (V.disk_faults site.old) (V.disk_faults site.new) result }
     ensures say_faults { V.say_faults site.new ≡ V.say_faults site.old }
 {
-    site.sync(file)?;
+    if let Err(failed) = site.sync(file) {
+        return Err(failed);
+    }
     let mut byte = [CLOSED_GATE];
-    let count = site.read(file, gate, &mut byte)?;
-    Ok(count == 1 && byte[0] == OPEN_GATE)
+    match site.read(file, gate, &mut byte) {
+        Ok(count) => Ok(count == 1 && byte[0] == OPEN_GATE),
+        Err(failed) => Err(failed),
+    }
 }
 
 impl Broken {

@@ -1,10 +1,11 @@
 // The states of a log. Each names its file and where its gate stands. No value of them takes memory.
 ghost use Rattle.std.specs.Prelude.{◌+◌, ◌<◌, ◌^◌};
 
+use std::fmt;
 use thiserror::Error;
 
 /// At rest: behind the last frame stands a closed gate, all of it on the disk.
-#[derive(Debug, Drop)]
+#[derive(Drop)]
 pub struct Resting {
     /// The file's number.
     pub file: u32,
@@ -40,7 +41,7 @@ pub struct Synced {
 }
 
 /// The gate is written open, and not yet safe.
-#[derive(Debug, Drop)]
+#[derive(Drop)]
 pub struct Gated {
     /// The file's number.
     pub file: u32,
@@ -53,7 +54,7 @@ pub struct Gated {
 }
 
 /// A call failed, and the frame may be there or not. Such a log is only opened again.
-#[derive(Debug, Drop)]
+#[derive(Drop)]
 pub struct Broken {
     /// The file's number.
     pub file: u32,
@@ -75,7 +76,7 @@ pub struct Reopened {
 }
 
 /// Why no frame was written.
-#[derive(Debug, Drop, Error)]
+#[derive(Drop, Error)]
 pub enum BodyError {
     /// The file would come to this length, which is not below the limit. Nothing was written.
     #[error("the log would come to {length} bytes")]
@@ -91,4 +92,11 @@ pub enum BodyError {
     /// Memory ran out. Nothing was written.
     #[error("out of memory")]
     Memory(Resting),
+}
+
+// Each error has a debug form, and the message serves.
+impl fmt::Debug for BodyError {
+    fn fmt<W: fmt::Write>(&self, f: &mut fmt::Formatter<W>) -> fmt::Result {
+        fmt::Display::fmt(self, f)
+    }
 }

@@ -14,9 +14,8 @@ use crate::tags::{
 };
 use crate::values::take_value;
 use crate::words::{take_key, take_name, take_text};
-use dura_value::{Answer, Body, MOST_SPOTS, Message, Outcome, Spot, Spots};
+use dura_value::{Answer, Body, MOST_SPOTS, Message, Outcome, Spot, Spots, with};
 use std::alloc::Global;
-use with_value::with;
 
 /// An answer that is a word.
 fn word_of(tag: u8) -> Option<Answer>

@@ -5,10 +5,12 @@
 //! - `messages` is what instances, entities and clients say, `outputs` what a step makes of it, and `outcome` what an activity or
 //!   an instance came to.
 //! - `digest` is a digest of 64 bits.
+//! - `carrying` has a value go along with a step that may fail.
 //! - `limits` has the limits of the format, which `specs/Limits` states.
 #![tactic(auto)]
 
 mod addresses;
+mod carrying;
 mod compare;
 mod data;
 mod digest;
@@ -25,6 +27,7 @@ mod spots;
 mod text;
 
 pub use addresses::{Id, home};
+pub use carrying::with;
 pub use data::{Scalar, Scalars, Value};
 pub use digest::fnv;
 pub use faults::ReadError;

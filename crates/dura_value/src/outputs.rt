@@ -87,3 +87,10 @@ pub struct Outputs {
     /// The answers that came.
     pub answers: Answers,
 }
+
+impl Outputs {
+    /// Lets go of them. Where another crate drops them, the drop of each of their parts is proved there once more.
+    pub fn let_go(self) {
+        drop(self);
+    }
+}

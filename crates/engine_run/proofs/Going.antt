@@ -20,7 +20,7 @@ use Rattle.run_laws.specs.Begins.{may_follow, may_say}
 use Rattle.run_laws.proofs.Images.{moment_stands}
 use Rattle.run_laws.specs.Leaves.{StandsOn}
 use Rattle.run_rules.specs.Rules.{Rules}
-use Rattle.section_laws.proofs.Ordered.{never_overlaps}
+use Rattle.run_laws.proofs.Ordered.{never_overlaps}
 use Rattle.site_model.specs.History.{Step, content_of, back_to}
 use Rattle.site_model.proofs.Paths.{last}
 

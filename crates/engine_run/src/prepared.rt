@@ -62,8 +62,17 @@ pub(crate) fn prepare<V: Site>(alloc: Global, site: &mut V) -> Result<Prepared, 
         log,
         incarnation,
     } = recover_logs(alloc, site, &flows, digest)?;
-    refuse_clash(&state, &requests)?;
-    let log = open_log(site, log, digest)?;
+    if let Err(cause) = refuse_clash(&state, &requests) {
+        state.let_go();
+        return Err(cause);
+    }
+    let log = match open_log(site, log, digest) {
+        Ok(log) => log,
+        Err(cause) => {
+            state.let_go();
+            return Err(cause);
+        }
+    };
     Ok(Prepared {
         flows,
         digest,

@@ -153,7 +153,7 @@ fn drive_on<V: Site, N: Ruled, C: Clock, A: Activities>(
         options.steps,
     ) {
         Ok(End::Rest(state)) => {
-            drop(state);
+            state.let_go();
             match rest_cause(port, clients) {
                 Ok(cause) => cause,
                 Err(_) => Cause::Memory,
@@ -214,21 +214,21 @@ pub(crate) fn go<V: Site, N: Ruled, C: Clock, A: Activities>(
     } = prepared;
     let nothing = Trail::none(alloc);
     if state.position() >= PLACES {
-        drop(state);
+        state.let_go();
         return end_with(Cause::Memory, nothing, site, clock);
     }
     let Ok((mut port, clients)) = ports_of(alloc, requests) else {
-        drop(state);
+        state.let_go();
         return end_with(Cause::Memory, nothing, site, clock);
     };
     let Ok(logs) = vec![in alloc; log] else {
-        drop(state);
+        state.let_go();
         return end_with(Cause::Memory, nothing, site, clock);
     };
     let mut store = match Store::<V, N>::begin(alloc, site, logs, options.segment) {
         Ok(store) => store,
         Err(site) => {
-            drop(state);
+            state.let_go();
             return end_with(Cause::Memory, nothing, site, clock);
         }
     };

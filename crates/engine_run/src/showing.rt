@@ -35,7 +35,7 @@ pub(crate) fn show<V: Site>(alloc: Global, site: &mut V) -> Cause
     };
     let machines = Machines::of(&flows);
     let said = say_table(alloc, site, &machines, &recovered.state);
-    drop(recovered);
+    recovered.state.let_go();
     match said {
         Ok(()) => Cause::Done,
         Err(ShowError::SayFault) => Cause::SayFault,

@@ -11,10 +11,9 @@ use crate::kinds::{to_scalar, value_of};
 use crate::lists::{copy_of, list_of};
 use crate::operations::{apply_binary, apply_unary};
 use crate::variables::Variables;
-use dura_value::{Name, Scalar, Value};
+use dura_value::{Name, Scalar, Value, with};
 use flow_syntax::Expr;
 use std::alloc::Global;
-use with_value::with;
 
 /// A copy of a variable's value.
 fn value_in(variables: &Variables, name: &Name) -> Result<Value, EvalError>
@@ -58,7 +57,8 @@ pub fn eval(alloc: Global, expression: &Expr, variables: &Variables) -> Result<V
         Expr::Binary(operation, first, second) => {
             let first = eval(alloc, first, variables)?;
             let (second, first) = with(eval(alloc, second, variables), first)?;
-            let made = apply_binary(alloc, *operation, &first, second);
+            let made = apply_binary(alloc, *operation, &first, &second);
+            drop(second);
             drop(first);
             made
         }

@@ -43,6 +43,13 @@ pub fn to_scalar(value: Value) -> Result<Scalar, EvalError>
     }
 }
 
+/// A copy of the scalar that a value is, unless it is a list.
+pub(crate) fn scalar_in(value: &Value) -> Result<Scalar, EvalError>
+    ensures { Gives (λ scalar. scalar) result (to_scalar value.now) }
+{
+    to_scalar(value.clone()?)
+}
+
 /// The integer that a value is.
 pub fn to_integer(value: &Value) -> Result<i64, EvalError>
     ensures { Gives (λ n. n) result (to_integer value.now) }

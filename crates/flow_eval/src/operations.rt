@@ -8,7 +8,7 @@ ghost use Rattle.flow_eval.specs.Gives.{Gives};
 use crate::comparisons::{are_equal, is_less};
 use crate::fault::{EvalError, Fault};
 use crate::integers::{difference, product, quotient, remainder, sum};
-use crate::kinds::{to_integer, to_list, to_scalar, to_text, to_truth, truth};
+use crate::kinds::{scalar_in, to_integer, to_list, to_text, to_truth, truth};
 use crate::lists::{part_at, pushed};
 use crate::texts::{decimal, joined};
 use dura_value::Value;
@@ -55,22 +55,22 @@ pub fn apply_binary(
     alloc: Global,
     operation: BinaryOp,
     first: &Value,
-    second: Value,
+    second: &Value,
 ) -> Result<Value, EvalError>
-    ensures { Gives (λ value. value) result (apply_binary (binary_of operation) first.now second) }
+    ensures { Gives (λ value. value) result (apply_binary (binary_of operation) first.now second.now) }
 {
     match operation {
-        BinaryOp::Add => sum(to_integer(first)?, to_integer(&second)?),
-        BinaryOp::Sub => difference(to_integer(first)?, to_integer(&second)?),
-        BinaryOp::Mul => product(to_integer(first)?, to_integer(&second)?),
-        BinaryOp::Div => quotient(to_integer(first)?, to_integer(&second)?),
-        BinaryOp::Rem => remainder(to_integer(first)?, to_integer(&second)?),
-        BinaryOp::Eq => Ok(truth(are_equal(first, &second))),
-        BinaryOp::Lt => is_less(first, &second),
-        BinaryOp::And => both(first, &second),
-        BinaryOp::Or => either(first, &second),
-        BinaryOp::Cat => joined(alloc, to_text(first)?, to_text(&second)?),
-        BinaryOp::At => part_at(to_list(first)?.as_slice(), to_integer(&second)?),
-        BinaryOp::Push => pushed(alloc, to_list(first)?.as_slice(), to_scalar(second)?),
+        BinaryOp::Add => sum(to_integer(first)?, to_integer(second)?),
+        BinaryOp::Sub => difference(to_integer(first)?, to_integer(second)?),
+        BinaryOp::Mul => product(to_integer(first)?, to_integer(second)?),
+        BinaryOp::Div => quotient(to_integer(first)?, to_integer(second)?),
+        BinaryOp::Rem => remainder(to_integer(first)?, to_integer(second)?),
+        BinaryOp::Eq => Ok(truth(are_equal(first, second))),
+        BinaryOp::Lt => is_less(first, second),
+        BinaryOp::And => both(first, second),
+        BinaryOp::Or => either(first, second),
+        BinaryOp::Cat => joined(alloc, to_text(first)?, to_text(second)?),
+        BinaryOp::At => part_at(to_list(first)?.as_slice(), to_integer(second)?),
+        BinaryOp::Push => pushed(alloc, to_list(first)?.as_slice(), scalar_in(second)?),
     }
 }

@@ -7,9 +7,8 @@ ghost use Rattle.flow_syntax.specs.Machine.{releasing};
 ghost use Rattle.flow_syntax.specs.Entity.{answering, lock_goes_on};
 
 use crate::copies::{copy_id, copy_key, copy_name, copy_reply, copy_spots};
-use dura_value::{Answer, Body, Id, Message, Reply, Spot, Spots, Text};
+use dura_value::{Answer, Body, Id, Message, Reply, Spot, Spots, Text, with};
 use std::alloc::{AllocError, Global};
-use with_value::with;
 
 /// The id of an entity.
 pub fn entity_id(spot: &Spot) -> Result<Id, AllocError>

@@ -11,12 +11,11 @@ ghost use Rattle.flow_syntax.specs.Views.{block_of, locked_of, statement_of};
 
 use crate::simple::{simple_in, two_parts};
 use crate::words::{Word, word_in};
-use dura_value::MOST_SPOTS;
+use dura_value::{MOST_SPOTS, with};
 use flow_syntax::{Locked, Stmt};
 use flow_values::{PartError, Step, expression_at, misshapen, name_at, under};
 use json_tree::Tree;
 use std::alloc::Global;
-use with_value::with;
 
 /// A class and what gives a key.
 #[tactic(auto, using(flow_values::proofs::Parts::ends_then, crate::proofs::Pairs::locked_there, crate::proofs::Pairs::locked_not_there))]

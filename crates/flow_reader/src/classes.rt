@@ -11,13 +11,12 @@ ghost use Rattle.flow_values.specs.Values.{value_in};
 ghost use Rattle.flow_syntax.specs.Views.{block_of, bodies_of, class_of, named_by};
 
 use crate::bodies::body_in;
-use dura_value::{Name, Value, is_name};
+use dura_value::{Name, Value, is_name, with};
 use flow_syntax::{Class, Stmt};
 use flow_values::{PartError, Step, misshapen, under, value_in};
 use json_tree::{Member, Tree};
 use std::alloc::Global;
 use std::collections::BTreeMap;
-use with_value::with;
 
 /// Whether all keys are names.
 #[tactic(auto, using(crate::proofs::Members::name_here, crate::proofs::Members::no_name_here, crate::proofs::Members::all_names))]

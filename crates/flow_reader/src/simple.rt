@@ -8,12 +8,11 @@ ghost use Rattle.flow_reader.specs.ByWord.{activity_statement, of_activity, of_v
 ghost use Rattle.flow_syntax.specs.Views.{expression_of, statement_of};
 
 use crate::words::Word;
-use dura_value::Name;
+use dura_value::{Name, with};
 use flow_syntax::{Expr, Stmt};
 use flow_values::{PartError, expression_at, misshapen, name_at};
 use json_tree::Tree;
 use std::alloc::Global;
-use with_value::with;
 
 /// A part of a statement.
 pub(crate) type Part<'t, 'a> = &'t Tree<'a>;

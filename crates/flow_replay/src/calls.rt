@@ -14,13 +14,12 @@ ghost use Rattle.flow_replay.specs.Views.{machine_of};
 ghost use Rattle.flow_replay.specs.Steps.{Makes, Goes};
 
 use crate::machine::{Machine, Todo};
-use dura_value::{Body, Id, Key, Message, Name, Reply, Spot, Value};
+use dura_value::{Body, Id, Key, Message, Name, Reply, Spot, Value, with};
 use flow_eval::{EvalError, to_key};
 use flow_messages::{Asked, Made, copy_id, copy_name, copy_value, entity_id};
 use flow_syntax::Expr;
 use flow_tasks::Kind;
 use std::alloc::{AllocError, Global};
-use with_value::with;
 
 /// An activity that is asked for.
 fn ask_for(number: u32, activity: &Name, argument: &Value) -> Result<Asked, AllocError>

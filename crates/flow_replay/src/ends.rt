@@ -8,11 +8,10 @@ ghost use Rattle.flow_replay.specs.Views.{machine_of, progress_of};
 ghost use Rattle.flow_replay.specs.Steps.{Makes};
 
 use crate::machine::{Machine, Progress, put};
-use dura_value::{Answer, Body, Reply};
+use dura_value::{Answer, Body, Reply, with};
 use flow_messages::{Made, copy_id, copy_text, copy_value, release_all};
 use flow_tasks::Section;
 use std::alloc::AllocError;
-use with_value::with;
 
 impl<'f> Machine<'f> {
     /// Leaves the section that it is inside of, with a release to each entity.

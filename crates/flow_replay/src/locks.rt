@@ -11,13 +11,13 @@ ghost use Rattle.flow_replay.specs.Views.{machine_of};
 ghost use Rattle.flow_replay.specs.Steps.{Makes, Goes};
 
 use crate::machine::{Machine, Todo};
-use dura_value::{Spot, Spots};
+use dura_value::{Spot, Spots, with};
 use flow_eval::{EvalError, to_key};
 use flow_messages::{Made, copy_name, copy_spots, pass_on};
 use flow_syntax::{Locked, Stmt};
-use flow_tasks::{Kind, Section, set_of};
+use flow_tasks::{Kind, Section};
+use lock_sets::set_of;
 use std::alloc::{AllocError, Global};
-use with_value::with;
 
 impl<'f> Machine<'f> {
     /// An entity that is to be locked.

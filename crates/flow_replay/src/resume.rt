@@ -10,7 +10,7 @@ ghost use Rattle.flow_replay.specs.Steps.{Makes, Resumes, begun};
 ghost use Rattle.flow_syntax.specs.Views.{block_of};
 
 use crate::machine::{Machine, Progress, Todo, put};
-use dura_value::{Answer, Name, Outcome, Value};
+use dura_value::{Answer, Name, Outcome, Value, with};
 use flow_eval::Variables;
 use flow_messages::{
     Event, Made, copy_id, copy_name, copy_reply, copy_spots, copy_text, copy_value,
@@ -18,7 +18,6 @@ use flow_messages::{
 use flow_syntax::Stmt;
 use flow_tasks::Section;
 use std::alloc::{AllocError, Global};
-use with_value::with;
 
 /// The most events of one instance.
 const MOST_EVENTS: u32 = 10_000;

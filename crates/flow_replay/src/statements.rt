@@ -11,12 +11,11 @@ ghost use Rattle.flow_replay.specs.Views.{machine_of};
 ghost use Rattle.flow_replay.specs.Steps.{Goes, with_rest};
 
 use crate::machine::{Machine, Progress, Todo};
-use dura_value::{Name, Text, Value};
+use dura_value::{Name, Text, Value, with};
 use flow_eval::{EvalError, eval, to_text, to_truth};
 use flow_messages::{Made, copy_name, copy_text};
 use flow_syntax::{Expr, Stmt};
 use std::alloc::{AllocError, Global};
-use with_value::with;
 
 impl<'f> Machine<'f> {
     /// What an expression gives with the machine's variables.

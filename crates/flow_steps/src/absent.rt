@@ -12,12 +12,11 @@ ghost use Rattle.flow_steps.specs.Views.{instance_of, effect_of};
 use crate::answers::{begin, refuse, tell};
 use crate::ends::go_on_from;
 use crate::instance::{Effect, Instance};
-use dura_value::{Answer, Body, Id, Message, Reply, Value};
+use dura_value::{Answer, Body, Id, Message, Reply, Value, with};
 use flow_messages::{Event, copy_id, copy_reply, copy_value};
 use flow_replay::Machine;
 use flow_syntax::{Flows, Stmt};
 use std::alloc::{AllocError, Global};
-use with_value::with;
 
 /// It isn't there, and this is answered.
 fn stay_away<'f>(alloc: Global, sent: Vec<Message>) -> Effect<'f>

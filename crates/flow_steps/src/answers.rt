@@ -6,11 +6,10 @@ ghost use Rattle.dura_value.specs.Views.{id_of, reply_of, answer_of, message_of,
 ghost use Rattle.dura_model.specs.Deliveries.{telling, refusing, beginning, answering_all};
 ghost use Rattle.part_rows.specs.Reactions.{waits_of};
 
-use dura_value::{Answer, Body, Id, Message, Reply};
+use dura_value::{Answer, Body, Id, Message, Reply, with};
 use flow_messages::{copy_id, word_text};
 use part_rows::{Waiting, copy_answer};
 use std::alloc::{AllocError, Global};
-use with_value::with;
 
 /// The answer to a client's request.
 pub(crate) fn answer_request(

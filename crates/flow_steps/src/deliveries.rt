@@ -11,12 +11,11 @@ ghost use Rattle.flow_steps.specs.Views.{instance_of, effect_of};
 use crate::absent::{flow_in, to_nothing};
 use crate::instance::{Effect, Instance};
 use crate::present::to_it;
-use dura_value::{Id, Message};
+use dura_value::{Id, Message, with};
 use flow_replay::replay;
 use flow_syntax::Flows;
 use part_rows::{Row, Waiting};
 use std::alloc::{AllocError, Global};
-use with_value::with;
 
 /// An instance has a new last moment.
 fn at<'f>(mut instance: Instance<'f>, stamp: u64) -> Instance<'f>

@@ -10,11 +10,10 @@ ghost use Rattle.flow_steps.specs.Ends.{ended_with, settled_with};
 
 use crate::answers::answer_all;
 use crate::instance::{Effect, Instance};
-use dura_value::{Answer, Message};
+use dura_value::{Answer, Message, with};
 use flow_messages::{Asked, Event, copy_text, copy_value};
 use flow_replay::Progress;
 use std::alloc::{AllocError, Global};
-use with_value::with;
 
 /// What an instance that has come to its end is answered with.
 pub(crate) fn end_answer(progress: &Progress) -> Result<Option<Answer>, AllocError>

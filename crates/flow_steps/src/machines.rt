@@ -15,13 +15,12 @@ use crate::entities::entity_at;
 use crate::events::event_of;
 use crate::instance::{Effect, Instance};
 use crate::present::stand;
-use dura_value::{Answer, Id, Message, Name};
+use dura_value::{Answer, Id, Message, Name, with};
 use flow_messages::{Entity, Event};
 use flow_replay::deliver;
 use flow_syntax::Flows;
 use part_rows::{Reaction, Reactions, Row, Waiting};
 use std::alloc::{AllocError, Global};
-use with_value::with;
 
 /// Instances and entities by the machines of these flows and classes.
 #[derive(Clone, Copy)]

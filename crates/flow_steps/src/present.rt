@@ -13,12 +13,11 @@ ghost use Rattle.flow_steps.specs.Views.{instance_of, effect_of};
 use crate::answers::{refuse, tell};
 use crate::ends::{end_answer, go_on_from};
 use crate::instance::{Effect, Instance};
-use dura_value::{Answer, Body, Id, Message, Name, Reply, Value};
+use dura_value::{Answer, Body, Id, Message, Name, Reply, Value, with};
 use flow_messages::{Event, copy_id, copy_name, copy_text, copy_value};
 use flow_replay::Progress;
 use part_rows::{Waiting, copy_answer};
 use std::alloc::{AllocError, Global};
-use with_value::with;
 
 /// It stays as it is, and this is answered.
 fn stay<'f>(alloc: Global, instance: Instance<'f>, sent: Vec<Message>) -> Effect<'f>

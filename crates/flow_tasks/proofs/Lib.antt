@@ -1,6 +1,5 @@
 pub mod ByName
 pub mod Copies
-pub mod Inserts
 pub mod Kept
 pub mod OpenTasks
 pub mod Places

@@ -2,7 +2,6 @@
 //!
 //! - `tasks`: activities, started flows, asked entities, timers, events and grants, each with its result once it arrived.
 //! - `handles`: values that name tasks.
-//! - `sets`: the set of entities that a lock goes through.
 //! - `sections`: the section that an instance is in, and what may be done there.
 //! - `raised`: events that no handle waited for yet.
 //! - `open_tasks`: which tasks have no result yet, and `by_name`: numbers by names, so that nothing goes over all.
@@ -14,11 +13,9 @@ mod handles;
 mod open_tasks;
 mod raised;
 mod sections;
-mod sets;
 mod tasks;
 
 pub use handles::HandleFault;
 pub use raised::{KeptEvents, Raised};
 pub use sections::Section;
-pub use sets::{is_among, set_of};
 pub use tasks::{Arrival, Kind, Task, Tasks};

@@ -1,18 +1,20 @@
 -- Reading the parts of an array one after another, each an expression.
-use Rattle.std.proofs.Common.{◌≡◌, ℕ, ◌+◌, ◌<◌, ◌≤◌, List, [], ◌∷◌, ◌++◌, length, drop, get_or, Some, None, Result, Ok, Err, refl, sym, ◌∙◌, ap, arith, add-one}
+use Rattle.std.proofs.Common.{◌≡◌, ℕ, ◌+◌, ◌<◌, ◌≤◌, List, [], ◌∷◌, ◌++◌, length, codes, true, false, drop, get_or, Some, None, Result, Ok, Err, refl, sym, ◌∙◌, ap, arith, add-one}
 use Rattle.std.proofs.Math.Seq.{drop-cons}
 use Rattle.std.proofs.lemmas.List.{drop_all}
-use Rattle.serde_json.specs.Data.{array, Items, item, no_items}
+use Rattle.std.specs.Str.{bytes_eq}
+use Rattle.serde_json.specs.Data.{Data, array, object, Items, item, no_items, member, no_members}
 use Rattle.json_tree.specs.View.{view, items_view}
 use Rattle.json_tree.specs.declared.tree.Tree.{Tree}
 use Rattle.flow_syntax.specs.declared.syntax.Expr.{Expr}
 use Rattle.flow_syntax.specs.declared.syntax.UnaryOp.{UnaryOp}
 use Rattle.flow_syntax.specs.declared.syntax.BinaryOp.{BinaryOp}
-use Rattle.flow_syntax.specs.Syntax.{Expression, Expressions, no_parts, part, unary, binary}
+use Rattle.flow_syntax.specs.Syntax.{Expression, Expressions, variable, list, no_parts, part, unary, binary}
 use Rattle.flow_syntax.specs.Views.{expression_of, parts_of, unary_of, binary_of}
 use Rattle.flow_values.specs.Answers.{Fails, IsUnder}
-use Rattle.flow_values.specs.Faults.{Path, Step, at, misshapen, to_part, ◌>>=◌}
-use Rattle.flow_values.specs.Expressions.{expression_in, expressions_from, operation_in, unary_in, binary_in}
+use Rattle.flow_values.specs.Faults.{Path, Step, at, misshapen, to_key, to_part, ◌>>=◌}
+use Rattle.flow_values.specs.Expressions.{expression_in, expressions_from, list_in, operation_in, unary_in, binary_in}
+use Rattle.flow_values.specs.Values.{name_in}
 use Rattle.flow_values.specs.declared.faults.PartError.{PartError}
 use Rattle.flow_values.specs.declared.faults.PartError.TheVariants.{Misshapen, Memory}
 
@@ -122,3 +124,26 @@ binary_ends_second vs a b c operation first error count at0 at1 at2 word read fa
 
 pub binary_read : (vs : List Tree) (a b c : Tree) (operation : BinaryOp) (first second : Expression) → length vs ≡ 3 → a ≡ get_or vs 0 a → b ≡ get_or vs 1 b → c ≡ get_or vs 2 c → Some (binary_of operation) ≡ binary_in (view a) → at (to_part 1) (expression_in (view b)) ≡ Ok first → at (to_part 2) (expression_in (view c)) ≡ Ok second → operation_in (array (items_view vs)) ≡ Ok (binary (binary_of operation) first second)
 binary_read vs a b c operation first second count at0 at1 at2 word read read_second = rw (three_items vs a b c count at0 at1 at2, ← word, read, read_second) refl
+
+-- ---- the only member of an object, by its key
+
+pub variable_ends : (key : List ℕ) (d : Data) (error further : PartError) → bytes_eq key (codes "v") ≡ true → Fails error (name_in d) → IsUnder (to_key (codes "v")) error further → Fails further (expression_in (object (member key d no_members)))
+variable_ends key d error further is fails under = rw is (ends_under (name_in d) (λ name. Ok (variable name)) (to_key (codes "v")) error further fails under)
+
+pub list_ends : (key : List ℕ) (d : Data) (error further : PartError) → bytes_eq key (codes "v") ≡ false → bytes_eq key (codes "list") ≡ true → Fails error (list_in d) → IsUnder (to_key (codes "list")) error further → Fails further (expression_in (object (member key d no_members)))
+list_ends key d error further other is fails under = rw (other, is) (ends_under (list_in d) (λ parts. Ok (list parts)) (to_key (codes "list")) error further fails under)
+
+pub operation_ends : (key : List ℕ) (d : Data) (error further : PartError) → bytes_eq key (codes "v") ≡ false → bytes_eq key (codes "list") ≡ false → bytes_eq key (codes "do") ≡ true → Fails error (operation_in d) → IsUnder (to_key (codes "do")) error further → Fails further (expression_in (object (member key d no_members)))
+operation_ends key d error further other neither is fails under = rw (other, neither, is) (fails_under (operation_in d) (to_key (codes "do")) error further fails under)
+
+pub variable_read : (key : List ℕ) (d : Data) (name : List ℕ) → bytes_eq key (codes "v") ≡ true → name_in d ≡ Ok name → expression_in (object (member key d no_members)) ≡ Ok (variable name)
+variable_read key d name is read = rw (is, read) refl
+
+pub list_read : (key : List ℕ) (d : Data) (parts : Expressions) → bytes_eq key (codes "v") ≡ false → bytes_eq key (codes "list") ≡ true → list_in d ≡ Ok parts → expression_in (object (member key d no_members)) ≡ Ok (list parts)
+list_read key d parts other is read = rw (other, is, read) refl
+
+pub operation_read : (key : List ℕ) (d : Data) (e : Expression) → bytes_eq key (codes "v") ≡ false → bytes_eq key (codes "list") ≡ false → bytes_eq key (codes "do") ≡ true → operation_in d ≡ Ok e → expression_in (object (member key d no_members)) ≡ Ok e
+operation_read key d e other neither is read = rw (other, neither, is, read) refl
+
+pub no_member : (key : List ℕ) (d : Data) → bytes_eq key (codes "v") ≡ false → bytes_eq key (codes "list") ≡ false → bytes_eq key (codes "do") ≡ false → expression_in (object (member key d no_members)) ≡ misshapen
+no_member key d other neither none = rw (other, neither, none) refl

@@ -1,6 +1,7 @@
 -- Reading the parts of a list one after another, and how many bytes they take.
-use Rattle.std.proofs.Common.{◌≡◌, ℕ, ◌+◌, ◌<◌, List, [], ◌∷◌, ◌++◌, length, drop, get_or, false, Result, Ok, Err, refl, sym, ◌∙◌, arith, append_assoc, add-one}
+use Rattle.std.proofs.Common.{◌≡◌, ℕ, ◌+◌, ◌<◌, ◌≤◌, List, [], ◌∷◌, ◌++◌, length, drop, get_or, false, Result, Ok, Err, refl, sym, ◌∙◌, ap, arith, append_assoc, add-one}
 use Rattle.std.proofs.Math.Seq.{drop-cons}
+use Rattle.std.proofs.lemmas.List.{append-nil, drop_all}
 use Rattle.std.specs.Prelude.{nat_le}
 use Rattle.std.proofs.lemmas.Bool.Decides.{nat_tests}
 use Rattle.serde_json.specs.Data.{Items, item}
@@ -29,6 +30,17 @@ with_first done s (Ok ss) = rw append_assoc refl
 
 items_from : (vs : List Tree) (i : ℕ) (v : Tree) → i < length vs → v ≡ get_or vs i v → items_view (drop i vs) ≡ item (view v) (items_view (drop (i + 1) vs))
 items_from vs i v lt at = rw (add-one, drop-cons vs i v lt, ← at) refl
+
+-- nothing was read yet
+pub begins : (vs : List Tree) → with_rest [] 0 (items_view (drop 0 vs)) ≡ scalars_from 0 (items_view vs)
+begins vs = same (scalars_from 0 (items_view vs)) where
+  same : (read : Result (List Scalar) Path) → (read >>= λ ss. Ok ([] ++ ss)) ≡ read
+  same (Ok ss) = refl
+  same (Err path) = refl
+
+-- all parts were read
+pub all : (vs : List Tree) (done : List Scalar) (i : ℕ) → length vs ≤ i → with_rest done i (items_view (drop i vs)) ≡ scalars_from 0 (items_view vs) → scalars_from 0 (items_view vs) ≡ Ok done
+all vs done i past is = sym is ∙ rw (drop_all i vs past) (ap Ok (append-nil done))
 
 -- a part was read
 pub goes_on : (whole : Result (List Scalar) Path) (done : List Scalar) (vs : List Tree) (i : ℕ) (v : Tree) (s : Scalar) → i < length vs → v ≡ get_or vs i v → with_rest done i (items_view (drop i vs)) ≡ whole → scalar_in (view v) ≡ Ok s → with_rest (done ++ s ∷ []) (i + 1) (items_view (drop (i + 1) vs)) ≡ whole

@@ -4,169 +4,187 @@
 //! - `frame` makes the frame, `texts` the same as JSON.
 #![tactic(auto)]
 
+ghost use Rattle.part_items.specs.Plain.{entries_of};
+ghost use Rattle.part_items.specs.Spelling.{CanSpellFrame};
+
 mod frame;
 mod texts;
 
-use anyhow::{Result, bail};
 use frame::make_frame;
-use part_items::{read_frame, write_frame};
+use part_items::{Frame, read_frame, write_frame};
 use serde_json::Value;
 use std::alloc::Global;
-use std::env;
+use std::env::{self, Args};
+use std::process::ExitCode;
 use texts::make_json;
 
-/// What is done, how often, and how many bytes the texts have.
-#[derive(Drop)]
-struct Call {
-    kind: Kind,
-    times: u32,
-    size: usize,
-}
+// Each function that does something says whether it went well.
 
-#[derive(Clone, Copy)]
-enum Kind {
-    All,
-    Make,
-    Write,
-    Read,
-    JsonWrite,
-    JsonRead,
-}
-
-fn kind_of(word: &str) -> Result<Kind> {
-    match word {
-        "make" => Ok(Kind::Make),
-        "write" => Ok(Kind::Write),
-        "read" => Ok(Kind::Read),
-        "json-write" => Ok(Kind::JsonWrite),
-        "json-read" => Ok(Kind::JsonRead),
-        _ => bail!("no such kind"),
-    }
-}
-
-fn call_of(words: &[String]) -> Result<Call> {
-    let mut call = Call {
-        kind: Kind::All,
-        times: 1,
-        size: 24,
-    };
-    if let Some(word) = words.get(0) {
-        call.kind = kind_of(word.as_str())?;
-    }
-    if let Some(word) = words.get(1) {
-        call.times = word.parse::<u32>()?;
-    }
-    if let Some(word) = words.get(2) {
-        call.size = word.parse::<usize>()?;
-    }
-    Ok(call)
-}
-
-fn write_often(alloc: Global, call: &Call) -> Result<()> {
-    let frame = make_frame(alloc, call.size)?;
-    for _ in 0..call.times {
-        let mut bytes = Vec::new(alloc);
-        write_frame(&mut bytes, &frame)?;
-        if bytes.is_empty() {
-            bail!("nothing was written");
-        }
-    }
-    Ok(())
-}
-
-fn repeat_read(alloc: Global, bytes: &[u8], times: u32) -> Result<()> {
-    for _ in 0..times {
-        let read = read_frame(alloc, bytes)?;
-        let length = read.entries().len();
-        drop(read);
-        if length < 64 {
-            bail!("too little was read");
-        }
-    }
-    Ok(())
-}
-
-fn write_once(alloc: Global, call: &Call) -> Result<Vec<u8>> {
-    let frame = make_frame(alloc, call.size)?;
+fn written(alloc: Global, frame: &Frame) -> Option<Vec<u8>>
+    requires { CanSpellFrame (entries_of frame.now) }
+{
     let mut bytes = Vec::new(alloc);
-    let written = write_frame(&mut bytes, &frame);
-    drop(frame);
-    written?;
-    Ok(bytes)
+    if write_frame(&mut bytes, frame).is_ok() {
+        Some(bytes)
+    } else {
+        None
+    }
 }
 
-fn read_often(alloc: Global, call: &Call) -> Result<()> {
-    let bytes = write_once(alloc, call)?;
-    repeat_read(alloc, &bytes, call.times)
-}
-
-fn json_write_often(alloc: Global, call: &Call) -> Result<()> {
-    let text = make_json(alloc, call.size)?;
-    let value = Value::from_str(alloc, text.as_str())?;
-    drop(text);
-    for _ in 0..call.times {
-        let text = value.to_string(alloc)?;
-        if text.is_empty() {
-            bail!("nothing was written");
+fn write_often(alloc: Global, frame: &Frame, times: u32) -> bool
+    requires { CanSpellFrame (entries_of frame.now) }
+{
+    for _ in 0..times {
+        if written(alloc, frame).is_none() {
+            return false;
         }
     }
-    Ok(())
+    true
 }
 
-fn json_read_often(alloc: Global, call: &Call) -> Result<()> {
-    let text = make_json(alloc, call.size)?;
-    for _ in 0..call.times {
-        let read = Value::from_str(alloc, text.as_str())?;
-        let is_null = read.is_null();
-        drop(read);
-        if is_null {
-            bail!("too little was read");
+fn do_write(alloc: Global, times: u32, long: &str) -> bool {
+    match make_frame(alloc, long.as_bytes()) {
+        Ok(frame) => {
+            let is_done = write_often(alloc, &frame, times);
+            frame.let_go();
+            is_done
+        }
+        Err(_) => false,
+    }
+}
+
+fn frame_bytes(alloc: Global, long: &str) -> Option<Vec<u8>> {
+    match make_frame(alloc, long.as_bytes()) {
+        Ok(frame) => {
+            let bytes = written(alloc, &frame);
+            frame.let_go();
+            bytes
+        }
+        Err(_) => None,
+    }
+}
+
+fn read_once(alloc: Global, bytes: &[u8]) -> bool {
+    match read_frame(alloc, bytes) {
+        Ok(read) => {
+            let is_whole = read.entries().len() == 64;
+            read.let_go();
+            is_whole
+        }
+        Err(_) => false,
+    }
+}
+
+fn read_often(alloc: Global, bytes: &[u8], times: u32) -> bool {
+    for _ in 0..times {
+        if !read_once(alloc, bytes) {
+            return false;
         }
     }
-    Ok(())
+    true
 }
 
-fn do_each(alloc: Global, call: &Call) -> Result<()> {
-    write_often(alloc, call)?;
-    read_often(alloc, call)?;
-    json_write_often(alloc, call)?;
-    json_read_often(alloc, call)
+fn do_read(alloc: Global, times: u32, long: &str) -> bool {
+    match frame_bytes(alloc, long) {
+        Some(bytes) => read_often(alloc, &bytes, times),
+        None => false,
+    }
 }
 
-fn do_call(alloc: Global, call: &Call) -> Result<()> {
-    match call.kind {
-        Kind::All => do_each(alloc, call),
-        Kind::Make => {
-            drop(make_frame(alloc, call.size)?);
-            Ok(())
+fn json_value(alloc: Global, long: &str) -> Option<Value> {
+    match make_json(alloc, long) {
+        Some(text) => Value::from_str(alloc, text.as_str()).ok(),
+        None => None,
+    }
+}
+
+fn json_write_often(alloc: Global, value: &Value, times: u32) -> bool {
+    for _ in 0..times {
+        if value.to_string(alloc).is_err() {
+            return false;
         }
-        Kind::Write => write_often(alloc, call),
-        Kind::Read => read_often(alloc, call),
-        Kind::JsonWrite => json_write_often(alloc, call),
-        Kind::JsonRead => json_read_often(alloc, call),
+    }
+    true
+}
+
+fn do_json_write(alloc: Global, times: u32, long: &str) -> bool {
+    match json_value(alloc, long) {
+        Some(value) => json_write_often(alloc, &value, times),
+        None => false,
     }
 }
 
-/// What the words say, or each once.
-fn do_words(alloc: Global, words: &[String]) -> Result<()> {
-    let call = call_of(words)?;
-    do_call(alloc, &call)
-}
-
-/// The words of this process, of which the program's name is the first.
-fn words_of(rt: &HostRuntime) -> Result<Vec<String>> {
-    let mut words = Vec::new(rt.alloc());
-    for word in env::args(rt)? {
-        words.push(word)?;
+fn json_read_often(alloc: Global, text: &str, times: u32) -> bool {
+    for _ in 0..times {
+        if Value::from_str(alloc, text).is_err() {
+            return false;
+        }
     }
-    Ok(words)
+    true
 }
 
-fn main(rt: HostRuntime) -> Result<()> {
-    let words = words_of(&rt)?;
-    let done = do_words(rt.alloc(), words.get(1..).unwrap_or(&[]));
-    drop(words);
-    done?;
-    println!(rt; "ok")?;
-    Ok(())
+fn do_json_read(alloc: Global, times: u32, long: &str) -> bool {
+    match make_json(alloc, long) {
+        Some(text) => json_read_often(alloc, text.as_str(), times),
+        None => false,
+    }
+}
+
+fn do_all(alloc: Global, times: u32, long: &str) -> bool {
+    do_write(alloc, times, long)
+        && do_read(alloc, times, long)
+        && do_json_write(alloc, times, long)
+        && do_json_read(alloc, times, long)
+}
+
+fn do_kind(alloc: Global, kind: &str, times: u32, long: &str) -> bool {
+    match kind {
+        "make" => do_write(alloc, 0, long),
+        "write" => do_write(alloc, times, long),
+        "read" => do_read(alloc, times, long),
+        "json-write" => do_json_write(alloc, times, long),
+        "json-read" => do_json_read(alloc, times, long),
+        "all" => do_all(alloc, times, long),
+        _ => false,
+    }
+}
+
+/// The number that the next word is, or that there is where it lacks.
+fn next_number(words: &mut Args, otherwise: u32) -> Option<u32> {
+    match words.next() {
+        Some(word) => word.parse::<u32>().ok(),
+        None => Some(otherwise),
+    }
+}
+
+/// Does this as the words behind it say.
+fn do_next(alloc: Global, kind: &str, words: &mut Args) -> bool {
+    let (Some(times), Some(size)) = (next_number(words, 1), next_number(words, 24)) else {
+        return false;
+    };
+    match "a".repeat(alloc, size as usize) {
+        Ok(long) => do_kind(alloc, kind, times, long.as_str()),
+        Err(_) => false,
+    }
+}
+
+/// Does what the words say, of which the program's name is the first.
+fn do_words(alloc: Global, words: &mut Args) -> bool {
+    drop(words.next());
+    match words.next() {
+        Some(kind) => do_next(alloc, kind.as_str(), words),
+        None => do_next(alloc, "all", words),
+    }
+}
+
+fn main(rt: HostRuntime) -> ExitCode {
+    let is_done = match env::args(&rt) {
+        Ok(mut words) => do_words(rt.alloc(), &mut words),
+        Err(_) => false,
+    };
+    if is_done && println!(rt; "ok").is_ok() {
+        ExitCode::SUCCESS
+    } else {
+        ExitCode::FAILURE
+    }
 }

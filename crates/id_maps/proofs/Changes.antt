@@ -1,12 +1,11 @@
 -- A map that changes at one key changes as a function at one id.
 use Rattle.std.specs.Cmp.{unsigned_ties}
-use Rattle.std.proofs.Common.{true, false, ◌≡◌, ◌&&◌, ◌==◌, ◌∙◌, ℕ, List, [], Bool, Option, Some, None, IsSome, refl, ap, sym, subst, cond}
+use Rattle.std.proofs.Common.{true, false, ◌≡◌, ◌&&◌, ◌==◌, ◌∙◌, ℕ, List, Bool, Option, Some, None, IsSome, refl, ap, sym, subst, cond}
 use Rattle.std.specs.Ordering.{is_eq, nat_cmp, ordering_then}
 use Rattle.std.specs.Cmp.{both_tied}
 use Rattle.std.specs.Cmp.Lexicographic.{slice_cmp}
 use Rattle.std.specs.Str.{bytes_eq}
 use Rattle.std.specs.BTreeMap.{BTreeMap, get, is_at, UpdatesBy}
-use Rattle.std.specs.Map.{lookup}
 use Rattle.std.proofs.lemmas.Map.Text.{is_eq-slice_cmp}
 use Rattle.dura_value.specs.declared.addresses.Id.{Id}
 use Rattle.dura_value.specs.declared.addresses.Id.TheVariants.{Client, Entity, Flow}
@@ -77,14 +76,11 @@ number_written m n k was now number w found writes changed =
     number_changes m n k now number w (writes (subst IsSome (sym found) refl)) (λ q. changed q ∙ ap (λ f. cond (is_at (nat_cmp number) q) w (numbered f q)) (sym found))
 
 -- what is kept first for a key
-pub number_begun : {X : Type 0} (m n : BTreeMap Id (BTreeMap ℕ X)) (k : Id) (fresh now : BTreeMap ℕ X) (number : ℕ) (w : Option X)
-    → get id_cmp m k ≡ None → fresh.entries ≡ [] → UpdatesBy id_cmp (id_cmp k) m n (Some now)
-    → ((q : ℕ) → get nat_cmp now q ≡ cond (is_at (nat_cmp number) q) w (get nat_cmp fresh q))
+pub number_begun : {X : Type 0} (m n : BTreeMap Id (BTreeMap ℕ X)) (k : Id) (now : BTreeMap ℕ X) (number : ℕ) (w : Option X)
+    → get id_cmp m k ≡ None → UpdatesBy id_cmp (id_cmp k) m n (Some now) → ((q : ℕ) → get nat_cmp now q ≡ cond (is_at (nat_cmp number) q) w None)
     → held n ≡ at_number (held m) (id_of k) number w
-number_begun m n k fresh now number w absent empty updates changed =
-    number_changes m n k now number w updates (λ q. changed q
-    ∙ ap (λ es. cond (is_at (nat_cmp number) q) w (lookup (is_at (nat_cmp q)) es)) empty
-    ∙ ap (λ f. cond (is_at (nat_cmp number) q) w (numbered f q)) (sym absent))
+number_begun m n k now number w absent updates changed =
+    number_changes m n k now number w updates (λ q. changed q ∙ ap (λ f. cond (is_at (nat_cmp number) q) w (numbered f q)) (sym absent))
 
 pub clears : {X : Type 0} (m n : BTreeMap Id (BTreeMap ℕ X)) (k : Id) → UpdatesBy id_cmp (id_cmp k) m n None → held n ≡ cleared (held m) (id_of k)
 clears m n k updates = λ i id number. (ap (λ f. numbered f number) (updates.0 (key_of id)) ∙ at_none (get id_cmp m (key_of id)) number (is_at (id_cmp k) (key_of id)) (plain.id_eq (id_of k) id) (is_key k id)) i

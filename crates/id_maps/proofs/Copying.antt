@@ -2,22 +2,19 @@
 use Rattle.std.proofs.Common.{◌≡◌, ◌∙◌, ◌==◌, ◌⊎◌, inl, inr, ℕ, List, [], ◌∷◌, Bool, true, false, Option, Some, None, eqb-true, refl, ap, sym, subst, cond, arith}
 use Rattle.std.specs.declared.cmp.Ordering.{Ordering}
 use Rattle.std.specs.Ordering.{nat_cmp}
-use Rattle.std.specs.List.{All}
+use Rattle.std.specs.List.{All, each_same}
 use Rattle.std.specs.BTreeMap.{BTreeMap, get, is_at, UpdatesBy}
 use Rattle.std.specs.Map.{lookup}
 use Rattle.dura_value.specs.declared.addresses.Id.{Id}
+use Rattle.dura_value.specs.declared.addresses.Id.TheVariants.{Client, Entity, Flow}
+use Rattle.dura_value.specs.contracts.addresses.IdClone.TheImpl as cloned
 use Rattle.dura_value.specs.Views.{id_of}
 use Rattle.dura_value.proofs.Ids.{id_same, id_self}
-use Rattle.id_maps.specs.Copies.{AreCopied, AreNumbersCopied}
+use Rattle.id_maps.specs.Copies.{AreCopied, AreExact, AreNumbersCopied, KeepsCopy}
 use Rattle.id_maps.specs.Keys.{id_cmp, key_of}
 use Rattle.id_maps.specs.Maps.{numbered}
 use Rattle.id_maps.proofs.Changes.{is_key, key_again, number_same}
 use Rattle.id_maps.proofs.Firsts.{of_first, of_others}
-
--- keys that compare alike are one
-record AreExact {K : Type 0} (cmp : K → K → Ordering) : Type 0 where
-  same : (a b : K) → is_at (cmp a) b ≡ true → a ≡ b
-  self : (a : K) → is_at (cmp a) a ≡ true
 
 module _ {K X : Type 0} (cmp : K → K → Ordering) (IsCopy : X → X → Type 0) where
   -- there is a copy at a key, or what is kept there is left
@@ -32,26 +29,26 @@ module _ {K X : Type 0} (cmp : K → K → Ordering) (IsCopy : X → X → Type 
   pub none_yet : (m n : BTreeMap K X) (left : List (K × X)) → m.entries ≡ left → n.entries ≡ [] → All (λ e. get cmp m e.0 ≡ Some e.1) m.entries → IsUnderWay m n left
   none_yet m n left is empty kept = subst (IsUnderWay m n) is (record { kept = kept; others = λ q. inr (ap (lookup (is_at (cmp q))) empty, refl) })
 
-  apart_too : AreExact cmp → (k q : K) (b : Bool) → is_at (cmp k) q ≡ false → is_at (cmp q) k ≡ b → b ≡ false
-  apart_too exact k q true apart is = absurd (let same = exact.same q k is in cc (sym apart ∙ ap (is_at (cmp k)) same ∙ exact.self k))
-  apart_too exact k q false apart is = refl
+  apart_too : (IsClone : K → K → Type 0) → AreExact cmp IsClone → (k q : K) (b : Bool) → is_at (cmp k) q ≡ false → is_at (cmp q) k ≡ b → b ≡ false
+  apart_too IsClone exact k q true apart is = absurd (let same = exact.same q k is in cc (sym apart ∙ ap (is_at (cmp k)) same ∙ exact.self k))
+  apart_too IsClone exact k q false apart is = refl
 
-  one_by : AreExact cmp → (m n next : BTreeMap K X) (k : K) (x y : X) (left : List (K × X)) (q : K) (b : Bool) → get cmp m k ≡ Some x → IsCopy x y
+  one_by : (IsClone : K → K → Type 0) → AreExact cmp IsClone → (m n next : BTreeMap K X) (k : K) (x y : X) (left : List (K × X)) (q : K) (b : Bool) → get cmp m k ≡ Some x → IsCopy x y
       → is_at (cmp k) q ≡ b → get cmp next q ≡ cond b (Some y) (get cmp n q) → IsCopiedOrLeft m n ((k, x) ∷ left) q → IsCopiedOrLeft m next left q
-  one_by exact m n next k x y left q true there copied here changed so_far =
+  one_by IsClone exact m n next k x y left q true there copied here changed so_far =
       let found = ap (get cmp m) (sym (exact.same k q here)) ∙ there in
       inl (subst (λ (o : Option X). AreCopied IsCopy o (get cmp next q)) (sym found) (subst (AreCopied IsCopy (Some x)) (sym changed) copied))
-  one_by exact m n next k x y left q false there copied apart changed (inl done) = inl (subst (AreCopied IsCopy (get cmp m q)) (sym changed) done)
-  one_by exact m n next k x y left q false there copied apart changed (inr later) =
-      inr (changed ∙ later.0, ap (λ (b : Bool). cond b (Some x) (lookup (is_at (cmp q)) left)) (sym (apart_too exact k q (is_at (cmp q) k) apart refl)) ∙ later.1)
+  one_by IsClone exact m n next k x y left q false there copied apart changed (inl done) = inl (subst (AreCopied IsCopy (get cmp m q)) (sym changed) done)
+  one_by IsClone exact m n next k x y left q false there copied apart changed (inr later) =
+      inr (changed ∙ later.0, ap (λ (b : Bool). cond b (Some x) (lookup (is_at (cmp q)) left)) (sym (apart_too IsClone exact k q (is_at (cmp q) k) apart refl)) ∙ later.1)
 
   -- the first of what is left is copied
-  one_more : AreExact cmp → (m n next : BTreeMap K X) (k : K) (x y : X) (left : List (K × X)) → IsCopy x y → UpdatesBy cmp (cmp k) n next (Some y)
+  one_more : (IsClone : K → K → Type 0) → AreExact cmp IsClone → (m n next : BTreeMap K X) (k : K) (x y : X) (left : List (K × X)) → IsCopy x y → UpdatesBy cmp (cmp k) n next (Some y)
       → IsUnderWay m n ((k, x) ∷ left) → IsUnderWay m next left
-  one_more exact m n next k x y left copied updates so_far = record {
+  one_more IsClone exact m n next k x y left copied updates so_far = record {
     kept = of_others (λ e. get cmp m e.0 ≡ Some e.1) (k, x) left so_far.kept;
     others = λ q.
-        one_by exact m n next k x y left q (is_at (cmp k) q) (of_first (λ e. get cmp m e.0 ≡ Some e.1) (k, x) left so_far.kept) copied refl (updates.0 q) (so_far.others q);
+        one_by IsClone exact m n next k x y left q (is_at (cmp k) q) (of_first (λ e. get cmp m e.0 ≡ Some e.1) (k, x) left so_far.kept) copied refl (updates.0 q) (so_far.others q);
   }
 
   either : (was now : Option X) → AreCopied IsCopy was now ⊎ ((now ≡ None) × (None ≡ was)) → AreCopied IsCopy was now
@@ -62,29 +59,45 @@ module _ {K X : Type 0} (cmp : K → K → Ordering) (IsCopy : X → X → Type 
   pub all_copied : (m n : BTreeMap K X) (left : List (K × X)) → left ≡ [] → IsUnderWay m n left → (q : K) → AreCopied IsCopy (get cmp m q) (get cmp n q)
   all_copied m n left none done q = either (get cmp m q) (get cmp n q) ((subst (IsUnderWay m n) none done).others q)
 
-id_keys : AreExact id_cmp
-id_keys = record {
-  same = λ a b is. sym (key_again a) ∙ ap key_of (id_same (id_of a) (id_of b) (sym (is_key a (id_of b)) ∙ ap (λ (k : Id). is_at (id_cmp a) k) (key_again b) ∙ is)) ∙ key_again b;
-  self = λ a. sym (ap (λ (k : Id). is_at (id_cmp a) k) (key_again a)) ∙ is_key a (id_of a) ∙ id_self (id_of a);
-}
-
 number_self : (n : ℕ) → (n == n) ≡ true
 number_self n = grind arith
 
-number_keys : AreExact nat_cmp
-number_keys = record { same = λ a b is. eqb-true a b (sym (number_same a b) ∙ is); self = λ a. number_same a a ∙ number_self a }
+pub number_keys : AreExact nat_cmp (λ x y. y ≡ x)
+number_keys = record { same = λ a b is. eqb-true a b (sym (number_same a b) ∙ is); self = λ a. number_same a a ∙ number_self a; cloned = λ a b is. is }
 
--- what is kept for one more id is copied
-pub id_copied : {X : Type 0} (IsCopy : X → X → Type 0) (m n next : BTreeMap Id X) (before left : List (Id × X)) (k key : Id) (x y : X) → before ≡ (k, x) ∷ left → key ≡ k
-    → IsCopy x y → UpdatesBy id_cmp (id_cmp key) n next (Some y) → IsUnderWay id_cmp IsCopy m n before → IsUnderWay id_cmp IsCopy m next left
-id_copied IsCopy m n next before left k key x y steps same copied updates so_far =
-    one_more id_cmp IsCopy id_keys m n next k x y left copied (subst (λ (i : Id). UpdatesBy id_cmp (id_cmp i) n next (Some y)) same updates) (subst (IsUnderWay id_cmp IsCopy m n) steps so_far)
+id_cloned : (a b : Id) → cloned.by_variants a b → b ≡ a
+id_cloned (Client a) (Client b) is = ap Client (sym is.3 ∙ each_same is.0.bytes.items is.1.bytes.items is.4.0 ∙ is.2)
+id_cloned (Client a) (Entity b c) is = absurd is
+id_cloned (Client a) (Flow b c) is = absurd is
+id_cloned (Entity a c) (Client b) is = absurd is
+id_cloned (Entity a c) (Entity b d) is = let first = is.0 in let second = is.1 in
+    ap (λ (f : List ℕ). Entity f d) (sym first.3 ∙ each_same first.0.bytes.items first.1.bytes.items first.4.0 ∙ first.2)
+    ∙ ap (λ (k : List ℕ). Entity a k) (sym second.3 ∙ each_same second.0.bytes.items second.1.bytes.items second.4.0 ∙ second.2)
+id_cloned (Entity a c) (Flow b d) is = absurd is
+id_cloned (Flow a c) (Client b) is = absurd is
+id_cloned (Flow a c) (Entity b d) is = absurd is
+id_cloned (Flow a c) (Flow b d) is = let first = is.0 in let second = is.1 in
+    ap (λ (f : List ℕ). Flow f d) (sym first.3 ∙ each_same first.0.bytes.items first.1.bytes.items first.4.0 ∙ first.2)
+    ∙ ap (λ (k : List ℕ). Flow a k) (sym second.3 ∙ each_same second.0.bytes.items second.1.bytes.items second.4.0 ∙ second.2)
 
--- what is kept for one more number is copied
-pub number_copied : {X : Type 0} (IsCopy : X → X → Type 0) (m n next : BTreeMap ℕ X) (before left : List (ℕ × X)) (k : ℕ) (x y : X) → before ≡ (k, x) ∷ left
-    → IsCopy x y → UpdatesBy nat_cmp (nat_cmp k) n next (Some y) → IsUnderWay nat_cmp IsCopy m n before → IsUnderWay nat_cmp IsCopy m next left
-number_copied IsCopy m n next before left k x y steps copied updates so_far =
-    one_more nat_cmp IsCopy number_keys m n next k x y left copied updates (subst (IsUnderWay nat_cmp IsCopy m n) steps so_far)
+pub id_keys : AreExact id_cmp cloned.by_variants
+id_keys = record {
+  same = λ a b is. sym (key_again a) ∙ ap key_of (id_same (id_of a) (id_of b) (sym (is_key a (id_of b)) ∙ ap (λ (k : Id). is_at (id_cmp a) k) (key_again b) ∙ is)) ∙ key_again b;
+  self = λ a. sym (ap (λ (k : Id). is_at (id_cmp a) k) (key_again a)) ∙ is_key a (id_of a) ∙ id_self (id_of a);
+  cloned = id_cloned;
+}
+
+-- a copy that went along with a copy of its key is kept
+pub kept_copy : {K X : Type 0} (cmp : K → K → Ordering) (IsCopy : X → X → Type 0) (old new : BTreeMap K X) (key cloned : K) (value kept : X) → cloned ≡ key
+    → IsCopy value kept → UpdatesBy cmp (cmp cloned) old new (Some kept) → KeepsCopy cmp IsCopy old new key value
+kept_copy cmp IsCopy old new key cloned value kept same copied updates =
+    record { kept = kept; copied = copied; updates = subst (λ (k : _). UpdatesBy cmp (cmp k) old new (Some kept)) same updates }
+
+-- what is kept under one more key is copied
+pub entry_copied : {K X : Type 0} (cmp : K → K → Ordering) (IsCopy : X → X → Type 0) (IsClone : K → K → Type 0) → AreExact cmp IsClone → (m n next : BTreeMap K X) (before left : List (K × X)) (k : K) (x : X)
+    → before ≡ (k, x) ∷ left → KeepsCopy cmp IsCopy n next k x → IsUnderWay cmp IsCopy m n before → IsUnderWay cmp IsCopy m next left
+entry_copied cmp IsCopy IsClone exact m n next before left k x steps keeps so_far =
+    one_more cmp IsCopy IsClone exact m n next k x keeps.kept left keeps.copied keeps.updates (subst (IsUnderWay cmp IsCopy m n) steps so_far)
 
 -- what is kept for a number, of numbers that are copied
 pub numbers_copied : {X : Type 0} (IsCopy : X → X → Type 0) (was now : Option (BTreeMap ℕ X)) (number : ℕ) → AreCopied (AreNumbersCopied IsCopy) was now → AreCopied IsCopy (numbered was number) (numbered now number)

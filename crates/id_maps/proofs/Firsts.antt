@@ -38,10 +38,9 @@ of_first {E} P e entries all = all 0 e (omega (arith))
 pub of_others : {E : Type 0} (P : E → Type 0) (e : E) (entries : List E) → All P (e ∷ entries) → All P entries
 of_others {E} P e entries all = λ k d inside. all (suc k) d (omega (arith, inside))
 
--- an entry of the map with this number
-pub kept_there : {X : Type 0} (entries : BTreeMap Id (BTreeMap ℕ X)) (k : Id) (numbers : BTreeMap ℕ X) (number : ℕ) (x : X) → get id_cmp entries k ≡ Some numbers → get nat_cmp numbers number ≡ Some x
+-- a key of the map with something for this number
+pub kept_there : {X : Type 0} (entries : BTreeMap Id (BTreeMap ℕ X)) (k : Id) (numbers : BTreeMap ℕ X) (number : ℕ) → get id_cmp entries k ≡ Some numbers → IsSome (get nat_cmp numbers number)
     → IsSome (numbered (get id_cmp entries (key_of (id_of k))) number)
-kept_there {X} entries k numbers number x found has =
-    let is : numbered (get id_cmp entries (key_of (id_of k))) number ≡ Some x =
-    ap (λ (i : Id). numbered (get id_cmp entries i) number) (key_again k) ∙ ap (λ (o : Option (BTreeMap ℕ X)). numbered o number) found ∙ has in
-    subst IsSome (sym is) refl
+kept_there entries k numbers number found has =
+    let same = ap (λ (i : Id). numbered (get id_cmp entries i) number) (key_again k) ∙ ap (λ (o : _). numbered o number) found in
+    subst IsSome (sym same) has

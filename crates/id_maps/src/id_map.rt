@@ -7,17 +7,11 @@ ghost use Rattle.id_maps.specs.Copies.{IsCopyById};
 ghost use Rattle.id_maps.specs.Maps.{by_id, nothing, at_id};
 ghost use Rattle.id_maps.specs.Order.{IsNextBehind, NoneBehind};
 
+use crate::entries::{copy_entries, keep};
 use dura_value::Id;
 use std::alloc::{AllocError, Global};
 use std::collections::BTreeMap;
 use std::ops::Bound;
-
-/// A copy of an id.
-pub(crate) fn copy_key(id: &Id) -> Result<Id, AllocError>
-    ensures { IfOk result (λ copy. copy ≡ id.now) }
-{
-    id.clone()
-}
 
 /// What is kept for each id, which a contract sees as a function.
 #[derive(Drop)]
@@ -62,8 +56,7 @@ impl<V> IdMap<V> {
         ensures put { OnOk result (by_id self.new ≡ at_id (by_id self.old) (id_of id) (Some value)) }
         ensures same { OnErr result (by_id self.new ≡ by_id self.old) }
     {
-        self.entries.insert(id, value)?;
-        Ok(())
+        keep(&mut self.entries, id, value)
     }
 
     /// Takes out what is kept for this id.
@@ -85,10 +78,7 @@ impl<V> IdMap<V> {
         requires { F.IsAlwaysCallable copy }
         ensures { IfOk result (IsCopyById (λ value kept. FnReturnsAt F.Fn copy value (Ok kept)) self.now) }
     {
-        let mut copies = BTreeMap::new(alloc);
-        for (id, value) in self.entries.iter() {
-            copies.insert(copy_key(id)?, copy(value)?)?;
-        }
-        Ok(IdMap { entries: copies })
+        let entries = copy_entries(alloc, &self.entries, &copy)?;
+        Ok(IdMap { entries })
     }
 }

@@ -5,6 +5,7 @@
 //! - `specs/Maps` says what a map holds, `specs/Copies` what a map of copies does.
 #![tactic(auto)]
 
+mod entries;
 mod id_map;
 mod number_map;
 

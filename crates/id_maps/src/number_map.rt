@@ -2,12 +2,14 @@
 
 ghost use Rattle.std.specs.Prelude.{◌≡◌, ◌+◌, ℕ, Some, None, is_some, IsSome, IfSome, IfNone, IfOk, OnOk, option_map, if◌then◌else◌};
 ghost use Rattle.std.specs.Fn.{FnReturnsAt};
+ghost use Rattle.std.specs.BTreeMap.{get, is_at};
+ghost use Rattle.std.specs.Ordering.{nat_cmp};
 ghost use Rattle.dura_value.specs.Ids.{Id as PlainId};
 ghost use Rattle.dura_value.specs.Views.{id_of};
 ghost use Rattle.id_maps.specs.Copies.{AreNumbersCopied, IsCopyByNumber};
 ghost use Rattle.id_maps.specs.Maps.{by_number, count_of, no_number, at_number, cleared};
 
-use crate::id_map::copy_key;
+use crate::entries::{copy_entries, keep};
 use dura_value::Id;
 use std::alloc::{AllocError, Global};
 use std::collections::BTreeMap;
@@ -21,11 +23,29 @@ pub fn copy_numbers<V: Drop, F: Fn(&V) -> Result<V, AllocError>>(
     requires { F.IsAlwaysCallable copy.now }
     ensures { IfOk result (AreNumbersCopied (λ value kept. FnReturnsAt F.Fn copy.now value (Ok kept)) numbers.now) }
 {
-    let mut copies = BTreeMap::new(alloc);
-    for (number, value) in numbers.iter() {
-        copies.insert(*number, copy(value)?)?;
+    copy_entries(alloc, numbers, copy)
+}
+
+/// The least number.
+fn least<V>(numbers: &BTreeMap<u32, V>) -> Option<u32>
+    ensures there { IfSome result (λ number. IsSome (get nat_cmp numbers.now number)) }
+    ensures none { IfNone result ((number : ℕ) → get nat_cmp numbers.now number ≡ None) }
+{
+    match numbers.first_key_value() {
+        Some((number, _)) => Some(*number),
+        None => None,
     }
-    Ok(copies)
+}
+
+/// Numbers of which this one alone has something.
+fn only<V: Drop>(alloc: Global, number: u32, value: V) -> Result<BTreeMap<u32, V>, AllocError>
+    ensures { IfOk result (λ numbers. (q : ℕ) → get nat_cmp numbers q ≡ (if is_at (nat_cmp number) q then Some value else None)) }
+{
+    let mut numbers = BTreeMap::new(alloc);
+    match keep(&mut numbers, number, value) {
+        Ok(()) => Ok(numbers),
+        Err(refused) => Err(refused),
+    }
 }
 
 /// What is kept for each id and number, as the tasks of instances. A contract sees it as a function.
@@ -48,7 +68,10 @@ impl<V> NumberMap<V> {
     pub fn get(&self, id: &Id, number: u32) -> Option<&V>
         ensures { option_map (λ x. x.now) result ≡ by_number self.now (id_of id.now) number }
     {
-        self.entries.get(id)?.get(&number)
+        match self.entries.get(id) {
+            Some(numbers) => numbers.get(&number),
+            None => None,
+        }
     }
 
     /// The least number of this id that something is kept for.
@@ -56,8 +79,10 @@ impl<V> NumberMap<V> {
         ensures there { IfSome result (λ number. IsSome (by_number self.now (id_of id.now) number)) }
         ensures none { IfNone result ((number : ℕ) → by_number self.now (id_of id.now) number ≡ None) }
     {
-        let (number, _) = self.entries.get(id)?.first_key_value()?;
-        Some(*number)
+        match self.entries.get(id) {
+            Some(numbers) => least(numbers),
+            None => None,
+        }
     }
 
     /// An id and a number that something is kept for, if there are any: of the first such id the least number.
@@ -65,9 +90,9 @@ impl<V> NumberMap<V> {
         ensures there { IfSome result (λ one. IsSome (by_number self.now (id_of one.0.now) one.1)) }
         ensures none { IfNone result ((id : PlainId) (number : ℕ) → by_number self.now id number ≡ None) }
     {
-        for (id, numbers) in self.entries.iter() {
-            if let Some((number, _)) = numbers.first_key_value() {
-                return Some((id, *number));
+        for (id, numbers) in &self.entries {
+            if let Some(number) = least(numbers) {
+                return Some((id, number));
             }
         }
         None
@@ -82,15 +107,16 @@ impl<V> NumberMap<V> {
         match self.entries.get_mut(&id) {
             Some(numbers) => {
                 drop(id);
-                numbers.insert(number, value)?;
+                keep(numbers, number, value)
             }
-            None => {
-                let mut numbers = BTreeMap::new(alloc);
-                numbers.insert(number, value)?;
-                self.entries.insert(id, numbers)?;
-            }
+            None => match only(alloc, number, value) {
+                Ok(numbers) => keep(&mut self.entries, id, numbers),
+                Err(refused) => {
+                    drop(id);
+                    Err(refused)
+                }
+            },
         }
-        Ok(())
     }
 
     /// Takes out what is kept for this id and number.
@@ -101,10 +127,12 @@ impl<V> NumberMap<V> {
         ensures taken { by_number self.new ≡ at_number (by_number self.old) (id_of id.now) number None }
         ensures count { count_of self.new (id_of id.now) + (if is_some result then 1 else 0) ≡ count_of self.old (id_of id.now) }
     {
-        let numbers = self.entries.get_mut(id)?;
+        let Some(numbers) = self.entries.get_mut(id) else {
+            return None;
+        };
         let value = numbers.remove(&number);
         if numbers.is_empty() {
-            self.entries.remove(id);
+            drop(self.entries.remove(id));
         }
         value
     }
@@ -115,7 +143,7 @@ impl<V> NumberMap<V> {
         V: Drop,
         ensures { by_number self.new ≡ cleared (by_number self.old) (id_of id.now) }
     {
-        self.entries.remove(id);
+        drop(self.entries.remove(id));
     }
 
     /// What is kept for each id and number, as this copies it.
@@ -129,10 +157,11 @@ impl<V> NumberMap<V> {
         requires { F.IsAlwaysCallable copy }
         ensures { IfOk result (IsCopyByNumber (λ value kept. FnReturnsAt F.Fn copy value (Ok kept)) self.now) }
     {
-        let mut copies = BTreeMap::new(alloc);
-        for (id, numbers) in self.entries.iter() {
-            copies.insert(copy_key(id)?, copy_numbers(alloc, numbers, &copy)?)?;
-        }
-        Ok(NumberMap { entries: copies })
+        let entries = copy_entries(
+            alloc,
+            &self.entries,
+            &|numbers: &BTreeMap<u32, V>| { copy_numbers(alloc, numbers, &copy) },
+        )?;
+        Ok(NumberMap { entries })
     }
 }

@@ -1,147 +1,115 @@
-use crate::log_tests::{
-    HEADER, NEVER, NEXT, ONE_FRAME, PAYLOAD, Wanted, found, site_of, spell_frame, spelled,
+// What files are read as, whole and frame by frame.
+use crate::readings::{
+    ALONE, FRESH, NEVER, NOT_OPENED, ONE_FRAME, STOPS, THREE_FRAMES, by_frames, changed, same,
+    site_of, whole,
 };
-use log_reader::{FrameError, LogReader, Next, OpenError, open_log};
-use site_memory::{Kind, MemorySite};
+use site_memory::Kind;
 use std::alloc::Global;
 use std::process::Abort;
 
-// The segment with the example's frame, `NEXT`, an empty payload, and an end.
-fn three_frames(rt: &impl Abort, alloc: Global) -> Vec<u8> {
-    let mut bytes = spelled(rt, alloc, HEADER);
-    for payload in [PAYLOAD.as_slice(), &NEXT, &[]] {
-        spell_frame(rt, &mut bytes, payload);
+// Reads these bytes frame by frame, and then whole if no device call is to fail. Frame by frame alone their partition is
+// looked at, and is wrong where one of its bytes is turned over. Gives ten for each sync, and one for each read.
+fn check(rt: &impl Abort, alloc: Global, bytes: &[u8], at: usize, call: u64, wanted: u64) -> u64 {
+    let mut site = site_of(rt, alloc, 1000, bytes, call);
+    let by_frame = if 9 <= at && at <= 12 { 9 } else { wanted };
+    same(rt, at as u64, by_frames(alloc, &mut site, bytes), by_frame);
+    if call == NEVER {
+        same(rt, at as u64, whole(alloc, &mut site, 1, bytes), wanted);
     }
-    bytes.push(0).expect(rt, "memory");
-    bytes
+    site.calls(Kind::Sync)
+        .wrapping_mul(10)
+        .wrapping_add(site.calls(Kind::Read))
 }
 
-// What the frames behind the first gate come to. They are spelled behind the header.
-fn read_frames(
-    rt: &impl Abort,
-    alloc: Global,
-    site: &mut MemorySite,
-    reader: LogReader,
-    bytes: &[u8],
-) -> Wanted {
-    let mut front = spelled(rt, alloc, reader.header);
-    let mut reader = reader;
-    for count in 0..100usize {
-        assert!(rt; front.len() as u64 == reader.gate);
-        match reader.next(alloc, site) {
-            Ok(Next::Frame(payload, next)) => {
-                spell_frame(rt, &mut front, payload.as_bytes());
-                reader = next;
-            }
-            Ok(Next::End(log)) => {
-                assert!(rt; (log.file, log.gate) == (1, front.len() as u64));
-                assert!(rt; bytes.starts_with(&front));
-                return Wanted::Log(count, log.gate);
-            }
-            Err(FrameError::Damaged { offset }) => return Wanted::At(offset),
-            Err(FrameError::SiteFault) => return Wanted::StopsBehind(count),
-            Err(_) => panic!(rt; "another fault"),
-        }
-    }
-    panic!(rt; "too many frames")
-}
+// What the front of three frames up to each offset is read as.
+const FRONTS: [u64; 90] = [
+    0, 0, 2, 3, 4, 5, 6, 7, 8, 9, 9, 9, 9, 13, 13, 13, 13, 17, 17, 17, 17, 17, 17, 17, 17, 25, 25,
+    25, 25, 25, 25, 25, 25, 33, 34, 34, 34, 34, 34, 34, 34, 34, 34, 34, 34, 34, 34, 34, 34, 34, 34,
+    34, 34, 34, 34, 34, 34, 34, 34, 34, 34, 34, 34, 34, 34, 34, 34, 34, 34, 34, 34, 34, 34, 34, 34,
+    34, 34, 77, 77, 77, 77, 77, 77, 77, 77, 85, 85, 85, 85, 85,
+];
 
-// What file 1, of these bytes, is read as, frame by frame.
-fn found_by_frames(rt: &impl Abort, alloc: Global, site: &mut MemorySite, bytes: &[u8]) -> Wanted {
-    match open_log(site, 1, 0) {
-        Ok(reader) => read_frames(rt, alloc, site, reader, bytes),
-        Err(OpenError::Fresh) => Wanted::Fresh,
-        Err(OpenError::Damaged { offset }) => Wanted::At(offset),
-        Err(OpenError::SiteFault) => Wanted::NotOpened,
-    }
-}
+// What three frames are read as where the byte at each offset is turned over.
+const FLIPS: [u64; 90] = [
+    0, 1, 2, 3, 4, 5, 6, 7, 8, 13_089, 13_089, 13_089, 13_089, 13_089, 13_089, 13_089, 13_089,
+    13_089, 13_089, 13_089, 13_089, 13_089, 13_089, 13_089, 13_089, 25, 13_089, 13_089, 13_089,
+    13_089, 13_089, 13_089, 13_089, 10_033, 34, 34, 34, 34, 13_089, 13_089, 13_089, 13_089, 13_089,
+    13_089, 13_089, 13_089, 13_089, 13_089, 13_089, 13_089, 13_089, 13_089, 13_089, 13_089, 13_089,
+    13_089, 13_089, 13_089, 13_089, 13_089, 13_089, 13_089, 13_089, 13_089, 13_089, 13_089, 13_089,
+    13_089, 13_089, 13_089, 13_089, 13_089, 13_089, 13_089, 13_089, 13_089, 11_076, 77, 77, 77, 77,
+    13_089, 13_089, 13_089, 12_084, 85, 85, 85, 85, 13_089,
+];
 
-// Frame by frame file 1 is read as it is whole, but that its partition is looked at. Both spell what they read, so the
-// payloads are the same, one by one.
-fn check_same(
-    rt: &impl Abort,
-    alloc: Global,
-    site: &mut MemorySite,
-    bytes: &[u8],
-    is_partition_wrong: bool,
-) {
-    let whole = found(rt, alloc, site, 1, bytes);
-    let wanted = if is_partition_wrong {
-        Wanted::At(9)
-    } else {
-        whole
-    };
-    assert!(rt; found_by_frames(rt, alloc, site, bytes) == wanted);
-}
+// What one frame is read as then.
+const FLIPS_OF_ONE: [u64; 77] = [
+    0, 1, 2, 3, 4, 5, 6, 7, 8, 11_076, 11_076, 11_076, 11_076, 11_076, 11_076, 11_076, 11_076,
+    11_076, 11_076, 11_076, 11_076, 11_076, 11_076, 11_076, 11_076, 25, 11_076, 11_076, 11_076,
+    11_076, 11_076, 11_076, 11_076, 10_033, 34, 34, 34, 34, 11_076, 11_076, 11_076, 11_076, 11_076,
+    11_076, 11_076, 11_076, 11_076, 11_076, 11_076, 11_076, 11_076, 11_076, 11_076, 11_076, 11_076,
+    11_076, 11_076, 11_076, 11_076, 11_076, 11_076, 11_076, 11_076, 11_076, 11_076, 11_076, 11_076,
+    11_076, 11_076, 11_076, 11_076, 11_076, 11_076, 11_076, 11_076, 11_076, 11_076,
+];
 
-#[test]
-fn frame_by_frame(rt: HostRuntime) {
-    let alloc = rt.alloc();
-    let bytes = three_frames(&rt, alloc);
-    let mut site = site_of(&rt, alloc, &bytes, NEVER);
-    check_same(&rt, alloc, &mut site, &bytes, false);
-    // Three of `read_log` and `open_log`, and two for each frame, and one for the end.
-    assert!(rt; site.calls(Kind::Read) == 9);
-    assert!(rt; site.calls(Kind::Sync) == 2);
-}
-
-fn check_changed(rt: &impl Abort, alloc: Global, bytes: &[u8], is_partition_wrong: bool) {
-    let mut site = site_of(rt, alloc, bytes, NEVER);
-    check_same(rt, alloc, &mut site, bytes, is_partition_wrong);
-}
-
+// The whole is a read. Frame by frame one read opens the log, two give a frame, and one the end.
 #[test]
 fn each_prefix_and_each_byte(rt: HostRuntime) {
     let alloc = rt.alloc();
-    let mut bytes = three_frames(&rt, alloc);
-    for length in 0..=bytes.len() {
-        check_changed(&rt, alloc, &bytes[..length], false);
-    }
-    for offset in 0..bytes.len() {
-        assert!(rt; offset < bytes.len());
+    for offset in 0..90usize {
+        let mut bytes = THREE_FRAMES;
+        check(&rt, alloc, &bytes[..offset], offset, NEVER, FRONTS[offset]);
         bytes[offset] = !bytes[offset];
-        check_changed(&rt, alloc, &bytes, 9 <= offset && offset <= 12);
-        bytes[offset] = !bytes[offset];
+        check(&rt, alloc, &bytes, offset, NEVER, FLIPS[offset]);
     }
+    let calls = check(&rt, alloc, &THREE_FRAMES, 90, NEVER, 13_089);
+    same(&rt, 90, calls, 29);
 }
 
-// The device call with this number fails. Frame by frame these bytes are read so, by so many reads.
-fn check_read(rt: &impl Abort, alloc: Global, bytes: &[u8], call: u64, wanted: Wanted, reads: u64) {
-    let mut site = site_of(rt, alloc, bytes, call);
-    assert!(rt; found_by_frames(rt, alloc, &mut site, bytes) == wanted);
-    assert!(rt; site.calls(Kind::Read) == reads);
-}
-
-// A length that doesn't fit into the file is refused by its gate's read, and nothing is read behind it.
 #[test]
-fn a_length_past_the_end(rt: HostRuntime) {
-    for length in [
-        [0x7F, 0xFF, 0xFF, 0xFF],
-        [0xFF, 0xFF, 0xFF, 0xFF],
-        [0, 0, 0, 0x27],
-    ] {
+fn each_byte_of_one_frame(rt: HostRuntime) {
+    for offset in 0..77usize {
         let mut bytes = ONE_FRAME;
-        bytes[34..38].copy_from_slice(&length);
-        check_read(&rt, rt.alloc(), &bytes, NEVER, Wanted::At(34), 2);
+        bytes[offset] = !bytes[offset];
+        check(&rt, rt.alloc(), &bytes, offset, NEVER, FLIPS_OF_ONE[offset]);
     }
 }
 
-// What follows a closed first byte isn't read but for the first gate's front.
-#[test]
-fn a_closed_first_byte(rt: HostRuntime) {
-    let mut bytes = ONE_FRAME;
-    bytes[0] = 0x17;
-    check_read(&rt, rt.alloc(), &bytes, NEVER, Wanted::Fresh, 1);
-}
+// The example with four other bytes at this offset: the device call that fails, what it is read as, and the calls.
+const READINGS: [[u64; 5]; 22] = [
+    [0, 0xC34E_4554, NEVER, 11_076, 25],
+    // A gate that is closed or opened. What follows a closed first byte isn't read but for the first gate's front.
+    [0, 0x004E_4554, NEVER, FRESH, 22],
+    [0, 0x174E_4554, NEVER, FRESH, 22],
+    [33, 0x0000_0000, NEVER, 10_033, 23],
+    [73, 0x0000_01C3, NEVER, 77, 25],
+    // A base position past the last one.
+    [25, 0x8000_0000, NEVER, 25, 22],
+    // A length. One that doesn't fit into the file is refused by its gate's read, and nothing is read behind it.
+    [34, 0x0000_0025, NEVER, 11_075, 25],
+    [34, 0x0000_0027, NEVER, 34, 23],
+    [34, 0x0000_0000, NEVER, 11_038, 25],
+    [34, 0x7F00_0026, NEVER, 34, 23],
+    [34, 0x7FFF_FFFF, NEVER, 34, 23],
+    [34, 0xFFFF_FFFF, NEVER, 34, 23],
+    // No read of the whole counts here.
+    [0, 0x174E_4554, ALONE, FRESH, 11],
+    [34, 0x7FFF_FFFF, ALONE, 34, 12],
+    [34, 0xFFFF_FFFF, ALONE, 34, 12],
+    [34, 0x0000_0027, ALONE, 34, 12],
+    // A sync, a length and a read open a log.
+    [0, 0xC34E_4554, 0, NOT_OPENED, 10],
+    [0, 0xC34E_4554, 1, NOT_OPENED, 10],
+    [0, 0xC34E_4554, 2, NOT_OPENED, 11],
+    [0, 0xC34E_4554, 3, STOPS, 12],
+    [0, 0xC34E_4554, 4, STOPS, 13],
+    [0, 0xC34E_4554, 5, STOPS + 1000, 14],
+];
 
-// A sync, a length and a read open a log, two reads give a frame, and one the end.
+// A row is told by its place, from 100 on.
 #[test]
-fn a_fault_at_each_call(rt: HostRuntime) {
+fn readings(rt: HostRuntime) {
     let alloc = rt.alloc();
-    check_read(&rt, alloc, &ONE_FRAME, 0, Wanted::NotOpened, 0);
-    check_read(&rt, alloc, &ONE_FRAME, 1, Wanted::NotOpened, 0);
-    check_read(&rt, alloc, &ONE_FRAME, 2, Wanted::NotOpened, 1);
-    check_read(&rt, alloc, &ONE_FRAME, 3, Wanted::StopsBehind(0), 2);
-    check_read(&rt, alloc, &ONE_FRAME, 4, Wanted::StopsBehind(0), 3);
-    check_read(&rt, alloc, &ONE_FRAME, 5, Wanted::StopsBehind(1), 4);
+    for (row, [at, put, call, wanted, calls]) in READINGS.iter().enumerate() {
+        let found = check(&rt, alloc, &changed(*at, *put), 100 + row, *call, *wanted);
+        same(&rt, 100 + row as u64, found, *calls);
+    }
 }

@@ -10,11 +10,10 @@ use cli_call::{CallError, hint_cause, hint_command, read_call};
 use engine_run::run_recorded;
 use run_causes::Cause;
 use site_calls::{CalledSite, Start, Unknown};
-use site_host::Host;
+use site_host::{Host, WallClock};
 use std::process::ExitCode;
 use std::sync::Wait;
 use std::thread::Threads;
-use wall_clock::WallClock;
 
 fn main(rt: HostRuntime) -> ExitCode {
     serve(&rt, rt, Unknown)

@@ -1,5 +1,7 @@
 pub mod Each
 pub mod EntryLemmas
+pub mod FitLists
+pub mod FitSpots
 pub mod Ids
 pub mod ItemLemmas
 pub mod Messages

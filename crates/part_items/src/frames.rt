@@ -70,6 +70,11 @@ impl Frame {
         Frame { entries }
     }
 
+    /// Lets go of them. Where another crate drops them, the drop of each of their parts is proved there once more.
+    pub fn let_go(self) {
+        drop(self);
+    }
+
     /// The entries, where they lie.
     pub fn entries(&self) -> &[Entry]
         ensures { result.now ≡ self.now }

@@ -3,6 +3,7 @@
 //!
 //! - `items` and `frames` are what is written; `writing` writes it, `reading` reads it, and `numbered` reads a log's next frame.
 //!   `tags` are the first bytes of items.
+//! - `fits` looks at whether an item is within the limits of the format.
 //! - `specs/Grammar` and `specs/Spelling` are the format, `specs/Fits` and `specs/ItemFits` what is within its limits.
 //! - `again` says that values, ids, messages and their parts are read again, `apart` that their spellings stand apart, and
 //!   `frames_again` says both of items and frames; `only` says that nothing else is read, `may_write` that what is within the
@@ -11,6 +12,7 @@
 
 mod again;
 mod apart;
+mod fits;
 mod frames;
 mod frames_again;
 mod items;
@@ -22,6 +24,7 @@ mod reading;
 mod tags;
 mod writing;
 
+pub use fits::item_fits;
 pub use frames::{Entry, Frame, Items};
 pub use items::{Item, Packet};
 pub use numbered::{Next, read_next_frame};

@@ -12,9 +12,8 @@ use crate::tags::{DONE, FIRED, GOT, MOST_MEMBERS, RAN, TOOK, TRIM};
 use dura_codec::{
     FieldError, take_count, take_id, take_message, take_outcome, take_u8, take_u16, take_u32,
 };
-use dura_value::ReadError;
+use dura_value::{ReadError, with};
 use std::alloc::Global;
-use with_value::with;
 
 #[tactic(auto, unfolding(crate::specs::Grammar::took_at))]
 fn take_took(alloc: Global, bytes: &[u8]) -> Result<(Item, &[u8]), FieldError>

@@ -18,7 +18,7 @@ use Rattle.part_rounds.specs.declared.rounds.Round.{Round}
 use Rattle.part_rounds.specs.declared.rounds.Round.TheVariants.{On, Over}
 use Rattle.part_steps.specs.declared.state.PartState.{PartState}
 use Rattle.part_rounds.specs.declared.coming.Coming.TheVariants as comings
-use Rattle.timer_row.specs.Timers.{NoTimer}
+use Rattle.part_rows.specs.Timers.{NoTimer}
 use Rattle.part_steps.specs.States.{state_of, count_of, IsSound}
 use Rattle.run_rules.specs.Rules.{Rules, Told}
 

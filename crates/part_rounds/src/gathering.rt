@@ -5,8 +5,7 @@ ghost use Rattle.std.specs.List.{All};
 ghost use Rattle.part_items.specs.ItemFits.{FitsItem};
 ghost use Rattle.part_items.specs.Plain.{items_of};
 
-use part_fits::item_fits;
-use part_items::Item;
+use part_items::{Item, item_fits};
 
 /// Whether all of these can be written.
 pub(crate) fn all_fit(items: &[Item]) -> bool

@@ -11,13 +11,12 @@ ghost use Rattle.run_rules.specs.Rules.{Rules, Told};
 
 use crate::filling::{Filling, put};
 use activity_table::Activities;
-use dura_value::Outcome;
+use dura_value::{Outcome, with};
 use flow_messages::copy_id;
 use part_items::Item;
 use part_rows::{Activity, Reactions};
 use part_steps::PartState;
 use std::alloc::{AllocError, Global};
-use with_value::with;
 
 /// Runs an activity.
 fn run<A: Activities>(

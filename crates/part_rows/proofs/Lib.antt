@@ -2,5 +2,6 @@ pub mod Boxes
 pub mod Copied
 pub mod Links
 pub mod Opening
+pub mod Orders
 pub mod Posting
 pub mod Seen

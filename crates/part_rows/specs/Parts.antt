@@ -3,7 +3,7 @@ use Rattle.std.specs.Prelude.{option_map}
 use Rattle.dura_value.specs.Views.{message_of, messages_of, answer_of}
 use Rattle.flow_messages.specs.Views.{entity_of}
 use Rattle.id_maps.specs.Maps.{by_id, by_number}
-use Rattle.timer_row.specs.Timers.{timers_in}
+use Rattle.part_rows.specs.Timers.{timers_in}
 use Rattle.dura_model.specs.Partition as plain
 use Rattle.part_rows.specs.Views.{row_of, activity_of, inboxes_of, outboxes_of}
 use Rattle.part_rows.specs.declared.parts.PartRows.{PartRows}

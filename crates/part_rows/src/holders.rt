@@ -10,10 +10,9 @@ ghost use Rattle.part_rows.specs.Parts.{part_of};
 
 use crate::parts::PartRows;
 use crate::rows::Row;
-use dura_value::{Id, Message};
+use dura_value::{Id, Message, with};
 use flow_messages::{Entity, copy_id};
 use std::alloc::AllocError;
-use with_value::with;
 
 impl PartRows {
     /// Whether a receiver takes what a sender sends: an entity that is held takes only what its holder sends.

@@ -4,6 +4,7 @@
 //! - `rows`: an instance as it is kept, a pending activity.
 //! - `parts`: all that a partition knows, and what is posted. `holders`, `pending`, `requests`, `incoming`: what changes it.
 //! - `queue`: the messages to receivers here. `copies`: copies of messages, rows, entities and activities.
+//! - `timers`: the timers of instances, of which `timer` is one, and which of them is due first.
 //! - `reactions`: what instances and entities make of what reaches them, as a trait; who implements it runs their machines.
 //! - `streams`: what came in from other partitions, and what goes out to them.
 //! - `specs/Views`: the plain data that these stand for.
@@ -19,6 +20,8 @@ mod reactions;
 mod requests;
 mod rows;
 mod streams;
+mod timer;
+mod timers;
 
 pub use copies::{copy_answer, copy_message};
 pub use parts::PartRows;
@@ -27,3 +30,5 @@ pub use reactions::{Reaction, Reactions};
 pub use requests::number_in;
 pub use rows::{Activity, Row, Waiting};
 pub use streams::{Identity, Inbox, Inboxes, Outbox, Outboxes, Posted};
+pub use timer::Timer;
+pub use timers::TimerRow;

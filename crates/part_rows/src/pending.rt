@@ -3,7 +3,7 @@
 ghost use Rattle.std.specs.Prelude.{◌≡◌, ◌∷◌, [], map, option_map, true, Some, None, OnOk};
 ghost use Rattle.dura_value.specs.Views.{id_of};
 ghost use Rattle.flow_messages.specs.Views.{asked_of};
-ghost use Rattle.timer_row.specs.Timers.{InOrder};
+ghost use Rattle.part_rows.specs.Timers.{InOrder};
 ghost use Rattle.dura_model.specs.Partition.{asked_in, given_up_in, raised_to};
 ghost use Rattle.dura_model.specs.World.{at_number, cleared};
 ghost use Rattle.part_rows.specs.Views.{activity_of};
@@ -11,10 +11,9 @@ ghost use Rattle.part_rows.specs.Parts.{part_of};
 
 use crate::parts::PartRows;
 use crate::rows::Activity;
-use dura_value::Id;
+use dura_value::{Id, with};
 use flow_messages::{Asked, copy_id};
 use std::alloc::{AllocError, Global};
-use with_value::with;
 
 impl PartRows {
     /// An activity of an instance's task is pending.

@@ -7,11 +7,10 @@ ghost use Rattle.dura_model.specs.Partition.{first_in, without_first};
 ghost use Rattle.part_rows.specs.Queues.{is_of_link, said_in};
 
 use crate::copies::copy_message;
-use dura_value::{Id, Message};
+use dura_value::{Id, Message, with};
 use std::alloc::{AllocError, Global};
 use std::collections::VecDeque;
 use std::marker::Model;
-use with_value::with;
 
 /// Copies of these messages come behind the others.
 #[tactic(auto, using(crate::proofs::Copied::first_copied))]

@@ -10,10 +10,9 @@ ghost use Rattle.part_rows.specs.Parts.{part_of};
 
 use crate::copies::{copy_answer, copy_message};
 use crate::parts::PartRows;
-use dura_value::{Answer, Body, Id, Message, Reply, home};
+use dura_value::{Answer, Body, Id, Message, Reply, home, with};
 use flow_messages::copy_id;
 use std::alloc::{AllocError, Global};
-use with_value::with;
 
 impl PartRows {
     /// Whether a request of a client was taken.

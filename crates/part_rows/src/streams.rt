@@ -5,11 +5,10 @@ ghost use Rattle.dura_model.specs.Partition.{with_posted, with_inbox, begins_at,
 ghost use Rattle.part_rows.specs.Views.{posted_of, inbox_of, outbox_of, inboxes_of, outboxes_of, no_outbox, no_inbox};
 
 use crate::copies::copy_message;
-use dura_value::Message;
+use dura_value::{Message, with};
 use id_maps::copy_numbers;
 use std::alloc::{AllocError, Global};
 use std::collections::{BTreeMap, VecDeque};
-use with_value::with;
 
 /// An entry by its partition, the life of the partition that made it, and its place there.
 #[derive(Clone, Copy)]

@@ -8,7 +8,7 @@ use Rattle.dura_value.specs.Messages.{Body}
 use Rattle.dura_value.proofs.Ids.{and_true}
 use Rattle.flow_syntax.specs.Syntax.{Flows}
 use Rattle.flow_syntax.specs.Entity.{Entity}
-use Rattle.timer_row.specs.Timers.{IsFirstDue, NoneDue}
+use Rattle.part_rows.specs.Timers.{IsFirstDue, NoneDue}
 use Rattle.dura_model.specs.Partition.{Row, Partition, instance_in, first_in, last_in, accepted}
 use Rattle.dura_model.specs.Placed.{Belongs, AreOfInstances}
 use Rattle.part_rows.specs.Open.{lets_in, last_of_entity, last_at, IsOpen, NoneOpen}

@@ -2,7 +2,7 @@
 use Rattle.std.proofs.Common.{◌≡◌, ◌∙◌, ℕ, true, false, Option, Some, None, IsSome, ap, sym}
 use Rattle.std.specs.Prelude.{option_map, is_some}
 use Rattle.dura_value.specs.Ids.{Id}
-use Rattle.timer_row.specs.Timers.{IsNext, NoTimer}
+use Rattle.part_rows.specs.Timers.{IsNext, NoTimer}
 use Rattle.dura_model.specs.Partition.{Partition}
 use Rattle.part_rows.specs.Open.{IsOpen, NoneOpen}
 use Rattle.part_steps.specs.Quiet.{NoActivity, IsQuiet}

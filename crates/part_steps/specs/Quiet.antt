@@ -1,7 +1,7 @@
 -- When nothing is possible in a partition without a request.
 use Rattle.std.specs.Prelude.{◌≡◌, ℕ, None}
 use Rattle.dura_value.specs.Ids.{Id}
-use Rattle.timer_row.specs.Timers.{NoTimer}
+use Rattle.part_rows.specs.Timers.{NoTimer}
 use Rattle.dura_model.specs.Partition.{Partition}
 use Rattle.part_rows.specs.Open.{NoneOpen}
 

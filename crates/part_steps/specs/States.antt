@@ -1,6 +1,6 @@
 -- The state of a partition.
 use Rattle.std.specs.Prelude.{ℕ, ◌<◌}
-use Rattle.timer_row.specs.Timers.{InOrder}
+use Rattle.part_rows.specs.Timers.{InOrder}
 use Rattle.dura_model.specs.Partition.{Partition}
 use Rattle.dura_model.specs.Placed.{Belongs, AreOfInstances}
 use Rattle.part_rows.specs.Parts.{part_of}

@@ -3,7 +3,7 @@
 ghost use Rattle.std.specs.Prelude.{◌≡◌, ◌<◌, ◌++◌, map, IfOk, OnOk, option_map};
 ghost use Rattle.dura_value.specs.Views.{id_of, messages_of};
 ghost use Rattle.flow_messages.specs.Views.{event_of, past_of};
-ghost use Rattle.timer_row.specs.Timers.{InOrder};
+ghost use Rattle.part_rows.specs.Timers.{InOrder};
 ghost use Rattle.dura_model.specs.World.{at_id};
 ghost use Rattle.dura_model.specs.Partition.{history_of, with_event, post_all, given_up_in};
 ghost use Rattle.part_rows.specs.Reactions.{waits_of, reaction_of};
@@ -11,11 +11,10 @@ ghost use Rattle.part_rows.specs.Views.{row_of};
 ghost use Rattle.part_rows.specs.Parts.{part_of};
 ghost use Rattle.part_steps.specs.Kept.{next_row, kept_in};
 
-use dura_value::{Id, Message};
+use dura_value::{Id, Message, with};
 use flow_messages::{Event, Past};
 use part_rows::{PartRows, Reaction, Row, Waiting, copy_message};
 use std::alloc::{AllocError, Global};
-use with_value::with;
 
 /// The history of a row, or none where there is no row.
 fn history_in(alloc: Global, row: Option<Row>) -> Vec<Past>

@@ -2,7 +2,7 @@
 
 ghost use Rattle.std.specs.Prelude.{◌≡◌, true, false, is_some, IsSome, IfSome, IfNone, option_map};
 ghost use Rattle.dura_value.specs.Views.{id_of, answer_of, message_of};
-ghost use Rattle.timer_row.specs.Timers.{IsNext, NoTimer};
+ghost use Rattle.part_rows.specs.Timers.{IsNext, NoTimer};
 ghost use Rattle.part_rows.specs.Views.{activity_of};
 ghost use Rattle.part_steps.specs.Quiet.{NoActivity, IsQuiet};
 ghost use Rattle.part_steps.specs.States.{IsSound, state_of};

@@ -3,7 +3,7 @@
 ghost use Rattle.std.specs.Prelude.{◌≡◌, ◌<◌, ◌&&◌, Some, map, IfOk, OnOk};
 ghost use Rattle.dura_value.specs.Ids.{entity, client};
 ghost use Rattle.dura_value.specs.Views.{id_of, body_of as said_of, messages_of};
-ghost use Rattle.timer_row.specs.Timers.{InOrder};
+ghost use Rattle.part_rows.specs.Timers.{InOrder};
 ghost use Rattle.dura_model.specs.Deliveries.{to_instance};
 ghost use Rattle.dura_model.specs.World.{at_id};
 ghost use Rattle.dura_model.specs.Partition.{instance_at};
@@ -12,11 +12,10 @@ ghost use Rattle.part_steps.specs.Outputs.{sent_to, answered_to, answered_of};
 ghost use Rattle.part_steps.specs.Reached.{takes_at, instance_reached, delivered_at, entity_reached, reached};
 
 use crate::keeping::{keep, send};
-use dura_value::{Answered, Body, Id, Message, Name, Reply};
+use dura_value::{Answered, Body, Id, Message, Name, Reply, with};
 use flow_messages::copy_name;
 use part_rows::{PartRows, Reactions, copy_answer};
 use std::alloc::{AllocError, Global};
-use with_value::with;
 
 /// Whether a receiver takes what a sender sends it at this moment.
 pub(crate) fn takes_at(rows: &PartRows, from: &Id, to: &Id, stamp: u64) -> bool

@@ -33,7 +33,7 @@ fn from_first_entry(file: u32, found: Found) -> Result<Found, RecoverError>
     if found.header.base == 0 {
         Ok(found)
     } else {
-        drop(found);
+        found.placing.let_go();
         Err(late(file))
     }
 }
@@ -65,8 +65,8 @@ pub(crate) fn choose(first: LogFile, second: LogFile) -> Result<Option<Found>, R
         (LogFile::Fresh, LogFile::Log(found)) => Ok(Some(from_first_entry(SECOND_LOG, found)?)),
         (LogFile::Log(first), LogFile::Log(second)) => {
             let fault = both_there(&first, &second);
-            drop(first);
-            drop(second);
+            first.placing.let_go();
+            second.placing.let_go();
             Err(fault)
         }
     }

@@ -127,7 +127,7 @@ pub(crate) fn open_file<V: Site, R: Reactions>(
     match fit(found.header, digest) {
         Ok(()) => Ok(LogFile::Log(found)),
         Err(error) => {
-            drop(found);
+            found.placing.let_go();
             Err(error)
         }
     }

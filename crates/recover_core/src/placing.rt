@@ -25,9 +25,12 @@ fn place_items<R: Reactions>(
     let mut state = state;
     for item in items {
         match state.apply(alloc, reactions, item)? {
-            Verdict::Accepted(next, _) => state = next,
+            Verdict::Accepted(next, made) => {
+                made.let_go();
+                state = next;
+            }
             Verdict::Refused(state) => {
-                drop(state);
+                state.let_go();
                 return Ok(None);
             }
         }

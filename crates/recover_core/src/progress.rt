@@ -17,6 +17,16 @@ pub(crate) enum Placing {
     Stuck(u64),
 }
 
+impl Placing {
+    /// Lets go of the state.
+    pub fn let_go(self) {
+        match self {
+            Placing::On(state) => state.let_go(),
+            Placing::Stuck(_) => {}
+        }
+    }
+}
+
 /// How far the entries of a log were placed.
 #[derive(Drop)]
 pub(crate) struct Progress {

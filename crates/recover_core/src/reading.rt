@@ -53,17 +53,19 @@ fn place_frame<R: Reactions>(
     let frame = match read_next_frame(alloc, progress.next, payload) {
         Ok(frame) => frame,
         Err(ReadError::Memory) => {
-            drop(progress);
+            progress.placing.let_go();
             return Err(FrameError::Memory);
         }
         Err(ReadError::Bad { offset }) => {
-            drop(progress);
+            progress.placing.let_go();
             return Err(FrameError::Damaged {
                 offset: gate + 5 + offset as u64,
             });
         }
     };
-    match place_entries(alloc, reactions, progress, frame.entries()) {
+    let placed = place_entries(alloc, reactions, progress, frame.entries());
+    frame.let_go();
+    match placed {
         Ok(placed) => Ok(placed),
         Err(_) => Err(FrameError::Memory),
     }
@@ -95,7 +97,7 @@ fn read_step<V: Site, R: Reactions>(
         Ok(Next::Frame(payload, behind)) => (payload, behind),
         Ok(Next::End(log)) => return Ok(Turn::End(log, progress)),
         Err(error) => {
-            drop(progress);
+            progress.placing.let_go();
             return Err(error);
         }
     };

@@ -14,7 +14,7 @@ ghost use Rattle.recover_core.specs.Recovering.{CanBegin, Recovers, RestsFor, On
 
 use crate::choosing::{FIRST_LOG, SECOND_LOG, choose};
 use crate::error::RecoverError;
-use crate::files::{Found, open_file};
+use crate::files::{Found, LogFile, open_file};
 use crate::progress::Placing;
 use commit_log::Resting;
 use part_rows::Reactions;
@@ -58,6 +58,7 @@ fn end(found: Found) -> Result<Recovered, RecoverError>
         }
     };
     if life >= LIVES {
+        state.let_go();
         return Err(RecoverError::Spent {
             partition: 0,
             number: life,
@@ -94,7 +95,9 @@ pub fn recover<V: Site, R: Reactions>(
     let second = match open_file(alloc, site, reactions, digest, SECOND_LOG) {
         Ok(second) => second,
         Err(error) => {
-            drop(first);
+            if let LogFile::Log(found) = first {
+                found.placing.let_go();
+            }
             return Err(error);
         }
     };

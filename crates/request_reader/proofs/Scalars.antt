@@ -1,13 +1,16 @@
 -- Reading the parts of a list one after another, and how many bytes they take.
-use Rattle.std.proofs.Common.{◌≡◌, ℕ, ◌+◌, ◌<◌, List, [], ◌∷◌, ◌++◌, length, drop, get_or, false, Option, Some, None, refl, sym, ◌∙◌, arith, append_assoc, add-one}
+use Rattle.std.proofs.Common.{◌≡◌, ℕ, ◌+◌, ◌<◌, ◌≤◌, List, [], ◌∷◌, ◌++◌, length, drop, get_or, false, Option, Some, None, Err, refl, sym, ◌∙◌, ap, arith, append_assoc, add-one}
 use Rattle.std.proofs.Math.Seq.{drop-cons}
-use Rattle.std.specs.Prelude.{nat_le}
+use Rattle.std.proofs.lemmas.List.{append-nil, drop_all}
+use Rattle.std.specs.Prelude.{nat_le, option_map}
 use Rattle.std.proofs.lemmas.Bool.Decides.{nat_tests}
 use Rattle.serde_json.specs.Data.{Items, item}
 use Rattle.serde_json.specs.View.{view, items_view}
 use Rattle.serde_json.specs.declared.value.Value.{Value as Json}
 use Rattle.dura_value.specs.declared.data.Scalar.{Scalar}
-use Rattle.request_reader.specs.Reading.{◌>>=◌}
+use Rattle.request_reader.specs.Reading.{Gives, ◌>>=◌}
+use Rattle.request_reader.specs.declared.error.ReadError.{ReadError}
+use Rattle.request_reader.specs.declared.error.ReadError.TheVariants.{Refused, Memory}
 use Rattle.dura_value.specs.Values.{scalar_size, scalars_size}
 use Rattle.request_reader.specs.Values.{scalar_in, scalars_in}
 use Rattle.dura_value.specs.Limits.{most_scalars_bytes}
@@ -23,13 +26,42 @@ with_first done s (Some ss) = rw append_assoc refl
 items_from : (vs : List Json) (i : ℕ) (v : Json) → i < length vs → v ≡ get_or vs i v → items_view (drop i vs) ≡ item (view v) (items_view (drop (i + 1) vs))
 items_from vs i v lt at = rw (add-one, drop-cons vs i v lt, ← at) refl
 
+part_read : (whole : Option (List Scalar)) (done : List Scalar) (vs : List Json) (i : ℕ) (v : Json) (s : Scalar) → i < length vs → v ≡ get_or vs i v → with_rest done (items_view (drop i vs)) ≡ whole → scalar_in (view v) ≡ Some s → with_rest (done ++ s ∷ []) (items_view (drop (i + 1) vs)) ≡ whole
+part_read whole done vs i v s lt at before is = sym (with_first done s (scalars_in (items_view (drop (i + 1) vs)))) ∙ sym (rw (items_from vs i v lt at, is) refl) ∙ before
+
+added : (done after : List Scalar) (o : Option Scalar) → option_map (λ s. done ++ s ∷ []) o ≡ Some after → (s : Scalar) × (o ≡ Some s) × (after ≡ done ++ s ∷ [])
+added done after (Some s) is = (s, refl, cc)
+added done after None is = absurd (cc is)
+
 -- a part was read
-pub goes_on : (whole : Option (List Scalar)) (done : List Scalar) (vs : List Json) (i : ℕ) (v : Json) (s : Scalar) → i < length vs → v ≡ get_or vs i v → with_rest done (items_view (drop i vs)) ≡ whole → scalar_in (view v) ≡ Some s → with_rest (done ++ s ∷ []) (items_view (drop (i + 1) vs)) ≡ whole
-goes_on whole done vs i v s lt at before is = sym (with_first done s (scalars_in (items_view (drop (i + 1) vs)))) ∙ sym (rw (items_from vs i v lt at, is) refl) ∙ before
+pub goes_on : (whole : Option (List Scalar)) (done after : List Scalar) (vs : List Json) (i : ℕ) (v : Json) → i < length vs → v ≡ get_or vs i v → with_rest done (items_view (drop i vs)) ≡ whole → option_map (λ s. done ++ s ∷ []) (scalar_in (view v)) ≡ Some after → with_rest after (items_view (drop (i + 1) vs)) ≡ whole
+goes_on whole done after vs i v lt at before is =
+    let one = added done after (scalar_in (view v)) is in
+    rw one.2 (part_read whole done vs i v one.0 lt at before one.1)
+
+-- nothing was read yet
+pub begins : (vs : List Json) → with_rest [] (items_view (drop 0 vs)) ≡ scalars_in (items_view vs)
+begins vs = same (scalars_in (items_view vs)) where
+  same : (read : Option (List Scalar)) → (read >>= λ ss. Some ([] ++ ss)) ≡ read
+  same (Some ss) = refl
+  same None = refl
+
+-- all parts were read
+pub all : (vs : List Json) (done : List Scalar) (i : ℕ) → length vs ≤ i → with_rest done (items_view (drop i vs)) ≡ scalars_in (items_view vs) → scalars_in (items_view vs) ≡ Some done
+all vs done i past is = sym is ∙ rw (drop_all i vs past) (ap Some (append-nil done))
+
+nothing_added : (done : List Scalar) (o : Option Scalar) → option_map (λ s. done ++ s ∷ []) o ≡ None → o ≡ None
+nothing_added done (Some s) is = absurd (cc is)
+nothing_added done None is = refl
 
 -- a part is no scalar
-pub ends : (whole : Option (List Scalar)) (done : List Scalar) (vs : List Json) (i : ℕ) (v : Json) → i < length vs → v ≡ get_or vs i v → with_rest done (items_view (drop i vs)) ≡ whole → scalar_in (view v) ≡ None → whole ≡ None
-ends whole done vs i v lt at before is = sym before ∙ rw (items_from vs i v lt at, is) refl
+pub ends : (whole : Option (List Scalar)) (done : List Scalar) (vs : List Json) (i : ℕ) (v : Json) → i < length vs → v ≡ get_or vs i v → with_rest done (items_view (drop i vs)) ≡ whole → option_map (λ s. done ++ s ∷ []) (scalar_in (view v)) ≡ None → whole ≡ None
+ends whole done vs i v lt at before none = let is = nothing_added done (scalar_in (view v)) none in sym before ∙ rw (items_from vs i v lt at, is) refl
+
+-- the reading ends there
+pub ends_by : (whole : Option (List Scalar)) (done : List Scalar) (vs : List Json) (i : ℕ) (v : Json) (error : ReadError) → i < length vs → v ≡ get_or vs i v → with_rest done (items_view (drop i vs)) ≡ whole → Gives {X = List Scalar} (λ ss. ss) (Err error) (option_map (λ s. done ++ s ∷ []) (scalar_in (view v))) → Gives {X = List Scalar} (λ ss. ss) (Err error) whole
+ends_by whole done vs i v Refused lt at before none = ends whole done vs i v lt at before none
+ends_by whole done vs i v Memory lt at before none = tt
 
 sizes_from : (ss : List Scalar) (i : ℕ) (s : Scalar) → i < length ss → s ≡ get_or ss i s → scalars_size (drop i ss) ≡ scalar_size s + scalars_size (drop (i + 1) ss)
 sizes_from ss i s lt at = rw (add-one, drop-cons ss i s lt, ← at) refl

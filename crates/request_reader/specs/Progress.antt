@@ -2,6 +2,7 @@
 use Rattle.std.specs.Prelude.{◌≡◌, ℕ, List, map, unwrap_or}
 use Rattle.std.specs.BTreeMap.{get}
 use Rattle.std.specs.Cmp.Lexicographic.{slice_cmp}
+use Rattle.std.specs.declared.cmp.Ordering.{Ordering}
 use Rattle.std.specs.Ordering.{nat_cmp, ordering_then}
 use Rattle.std.specs.List.{position_from}
 use Rattle.request_reader.specs.Line.{Request, request_of}
@@ -11,6 +12,10 @@ use Rattle.request_reader.specs.declared.progress.Progress.{Progress}
 -- the requests so far
 abbrev pub seen : Progress → List Request
 seen p = map request_of p.requests.items
+
+-- pairs of a client and a number, by the client first
+abbrev pub pair_cmp : List ℕ × ℕ → List ℕ × ℕ → Ordering
+pair_cmp a b = ordering_then (slice_cmp nat_cmp a.0 b.0) (nat_cmp a.1 b.1)
 
 -- The place of each request is kept by its client and number, and the latest number of each client.
 pub record Stands (p : Progress) : Type 0 where

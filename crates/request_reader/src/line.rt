@@ -1,8 +1,9 @@
 //! The request of a line.
 
-ghost use Rattle.std.specs.Prelude.{◌≡◌};
+ghost use Rattle.std.specs.Prelude.{◌≡◌, Some, IfOk};
 ghost use Rattle.serde_json.specs.View.{view};
-ghost use Rattle.dura_value.specs.Views.{id_of, body_of};
+ghost use Rattle.dura_value.specs.Ids.{client as client_id};
+ghost use Rattle.dura_value.specs.Views.{id_of, body_of, message_of};
 ghost use Rattle.request_reader.specs.Json.{id_at};
 ghost use Rattle.request_reader.specs.Reading.{Gives, where_it, ◌>>=◌ as bind};
 ghost use Rattle.request_reader.specs.Line.{is_instance, has_state, number_in, start_in, wait_in, raise_in, query_in, sent_in, request_in, request_on, request_of};
@@ -10,10 +11,9 @@ ghost use Rattle.request_reader.specs.Line.{is_instance, has_state, number_in, s
 use crate::error::ReadError;
 use crate::json;
 use crate::values::value_at;
-use dura_value::{Body, Id, Message, Name, Reply, Request};
+use dura_value::{Body, Id, Message, Name, Reply, Request, with};
 use serde_json::Value;
-use std::alloc::Global;
-use with_value::with;
+use std::alloc::{AllocError, Global};
 
 fn is_instance(id: &Id) -> bool
     ensures { result ≡ is_instance (id_of id.now) }
@@ -92,8 +92,8 @@ fn raise_in(alloc: Global, number: u32, value: &Value) -> Result<(Id, Body), Rea
     }
     let to = instance_at(alloc, value, "raise")?;
     let (event, to) = with(json::name_at(alloc, value, "event"), to)?;
-    match with(value_at(alloc, value, "value"), to) {
-        Ok((value, to)) => Ok((to, Body::Raise(event, value, number))),
+    match with(with(value_at(alloc, value, "value"), to), event) {
+        Ok(((value, to), event)) => Ok((to, Body::Raise(event, value, number))),
         Err(error) => Err(error),
     }
 }
@@ -126,21 +126,42 @@ fn sent_in(alloc: Global, number: u32, value: &Value) -> Result<(Id, Body), Read
     }
 }
 
+/// What a client's request sends.
+fn message_by(client: &Name, sent: (Id, Body)) -> Result<Message, AllocError>
+    ensures { IfOk result (λ m. message_of m ≡ record { from = client_id client.now; to = id_of sent.0; body = body_of sent.1 }) }
+{
+    let (client, (to, body)) = with(client.clone(), sent)?;
+    let from = Id::Client(client);
+    Ok(Message { from, to, body })
+}
+
+/// The request of this client with this number.
+fn request_by(alloc: Global, client: Name, number: u32, value: &Value) -> Result<Request, ReadError>
+    ensures { Gives request_of result (bind (sent_in number (view value.now)) (λ sent.
+        Some (record { client = client; number = number; message = record { from = client_id client; to = sent.0; body = sent.1 } }))) }
+{
+    let (sent, client) = with(sent_in(alloc, number, value), client)?;
+    match with(message_by(&client, sent), client) {
+        Ok((message, client)) => Ok(Request {
+            client,
+            number,
+            message,
+        }),
+        Err(_) => Err(ReadError::Memory),
+    }
+}
+
 fn request_in(alloc: Global, value: &Value) -> Result<Request, ReadError>
     ensures { Gives request_of result (request_in (view value.now)) }
 {
     let client = json::name_at(alloc, value, "client")?;
-    let Some(number) = number_in(value) else {
-        return Err(ReadError::Refused);
-    };
-    let (to, body) = sent_in(alloc, number, value)?;
-    let ((copy, to), body) = with(with(client.clone(), to), body)?;
-    let from = Id::Client(copy);
-    Ok(Request {
-        client,
-        number,
-        message: Message { from, to, body },
-    })
+    match number_in(value) {
+        Some(number) => request_by(alloc, client, number, value),
+        None => {
+            drop(client);
+            Err(ReadError::Refused)
+        }
+    }
 }
 
 /// The request of a line.

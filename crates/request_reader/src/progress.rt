@@ -1,15 +1,17 @@
 //! What was read so far.
 
-ghost use Rattle.std.specs.Prelude.{◌≡◌, [], ◌∷◌, ◌++◌, None, IfOk, OnOk, option_map};
+ghost use Rattle.std.specs.Prelude.{◌≡◌, ℕ, List, [], ◌∷◌, ◌++◌, None, Some, cond, IfOk, OnOk, option_map};
+ghost use Rattle.std.specs.BTreeMap.{get};
+ghost use Rattle.std.specs.Cmp.Lexicographic.{slice_cmp};
 ghost use Rattle.std.specs.List.{find};
+ghost use Rattle.std.specs.Ordering.{nat_cmp, is_eq};
 ghost use Rattle.request_reader.specs.Line.{request_of};
-ghost use Rattle.request_reader.specs.Progress.{seen, Stands};
+ghost use Rattle.request_reader.specs.Progress.{pair_cmp, seen, Stands};
 ghost use Rattle.request_reader.specs.Requests.{is_by, latest};
 
-use dura_value::{Name, Request};
+use dura_value::{Name, Request, with};
 use std::alloc::{AllocError, Global};
 use std::collections::BTreeMap;
-use with_value::with;
 
 /// What was read so far, and what finds a request of it by its client and number.
 #[derive(Drop)]
@@ -27,6 +29,30 @@ pub(crate) fn copy_of(name: &Name) -> Result<Name, AllocError>
     ensures { IfOk result (λ n. n ≡ name.now) }
 {
     name.clone()
+}
+
+/// The request is its client's latest.
+fn note_latest(latest: &mut BTreeMap<Name, u32>, request: &Request) -> Result<(), AllocError>
+    ensures { OnOk result ((name : List ℕ) → get (slice_cmp nat_cmp) latest.new name
+        ≡ cond (is_eq (slice_cmp nat_cmp request.now.client name)) (Some request.now.number) (get (slice_cmp nat_cmp) latest.old name)) }
+{
+    let client = copy_of(&request.client)?;
+    latest.insert(client, request.number)?;
+    Ok(())
+}
+
+/// The request stands at the place.
+fn note_place(
+    places: &mut BTreeMap<(Name, u32), usize>,
+    request: &Request,
+    place: usize,
+) -> Result<(), AllocError>
+    ensures { OnOk result ((name : List ℕ) (n : ℕ) → get pair_cmp places.new (name, n)
+        ≡ cond (is_eq (pair_cmp (request.now.client, request.now.number) (name, n))) (Some place) (get pair_cmp places.old (name, n))) }
+{
+    let client = copy_of(&request.client)?;
+    places.insert((client, request.number), place)?;
+    Ok(())
 }
 
 impl Progress {
@@ -72,11 +98,8 @@ impl Progress {
         ensures stands { OnOk result (Stands self.new) }
     {
         let place = self.requests.as_slice().len();
-        let (client, request) = with(copy_of(&request.client), request)?;
-        let (_, request) = with(self.latest.insert(client, request.number), request)?;
-        let (client, request) = with(copy_of(&request.client), request)?;
-        let key = (client, request.number);
-        let (_, request) = with(self.places.insert(key, place), request)?;
+        let (_, request) = with(note_latest(&mut self.latest, &request), request)?;
+        let (_, request) = with(note_place(&mut self.places, &request, place), request)?;
         self.requests.push(request)?;
         Ok(())
     }

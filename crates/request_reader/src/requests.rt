@@ -1,6 +1,6 @@
 //! The requests of a file.
 
-ghost use Rattle.std.specs.Prelude.{◌≡◌, ◌^◌, ◌<◌, [], ◌∷◌, length, map, None, IfOk, MatchOption, option_map};
+ghost use Rattle.std.specs.Prelude.{◌≡◌, ◌^◌, ◌<◌, [], ◌∷◌, length, map, None, IfOk, OnOk, MatchOption, option_map};
 ghost use Rattle.std.specs.List.{find, position};
 ghost use Rattle.dura_value.specs.Views.{id_of, body_of, message_of};
 ghost use Rattle.dura_value.specs.Ids.{id_eq};
@@ -11,9 +11,8 @@ ghost use Rattle.request_reader.specs.Requests.{Answers, asks_same, body_eq, req
 use crate::error::{ReadError, RequestsError};
 use crate::line::request_on;
 use crate::progress::{Progress, copy_of};
-use dura_value::{Body, Id, Message, Name, Request};
-use std::alloc::Global;
-use with_value::with;
+use dura_value::{Body, Id, Message, Request};
+use std::alloc::{AllocError, Global};
 
 #[tactic(auto, using(crate::proofs::Ids::derived_id_eq))]
 fn is_same_id(a: &Id, b: &Id) -> bool
@@ -63,58 +62,61 @@ fn is_same(a: &Request, b: &Request) -> bool
 }
 
 /// The request of the line with this number, which no earlier line has, comes behind those of the lines before.
-fn with_new(line: u64, mut progress: Progress, request: Request) -> Result<Progress, RequestsError>
-    requires stands { Stands progress }
-    requires unused { find (is_by request.client request.number) (seen progress) ≡ None }
-    ensures read { Answers seen result (with_new line (seen progress) (request_of request)) }
-    ensures stands { IfOk result Stands }
+fn with_new(line: u64, progress: &mut Progress, request: Request) -> Result<(), RequestsError>
+    requires stands { Stands progress.old }
+    requires unused { find (is_by request.client request.number) (seen progress.old) ≡ None }
+    ensures read { Answers (λ _. seen progress.new) result (with_new line (seen progress.old) (request_of request)) }
+    ensures stands { OnOk result (Stands progress.new) }
 {
     if progress.latest_of(&request.client) < request.number {
-        let (_, progress) = with(progress.push(request), progress)?;
-        Ok(progress)
+        match progress.push(request) {
+            Ok(()) => Ok(()),
+            Err(_) => Err(RequestsError::Memory),
+        }
     } else {
         drop(request);
-        drop(progress);
         Err(RequestsError::BadLine { line })
     }
 }
 
 /// Whether the request was made by an earlier line, or is another one than that with its number.
-fn is_made(progress: &Progress, pair: &(Name, u32), request: &Request) -> Option<bool>
+fn is_made(progress: &Progress, request: &Request) -> Result<Option<bool>, AllocError>
     requires stands { Stands progress.now }
-    ensures { result ≡ option_map (λ r. request_eq r (request_of request.now)) (find (is_by pair.now.0 pair.now.1) (seen progress.now)) }
+    ensures { IfOk result (λ made. made ≡ option_map (λ r. request_eq r (request_of request.now)) (find (is_by request.now.client request.now.number) (seen progress.now))) }
 {
-    match progress.earlier(pair) {
+    let client = copy_of(&request.client)?;
+    let pair = (client, request.number);
+    let made = match progress.earlier(&pair) {
         Some(earlier) => Some(is_same(earlier, request)),
         None => None,
-    }
+    };
+    Ok(made)
 }
 
 /// The request of the line with this number comes behind those of the lines before.
 #[tactic(auto, using(crate::proofs::Used::used_same, crate::proofs::Used::used_other, crate::proofs::Used::unused, crate::proofs::Used::unused_new))]
-fn with_request(line: u64, progress: Progress, request: Request) -> Result<Progress, RequestsError>
-    requires { Stands progress }
-    ensures read { Answers seen result (with_request line (seen progress) (request_of request)) }
-    ensures stands { IfOk result Stands }
+fn with_request(line: u64, progress: &mut Progress, request: Request) -> Result<(), RequestsError>
+    requires { Stands progress.old }
+    ensures read { Answers (λ _. seen progress.new) result (with_request line (seen progress.old) (request_of request)) }
+    ensures stands { OnOk result (Stands progress.new) }
 {
-    let ((client, progress), request) = with(with(copy_of(&request.client), progress), request)?;
-    let pair = (client, request.number);
-    let made = is_made(&progress, &pair, &request);
-    drop(pair.0);
-    match made {
-        Some(true) => {
+    match is_made(progress, &request) {
+        Ok(None) => with_new(line, progress, request),
+        Ok(Some(true)) => {
             drop(request);
-            Ok(progress)
+            Ok(())
         }
-        Some(false) => {
-            drop(progress);
+        Ok(Some(false)) => {
             drop(request.message);
             Err(RequestsError::Clash {
                 client: request.client,
                 number: request.number,
             })
         }
-        None => with_new(line, progress, request),
+        Err(_) => {
+            drop(request);
+            Err(RequestsError::Memory)
+        }
     }
 }
 
@@ -128,15 +130,15 @@ fn is_blank(line: &[u8]) -> bool
 fn after_line(
     alloc: Global,
     number: u64,
-    progress: Progress,
+    progress: &mut Progress,
     line: &[u8],
-) -> Result<Progress, RequestsError>
-    requires { Stands progress }
-    ensures read { Answers seen result (after_line number (seen progress) line.now) }
-    ensures stands { IfOk result Stands }
+) -> Result<(), RequestsError>
+    requires { Stands progress.old }
+    ensures read { Answers (λ _. seen progress.new) result (after_line number (seen progress.old) line.now) }
+    ensures stands { OnOk result (Stands progress.new) }
 {
     if is_blank(line) {
-        return Ok(progress);
+        return Ok(());
     }
     match request_on(alloc, line) {
         Ok(request) => with_request(number, progress, request),
@@ -172,10 +174,10 @@ fn after_lines(alloc: Global, bytes: &[u8]) -> Result<Progress, RequestsError>
     let mut rest = bytes;
     loop {
         let (line, more) = first_line(rest);
-        progress = match after_line(alloc, number, progress, line) {
-            Ok(progress) => progress,
+        match after_line(alloc, number, &mut progress, line) {
+            Ok(()) => (),
             Err(error) => return Err(error),
-        };
+        }
         match more {
             Some(more) => rest = more,
             None => return Ok(progress),

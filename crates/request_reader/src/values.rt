@@ -1,6 +1,6 @@
 //! The values that JSON stands for.
 
-ghost use Rattle.std.specs.Prelude.{◌≡◌, ◌≤◌, length, nat_le, option_map};
+ghost use Rattle.std.specs.Prelude.{◌≡◌, ◌≤◌, ◌++◌, [], ◌∷◌, length, nat_le, option_map};
 ghost use Rattle.std.specs.Str.{IsUtf8};
 ghost use Rattle.serde_json.specs.View.{view, items_view};
 ghost use Rattle.request_reader.specs.Reading.{Gives, where_it};
@@ -50,14 +50,24 @@ fn scalar_in(alloc: Global, value: &Json) -> Result<Scalar, ReadError>
     }
 }
 
+/// The scalar that a part stands for comes behind the others.
+fn push_scalar(alloc: Global, scalars: &mut Vec<Scalar>, part: &Json) -> Result<(), ReadError>
+    ensures { Gives (λ _. scalars.new.items) result (option_map (λ s. scalars.old.items ++ s ∷ []) (scalar_in (view part.now))) }
+{
+    match scalar_in(alloc, part) {
+        Ok(scalar) => Ok(scalars.push(scalar)?),
+        Err(error) => Err(error),
+    }
+}
+
 #[tactic(auto, using(crate::proofs::Scalars::goes_on, crate::proofs::Scalars::ends))]
 fn scalars_in(alloc: Global, parts: &[Json]) -> Result<Vec<Scalar>, ReadError>
     ensures { Gives (λ scalars. scalars.items) result (scalars_in (items_view parts.now)) }
 {
     let mut scalars = Vec::new(alloc);
     for part in parts {
-        match scalar_in(alloc, part) {
-            Ok(scalar) => scalars.push(scalar)?,
+        match push_scalar(alloc, &mut scalars, part) {
+            Ok(()) => (),
             Err(error) => return Err(error),
         }
     }

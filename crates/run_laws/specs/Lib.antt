@@ -1,3 +1,5 @@
 pub mod Begins
+pub mod ByHand
+pub mod Causes
 pub mod Examples
 pub mod Leaves

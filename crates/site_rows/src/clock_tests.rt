@@ -1,10 +1,10 @@
 // What no clause says: that the clocks give moments at all, that of the machine in milliseconds, and that a wait gives up.
+use site_host::WallClock;
 use site_memory::TickClock;
 use site_model::{Clock, LAST_MOMENT};
 use std::process::Abort;
 use std::time::Duration;
 use std::{io, rt};
-use wall_clock::WallClock;
 
 // A clock that stands still.
 #[derive(Drop)]

@@ -1,7 +1,7 @@
 use Rattle.std.proofs.Common.{◌≤◌, codes, arith}
 use Rattle.dura_value.specs.Ids.{orchestration}
 use Rattle.clause_examples.proofs.calls.runs_in_order.Goals as goal
-use Rattle.section_laws.proofs.Ordered.{never_overlaps}
+use Rattle.run_laws.proofs.Ordered.{never_overlaps}
 
 pub returns-clause-empty : goal.returns-clause-empty
 returns-clause-empty c = λ flows. record {

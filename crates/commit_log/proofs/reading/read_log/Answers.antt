@@ -1,9 +1,31 @@
-use Rattle.std.proofs.Common.{◌∙◌, ap, sym, refl, subst, inl, arith, List, ℕ, Err}
+use Rattle.std.proofs.Common.{◌∙◌, ap, sym, refl, subst, inl, arith, List, ℕ, Result, Ok, Err, ◌≡◌}
 use Rattle.site_model.specs.Calls.{HasRisen}
 use Rattle.commit_log.specs.Segment.{reading_of}
 use Rattle.commit_log.specs.States.{IsSegment}
+use Rattle.commit_log.specs.declared.opening.Opened.{Opened}
+use Rattle.commit_log.specs.declared.opening.OpenError.{OpenError}
+use Rattle.commit_log.specs.declared.opening.OpenError.TheVariants.{Fresh, Damaged, SiteFault, Memory}
 use Rattle.commit_log.proofs.Opens.{opening_during, whole_read, opened_rests}
 use Rattle.commit_log.proofs.reading.read_log.Goals as goal
+
+-- answers that differ
+fault_fresh : (result : Result Opened OpenError) → result ≡ Err SiteFault → result ≡ Err Fresh → ⊥
+fault_fresh result fault fresh = cc
+
+fault_damaged : (result : Result Opened OpenError) (other offset : ℕ) → result ≡ Err SiteFault → result ≡ Err (Damaged other offset) → ⊥
+fault_damaged result other offset fault damaged = cc
+
+memory_fresh : (result : Result Opened OpenError) → result ≡ Err Memory → result ≡ Err Fresh → ⊥
+memory_fresh result memory fresh = cc
+
+memory_damaged : (result : Result Opened OpenError) (other offset : ℕ) → result ≡ Err Memory → result ≡ Err (Damaged other offset) → ⊥
+memory_damaged result other offset memory damaged = cc
+
+memory_fault : (result : Result Opened OpenError) → result ≡ Err Memory → result ≡ Err SiteFault → ⊥
+memory_fault result memory fault = cc
+
+ok_apart : (value : Opened) (error : OpenError) → Ok value ≡ Err error → ⊥
+ok_apart value error is = cc
 
 pub returns-in-Err-clause-during : goal.returns-in-Err-clause-during
 returns-in-Err-clause-during g c tells = opening_during _ _ _ _ _ c.synced_length.ensures.either refl (g.met.V.Site.inside _ _ (c.synced_length.ensures.told tells))
@@ -74,3 +96,96 @@ returns-clause-ends g c = c.in_ok-parsed.ensures.segment.ends
 
 pub returns-clause-later : goal.returns-clause-later
 returns-clause-later g c = omega (arith, c.in-Ok.ensures.cause.same, c.read_front.ensures.later)
+
+pub returns-in-Err-clause-told : goal.returns-in-Err-clause-told
+returns-in-Err-clause-told g c tells = c.synced_length.ensures.told tells
+
+pub returns-in-Err-clause-synced : goal.returns-in-Err-clause-synced
+returns-in-Err-clause-synced g c = tt
+
+pub returns-in-Err-clause-synced_fresh : goal.returns-in-Err-clause-synced_fresh
+returns-in-Err-clause-synced_fresh g c is = absurd (fault_fresh _ refl is)
+
+pub returns-in-Err-clause-synced_damaged : goal.returns-in-Err-clause-synced_damaged
+returns-in-Err-clause-synced_damaged g c other offset is = absurd (fault_damaged _ other offset refl is)
+
+pub returns-in-Err-clause-place : goal.returns-in-Err-clause-place
+returns-in-Err-clause-place g c = tt
+
+pub returns-in-Err-clause-ends : goal.returns-in-Err-clause-ends
+returns-in-Err-clause-ends g c = tt
+
+pub returns-in-Err-clause-say_faults : goal.returns-in-Err-clause-say_faults
+returns-in-Err-clause-say_faults g c = c.synced_length.ensures.say_faults
+
+pub returns-in-Err-Failed-clause-told : goal.returns-in-Err-Failed-clause-told
+returns-in-Err-Failed-clause-told g c tells = c.synced_length.ensures.told (c.read_front.ensures.told tells)
+
+pub returns-in-Err-Failed-clause-synced : goal.returns-in-Err-Failed-clause-synced
+returns-in-Err-Failed-clause-synced g c = tt
+
+pub returns-in-Err-Failed-clause-synced_fresh : goal.returns-in-Err-Failed-clause-synced_fresh
+returns-in-Err-Failed-clause-synced_fresh g c is = absurd (fault_fresh _ refl is)
+
+pub returns-in-Err-Failed-clause-synced_damaged : goal.returns-in-Err-Failed-clause-synced_damaged
+returns-in-Err-Failed-clause-synced_damaged g c other offset is = absurd (fault_damaged _ other offset refl is)
+
+pub returns-in-Err-Failed-clause-place : goal.returns-in-Err-Failed-clause-place
+returns-in-Err-Failed-clause-place g c = tt
+
+pub returns-in-Err-Failed-clause-ends : goal.returns-in-Err-Failed-clause-ends
+returns-in-Err-Failed-clause-ends g c = tt
+
+pub returns-in-Err-Failed-clause-say_faults : goal.returns-in-Err-Failed-clause-say_faults
+returns-in-Err-Failed-clause-say_faults g c = c.read_front.ensures.say_faults ∙ c.synced_length.ensures.say_faults
+
+pub returns-in-Err-Memory-clause-told : goal.returns-in-Err-Memory-clause-told
+returns-in-Err-Memory-clause-told g c tells = c.synced_length.ensures.told (c.read_front.ensures.told tells)
+
+pub returns-in-Err-Memory-clause-synced : goal.returns-in-Err-Memory-clause-synced
+returns-in-Err-Memory-clause-synced g c = tt
+
+pub returns-in-Err-Memory-clause-synced_fresh : goal.returns-in-Err-Memory-clause-synced_fresh
+returns-in-Err-Memory-clause-synced_fresh g c is = absurd (memory_fresh _ refl is)
+
+pub returns-in-Err-Memory-clause-synced_damaged : goal.returns-in-Err-Memory-clause-synced_damaged
+returns-in-Err-Memory-clause-synced_damaged g c other offset is = absurd (memory_damaged _ other offset refl is)
+
+pub returns-in-Err-Memory-clause-place : goal.returns-in-Err-Memory-clause-place
+returns-in-Err-Memory-clause-place g c = tt
+
+pub returns-in-Err-Memory-clause-ends : goal.returns-in-Err-Memory-clause-ends
+returns-in-Err-Memory-clause-ends g c = tt
+
+pub returns-in-Err-Memory-clause-fault : goal.returns-in-Err-Memory-clause-fault
+returns-in-Err-Memory-clause-fault g c is = absurd (memory_fault _ refl is)
+
+pub returns-in-Err-Memory-clause-say_faults : goal.returns-in-Err-Memory-clause-say_faults
+returns-in-Err-Memory-clause-say_faults g c = c.read_front.ensures.say_faults ∙ c.synced_length.ensures.say_faults
+
+pub returns-in_err-parsed-clause-told : goal.returns-in_err-parsed-clause-told
+returns-in_err-parsed-clause-told g c tells = c.synced_length.ensures.told (c.read_front.ensures.told tells)
+
+pub returns-in_err-parsed-clause-say_faults : goal.returns-in_err-parsed-clause-say_faults
+returns-in_err-parsed-clause-say_faults g c = c.read_front.ensures.say_faults ∙ c.synced_length.ensures.say_faults
+
+pub returns-clause-told : goal.returns-clause-told
+returns-clause-told g c tells = c.synced_length.ensures.told (c.read_front.ensures.told tells)
+
+pub returns-clause-say_faults : goal.returns-clause-say_faults
+returns-clause-say_faults g c = c.read_front.ensures.say_faults ∙ c.synced_length.ensures.say_faults
+
+pub returns-clause-synced : goal.returns-clause-synced
+returns-clause-synced g c = c.read_front.ensures.unchanged ∙ c.in-Ok.ensures.either.ok
+
+pub returns-clause-synced_fresh : goal.returns-clause-synced_fresh
+returns-clause-synced_fresh g c is = absurd (ok_apart _ _ is)
+
+pub returns-clause-synced_damaged : goal.returns-clause-synced_damaged
+returns-clause-synced_damaged g c other offset is = absurd (ok_apart _ _ is)
+
+pub returns-clause-place : goal.returns-clause-place
+returns-clause-place g c = refl
+
+pub returns-clause-fault : goal.returns-clause-fault
+returns-clause-fault g c is = absurd (ok_apart _ _ is)

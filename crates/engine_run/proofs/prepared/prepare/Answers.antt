@@ -53,8 +53,8 @@ returns-in_err-state-clause-opens g c tells job asks entries state keeps given =
     let syncs = subst (λ (s : List Step). OnlySyncs s now) c.read_input.ensures.unchanged c.recover_logs.ensures.syncs in
     opening_synced job entries old (λ f. g.met.V.Site.inside c.args.site.now f (c.read_input.ensures.told (c.recover_logs.ensures.told tells))) now syncs
 
-pub returns-in_err-refuse_clash-clause-answers : goal.returns-in_err-refuse_clash-clause-answers
-returns-in_err-refuse_clash-clause-answers g c tells =
+pub returns-in-Err-clause-answers : goal.returns-in-Err-clause-answers
+returns-in-Err-clause-answers g c tells =
     let old = g.V.Site.history c.args.site.now in
     let file = c.in_ok-file.field-0.file in
     let requests = c.in_ok-file.field-0.requests.items in
@@ -63,19 +63,18 @@ returns-in_err-refuse_clash-clause-answers g c tells =
     let asks = c.in_ok-file.ensures.reads (c.recover_logs.ensures.told tells) in
     let recovered = subst (λ (s : List Step). RecoversAs (flows_of file.flows) file.digest (λ f. content_of f s) (Ok found)) c.read_input.ensures.unchanged (c.in_ok-state.ensures.recovers tells) in
     let keeps : Keeps job (λ f. content_of f old) recovered.entries (state_of found.state) = record { kept = recovered.kept; made = recovered.placed } in
-    let p = err_from_is_err_and c.from_residual-in_err-refuse_clash.result c.from_residual-in_err-refuse_clash.ensures.1 in
-    let clash = subst (λ (rs : List OwnRequest). Refuses (state_of found.state) (map request_of rs) c.in_err-refuse_clash.field-0.0) c.deref.ensures.value c.in_err-refuse_clash.ensures.err in
-    rw (p.1, p.2) (clash_refused (λ f. content_of f old) job recovered.entries (state_of found.state) c.in_err-refuse_clash.field-0.0 asks keeps clash)
+    let clash = subst (λ (rs : List OwnRequest). Refuses (state_of found.state) (map request_of rs) c.in-Err.cause) c.deref.ensures.value c.in-Err.ensures.err in
+    clash_refused (λ f. content_of f old) job recovered.entries (state_of found.state) c.in-Err.cause asks keeps clash
 
-pub returns-in_err-refuse_clash-clause-opens : goal.returns-in_err-refuse_clash-clause-opens
-returns-in_err-refuse_clash-clause-opens g c tells job asks entries state keeps given =
+pub returns-in-Err-clause-opens : goal.returns-in-Err-clause-opens
+returns-in-Err-clause-opens g c tells job asks entries state keeps given =
     let old = g.V.Site.history c.args.site.now in
     let now = g.V.Site.history c.recover_logs.new.site in
     let syncs = subst (λ (s : List Step). OnlySyncs s now) c.read_input.ensures.unchanged c.recover_logs.ensures.syncs in
     opening_synced job entries old (λ f. g.met.V.Site.inside c.args.site.now f (c.read_input.ensures.told (c.recover_logs.ensures.told tells))) now syncs
 
-pub returns-in_err-log-clause-opens : goal.returns-in_err-log-clause-opens
-returns-in_err-log-clause-opens g c tells job asks =
+pub returns-in-Err-open_log-clause-opens : goal.returns-in-Err-open_log-clause-opens
+returns-in-Err-open_log-clause-opens g c tells job asks =
     let old = g.V.Site.history c.args.site.now in
     let now = g.V.Site.history c.open_log.new.site in
     let file = c.in_ok-file.field-0.file in
@@ -85,9 +84,9 @@ returns-in_err-log-clause-opens g c tells job asks =
     let asked = c.in_ok-file.ensures.reads (c.recover_logs.ensures.told tells_then) in
     let recovered = subst (λ (s : List Step). RecoversAs (flows_of file.flows) file.digest (λ f. content_of f s) (Ok found)) c.read_input.ensures.unchanged (c.in_ok-state.ensures.recovers tells_then) in
     let synced = c.in_ok-state.ensures.synced ∙ ap both_synced c.read_input.ensures.unchanged in
-    let none = c.in_err-log.ensures.stops.0 in
+    let none = c.in-Err-open_log.ensures.stops.0 in
     let kept = subst (λ (s : List Step). IsKept (changes_of 16 s)) (sym synced) (first_kept old) in
-    let leaves = subst (λ (s : List Step). LeavesOnly 16 s now (IsFormatting (content_of 16 s) (header_with file.digest))) synced (c.in_err-log.ensures.during none tells kept) in
+    let leaves = subst (λ (s : List Step). LeavesOnly 16 s now (IsFormatting (content_of 16 s) (header_with file.digest))) synced (c.in-Err-open_log.ensures.during none tells kept) in
     let opens : OpensOnly own old now = λ entries state keeps given.
     let same = same_entries own (λ f. content_of f old) recovered.entries entries (state_of found.state) state (record { kept = recovered.kept; made = recovered.placed }) keeps in
     opens_from file.digest old own refl now entries None (subst (λ l. IsLogOf l None (logs_in (alone_with file.digest) (λ f. content_of f old))) same (subst (λ l. IsLogOf recovered.entries l (logs_in (alone_with file.digest) (λ f. content_of f old))) none recovered.log))
@@ -100,7 +99,7 @@ returns-clause-prepared g c tells =
     let now = g.V.Site.history c.open_log.new.site in
     let file = c.in_ok-file.field-0.file in
     let found = c.in_ok-state.field-0 in
-    let log = c.in_ok-log.log in
+    let log = c.in-Ok.log in
     let tells_then = c.open_log.ensures.told tells in
     let recovered = subst (λ (s : List Step). RecoversAs (flows_of file.flows) file.digest (λ f. content_of f s) (Ok found)) c.read_input.ensures.unchanged (c.in_ok-state.ensures.recovers tells_then) in
     let logs : List Step → Logs = λ s. logs_in (alone_with file.digest) (λ f. content_of f s) in
@@ -113,10 +112,10 @@ returns-clause-prepared g c tells =
       keeps = record { kept = recovered.kept; made = recovered.placed };
       life_is = recovered.life;
       opened = opened_from file.digest old now recovered.entries found.log log recovered.kept recovered.log rests
-          (some_with found.log (λ l. (Ok log ≡ Ok l) × (now ≡ g.V.Site.history c.recover_logs.new.site)) (λ l. (log ≡ l) × (now ≡ both_synced old)) (λ l is. (cc is.0, is.1 ∙ synced)) c.in_ok-log.ensures.there)
-          (λ is. c.in_ok-log.ensures.place is)
-          (λ is. c.in_ok-log.ensures.rests is tells kept)
-          (λ is. subst (λ (s : List Step). LeavesOnly 16 s now (IsFormatting (content_of 16 s) (header_with file.digest))) synced (c.in_ok-log.ensures.during is tells kept));
+          (some_with found.log (λ l. (Ok log ≡ Ok l) × (now ≡ g.V.Site.history c.recover_logs.new.site)) (λ l. (log ≡ l) × (now ≡ both_synced old)) (λ l is. (cc is.0, is.1 ∙ synced)) c.in-Ok.ensures.there)
+          (λ is. c.in-Ok.ensures.place is)
+          (λ is. c.in-Ok.ensures.rests is tells kept)
+          (λ is. subst (λ (s : List Step). LeavesOnly 16 s now (IsFormatting (content_of 16 s) (header_with file.digest))) synced (c.in-Ok.ensures.during is tells kept));
     }
 
 pub returns-clause-opens : goal.returns-clause-opens
@@ -135,8 +134,8 @@ returns-clause-opens g c tells job asks =
     let same = same_entries own (λ f. content_of f old) recovered.entries entries (state_of found.state) state (record { kept = recovered.kept; made = recovered.placed }) keeps in
     opens_from file.digest old own refl now entries found.log (subst (λ l. IsLogOf l found.log (logs_in (alone_with file.digest) (λ f. content_of f old))) same recovered.log)
     (λ f. g.met.V.Site.inside c.args.site.now f (c.read_input.ensures.told (c.recover_logs.ensures.told tells_then)))
-    (some_with found.log (λ l. (Ok c.in_ok-log.log ≡ Ok l) × (now ≡ g.V.Site.history c.recover_logs.new.site)) (λ l. now ≡ both_synced old) (λ l is. is.1 ∙ synced) c.in_ok-log.ensures.there)
-    (λ is. subst (λ (s : List Step). LeavesOnly 16 s now (IsFormatting (content_of 16 s) (header_with file.digest))) synced (c.in_ok-log.ensures.during is tells kept)) keeps.kept in
+    (some_with found.log (λ l. (Ok c.in-Ok.log ≡ Ok l) × (now ≡ g.V.Site.history c.recover_logs.new.site)) (λ l. now ≡ both_synced old) (λ l is. is.1 ∙ synced) c.in-Ok.ensures.there)
+    (λ is. subst (λ (s : List Step). LeavesOnly 16 s now (IsFormatting (content_of 16 s) (header_with file.digest))) synced (c.in-Ok.ensures.during is tells kept)) keeps.kept in
     subst (λ (j : Job). OpensOnly j old now) (same_job (λ f. content_of f old) own job asked asks) opens
 
 pub returns-in_err-file-clause-told : goal.returns-in_err-file-clause-told
@@ -181,47 +180,47 @@ returns-in_err-state-clause-no_clash g c = let p = err_from_is_err_and c.from_re
 pub returns-in_err-state-clause-can : goal.returns-in_err-state-clause-can
 returns-in_err-state-clause-can g c = let p = err_from_is_err_and c.from_residual-in_err-state.result c.from_residual-in_err-state.ensures.1 in rw p.1 tt
 
-pub returns-in_err-refuse_clash-clause-told : goal.returns-in_err-refuse_clash-clause-told
-returns-in_err-refuse_clash-clause-told g c = λ tells. c.read_input.ensures.told (c.recover_logs.ensures.told tells)
+pub returns-in-Err-clause-told : goal.returns-in-Err-clause-told
+returns-in-Err-clause-told g c = λ tells. c.read_input.ensures.told (c.recover_logs.ensures.told tells)
 
-pub returns-in_err-refuse_clash-clause-later : goal.returns-in_err-refuse_clash-clause-later
-returns-in_err-refuse_clash-clause-later g c = omega (arith, c.read_input.ensures.later, c.recover_logs.ensures.later)
+pub returns-in-Err-clause-later : goal.returns-in-Err-clause-later
+returns-in-Err-clause-later g c = omega (arith, c.read_input.ensures.later, c.recover_logs.ensures.later)
 
-pub returns-in_err-refuse_clash-clause-say_faults : goal.returns-in_err-refuse_clash-clause-say_faults
-returns-in_err-refuse_clash-clause-say_faults g c = c.recover_logs.ensures.say_faults ∙ c.read_input.ensures.say_faults
+pub returns-in-Err-clause-say_faults : goal.returns-in-Err-clause-say_faults
+returns-in-Err-clause-say_faults g c = c.recover_logs.ensures.say_faults ∙ c.read_input.ensures.say_faults
 
-pub returns-in_err-refuse_clash-clause-asks : goal.returns-in_err-refuse_clash-clause-asks
-returns-in_err-refuse_clash-clause-asks g c = λ tells. let p = err_from_is_err_and c.from_residual-in_err-refuse_clash.result c.from_residual-in_err-refuse_clash.ensures.1 in rw p.1 tt
+pub returns-in-Err-clause-asks : goal.returns-in-Err-clause-asks
+returns-in-Err-clause-asks g c = λ tells. tt
 
-pub returns-in_err-refuse_clash-clause-prepared : goal.returns-in_err-refuse_clash-clause-prepared
-returns-in_err-refuse_clash-clause-prepared g c = λ tells. let p = err_from_is_err_and c.from_residual-in_err-refuse_clash.result c.from_residual-in_err-refuse_clash.ensures.1 in rw p.1 tt
+pub returns-in-Err-clause-prepared : goal.returns-in-Err-clause-prepared
+returns-in-Err-clause-prepared g c = λ tells. tt
 
-pub returns-in_err-refuse_clash-clause-no_clash : goal.returns-in_err-refuse_clash-clause-no_clash
-returns-in_err-refuse_clash-clause-no_clash g c = let p = err_from_is_err_and c.from_residual-in_err-refuse_clash.result c.from_residual-in_err-refuse_clash.ensures.1 in rw p.1 tt
+pub returns-in-Err-clause-no_clash : goal.returns-in-Err-clause-no_clash
+returns-in-Err-clause-no_clash g c = tt
 
-pub returns-in_err-refuse_clash-clause-can : goal.returns-in_err-refuse_clash-clause-can
-returns-in_err-refuse_clash-clause-can g c = let p = err_from_is_err_and c.from_residual-in_err-refuse_clash.result c.from_residual-in_err-refuse_clash.ensures.1 in rw p.1 tt
+pub returns-in-Err-clause-can : goal.returns-in-Err-clause-can
+returns-in-Err-clause-can g c = tt
 
-pub returns-in_err-log-clause-told : goal.returns-in_err-log-clause-told
-returns-in_err-log-clause-told g c = λ tells. c.read_input.ensures.told (c.recover_logs.ensures.told (c.open_log.ensures.told tells))
+pub returns-in-Err-open_log-clause-told : goal.returns-in-Err-open_log-clause-told
+returns-in-Err-open_log-clause-told g c = λ tells. c.read_input.ensures.told (c.recover_logs.ensures.told (c.open_log.ensures.told tells))
 
-pub returns-in_err-log-clause-later : goal.returns-in_err-log-clause-later
-returns-in_err-log-clause-later g c = omega (arith, c.read_input.ensures.later, c.recover_logs.ensures.later, c.open_log.ensures.later)
+pub returns-in-Err-open_log-clause-later : goal.returns-in-Err-open_log-clause-later
+returns-in-Err-open_log-clause-later g c = omega (arith, c.read_input.ensures.later, c.recover_logs.ensures.later, c.open_log.ensures.later)
 
-pub returns-in_err-log-clause-say_faults : goal.returns-in_err-log-clause-say_faults
-returns-in_err-log-clause-say_faults g c = c.open_log.ensures.say_faults ∙ c.recover_logs.ensures.say_faults ∙ c.read_input.ensures.say_faults
+pub returns-in-Err-open_log-clause-say_faults : goal.returns-in-Err-open_log-clause-say_faults
+returns-in-Err-open_log-clause-say_faults g c = c.open_log.ensures.say_faults ∙ c.recover_logs.ensures.say_faults ∙ c.read_input.ensures.say_faults
 
-pub returns-in_err-log-clause-asks : goal.returns-in_err-log-clause-asks
-returns-in_err-log-clause-asks g c = λ tells. let p = err_from_is_err_and c.from_residual-in_err-log.result c.from_residual-in_err-log.ensures.1 in rw p.1 tt
+pub returns-in-Err-open_log-clause-asks : goal.returns-in-Err-open_log-clause-asks
+returns-in-Err-open_log-clause-asks g c = λ tells. tt
 
-pub returns-in_err-log-clause-prepared : goal.returns-in_err-log-clause-prepared
-returns-in_err-log-clause-prepared g c = λ tells. let p = err_from_is_err_and c.from_residual-in_err-log.result c.from_residual-in_err-log.ensures.1 in rw p.1 tt
+pub returns-in-Err-open_log-clause-prepared : goal.returns-in-Err-open_log-clause-prepared
+returns-in-Err-open_log-clause-prepared g c = λ tells. tt
 
-pub returns-in_err-log-clause-no_clash : goal.returns-in_err-log-clause-no_clash
-returns-in_err-log-clause-no_clash g c = let p = err_from_is_err_and c.from_residual-in_err-log.result c.from_residual-in_err-log.ensures.1 in rw p.1 tt
+pub returns-in-Err-open_log-clause-no_clash : goal.returns-in-Err-open_log-clause-no_clash
+returns-in-Err-open_log-clause-no_clash g c = tt
 
-pub returns-in_err-log-clause-can : goal.returns-in_err-log-clause-can
-returns-in_err-log-clause-can g c = let p = err_from_is_err_and c.from_residual-in_err-log.result c.from_residual-in_err-log.ensures.1 in rw p.1 tt
+pub returns-in-Err-open_log-clause-can : goal.returns-in-Err-open_log-clause-can
+returns-in-Err-open_log-clause-can g c = tt
 
 pub returns-clause-told : goal.returns-clause-told
 returns-clause-told g c = λ tells. c.read_input.ensures.told (c.recover_logs.ensures.told (c.open_log.ensures.told tells))

@@ -1,12 +1,12 @@
 -- The parts of an array and of an operation. Each answer names the lemma that a search would have to find.
-use Rattle.std.proofs.Common.{◌≡◌, Err, refl, rules}
+use Rattle.std.proofs.Common.{◌≡◌, ◌∙◌, sym, Err, refl, rules}
 use Rattle.serde_json.specs.Data.{array}
 use Rattle.json_tree.specs.View.{view, items_view}
 use Rattle.json_tree.proofs.Parts.{view_of_array}
-use Rattle.flow_syntax.specs.Views.{expression_of}
+use Rattle.flow_syntax.specs.Views.{expression_of, parts_of}
 use Rattle.flow_syntax.specs.declared.syntax.Expr.TheViews.{the_lemmas}
 use Rattle.flow_values.specs.Expressions.{expressions_from}
-use Rattle.flow_values.proofs.Parts.{all, begins, binary_ends, binary_ends_second, binary_read, binary_unknown, ends, goes_on, no_operation, unary_ends, unary_read, unary_unknown}
+use Rattle.flow_values.proofs.Parts.{all, begins, binary_ends, binary_ends_second, binary_read, binary_unknown, ends, goes_on, list_ends, list_read, no_member, no_operation, operation_ends, operation_read, unary_ends, unary_read, unary_unknown, variable_ends, variable_read}
 use Rattle.flow_values.proofs.expressions.+expressions.Goals as goal
 
 pub operation_in-returns-else-items-eq3 : goal.operation_in-returns-else-items-eq3
@@ -60,3 +60,31 @@ binary_of-returns-in-None t c =
 pub binary_of-returns-in_ok-second-in-Some-2 : goal.binary_of-returns-in_ok-second-in-Some-2
 binary_of-returns-in_ok-second-in-Some-2 t c =
     rw (binary_read c.args.items.now c.index-items-0.result c.index-items-1.result c.index-items-2.result c.in-Some.operation (expression_of c.in_ok-first-in-Some.first) (expression_of c.in_ok-second-in-Some.second) c.requires c.index-items-0.is c.index-items-1.is c.index-items-2.is c.in-Some.ensures c.in_ok-first-in-Some.ensures c.in_ok-second-in-Some.ensures) (search (rules, the_lemmas))
+
+pub member_in-returns-in-Err : goal.member_in-returns-in-Err
+member_in-returns-in-Err t c =
+    variable_ends c.args.key.now (view c.args.inside.now) c.in-Err.error c.under.result (sym c.eq.ensures ∙ c.if-eq.true) c.in-Err.ensures c.under.ensures
+
+pub member_in-returns-in-Err-list_in : goal.member_in-returns-in-Err-list_in
+member_in-returns-in-Err-list_in t c =
+    list_ends c.args.key.now (view c.args.inside.now) c.in-Err-list_in.error c.under-in-Err-list_in.result (sym c.eq.ensures ∙ c.if-eq.false) (sym c.eq-else-eq.ensures ∙ c.if-eq-2.true) c.in-Err-list_in.ensures c.under-in-Err-list_in.ensures
+
+pub member_in-returns-in-Err-operation_in : goal.member_in-returns-in-Err-operation_in
+member_in-returns-in-Err-operation_in t c =
+    operation_ends c.args.key.now (view c.args.inside.now) c.in-Err-operation_in.error c.under-in-Err-operation_in.result (sym c.eq.ensures ∙ c.if-eq.false) (sym c.eq-else-eq.ensures ∙ c.if-eq-2.false) (sym c.eq-else-eq-2.ensures ∙ c.if-eq-3.true) c.in-Err-operation_in.ensures c.under-in-Err-operation_in.ensures
+
+pub member_in-returns-in-Ok : goal.member_in-returns-in-Ok
+member_in-returns-in-Ok t c =
+    rw (variable_read c.args.key.now (view c.args.inside.now) c.in-Ok.name (sym c.eq.ensures ∙ c.if-eq.true) c.in-Ok.ensures) (search (rules, the_lemmas))
+
+pub member_in-returns-in-Ok-list_in : goal.member_in-returns-in-Ok-list_in
+member_in-returns-in-Ok-list_in t c =
+    rw (list_read c.args.key.now (view c.args.inside.now) (parts_of c.in-Ok-list_in.parts.items) (sym c.eq.ensures ∙ c.if-eq.false) (sym c.eq-else-eq.ensures ∙ c.if-eq-2.true) c.in-Ok-list_in.ensures) (search (rules, the_lemmas))
+
+pub member_in-returns-in-Ok-operation_in : goal.member_in-returns-in-Ok-operation_in
+member_in-returns-in-Ok-operation_in t c =
+    operation_read c.args.key.now (view c.args.inside.now) (expression_of c.in-Ok-operation_in.operation) (sym c.eq.ensures ∙ c.if-eq.false) (sym c.eq-else-eq.ensures ∙ c.if-eq-2.false) (sym c.eq-else-eq-2.ensures ∙ c.if-eq-3.true) c.in-Ok-operation_in.ensures
+
+pub member_in-returns-else-eq-3 : goal.member_in-returns-else-eq-3
+member_in-returns-else-eq-3 t c =
+    rw (c.misshapen.ensures, no_member c.args.key.now (view c.args.inside.now) (sym c.eq.ensures ∙ c.if-eq.false) (sym c.eq-else-eq.ensures ∙ c.if-eq-2.false) (sym c.eq-else-eq-2.ensures ∙ c.if-eq-3.false)) refl

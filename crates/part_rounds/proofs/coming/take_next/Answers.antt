@@ -2,7 +2,7 @@ use Rattle.std.proofs.Common.{◌∙◌, refl, sym, ap, subst, arith}
 use Rattle.std.proofs.lemmas.Bool.{eqb-true, eqb-false}
 use Rattle.std.specs.Vec.{vec_len}
 use Rattle.dura_model.specs.Partition.{Partition}
-use Rattle.timer_row.specs.Timers.{NoTimer}
+use Rattle.part_rows.specs.Timers.{NoTimer}
 use Rattle.part_items.specs.Plain.{items_of}
 use Rattle.part_rounds.proofs.Counts.{low_same, low_both, low_max, moment_low}
 use Rattle.part_rounds.specs.Fills.{Fills}

@@ -13,7 +13,7 @@ use Rattle.hub_store.proofs.Stops.{ok_apart, same_stop, residual_is, clock_not_f
 use Rattle.part_rounds.proofs.rounds.go_round.Goals as goal
 use Rattle.part_steps.specs.States.{state_of}
 use Rattle.site_model.specs.Calls.{HasRisen}
-use Rattle.timer_row.specs.Timers.{NoTimer}
+use Rattle.part_rows.specs.Timers.{NoTimer}
 
 pub settle_filling-requires-clause-filled : goal.settle_filling-requires-clause-filled
 settle_filling-requires-clause-filled g c =

@@ -12,8 +12,8 @@ returns-in-Err-Bad g c =
     let is = rw c.in-Err-Bad.field-0-is at c.in-Err-Bad.ensures in
     rw c.in-Err-Bad.field-0-is (ap (in_file (c.args.gate + 5)) is)
 
-pub place_entries-requires : goal.place_entries-requires
-place_entries-requires g c =
+pub place_entries-placed-requires : goal.place_entries-placed-requires
+place_entries-placed-requires g c =
     let of = next_frame (next_of c.args.progress.next) c.args.payload.now (entries_of c.in-Ok.frame) c.in-Ok.ensures in
     let same : c.entries.result.now ≡ c.in-Ok.frame = c.entries.ensures in
     record {
@@ -27,12 +27,12 @@ place_entries-requires g c =
       next = subst (λ (l : List Entry). IsNext (next_of c.args.progress.next) (entries_of l)) (sym same) of.0;
     }
 
-pub returns-in-Ok-place_entries : goal.returns-in-Ok-place_entries
-returns-in-Ok-place_entries g c =
+pub returns-in-Ok-placed : goal.returns-in-Ok-placed
+returns-in-Ok-placed g c =
     let of = next_frame (next_of c.args.progress.next) c.args.payload.now (entries_of c.in-Ok.frame) c.in-Ok.ensures in
     let same : c.entries.result.now ≡ c.in-Ok.frame = c.entries.ensures in (
       entries_of c.in-Ok.frame,
       c.in-Ok.ensures,
-      subst (λ (l : List Entry). GoesOn (g.R.Reactions.flows c.args.reactions.now) (entries_of l) c.args.progress c.in-Ok-place_entries.placed) same c.in-Ok-place_entries.ensures,
+      subst (λ (l : List Entry). GoesOn (g.R.Reactions.flows c.args.reactions.now) (entries_of l) c.args.progress c.in-Ok-placed.placed) same c.in-Ok-placed.ensures,
       of.1,
     )

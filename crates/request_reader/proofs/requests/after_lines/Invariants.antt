@@ -4,8 +4,8 @@ use Rattle.request_reader.specs.Requests.{lines_of, after_lines, requests_in}
 use Rattle.request_reader.specs.Progress.{seen, Stands}
 use Rattle.request_reader.proofs.requests.after_lines.Given as goal
 
-abbrev pub invariant-loop-progress : goal.invariant-loop-progress
-invariant-loop-progress l = (after_lines l.number (seen l.progress) (lines_of l.rest) ≡ requests_in l.fn.bytes) × Stands l.progress × (l.number + length l.rest ≤ length l.fn.bytes + 1)
+abbrev pub invariant-loop-error : goal.invariant-loop-error
+invariant-loop-error l = (after_lines l.number (seen l.progress) (lines_of l.rest) ≡ requests_in l.fn.bytes) × Stands l.progress × (l.number + length l.rest ≤ length l.fn.bytes + 1)
 
-abbrev pub decreases-loop-progress : goal.decreases-loop-progress
-decreases-loop-progress l = length l.rest
+abbrev pub decreases-loop-error : goal.decreases-loop-error
+decreases-loop-error l = length l.rest

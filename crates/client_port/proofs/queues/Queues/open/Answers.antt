@@ -13,6 +13,15 @@ use Rattle.client_port.proofs.Changes.{opened}
 use Rattle.client_port.proofs.Stays.{found_opened}
 use Rattle.client_port.proofs.queues.Queues.open.Goals as goal
 
+pub returns-clause-opened : goal.returns-clause-opened
+returns-clause-opened c =
+    let old = c.args.self.now.all.items in
+    let r = request_of c.args.request in
+    let second : c.in_ok-request.request ≡ c.args.request = c.in_ok-request.ensures.ok.1 ∙ c.in_ok-client.ensures.ok.1 in
+    let third : c.in_ok-client-2.request ≡ c.args.request = c.in_ok-client-2.ensures.ok.1 ∙ second in
+    let named : c.in_ok-client-2.client ≡ r.client = subst (λ made. IfOk made (λ n. n ≡ c.in_ok-request.request.client)) c.in_ok-client-2.ensures.ok.0 c.copy_of-2.ensures ∙ ap (λ q. q.client) second in
+    ap (map queue_of) c.in_ok-push.ensures.items ∙ opened r old c.in_ok-queue.queue c.requires.new (rw named at (rw (ap request_of third) at c.in_ok-queue.ensures))
+
 pub returns-clause-stands : goal.returns-clause-stands
 returns-clause-stands c =
     let old = c.args.self.now.all.items in

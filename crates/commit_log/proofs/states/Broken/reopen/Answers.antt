@@ -48,3 +48,36 @@ returns-in-Err-clause-syncs g c = record { either = c.in-Err.ensures.either.eith
 
 pub returns-in-Err-clause-cause : goal.returns-in-Err-clause-cause
 returns-in-Err-clause-cause g c = record { later = c.in-Err.ensures.cause.later; same = tt; risen = c.in-Err.ensures.cause.risen }
+
+pub returns-in-Ok-true-clause-told : goal.returns-in-Ok-true-clause-told
+returns-in-Ok-true-clause-told g c = c.synced_gate.ensures.told
+
+pub returns-in-Ok-true-clause-say_faults : goal.returns-in-Ok-true-clause-say_faults
+returns-in-Ok-true-clause-say_faults g c = c.synced_gate.ensures.say_faults
+
+pub returns-in-Ok-true-clause-broken : goal.returns-in-Ok-true-clause-broken
+returns-in-Ok-true-clause-broken g c = tt
+
+pub returns-in-Ok-false-clause-told : goal.returns-in-Ok-false-clause-told
+returns-in-Ok-false-clause-told g c = c.synced_gate.ensures.told
+
+pub returns-in-Ok-false-clause-say_faults : goal.returns-in-Ok-false-clause-say_faults
+returns-in-Ok-false-clause-say_faults g c = c.synced_gate.ensures.say_faults
+
+pub returns-in-Ok-false-clause-broken : goal.returns-in-Ok-false-clause-broken
+returns-in-Ok-false-clause-broken g c = tt
+
+pub returns-in-Err-clause-told : goal.returns-in-Err-clause-told
+returns-in-Err-clause-told g c = c.synced_gate.ensures.told
+
+pub returns-in-Err-clause-say_faults : goal.returns-in-Err-clause-say_faults
+returns-in-Err-clause-say_faults g c = c.synced_gate.ensures.say_faults
+
+pub returns-in-Err-clause-opened : goal.returns-in-Err-clause-opened
+returns-in-Err-clause-opened g c tells = tt
+
+pub returns-in-Err-clause-place : goal.returns-in-Err-clause-place
+returns-in-Err-clause-place g c = tt
+
+pub returns-in-Err-clause-broken : goal.returns-in-Err-clause-broken
+returns-in-Err-clause-broken g c = (refl, refl, refl)

@@ -34,3 +34,27 @@ returns-clause-cause g c = record {
   same = c.in_ok-open.ensures.cause.same ∙ c.in_ok-write_header.ensures.cause.same ∙ c.in_ok-close.ensures.cause.same;
   risen = tt;
 }
+
+pub returns-in_err-close-clause-told : goal.returns-in_err-close-clause-told
+returns-in_err-close-clause-told g c = c.close.ensures.told
+
+pub returns-in_err-close-clause-say_faults : goal.returns-in_err-close-clause-say_faults
+returns-in_err-close-clause-say_faults g c = c.close.ensures.say_faults
+
+pub returns-in_err-write_header-clause-told : goal.returns-in_err-write_header-clause-told
+returns-in_err-write_header-clause-told g c tells = c.close.ensures.told (c.write_header.ensures.told tells)
+
+pub returns-in_err-write_header-clause-say_faults : goal.returns-in_err-write_header-clause-say_faults
+returns-in_err-write_header-clause-say_faults g c = c.write_header.ensures.say_faults ∙ c.close.ensures.say_faults
+
+pub returns-in_err-open-clause-told : goal.returns-in_err-open-clause-told
+returns-in_err-open-clause-told g c tells = c.close.ensures.told (c.write_header.ensures.told (c.open.ensures.told tells))
+
+pub returns-in_err-open-clause-say_faults : goal.returns-in_err-open-clause-say_faults
+returns-in_err-open-clause-say_faults g c = c.open.ensures.say_faults ∙ c.write_header.ensures.say_faults ∙ c.close.ensures.say_faults
+
+pub returns-clause-told : goal.returns-clause-told
+returns-clause-told g c tells = c.close.ensures.told (c.write_header.ensures.told (c.open.ensures.told tells))
+
+pub returns-clause-say_faults : goal.returns-clause-say_faults
+returns-clause-say_faults g c = c.open.ensures.say_faults ∙ c.write_header.ensures.say_faults ∙ c.close.ensures.say_faults

@@ -1,40 +1,5 @@
-use Rattle.std.proofs.Common.{◌∙◌, Ok, refl, sym}
-use Rattle.std.specs.Fn.{FnReturnsAt}
-use Rattle.id_maps.specs.Keys.{id_cmp, key_of}
-use Rattle.id_maps.proofs.Copying.{none_yet, id_copied, all_copied}
+use Rattle.id_maps.proofs.Copying.{id_keys}
 use Rattle.id_maps.proofs.id_map.IdMap.copied.Goals as goal
 
-pub loop-id-init : goal.loop-id-init
-loop-id-init g c =
-    let rest = sym (c.into_iter-id-iterator.ensures.into_iter_gives ∙ c.iter-id-items.ensures.rest) in
-    record {
-      callable = c.requires;
-      goes_on = tt;
-      ends = tt;
-      under_way = none_yet id_cmp (λ x y. FnReturnsAt g.F.Fn c.args.copy x (Ok y)) c.args.self.now.entries c.new-copies.result c.into_iter-id-iterator.result rest c.new-copies.ensures.empty c.iter-id-items.ensures.found;
-    }
-
-pub loop-id-preserved-in_ok-insert : goal.loop-id-preserved-in_ok-insert
-loop-id-preserved-in_ok-insert g c =
-    let copied : FnReturnsAt g.F.Fn c.args.copy c.in-Some.value.now (Ok c.in_ok-copy.field-0) = record { shown = c.in-Some.value; shows = refl; says = record { met = c.in_ok-copy.ensures } } in
-    record {
-      callable = c.requires;
-      goes_on = tt;
-      ends = tt;
-      under_way = id_copied (λ x y. FnReturnsAt g.F.Fn c.args.copy x (Ok y)) c.args.self.now.entries c.loop-id.copies c.insert.new.self c.loop-id.id-iterator c.next.new.self c.in-Some.id.now c.in_ok-copy_key.field-0 c.in-Some.value.now c.in_ok-copy.field-0
-          c.in-Some.ensures.steps c.in_ok-copy_key.ensures copied c.in_ok-insert.ensures.updates c.loop-id.invariant.under_way;
-    }
-
-pub loop-id-preserved : goal.loop-id-preserved
-loop-id-preserved g c =
-    let copied : FnReturnsAt g.F.Fn c.args.copy c.in-Some.value.now (Ok c.in_ok-copy.field-0) = record { shown = c.in-Some.value; shows = refl; says = record { met = c.in_ok-copy.ensures } } in
-    record {
-      callable = c.requires;
-      goes_on = tt;
-      ends = tt;
-      under_way = id_copied (λ x y. FnReturnsAt g.F.Fn c.args.copy x (Ok y)) c.args.self.now.entries c.loop-id.copies c.insert.new.self c.loop-id.id-iterator c.next.new.self c.in-Some.id.now c.in_ok-copy_key.field-0 c.in-Some.value.now c.in_ok-copy.field-0
-          c.in-Some.ensures.steps c.in_ok-copy_key.ensures copied c.in_ok-insert.ensures.updates c.loop-id.invariant.under_way;
-    }
-
-pub returns : goal.returns
-returns g c = λ id. all_copied id_cmp (λ x y. FnReturnsAt g.F.Fn c.args.copy x (Ok y)) c.args.self.now.entries c.loop-id.copies c.loop-id.id-iterator c.in-None.ensures.steps.0 c.loop-id.invariant.under_way (key_of id)
+pub copy_entries-requires-clause-exact : goal.copy_entries-requires-clause-exact
+copy_entries-requires-clause-exact g c = id_keys

@@ -6,9 +6,9 @@ use Rattle.id_maps.proofs.number_map.NumberMap.take.Goals as goal
 
 pub returns-then-is_empty-clause-taken : goal.returns-then-is_empty-clause-taken
 returns-then-is_empty-clause-taken g c =
-    let was = c.in_ok-numbers.numbers.now in
+    let was = c.in-Some.numbers.now in
     let now = c.remove-value.new.self in
-    let found = sym c.get_mut.ensures.value ∙ ap option_copied_mut c.in_ok-numbers.was in
+    let found = sym c.get_mut.ensures.value ∙ ap option_copied_mut c.in-Some.is in
     let puts = (c.get_mut.follows.holds now).3 in
     let len : btree_map_len now ≡ 0 = c.is_empty.ensures.0 c.if-is_empty.true in
     let off : 0 < btree_map_len now → ⊥ = (λ less. omega (arith, less, len)) in
@@ -18,7 +18,7 @@ returns-then-is_empty-clause-taken g c =
 
 pub returns-else-is_empty-clause-taken : goal.returns-else-is_empty-clause-taken
 returns-else-is_empty-clause-taken g c =
-    let was = c.in_ok-numbers.numbers.now in
+    let was = c.in-Some.numbers.now in
     let now = c.remove-value.new.self in
-    let found = sym c.get_mut.ensures.value ∙ ap option_copied_mut c.in_ok-numbers.was in
+    let found = sym c.get_mut.ensures.value ∙ ap option_copied_mut c.in-Some.is in
     number_written c.args.self.now.entries (c.get_mut.follows.lender now) c.args.id.now was now c.args.number None found ((c.get_mut.follows.holds now).3) c.remove-value.ensures.updates.0

@@ -2,7 +2,7 @@ use Rattle.std.proofs.Common.{◌≡◌, map}
 use Rattle.std.specs.Vec.Iter.{into_iter_items}
 use Rattle.dura_value.specs.Views.{id_of}
 use Rattle.flow_messages.specs.Views.{asked_of}
-use Rattle.timer_row.specs.Timers.{InOrder}
+use Rattle.part_rows.specs.Timers.{InOrder}
 use Rattle.dura_model.specs.Partition.{asked_in}
 use Rattle.part_rows.specs.Parts.{part_of}
 use Rattle.part_rows.proofs.parts.PartRows.ask_all.Given as goal

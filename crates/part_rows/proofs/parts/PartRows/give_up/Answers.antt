@@ -1,6 +1,6 @@
 use Rattle.std.proofs.Common.{◌∙◌, ap}
 use Rattle.dura_value.specs.Views.{id_of}
-use Rattle.timer_row.specs.Timers.{timers_in}
+use Rattle.part_rows.specs.Timers.{timers_in}
 use Rattle.dura_model.specs.World.{cleared}
 use Rattle.dura_model.specs.Partition.{Partition}
 use Rattle.part_rows.specs.Parts.{part_of}

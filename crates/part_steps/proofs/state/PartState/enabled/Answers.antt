@@ -5,7 +5,7 @@ use Rattle.dura_value.specs.Views.{id_of}
 use Rattle.part_rows.specs.Parts.{part_of}
 use Rattle.part_steps.specs.Enabled.{moment_at, IsEnabled}
 use Rattle.part_steps.proofs.Enabling.{open_enabled, due_enabled}
-use Rattle.timer_row.specs.Timers.{IsFirstDue}
+use Rattle.part_rows.specs.Timers.{IsFirstDue}
 use Rattle.part_steps.proofs.state.PartState.enabled.Goals as goal
 
 pub returns-in-Some-clause-some : goal.returns-in-Some-clause-some

@@ -1,7 +1,0 @@
-use Rattle.std.proofs.Common.{refl}
-use Rattle.dura_value.specs.Reading.{id_in, pair_at}
-use Rattle.codec_rows.proofs.homes.texts_that_are_no_ids.Goals as goal
-
-pub returns : goal.returns
-unfolding id_in pair_at
-returns c = refl

@@ -1,5 +1,0 @@
-use Rattle.std.proofs.Common.{refl}
-use Rattle.codec_rows.proofs.homes.words.Goals as goal
-
-pub returns : goal.returns
-returns c = (refl, refl)

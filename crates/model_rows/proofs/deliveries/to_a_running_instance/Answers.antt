@@ -1,7 +1,0 @@
-use Rattle.std.proofs.Common.{refl}
-use Rattle.flow_syntax.specs.Machine.{go_on}
-use Rattle.model_rows.proofs.deliveries.to_a_running_instance.Goals as goal
-
-pub returns : goal.returns
-unfolding go_on
-returns c = (refl, refl, refl, refl, refl, refl, refl)

@@ -1,8 +1,0 @@
-use Rattle.std.proofs.Common.{refl}
-use Rattle.std.specs.Fmt.{digits}
-use Rattle.flow_syntax.specs.Machine.{go_on}
-use Rattle.model_rows.proofs.runs.trace_050.Goals as goal
-
-pub returns : goal.returns
-unfolding go_on digits
-returns c = (refl, refl, refl, refl)

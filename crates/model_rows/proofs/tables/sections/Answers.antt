@@ -1,8 +1,0 @@
-use Rattle.std.proofs.Common.{refl}
-use Rattle.model_rows.proofs.tables.sections.Goals as goal
-
-pub returns-clause-sets : goal.returns-clause-sets
-returns-clause-sets c = (refl, refl, refl)
-
-pub returns-clause-rules : goal.returns-clause-rules
-returns-clause-rules c = (refl, refl, refl, refl, refl, refl, refl, refl, refl, refl, refl, refl)

@@ -1,0 +1,54 @@
+-- The timers of a partition, and which is due first.
+use Rattle.std.specs.Prelude.{◌≡◌, ℕ, ◌≤◌, ◌<◌, ◌==◌, Bool, false, Option, Some, None}
+use Rattle.std.specs.declared.cmp.Ordering.{Ordering}
+use Rattle.std.specs.Ordering.{is_gt}
+use Rattle.std.specs.BTreeSet.{contains}
+use Rattle.dura_value.specs.Ids.{Id}
+use Rattle.id_maps.specs.Keys.{key_of}
+use Rattle.id_maps.specs.Maps.{by_number, count_of}
+use Rattle.part_rows.specs.declared.timer.Timer.{Timer}
+use Rattle.part_rows.specs.declared.timers.TimerRow.{TimerRow}
+use Rattle.part_rows.specs.contracts.timer.TimerOrd.TheImpl as ord
+
+-- the order of timers: by the moment that they are due at, then by id, then by task
+abbrev pub timer_cmp : Timer → Timer → Ordering
+timer_cmp = ord.cmp-value.it
+
+-- a task's timer
+abbrev pub timer_of : ℕ → Id → ℕ → Timer
+timer_of due id task = record { due = due; id = key_of id; task = task }
+
+-- when the timer of an instance's task is due
+abbrev pub timers_in : TimerRow → Id → ℕ → Option ℕ
+timers_in row = by_number row.moments
+
+-- how many timers an instance has
+abbrev pub count_in : TimerRow → Id → ℕ
+count_in row = count_of row.moments
+
+abbrev pub is_at : Option ℕ → ℕ → Bool
+is_at None due = false
+is_at (Some moment) due = moment == due
+
+-- The order has just the timers that there are.
+abbrev pub InOrder : TimerRow → Type 0
+InOrder row = (due : ℕ) (id : Id) (task : ℕ) → contains timer_cmp row.order (timer_of due id task) ≡ is_at (timers_in row id task) due
+
+-- the first timer of these, which is due by now
+pub record IsFirstDue (timers : Id → ℕ → Option ℕ) (now due : ℕ) (id : Id) (task : ℕ) : Type 0 where
+  pub there : timers id task ≡ Some due
+  pub in_time : due ≤ now
+  pub first : (other_due : ℕ) (other : Id) (other_task : ℕ) → timers other other_task ≡ Some other_due → is_gt (timer_cmp (timer_of due id task) (timer_of other_due other other_task)) ≡ false
+
+-- none is due by now
+abbrev pub NoneDue : (Id → ℕ → Option ℕ) → ℕ → Type 0
+NoneDue timers now = (due : ℕ) (id : Id) (task : ℕ) → timers id task ≡ Some due → now < due
+
+-- the least moment that one is due at
+pub record IsNext (timers : Id → ℕ → Option ℕ) (due : ℕ) : Type 0 where
+  pub there : (id : Id) × (task : ℕ) × (timers id task ≡ Some due)
+  pub least : (other_due : ℕ) (other : Id) (other_task : ℕ) → timers other other_task ≡ Some other_due → due ≤ other_due
+
+-- there is none
+abbrev pub NoTimer : (Id → ℕ → Option ℕ) → Type 0
+NoTimer timers = (id : Id) (task : ℕ) → timers id task ≡ None

@@ -1,0 +1,116 @@
+//! The timers of a partition.
+
+ghost use Rattle.std.specs.Prelude.{◌≡◌, ◌+◌, if◌then◌else◌, is_some, Some, None, IfOk, OnOk, IfSome, IfNone};
+ghost use Rattle.dura_value.specs.Views.{id_of};
+ghost use Rattle.id_maps.specs.Maps.{no_number, at_number, cleared};
+ghost use Rattle.part_rows.specs.Timers.{timers_in, count_in, InOrder, IsFirstDue, NoneDue, IsNext, NoTimer};
+
+use crate::timer::Timer;
+use dura_value::Id;
+use id_maps::NumberMap;
+use std::alloc::{AllocError, Global};
+use std::collections::BTreeSet;
+
+/// The timers of a partition: at most one for each task of an instance. A contract sees when each is due.
+///
+/// After an Err, which is want of memory, a row is only dropped.
+#[derive(Drop)]
+pub struct TimerRow {
+    moments: NumberMap<u64>,
+    order: BTreeSet<Timer>,
+}
+
+impl TimerRow {
+    /// No timers.
+    pub fn new(alloc: Global) -> TimerRow
+        ensures none { timers_in result ≡ no_number }
+        ensures order { InOrder result }
+    {
+        TimerRow {
+            moments: NumberMap::new(alloc),
+            order: BTreeSet::new(alloc),
+        }
+    }
+
+    /// When the timer of this task is due.
+    pub fn get(&self, id: &Id, task: u32) -> Option<u64>
+        ensures { result ≡ timers_in self.now (id_of id.now) task }
+    {
+        self.moments.get(id, task).copied()
+    }
+
+    /// Sets the timer of this task, in place of the one that it has.
+    pub fn put(&mut self, alloc: Global, id: Id, task: u32, due: u64) -> Result<(), AllocError>
+        requires { InOrder self.old }
+        ensures put { OnOk result (timers_in self.new ≡ at_number (timers_in self.old) (id_of id) task (Some due)) }
+        ensures order { OnOk result (InOrder self.new) }
+    {
+        self.take(&id, task)?;
+        self.order.insert(Timer::of(due, &id, task)?)?;
+        self.moments.put(alloc, id, task, due)?;
+        Ok(())
+    }
+
+    /// Takes out the timer of this task, and says when it was due.
+    pub fn take(&mut self, id: &Id, task: u32) -> Result<Option<u64>, AllocError>
+        requires { InOrder self.old }
+        ensures due { IfOk result (λ due. due ≡ timers_in self.old (id_of id.now) task) }
+        ensures taken { OnOk result (timers_in self.new ≡ at_number (timers_in self.old) (id_of id.now) task None) }
+        ensures count { IfOk result (λ due. count_in self.new (id_of id.now) + (if is_some due then 1 else 0) ≡ count_in self.old (id_of id.now)) }
+        ensures order { OnOk result (InOrder self.new) }
+    {
+        let Some(due) = self.moments.take(id, task) else {
+            return Ok(None);
+        };
+        self.order.remove(&Timer::of(due, id, task)?);
+        Ok(Some(due))
+    }
+
+    /// Takes out the timers of this instance.
+    pub fn drop_of(&mut self, id: &Id) -> Result<(), AllocError>
+        requires { InOrder self.old }
+        ensures dropped { OnOk result (timers_in self.new ≡ cleared (timers_in self.old) (id_of id.now)) }
+        ensures order { OnOk result (InOrder self.new) }
+    {
+        while let Some(task) = self.moments.first_of(id) {
+            self.take(id, task)?;
+        }
+        Ok(())
+    }
+
+    /// The first timer that is due by now.
+    pub fn due(&self, now: u64) -> Option<&Timer>
+        requires { InOrder self.now }
+        ensures first { IfSome result (λ timer. IsFirstDue (timers_in self.now) now timer.now.due (id_of timer.now.id) timer.now.task) }
+        ensures none { IfNone result (NoneDue (timers_in self.now) now) }
+    {
+        match self.order.first() {
+            Some(first) => { if first.due <= now { Some(first) } else { None } }
+            None => None,
+        }
+    }
+
+    /// The moment at which the first timer is due.
+    pub fn next(&self) -> Option<u64>
+        requires { InOrder self.now }
+        ensures next { IfSome result (λ due. IsNext (timers_in self.now) due) }
+        ensures none { IfNone result (NoTimer (timers_in self.now)) }
+    {
+        match self.order.first() {
+            Some(first) => Some(first.due),
+            None => None,
+        }
+    }
+
+    /// The same timers.
+    pub fn copy(&self, alloc: Global) -> Result<TimerRow, AllocError>
+        requires { InOrder self.now }
+        ensures same { IfOk result (λ copy. timers_in copy ≡ timers_in self.now) }
+        ensures order { IfOk result InOrder }
+    {
+        Ok(TimerRow {
+            moments: self.moments.copied(alloc, |due| Ok(*due))?,
+            order: self.order.clone()?,
+        })
+    }
+}

@@ -1,3 +1,0 @@
-pub mod FlowRows
-pub mod Told
-pub mod Worked

@@ -1,0 +1,5 @@
+-- The client has the number, and the others keep theirs.
+use Rattle.request_reader.proofs.progress.note_latest.Goals as goal
+
+pub returns : goal.returns
+returns c = λ name. rw c.in_ok-client.ensures at (c.in_ok-insert.ensures.updates.0 name)

@@ -1,6 +1,0 @@
--- A lock goes through its set in order.
-use Rattle.section_laws.proofs.Ordered.{waits_for_larger}
-use Rattle.section_laws.proofs.laws.waits_in_order.Goals as goal
-
-pub returns : goal.returns
-returns c = waits_for_larger

@@ -1,2 +1,0 @@
-pub mod ByHand
-pub mod Causes

@@ -1,0 +1,7 @@
+use Rattle.std.proofs.Common.{refl}
+use Rattle.flow_syntax.specs.Machine.{go_on}
+use Rattle.worked_rows.proofs.deliveries.to_the_instance_that_started_it.Goals as goal
+
+pub returns : goal.returns
+unfolding go_on
+returns c = refl

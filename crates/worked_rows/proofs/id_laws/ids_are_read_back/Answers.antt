@@ -1,0 +1,8 @@
+use Rattle.worked_rows.proofs.IdsBack.{written_is_read, read_is_written}
+use Rattle.worked_rows.proofs.id_laws.ids_are_read_back.Goals as goal
+
+pub returns-clause-written : goal.returns-clause-written
+returns-clause-written c = written_is_read
+
+pub returns-clause-read : goal.returns-clause-read
+returns-clause-read c = read_is_written

@@ -1,0 +1,59 @@
+-- Made by tools/theorems from a run that was written down.
+use Rattle.std.specs.Prelude.{◌≡◌, Bool, true, false, ℕ, List, [], ◌∷◌, codes, pos, negsuc, is_some, is_none, Option, Some, None, option_map}
+use Rattle.dura_value.specs.declared.data.Scalar.TheVariants as scalars
+use Rattle.dura_value.specs.declared.data.Value.TheVariants as values
+use Rattle.dura_value.specs.declared.outcome.Outcome.TheVariants as outcomes
+use Rattle.dura_value.specs.Ids.{orchestration, entity, client}
+use Rattle.dura_value.specs.Messages.{Answer, is_done, has_failed, was_started, was_there, is_unknown, was_raised, has_ended, is_missing, is_running, is_value, start, raise, query, wait, to_request}
+use Rattle.flow_syntax.specs.Syntax.{not_of, length_of, text_of, add, sub, mul, div, rem, equal, less, both, either, join, at, push, scalar, variable, list, unary, binary, no_parts, part, let_be, spawn, call, subflow, ask, timer, event, await, await_all, await_any, signal, lock_in, if_then, while, try, return, fail, nothing, first_then, Flows}
+use Rattle.dura_model.specs.Steps.{Label, take, deliver, finish, fire}
+use Rattle.dura_model.specs.Legal.{after, is_due}
+use Rattle.worked_rows.specs.Made.{named, class_with, locked, message, answers_in, stands_in}
+
+abbrev pub flows : Flows
+flows = record { flows = (named (codes "Fail") (first_then (call (codes "x") (codes "fail") (scalar (scalars.Text (codes "no")))) nothing) ∷ named (codes "Try") (first_then (try (first_then (call (codes "x") (codes "fail") (scalar (scalars.Text (codes "no")))) nothing) (codes "e") (first_then (return (binary join (scalar (scalars.Text (codes "got "))) (variable (codes "e")))) nothing)) nothing) ∷ []); classes = ([]) }
+
+abbrev pub run : List Label
+run =
+    take (client (codes "a")) 1 (message (client (codes "a")) (orchestration (codes "Fail") (codes "x")) (start values.Null (to_request 1))) ∷
+    deliver (client (codes "a")) (orchestration (codes "Fail") (codes "x")) 0 ∷
+    deliver (orchestration (codes "Fail") (codes "x")) (client (codes "a")) 0 ∷
+    take (client (codes "a")) 2 (message (client (codes "a")) (orchestration (codes "Fail") (codes "x")) (wait 2)) ∷
+    deliver (client (codes "a")) (orchestration (codes "Fail") (codes "x")) 0 ∷
+    finish (orchestration (codes "Fail") (codes "x")) 0 (outcomes.Failed (codes "no")) ∷
+    deliver (orchestration (codes "Fail") (codes "x")) (client (codes "a")) 0 ∷
+    take (client (codes "a")) 3 (message (client (codes "a")) (orchestration (codes "Try") (codes "x")) (start values.Null (to_request 3))) ∷
+    deliver (client (codes "a")) (orchestration (codes "Try") (codes "x")) 0 ∷
+    deliver (orchestration (codes "Try") (codes "x")) (client (codes "a")) 0 ∷
+    take (client (codes "a")) 4 (message (client (codes "a")) (orchestration (codes "Try") (codes "x")) (wait 4)) ∷
+    deliver (client (codes "a")) (orchestration (codes "Try") (codes "x")) 0 ∷
+    finish (orchestration (codes "Try") (codes "x")) 0 (outcomes.Failed (codes "no")) ∷
+    deliver (orchestration (codes "Try") (codes "x")) (client (codes "a")) 0 ∷
+    []
+
+abbrev pub good_front : List Label
+good_front =
+    take (client (codes "a")) 1 (message (client (codes "a")) (orchestration (codes "Fail") (codes "x")) (start values.Null (to_request 1))) ∷
+    deliver (client (codes "a")) (orchestration (codes "Fail") (codes "x")) 0 ∷
+    deliver (orchestration (codes "Fail") (codes "x")) (client (codes "a")) 0 ∷
+    take (client (codes "a")) 2 (message (client (codes "a")) (orchestration (codes "Fail") (codes "x")) (wait 2)) ∷
+    deliver (client (codes "a")) (orchestration (codes "Fail") (codes "x")) 0 ∷
+    []
+
+abbrev pub bad_front : List Label
+bad_front =
+    take (client (codes "a")) 1 (message (client (codes "a")) (orchestration (codes "Fail") (codes "x")) (start values.Null (to_request 1))) ∷
+    deliver (client (codes "a")) (orchestration (codes "Fail") (codes "x")) 0 ∷
+    deliver (orchestration (codes "Fail") (codes "x")) (client (codes "a")) 0 ∷
+    take (client (codes "a")) 2 (message (client (codes "a")) (orchestration (codes "Fail") (codes "x")) (wait 2)) ∷
+    deliver (client (codes "a")) (orchestration (codes "Fail") (codes "x")) 0 ∷
+    finish (orchestration (codes "Fail") (codes "x")) 0 (outcomes.Done (values.Text (codes "no"))) ∷
+    []
+
+-- what the run answers, and how all stand after it, and where the other one stops
+abbrev pub Agrees : Type 0
+Agrees =
+    (option_map (answers_in ((client (codes "a"), 1) ∷ (client (codes "a"), 2) ∷ (client (codes "a"), 3) ∷ (client (codes "a"), 4) ∷ [])) (after flows run) ≡ Some (Some was_started ∷ Some (has_failed (codes "no")) ∷ Some was_started ∷ Some (is_done (values.Text (codes "got no"))) ∷ []))
+    × (option_map (stands_in flows ((orchestration (codes "Fail") (codes "x")) ∷ (orchestration (codes "Try") (codes "x")) ∷ [])) (after flows run) ≡ Some (Some (has_failed (codes "no")) ∷ Some (is_done (values.Text (codes "got no"))) ∷ []))
+    × (is_some (after flows good_front) ≡ true)
+    × (is_none (after flows bad_front) ≡ true)

@@ -1,0 +1,63 @@
+-- Made by tools/theorems from a run that was written down.
+use Rattle.std.specs.Prelude.{◌≡◌, Bool, true, false, ℕ, List, [], ◌∷◌, codes, pos, negsuc, is_some, is_none, Option, Some, None, option_map}
+use Rattle.dura_value.specs.declared.data.Scalar.TheVariants as scalars
+use Rattle.dura_value.specs.declared.data.Value.TheVariants as values
+use Rattle.dura_value.specs.declared.outcome.Outcome.TheVariants as outcomes
+use Rattle.dura_value.specs.Ids.{orchestration, entity, client}
+use Rattle.dura_value.specs.Messages.{Answer, is_done, has_failed, was_started, was_there, is_unknown, was_raised, has_ended, is_missing, is_running, is_value, start, raise, query, wait, to_request}
+use Rattle.flow_syntax.specs.Syntax.{not_of, length_of, text_of, add, sub, mul, div, rem, equal, less, both, either, join, at, push, scalar, variable, list, unary, binary, no_parts, part, let_be, spawn, call, subflow, ask, timer, event, await, await_all, await_any, signal, lock_in, if_then, while, try, return, fail, nothing, first_then, Flows}
+use Rattle.dura_model.specs.Steps.{Label, take, deliver, finish, fire}
+use Rattle.dura_model.specs.Legal.{after, is_due}
+use Rattle.worked_rows.specs.Made.{named, class_with, locked, message, answers_in, stands_in}
+
+abbrev pub flows : Flows
+flows = record { flows = (named (codes "Bad") (first_then (lock_in (locked (codes "Account") (scalar (scalars.Text (codes "A"))) ∷ []) (first_then (ask (codes "h") (codes "Account") (scalar (scalars.Text (codes "B"))) (codes "add") (scalar (scalars.Int (pos 1)))) nothing)) nothing) ∷ []); classes = (named (codes "Account") (class_with (values.Int (pos 100)) (named (codes "add") (first_then (let_be (codes "self") (binary add (variable (codes "self")) (variable (codes "arg")))) (first_then (return (variable (codes "self"))) nothing)) ∷ named (codes "set") (first_then (let_be (codes "self") (variable (codes "arg"))) nothing) ∷ [])) ∷ []) }
+
+abbrev pub run : List Label
+run =
+    take (client (codes "a")) 1 (message (client (codes "a")) (orchestration (codes "Bad") (codes "x")) (start values.Null (to_request 1))) ∷
+    deliver (client (codes "a")) (orchestration (codes "Bad") (codes "x")) 0 ∷
+    deliver (orchestration (codes "Bad") (codes "x")) (client (codes "a")) 0 ∷
+    take (client (codes "a")) 2 (message (client (codes "a")) (orchestration (codes "Bad") (codes "x")) (wait 2)) ∷
+    deliver (client (codes "a")) (orchestration (codes "Bad") (codes "x")) 0 ∷
+    deliver (orchestration (codes "Bad") (codes "x")) (entity (codes "Account") (codes "A")) 0 ∷
+    deliver (entity (codes "Account") (codes "A")) (orchestration (codes "Bad") (codes "x")) 0 ∷
+    deliver (orchestration (codes "Bad") (codes "x")) (entity (codes "Account") (codes "A")) 0 ∷
+    deliver (orchestration (codes "Bad") (codes "x")) (client (codes "a")) 0 ∷
+    take (client (codes "a")) 3 (message (client (codes "a")) (entity (codes "Account") (codes "A")) (query 3)) ∷
+    deliver (client (codes "a")) (entity (codes "Account") (codes "A")) 0 ∷
+    deliver (entity (codes "Account") (codes "A")) (client (codes "a")) 0 ∷
+    []
+
+abbrev pub good_front : List Label
+good_front =
+    take (client (codes "a")) 1 (message (client (codes "a")) (orchestration (codes "Bad") (codes "x")) (start values.Null (to_request 1))) ∷
+    deliver (client (codes "a")) (orchestration (codes "Bad") (codes "x")) 0 ∷
+    deliver (orchestration (codes "Bad") (codes "x")) (client (codes "a")) 0 ∷
+    take (client (codes "a")) 2 (message (client (codes "a")) (orchestration (codes "Bad") (codes "x")) (wait 2)) ∷
+    deliver (client (codes "a")) (orchestration (codes "Bad") (codes "x")) 0 ∷
+    deliver (orchestration (codes "Bad") (codes "x")) (entity (codes "Account") (codes "A")) 0 ∷
+    deliver (entity (codes "Account") (codes "A")) (orchestration (codes "Bad") (codes "x")) 0 ∷
+    deliver (orchestration (codes "Bad") (codes "x")) (entity (codes "Account") (codes "A")) 0 ∷
+    []
+
+abbrev pub bad_front : List Label
+bad_front =
+    take (client (codes "a")) 1 (message (client (codes "a")) (orchestration (codes "Bad") (codes "x")) (start values.Null (to_request 1))) ∷
+    deliver (client (codes "a")) (orchestration (codes "Bad") (codes "x")) 0 ∷
+    deliver (orchestration (codes "Bad") (codes "x")) (client (codes "a")) 0 ∷
+    take (client (codes "a")) 2 (message (client (codes "a")) (orchestration (codes "Bad") (codes "x")) (wait 2)) ∷
+    deliver (client (codes "a")) (orchestration (codes "Bad") (codes "x")) 0 ∷
+    deliver (orchestration (codes "Bad") (codes "x")) (entity (codes "Account") (codes "A")) 0 ∷
+    deliver (entity (codes "Account") (codes "A")) (orchestration (codes "Bad") (codes "x")) 0 ∷
+    deliver (orchestration (codes "Bad") (codes "x")) (entity (codes "Account") (codes "A")) 0 ∷
+    deliver (orchestration (codes "Bad") (codes "x")) (entity (codes "Account") (codes "B")) 0 ∷
+    []
+
+-- what the run answers, and how all stand after it, and where the other one stops
+abbrev pub Agrees : Type 0
+Agrees =
+    (option_map (answers_in ((client (codes "a"), 1) ∷ (client (codes "a"), 2) ∷ (client (codes "a"), 3) ∷ [])) (after flows run) ≡ Some (Some was_started ∷ Some (has_failed (codes "lockrule")) ∷ Some (is_value (values.Int (pos 100))) ∷ []))
+    × (option_map (stands_in flows ((entity (codes "Account") (codes "A")) ∷ (orchestration (codes "Bad") (codes "x")) ∷ [])) (after flows run) ≡ Some (Some (is_value (values.Int (pos 100))) ∷ Some (has_failed (codes "lockrule")) ∷ []))
+    × (is_some (after flows good_front) ≡ true)
+    × (is_none (after flows bad_front) ≡ true)

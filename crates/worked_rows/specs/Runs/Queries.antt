@@ -1,0 +1,39 @@
+-- Made by tools/theorems from a run that was written down.
+use Rattle.std.specs.Prelude.{◌≡◌, Bool, true, false, ℕ, List, [], ◌∷◌, codes, pos, negsuc, is_some, is_none, Option, Some, None, option_map}
+use Rattle.dura_value.specs.declared.data.Scalar.TheVariants as scalars
+use Rattle.dura_value.specs.declared.data.Value.TheVariants as values
+use Rattle.dura_value.specs.declared.outcome.Outcome.TheVariants as outcomes
+use Rattle.dura_value.specs.Ids.{orchestration, entity, client}
+use Rattle.dura_value.specs.Messages.{Answer, is_done, has_failed, was_started, was_there, is_unknown, was_raised, has_ended, is_missing, is_running, is_value, start, raise, query, wait, to_request}
+use Rattle.flow_syntax.specs.Syntax.{not_of, length_of, text_of, add, sub, mul, div, rem, equal, less, both, either, join, at, push, scalar, variable, list, unary, binary, no_parts, part, let_be, spawn, call, subflow, ask, timer, event, await, await_all, await_any, signal, lock_in, if_then, while, try, return, fail, nothing, first_then, Flows}
+use Rattle.dura_model.specs.Steps.{Label, take, deliver, finish, fire}
+use Rattle.dura_model.specs.Legal.{after, is_due}
+use Rattle.worked_rows.specs.Made.{named, class_with, locked, message, answers_in, stands_in}
+
+abbrev pub flows : Flows
+flows = record { flows = (named (codes "Sum") (first_then (call (codes "s") (codes "add") (list (part (scalar (scalars.Int (pos 2))) (part (scalar (scalars.Int (pos 3))) no_parts)))) (first_then (return (variable (codes "s"))) nothing)) ∷ []); classes = (named (codes "Account") (class_with (values.Int (pos 100)) (named (codes "add") (first_then (let_be (codes "self") (binary add (variable (codes "self")) (variable (codes "arg")))) (first_then (return (variable (codes "self"))) nothing)) ∷ named (codes "set") (first_then (let_be (codes "self") (variable (codes "arg"))) nothing) ∷ [])) ∷ []) }
+
+abbrev pub run : List Label
+run =
+    take (client (codes "a")) 1 (message (client (codes "a")) (orchestration (codes "Sum") (codes "no")) (query 1)) ∷
+    deliver (client (codes "a")) (orchestration (codes "Sum") (codes "no")) 0 ∷
+    deliver (orchestration (codes "Sum") (codes "no")) (client (codes "a")) 0 ∷
+    take (client (codes "a")) 2 (message (client (codes "a")) (entity (codes "Account") (codes "A")) (query 2)) ∷
+    deliver (client (codes "a")) (entity (codes "Account") (codes "A")) 0 ∷
+    deliver (entity (codes "Account") (codes "A")) (client (codes "a")) 0 ∷
+    take (client (codes "a")) 3 (message (client (codes "a")) (entity (codes "No") (codes "k")) (query 3)) ∷
+    deliver (client (codes "a")) (entity (codes "No") (codes "k")) 0 ∷
+    deliver (entity (codes "No") (codes "k")) (client (codes "a")) 0 ∷
+    take (client (codes "a")) 4 (message (client (codes "a")) (orchestration (codes "Sum") (codes "no")) (wait 4)) ∷
+    deliver (client (codes "a")) (orchestration (codes "Sum") (codes "no")) 0 ∷
+    deliver (orchestration (codes "Sum") (codes "no")) (client (codes "a")) 0 ∷
+    take (client (codes "a")) 5 (message (client (codes "a")) (orchestration (codes "No") (codes "k")) (start values.Null (to_request 5))) ∷
+    deliver (client (codes "a")) (orchestration (codes "No") (codes "k")) 0 ∷
+    deliver (orchestration (codes "No") (codes "k")) (client (codes "a")) 0 ∷
+    []
+
+-- what the run answers, and how all stand after it
+abbrev pub Agrees : Type 0
+Agrees =
+    (option_map (answers_in ((client (codes "a"), 1) ∷ (client (codes "a"), 2) ∷ (client (codes "a"), 3) ∷ (client (codes "a"), 4) ∷ (client (codes "a"), 5) ∷ [])) (after flows run) ≡ Some (Some is_missing ∷ Some (is_value (values.Int (pos 100))) ∷ Some is_missing ∷ Some is_missing ∷ Some is_unknown ∷ []))
+    × (option_map (stands_in flows ((entity (codes "Account") (codes "A")) ∷ (entity (codes "No") (codes "k")) ∷ [])) (after flows run) ≡ Some (Some (is_value (values.Int (pos 100))) ∷ Some is_missing ∷ []))
