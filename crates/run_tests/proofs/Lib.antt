@@ -1,1 +1,4 @@
-pub mod Going
+pub mod Moves
+pub mod Orders
+pub mod Places
+pub mod Stillness

@@ -1,25 +1,18 @@
-//! Tests on sites in memory: of frames as bytes (`frame_tests`), of the store's calls (`store_tests`, by `stores` and `left`), of what
-//! recovery answers (`recovery_tests`), of each public call once that the program does without (`call_tests`), and of whole runs of
-//! `programs`, where each call of the outside fails in turn (`fault_tests`) and the run is cut off at each moment (`crash_tests`).
+//! Definitions that clauses of the state and of the call cite, from both sides: for each an example that has it, and one that hasn't.
+//! They are said of the definitions alone: the functions do nothing. And tests of runs, on sites in memory.
+//!
+//! - `state_examples`: definitions of a partition's state (`part_steps`). `call_examples`: those of `run` (`engine_run`).
+//! - `run_tests`, `fault_tests` and `crash_tests` are of whole runs of `programs`: without faults; where each call of the outside fails
+//!   in turn; and cut off at each moment.
 #![tactic(auto)]
 
-#[cfg(test)]
-mod call_tests;
+mod call_examples;
 #[cfg(test)]
 mod crash_tests;
 #[cfg(test)]
 mod fault_tests;
 #[cfg(test)]
-mod frame_tests;
-#[cfg(test)]
-mod left;
-#[cfg(test)]
 mod programs;
 #[cfg(test)]
-mod recovery_tests;
-#[cfg(test)]
 mod run_tests;
-#[cfg(test)]
-mod store_tests;
-#[cfg(test)]
-mod stores;
+mod state_examples;
