@@ -86,12 +86,12 @@ fn make_items(alloc: Global, long: &[u8]) -> Result<Vec<Item>, ReadError>
     Ok(items)
 }
 
-fn make_entry(alloc: Global, long: &[u8]) -> Result<Entry, ReadError>
+fn make_entry(alloc: Global, position: u64, long: &[u8]) -> Result<Entry, ReadError>
     ensures { IfOk result (λ e. CanSpellEntry (entry_of e)) }
 {
     match make_items(alloc, long) {
         Ok(items) => Ok(Entry {
-            position: 32,
+            position,
             incarnation: 1,
             items: Items::of(items),
         }),
@@ -105,7 +105,7 @@ pub fn make_frame(alloc: Global, long: &[u8]) -> Result<Frame, ReadError>
 {
     let mut entries = Vec::new(alloc);
     for position in 0..64u32 {
-        entries.push(make_entry(alloc, long)?)?;
+        entries.push(make_entry(alloc, position as u64, long)?)?;
     }
     Ok(Frame::of(entries))
 }

@@ -11,7 +11,7 @@ mod frame;
 mod texts;
 
 use frame::make_frame;
-use part_items::{Frame, read_frame, write_frame};
+use part_items::{Frame, FrameReader, Next, write_frame};
 use serde_json::Value;
 use std::alloc::Global;
 use std::env::{self, Args};
@@ -64,15 +64,22 @@ fn frame_bytes(alloc: Global, long: &str) -> Option<Vec<u8>> {
     }
 }
 
+/// The frame is read as a log is: entry by entry, of which each is let go of before the next.
 fn read_once(alloc: Global, bytes: &[u8]) -> bool {
-    match read_frame(alloc, bytes) {
-        Ok(read) => {
-            let is_whole = read.entries().len() == 64;
-            read.let_go();
-            is_whole
+    let first = Next {
+        position: 0,
+        incarnation: 0,
+    };
+    let Ok(mut frame) = FrameReader::begin(first, bytes) else {
+        return false;
+    };
+    for _ in 0..64 {
+        match frame.next(alloc) {
+            Ok(Some(entry)) => entry.let_go(),
+            _ => return false,
         }
-        Err(_) => false,
     }
+    matches!(frame.next(alloc), Ok(None))
 }
 
 fn read_often(alloc: Global, bytes: &[u8], times: u32) -> bool {

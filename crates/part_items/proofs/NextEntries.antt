@@ -1,75 +1,148 @@
--- Reading one entry behind the other, each where the log goes on, as a loop does.
-use Rattle.std.proofs.Common.{◌≡◌, ℕ, suc, ◌-◌, ◌+◌, ◌≤◌, ◌<◌, List, [], ◌∷◌, ◌++◌, Ok, Err, refl, sym, ap, ◌∙◌, append_assoc, append-nil, Result, Bool, true, false, if◌then◌else◌, arith}
+-- Reading one entry behind the other, each where the log goes on.
+use Rattle.std.proofs.Common.{◌≡◌, ℕ, zero, suc, ◌+◌, ◌-◌, ◌≤◌, ◌<◌, List, [], ◌∷◌, length, Bool, true, false, ◌&&◌, nat_lt, nat_le, if◌then◌else◌, Option, Some, None, Result, Ok, Err, IfOk, OnErr, refl, ap, sym, subst, add-one, eqb-true, leb-true, arith}
 use Rattle.std.proofs.lemmas.Bool.Decides.{nat_tests}
-use Rattle.std.specs.Int.{w64}
+use Rattle.std.specs.Int.{w16, w64}
+use Rattle.dura_value.specs.declared.faults.ReadError.{ReadError}
 use Rattle.dura_value.specs.Items.{Entry}
 use Rattle.dura_value.specs.Limits.{number_limit}
-use Rattle.dura_value.specs.Reading.{◌>>=◌}
+use Rattle.dura_value.specs.Reading.{◌>>=◌, Fails}
 use Rattle.dura_codec.specs.declared.fields.FieldError.{FieldError}
 use Rattle.dura_codec.specs.declared.fields.FieldError.TheVariants.{Bad, Memory}
-use Rattle.dura_codec.specs.Fields.{Read, Stops, number_at, count_at}
-use Rattle.dura_codec.proofs.Several.{with_front}
-use Rattle.part_items.specs.Grammar.{entry_items_at}
-use Rattle.part_items.specs.Numbered.{Next, behind, place_at, life_at, next_entry_at, next_entries_at}
+use Rattle.dura_codec.specs.Fields.{Read, Stops, number_at, count_at, fault_in}
+use Rattle.part_items.specs.Coming.{Coming, to_come, IsNext, IsFirst, ReadsNext}
+use Rattle.part_items.specs.declared.frames.Entry as read
+use Rattle.part_items.specs.Grammar.{members_at, entry_items_at, alone, whole}
+use Rattle.part_items.specs.Numbered.{Next, behind, place_at, life_at, next_entry_at, next_entries_at, next_frame_at, next_frame_in}
+use Rattle.part_items.specs.Tags.{most_members}
 
-regroup : (front : List Entry) (entry : Entry) (read : Read (List Entry)) → with_front front (read >>= λ x. Ok (entry ∷ x.0, x.1)) ≡ with_front (front ++ entry ∷ []) read
-regroup front entry (Ok x) = ap (λ (entries : List Entry). Ok (entries, x.1)) (simp append_assoc)
-regroup front entry (Err left) = refl
+-- ---- what is to come
 
-pub goes_on : (next : Next) (front : List Entry) (count i : ℕ) (bytes : List ℕ) (entry : Entry) (after : List ℕ) (total : Read (List Entry)) → i < count → next_entry_at next bytes ≡ Ok (entry, after)
-    → with_front front (next_entries_at next (count - i) bytes) ≡ total → with_front (front ++ entry ∷ []) (next_entries_at (behind entry) (count - (i + 1)) after) ≡ total
+in_front : (bytes : List ℕ) (entry : Entry) (read : Read (List Entry))
+    → whole bytes ((read >>= λ more. Ok (entry ∷ more.0, more.1)) >>= λ entries. alone entries) ≡ (whole bytes (read >>= λ entries. alone entries) >>= λ more. Ok (entry ∷ more))
+in_front bytes entry (Ok (entries, [])) = refl
+in_front bytes entry (Ok (entries, byte ∷ more)) = refl
+in_front bytes entry (Err left) = refl
+
+-- the next entry is the first of those to come
+first_of : (next : Next) (left : ℕ) (bytes rest after : List ℕ) (entry : Entry) → next_entry_at next rest ≡ Ok (entry, after)
+    → to_come next (suc left) bytes rest ≡ (to_come (behind entry) left bytes after >>= λ more. Ok (entry ∷ more))
 unfolding next_entries_at
-goes_on next front count i bytes entry after total lt h so_far =
-    let k : count - i ≡ suc (count - (i + 1)) = omega arith in
-    let one : with_front front (next_entries_at next (count - i) bytes) ≡ with_front (front ++ entry ∷ []) (next_entries_at (behind entry) (count - (i + 1)) after) = rw (k, h) (regroup front entry (next_entries_at (behind entry) (count - (i + 1)) after)) in
-    sym one ∙ so_far
+first_of next left bytes rest after entry h = rw h (in_front bytes entry (next_entries_at (behind entry) left after))
 
-pub ends : (next : Next) (e : FieldError) (front : List Entry) (count i : ℕ) (bytes : List ℕ) (total : Read (List Entry)) → i < count → Stops e (next_entry_at next bytes)
-    → with_front front (next_entries_at next (count - i) bytes) ≡ total → Stops e total
+-- where it can't be read there is a fault
+pub first_stops : (next : Next) (left : ℕ) (bytes rest : List ℕ) (e : FieldError) → 0 < left → Stops e (next_entry_at next rest) → Fails (fault_in bytes e) (to_come next left bytes rest)
 unfolding next_entries_at
-ends next Memory front count i bytes total lt h so_far = tt
-ends next (Bad left) front count i bytes total lt h so_far =
-    let k : count - i ≡ suc (count - (i + 1)) = omega arith in
-    let one : with_front front (next_entries_at next (count - i) bytes) ≡ Err left = rw (k, h) refl in
-    sym so_far ∙ one
+first_stops next zero bytes rest e some h = absurd (omega (arith, some))
+first_stops next (suc left) bytes rest Memory some h = tt
+first_stops next (suc left) bytes rest (Bad place) some h = rw h refl
 
-pub is_done : (next : Next) (front : List Entry) (count i : ℕ) (bytes : List ℕ) (total : Read (List Entry)) → count ≤ i → with_front front (next_entries_at next (count - i) bytes) ≡ total → total ≡ Ok (front, bytes)
+-- behind the last the bytes have to end
+pub none_left : (next : Next) (bytes rest : List ℕ) → rest ≡ [] → to_come next 0 bytes rest ≡ Ok []
 unfolding next_entries_at
-is_done next front count i bytes total le so_far =
-    let k : count - i ≡ 0 = omega arith in
-    let one : with_front front (next_entries_at next (count - i) bytes) ≡ Ok (front, bytes) = rw k (ap (λ (entries : List Entry). Ok (entries, bytes)) (append-nil front)) in
-    sym so_far ∙ one
+none_left next bytes [] end = refl
+none_left next bytes (byte ∷ more) end = absurd (cc end)
+
+pub some_left : (next : Next) (bytes rest : List ℕ) → 0 < length rest → to_come next 0 bytes rest ≡ Err (length bytes - length rest)
+unfolding next_entries_at
+some_left next bytes [] some = absurd (omega (arith, some))
+some_left next bytes (byte ∷ more) some = refl
+
+-- all of a frame is to come
+pub begun : (next : Next) (bytes : List ℕ) (count : ℕ) (rest : List ℕ) → members_at bytes ≡ Ok (count, rest) → to_come next count bytes rest ≡ next_frame_in next bytes
+unfolding next_frame_at
+begun next bytes count rest h = rw h refl
+
+pub not_begun : (next : Next) (bytes : List ℕ) (e : FieldError) → Stops e (members_at bytes) → Fails (fault_in bytes e) (next_frame_in next bytes)
+unfolding next_frame_at
+not_begun next bytes Memory h = tt
+not_begun next bytes (Bad place) h = rw h refl
+
+-- ---- numbers
 
 -- a step that went well had something to go on from
 step : {A B : Type 0} (r : Result A ℕ) (f : A → Result B ℕ) (b : B) → (r >>= f) ≡ Ok b → (a : A) × (r ≡ Ok a) × (f a ≡ Ok b)
 step (Ok a) f b h = (a, refl, h)
 step (Err e) f b h = absurd (cc h)
 
-tested : (test : Bool) (number read : ℕ × List ℕ) (left : ℕ) → (if test then Ok number else Err left) ≡ Ok read → (test ≡ true) × (number.0 ≡ read.0)
-tested true number read left h = (refl, cc h)
-tested false number read left h = absurd (cc h)
+ok_or : {A : Type 0} → A → Result A ℕ → A
+ok_or other (Ok a) = a
+ok_or other (Err e) = other
+
+ok_is : {A : Type 0} (a b : A) → Path (Result A ℕ) (Ok a) (Ok b) → a ≡ b
+unfolding ok_or
+ok_is a b h = ap (ok_or a) h
+
+-- a test that led to something was passed
+passed : {A : Type 0} (test : Bool) (a : A) (e : ℕ) (b : A) → (if test then Ok a else Err e) ≡ Ok b → (test ≡ true) × (a ≡ b)
+passed true a e b h = (refl, ok_is a b h)
+passed false a e b h = absurd (cc h)
 
 count_below : (bytes : List ℕ) (read : ℕ × List ℕ) → count_at bytes ≡ Ok read → read.0 < number_limit
 unfolding count_at
 count_below bytes read h =
     let s = step (number_at w64 bytes) _ read h in
-    let t = tested _ s.0 read _ s.2 in
-    grind (arith, nat_tests, t.0, t.1)
+    let p = passed (nat_lt s.0.0 number_limit) s.0 _ read s.2 in
+    let below : s.0.0 < number_limit = grind (arith, nat_tests, p.0) in
+    subst (λ (r : ℕ × List ℕ). r.0 < number_limit) p.1 below
 
--- the place of what was read
-abbrev place_in : Read Entry → ℕ
-place_in (Ok read) = read.0.position
-place_in (Err left) = 0
+place_is : (next : Next) (bytes : List ℕ) (read : ℕ × List ℕ) → place_at next bytes ≡ Ok read → (read.0 ≡ next.position) × (read.0 < number_limit)
+unfolding place_at
+place_is next bytes read h =
+    let s = step (count_at bytes) _ read h in
+    let p = passed _ s.0 _ read s.2 in
+    subst (λ (r : ℕ × List ℕ). (r.0 ≡ next.position) × (r.0 < number_limit)) p.1 (eqb-true s.0.0 next.position p.0, count_below bytes s.0 s.1)
 
--- the place of an entry that was read is below the limit of numbers
-pub place_below : (next : Next) (bytes : List ℕ) (entry : Entry) (after : List ℕ) → next_entry_at next bytes ≡ Ok (entry, after) → entry.position < number_limit
-unfolding next_entry_at place_at
-place_below next bytes entry after h =
+life_is : (next : Next) (bytes : List ℕ) (read : ℕ × List ℕ) → life_at next bytes ≡ Ok read → (next.incarnation ≤ read.0) × (read.0 < number_limit)
+unfolding life_at
+life_is next bytes read h =
+    let s = step (count_at bytes) _ read h in
+    let p = passed _ s.0 _ read s.2 in
+    subst (λ (r : ℕ × List ℕ). (next.incarnation ≤ r.0) × (r.0 < number_limit)) p.1 (leb-true next.incarnation s.0.0 p.0, count_below bytes s.0 s.1)
+
+pub is_next : (next : Next) (bytes : List ℕ) (entry : Entry) (after : List ℕ) → next_entry_at next bytes ≡ Ok (entry, after) → IsNext next entry
+unfolding next_entry_at
+is_next next bytes entry after h =
     let place = step (place_at next bytes) _ (entry, after) h in
-    let count = step (count_at bytes) _ place.0 place.1 in
     let life = step (life_at next place.0.1) _ (entry, after) place.2 in
     let items = step (entry_items_at life.0.1) _ (entry, after) life.2 in
-    let same : place.0.0 ≡ entry.position = ap place_in items.2 in
-    let counted : count.0.0 ≡ place.0.0 = (tested _ count.0 place.0 _ count.2).1 in
-    let below : count.0.0 < number_limit = count_below bytes count.0 count.1 in
-    omega arith
+    let at = place_is next bytes place.0 place.1 in
+    let of = life_is next place.0.1 life.0 life.1 in
+    let same : (record { position = place.0.0; incarnation = life.0.0; items = items.0.0 }, items.0.1) ≡ (entry, after) = ok_is _ (entry, after) items.2 in
+    subst (λ (r : Entry × List ℕ). IsNext next r.0) same (at.0, of.0, at.1, of.1)
+
+second_true : (x y : Bool) → x && y ≡ true → y ≡ true
+second_true true y is = is
+second_true false y is = absurd (cc is)
+
+pub few : (bytes : List ℕ) (read : ℕ × List ℕ) → members_at bytes ≡ Ok read → read.0 ≤ most_members
+unfolding members_at
+few bytes read h =
+    let s = step (number_at w16 bytes) _ read h in
+    let p = passed (nat_lt 0 s.0.0 && nat_le s.0.0 most_members) s.0 _ read s.2 in
+    let within : s.0.0 ≤ most_members = leb-true s.0.0 most_members (second_true (nat_lt 0 s.0.0) (nat_le s.0.0 most_members) p.0) in
+    subst (λ (r : ℕ × List ℕ). r.0 ≤ most_members) p.1 within
+
+-- ---- an entry
+
+-- what is to come of these bytes
+abbrev coming_of : Next → ℕ → (bytes rest : List ℕ) → Coming
+coming_of next left bytes rest = record { next = next; left = left; entries = to_come next left bytes rest }
+
+pub taken : (next : Next) (left more : ℕ) (bytes rest after : List ℕ) (entry : Entry) → left ≡ more + 1 → next_entry_at next rest ≡ Ok (entry, after)
+    → IsFirst (coming_of next left bytes rest) entry (coming_of (behind entry) more bytes after)
+taken next left more bytes rest after entry one h = record {
+  is_next = is_next next rest entry after h;
+  behind = refl;
+  left = one;
+  entries = rw (one, add-one) (first_of next more bytes rest after entry h);
+}
+
+pub at_end : (next : Next) (left : ℕ) (bytes rest : List ℕ) (result : Result (Option read.Entry) ReadError) → left ≡ 0
+    → IfOk result (λ entry. (entry ≡ None) × (rest ≡ [])) → OnErr result ((0 < length rest) × (result ≡ Err (fault_in bytes (Bad (length rest)))))
+    → ReadsNext (coming_of next left bytes rest) (coming_of next left bytes rest) result
+at_end next zero bytes rest (Ok None) none ok err = (none_left next bytes rest ok.1, refl)
+at_end next zero bytes rest (Ok (Some entry)) none ok err = absurd (cc ok.0)
+at_end next zero bytes rest (Err error) none ok err =
+    let is : error ≡ fault_in bytes (Bad (length rest)) = cc err.1 in
+    (subst (λ (e : ReadError). Fails e (to_come next 0 bytes rest)) (sym is) (some_left next bytes rest err.0), refl)
+at_end next (suc left) bytes rest result none ok err = absurd (cc none)

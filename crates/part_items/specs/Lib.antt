@@ -1,3 +1,4 @@
+pub mod Coming
 pub mod Fits
 pub mod Grammar
 pub mod ItemFits

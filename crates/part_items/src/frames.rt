@@ -47,6 +47,13 @@ pub struct Entry {
     pub items: Items,
 }
 
+impl Entry {
+    /// Lets go of it. Where another crate drops it, the drop of each of its parts is proved there once more.
+    pub fn let_go(self) {
+        drop(self);
+    }
+}
+
 /// What is written at once: a contract sees it as the list of its entries.
 #[derive(Drop)]
 pub struct Frame {
@@ -70,7 +77,7 @@ impl Frame {
         Frame { entries }
     }
 
-    /// Lets go of them. Where another crate drops them, the drop of each of their parts is proved there once more.
+    /// Lets go of them, as [`Entry::let_go`] does.
     pub fn let_go(self) {
         drop(self);
     }

@@ -1,17 +1,18 @@
-//! A log's next frame from bytes: its entries are numbered on from those before.
+//! A log's next frame from bytes, entry by entry: they are numbered on from those before.
 
-ghost use Rattle.std.specs.Prelude.{◌≡◌, ◌<◌};
+ghost use Rattle.std.specs.Prelude.{◌≡◌, ◌<◌, [], None, Err, IfOk, OnErr, length};
 ghost use Rattle.dura_value.specs.Limits.{number_limit};
-ghost use Rattle.dura_value.specs.Reading.{Gives};
-ghost use Rattle.dura_codec.specs.Fields.{Takes};
-ghost use Rattle.part_items.specs.Plain.{entry_of, entries_of, next_of};
-ghost use Rattle.part_items.specs.Numbered.{behind, place_at, life_at, next_entry_at, next_entries_at, next_frame_at, next_frame_in};
+ghost use Rattle.dura_codec.specs.Fields.{Takes, fault_in};
+ghost use Rattle.part_items.specs.Plain.{entry_of, next_of};
+ghost use Rattle.part_items.specs.Numbered.{behind, place_at, life_at, next_entry_at};
+ghost use Rattle.part_items.specs.Coming.{Begins, ReadsNext};
 
-use crate::frames::{Entry, Frame};
-use crate::reading::{at_offset, take_entry_items, take_members, whole_frame};
+use crate::frames::Entry;
+use crate::reading::{at_offset, take_entry_items, take_members};
 use dura_codec::{FieldError, take_count};
 use dura_value::ReadError;
 use std::alloc::Global;
+use std::marker::Model;
 
 /// Where a log goes on.
 #[derive(Clone, Copy, PartialEq, Eq)]
@@ -73,41 +74,69 @@ fn take_next_entry(alloc: Global, next: Next, bytes: &[u8]) -> Result<(Entry, &[
     Ok((entry, rest))
 }
 
-fn take_next_entries(
-    alloc: Global,
-    mut next: Next,
-    count: u16,
-    bytes: &[u8],
-) -> Result<(Vec<Entry>, &[u8]), FieldError>
-    ensures { Takes (λ v. entries_of v.items) result (next_entries_at (next_of next) count bytes.now) }
+/// No entry, where nothing is left of these bytes.
+fn nothing_left(rest: &[u8], bytes: &[u8]) -> Result<Option<Entry>, ReadError>
+    ensures none { IfOk result (λ entry. (entry ≡ None) × (rest.now ≡ [])) }
+    ensures fault { OnErr result ((0 < length rest.now) × (result ≡ Err (fault_in bytes.now (FieldError.Bad (length rest.now))))) }
 {
-    let mut entries = Vec::new(alloc);
-    let mut rest = bytes;
-    for _ in 0..count {
-        let (entry, after) = take_next_entry(alloc, next, rest)?;
-        next = next_behind(&entry);
-        entries.push(entry)?;
-        rest = after;
+    if rest.is_empty() {
+        return Ok(None);
     }
-    Ok((entries, rest))
+    Err(at_offset(FieldError::Bad { left: rest.len() }, bytes))
 }
 
-#[tactic(auto, unfolding(crate::specs::Numbered::next_frame_at))]
-fn take_next_frame(alloc: Global, next: Next, bytes: &[u8]) -> Result<(Frame, &[u8]), FieldError>
-    ensures { Takes entries_of result (next_frame_at (next_of next) bytes.now) }
-{
-    let (count, rest) = take_members(bytes)?;
-    let (entries, rest) = take_next_entries(alloc, next, count, rest)?;
-    whole_frame(entries, rest)
+/// A log's next frame, whose entries are read one after another: memory is the bytes and one entry. A contract sees what is still
+/// to come.
+#[derive(Drop)]
+pub struct FrameReader<'b> {
+    bytes: &'b [u8],
+    rest: &'b [u8],
+    next: Next,
+    left: u16,
 }
 
-/// The next frame of a log, which these bytes are, all of them: its entries are numbered from this place on, and of no life
-/// before this one.
-pub fn read_next_frame(alloc: Global, next: Next, bytes: &[u8]) -> Result<Frame, ReadError>
-    ensures { Gives entries_of result (next_frame_in (next_of next) bytes.now) }
-{
-    match take_next_frame(alloc, next, bytes) {
-        Ok((frame, _)) => Ok(frame),
-        Err(error) => Err(at_offset(error, bytes)),
+impl<'b> Model for FrameReader<'b> {
+    ghost use Rattle.part_items.specs.Plain.{next_of};
+    ghost use Rattle.part_items.specs.Coming.{Coming, to_come};
+
+    ghost Value = { Coming };
+
+    ghost view = { λ r. record { next = next_of r.next; left = r.left; entries = to_come (next_of r.next) r.left r.bytes.now r.rest.now } };
+}
+
+impl<'b> FrameReader<'b> {
+    /// Before the entries of the next frame of a log, which these bytes are, all of them: they are numbered from this place on,
+    /// and of no life before this one.
+    pub fn begin(next: Next, bytes: &'b [u8]) -> Result<FrameReader<'b>, ReadError>
+        ensures { Begins (next_of next) bytes.now result }
+    {
+        match take_members(bytes) {
+            Ok((left, rest)) => Ok(FrameReader {
+                bytes,
+                rest,
+                next,
+                left,
+            }),
+            Err(error) => Err(at_offset(error, bytes)),
+        }
+    }
+
+    /// The next entry, or none behind the last, where the bytes have to end. A fault is told when its entry is read: those before
+    /// it were given.
+    pub fn next(&mut self, alloc: Global) -> Result<Option<Entry>, ReadError>
+        ensures { ReadsNext self.old self.new result }
+    {
+        if self.left == 0 {
+            return nothing_left(self.rest, self.bytes);
+        }
+        match take_next_entry(alloc, self.next, self.rest) {
+            Ok((entry, rest)) => {
+                self.next = next_behind(&entry);
+                self.left -= 1;
+                self.rest = rest;
+                Ok(Some(entry))
+            }
+            Err(error) => Err(at_offset(error, self.bytes)),
+        }
     }
 }

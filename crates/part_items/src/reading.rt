@@ -172,7 +172,7 @@ fn take_entries(alloc: Global, count: u16, bytes: &[u8]) -> Result<(Vec<Entry>, 
 }
 
 /// The frame of these entries, behind which nothing may follow.
-pub(crate) fn whole_frame(entries: Vec<Entry>, rest: &[u8]) -> Result<(Frame, &[u8]), FieldError>
+fn whole_frame(entries: Vec<Entry>, rest: &[u8]) -> Result<(Frame, &[u8]), FieldError>
     ensures { Takes entries_of result (alone (entries_of entries.items, rest.now)) }
 {
     if !rest.is_empty() {

@@ -1,6 +1,7 @@
 pub mod BothSynced
 pub mod EntriesPlaced
 pub mod FilesFound
+pub mod FramePlaced
 pub mod FramesRead
 pub mod HeadersRead
 pub mod LogsFound

@@ -1,5 +1,5 @@
 -- What stands in one log file.
-use Rattle.std.specs.Prelude.{◌≡◌, ℕ, ◌+◌, ◌*◌, ◌≤◌, ◌<◌, List, [], ◌∷◌, ◌++◌, length, Result, Ok, Err}
+use Rattle.std.specs.Prelude.{◌≡◌, ℕ, ◌+◌, ◌*◌, ◌^◌, ◌≤◌, ◌<◌, List, [], ◌∷◌, ◌++◌, length, Result, Ok, Err}
 use Rattle.site_model.specs.History.{Step, changes_of, content_of, IsKept}
 use Rattle.commit_log.specs.declared.header.Header.{Header}
 use Rattle.commit_log.specs.Segment.{◌>>=◌, first_gate}
@@ -9,6 +9,8 @@ use Rattle.log_reader.specs.Frames.{HasRead}
 use Rattle.log_reader.specs.declared.reader.FrameError.{FrameError}
 use Rattle.log_reader.specs.declared.reader.LogReader.{LogReader}
 use Rattle.log_reader.specs.declared.reader.FrameError.TheVariants as unread
+use Rattle.dura_value.specs.declared.faults.ReadError.{ReadError}
+use Rattle.dura_value.specs.declared.faults.ReadError.TheVariants.{Bad, Memory}
 use Rattle.dura_value.specs.Items.{Entry}
 use Rattle.flow_syntax.specs.Syntax.{Flows}
 use Rattle.dura_model.specs.Partition.{fresh}
@@ -35,6 +37,16 @@ frames_in next [] = Ok []
 frames_in next (payload ∷ payloads) = next_frame_in next payload >>= λ entries. frames_in (behind_all next entries) payloads >>= λ more. Ok (entries ++ more)
 
 -- ---- while a file is read
+
+-- a fault in a payload behind the gate at this offset stands in a log
+abbrev pub IsInside : (gate : ℕ) → ReadError → Type 0
+IsInside gate (Bad offset) = gate + 5 + offset < 2 ^ 31
+IsInside gate Memory = Unit {0}
+
+-- it is told by its offset in the file
+abbrev pub fault_behind : (gate : ℕ) → ReadError → FrameError
+fault_behind gate (Bad offset) = unread.Damaged (gate + 5 + offset)
+fault_behind gate Memory = unread.Memory
 
 -- a frame behind the gate at this offset was read and its entries placed, of which there are 64 at most
 abbrev pub PlacesFrame : Flows → (old : Progress) → (gate : ℕ) → Result (List Entry) ℕ → Result Progress FrameError → Type 0

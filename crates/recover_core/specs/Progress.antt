@@ -1,11 +1,10 @@
 -- How far the entries of a log were placed.
-use Rattle.std.specs.Prelude.{◌≡◌, ℕ, ◌+◌, ◌≤◌, ◌<◌, List, [], ◌∷◌, length, Option, Some, None, Result, Ok, Err}
+use Rattle.std.specs.Prelude.{◌≡◌, ℕ, ◌+◌, ◌≤◌, List, [], ◌∷◌, length, Option, Some, None, Result, Ok, Err}
 use Rattle.commit_log.specs.Segment.{◌>>=◌}
 use Rattle.dura_value.specs.Items.{Entry}
-use Rattle.dura_value.specs.Limits.{number_limit}
 use Rattle.flow_syntax.specs.Syntax.{Flows}
 use Rattle.dura_model.specs.Partition.{Partition, fresh}
-use Rattle.part_items.specs.Numbered.{Next, behind, behind_all}
+use Rattle.part_items.specs.Numbered.{Next, behind_all}
 use Rattle.part_items.specs.Plain.{next_of}
 use Rattle.part_steps.specs.declared.state.PartState.{PartState}
 use Rattle.part_steps.specs.States.{IsSound, state_of, count_of}
@@ -38,12 +37,6 @@ IsReadyFor life (Stuck position) = Unit {0}
 -- an entry that is numbered on may begin, and one of the life that goes on
 abbrev pub IsReady : Progress → Type 0
 IsReady p = IsReadyFor p.next.incarnation p.placing × (p.next.incarnation ≤ p.life)
-
--- These are a log's next entries, whose numbers are below the limit.
-abbrev pub IsNext : Next → List Entry → Type 0
-IsNext next [] = Unit {0}
-IsNext next (entry ∷ entries) = (entry.position ≡ next.position) × (next.incarnation ≤ entry.incarnation)
-    × (entry.position < number_limit) × (entry.incarnation < number_limit) × IsNext (behind entry) entries
 
 -- what an entry makes of what those before it made
 pub record GoesOnAs (flows : Flows) (entry : Entry) (old new : Placing) : Type 0 where

@@ -1,9 +1,10 @@
 // The entries of a log make the state, one after another.
-ghost use Rattle.std.specs.Prelude.{◌≤◌, ◌<◌, ◌+◌, ◌^◌, [], ◌∷◌, IfOk, length};
-ghost use Rattle.part_items.specs.Plain.{items_of, entry_of, entries_of, next_of};
+ghost use Rattle.std.specs.Prelude.{◌<◌, ◌^◌, [], ◌∷◌, IfOk};
+ghost use Rattle.part_items.specs.Coming.{IsNext};
+ghost use Rattle.part_items.specs.Plain.{items_of, entry_of, next_of};
 ghost use Rattle.part_steps.specs.States.{IsSound, state_of, count_of};
 ghost use Rattle.part_files.specs.Placing.{all_accepted};
-ghost use Rattle.recover_core.specs.Progress.{Makes, GoesOnAs, GoesOn, IsReady, IsReadyFor, IsNext, position_in};
+ghost use Rattle.recover_core.specs.Progress.{Makes, GoesOnAs, GoesOn, IsReady, IsReadyFor, position_in};
 
 use crate::progress::{Placing, Progress};
 use part_items::{Entry, Item, Next};
@@ -60,44 +61,27 @@ fn place_on<R: Reactions>(
     }
 }
 
-/// An entry is placed behind those before.
-fn place_entry<R: Reactions>(
+/// An entry is placed behind those before, and let go of.
+pub(crate) fn place_entry<R: Reactions>(
     alloc: Global,
     reactions: &R,
     progress: Progress,
-    entry: &Entry,
+    entry: Entry,
 ) -> Result<Progress, AllocError>
     requires ready { IsReady progress }
     requires room { position_in progress.placing < 2 ^ 62 }
-    requires next { IsNext (next_of progress.next) (entry_of entry.now ∷ []) }
-    ensures { IfOk result (λ new. GoesOn (R.flows reactions.now) (entry_of entry.now ∷ []) progress new) }
+    requires next { IsNext (next_of progress.next) (entry_of entry) }
+    ensures { IfOk result (λ new. GoesOn (R.flows reactions.now) (entry_of entry ∷ []) progress new) }
 {
-    let placing = place_on(alloc, reactions, progress.placing, entry)?;
+    let next = Next {
+        position: entry.position + 1,
+        incarnation: entry.incarnation,
+    };
+    let placing = place_on(alloc, reactions, progress.placing, &entry);
+    entry.let_go();
     Ok(Progress {
-        next: Next {
-            position: entry.position + 1,
-            incarnation: entry.incarnation,
-        },
-        life: entry.incarnation + 1,
-        placing,
+        next,
+        life: next.incarnation + 1,
+        placing: placing?,
     })
-}
-
-/// Entries are placed one after another. From one on that isn't accepted none is.
-pub(crate) fn place_entries<R: Reactions>(
-    alloc: Global,
-    reactions: &R,
-    progress: Progress,
-    entries: &[Entry],
-) -> Result<Progress, AllocError>
-    requires ready { IsReady progress }
-    requires room { position_in progress.placing + length entries.now ≤ 2 ^ 62 }
-    requires next { IsNext (next_of progress.next) (entries_of entries.now) }
-    ensures { IfOk result (λ new. GoesOn (R.flows reactions.now) (entries_of entries.now) progress new) }
-{
-    let mut progress = progress;
-    for entry in entries {
-        progress = place_entry(alloc, reactions, progress, entry)?;
-    }
-    Ok(progress)
 }

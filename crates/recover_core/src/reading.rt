@@ -6,15 +6,15 @@ ghost use Rattle.dura_value.specs.Items.{Entry};
 ghost use Rattle.log_reader.specs.Frames.{HasRead};
 ghost use Rattle.part_items.specs.Numbered.{next_frame_in};
 ghost use Rattle.part_items.specs.Plain.{next_of};
-ghost use Rattle.recover_core.specs.Files.{PlacesFrame, IsOpened, HasReadTo, CanGoOn, ReadsOn, RestsAfter, StaysThere, ReadsAll};
+ghost use Rattle.recover_core.specs.Files.{IsInside, fault_behind, PlacesFrame, IsOpened, HasReadTo, CanGoOn, ReadsOn, RestsAfter, StaysThere, ReadsAll};
 ghost use Rattle.recover_core.specs.Progress.{IsReady, position_in};
 
-use crate::placing::place_entries;
-use crate::progress::Progress;
+use crate::placing::place_entry;
+use crate::progress::{Placing, Progress};
 use commit_log::Resting;
 use dura_value::ReadError;
 use log_reader::{FrameError, LogReader, Next};
-use part_items::read_next_frame;
+use part_items::FrameReader;
 use part_rows::Reactions;
 use site_model::Site;
 use std::alloc::Global;
@@ -37,7 +37,21 @@ pub(crate) enum Turn {
     End(Resting, Progress),
 }
 
-/// The entries of the frame behind the gate at this offset are placed.
+/// Why the frame behind the gate at this offset can't be read. What was placed is let go of.
+fn unread(placing: Placing, gate: u64, error: ReadError) -> FrameError
+    requires { IsInside gate error }
+    ensures { result ≡ fault_behind gate error }
+{
+    placing.let_go();
+    match error {
+        ReadError::Bad { offset } => FrameError::Damaged {
+            offset: gate + 5 + offset as u64,
+        },
+        ReadError::Memory => FrameError::Memory,
+    }
+}
+
+/// The entries of the frame behind the gate at this offset are placed, one after another.
 fn place_frame<R: Reactions>(
     alloc: Global,
     reactions: &R,
@@ -50,24 +64,21 @@ fn place_frame<R: Reactions>(
     requires below { gate + 5 + length payload.now < 2 ^ 31 }
     ensures { PlacesFrame (R.flows reactions.now) progress gate (next_frame_in (next_of progress.next) payload.now) result }
 {
-    let frame = match read_next_frame(alloc, progress.next, payload) {
+    let mut frame = match FrameReader::begin(progress.next, payload) {
         Ok(frame) => frame,
-        Err(ReadError::Memory) => {
-            progress.placing.let_go();
-            return Err(FrameError::Memory);
-        }
-        Err(ReadError::Bad { offset }) => {
-            progress.placing.let_go();
-            return Err(FrameError::Damaged {
-                offset: gate + 5 + offset as u64,
-            });
-        }
+        Err(error) => return Err(unread(progress.placing, gate, error)),
     };
-    let placed = place_entries(alloc, reactions, progress, frame.entries());
-    frame.let_go();
-    match placed {
-        Ok(placed) => Ok(placed),
-        Err(_) => Err(FrameError::Memory),
+    let mut progress = progress;
+    'entries: loop {
+        let entry = match frame.next(alloc) {
+            Ok(Some(entry)) => entry,
+            Ok(None) => return Ok(progress),
+            Err(error) => return Err(unread(progress.placing, gate, error)),
+        };
+        progress = match place_entry(alloc, reactions, progress, entry) {
+            Ok(placed) => placed,
+            Err(_) => return Err(FrameError::Memory),
+        };
     }
 }
 

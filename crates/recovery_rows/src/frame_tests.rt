@@ -2,7 +2,7 @@
 //! tools/frame-table, which reads by the grammar of docs/FORMAT.md and shares no code with the crates.
 
 use dura_value::ReadError;
-use part_items::{Frame, Next, read_frame, read_next_frame};
+use part_items::{Frame, FrameReader, Next, read_frame};
 use std::alloc::Global;
 use std::process::Abort;
 
@@ -67,16 +67,39 @@ const CHANGED: [[Option<usize>; 4]; 38] = [
     [Some(34), None, None, None], // 37: 01
 ];
 
+/// Where this fault is.
+fn offset_of(rt: &impl Abort, error: ReadError) -> usize {
+    match error {
+        ReadError::Bad { offset } => offset,
+        ReadError::Memory => panic!(rt; "memory"),
+    }
+}
+
 /// Where the fault is, or none of a frame.
 fn fault_in(rt: &impl Abort, read: Result<Frame, ReadError>) -> Option<usize> {
     match read {
         Ok(frame) => {
-            drop(frame);
+            frame.let_go();
             None
         }
-        Err(ReadError::Bad { offset }) => Some(offset),
-        Err(ReadError::Memory) => panic!(rt; "memory"),
+        Err(error) => Some(offset_of(rt, error)),
     }
+}
+
+/// Where the fault is of a log's next frame, or none of one that is read to its end.
+fn next_fault_in(rt: &impl Abort, alloc: Global, next: Next, bytes: &[u8]) -> Option<usize> {
+    let mut frame = match FrameReader::begin(next, bytes) {
+        Ok(frame) => frame,
+        Err(error) => return Some(offset_of(rt, error)),
+    };
+    for _ in 0..65 {
+        match frame.next(alloc) {
+            Ok(Some(entry)) => entry.let_go(),
+            Ok(None) => return None,
+            Err(error) => return Some(offset_of(rt, error)),
+        }
+    }
+    panic!(rt; "more than 64 entries")
 }
 
 /// These bytes are a frame, or have a fault there.
@@ -126,7 +149,7 @@ fn check_next(
         position,
         incarnation,
     };
-    assert!(rt; fault_in(rt, read_next_frame(alloc, next, &EXAMPLE)) == fault);
+    assert!(rt; next_fault_in(rt, alloc, next, &EXAMPLE) == fault);
 }
 
 #[test]
@@ -135,4 +158,12 @@ fn next_frames(rt: HostRuntime) {
     check_next(&rt, alloc, 0, 0, None);
     check_next(&rt, alloc, 1, 0, Some(2));
     check_next(&rt, alloc, 0, 1, Some(10));
+    let first = Next {
+        position: 0,
+        incarnation: 0,
+    };
+    for (size, fault) in FRONTS.iter().enumerate() {
+        assert!(rt; size < EXAMPLE.len());
+        assert!(rt; next_fault_in(&rt, alloc, first, &EXAMPLE[..size]) == Some(*fault));
+    }
 }
