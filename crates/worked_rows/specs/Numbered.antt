@@ -3,6 +3,7 @@ use Rattle.std.specs.Prelude.{◌≡◌, ℕ, List, [], ◌∷◌, ◌++◌, map
 use Rattle.dura_value.specs.Ids.{client}
 use Rattle.dura_value.specs.Messages.{query}
 use Rattle.dura_value.specs.Items.{took, Entry}
+use Rattle.part_items.specs.Coming.{Coming}
 use Rattle.part_items.specs.Numbered.{Next, next_frame_in}
 use Rattle.worked_rows.specs.Frames.{example_bytes, example_entries}
 
@@ -51,3 +52,34 @@ NextReads rows = map (λ row. next_read row.0) rows ≡ map (λ row. Ok row.1) r
 -- none of these bytes can be read, from the offset beside them on
 abbrev pub NextFaults : List (Log × ℕ) → Type 0
 NextFaults rows = map (λ row. next_read row.0) rows ≡ map (λ row. Err row.1) rows
+
+-- two entries and their bytes; two are to come, or two where a byte stands behind them, then one, and none
+abbrev pub two_bytes : List ℕ
+two_bytes = 0 ∷ 2 ∷ entry_bytes 5 2 0x20 ++ entry_bytes 6 3 0x20
+
+abbrev coming : (position incarnation left : ℕ) → Result (List Entry) ℕ → Coming
+coming position incarnation left entries = record { next = record { position = position; incarnation = incarnation }; left = left; entries = entries }
+
+abbrev pub first_entry : Entry
+first_entry = entry 5 2
+
+abbrev pub second_entry : Entry
+second_entry = entry 6 3
+
+abbrev pub two_to_come : Coming
+two_to_come = coming 5 2 2 (Ok (first_entry ∷ second_entry ∷ []))
+
+abbrev pub broken_to_come : Coming
+broken_to_come = coming 5 2 2 (Err 62)
+
+abbrev pub broken_behind : Coming
+broken_behind = coming 6 2 1 (Err 62)
+
+abbrev pub one_to_come : Coming
+one_to_come = coming 6 2 1 (Ok (second_entry ∷ []))
+
+abbrev pub none_to_come : Coming
+none_to_come = coming 7 3 0 (Ok [])
+
+abbrev pub too_many : Coming
+too_many = coming 5 2 65 (Ok (first_entry ∷ second_entry ∷ []))

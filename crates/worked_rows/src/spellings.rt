@@ -1,6 +1,6 @@
 //! The tables.
 
-ghost use Rattle.std.specs.Prelude.{◌≡◌, Ok};
+ghost use Rattle.std.specs.Prelude.{◌≡◌, [], ◌∷◌, ◌++◌, None, Ok, Err};
 ghost use Rattle.dura_codec.specs.Grammar.{value_at, id_at, reply_at, answer_at, body_at, message_at};
 ghost use Rattle.dura_codec.specs.Spelling.{spell_value, spell_id, spell_reply, spell_answer, spell_body, spell_message};
 ghost use Rattle.part_items.specs.Grammar.{item_at, frame_at, frame_in};
@@ -11,7 +11,9 @@ ghost use Rattle.worked_rows.specs.Ids.{id_rows, id_faults, reply_rows, reply_fa
 ghost use Rattle.worked_rows.specs.Messages.{answer_rows, answer_faults, body_rows, body_faults, message_rows, message_faults};
 ghost use Rattle.worked_rows.specs.Items.{item_rows, item_faults};
 ghost use Rattle.worked_rows.specs.Frames.{example_bytes, example_entries, frame_faults};
-ghost use Rattle.worked_rows.specs.Numbered.{next_rows, next_faults, NextReads, NextFaults};
+ghost use Rattle.worked_rows.specs.Numbered.{next_rows, next_faults, NextReads, NextFaults, two_bytes, first_entry, second_entry, two_to_come, broken_to_come, broken_behind, one_to_come, none_to_come, too_many};
+ghost use Rattle.dura_value.specs.declared.faults.ReadError.TheVariants as places;
+ghost use Rattle.part_items.specs.Coming.{Begins, IsFirst, ReadsNext};
 
 /// Values of each kind.
 pub fn values()
@@ -73,4 +75,21 @@ pub fn frames()
 pub fn next_frames()
     ensures read { NextReads next_rows }
     ensures faults { NextFaults next_faults }
+{}
+
+/// What is read of a frame's entries one after another: both are to come, the first of them is the next one, behind the last there
+/// is none, and a fault behind them is told there.
+pub fn next_entries()
+    ensures begun { Begins two_to_come.next two_bytes (Ok two_to_come) }
+    ensures not_left_out { Begins two_to_come.next two_bytes (Ok one_to_come) → ⊥ }
+    ensures not_so_many { Begins two_to_come.next two_bytes (Ok too_many) → ⊥ }
+    ensures followed { Begins two_to_come.next (two_bytes ++ 0 ∷ []) (Ok broken_to_come) }
+    ensures first { IsFirst two_to_come first_entry one_to_come }
+    ensures before_a_fault { IsFirst broken_to_come first_entry broken_behind }
+    ensures not_second { IsFirst two_to_come second_entry one_to_come → ⊥ }
+    ensures not_both { IsFirst two_to_come first_entry none_to_come → ⊥ }
+    ensures end { ReadsNext none_to_come none_to_come (Ok None) }
+    ensures not_the_end { ReadsNext one_to_come one_to_come (Ok None) → ⊥ }
+    ensures fault { ReadsNext broken_behind broken_behind (Err (places.Bad 62)) }
+    ensures no_other_fault { ReadsNext broken_behind broken_behind (Err (places.Bad 61)) → ⊥ }
 {}
