@@ -123,9 +123,9 @@ fn stop_running(machine: &mut Machine<'_>, alloc: Global, made: &mut Made) -> Re
     let Some(todo) = take_next(machine)? else {
         return machine.end(made, Progress::Done(Value::Null));
     };
-    let blocks = todo_blocks(machine, alloc, &todo)?;
+    let stays = todo_blocks(machine, alloc, &todo)?;
     machine.plan(todo)?;
-    if blocks {
+    if stays {
         Ok(())
     } else {
         fail(machine, alloc, made, "budget")
