@@ -1,3 +1,4 @@
+pub mod Bytes
 pub mod Homes
 pub mod Ids
 pub mod Texts

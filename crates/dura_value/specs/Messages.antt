@@ -1,5 +1,5 @@
 -- What instances, entities and clients say to one another.
-use Rattle.std.specs.Prelude.{ℕ, ◌&&◌, ◌||◌, List, [], ◌∷◌, Bool, if◌then◌else◌, Option, Some, None, suc, zero}
+use Rattle.std.specs.Prelude.{ℕ, ◌&&◌, ◌||◌, List, [], ◌∷◌, Bool, false, if◌then◌else◌, Option, Some, None, suc, zero}
 use Rattle.std.specs.Str.{bytes_eq}
 use Rattle.dura_value.specs.declared.data.Value.{Value}
 use Rattle.dura_value.specs.Bytes.{bytes_before}
@@ -38,6 +38,11 @@ spot_before a b = bytes_before a.class b.class || (bytes_eq a.class b.class && b
 
 abbrev pub spot_eq : Spot → Spot → Bool
 spot_eq a b = bytes_eq a.class b.class && bytes_eq a.key b.key
+
+-- whether an entity is one of these
+abbrev pub is_among : Spot → List Spot → Bool
+is_among spot [] = false
+is_among spot (other ∷ set) = spot_eq spot other || is_among spot set
 
 -- an entity is put into a set in order, unless it is there
 abbrev pub inserted : Spot → List Spot → List Spot

@@ -11,7 +11,7 @@ use Rattle.dura_value.specs.declared.data.Value.TheVariants as values
 use Rattle.dura_value.specs.contracts.data.ScalarPartialEq.TheImpl as same_scalars
 use Rattle.dura_value.specs.contracts.data.ValuePartialEq.TheImpl as same_values
 use Rattle.dura_value.specs.Values as table
-use Rattle.flow_syntax.proofs.Maps.{is_lt-slice_cmp}
+use Rattle.dura_value.proofs.Bytes.{is_lt-slice_cmp}
 
 pub less_bytes : (xs ys : List ℕ) → is_lt (slice_cmp nat_cmp xs ys) ≡ bytes_before xs ys
 less_bytes xs ys = sym (is_lt-slice_cmp xs ys)

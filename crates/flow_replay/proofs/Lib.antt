@@ -1,11 +1,3 @@
-pub mod AllSpots
-pub mod Counts
-pub mod Ending
-pub mod Leading
-pub mod Locking
-pub mod NoneKept
 pub mod Replayed
-pub mod Stepping
 pub mod Steps
 pub mod Taken
-pub mod Thrown

@@ -2,12 +2,12 @@
 use Rattle.std.proofs.Common.{◌≡◌, ◌∙◌, ◌++◌, ℕ, zero, suc, List, Bool, true, false, Result, Ok, Err, OnOk, refl, ap, sym, subst, append_assoc}
 use Rattle.dura_value.specs.Messages.{Message}
 use Rattle.flow_syntax.specs.Machine.{Machine, Asked, Resumed, Next, stays, goes, only, and_then, go, go_on, next_of}
-use Rattle.flow_replay.specs.declared.machine.Machine.{Machine as OwnMachine}
+use Rattle.flow_machine.specs.declared.machine.Machine.{Machine as OwnMachine}
 use Rattle.flow_messages.specs.declared.made.Made.{Made}
-use Rattle.flow_replay.specs.Views.{machine_of}
-use Rattle.flow_replay.specs.Steps.{Makes, Moves, Leads}
+use Rattle.flow_machine.specs.Views.{machine_of}
+use Rattle.flow_machine.specs.Steps.{Makes, Moves, Leads}
 use Rattle.flow_replay.specs.Moving.{stopped}
-use Rattle.flow_replay.proofs.Leading.{leads_on}
+use Rattle.flow_machine.proofs.Leading.{leads_on}
 
 -- one after the other after the other
 three : (a b c : Resumed) → and_then (and_then a b) c ≡ and_then a (and_then b c)

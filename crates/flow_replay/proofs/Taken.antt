@@ -1,21 +1,20 @@
 -- What is taken out of what is to run.
-use Rattle.std.proofs.Common.{◌≡◌, ◌<◌, ◌∙◌, ◌++◌, ℕ, List, [], ◌∷◌, length, take, drop, map, codes, Some, Result, Ok, Err, IfOk, Bool, true, false, refl, ap, sym, subst, arith}
+use Rattle.std.proofs.Common.{◌≡◌, ◌<◌, ◌∙◌, ◌++◌, ℕ, List, [], ◌∷◌, length, take, drop, map, codes, Result, Ok, Err, IfOk, Bool, true, false, refl, ap, sym, subst, arith}
 use Rattle.std.proofs.lemmas.List.{append-nil}
 use Rattle.dura_value.specs.Views.{messages_of}
-use Rattle.std.specs.List.{slice_get}
 use Rattle.std.specs.Borrow.{Bor}
 use Rattle.flow_syntax.specs.declared.syntax.Stmt.{Stmt}
 use Rattle.flow_syntax.specs.Syntax.{Statement}
 use Rattle.flow_syntax.specs.Views.{block_of}
 use Rattle.flow_syntax.specs.Machine.{Machine, Todo, Next, stays, goes, only, ended, failed, run, wait_lock, unlock, end_try, todo, running_step}
-use Rattle.flow_replay.specs.declared.machine.Todo.{Todo as OwnTodo}
-use Rattle.flow_replay.specs.declared.machine.Todo.TheVariants as own
-use Rattle.flow_replay.specs.declared.machine.Machine.{Machine as OwnMachine}
+use Rattle.flow_machine.specs.declared.machine.Todo.{Todo as OwnTodo}
+use Rattle.flow_machine.specs.declared.machine.Todo.TheVariants as own
+use Rattle.flow_machine.specs.declared.machine.Machine.{Machine as OwnMachine}
 use Rattle.flow_messages.specs.declared.made.Made.{Made}
 use Rattle.flow_messages.specs.Views.{asked_of}
-use Rattle.flow_replay.specs.Views.{machine_of, todos_of}
-use Rattle.flow_replay.specs.Steps.{with_rest, Moves, Waits}
-use Rattle.flow_replay.specs.Moving.{Taken, todo_step, stopped, IsGoing, Blocks}
+use Rattle.flow_machine.specs.Views.{machine_of, todos_of}
+use Rattle.flow_machine.specs.Steps.{with_rest, todo_step, Moves, Waits}
+use Rattle.flow_replay.specs.Moving.{Taken, stopped, IsGoing, Blocks}
 
 -- what is no body is one thing
 pub single : (one : OwnTodo) → ((body : Bor (List Stmt)) → one ≡ own.Body body → ⊥) → length (todos_of one) ≡ 1
@@ -47,11 +46,6 @@ pub is_alone : (body : List Stmt) → length body ≡ 1 → length (todo (block_
 is_alone [] is = absurd (cc is)
 is_alone (statement ∷ []) is = refl
 is_alone (statement ∷ other ∷ more) is = absurd (cc is)
-
-pub alone : (body : List Stmt) (one : Stmt) → length (todo (block_of body)) ≡ 1 → Some one ≡ slice_get body 0 → body ≡ one ∷ []
-alone [] one is at = absurd (cc is)
-alone (statement ∷ []) one is at = let first : Some one ≡ Some statement = at in cc first
-alone (statement ∷ other ∷ more) one is at = absurd (cc is)
 
 -- the step of a machine is that of what is taken out
 step_is : (before old : Machine) (one : OwnTodo) → Taken before old one → running_step before before.rest ≡ todo_step before old (todos_of one)

@@ -1,12 +1,12 @@
 -- Step after step.
-use Rattle.std.specs.Prelude.{◌≡◌, ℕ, List, [], ◌∷◌, ◌++◌, length, codes, Bool, true, false, Option, Some, None}
+use Rattle.std.specs.Prelude.{◌≡◌, ℕ, List, [], ◌++◌, length, codes, Bool, true, false, Option, Some, None}
 use Rattle.flow_syntax.specs.declared.syntax.Stmt.{Stmt}
 use Rattle.flow_syntax.specs.Views.{block_of}
-use Rattle.flow_syntax.specs.Syntax.{Expression, Statement, await, await_all, await_any}
+use Rattle.flow_syntax.specs.Syntax.{Expression, await, await_all, await_any}
 use Rattle.flow_syntax.specs.Machine as plain
-use Rattle.flow_replay.specs.declared.machine.Todo.{Todo}
-use Rattle.flow_replay.specs.Views.{todos_of}
-use Rattle.flow_replay.specs.Steps.{with_rest}
+use Rattle.flow_machine.specs.declared.machine.Todo.{Todo}
+use Rattle.flow_machine.specs.Views.{todos_of}
+use Rattle.flow_machine.specs.Steps.{with_rest}
 
 -- What came last was taken out.
 pub record Popped (old now : plain.Machine) (todo : Todo) : Type 0 where
@@ -34,14 +34,6 @@ abbrev pub Takes : plain.Machine → plain.Machine → Option Todo → Type 0
 Takes old now (Some todo) = Taken old now todo
 Takes old now None = (old.rest ≡ []) × (now ≡ old)
 
--- the step of what is to run, of a machine that has it behind it; with nothing to run it stays
-abbrev pub todo_step : plain.Machine → plain.Machine → List plain.Todo → plain.Next
-todo_step was m [] = plain.stays (plain.only was)
-todo_step was m (plain.run statement ∷ rest) = plain.statement_step was m statement
-todo_step was m (plain.wait_lock ∷ rest) = plain.lock_step was m m.section
-todo_step was m (plain.unlock ∷ rest) = plain.goes (plain.leaving m m.section)
-todo_step was m (plain.end_try variable handler ∷ rest) = plain.goes (plain.only m)
-
 -- It stays just where it is, or it would go on.
 abbrev pub IsGoing : plain.Next → Type 0
 IsGoing (plain.goes r) = Unit {0}
@@ -65,10 +57,3 @@ AnyBlocks blocks m handles = (variable : List ℕ) → Blocks blocks (λ was. pl
 abbrev pub stopped : plain.Machine → plain.Next → plain.Resumed
 stopped m (plain.stays r) = r
 stopped m (plain.goes r) = plain.ended m (plain.failed (codes "budget"))
-
--- a statement that waits for no task
-abbrev pub NeverWaits : Statement → Type 0
-NeverWaits (await variable handle) = ⊥
-NeverWaits (await_all variable handles) = ⊥
-NeverWaits (await_any variable handles) = ⊥
-NeverWaits other = Unit {0}

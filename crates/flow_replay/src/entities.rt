@@ -6,38 +6,38 @@ ghost use Rattle.dura_value.specs.Views.{id_of, reply_of, answer_of, body_of as 
 ghost use Rattle.flow_syntax.specs.Views.{block_of, flows_of};
 ghost use Rattle.flow_syntax.specs.Entity.{takes, answering, operated, operation_of, body_answer, new_value, lock_goes_on, deliver};
 ghost use Rattle.flow_syntax.specs.Machine.{go, most_steps};
-ghost use Rattle.flow_replay.specs.Views.{machine_of, progress_of, body_of};
+ghost use Rattle.flow_machine.specs.Views.{machine_of, progress_of, body_of};
 ghost use Rattle.flow_messages.specs.Views.{entity_of};
-ghost use Rattle.flow_replay.specs.Steps.{begun};
+ghost use Rattle.flow_replay.specs.Resuming.{begun};
 ghost use Rattle.flow_replay.specs.Entities.{Delivers, Finishes, body_run, shown_class};
 
-use crate::machine::{Machine, Progress, put};
+use crate::going::go;
+use crate::resume::{give, run_body};
 use dura_value::{Answer, Body, Id, Message, Name, Reply, Spots, Value};
+use flow_machine::{Machine, Progress, put};
 use flow_messages::{
     Entity, Made, answer_reply, copy_id, copy_text, copy_value, pass_on, word_text,
 };
 use flow_syntax::{Class, Flows, Stmt};
 use std::alloc::{AllocError, Global};
 
-impl<'f> Machine<'f> {
-    /// Runs the body of an operation, with the entity's value and the argument.
-    fn run_operation(
-        &mut self,
-        alloc: Global,
-        value: &Value,
-        argument: &Value,
-        body: &'f [Stmt],
-    ) -> Result<(), AllocError>
-        ensures { OnOk result (machine_of self.new ≡ (go most_steps (begun (machine_of self.old) ((codes "self", value.now) ∷ (codes "arg", argument.now) ∷ []) (block_of body.now))).machine) }
-    {
-        self.run_body(alloc, body)?;
-        self.give(alloc, b"self", value)?;
-        self.give(alloc, b"arg", argument)?;
-        let mut made = Made::new(alloc);
-        let gone = self.go(alloc, &mut made);
-        drop(made);
-        gone
-    }
+/// Runs the body of an operation, with the entity's value and the argument.
+fn run_operation<'f>(
+    machine: &mut Machine<'f>,
+    alloc: Global,
+    value: &Value,
+    argument: &Value,
+    body: &'f [Stmt],
+) -> Result<(), AllocError>
+    ensures { OnOk result (machine_of machine.new ≡ (go most_steps (begun (machine_of machine.old) ((codes "self", value.now) ∷ (codes "arg", argument.now) ∷ []) (block_of body.now))).machine) }
+{
+    run_body(machine, alloc, body)?;
+    give(machine, alloc, b"self", value)?;
+    give(machine, alloc, b"arg", argument)?;
+    let mut made = Made::new(alloc);
+    let gone = go(machine, alloc, &mut made);
+    drop(made);
+    gone
 }
 
 /// The value that an operation's body returned, or its fault.
@@ -83,7 +83,7 @@ fn finish<'f>(
 ) -> Result<Answer, AllocError>
     ensures { IfOk result (λ answer. Finishes answer entity.new (entity_of entity.old) (go most_steps (begun (machine_of machine.old) ((codes "self", entity.old.value) ∷ (codes "arg", argument.now) ∷ []) (block_of body.now))).machine) }
 {
-    machine.run_operation(alloc, &entity.value, argument, body)?;
+    run_operation(machine, alloc, &entity.value, argument, body)?;
     keep(alloc, entity, machine)?;
     end_answer(alloc, &machine.progress)
 }

@@ -4,10 +4,11 @@ ghost use Rattle.std.specs.Prelude.{◌≡◌, IfOk, map, option_map};
 ghost use Rattle.dura_value.specs.Views.{id_of};
 ghost use Rattle.flow_syntax.specs.Machine.{new_machine, replayed};
 ghost use Rattle.flow_messages.specs.Views.{past_of};
-ghost use Rattle.flow_replay.specs.Views.{machine_of, body_of};
+ghost use Rattle.flow_machine.specs.Views.{machine_of, body_of};
 
-use crate::machine::Machine;
+use crate::resume::advance;
 use dura_value::Id;
+use flow_machine::Machine;
 use flow_messages::Past;
 use flow_syntax::Stmt;
 use std::alloc::{AllocError, Global};
@@ -23,7 +24,7 @@ pub fn replay<'f>(
 {
     let mut machine = Machine::new(alloc, id, body)?;
     for past in history {
-        match machine.advance(alloc, &past.event, past.stamp) {
+        match advance(&mut machine, alloc, &past.event, past.stamp) {
             Ok(made) => drop(made),
             Err(fault) => {
                 drop(machine);

@@ -2,7 +2,7 @@
 use Rattle.std.specs.Prelude.{map, option_map}
 use Rattle.dura_value.specs.Views.{messages_of}
 use Rattle.flow_messages.specs.Views.{asked_of}
-use Rattle.flow_replay.specs.Views.{machine_of}
+use Rattle.flow_machine.specs.Views.{machine_of}
 use Rattle.flow_syntax.specs.Syntax.{Flows}
 use Rattle.flow_syntax.specs.Views.{flows_of}
 use Rattle.dura_model.specs.World as world

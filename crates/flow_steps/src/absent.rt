@@ -5,7 +5,7 @@ ghost use Rattle.dura_value.specs.Views.{id_of, reply_of, body_of as said_of, me
 ghost use Rattle.flow_syntax.specs.Machine.{new_machine, started};
 ghost use Rattle.flow_syntax.specs.Views.{flows_of};
 ghost use Rattle.flow_messages.specs.Views.{event_of};
-ghost use Rattle.flow_replay.specs.Views.{body_of};
+ghost use Rattle.flow_machine.specs.Views.{body_of};
 ghost use Rattle.dura_model.specs.Deliveries.{stays_away, flow_of, begun, to_absent};
 ghost use Rattle.flow_steps.specs.Views.{instance_of, effect_of};
 
@@ -13,8 +13,8 @@ use crate::answers::{begin, refuse, tell};
 use crate::ends::go_on_from;
 use crate::instance::{Effect, Instance};
 use dura_value::{Answer, Body, Id, Message, Reply, Value, with};
+use flow_machine::Machine;
 use flow_messages::{Event, copy_id, copy_reply, copy_value};
-use flow_replay::Machine;
 use flow_syntax::{Flows, Stmt};
 use std::alloc::{AllocError, Global};
 

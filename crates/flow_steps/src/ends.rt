@@ -3,7 +3,7 @@
 ghost use Rattle.std.specs.Prelude.{◌≡◌, ◌++◌, map, IfOk, option_map};
 ghost use Rattle.dura_value.specs.Views.{answer_of, messages_of};
 ghost use Rattle.flow_messages.specs.Views.{event_of, asked_of};
-ghost use Rattle.flow_replay.specs.Views.{progress_of};
+ghost use Rattle.flow_machine.specs.Views.{progress_of};
 ghost use Rattle.dura_model.specs.Deliveries.{ending, goes_on_from};
 ghost use Rattle.flow_steps.specs.Views.{instance_of, effect_of};
 ghost use Rattle.flow_steps.specs.Ends.{ended_with, settled_with};
@@ -11,8 +11,9 @@ ghost use Rattle.flow_steps.specs.Ends.{ended_with, settled_with};
 use crate::answers::answer_all;
 use crate::instance::{Effect, Instance};
 use dura_value::{Answer, Message, with};
+use flow_machine::Progress;
 use flow_messages::{Asked, Event, copy_text, copy_value};
-use flow_replay::Progress;
+use flow_replay::advance;
 use std::alloc::{AllocError, Global};
 
 /// What an instance that has come to its end is answered with.
@@ -90,7 +91,7 @@ pub(crate) fn go_on_from<'f>(
 ) -> Result<Effect<'f>, AllocError>
     ensures { IfOk result (λ e. effect_of e ≡ goes_on_from (instance_of instance.entry) (event_of event.now) stamp (messages_of before.items)) }
 {
-    let advanced = instance.machine.advance(alloc, event, stamp);
+    let advanced = advance(&mut instance.machine, alloc, event, stamp);
     let (made, instance) = with(advanced, instance)?;
     let (sent, instance) = with(join(before, made.messages), instance)?;
     settle(alloc, instance, sent, made.asked)

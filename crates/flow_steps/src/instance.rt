@@ -1,8 +1,8 @@
 //! An instance, and what a delivery or an event made of it.
 
 use dura_value::Message;
+use flow_machine::Machine;
 use flow_messages::Asked;
-use flow_replay::Machine;
 use part_rows::Waiting;
 
 /// An instance: its machine, and who waits for its end.

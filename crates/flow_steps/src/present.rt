@@ -5,7 +5,7 @@ ghost use Rattle.dura_value.specs.Messages.{was_there, was_raised};
 ghost use Rattle.dura_value.specs.Views.{id_of, reply_of, answer_of, body_of as said_of, messages_of};
 ghost use Rattle.flow_syntax.specs.Machine.{was_raised as raised_event};
 ghost use Rattle.flow_messages.specs.Views.{event_of};
-ghost use Rattle.flow_replay.specs.Views.{progress_of};
+ghost use Rattle.flow_machine.specs.Views.{progress_of};
 ghost use Rattle.dura_model.specs.Deliveries.{goes_on_from, stays_so, standing, is_over, ending, waited, raised_at, result_at, granted_at, refusing, telling, to_present};
 ghost use Rattle.part_rows.specs.Reactions.{waits_of};
 ghost use Rattle.flow_steps.specs.Views.{instance_of, effect_of};
@@ -14,8 +14,9 @@ use crate::answers::{refuse, tell};
 use crate::ends::{end_answer, go_on_from};
 use crate::instance::{Effect, Instance};
 use dura_value::{Answer, Body, Id, Message, Name, Reply, Value, with};
+use flow_machine::Progress;
 use flow_messages::{Event, copy_id, copy_name, copy_text, copy_value};
-use flow_replay::Progress;
+use flow_replay::advance;
 use part_rows::{Waiting, copy_answer};
 use std::alloc::{AllocError, Global};
 
@@ -197,7 +198,7 @@ fn grant_late<'f>(
     ensures { IfOk result (λ e. effect_of e ≡ granted_at (instance_of instance.entry) stamp task true) }
 {
     let event = Event::Granted(task);
-    let made = instance.machine.advance(alloc, &event, stamp);
+    let made = advance(&mut instance.machine, alloc, &event, stamp);
     drop(event);
     let (made, instance) = with(made, instance)?;
     Ok(Effect {

@@ -1,29 +1,15 @@
 -- What is put into a map and looked up in it, as its entries in order say it.
-use Rattle.std.proofs.Common.{◌≡◌, ◌==◌, ◌&&◌, ◌||◌, ◌∙◌, ℕ, nat_lt, List, [], ◌∷◌, true, false, if◌then◌else◌, Option, Some, None, option_map, option_copied, Bor, refl, ap, sym}
+use Rattle.std.proofs.Common.{◌≡◌, ◌∙◌, ℕ, List, [], ◌∷◌, true, false, if◌then◌else◌, Option, Some, None, option_map, option_copied, Bor, refl, ap, sym}
 use Rattle.std.specs.declared.cmp.Ordering.{Ordering}
 use Rattle.std.specs.declared.cmp.Ordering.TheVariants.{Less, Equal, Greater}
-use Rattle.std.specs.Ordering.{nat_cmp, is_lt, is_eq, ordering_then, match_ordering}
+use Rattle.std.specs.Ordering.{nat_cmp, is_lt, is_eq, match_ordering}
 use Rattle.std.specs.Cmp.Lexicographic.{slice_cmp, nat_list_eq_equiv}
 use Rattle.std.specs.BTreeMap.{insert_entry}
 use Rattle.std.specs.Map.{lookup}
 use Rattle.std.proofs.lemmas.Map.Text.{is_eq-slice_cmp}
-use Rattle.dura_value.specs.Bytes.{bytes_before}
+use Rattle.dura_value.proofs.Bytes.{is_lt-slice_cmp}
 use Rattle.flow_syntax.specs.Syntax.{Named, put_in, look_up}
 use Rattle.flow_syntax.specs.Views.{named_by}
-
--- the order of names is that of their bytes
-pub is_lt-slice_cmp : (xs ys : List ℕ) → bytes_before xs ys ≡ is_lt (slice_cmp nat_cmp xs ys)
-is_lt-slice_cmp [] [] = refl
-is_lt-slice_cmp (x ∷ xs) [] = refl
-is_lt-slice_cmp [] (y ∷ ys) = refl
-is_lt-slice_cmp (x ∷ xs) (y ∷ ys) =
-    elim (nat_lt x y) as (λ less. (less || (x == y && bytes_before xs ys)) ≡ is_lt (ordering_then (if less then Less else (if x == y then Equal else Greater)) (slice_cmp nat_cmp xs ys))) [
-      | true ↦ refl
-      | false ↦ elim (x == y) as (λ same. (same && bytes_before xs ys) ≡ is_lt (ordering_then (if same then Equal else Greater) (slice_cmp nat_cmp xs ys))) [
-        | true ↦ is_lt-slice_cmp xs ys
-        | false ↦ refl
-      ]
-    ]
 
 by_tests : {X : Type 0} (o : Ordering) (a b c : X) → match_ordering o a b c ≡ (if is_lt o then a else (if is_eq o then b else c))
 by_tests Less a b c = refl

@@ -9,7 +9,7 @@ use Rattle.dura_value.specs.declared.data.Value.{Value}
 use Rattle.dura_value.specs.declared.data.Value.TheVariants as values
 use Rattle.dura_value.specs.Ids.{Id, orchestration}
 use Rattle.dura_value.specs.Limits.{number_limit}
-use Rattle.dura_value.specs.Messages.{Reply, to_nobody, to_task, Answer, is_done, has_failed, Spot, at_spot, spot_eq, set_of, entity_at, Body, start, result, operate, lock, release, Message}
+use Rattle.dura_value.specs.Messages.{Reply, to_nobody, to_task, Answer, is_done, has_failed, Spot, at_spot, spot_eq, is_among, set_of, entity_at, Body, start, result, operate, lock, release, Message}
 use Rattle.flow_syntax.specs.Syntax.{Expression, scalar, Statement, let_be, spawn, call, subflow, ask, timer, event, await, await_all, await_any, signal, lock_in, if_then, while, try, return, fail, Block, nothing, first_then, Locked}
 use Rattle.flow_syntax.specs.Eval.{◌>>=◌, wrong_type, Variables, set_in, eval, to_integer, to_truth, to_text, to_key, to_list, to_scalars, list_of}
 
@@ -261,10 +261,6 @@ asks_spot spot other = false
 abbrev pub has_open_ask : Spot → List Task → Bool
 has_open_ask spot [] = false
 has_open_ask spot (task ∷ tasks) = (asks_spot spot task.kind && is_open task.arrival) || has_open_ask spot tasks
-
-abbrev pub is_among : Spot → List Spot → Bool
-is_among spot [] = false
-is_among spot (other ∷ set) = spot_eq spot other || is_among spot set
 
 -- Inside a section an ask goes to a locked entity whose ask before has its result.
 abbrev pub may_ask : Section → Spot → List Task → Bool

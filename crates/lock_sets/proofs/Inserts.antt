@@ -8,7 +8,7 @@ use Rattle.dura_value.specs.Messages.{spot_before, spot_eq, inserted, set_of}
 use Rattle.dura_value.specs.Messages as plain
 use Rattle.dura_value.specs.Views.{spot_of, spots_of}
 use Rattle.dura_value.specs.declared.spots.Spot.{Spot}
-use Rattle.flow_syntax.proofs.Maps.{is_lt-slice_cmp}
+use Rattle.dura_value.proofs.Bytes.{is_lt-slice_cmp}
 
 pub less_bytes : (xs ys : List ℕ) → is_lt (slice_cmp nat_cmp xs ys) ≡ bytes_before xs ys
 less_bytes xs ys = sym (is_lt-slice_cmp xs ys)

@@ -2,9 +2,8 @@
 
 ghost use Rattle.std.specs.Prelude.{◌≡◌, ◌≤◌, length, IfOk, OnOk, IfSome, IfNone};
 ghost use Rattle.std.specs.List.{insert};
-ghost use Rattle.dura_value.specs.Messages.{spot_eq, spot_before, inserted, set_of};
+ghost use Rattle.dura_value.specs.Messages.{spot_eq, spot_before, is_among, inserted, set_of};
 ghost use Rattle.dura_value.specs.Views.{spot_of, spots_of};
-ghost use Rattle.flow_syntax.specs.Machine.{is_among};
 
 use dura_value::{Spot, Spots};
 use std::alloc::{AllocError, Global};

@@ -4,9 +4,9 @@ use Rattle.dura_value.specs.declared.outcome.Outcome.{Outcome}
 use Rattle.dura_value.specs.declared.outcome.Outcome.TheVariants as outcomes
 use Rattle.dura_value.specs.declared.data.Scalar.TheVariants as scalars
 use Rattle.dura_value.specs.declared.data.Value.TheVariants as values
-use Rattle.dura_value.specs.Messages.{Spot, set_of}
+use Rattle.dura_value.specs.Messages.{Spot, is_among, set_of}
 use Rattle.flow_tasks.specs.Changes.{can_arrive, tasks_with}
-use Rattle.flow_syntax.specs.Machine.{Kind, of_flow, of_entity, of_timer, of_event, Arrival, Task, Candidate, outside, inside, Raised, number, spot_of, task_at, arrival_of, to_handle, to_handles, all_arrived, first_arrived, has_open_call, has_open_ask, oldest_listener, is_among, may_ask, may_signal, may_start, may_lock, kept_value, without_kept}
+use Rattle.flow_syntax.specs.Machine.{Kind, of_flow, of_entity, of_timer, of_event, Arrival, Task, Candidate, outside, inside, Raised, number, spot_of, task_at, arrival_of, to_handle, to_handles, all_arrived, first_arrived, has_open_call, has_open_ask, oldest_listener, may_ask, may_signal, may_start, may_lock, kept_value, without_kept}
 
 abbrev open_task : Kind → Task
 open_task kind = record { kind = kind; arrival = None }

@@ -3,14 +3,14 @@ use Rattle.std.proofs.lemmas.List.{at_drop_all}
 use Rattle.dura_value.specs.Views.{id_of}
 use Rattle.flow_syntax.specs.Machine.{new_machine, replayed}
 use Rattle.flow_messages.specs.Views.{past_of}
-use Rattle.flow_replay.specs.Views.{machine_of, body_of}
+use Rattle.flow_machine.specs.Views.{machine_of, body_of}
 use Rattle.flow_replay.proofs.Replayed.{one_more}
 use Rattle.flow_replay.proofs.histories.replay.Goals as goal
 
 pub loop-past-preserved : goal.loop-past-preserved
 loop-past-preserved c =
     let total = replayed (new_machine (id_of c.args.id.now) (option_map body_of c.args.body)) (map past_of c.args.history.now) in
-    one_more (machine_of c.loop-past.machine) (machine_of c.advance.new.self) total c.args.history.now c.loop-past.past-index c.past-item.result c.loop-past-test.true c.past-item.is c.in-Ok.ensures.machine c.loop-past.invariant
+    one_more (machine_of c.loop-past.machine) (machine_of c.advance.new.machine) total c.args.history.now c.loop-past.past-index c.past-item.result c.loop-past-test.true c.past-item.is c.in-Ok.ensures.machine c.loop-past.invariant
 
 pub returns : goal.returns
 returns c =

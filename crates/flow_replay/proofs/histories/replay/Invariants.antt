@@ -2,7 +2,7 @@ use Rattle.std.proofs.Common.{◌≡◌, drop, map, option_map}
 use Rattle.dura_value.specs.Views.{id_of}
 use Rattle.flow_syntax.specs.Machine.{new_machine, replayed}
 use Rattle.flow_messages.specs.Views.{past_of}
-use Rattle.flow_replay.specs.Views.{machine_of, body_of}
+use Rattle.flow_machine.specs.Views.{machine_of, body_of}
 use Rattle.flow_replay.proofs.histories.replay.Given as goal
 
 -- the machine so far, and the events that are left

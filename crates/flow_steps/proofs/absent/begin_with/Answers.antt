@@ -2,7 +2,7 @@ use Rattle.std.proofs.Common.{◌≡◌, ◌∙◌, [], Some, IfOk, ap, subst}
 use Rattle.dura_value.specs.Views.{id_of, reply_of, messages_of}
 use Rattle.flow_syntax.specs.Machine.{new_machine, Event, started}
 use Rattle.flow_messages.specs.Views.{event_of}
-use Rattle.flow_replay.specs.Views.{body_of}
+use Rattle.flow_machine.specs.Views.{body_of}
 use Rattle.dura_model.specs.World.{Orchestration}
 use Rattle.dura_model.specs.Deliveries.{goes_on_from}
 use Rattle.dura_model.specs.Deliveries.{Effect}

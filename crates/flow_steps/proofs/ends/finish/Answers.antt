@@ -5,7 +5,7 @@ use Rattle.dura_value.specs.Messages.{Answer, Message}
 use Rattle.dura_value.specs.Views.{answer_of, messages_of}
 use Rattle.flow_syntax.specs.Machine.{Machine, Asked}
 use Rattle.flow_messages.specs.Views.{asked_of}
-use Rattle.flow_replay.specs.Views.{machine_of}
+use Rattle.flow_machine.specs.Views.{machine_of}
 use Rattle.dura_model.specs.World.{Orchestration}
 use Rattle.dura_model.specs.Deliveries.{Effect, answering_all}
 use Rattle.flow_steps.specs.Ends.{ended_with}

@@ -2,8 +2,8 @@ use Rattle.std.proofs.Common.{◌≡◌, ◌∙◌, ◌++◌, map, IfOk, refl, a
 use Rattle.dura_value.specs.Views.{messages_of}
 use Rattle.flow_syntax.specs.Machine.{resume}
 use Rattle.flow_messages.specs.Views.{event_of, asked_of}
-use Rattle.flow_replay.specs.Steps.{Resumes}
-use Rattle.flow_replay.specs.Views.{machine_of}
+use Rattle.flow_replay.specs.Resuming.{Resumes}
+use Rattle.flow_machine.specs.Views.{machine_of}
 use Rattle.dura_model.specs.World.{Orchestration}
 use Rattle.dura_model.specs.Deliveries.{Effect, ending}
 use Rattle.flow_steps.specs.Ends.{settled_with}
@@ -14,7 +14,7 @@ use Rattle.flow_steps.proofs.ends.go_on_from.Goals as goal
 pub returns : goal.returns
 returns c =
     let o = instance_of c.args.instance in
-    let m = c.advance-advanced.new.self in
+    let m = c.advance-advanced.new.machine in
     let r = resume o.machine (event_of c.args.event.now) c.args.stamp in
     let before = messages_of c.args.before.items in
     let made = messages_of c.in_ok-made.made.messages.items in

@@ -1,6 +1,6 @@
 use Rattle.std.proofs.Common.{◌≡◌, ◌∙◌, [], ◌∷◌, ◌++◌, IfOk, ap, subst}
 use Rattle.dura_value.specs.Views.{id_of, messages_of}
-use Rattle.flow_replay.specs.Views.{machine_of}
+use Rattle.flow_machine.specs.Views.{machine_of}
 use Rattle.dura_model.specs.Deliveries.{stays_so}
 use Rattle.part_rows.specs.Reactions.{waits_of}
 use Rattle.flow_steps.specs.Views.{instance_of}

@@ -1,6 +1,6 @@
 use Rattle.std.proofs.Common.{◌≡◌, drop}
+use Rattle.dura_value.specs.Messages.{is_among}
 use Rattle.dura_value.specs.Views.{spot_of, spots_of}
-use Rattle.flow_syntax.specs.Machine.{is_among}
 use Rattle.lock_sets.proofs.sets.is_among.Given as goal
 
 -- it is among the rest where it is among all

@@ -1,0 +1,4 @@
+pub mod Awaits
+pub mod Steps
+pub mod Values
+pub mod Views

@@ -1,8 +1,0 @@
-use Rattle.std.proofs.Common.{ap, sym, subst}
-use Rattle.flow_replay.specs.Views.{machine_of, todos_of}
-use Rattle.flow_replay.specs.Moving.{Blocks, todo_step}
-use Rattle.flow_replay.proofs.machine.Machine.todo_blocks.Goals as goal
-
-pub returns-in-Await : goal.returns-in-Await
-returns-in-Await c =
-    subst (λ ts. Blocks c.call_blocks.result (λ was. todo_step was (machine_of c.args.self.now) ts)) (sym (ap todos_of c.in-Await.is)) (c.call_blocks.ensures c.in-Await.field-0.now)
