@@ -1,6 +1,6 @@
 //! The steps of statements that wait.
 
-ghost use Rattle.std.specs.Prelude.{◌≡◌, OnOk, IfSome, IfNone, IfOk, Ok, Err};
+ghost use Rattle.std.specs.Prelude.{◌≡◌, OnOk, IfSome, IfNone, IfOk};
 ghost use Rattle.flow_syntax.specs.Syntax.{await};
 ghost use Rattle.flow_syntax.specs.Views.{expression_of};
 ghost use Rattle.flow_syntax.specs.Machine.{listens, awaited, arrival_of as arrival_at, task_at, statement_step, gets, arrived, kept_value, without_kept};
@@ -9,7 +9,7 @@ ghost use Rattle.flow_machine.specs.Steps.{Makes, Waits, ThrowsHandle, with_even
 
 use crate::machine::Machine;
 use dura_value::{Name, Outcome, Value};
-use flow_messages::{Event, Made, copy_name, copy_outcome, copy_value};
+use flow_messages::{Made, copy_name, copy_outcome, copy_value};
 use flow_syntax::Expr;
 use flow_tasks::{HandleFault, Kind};
 use std::alloc::{AllocError, Global};

@@ -3,7 +3,7 @@
 ghost use Rattle.std.specs.Prelude.{IfOk, OnOk, Some};
 ghost use Rattle.flow_syntax.specs.Views.{expression_of};
 ghost use Rattle.flow_syntax.specs.Syntax.{await_all, await_any};
-ghost use Rattle.flow_syntax.specs.Machine.{statement_step, awaited_all, awaited_any, all_arrived, first_arrived, all_values};
+ghost use Rattle.flow_syntax.specs.Machine.{statement_step, awaited_all, awaited_any, all_arrived, first_arrived};
 ghost use Rattle.flow_eval.specs.Gives.{Gives};
 ghost use Rattle.flow_machine.specs.Values.{list_given, handle_in, handles_in};
 ghost use Rattle.flow_machine.specs.Awaits.{NamesTasks, ThrowsAwait};

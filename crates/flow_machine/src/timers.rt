@@ -1,6 +1,6 @@
 //! The steps of statements that set timers and listen for events.
 
-ghost use Rattle.std.specs.Prelude.{◌≡◌, OnOk, ◌<◌, ◌^◌};
+ghost use Rattle.std.specs.Prelude.{OnOk, ◌<◌, ◌^◌};
 ghost use Rattle.flow_syntax.specs.Views.{expression_of};
 ghost use Rattle.flow_syntax.specs.Machine.{having, sets_timer, is_due_in_time};
 ghost use Rattle.flow_eval.specs.Gives.{Gives};

@@ -1,10 +1,10 @@
 //! What a message makes of an entity.
 
-ghost use Rattle.std.specs.Prelude.{◌≡◌, ◌∷◌, [], Some, None, suc, codes, if◌then◌else◌, option_map, IfOk, OnOk};
+ghost use Rattle.std.specs.Prelude.{◌≡◌, ◌∷◌, [], Some, suc, codes, if◌then◌else◌, option_map, IfOk, OnOk};
 ghost use Rattle.dura_value.specs.Messages.{entity_at, is_value, is_missing, to_request};
 ghost use Rattle.dura_value.specs.Views.{id_of, reply_of, answer_of, body_of as said_of, messages_of, spots_of};
 ghost use Rattle.flow_syntax.specs.Views.{block_of, flows_of};
-ghost use Rattle.flow_syntax.specs.Entity.{takes, answering, operated, operation_of, body_answer, new_value, lock_goes_on, deliver};
+ghost use Rattle.flow_syntax.specs.Entity.{answering, operated, operation_of, body_answer, new_value, lock_goes_on, deliver};
 ghost use Rattle.flow_syntax.specs.Machine.{go, most_steps};
 ghost use Rattle.flow_machine.specs.Views.{machine_of, progress_of, body_of};
 ghost use Rattle.flow_messages.specs.Views.{entity_of};
