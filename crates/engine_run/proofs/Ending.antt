@@ -48,6 +48,7 @@ module _ (MayFollow : List Settled → List Said → ℕ → List Entry → Type
         quiet = quiet_behind rules entered.before (state_of state) queues clients entered.stands.shown entered.stands.younger entered.entered entered.sound.owned over;
         taken = λ k d inside. due_taken rules told queues rules.flows (enter rules.life entered.before) said asked first (get_or (clients_of rules.requests) k d) (begun.idle.requests k d inside);
         over = begun;
+        asked = asked;
       }
 
   -- rounds that end where nothing is possible

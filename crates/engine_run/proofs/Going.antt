@@ -8,6 +8,8 @@ use Rattle.engine_run.specs.Headline.{StandsOrderly, RunsOn}
 use Rattle.engine_run.specs.Job.{Job, Keeps, AreGivenIn}
 use Rattle.engine_run.specs.Opened.{IsOpened, OpensOnly}
 use Rattle.engine_run.specs.Picks.{log_in_file, origin_with, rules_with}
+use Rattle.engine_run.specs.Served.{HasServed}
+use Rattle.engine_run.proofs.Served.{has_served}
 use Rattle.engine_run.proofs.Standing.{begins_alone, picked_entries}
 use Rattle.commit_log.specs.declared.states.Resting.{Resting}
 use Rattle.hub_store.specs.Moments.{AtEveryMoment}
@@ -18,6 +20,7 @@ use Rattle.part_files.specs.Stands.{shown_by}
 use Rattle.run_causes.specs.declared.cause.Cause.{Cause}
 use Rattle.run_laws.specs.Begins.{may_follow, may_say}
 use Rattle.run_laws.proofs.Images.{moment_stands}
+use Rattle.run_laws.proofs.Requests.{answers_taken}
 use Rattle.run_laws.specs.Leaves.{StandsOn}
 use Rattle.run_rules.specs.Rules.{Rules}
 use Rattle.run_laws.proofs.Ordered.{never_overlaps}
@@ -58,4 +61,6 @@ module _ (job : Job) (old steps new : List Step) (entries : List Entry) (state :
         every = subst (λ (n : ℕ). AtEveryMoment (may_follow (rules_with job state n) latest) (may_say (rules_with job state n)) (origin_with log_is steps) new trail) life_is goes.every;
         whole = subst (λ (n : ℕ). SaysWhole (may_follow (rules_with job state n) latest) (may_say (rules_with job state n)) (origin_with log_is steps) new trail cause) life_is goes.whole;
         ends = subst (λ (n : ℕ). RunEndsAs (rules_with job state n) latest (origin_with log_is steps) new trail most_labels segment_length cause) life_is goes.ends;
+        served = subst (λ (n : ℕ). HasServed (rules_with job state n) trail cause) life_is
+            (has_served (rules_with job state life) latest (origin_with log_is steps) new trail most_labels segment_length cause (answers_taken job.flows 1 0 state entries keeps.made) goes.ends);
       }

@@ -12,6 +12,7 @@ pub mod Queues
 pub mod Quieted
 pub mod Refusing
 pub mod Runs
+pub mod Served
 pub mod Shown
 pub mod Standing
 pub mod Words

@@ -8,7 +8,7 @@ use Rattle.commit_log.specs.Segment.{segment, reading_of}
 use Rattle.dura_model.specs.Legal.{Quiet}
 use Rattle.dura_model.specs.Partition.{Partition, enter}
 use Rattle.dura_value.specs.Items.{Entry}
-use Rattle.engine_run.specs.Asked.{IsTaken}
+use Rattle.engine_run.specs.Asked.{IsRequest, IsTaken}
 use Rattle.engine_run.specs.Order.{no_later}
 use Rattle.hub_store.specs.Moments.{StandsWith, AtEveryMoment}
 use Rattle.hub_store.specs.Origin.{Origin}
@@ -62,7 +62,7 @@ module _ (MayFollow : List Settled → List Said → ℕ → List Entry → Type
 
 module _ (MayFollow : List Settled → List Said → ℕ → List Entry → Type 0) (MaySay : List Settled → List Said → Said → List ℕ → Type 0) (rules : Rules) (latest : ℕ) (o : Origin) where
   -- Once this was settled the world is quiet but for requests, what is due of each client was taken, and nothing is possible any more;
-  -- whole lines were said, and no answer waits to be said.
+  -- whole lines were said, and no answer waits to be said. Each request is one that its client sends.
   pub record IsAtRest (steps : List Step) (trail : List Settled) (queues : List Queue) : Type 0 where
     pub told : List Said
     pub stands : StandsWith MayFollow MaySay o steps trail told []
@@ -72,6 +72,7 @@ module _ (MayFollow : List Settled → List Said → ℕ → List Entry → Type
     pub quiet : Quiet rules.flows [] (shown_by rules.flows state)
     pub taken : All (IsTaken state queues) (clients_of rules.requests)
     pub over : IsOver rules (enter rules.life state) queues (clients_of rules.requests)
+    pub asked : All IsRequest rules.requests
 
   -- why it ends
   abbrev pub EndsAs : List Step → List Settled → (most_labels segment_length : ℕ) → Cause → Type 0

@@ -9,6 +9,7 @@ use Rattle.dura_value.specs.Items.{Entry}
 use Rattle.engine_run.specs.Ends.{SaysWhole, RunEndsAs}
 use Rattle.engine_run.specs.Job.{Job, Keeps, AreGivenIn}
 use Rattle.engine_run.specs.Picks.{rules_with}
+use Rattle.engine_run.specs.Served.{HasServed}
 use Rattle.engine_run.specs.Opened.{IsOpening}
 use Rattle.flow_syntax.specs.Syntax.{Flows}
 use Rattle.hub_store.specs.Moments.{AtEveryMoment}
@@ -35,7 +36,8 @@ pub record StandsOrderly (rules : Rules) (latest digest : ℕ) (o : Origin) (ste
 -- From where the logs are opened on, at each moment, a crash leaves files that stand for the run at the start, then what was settled
 -- by then, then no more than the one frame whose gate was being written; and what was said by then answers requests as that run does.
 -- Each entry is of the life that the call began, and of no later moment than both the entries at the start and the clock's latest, and
--- takes only what was due of its client then; unless saying failed, whole lines were said; and it ends for its cause.
+-- takes only what was due of its client then; unless saying failed, whole lines were said; and it ends for its cause. Where it is done
+-- the world is quiet for all requests, each of which has its answer; where it waits the named one is the first without.
 pub record RunsOn (job : Job) (entries : List Entry) (begin : Partition) (old new : List Step) (trail : List Settled) (most_labels segment_length latest : ℕ) (cause : Cause) : Type 0 where
   pub origin : Origin
   pub kept : (origin.logs 0).entries ≡ entries
@@ -48,6 +50,7 @@ pub record RunsOn (job : Job) (entries : List Entry) (begin : Partition) (old ne
   pub every : AtEveryMoment (may_follow (rules_with job begin (next_life entries)) latest) (may_say (rules_with job begin (next_life entries))) origin new trail
   pub whole : SaysWhole (may_follow (rules_with job begin (next_life entries)) latest) (may_say (rules_with job begin (next_life entries))) origin new trail cause
   pub ends : RunEndsAs (rules_with job begin (next_life entries)) latest origin new trail most_labels segment_length cause
+  pub served : HasServed (rules_with job begin (next_life entries)) trail cause
 
 -- it ends before the logs are opened: nothing was settled
 pub record EndsEarly (job : Job) (entries : List Entry) (old new : List Step) (trail : List Settled) : Type 0 where

@@ -15,6 +15,7 @@ pub mod Order
 pub mod Ordered
 pub mod Programs
 pub mod Releases
+pub mod Requests
 pub mod Runs
 pub mod Sets
 pub mod Tallies

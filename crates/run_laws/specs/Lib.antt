@@ -3,3 +3,4 @@ pub mod ByHand
 pub mod Causes
 pub mod Examples
 pub mod Leaves
+pub mod Requests

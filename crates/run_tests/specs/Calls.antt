@@ -1,10 +1,12 @@
 -- What a call's clauses say, by example.
-use Rattle.std.specs.Prelude.{List, [], ◌∷◌, ◌++◌, codes}
+use Rattle.std.specs.Prelude.{List, [], ◌∷◌, ◌++◌, codes, Some}
 use Rattle.client_port.specs.Ports.{Queue}
+use Rattle.dura_model.specs.Partition.{fresh}
 use Rattle.dura_model.specs.Steps.{Label, finish}
+use Rattle.dura_model.specs.World.{World, empty, at_number}
 use Rattle.dura_value.specs.Digest.{fnv}
 use Rattle.dura_value.specs.Ids.{client, orchestration}
-use Rattle.dura_value.specs.Messages.{wait}
+use Rattle.dura_value.specs.Messages.{wait, was_started}
 use Rattle.dura_value.specs.declared.data.Value.TheVariants as values
 use Rattle.dura_value.specs.declared.outcome.Outcome.TheVariants as outcomes
 use Rattle.engine_run.specs.Job.{Job}
@@ -13,6 +15,7 @@ use Rattle.hub_store.specs.Trail.{Settled}
 use Rattle.part_files.specs.Examples.{digest, request, taking}
 use Rattle.request_reader.specs.Line.{Request}
 use Rattle.run_inputs.specs.Examples.{flows_bytes, one_flow, one_request}
+use Rattle.run_rules.specs.Rules.{Rules}
 
 -- no flows, and nobody asks for anything
 abbrev pub no_flows : Flows
@@ -53,3 +56,18 @@ ended_twice =
     finish (orchestration (codes "Sum") (codes "x")) 0 (outcomes.Done values.Null)
     ∷ finish (orchestration (codes "Sum") (codes "x")) 0 (outcomes.Done values.Null)
     ∷ []
+
+-- rules of a call that begins where nothing happened, for these requests
+abbrev pub rules_for : List Request → Rules
+rules_for requests = record { flows = no_flows; begin = fresh 0; life = 0; requests = requests }
+
+-- client b asks for the same
+abbrev pub asking_too : Request
+asking_too = record starting { client = codes "b" }
+
+-- all that happened is that client a's request was taken and answered
+abbrev pub answered : World
+answered = record empty {
+  taken = at_number empty.taken (client (codes "a")) 1 (Some request);
+  answers = at_number empty.answers (client (codes "a")) 1 (Some was_started);
+}

@@ -2,12 +2,14 @@
 
 ghost use Rattle.std.specs.Prelude.{◌≡◌, ℕ, List, [], ◌∷◌, codes, slice_set};
 ghost use Rattle.dura_model.specs.Partition.{Partition, fresh};
+ghost use Rattle.dura_model.specs.World.{empty};
 ghost use Rattle.dura_value.specs.Items.{Entry};
 ghost use Rattle.engine_run.specs.Asked.{IsRequest, IsTaken};
 ghost use Rattle.engine_run.specs.Causes.{AsksFor, Answers, Untouched};
 ghost use Rattle.engine_run.specs.Ends.{AreAllSaid, IsFirstUnsaid, SaysWhole, RunEndsAs};
-ghost use Rattle.run_tests.specs.Calls.{nothing_asked, one_asked, starting, waiting, unsaid, two_unsaid, all_said, settled_once, ended_twice};
+ghost use Rattle.run_tests.specs.Calls.{nothing_asked, one_asked, starting, waiting, unsaid, two_unsaid, all_said, settled_once, ended_twice, rules_for, asking_too, answered};
 ghost use Rattle.engine_run.specs.Headline.{IsOrderly, EndsEarly, RunsOn};
+ghost use Rattle.engine_run.specs.Served.{IsServed, IsFirstOpen, HasServed};
 ghost use Rattle.engine_run.specs.Job.{Keeps};
 ghost use Rattle.engine_run.specs.Kept.{IsClash, NoClash};
 ghost use Rattle.engine_run.specs.Opened.{IsOpening};
@@ -21,6 +23,7 @@ ghost use Rattle.run_causes.specs.declared.cause.Cause.TheVariants as causes;
 ghost use Rattle.run_causes.specs.declared.cause.FlowsFault.TheVariants as faults;
 ghost use Rattle.run_causes.specs.declared.cause.PlanPlace.TheVariants as places;
 ghost use Rattle.run_inputs.specs.Examples.{three_files, good_files};
+ghost use Rattle.run_laws.specs.Requests.{KeepsRequests, AnswersTaken};
 ghost use Rattle.run_rules.specs.Rules.{Rules};
 ghost use Rattle.site_model.specs.History.{Step, on, said, synced, wrote};
 
@@ -121,4 +124,28 @@ pub fn lines_whole()
     ensures whole { SaysWhole MayFollow MaySay nowhere spoken (settled_when 0) causes.Memory }
     ensures half { SaysWhole MayFollow MaySay nowhere speaking (settled_when 0) causes.Memory → ⊥ }
     ensures failed { SaysWhole MayFollow MaySay nowhere speaking (settled_when 0) causes.SayFault }
+{}
+
+/// Where nobody asks all is served, and where who asked was answered; else the first request without an answer is waited for, under its
+/// number, unless another one comes before it.
+pub fn requests_served()
+    ensures nobody { IsServed (rules_for []) empty }
+    ensures answered { IsServed (rules_for (starting ∷ [])) answered }
+    ensures not_answered { IsServed (rules_for (starting ∷ [])) empty → ⊥ }
+    ensures waits { IsFirstOpen (rules_for (starting ∷ [])) empty (codes "a") 1 }
+    ensures other_number { IsFirstOpen (rules_for (starting ∷ [])) empty (codes "a") 2 → ⊥ }
+    ensures another_before { IsFirstOpen (rules_for (starting ∷ asking_too ∷ [])) empty (codes "b") 1 → ⊥ }
+    ensures none_open { (number : ℕ) → IsFirstOpen (rules_for (starting ∷ [])) answered (codes "a") number → ⊥ }
+    ensures done { HasServed (rules_for []) [] causes.Done }
+    ensures not_done { HasServed (rules_for (starting ∷ [])) [] causes.Done → ⊥ }
+    ensures waiting { HasServed (rules_for (starting ∷ [])) [] (causes.Waiting (codes "a") 1) }
+    ensures not_waiting { HasServed (rules_for []) [] (causes.Waiting (codes "a") 1) → ⊥ }
+{}
+
+/// A request that was taken stays so, and one that was answered; and only what was taken is answered.
+pub fn requests_stay()
+    ensures same { KeepsRequests request_taken request_taken }
+    ensures lost { KeepsRequests request_taken (fresh 0) → ⊥ }
+    ensures taken { AnswersTaken request_taken }
+    ensures not_taken { AnswersTaken (record (fresh 0) { answers = answered.answers }) → ⊥ }
 {}

@@ -1,0 +1,312 @@
+-- At the end of a run that rests each request that was said has its answer, and of each client the next one has none.
+use Rattle.std.proofs.Common.{◌≡◌, ◌⊎◌, inl, inr, ◌<◌, ◌≤◌, ◌+◌, ◌==◌, ◌&&◌, ◌||◌, ℕ, zero, suc, Bool, true, false, cond, List, [], ◌∷◌, ◌++◌, length, map, get_or, slice_get, nat_lt, Option, Some, None, Result, Ok, Err, refl, sym, ◌∙◌, ap, subst, eqb-true, arith}
+use Rattle.std.specs.Prelude.{is_some, not, bytes_eq}
+use Rattle.std.specs.List.{All, AllByRecursion, filter, find, fold, list_any}
+use Rattle.std.specs.Option.{option_and_then}
+use Rattle.std.proofs.lemmas.Bool.Decides.{nat_tests}
+use Rattle.std.proofs.lemmas.List.Elements.{All-from_recursion, recursion_from_All}
+use Rattle.std.proofs.lemmas.Option.{slice_get_cases}
+use Rattle.commit_log.specs.Segment.{◌>>=◌}
+use Rattle.client_port.specs.Clients.{clients_of, requests_of, with_client}
+use Rattle.client_port.specs.Ports.{Queue, first_due, due_of}
+use Rattle.dura_model.specs.Legal.{Quiet, is_taken, may_ask}
+use Rattle.dura_model.specs.Partition.{Partition}
+use Rattle.dura_model.specs.Steps.{number_in, is_asking}
+use Rattle.dura_model.specs.World.{World}
+use Rattle.dura_value.specs.Ids.{Id, client, id_eq}
+use Rattle.dura_value.specs.Items.{Entry}
+use Rattle.dura_value.specs.Messages.{Message}
+use Rattle.dura_value.proofs.Ids.{id_same, same_bytes, bytes_self}
+use Rattle.engine_run.specs.Asked.{IsRequest}
+use Rattle.engine_run.specs.Ends.{AreAllSaid, IsFirstUnsaid, RunEndsAs}
+use Rattle.engine_run.specs.Served.{has_answer, IsServed, first_open, IsFirstOpen, HasServed}
+use Rattle.hub_store.specs.Moments.{Told}
+use Rattle.hub_store.specs.Moments.Told.{silent, settles, says}
+use Rattle.hub_store.specs.Origin.{Origin}
+use Rattle.hub_store.specs.Trail.{Settled, Said, of_part, settling}
+use Rattle.hub_store.proofs.Settling.{of_part-append, own_part}
+use Rattle.part_files.specs.Placing.{placed}
+use Rattle.part_files.specs.Stands.{shown_by}
+use Rattle.part_files.proofs.Appending.{placed_both}
+use Rattle.part_rounds.specs.Rounds.{of_client, HasSaid, NoneUnsaid, next_answer}
+use Rattle.part_rounds.proofs.Queues.{due_is, queue_found, count_on}
+use Rattle.request_reader.specs.Line.{Request}
+use Rattle.run_causes.specs.declared.cause.Cause.{Cause}
+use Rattle.run_causes.specs.declared.cause.Cause.TheVariants.{Done, Usage, BadFlows, BadRequests, Clash, BadPlan, TooLong, Waiting, Long, SiteFault, SayFault, ClockFault, Damaged, Illegal, Unclosed, OtherShape, OtherFlows, Memory, Full, Spent}
+use Rattle.run_laws.specs.Begins.{pairs_of, may_follow, may_say}
+use Rattle.run_laws.specs.Requests.{AnswersTaken}
+use Rattle.run_laws.proofs.Requests.{requests_stay, answers_taken_on}
+use Rattle.run_rules.specs.Rules.{Rules, count_told, request_at}
+use Rattle.site_model.specs.History.{Step}
+
+-- ---- what was said
+
+below : (a b : ℕ) → nat_lt a b ≡ true → a < b
+below a b is = grind (arith, nat_tests, is)
+
+not_below : (a b : ℕ) → nat_lt a b ≡ false → b ≤ a
+not_below a b is = grind (arith, nat_tests, is)
+
+module _ (rules : Rules) (latest : ℕ) where
+  -- each request that was said has its answer by what was settled
+  told_answered : {trail : List Settled} {told : List Said} {lines : List ℕ} → Told (may_follow rules latest) (may_say rules) trail told lines → (state : Partition) → placed rules.flows 1 rules.begin (of_part 0 trail) ≡ Ok state
+      → (name : List ℕ) (place : ℕ) (r : Request) → place < count_told (pairs_of told) name → request_at rules name place ≡ Some r → is_some (state.answers (client name) r.number) ≡ true
+  told_answered silent state made name place r low at = absurd (omega (arith, low))
+  told_answered (settles {trail} {told} before partition at_moment going follows) state made name place r low at =
+      let own : of_part 0 (trail ++ settling partition at_moment going) ≡ of_part 0 trail ++ going =
+      of_part-append 0 trail (settling partition at_moment going) ∙ ap (λ (p : ℕ). of_part 0 trail ++ of_part 0 (settling p at_moment going)) follows.0 ∙ ap (λ (l : List Entry). of_part 0 trail ++ l) (own_part 0 at_moment going) in
+      let on : placed rules.flows 1 follows.1.before going ≡ Ok state =
+      sym (ap (λ (m : Result Partition ℕ). m >>= λ q. placed rules.flows 1 q going) follows.1.made) ∙ sym (placed_both rules.flows 1 rules.begin (of_part 0 trail) going) ∙ sym (ap (placed rules.flows 1 rules.begin) own) ∙ made in
+      (requests_stay rules.flows 1 follows.1.before state going on).answered (client name) r.number (told_answered before follows.1.before follows.1.made name place r low at)
+  told_answered (says {trail} {told} before one line may) state made name place r low at = by (λ early. told_answered before state made name place r early at) (bytes_eq one.client name) refl (nat_lt place (count_told (pairs_of told) name)) refl
+    where
+      count : count_told (pairs_of (told ++ one ∷ [])) name ≡ count_told (pairs_of told) name + cond (bytes_eq one.client name) 1 0
+      count = count_on told one.client name one.number
+
+      by : (place < count_told (pairs_of told) name → is_some (state.answers (client name) r.number) ≡ true) → (mine : Bool) → bytes_eq one.client name ≡ mine
+          → (early : Bool) → nat_lt place (count_told (pairs_of told) name) ≡ early → is_some (state.answers (client name) r.number) ≡ true
+      by sooner mine own true early = sooner (below place (count_told (pairs_of told) name) early)
+      by sooner false own false early =
+          let counted : count_told (pairs_of (told ++ one ∷ [])) name ≡ count_told (pairs_of told) name + 0 = count ∙ ap (λ (b : Bool). count_told (pairs_of told) name + cond b 1 0) own in
+          let high = not_below place (count_told (pairs_of told) name) early in
+          absurd (omega (arith, counted, high, low))
+      by sooner true own false early =
+          let counted : count_told (pairs_of (told ++ one ∷ [])) name ≡ count_told (pairs_of told) name + 1 = count ∙ ap (λ (b : Bool). count_told (pairs_of told) name + cond b 1 0) own in
+          let high = not_below place (count_told (pairs_of told) name) early in
+          let place_is : place ≡ count_told (pairs_of told) name = omega (arith, counted, high, low) in
+          let name_is : one.client ≡ name = same_bytes one.client name own in
+          let there : request_at rules name (count_told (pairs_of told) name) ≡ Some may.request = subst (λ (n : List ℕ). request_at rules n (count_told (pairs_of told) n) ≡ Some may.request) name_is may.next in
+          let here : Some r ≡ Some may.request = sym at ∙ ap (request_at rules name) place_is ∙ there in
+          let request_is : r ≡ may.request = cc here in
+          let state_is : may.state ≡ state = cc (may.made, made) in
+          let number_is : one.number ≡ r.number = sym may.number_is ∙ ap (λ (x : Request). x.number) (sym request_is) in
+          let answered : is_some (may.state.answers (client one.client) one.number) ≡ true = ap is_some may.has in
+          subst (λ (n : ℕ). is_some (state.answers (client name) n) ≡ true) number_is
+          (subst (λ (n : List ℕ). is_some (state.answers (client n) one.number) ≡ true) name_is (subst (λ (p : Partition). is_some (p.answers (client one.client) one.number) ≡ true) state_is answered))
+
+-- ---- clients
+
+any_has : (P : List ℕ → Type 0) (names : List (List ℕ)) (who : List ℕ) → AllByRecursion P names → list_any (λ name. bytes_eq name who) names ≡ true → P who
+any_has P [] who all is = absurd (cc is)
+any_has P (name ∷ names) who all is = by (any_has P names who all.1) (bytes_eq name who) refl is
+  where
+    by : (list_any (λ n. bytes_eq n who) names ≡ true → P who) → (here : Bool) → bytes_eq name who ≡ here → (here || list_any (λ n. bytes_eq n who) names) ≡ true → P who
+    by more true same any = subst P (same_bytes name who same) all.0
+    by more false other any = more any
+
+all_front : (P : List ℕ → Type 0) (names : List (List ℕ)) (last : List ℕ) → AllByRecursion P (names ++ last ∷ []) → AllByRecursion P names × P last
+all_front P [] last all = (tt, all.0)
+all_front P (name ∷ names) last all = let more = all_front P names last all.1 in ((all.0, more.0), more.1)
+
+one_client : (P : List ℕ → Type 0) (names : List (List ℕ)) (r : Request) → AllByRecursion P (with_client names r) → AllByRecursion P names × P r.client
+one_client P names r all = by (list_any (λ name. bytes_eq name r.client) names) refl all
+  where
+    by : (there : Bool) → list_any (λ name. bytes_eq name r.client) names ≡ there → AllByRecursion P (cond there names (names ++ r.client ∷ [])) → AllByRecursion P names × P r.client
+    by true any all = (all, any_has P names r.client all any)
+    by false none all = all_front P names r.client all
+
+-- what holds of all clients holds of each request's
+each_client : (P : List ℕ → Type 0) (names : List (List ℕ)) (requests : List Request) → AllByRecursion P (fold with_client names requests) → AllByRecursion P names × AllByRecursion (λ r. P r.client) requests
+each_client P names [] all = (all, tt)
+each_client P names (r ∷ requests) all =
+    let more = each_client P (with_client names r) requests all in
+    let one = one_client P names r more.0 in
+    (one.0, (one.1, more.1))
+
+of_clients : (P : List ℕ → Type 0) (requests : List Request) → All P (clients_of requests) → AllByRecursion (λ r. P r.client) requests
+of_clients P requests all = (each_client P [] requests (recursion_from_All P (clients_of requests) all)).1
+
+-- each client has a queue
+queue_there : (queues : List Queue) → AllByRecursion (λ name. is_some (of_client name queues) ≡ true) (map (λ (q : Queue). q.client) queues)
+queue_there [] = tt
+queue_there (q ∷ queues) = (ap (λ (b : Bool). is_some (cond b (Some q) (of_client q.client queues))) (bytes_self q.client), wider (map (λ (x : Queue). x.client) queues) (queue_there queues))
+  where
+    one : (name : List ℕ) (here : Bool) → is_some (of_client name queues) ≡ true → is_some (cond here (Some q) (of_client name queues)) ≡ true
+    one name true is = refl
+    one name false is = is
+
+    wider : (names : List (List ℕ)) → AllByRecursion (λ name. is_some (of_client name queues) ≡ true) names → AllByRecursion (λ name. is_some (of_client name (q ∷ queues)) ≡ true) names
+    wider [] all = tt
+    wider (name ∷ names) all = (one name (bytes_eq q.client name) all.0, wider names all.1)
+
+some_is : {X : Type 0} (o : Option X) → is_some o ≡ true → (x : X) × (o ≡ Some x)
+some_is None is = absurd (cc is)
+some_is (Some x) is = (x, refl)
+
+-- ---- lists
+
+each_of : {X : Type 0} (P : X → Type 0) (l : List X) → ((k : ℕ) (x : X) → slice_get l k ≡ Some x → P x) → AllByRecursion P l
+each_of P [] f = tt
+each_of P (x ∷ xs) f = (f zero x refl, each_of P xs (λ k y at. f (suc k) y at))
+
+at_place : {X : Type 0} (P : X → Type 0) (l : List X) (k : ℕ) (x : X) → AllByRecursion P l → slice_get l k ≡ Some x → P x
+at_place P [] k x all at = absurd (cc at)
+at_place P (y ∷ ys) zero x all at = let same : y ≡ x = cc at in subst P same all.0
+at_place P (y ∷ ys) (suc k) x all at = at_place P ys k x all.1 at
+
+mid_place : {X : Type 0} (P : X → Type 0) (before : List X) (x : X) (behind : List X) → AllByRecursion P (before ++ x ∷ behind) → P x
+mid_place P [] x behind all = all.0
+mid_place P (y ∷ before) x behind all = mid_place P before x behind all.1
+
+mapped : {X Y : Type 0} (P : Y → Type 0) (f : X → Y) (l : List X) → AllByRecursion (λ x. P (f x)) l → AllByRecursion P (map f l)
+mapped P f [] all = tt
+mapped P f (x ∷ xs) all = (all.0, mapped P f xs all.1)
+
+-- what passes a test has its place among all that do
+filter_place : {X : Type 0} (test : X → Bool) (l : List X) (k : ℕ) (x : X) → slice_get l k ≡ Some x → test x ≡ true → (place : ℕ) × (slice_get (filter test l) place ≡ Some x)
+filter_place test [] k x at pass = absurd (cc at)
+filter_place test (y ∷ ys) zero x at pass =
+    let same : y ≡ x = cc at in
+    let passes : test y ≡ true = ap test same ∙ pass in
+    (0, ap (λ b. slice_get (cond b (y ∷ filter test ys) (filter test ys)) zero) passes ∙ at)
+filter_place test (y ∷ ys) (suc k) x at pass = by (test y) (filter_place test ys k x at pass)
+  where
+    by : (b : Bool) → (place : ℕ) × (slice_get (filter test ys) place ≡ Some x) → (place : ℕ) × (slice_get (cond b (y ∷ filter test ys) (filter test ys)) place ≡ Some x)
+    by true found = (suc found.0, found.1)
+    by false found = found
+
+-- the first that passes, where it is known of each up to a place
+found_at : {X : Type 0} (test : X → Bool) (l : List X) (k : ℕ) → ((i : ℕ) (x : X) → i < k → slice_get l i ≡ Some x → test x ≡ false) → ((x : X) → slice_get l k ≡ Some x → test x ≡ true) → find test l ≡ slice_get l k
+found_at test [] k before here = refl
+found_at test (x ∷ xs) zero before here = ap (λ b. cond b (Some x) (find test xs)) (here x refl)
+found_at test (x ∷ xs) (suc k) before here = ap (λ b. cond b (Some x) (find test xs)) (before zero x (omega arith) refl) ∙ found_at test xs k (λ i y low at. before (suc i) y (omega (arith, low)) at) here
+
+past_end : {X : Type 0} (l : List X) (k : ℕ) → slice_get l k ≡ None → length l ≤ k
+past_end l k none = elim (slice_get_cases l k).1 [
+  | inl there ↦ absurd (let wrong : None ≡ Some there.0 = sym none ∙ there.2 in cc wrong)
+  | inr past ↦ past.0
+]
+
+within : {X : Type 0} (l : List X) (k : ℕ) (x : X) → slice_get l k ≡ Some x → k < length l
+within l k x at = elim (slice_get_cases l k).1 [
+  | inl there ↦ there.1
+  | inr past ↦ absurd (let wrong : None ≡ Some x = sym past.1 ∙ at in cc wrong)
+]
+
+both_left : (a b : Bool) → (a && b) ≡ true → a ≡ true
+both_left true b is = refl
+both_left false b is = absurd (cc is)
+
+both_right : (a b : Bool) → (a && b) ≡ true → b ≡ true
+both_right true b is = is
+both_right false b is = absurd (cc is)
+
+-- a client with a queue is one of those that have one
+of_queue : (P : List ℕ → Type 0) (queues : List Queue) (name : List ℕ) (q : Queue) → AllByRecursion P (map (λ (x : Queue). x.client) queues) → of_client name queues ≡ Some q → P name
+of_queue P [] name q all found = absurd (cc found)
+of_queue P (first ∷ queues) name q all found = by (of_queue P queues name q all.1) (bytes_eq first.client name) refl found
+  where
+    by : (of_client name queues ≡ Some q → P name) → (here : Bool) → bytes_eq first.client name ≡ here → cond here (Some first) (of_client name queues) ≡ Some q → P name
+    by more true same is = subst P (same_bytes first.client name same) all.0
+    by more false other is = more is
+
+-- ---- at rest
+
+module _ (rules : Rules) (latest : ℕ) (trail : List Settled) (told : List Said) (lines : List ℕ) (story : Told (may_follow rules latest) (may_say rules) trail told lines) (queues : List Queue) (said : HasSaid rules told queues)
+    (state : Partition) (made : placed rules.flows 1 rules.begin (of_part 0 trail) ≡ Ok state) where
+  abbrev world : World
+  world = shown_by rules.flows state
+
+  due_at : (name : List ℕ) (q : Queue) → of_client name queues ≡ Some q → due_of name queues ≡ request_at rules name (count_told (pairs_of told) name)
+  due_at name q found =
+      let each = said.each name q found in
+      due_is name queues ∙ ap (option_and_then first_due) found ∙ ap (λ (l : List Request). slice_get l q.said) each.0 ∙ ap (slice_get (requests_of name rules.requests)) each.1
+
+  -- a client's first request without an answer is its next one
+  open_is_due : (name : List ℕ) (q : Queue) → of_client name queues ≡ Some q → next_answer state queues name ≡ None → first_open rules world name ≡ due_of name queues
+  open_is_due name q found none =
+      let due = due_at name q found in
+      found_at (λ r. not (has_answer world name r)) (requests_of name rules.requests) (count_told (pairs_of told) name)
+      (λ i x low at. ap not (told_answered rules latest story state made name i x low at))
+      (λ x at. ap (λ o. not (is_some o)) (sym (ap (option_and_then (λ (r : Request). state.answers (client name) r.number)) (due ∙ at)) ∙ none))
+      ∙ sym due
+
+  all_queues : All (λ name. is_some (of_client name queues) ≡ true) (clients_of rules.requests)
+  all_queues = subst (All (λ name. is_some (of_client name queues) ≡ true)) said.clients (All-from_recursion (λ name. is_some (of_client name queues) ≡ true) (map (λ (q : Queue). q.client) queues) (queue_there queues))
+
+  -- ---- where all was said
+
+  answered_at : AreAllSaid queues (clients_of rules.requests) → (k : ℕ) (r : Request) → slice_get rules.requests k ≡ Some r → has_answer world r.client r ≡ true
+  answered_at all k r at =
+      let there = at_place (λ (x : Request). is_some (of_client x.client queues) ≡ true) rules.requests k r (of_clients (λ name. is_some (of_client name queues) ≡ true) rules.requests all_queues) at in
+      let none = at_place (λ (x : Request). due_of x.client queues ≡ None) rules.requests k r (of_clients (λ name. due_of name queues ≡ None) rules.requests all) at in
+      let q = some_is (of_client r.client queues) there in
+      let own = filter_place (λ (x : Request). bytes_eq x.client r.client) rules.requests k r at (bytes_self r.client) in
+      let past : length (requests_of r.client rules.requests) ≤ count_told (pairs_of told) r.client = past_end (requests_of r.client rules.requests) (count_told (pairs_of told) r.client) (sym (due_at r.client q.0 q.1) ∙ none) in
+      let before : own.0 < length (requests_of r.client rules.requests) = within (requests_of r.client rules.requests) own.0 r own.1 in
+      told_answered rules latest story state made r.client own.0 r (omega (arith, past, before)) own.1
+
+  taken_at : AnswersTaken state → (r : Request) → IsRequest r → has_answer world r.client r ≡ true → is_taken world r.message ≡ true
+  taken_at rightly r asks answered =
+      let m = r.message in
+      let from : m.from ≡ client r.client = id_same m.from (client r.client) (both_left (id_eq m.from (client r.client)) _ asks) in
+      let behind = both_right (id_eq m.from (client r.client)) _ asks in
+      let number : number_in m.body ≡ r.number = eqb-true (number_in m.body) r.number (both_left (number_in m.body == r.number) _ (both_right (is_asking m.body m.to) _ behind)) in
+      ap (λ (i : Id). is_some (state.taken i (number_in m.body))) from ∙ ap (λ (n : ℕ). is_some (state.taken (client r.client) n)) number ∙ rightly (client r.client) r.number answered
+
+  pub served : AreAllSaid queues (clients_of rules.requests) → All IsRequest rules.requests → AnswersTaken state → Quiet rules.flows [] world → IsServed rules world
+  served all asked rightly quiet = record {
+    quiet = record {
+      delivered = quiet.delivered;
+      finished = quiet.finished;
+      fired = quiet.fired;
+      asked = λ before request behind is.
+          let taken = mid_place (λ (m : Message). is_taken world m ≡ true) before request behind (subst (AllByRecursion (λ (m : Message). is_taken world m ≡ true)) is all_taken) in
+          ap (λ (b : Bool). not b && may_ask world request.from true true before) taken;
+    };
+    answered = All-from_recursion (λ (r : Request). has_answer world r.client r ≡ true) rules.requests (each_of (λ (r : Request). has_answer world r.client r ≡ true) rules.requests (answered_at all));
+  }
+    where
+      all_taken : AllByRecursion (λ (m : Message). is_taken world m ≡ true) (map (λ (r : Request). r.message) rules.requests)
+      all_taken = mapped (λ (m : Message). is_taken world m ≡ true) (λ (r : Request). r.message) rules.requests
+          (each_of (λ (r : Request). is_taken world r.message ≡ true) rules.requests
+          (λ k r at. taken_at rightly r (at_place IsRequest rules.requests k r (recursion_from_All IsRequest rules.requests asked) at) (answered_at all k r at)))
+
+  -- ---- where one waits
+
+  pub waits : NoneUnsaid state queues (clients_of rules.requests) → (name : List ℕ) (number : ℕ) → IsFirstUnsaid queues (clients_of rules.requests) name number → IsFirstOpen rules world name number
+  waits none name number unsaid =
+      let found = queue_found name queues unsaid.unsaid.request unsaid.unsaid.due in
+      let names : AllByRecursion (λ (n : List ℕ). next_answer state queues n ≡ None) (map (λ (q : Queue). q.client) queues) =
+      recursion_from_All (λ (n : List ℕ). next_answer state queues n ≡ None) (map (λ (q : Queue). q.client) queues) (subst (All (λ (n : List ℕ). next_answer state queues n ≡ None)) (sym said.clients) none) in
+      record {
+        request = unsaid.unsaid.request;
+        unanswered = open_is_due name found.0 found.1 (of_queue (λ (n : List ℕ). next_answer state queues n ≡ None) queues name found.0 names found.1) ∙ unsaid.unsaid.due;
+        number_is = unsaid.unsaid.number_is;
+        first = λ k d inside r is.
+            let q = some_is (of_client (get_or (clients_of rules.requests) k d) queues) (all_queues k d inside) in
+            unsaid.first k d inside r (sym (open_is_due (get_or (clients_of rules.requests) k d) q.0 q.1 (none k d inside)) ∙ is);
+      }
+
+-- ---- the end
+
+module _ (rules : Rules) (latest : ℕ) (o : Origin) (steps : List Step) (trail : List Settled) (most_labels segment_length : ℕ) where
+  pub has_served : (cause : Cause) → AnswersTaken rules.begin → RunEndsAs rules latest o steps trail most_labels segment_length cause → HasServed rules trail cause
+  has_served Done begun ends =
+      let rest = ends.1 in (
+        rest.state,
+        rest.made,
+        served rules latest trail rest.told rest.stands.lines rest.stands.rightly ends.0 rest.said rest.state rest.made ends.2 rest.asked
+            (answers_taken_on rules.flows 1 rules.begin rest.state (of_part 0 trail) begun rest.made) rest.quiet,
+      )
+  has_served (Waiting name number) begun ends =
+      let rest = ends.1 in
+      (rest.state, rest.made, waits rules latest trail rest.told rest.stands.lines rest.stands.rightly ends.0 rest.said rest.state rest.made rest.over.said name number ends.2)
+  has_served Usage begun ends = tt
+  has_served (BadFlows fault) begun ends = tt
+  has_served (BadRequests line) begun ends = tt
+  has_served (Clash name number) begun ends = tt
+  has_served (BadPlan place) begun ends = tt
+  has_served (TooLong file) begun ends = tt
+  has_served (Long labels) begun ends = tt
+  has_served SiteFault begun ends = tt
+  has_served SayFault begun ends = tt
+  has_served ClockFault begun ends = tt
+  has_served (Damaged file offset) begun ends = tt
+  has_served (Illegal partition position) begun ends = tt
+  has_served (Unclosed partition position src seq) begun ends = tt
+  has_served (OtherShape found asked) begun ends = tt
+  has_served (OtherFlows found given) begun ends = tt
+  has_served Memory begun ends = tt
+  has_served (Full partition length_then) begun ends = tt
+  has_served (Spent partition number) begun ends = tt
