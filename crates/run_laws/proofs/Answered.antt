@@ -11,7 +11,7 @@ use Rattle.hub_store.specs.Moments.Told.{silent, settles, says}
 use Rattle.hub_store.specs.Origin.{Origin}
 use Rattle.hub_store.specs.Trail.{Settled, Said, of_part, settling}
 use Rattle.hub_store.proofs.Settling.{of_part-append}
-use Rattle.part_files.specs.Placing.{AllGiven, labels_in, state_next}
+use Rattle.part_files.specs.Placing.{labels_in, state_next}
 use Rattle.part_files.specs.Stands.{shown_by}
 use Rattle.part_files.proofs.Alone.{are_shown_alone}
 use Rattle.part_files.proofs.Appending.{labels_both, numbered_both}

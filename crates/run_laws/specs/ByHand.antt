@@ -1,9 +1,9 @@
 -- Worlds in which the laws fail, made by hand.
-use Rattle.std.specs.Prelude.{ℕ, List, [], ◌∷◌, codes, Some, None}
+use Rattle.std.specs.Prelude.{[], ◌∷◌, codes, Some, None}
 use Rattle.dura_value.specs.declared.data.Value.TheVariants as values
 use Rattle.dura_value.specs.Ids.{Id, orchestration}
 use Rattle.dura_value.specs.Messages.{Spot, at_spot, lock, Message}
-use Rattle.flow_syntax.specs.Machine.{Section, acquiring, inside, running, new_machine, spot_of}
+use Rattle.flow_syntax.specs.Machine.{Section, inside, running, new_machine, spot_of}
 use Rattle.flow_syntax.specs.Entity.{Entity}
 use Rattle.dura_model.specs.World.{World, Orchestration, empty, at_id, at_link}
 

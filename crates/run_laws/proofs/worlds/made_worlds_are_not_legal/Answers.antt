@@ -1,10 +1,9 @@
-use Rattle.std.proofs.Common.{◌∷◌, [], refl, arith, rules, Some}
-use Rattle.dura_value.specs.Messages.{at_spot}
+use Rattle.std.proofs.Common.{◌∷◌, [], refl, arith}
 use Rattle.flow_syntax.specs.Machine.{inside}
 use Rattle.dura_model.specs.Legal.{Overlap, Waits, Holds, Blocks}
 use Rattle.dura_model.specs.Legal as legal
 use Rattle.run_laws.specs.ByHand.{one, other, k, m, in_section, lock_of, overlapping, disordered, circling, left_behind}
-use Rattle.run_laws.specs.Causes.{Because, is_inside, is_acquiring, is_granted, is_leaving}
+use Rattle.run_laws.specs.Causes.{is_inside, is_acquiring, is_granted, is_leaving}
 use Rattle.run_laws.proofs.Ordered.{never_overlaps, waits_for_larger, never_circles, has_cause}
 use Rattle.run_laws.proofs.worlds.made_worlds_are_not_legal.Goals as goal
 
