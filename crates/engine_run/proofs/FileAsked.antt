@@ -96,14 +96,22 @@ right : (a b : Bool) → (a && b) ≡ true → b ≡ true
 right true b is = is
 right false b is = absurd (cc is)
 
+-- a client's request says whose it is and its number
+pub says_whose : (r : Request) → IsRequest r → (r.message.from ≡ client r.client) × (number_in r.message.body ≡ r.number)
+says_whose r asks =
+    let m = r.message in
+    let behind = right (id_eq m.from (client r.client)) _ asks in (
+      id_same m.from (client r.client) (left (id_eq m.from (client r.client)) _ asks),
+      eqb-true (number_in m.body) r.number (left (number_in m.body == r.number) _ (right (is_asking m.body m.to) _ behind)),
+    )
+
 -- a request that isn't accepted was taken
 was_taken : (flows : Flows) (p : Partition) (r : Request) → p.number ≡ 0 → IsRequest r → accepted flows 1 p (took r.message) ≡ None → is_some (p.taken (client r.client) r.number) ≡ true
 was_taken flows p r first asks refused =
     let m = r.message in
-    let behind = right (id_eq m.from (client r.client)) _ asks in
-    let from : m.from ≡ client r.client = id_same m.from (client r.client) (left (id_eq m.from (client r.client)) _ asks) in
-    let numbers = left (number_in m.body == r.number) _ (right (is_asking m.body m.to) _ behind) in
-    let number : number_in m.body ≡ r.number = eqb-true (number_in m.body) r.number numbers in
+    let whose = says_whose r asks in
+    let from = whose.0 in
+    let number = whose.1 in
     let own : is_request m.from (number_in m.body) m ≡ true = subst (λ (n : ℕ). is_request m.from n m ≡ true) (sym number) (subst (λ (i : Id). is_request i r.number m ≡ true) (sym from) asks) in
     let here : (home 1 m.from == p.number) ≡ true = eq-eqb (home 1 m.from) p.number (home_alone m.from ∙ sym first) in
     let gate : (home 1 m.from == p.number && is_request m.from (number_in m.body) m) ≡ true = ap (λ (b : Bool). b && is_request m.from (number_in m.body) m) here ∙ own in

@@ -1,25 +1,26 @@
 -- At the end of a run that rests each request that was said has its answer, and of each client the next one has none.
-use Rattle.std.proofs.Common.{◌≡◌, inl, inr, ◌<◌, ◌≤◌, ◌+◌, ◌==◌, ◌&&◌, ◌||◌, ℕ, zero, suc, Bool, true, false, cond, List, [], ◌∷◌, ◌++◌, length, map, get_or, slice_get, nat_lt, Option, Some, None, Result, Ok, refl, sym, ◌∙◌, ap, subst, eqb-true, arith}
+use Rattle.std.proofs.Common.{◌≡◌, inl, inr, ◌<◌, ◌≤◌, ◌+◌, ◌&&◌, ◌||◌, ℕ, zero, suc, Bool, true, false, cond, List, [], ◌∷◌, ◌++◌, length, map, get_or, slice_get, nat_lt, Option, Some, None, Result, Ok, refl, sym, ◌∙◌, ap, subst, arith}
 use Rattle.std.specs.Prelude.{is_some, not, bytes_eq}
 use Rattle.std.specs.List.{All, AllByRecursion, filter, find, fold, list_any}
 use Rattle.std.specs.Option.{option_and_then}
 use Rattle.std.proofs.lemmas.Bool.Decides.{nat_tests}
 use Rattle.std.proofs.lemmas.List.Elements.{All-from_recursion, recursion_from_All}
-use Rattle.std.proofs.lemmas.Option.{slice_get_cases}
+use Rattle.std.proofs.lemmas.Option.{slice_get_cases, slice_get_within}
 use Rattle.commit_log.specs.Segment.{◌>>=◌}
 use Rattle.client_port.specs.Clients.{clients_of, requests_of, with_client}
 use Rattle.client_port.specs.Ports.{Queue, first_due, due_of}
 use Rattle.dura_model.specs.Legal.{Quiet, is_taken, may_ask}
 use Rattle.dura_model.specs.Partition.{Partition}
-use Rattle.dura_model.specs.Steps.{number_in, is_asking}
+use Rattle.dura_model.specs.Steps.{number_in}
 use Rattle.dura_model.specs.World.{World}
-use Rattle.dura_value.specs.Ids.{Id, client, id_eq}
+use Rattle.dura_value.specs.Ids.{Id, client}
 use Rattle.dura_value.specs.Items.{Entry}
 use Rattle.dura_value.specs.Messages.{Message}
-use Rattle.dura_value.proofs.Ids.{id_same, same_bytes, bytes_self}
+use Rattle.dura_value.proofs.Ids.{same_bytes, bytes_self}
 use Rattle.engine_run.specs.Asked.{IsRequest}
 use Rattle.engine_run.specs.Ends.{AreAllSaid, IsFirstUnsaid, RunEndsAs}
 use Rattle.engine_run.specs.Served.{has_answer, IsServed, first_open, IsFirstOpen, HasServed}
+use Rattle.engine_run.proofs.FileAsked.{says_whose}
 use Rattle.hub_store.specs.Moments.{Told}
 use Rattle.hub_store.specs.Moments.Told.{silent, settles, says}
 use Rattle.hub_store.specs.Origin.{Origin}
@@ -177,20 +178,6 @@ past_end l k none = elim (slice_get_cases l k).1 [
   | inr past ↦ past.0
 ]
 
-within : {X : Type 0} (l : List X) (k : ℕ) (x : X) → slice_get l k ≡ Some x → k < length l
-within l k x at = elim (slice_get_cases l k).1 [
-  | inl there ↦ there.1
-  | inr past ↦ absurd (let wrong : None ≡ Some x = sym past.1 ∙ at in cc wrong)
-]
-
-both_left : (a b : Bool) → (a && b) ≡ true → a ≡ true
-both_left true b is = refl
-both_left false b is = absurd (cc is)
-
-both_right : (a b : Bool) → (a && b) ≡ true → b ≡ true
-both_right true b is = is
-both_right false b is = absurd (cc is)
-
 -- a client with a queue is one of those that have one
 of_queue : (P : List ℕ → Type 0) (queues : List Queue) (name : List ℕ) (q : Queue) → AllByRecursion P (map (λ (x : Queue). x.client) queues) → of_client name queues ≡ Some q → P name
 of_queue P [] name q all found = absurd (cc found)
@@ -233,16 +220,13 @@ module _ (rules : Rules) (latest : ℕ) (trail : List Settled) (told : List Said
       let q = some_is (of_client r.client queues) there in
       let own = filter_place (λ (x : Request). bytes_eq x.client r.client) rules.requests k r at (bytes_self r.client) in
       let past : length (requests_of r.client rules.requests) ≤ count_told (pairs_of told) r.client = past_end (requests_of r.client rules.requests) (count_told (pairs_of told) r.client) (sym (due_at r.client q.0 q.1) ∙ none) in
-      let before : own.0 < length (requests_of r.client rules.requests) = within (requests_of r.client rules.requests) own.0 r own.1 in
+      let before : own.0 < length (requests_of r.client rules.requests) = slice_get_within (requests_of r.client rules.requests) own.0 r own.1 in
       told_answered rules latest story state made r.client own.0 r (omega (arith, past, before)) own.1
 
   taken_at : AnswersTaken state → (r : Request) → IsRequest r → has_answer world r.client r ≡ true → is_taken world r.message ≡ true
   taken_at rightly r asks answered =
-      let m = r.message in
-      let from : m.from ≡ client r.client = id_same m.from (client r.client) (both_left (id_eq m.from (client r.client)) _ asks) in
-      let behind = both_right (id_eq m.from (client r.client)) _ asks in
-      let number : number_in m.body ≡ r.number = eqb-true (number_in m.body) r.number (both_left (number_in m.body == r.number) _ (both_right (is_asking m.body m.to) _ behind)) in
-      ap (λ (i : Id). is_some (state.taken i (number_in m.body))) from ∙ ap (λ (n : ℕ). is_some (state.taken (client r.client) n)) number ∙ rightly (client r.client) r.number answered
+      let whose = says_whose r asks in
+      ap (λ (i : Id). is_some (state.taken i (number_in r.message.body))) whose.0 ∙ ap (λ (n : ℕ). is_some (state.taken (client r.client) n)) whose.1 ∙ rightly (client r.client) r.number answered
 
   pub served : AreAllSaid queues (clients_of rules.requests) → All IsRequest rules.requests → AnswersTaken state → Quiet rules.flows [] world → IsServed rules world
   served all asked rightly quiet = record {
