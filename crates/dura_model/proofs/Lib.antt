@@ -7,6 +7,7 @@ pub mod Rows
 pub mod Sending
 pub mod Shown
 pub mod Streams
+pub mod Turns
 pub mod Items
 pub mod Keeping
 pub mod Kept

@@ -1,5 +1,5 @@
 -- Legal runs, and where they come to.
-use Rattle.std.specs.Prelude.{◌≡◌, ◌&&◌, ◌==◌, ℕ, ◌+◌, List, [], ◌∷◌, ◌++◌, Bool, true, false, not, is_some, if◌then◌else◌, Option, Some, None}
+use Rattle.std.specs.Prelude.{◌≡◌, ◌&&◌, ◌||◌, ◌==◌, ℕ, ◌+◌, List, [], ◌∷◌, ◌++◌, Bool, true, false, not, is_some, if◌then◌else◌, Option, Some, None}
 use Rattle.std.specs.List.{Contains}
 use Rattle.std.specs.Option.{option_and_then}
 use Rattle.dura_value.specs.Ids.{Id, id_eq}
@@ -32,15 +32,25 @@ is_taken w request = is_some (w.taken request.from (number_in request.body))
 abbrev pub is_answered : World → Message → Bool
 is_answered w request = is_some (w.answers request.from (number_in request.body))
 
--- whether all requests of a client were taken and the last one's answer came, once so much is known of those before
-abbrev pub may_ask : World → Id → (taken answered : Bool) → List Message → Bool
-may_ask w who taken answered [] = taken && answered
-may_ask w who taken answered (request ∷ requests) =
-    if id_eq request.from who then may_ask w who (taken && is_taken w request) (is_answered w request) requests else may_ask w who taken answered requests
+-- whether each of a client's requests among these was taken and answered
+abbrev pub may_ask : World → Id → List Message → Bool
+may_ask w who [] = true
+may_ask w who (request ∷ requests) = (not (id_eq request.from who) || is_taken w request && is_answered w request) && may_ask w who requests
 
--- a request behind these is due: it wasn't taken, and its client may ask
+-- a request behind these is due: it wasn't taken, and each of its client's in front was answered
 abbrev pub is_due : World → List Message → Message → Bool
-is_due w before request = not (is_taken w request) && may_ask w request.from true true before
+is_due w before request = not (is_taken w request) && may_ask w request.from before
+
+-- the same where the one right before it is looked at alone: whether a client's requests were taken, and the last of them answered,
+-- once so much is known of those in front
+abbrev pub may_go_on : World → Id → (taken answered : Bool) → List Message → Bool
+may_go_on w who taken answered [] = taken && answered
+may_go_on w who taken answered (request ∷ requests) =
+    if id_eq request.from who then may_go_on w who (taken && is_taken w request) (is_answered w request) requests else may_go_on w who taken answered requests
+
+-- Those of these requests that were taken were taken in turn: each of its client's in front was answered.
+abbrev pub TakenInTurn : World → List Message → Type 0
+TakenInTurn w requests = (before : List Message) (request : Message) (behind : List Message) → requests ≡ before ++ request ∷ behind → is_taken w request ≡ true → may_ask w request.from before ≡ true
 
 -- Nothing is left to do for these requests: no message can be delivered, nothing is pending, and no request is due.
 pub record Quiet (flows : Flows) (requests : List Message) (w : World) : Type 0 where

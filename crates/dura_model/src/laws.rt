@@ -1,10 +1,11 @@
 //! Laws of the failure-free machine. They are said of the definitions alone: the functions do nothing.
 
-ghost use Rattle.std.specs.Prelude.{◌≡◌, ◌<◌, ◌≤◌, ℕ, List, Some, None};
+ghost use Rattle.std.specs.Prelude.{◌≡◌, ◌<◌, ◌≤◌, ℕ, List, ◌∷◌, ◌++◌, true, Some, None};
 ghost use Rattle.dura_value.specs.Ids.{Id, home};
 ghost use Rattle.dura_value.specs.Items.{Item, ran};
+ghost use Rattle.dura_value.specs.Messages.{Message};
 ghost use Rattle.flow_syntax.specs.Syntax.{Flows};
-ghost use Rattle.dura_model.specs.Legal.{Legal, finishes};
+ghost use Rattle.dura_model.specs.Legal.{Legal, may_ask, may_go_on, TakenInTurn, finishes};
 ghost use Rattle.dura_model.specs.Partition.{Partition, fresh, enter, first_in, accepted, label_in, shown, with_part};
 ghost use Rattle.dura_model.specs.Placed.{AreShown, happens_at, IsGiven, IsOfStreams, IsLabelled, ShowsNothing, IsSameEntry, Belongs, AreOfInstances};
 ghost use Rattle.dura_model.specs.Steps.{Label};
@@ -64,4 +65,10 @@ pub fn entries_show_nothing()
 pub fn fresh_show_nothing()
     ensures kept { (count : ℕ) → AreShown count fresh }
     ensures same { (flows : Flows) (count : ℕ) → shown flows count fresh ≡ empty }
+{}
+
+/// Where requests were taken in turn, the one right before it tells whether a client may ask for the next.
+pub fn the_one_before_tells()
+    ensures { (w : World) (before : List Message) (request : Message) (behind : List Message) → TakenInTurn w (before ++ request ∷ behind)
+        → may_go_on w request.from true true before ≡ may_ask w request.from before }
 {}

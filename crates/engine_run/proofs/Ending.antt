@@ -98,14 +98,15 @@ module _ (MayFollow : List Settled → List Said → ℕ → List Entry → Type
   -- rounds that stop
   pub stop_ends : (was : ℕ) → was ≤ latest → (most_labels segment_length : ℕ) (way : Way) (stop : Stop) → 0 < segment_length
       → ((partition length_then : ℕ) → stop ≡ stops.Full partition length_then → IsFull rules was (of_part 0 trail) (pairs_of told) segment_length way partition length_then)
-      → LogFits (o.logs 0) (of_part 0 trail) (changes_of (o.logs 0).file steps) way → EndsAs MayFollow MaySay rules latest o steps trail most_labels segment_length (cause_of_stop stop)
-  stop_ends was above most_labels segment_length way (stops.Full partition length_then) some full fits =
+      → LogFits (o.logs 0) (of_part 0 trail) (changes_of (o.logs 0).file steps) way → (stop ≢ stops.SayFault → StandsWith MayFollow MaySay o steps trail told []) → All IsRequest rules.requests
+      → EndsAs MayFollow MaySay rules latest o steps trail most_labels segment_length (cause_of_stop stop)
+  stop_ends was above most_labels segment_length way (stops.Full partition length_then) some full fits stands asked =
       let is = full partition length_then refl in
-      (is.alone, would_fill was above segment_length way partition length_then some is fits)
-  stop_ends was above most_labels segment_length way stops.SiteFault some full fits = tt
-  stop_ends was above most_labels segment_length way stops.SayFault some full fits = tt
-  stop_ends was above most_labels segment_length way stops.ClockFault some full fits = tt
-  stop_ends was above most_labels segment_length way stops.Memory some full fits = tt
+      (is.alone, would_fill was above segment_length way partition length_then some is fits, record { told = told; stands = stands (λ same. cc same); further = is.further; asked = asked })
+  stop_ends was above most_labels segment_length way stops.SiteFault some full fits stands asked = tt
+  stop_ends was above most_labels segment_length way stops.SayFault some full fits stands asked = tt
+  stop_ends was above most_labels segment_length way stops.ClockFault some full fits stands asked = tt
+  stop_ends was above most_labels segment_length way stops.Memory some full fits stands asked = tt
 
 -- rounds that stop for another cause stopped for another reason
 pub other_stop : {X : Type 0} (stop : Stop) → cause_of_stop stop ≢ SayFault → (result : Result X Stop) → result ≡ Err stop → result ≢ Err stops.SayFault

@@ -1,4 +1,5 @@
 pub mod Asked
+pub mod Asking
 pub mod Ending
 pub mod FileAsked
 pub mod Found
@@ -15,4 +16,5 @@ pub mod Runs
 pub mod Served
 pub mod Shown
 pub mod Standing
+pub mod Stirred
 pub mod Words

@@ -1,89 +1,40 @@
 -- At the end of a run that rests each request that was said has its answer, and of each client the next one has none.
-use Rattle.std.proofs.Common.{◌≡◌, inl, inr, ◌<◌, ◌≤◌, ◌+◌, ◌&&◌, ◌||◌, ℕ, zero, suc, Bool, true, false, cond, List, [], ◌∷◌, ◌++◌, length, map, get_or, slice_get, nat_lt, Option, Some, None, Result, Ok, refl, sym, ◌∙◌, ap, subst, arith}
+use Rattle.std.proofs.Common.{◌≡◌, ◌⊎◌, inl, inr, ◌<◌, ◌≤◌, ◌&&◌, ◌||◌, ℕ, zero, suc, Bool, true, false, cond, List, [], ◌∷◌, ◌++◌, length, map, get_or, slice_get, Option, Some, None, Ok, refl, sym, ◌∙◌, ap, subst, arith}
 use Rattle.std.specs.Prelude.{is_some, not, bytes_eq}
 use Rattle.std.specs.List.{All, AllByRecursion, filter, find, fold, list_any}
 use Rattle.std.specs.Option.{option_and_then}
-use Rattle.std.proofs.lemmas.Bool.Decides.{nat_tests}
-use Rattle.std.proofs.lemmas.List.Elements.{All-from_recursion, recursion_from_All}
+use Rattle.std.proofs.lemmas.List.Elements.{All-from_recursion, recursion_from_All, filter-append}
 use Rattle.std.proofs.lemmas.Option.{slice_get_cases, slice_get_within}
-use Rattle.commit_log.specs.Segment.{◌>>=◌}
 use Rattle.client_port.specs.Clients.{clients_of, requests_of, with_client}
 use Rattle.client_port.specs.Ports.{Queue, first_due, due_of}
-use Rattle.dura_model.specs.Legal.{Quiet, is_taken, may_ask}
+use Rattle.dura_model.specs.Legal.{Quiet, is_taken, may_ask, is_due}
 use Rattle.dura_model.specs.Partition.{Partition}
 use Rattle.dura_model.specs.Steps.{number_in}
 use Rattle.dura_model.specs.World.{World}
 use Rattle.dura_value.specs.Ids.{Id, client}
-use Rattle.dura_value.specs.Items.{Entry}
 use Rattle.dura_value.specs.Messages.{Message}
 use Rattle.dura_value.proofs.Ids.{same_bytes, bytes_self}
-use Rattle.engine_run.specs.Asked.{IsRequest}
-use Rattle.engine_run.specs.Ends.{AreAllSaid, IsFirstUnsaid, RunEndsAs}
-use Rattle.engine_run.specs.Served.{has_answer, IsServed, first_open, IsFirstOpen, HasServed}
+use Rattle.engine_run.specs.Asked.{IsRequest, IsTaken}
+use Rattle.engine_run.specs.Ends.{AreAllSaid, IsFirstUnsaid, IsUnfinished, RunEndsAs}
+use Rattle.engine_run.specs.Served.{has_answer, IsServed, first_open, IsFirstOpen, Awaits, IsLeftAt, HasServed}
+use Rattle.engine_run.proofs.Asking.{told_answered, get_front, get_here, get_within, front_all, and_false, asks_in_vain}
 use Rattle.engine_run.proofs.FileAsked.{says_whose}
+use Rattle.engine_run.proofs.Stirred.{stirs}
 use Rattle.hub_store.specs.Moments.{Told}
-use Rattle.hub_store.specs.Moments.Told.{silent, settles, says}
 use Rattle.hub_store.specs.Origin.{Origin}
-use Rattle.hub_store.specs.Trail.{Settled, Said, of_part, settling}
-use Rattle.hub_store.proofs.Settling.{of_part-append, own_part}
+use Rattle.hub_store.specs.Trail.{Settled, Said, of_part}
 use Rattle.part_files.specs.Placing.{placed}
 use Rattle.part_files.specs.Stands.{shown_by}
-use Rattle.part_files.proofs.Appending.{placed_both}
 use Rattle.part_rounds.specs.Rounds.{of_client, HasSaid, NoneUnsaid, next_answer}
-use Rattle.part_rounds.proofs.Queues.{due_is, queue_found, count_on}
+use Rattle.part_rounds.proofs.Queues.{due_is, queue_found}
 use Rattle.request_reader.specs.Line.{Request}
 use Rattle.run_causes.specs.declared.cause.Cause.{Cause}
 use Rattle.run_causes.specs.declared.cause.Cause.TheVariants.{Done, Usage, BadFlows, BadRequests, Clash, BadPlan, TooLong, Waiting, Long, SiteFault, SayFault, ClockFault, Damaged, Illegal, Unclosed, OtherShape, OtherFlows, Memory, Full, Spent}
 use Rattle.run_laws.specs.Begins.{pairs_of, may_follow, may_say}
 use Rattle.run_laws.specs.Requests.{AnswersTaken}
-use Rattle.run_laws.proofs.Requests.{requests_stay, answers_taken_on}
+use Rattle.run_laws.proofs.Requests.{answers_taken_on}
 use Rattle.run_rules.specs.Rules.{Rules, count_told, request_at}
 use Rattle.site_model.specs.History.{Step}
-
--- ---- what was said
-
-below : (a b : ℕ) → nat_lt a b ≡ true → a < b
-below a b is = grind (arith, nat_tests, is)
-
-not_below : (a b : ℕ) → nat_lt a b ≡ false → b ≤ a
-not_below a b is = grind (arith, nat_tests, is)
-
-module _ (rules : Rules) (latest : ℕ) where
-  -- each request that was said has its answer by what was settled
-  told_answered : {trail : List Settled} {told : List Said} {lines : List ℕ} → Told (may_follow rules latest) (may_say rules) trail told lines → (state : Partition) → placed rules.flows 1 rules.begin (of_part 0 trail) ≡ Ok state
-      → (name : List ℕ) (place : ℕ) (r : Request) → place < count_told (pairs_of told) name → request_at rules name place ≡ Some r → is_some (state.answers (client name) r.number) ≡ true
-  told_answered silent state made name place r low at = absurd (omega (arith, low))
-  told_answered (settles {trail} {told} before partition at_moment going follows) state made name place r low at =
-      let own : of_part 0 (trail ++ settling partition at_moment going) ≡ of_part 0 trail ++ going =
-      of_part-append 0 trail (settling partition at_moment going) ∙ ap (λ (p : ℕ). of_part 0 trail ++ of_part 0 (settling p at_moment going)) follows.0 ∙ ap (λ (l : List Entry). of_part 0 trail ++ l) (own_part 0 at_moment going) in
-      let on : placed rules.flows 1 follows.1.before going ≡ Ok state =
-      sym (ap (λ (m : Result Partition ℕ). m >>= λ q. placed rules.flows 1 q going) follows.1.made) ∙ sym (placed_both rules.flows 1 rules.begin (of_part 0 trail) going) ∙ sym (ap (placed rules.flows 1 rules.begin) own) ∙ made in
-      (requests_stay rules.flows 1 follows.1.before state going on).answered (client name) r.number (told_answered before follows.1.before follows.1.made name place r low at)
-  told_answered (says {trail} {told} before one line may) state made name place r low at = by (λ early. told_answered before state made name place r early at) (bytes_eq one.client name) refl (nat_lt place (count_told (pairs_of told) name)) refl
-    where
-      count : count_told (pairs_of (told ++ one ∷ [])) name ≡ count_told (pairs_of told) name + cond (bytes_eq one.client name) 1 0
-      count = count_on told one.client name one.number
-
-      by : (place < count_told (pairs_of told) name → is_some (state.answers (client name) r.number) ≡ true) → (mine : Bool) → bytes_eq one.client name ≡ mine
-          → (early : Bool) → nat_lt place (count_told (pairs_of told) name) ≡ early → is_some (state.answers (client name) r.number) ≡ true
-      by sooner mine own true early = sooner (below place (count_told (pairs_of told) name) early)
-      by sooner false own false early =
-          let counted : count_told (pairs_of (told ++ one ∷ [])) name ≡ count_told (pairs_of told) name + 0 = count ∙ ap (λ (b : Bool). count_told (pairs_of told) name + cond b 1 0) own in
-          let high = not_below place (count_told (pairs_of told) name) early in
-          absurd (omega (arith, counted, high, low))
-      by sooner true own false early =
-          let counted : count_told (pairs_of (told ++ one ∷ [])) name ≡ count_told (pairs_of told) name + 1 = count ∙ ap (λ (b : Bool). count_told (pairs_of told) name + cond b 1 0) own in
-          let high = not_below place (count_told (pairs_of told) name) early in
-          let place_is : place ≡ count_told (pairs_of told) name = omega (arith, counted, high, low) in
-          let name_is : one.client ≡ name = same_bytes one.client name own in
-          let there : request_at rules name (count_told (pairs_of told) name) ≡ Some may.request = subst (λ (n : List ℕ). request_at rules n (count_told (pairs_of told) n) ≡ Some may.request) name_is may.next in
-          let here : Some r ≡ Some may.request = sym at ∙ ap (request_at rules name) place_is ∙ there in
-          let request_is : r ≡ may.request = cc here in
-          let state_is : may.state ≡ state = cc (may.made, made) in
-          let number_is : one.number ≡ r.number = sym may.number_is ∙ ap (λ (x : Request). x.number) (sym request_is) in
-          let answered : is_some (may.state.answers (client one.client) one.number) ≡ true = ap is_some may.has in
-          subst (λ (n : ℕ). is_some (state.answers (client name) n) ≡ true) number_is
-          (subst (λ (n : List ℕ). is_some (state.answers (client n) one.number) ≡ true) name_is (subst (λ (p : Partition). is_some (p.answers (client one.client) one.number) ≡ true) state_is answered))
 
 -- ---- clients
 
@@ -187,6 +138,35 @@ of_queue P (first ∷ queues) name q all found = by (of_queue P queues name q al
     by more true same is = subst P (same_bytes first.client name same) all.0
     by more false other is = more is
 
+-- what a list of requests is made of around one of what they are mapped to
+record Split {X Y : Type 0} (f : X → Y) (l : List X) (before : List Y) (y : Y) : Type 0 where
+  front : List X
+  mid : X
+  rest : List X
+  split : l ≡ front ++ mid ∷ rest
+  is_front : map f front ≡ before
+  is_mid : f mid ≡ y
+
+map_split : {X Y : Type 0} (f : X → Y) (l : List X) (before : List Y) (y : Y) (behind : List Y) → map f l ≡ before ++ y ∷ behind → Split f l before y
+map_split f [] [] y behind is = absurd (cc is)
+map_split f [] (z ∷ before) y behind is = absurd (cc is)
+map_split f (x ∷ l) [] y behind is = record { front = []; mid = x; rest = l; split = refl; is_front = refl; is_mid = cc is }
+map_split f (x ∷ l) (z ∷ before) y behind is =
+    let head : f x ≡ z = cc is in
+    let tail : map f l ≡ before ++ y ∷ behind = cc is in
+    let more = map_split f l before y behind tail in
+    record { front = x ∷ more.front; mid = more.mid; rest = more.rest; split = ap (λ t. x ∷ t) more.split; is_front = ap (λ h. h ∷ map f more.front) head ∙ ap (λ t. z ∷ t) more.is_front; is_mid = more.is_mid }
+
+side : (a b : ℕ) → (a < b) ⊎ ((a ≡ b) ⊎ (b < a))
+side zero zero = inr (inl refl)
+side zero (suc b) = inl (omega arith)
+side (suc a) zero = inr (inr (omega arith))
+side (suc a) (suc b) = elim (side a b) [
+  | inl low ↦ inl (omega (arith, low))
+  | inr (inl same) ↦ inr (inl (ap suc same))
+  | inr (inr high) ↦ inr (inr (omega (arith, high)))
+]
+
 -- ---- at rest
 
 module _ (rules : Rules) (latest : ℕ) (trail : List Settled) (told : List Said) (lines : List ℕ) (story : Told (may_follow rules latest) (may_say rules) trail told lines) (queues : List Queue) (said : HasSaid rules told queues)
@@ -236,7 +216,7 @@ module _ (rules : Rules) (latest : ℕ) (trail : List Settled) (told : List Said
       fired = quiet.fired;
       asked = λ before request behind is.
           let taken = mid_place (λ (m : Message). is_taken world m ≡ true) before request behind (subst (AllByRecursion (λ (m : Message). is_taken world m ≡ true)) is all_taken) in
-          ap (λ (b : Bool). not b && may_ask world request.from true true before) taken;
+          ap (λ (b : Bool). not b && may_ask world request.from before) taken;
     };
     answered = All-from_recursion (λ (r : Request). has_answer world r.client r ≡ true) rules.requests (each_of (λ (r : Request). has_answer world r.client r ≡ true) rules.requests (answered_at all));
   }
@@ -248,23 +228,104 @@ module _ (rules : Rules) (latest : ℕ) (trail : List Settled) (told : List Said
 
   -- ---- where one waits
 
-  pub waits : NoneUnsaid state queues (clients_of rules.requests) → (name : List ℕ) (number : ℕ) → IsFirstUnsaid queues (clients_of rules.requests) name number → IsFirstOpen rules world name number
-  waits none name number unsaid =
-      let found = queue_found name queues unsaid.unsaid.request unsaid.unsaid.due in
-      let names : AllByRecursion (λ (n : List ℕ). next_answer state queues n ≡ None) (map (λ (q : Queue). q.client) queues) =
-      recursion_from_All (λ (n : List ℕ). next_answer state queues n ≡ None) (map (λ (q : Queue). q.client) queues) (subst (All (λ (n : List ℕ). next_answer state queues n ≡ None)) (sym said.clients) none) in
-      record {
-        request = unsaid.unsaid.request;
-        unanswered = open_is_due name found.0 found.1 (of_queue (λ (n : List ℕ). next_answer state queues n ≡ None) queues name found.0 names found.1) ∙ unsaid.unsaid.due;
-        number_is = unsaid.unsaid.number_is;
-        first = λ k d inside r is.
-            let q = some_is (of_client (get_or (clients_of rules.requests) k d) queues) (all_queues k d inside) in
-            unsaid.first k d inside r (sym (open_is_due (get_or (clients_of rules.requests) k d) q.0 q.1 (none k d inside)) ∙ is);
-      }
+  module _ (none : NoneUnsaid state queues (clients_of rules.requests)) where
+    none_of : (name : List ℕ) (q : Queue) → of_client name queues ≡ Some q → next_answer state queues name ≡ None
+    none_of name q found =
+        let names : AllByRecursion (λ (n : List ℕ). next_answer state queues n ≡ None) (map (λ (x : Queue). x.client) queues) =
+        recursion_from_All (λ (n : List ℕ). next_answer state queues n ≡ None) (map (λ (x : Queue). x.client) queues) (subst (All (λ (n : List ℕ). next_answer state queues n ≡ None)) (sym said.clients) none) in
+        of_queue (λ (n : List ℕ). next_answer state queues n ≡ None) queues name q names found
+
+    first_waits : (name : List ℕ) (number : ℕ) → IsFirstUnsaid queues (clients_of rules.requests) name number → IsFirstOpen rules world name number
+    first_waits name number unsaid =
+        let found = queue_found name queues unsaid.unsaid.request unsaid.unsaid.due in
+        record {
+          request = unsaid.unsaid.request;
+          unanswered = open_is_due name found.0 found.1 (none_of name found.0 found.1) ∙ unsaid.unsaid.due;
+          number_is = unsaid.unsaid.number_is;
+          first = λ k d inside r is.
+              let q = some_is (of_client (get_or (clients_of rules.requests) k d) queues) (all_queues k d inside) in
+              unsaid.first k d inside r (sym (open_is_due (get_or (clients_of rules.requests) k d) q.0 q.1 (none k d inside)) ∙ is);
+        }
+
+    module _ (rightly : AnswersTaken state) (asked : All IsRequest rules.requests) (taken : All (IsTaken state queues) (clients_of rules.requests)) (front : List Request) (r : Request) (rest : List Request) (split : rules.requests ≡ front ++ r ∷ rest) where
+      abbrev own : ℕ
+      own = length (requests_of r.client front)
+
+      abbrev count : ℕ
+      count = count_told (pairs_of told) r.client
+
+      of_r : (P : Request → Type 0) → AllByRecursion P rules.requests → P r
+      of_r P all = mid_place P front r rest (subst (AllByRecursion P) split all)
+
+      asks : AllByRecursion IsRequest rules.requests
+      asks = recursion_from_All IsRequest rules.requests asked
+
+      its : requests_of r.client rules.requests ≡ requests_of r.client front ++ r ∷ requests_of r.client rest
+      its = ap (requests_of r.client) split ∙ filter-append (λ (x : Request). bytes_eq x.client r.client) front (r ∷ rest)
+          ∙ ap (λ (b : Bool). requests_of r.client front ++ cond b (r ∷ requests_of r.client rest) (requests_of r.client rest)) (bytes_self r.client)
+
+      there : request_at rules r.client own ≡ Some r
+      there = ap (λ (l : List Request). slice_get l own) its ∙ get_here (requests_of r.client front) r (requests_of r.client rest)
+
+      q : (x : Queue) × (of_client r.client queues ≡ Some x)
+      q = some_is (of_client r.client queues) (of_r (λ (x : Request). is_some (of_client x.client queues) ≡ true) (of_clients (λ name. is_some (of_client name queues) ≡ true) rules.requests all_queues))
+
+      -- what is its client's next request
+      next : (x : Request) → request_at rules r.client count ≡ Some x → due_of r.client queues ≡ Some x
+      next x at = due_at r.client q.0 q.1 ∙ at
+
+      -- where a request in front of it is next, that one has no answer
+      kept_back : count < own → may_ask world r.message.from (map (λ (x : Request). x.message) front) ≡ false
+      kept_back low =
+          let first = get_within (requests_of r.client front) count low in
+          let is_next = next first.0 (ap (λ (l : List Request). slice_get l count) its ∙ get_front (requests_of r.client front) (r ∷ requests_of r.client rest) count low ∙ first.1) in
+          let unanswered : has_answer world r.client first.0 ≡ false = ap is_some (sym (ap (option_and_then (λ (x : Request). state.answers (client r.client) x.number)) is_next) ∙ none_of r.client q.0 q.1) in
+          subst (λ (i : Id). may_ask world i (map (λ (x : Request). x.message) front) ≡ false) (sym (says_whose r (of_r IsRequest asks)).0)
+          (asks_in_vain world r.client front count first.0 (front_all IsRequest front (r ∷ rest) (subst (AllByRecursion IsRequest) split asks)) first.1 unanswered)
+
+      -- where it is next itself, it was taken
+      was_next : own ≡ count → is_taken world r.message ≡ true
+      was_next here =
+          let whose = says_whose r (of_r IsRequest asks) in
+          ap (λ (i : Id). is_some (state.taken i (number_in r.message.body))) whose.0 ∙ ap (λ (n : ℕ). is_some (state.taken (client r.client) n)) whose.1
+          ∙ of_r (λ (x : Request). IsTaken state queues x.client) (of_clients (IsTaken state queues) rules.requests taken) r (next r (ap (request_at rules r.client) (sym here) ∙ there))
+
+      undue : is_due world (map (λ (x : Request). x.message) front) r.message ≡ false
+      undue = elim (side own count) [
+        | inl said_too ↦ no_more (taken_at rightly r (of_r IsRequest asks) (told_answered rules latest story state made r.client own r said_too there))
+        | inr (inl here) ↦ no_more (was_next here)
+        | inr (inr behind) ↦ ap (λ (b : Bool). not (is_taken world r.message) && b) (kept_back behind) ∙ and_false (not (is_taken world r.message))
+      ]
+        where
+          no_more : is_taken world r.message ≡ true → is_due world (map (λ (x : Request). x.message) front) r.message ≡ false
+          no_more was = ap (λ (b : Bool). not b && may_ask world r.message.from (map (λ (x : Request). x.message) front)) was
+
+    pub waits : AnswersTaken state → All IsRequest rules.requests → All (IsTaken state queues) (clients_of rules.requests) → Quiet rules.flows [] world → (name : List ℕ) (number : ℕ) → IsFirstUnsaid queues (clients_of rules.requests) name number
+        → Awaits rules world name number
+    waits rightly asked taken quiet name number unsaid = record {
+      quiet = record {
+        delivered = quiet.delivered;
+        finished = quiet.finished;
+        fired = quiet.fired;
+        asked = λ before request behind is.
+            let parts = map_split (λ (x : Request). x.message) rules.requests before request behind is in
+            subst (λ (m : Message). is_due world before m ≡ false) parts.is_mid
+            (subst (λ (l : List Message). is_due world l parts.mid.message ≡ false) parts.is_front (undue rightly asked taken parts.front parts.mid parts.rest parts.split));
+      };
+      first = first_waits name number unsaid;
+    }
 
 -- ---- the end
 
 module _ (rules : Rules) (latest : ℕ) (o : Origin) (steps : List Step) (trail : List Settled) (most_labels segment_length : ℕ) where
+  busy : AnswersTaken rules.begin → IsUnfinished (may_follow rules latest) (may_say rules) rules latest o steps trail → IsLeftAt rules trail
+  busy begun left =
+      let further = left.further in (
+        further.before,
+        further.made,
+        λ quiet. stirs rules latest left.stands.rightly further.before further.made further.shown further.younger (answers_taken_on rules.flows 1 rules.begin further.before (of_part 0 trail) begun further.made) left.asked quiet further.stirs,
+      )
+
   pub has_served : (cause : Cause) → AnswersTaken rules.begin → RunEndsAs rules latest o steps trail most_labels segment_length cause → HasServed rules trail cause
   has_served Done begun ends =
       let rest = ends.1 in (
@@ -274,15 +335,19 @@ module _ (rules : Rules) (latest : ℕ) (o : Origin) (steps : List Step) (trail 
             (answers_taken_on rules.flows 1 rules.begin rest.state (of_part 0 trail) begun rest.made) rest.quiet,
       )
   has_served (Waiting name number) begun ends =
-      let rest = ends.1 in
-      (rest.state, rest.made, waits rules latest trail rest.told rest.stands.lines rest.stands.rightly ends.0 rest.said rest.state rest.made rest.over.said name number ends.2)
+      let rest = ends.1 in (
+        rest.state,
+        rest.made,
+        waits rules latest trail rest.told rest.stands.lines rest.stands.rightly ends.0 rest.said rest.state rest.made rest.over.said
+            (answers_taken_on rules.flows 1 rules.begin rest.state (of_part 0 trail) begun rest.made) rest.asked rest.taken rest.quiet name number ends.2,
+      )
   has_served Usage begun ends = tt
   has_served (BadFlows fault) begun ends = tt
   has_served (BadRequests line) begun ends = tt
   has_served (Clash name number) begun ends = tt
   has_served (BadPlan place) begun ends = tt
   has_served (TooLong file) begun ends = tt
-  has_served (Long labels) begun ends = tt
+  has_served (Long labels) begun ends = busy begun ends.2
   has_served SiteFault begun ends = tt
   has_served SayFault begun ends = tt
   has_served ClockFault begun ends = tt
@@ -292,5 +357,5 @@ module _ (rules : Rules) (latest : ℕ) (o : Origin) (steps : List Step) (trail 
   has_served (OtherShape found asked) begun ends = tt
   has_served (OtherFlows found given) begun ends = tt
   has_served Memory begun ends = tt
-  has_served (Full partition length_then) begun ends = tt
+  has_served (Full partition length_then) begun ends = busy begun ends.2
   has_served (Spent partition number) begun ends = tt

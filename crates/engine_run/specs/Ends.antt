@@ -17,6 +17,7 @@ use Rattle.part_files.specs.Placing.{placed}
 use Rattle.part_files.specs.Stands.{shown_by}
 use Rattle.part_items.specs.Spelling.{spell_frame}
 use Rattle.part_rounds.specs.Comes.{IsOver, count_labels}
+use Rattle.part_rounds.specs.Further.{GoesFurther}
 use Rattle.part_rounds.specs.Rounds.{pairs_of, HasSaid}
 use Rattle.hub_store.specs.declared.stop.Stop.{Stop}
 use Rattle.hub_store.specs.declared.stop.Stop.TheVariants as stops
@@ -74,12 +75,19 @@ module _ (MayFollow : List Settled → List Said → ℕ → List Entry → Type
     pub over : IsOver rules (enter rules.life state) queues (clients_of rules.requests)
     pub asked : All IsRequest rules.requests
 
+  -- Whole lines were said, and once this was settled something is possible still. Each request is one that its client sends.
+  pub record IsUnfinished (steps : List Step) (trail : List Settled) : Type 0 where
+    pub told : List Said
+    pub stands : StandsWith MayFollow MaySay o steps trail told []
+    pub further : GoesFurther rules (of_part 0 trail) (pairs_of told)
+    pub asked : All IsRequest rules.requests
+
   -- why it ends
   abbrev pub EndsAs : List Step → List Settled → (most_labels segment_length : ℕ) → Cause → Type 0
   EndsAs steps trail most_labels segment_length Done = (queues : List Queue) × IsAtRest steps trail queues × AreAllSaid queues (clients_of rules.requests)
   EndsAs steps trail most_labels segment_length (Waiting client number) = (queues : List Queue) × IsAtRest steps trail queues × IsFirstUnsaid queues (clients_of rules.requests) client number
-  EndsAs steps trail most_labels segment_length (Long labels) = (labels ≡ count_labels (of_part 0 trail)) × (most_labels ≤ labels)
-  EndsAs steps trail most_labels segment_length (Full partition length_then) = (partition ≡ 0) × WouldFill rules latest o steps trail segment_length length_then
+  EndsAs steps trail most_labels segment_length (Long labels) = (labels ≡ count_labels (of_part 0 trail)) × (most_labels ≤ labels) × IsUnfinished steps trail
+  EndsAs steps trail most_labels segment_length (Full partition length_then) = (partition ≡ 0) × WouldFill rules latest o steps trail segment_length length_then × IsUnfinished steps trail
   EndsAs steps trail most_labels segment_length SiteFault = Unit {0}
   EndsAs steps trail most_labels segment_length SayFault = Unit {0}
   EndsAs steps trail most_labels segment_length ClockFault = Unit {0}

@@ -37,7 +37,8 @@ pub record StandsOrderly (rules : Rules) (latest digest : ℕ) (o : Origin) (ste
 -- by then, then no more than the one frame whose gate was being written; and what was said by then answers requests as that run does.
 -- Each entry is of the life that the call began, and of no later moment than both the entries at the start and the clock's latest, and
 -- takes only what was due of its client then; unless saying failed, whole lines were said; and it ends for its cause. Where it is done
--- the world is quiet for all requests, each of which has its answer; where it waits the named one is the first without.
+-- or waits the world is quiet for all requests: each has its answer, or the named one is the first without. Where it is long, or the log
+-- full, the world isn't quiet.
 pub record RunsOn (job : Job) (entries : List Entry) (begin : Partition) (old new : List Step) (trail : List Settled) (most_labels segment_length latest : ℕ) (cause : Cause) : Type 0 where
   pub origin : Origin
   pub kept : (origin.logs 0).entries ≡ entries

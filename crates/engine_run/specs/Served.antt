@@ -12,7 +12,7 @@ use Rattle.part_files.specs.Placing.{placed}
 use Rattle.part_files.specs.Stands.{shown_by}
 use Rattle.request_reader.specs.Line.{Request}
 use Rattle.run_causes.specs.declared.cause.Cause.{Cause}
-use Rattle.run_causes.specs.declared.cause.Cause.TheVariants.{Done, Waiting}
+use Rattle.run_causes.specs.declared.cause.Cause.TheVariants.{Done, Waiting, Long, Full}
 use Rattle.run_rules.specs.Rules.{Rules}
 
 -- whether a client's request has its answer
@@ -36,8 +36,20 @@ pub record IsFirstOpen (rules : Rules) (w : World) (name : List ℕ) (number : �
   pub number_is : number ≡ request.number
   pub first : All (λ other. (r : Request) → first_open rules w other ≡ Some r → no_later (name, number) (other, r.number) ≡ true) (clients_of rules.requests)
 
+-- Nothing is left to do for any request, and the first without an answer is this one.
+pub record Awaits (rules : Rules) (w : World) (name : List ℕ) (number : ℕ) : Type 0 where
+  pub quiet : Quiet rules.flows (map (λ r. r.message) rules.requests) w
+  pub first : IsFirstOpen rules w name number
+
+-- Once this was settled something is left to do.
+abbrev pub IsLeftAt : Rules → List Settled → Type 0
+IsLeftAt rules trail =
+    (state : Partition) × (placed rules.flows 1 rules.begin (of_part 0 trail) ≡ Ok state) × (Quiet rules.flows (map (λ r. r.message) rules.requests) (shown_by rules.flows state) → ⊥)
+
 -- what a run that ends for this cause has done, once this was settled
 abbrev pub HasServed : Rules → List Settled → Cause → Type 0
 HasServed rules trail Done = (state : Partition) × (placed rules.flows 1 rules.begin (of_part 0 trail) ≡ Ok state) × IsServed rules (shown_by rules.flows state)
-HasServed rules trail (Waiting name number) = (state : Partition) × (placed rules.flows 1 rules.begin (of_part 0 trail) ≡ Ok state) × IsFirstOpen rules (shown_by rules.flows state) name number
+HasServed rules trail (Waiting name number) = (state : Partition) × (placed rules.flows 1 rules.begin (of_part 0 trail) ≡ Ok state) × Awaits rules (shown_by rules.flows state) name number
+HasServed rules trail (Long labels) = IsLeftAt rules trail
+HasServed rules trail (Full partition length_then) = IsLeftAt rules trail
 HasServed rules trail other = Unit {0}

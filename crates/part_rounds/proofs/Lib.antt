@@ -2,7 +2,9 @@ pub mod Entries
 pub mod Counts
 pub mod Endings
 pub mod Fillings
+pub mod Further
 pub mod Moments
 pub mod Puttings
 pub mod Queues
 pub mod Walks
+pub mod Stopped

@@ -8,6 +8,7 @@ use Rattle.dura_value.specs.Items.{Entry}
 use Rattle.flow_syntax.specs.Syntax.{Flows}
 use Rattle.part_items.specs.Plain.{items_of}
 use Rattle.part_rounds.specs.Fills.{IsUnderWay, Fills, IsIdle}
+use Rattle.part_rounds.specs.Further.{Stirs, GoesFurther}
 use Rattle.hub_store.specs.Origin.{Log}
 use Rattle.part_files.specs.Placing.{labels_in}
 use Rattle.part_rounds.specs.Rounds.{Stands, NoneUnsaid, IsTimely}
@@ -64,7 +65,17 @@ LeavesRound rules log latest before settled queues clients (On state more) =
     Entered rules log latest settled state × NoneUnsaid (state_of state) queues clients × (0 < more) × (more ≤ 64) × (count_labels settled ≡ count_labels before + more)
 LeavesRound rules log latest before settled queues clients (Over state) = Entered rules log latest settled state × IsOver rules (state_of state) queues clients
 
--- All rounds leave nothing that is possible any more, or so many labels as there may be.
-abbrev pub Leaves : Rules → Log → (latest : ℕ) → (settled : List Entry) → List Queue → List (List ℕ) → (steps : ℕ) → End → Type 0
-Leaves rules log latest settled queues clients steps (Rest state) = Entered rules log latest settled state × IsOver rules (state_of state) queues clients
-Leaves rules log latest settled queues clients steps (Long labels) = (labels ≡ count_labels settled) × (steps ≤ labels)
+-- Where there may be no more labels than these: nothing is possible any more, and the state is as it was; or so many there are, and
+-- something is possible still.
+abbrev pub StopsAt : Flows → Partition → List Queue → List (List ℕ) → (labels : ℕ) → End → Type 0
+StopsAt flows p queues clients labels (Rest state) = IsSound state × (count_of state ≡ 1) × (state_of state ≡ p) × ((now : ℕ) × IsIdle flows p queues clients now) × NoTimer p.timers
+StopsAt flows p queues clients labels (Long n) = n ≡ labels
+
+abbrev pub StirsAt : Rules → Told → Partition → End → Type 0
+StirsAt rules told p (Rest state) = Unit {0}
+StirsAt rules told p (Long n) = Stirs rules told p
+
+-- All rounds leave nothing that is possible any more; or so many labels as there may be, where something is possible still.
+abbrev pub Leaves : Rules → Log → (latest : ℕ) → (settled : List Entry) → Told → List Queue → List (List ℕ) → (steps : ℕ) → End → Type 0
+Leaves rules log latest settled told queues clients steps (Rest state) = Entered rules log latest settled state × IsOver rules (state_of state) queues clients
+Leaves rules log latest settled told queues clients steps (Long labels) = (labels ≡ count_labels settled) × (steps ≤ labels) × GoesFurther rules settled told

@@ -1,4 +1,5 @@
 pub mod Comes
 pub mod Commits
 pub mod Fills
+pub mod Further
 pub mod Rounds

@@ -4,7 +4,7 @@
 //! - `filling` puts what is possible into an entry, `taking` what clients ask, and `outcomes` how activities end; `filling_on` puts
 //!   all of it together, and `gathering` tells whether it can be written.
 //! - `committing` takes an entry to the log, and `laws` says of an entry that was filled that it may follow.
-//! - `saying` says what is answered.
+//! - `saying` says what is answered, and `stopping` tells whether something is possible still where there may be no more labels.
 #![tactic(auto)]
 
 mod coming;
@@ -17,6 +17,7 @@ mod outcomes;
 mod rounds;
 mod ruled;
 mod saying;
+mod stopping;
 mod taking;
 
 pub use rounds::{End, drive};

@@ -18,6 +18,7 @@ use crate::committing::commit_items;
 use crate::filling::Filling;
 use crate::ruled::Ruled;
 use crate::saying::say_due;
+use crate::stopping::stop_at;
 use activity_table::{Activities, word};
 use client_port::Port;
 use dura_value::Name;
@@ -42,7 +43,7 @@ pub(crate) enum Round {
 pub enum End {
     /// Nothing is possible any more; the state is in the entry that would come.
     Rest(PartState),
-    /// So many labels were settled, which are as many as there may be, or more.
+    /// So many labels were settled, which are as many as there may be, or more, and something is possible still.
     Long(u64),
 }
 
@@ -160,8 +161,8 @@ fn go_round<V: Site, N: Ruled, R: Reactions, A: Activities, C: Clock>(
     }
 }
 
-/// Goes on round by round from a settled state, until nothing is possible any more, or until there are as many labels as there may be:
-/// first what is answered already is said.
+/// Goes on round by round from a settled state, until nothing is possible any more, or until there are as many labels as there may be
+/// and something is possible still: first what is answered already is said.
 pub fn drive<V: Site, N: Ruled, R: Reactions, A: Activities, C: Clock>(
     alloc: Global,
     reactions: &R,
@@ -198,7 +199,7 @@ pub fn drive<V: Site, N: Ruled, R: Reactions, A: Activities, C: Clock>(
     ensures stage { OnOk result (stage_at store.new 0 ≡ Stage.Resting) }
     ensures still { OnOk result (store.new.halted ≡ false) }
     ensures said { OnOk result (HasSaid N.rules (told_in store.new) port.new.queues) }
-    ensures leaves { IfOk result (λ end. Leaves N.rules (N.origin.logs 0) store.new.latest (of_part 0 (trail_in store.new)) port.new.queues clients.now steps end) }
+    ensures leaves { IfOk result (λ end. Leaves N.rules (N.origin.logs 0) store.new.latest (of_part 0 (trail_in store.new)) (pairs_of (told_in store.new)) port.new.queues clients.now steps end) }
     ensures full { (of n : ℕ) → result ≡ Err (Stop.Full of n) → IsFull N.rules store.new.latest (of_part 0 (trail_in store.new)) (pairs_of (told_in store.new)) store.new.segment (way_of store.new.ways.items 0) of n }
     ensures fault { result ≡ Err Stop.SiteFault → HasRisen (V.disk_faults store.old.site) (V.disk_faults store.new.site) }
     ensures say_fault { result ≡ Err Stop.SayFault → HasRisen (V.say_faults store.old.site) (V.say_faults store.new.site) }
@@ -227,6 +228,5 @@ pub fn drive<V: Site, N: Ruled, R: Reactions, A: Activities, C: Clock>(
             Round::Over(last) => return Ok(End::Rest(last)),
         }
     }
-    state.let_go();
-    Ok(End::Long(labels))
+    stop_at(alloc, reactions, state, port, clients, labels)
 }

@@ -1,12 +1,12 @@
 -- What a call's clauses say, by example.
 use Rattle.std.specs.Prelude.{List, [], ◌∷◌, ◌++◌, codes, Some}
 use Rattle.client_port.specs.Ports.{Queue}
-use Rattle.dura_model.specs.Partition.{fresh}
+use Rattle.dura_model.specs.Partition.{Partition, fresh}
 use Rattle.dura_model.specs.Steps.{Label, finish}
 use Rattle.dura_model.specs.World.{World, empty, at_number}
 use Rattle.dura_value.specs.Digest.{fnv}
 use Rattle.dura_value.specs.Ids.{client, orchestration}
-use Rattle.dura_value.specs.Messages.{wait, was_started}
+use Rattle.dura_value.specs.Messages.{start, wait, to_request, was_started}
 use Rattle.dura_value.specs.declared.data.Value.TheVariants as values
 use Rattle.dura_value.specs.declared.outcome.Outcome.TheVariants as outcomes
 use Rattle.engine_run.specs.Job.{Job}
@@ -64,6 +64,23 @@ rules_for requests = record { flows = no_flows; begin = fresh 0; life = 0; reque
 -- client b asks for the same
 abbrev pub asking_too : Request
 asking_too = record starting { client = codes "b" }
+
+-- client a's requests 2 and 3
+abbrev pub second : Request
+second = record { client = codes "a"; number = 2; message = record request { body = start values.Null (to_request 2) } }
+
+abbrev pub third : Request
+third = record { client = codes "a"; number = 3; message = record request { body = start values.Null (to_request 3) } }
+
+-- all that happened is that client a's request was taken; and that its second one was too, which alone was answered
+abbrev pub held_back : Partition
+held_back = record (fresh 0) { taken = at_number (fresh 0).taken (client (codes "a")) 1 (Some request) }
+
+abbrev pub out_of_turn : World
+out_of_turn = record empty {
+  taken = at_number (at_number empty.taken (client (codes "a")) 1 (Some request)) (client (codes "a")) 2 (Some second.message);
+  answers = at_number empty.answers (client (codes "a")) 2 (Some was_started);
+}
 
 -- all that happened is that client a's request was taken and answered
 abbrev pub answered : World

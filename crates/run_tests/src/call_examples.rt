@@ -7,9 +7,9 @@ ghost use Rattle.dura_value.specs.Items.{Entry};
 ghost use Rattle.engine_run.specs.Asked.{IsRequest, IsTaken};
 ghost use Rattle.engine_run.specs.Causes.{AsksFor, Answers, Untouched};
 ghost use Rattle.engine_run.specs.Ends.{AreAllSaid, IsFirstUnsaid, SaysWhole, RunEndsAs};
-ghost use Rattle.run_tests.specs.Calls.{nothing_asked, one_asked, starting, waiting, unsaid, two_unsaid, all_said, settled_once, ended_twice, rules_for, asking_too, answered};
+ghost use Rattle.run_tests.specs.Calls.{nothing_asked, one_asked, no_flows, starting, waiting, second, third, unsaid, two_unsaid, all_said, settled_once, ended_twice, rules_for, asking_too, held_back, out_of_turn, answered};
 ghost use Rattle.engine_run.specs.Headline.{IsOrderly, EndsEarly, RunsOn};
-ghost use Rattle.engine_run.specs.Served.{IsServed, IsFirstOpen, HasServed};
+ghost use Rattle.engine_run.specs.Served.{IsServed, IsFirstOpen, Awaits, HasServed};
 ghost use Rattle.engine_run.specs.Job.{Keeps};
 ghost use Rattle.engine_run.specs.Kept.{IsClash, NoClash};
 ghost use Rattle.engine_run.specs.Opened.{IsOpening};
@@ -19,6 +19,7 @@ ghost use Rattle.hub_store.specs.Examples.{MayFollow, MaySay, nowhere, settled_w
 ghost use Rattle.hub_store.specs.Origin.{Origin};
 ghost use Rattle.hub_store.specs.Trail.{Settled};
 ghost use Rattle.part_files.specs.Examples.{two_files, empty_log, taking, request_taken};
+ghost use Rattle.part_files.specs.Stands.{shown_by};
 ghost use Rattle.run_causes.specs.declared.cause.Cause.TheVariants as causes;
 ghost use Rattle.run_causes.specs.declared.cause.FlowsFault.TheVariants as faults;
 ghost use Rattle.run_causes.specs.declared.cause.PlanPlace.TheVariants as places;
@@ -85,9 +86,13 @@ pub fn answers_unsaid()
     ensures none { (number : ℕ) → IsFirstUnsaid all_said (codes "a" ∷ []) (codes "a") number → ⊥ }
 {}
 
-/// A run ends with as many labels as may be, and as were settled: with no other number, with no fewer, and by no cause of its input.
+/// A run ends with as many labels as may be, and as were settled: with no other number, with no fewer, not where nothing is left to do,
+/// and by no cause of its input.
 pub fn runs_end()
-    ensures labels { (rules : Rules) (latest : ℕ) (o : Origin) (steps : List Step) → RunEndsAs rules latest o steps [] 0 100 (causes.Long 0) }
+    ensures labels { (latest : ℕ) → RunEndsAs (rules_for (starting ∷ [])) latest nowhere [] [] 0 100 (causes.Long 0) }
+    ensures at_rest { (latest : ℕ) → RunEndsAs (rules_for []) latest nowhere [] [] 0 100 (causes.Long 0) → ⊥ }
+    ensures left { HasServed (rules_for (starting ∷ [])) [] (causes.Long 0) }
+    ensures none_left { HasServed (rules_for []) [] (causes.Full 0 100) → ⊥ }
     ensures other_number { (rules : Rules) (latest : ℕ) (o : Origin) (steps : List Step) → RunEndsAs rules latest o steps [] 0 100 (causes.Long 3) → ⊥ }
     ensures too_few { (rules : Rules) (latest : ℕ) (o : Origin) (steps : List Step) → RunEndsAs rules latest o steps [] 1 100 (causes.Long 0) → ⊥ }
     ensures input { (begin : Partition) (steps : List Step) (trail : List Settled) (latest : ℕ) → RunsOn nothing_asked [] begin [] steps trail 1 100 latest causes.Usage → ⊥ }
@@ -138,8 +143,18 @@ pub fn requests_served()
     ensures none_open { (number : ℕ) → IsFirstOpen (rules_for (starting ∷ [])) answered (codes "a") number → ⊥ }
     ensures done { HasServed (rules_for []) [] causes.Done }
     ensures not_done { HasServed (rules_for (starting ∷ [])) [] causes.Done → ⊥ }
-    ensures waiting { HasServed (rules_for (starting ∷ [])) [] (causes.Waiting (codes "a") 1) }
+{}
+
+/// A run waits for an answer only where nothing is left to do: where the client's next request is due it doesn't wait. That one is due
+/// once each in front of it was answered, and not yet once the last of them was.
+pub fn runs_wait()
+    ensures unanswered { Awaits (rules_for (starting ∷ [])) (shown_by no_flows held_back) (codes "a") 1 }
+    ensures due { (number : ℕ) → Awaits (rules_for (starting ∷ [])) empty (codes "a") number → ⊥ }
+    ensures out_of_turn { Awaits (rules_for (starting ∷ second ∷ third ∷ [])) out_of_turn (codes "a") 1 }
+    ensures in_turn { (number : ℕ) → Awaits (rules_for (starting ∷ third ∷ [])) answered (codes "a") number → ⊥ }
+    ensures waiting { HasServed (record (rules_for (starting ∷ [])) { begin = held_back }) [] (causes.Waiting (codes "a") 1) }
     ensures not_waiting { HasServed (rules_for []) [] (causes.Waiting (codes "a") 1) → ⊥ }
+    ensures still_due { HasServed (rules_for (starting ∷ [])) [] (causes.Waiting (codes "a") 1) → ⊥ }
 {}
 
 /// A request that was taken stays so, and one that was answered; and only what was taken is answered.

@@ -1,4 +1,4 @@
-use Rattle.std.proofs.Common.{◌≢◌, ◌∙◌, ◌≤◌, ℕ, List, [], Err, refl, sym, ap, subst, arith}
+use Rattle.std.proofs.Common.{◌≡◌, ◌≢◌, ◌∙◌, ◌≤◌, ℕ, List, [], Err, refl, sym, ap, subst, arith}
 use Rattle.engine_run.specs.Ends.{EndsAs, IsLateCause, IsRestCause}
 use Rattle.engine_run.proofs.Ending.{at_rest, rest_ends, rest_late, stop_ends, stop_late, other_stop, site_stop, say_stop, clock_stop, memory_no_site, memory_no_say, memory_no_clock, moment_above}
 use Rattle.engine_run.proofs.running.drive_on.Goals as goal
@@ -11,6 +11,7 @@ use Rattle.part_rounds.specs.Comes.{Leaves}
 use Rattle.part_rounds.specs.Commits.{IsFull}
 use Rattle.part_rounds.specs.Rounds.{pairs_of}
 use Rattle.hub_store.specs.declared.stop.Stop.{Stop}
+use Rattle.hub_store.specs.declared.stop.Stop.TheVariants as stops
 use Rattle.run_causes.specs.declared.cause.Cause.{Cause}
 use Rattle.run_causes.specs.declared.cause.Cause.TheVariants.{SayFault, Memory}
 
@@ -77,7 +78,7 @@ returns-in-Ok g c = record {
       let may : (trail : List Settled) (told : List Said) (partition : ℕ) (going : List Entry) → g.N.Start.may_follow new.latest trail told partition going → g.N.Start.may_follow latest trail told partition going =
       λ trail told partition going follows. g.N.Start.later_follows new.latest latest trail told partition going above follows in
       let stands = with_later (g.N.Start.may_follow new.latest) (g.N.Start.may_follow latest) g.N.Start.may_say may o steps (trail_in new) (told_in new) [] (told.rests (c.drive.ensures.sound.uncut c.in-Ok-Rest.ensures.still)) in
-      let leaves = subst (Leaves rules (o.logs 0) new.latest (of_part 0 (trail_in new)) queues clients c.args.options.steps) c.in-Ok-Rest.field-0-is c.in-Ok-Rest.ensures.leaves in
+      let leaves = subst (Leaves rules (o.logs 0) new.latest (of_part 0 (trail_in new)) (pairs_of (told_in new)) queues clients c.args.options.steps) c.in-Ok-Rest.field-0-is c.in-Ok-Rest.ensures.leaves in
       let rest = at_rest (g.N.Start.may_follow latest) g.N.Start.may_say rules latest o steps (trail_in new) (told_in new) new.latest queues clients c.in-Ok-Rest.state stands c.in-Ok-Rest.ensures.said (c.requires.asked (c.drive.ensures.tells tells)) c.requires.clients leaves.0 leaves.1 in
       rest_ends (g.N.Start.may_follow latest) g.N.Start.may_say rules latest o steps (trail_in new) (told_in new) queues clients c.args.options.steps c.args.options.segment c.in-Ok.cause rest c.requires.clients c.in-Ok.ensures;
   late = rest_late c.drive.new.port.queues c.args.clients.now c.in-Ok.cause c.in-Ok.ensures;
@@ -111,7 +112,26 @@ returns-in-Ok-Long g c = record {
   sound = c.drive.ensures.sound;
   moment = moment_above _ _ _ _ c.drive.ensures.latest c.drive.ensures.moments c.requires.moment;
   whole = λ other. c.drive.ensures.sound.uncut c.in-Ok-Long.ensures.still;
-  ends = λ tells. subst (Leaves g.N.Ruled.rules (g.N.Start.origin.logs 0) c.drive.new.store.latest (of_part 0 (trail_in c.drive.new.store)) c.drive.new.port.queues c.args.clients.now c.args.options.steps) c.in-Ok-Long.field-0-is c.in-Ok-Long.ensures.leaves;
+  ends = λ tells.
+      let new = c.drive.new.store in
+      let o = g.N.Start.origin in
+      let latest = g.C.Clock.latest c.drive.new.clock in
+      let raised = c.drive.ensures.latest in
+      let later = c.drive.ensures.moments in
+      let above : new.latest ≤ latest = moment_above _ _ _ _ raised later c.requires.moment in
+      let may : (trail : List Settled) (told : List Said) (partition : ℕ) (going : List Entry) → g.N.Start.may_follow new.latest trail told partition going → g.N.Start.may_follow latest trail told partition going =
+      λ trail told partition going follows. g.N.Start.later_follows new.latest latest trail told partition going above follows in
+      let told = c.drive.ensures.sound.told tells in
+      let leaves = subst (Leaves g.N.Ruled.rules (o.logs 0) new.latest (of_part 0 (trail_in new)) (pairs_of (told_in new)) c.drive.new.port.queues c.args.clients.now c.args.options.steps) c.in-Ok-Long.field-0-is c.in-Ok-Long.ensures.leaves in (
+        leaves.0,
+        leaves.1,
+        record {
+          told = told_in new;
+          stands = with_later (g.N.Start.may_follow new.latest) (g.N.Start.may_follow latest) g.N.Start.may_say may o (g.V.Site.history new.site) (trail_in new) (told_in new) [] (told.rests (c.drive.ensures.sound.uncut c.in-Ok-Long.ensures.still));
+          further = leaves.2;
+          asked = c.requires.asked (c.drive.ensures.tells tells);
+        },
+      );
   late = tt;
   fault = λ is. absurd (cc is);
   say_fault = λ is. absurd (cc is);
@@ -137,12 +157,16 @@ returns-in-Err g c = record {
       let raised = c.drive.ensures.latest in
       let later = c.drive.ensures.moments in
       let above : new.latest ≤ latest = moment_above _ _ _ _ raised later c.requires.moment in
+      let may : (trail : List Settled) (told : List Said) (partition : ℕ) (going : List Entry) → g.N.Start.may_follow new.latest trail told partition going → g.N.Start.may_follow latest trail told partition going =
+      λ trail told partition going follows. g.N.Start.later_follows new.latest latest trail told partition going above follows in
       let segment = c.drive.ensures.segment ∙ c.requires.segment in
       subst (λ (cause : Cause). EndsAs (g.N.Start.may_follow latest) g.N.Start.may_say rules latest g.N.Start.origin steps (trail_in new) c.args.options.steps c.args.options.segment cause) (sym c.cause_of.ensures)
       (stop_ends (g.N.Start.may_follow latest) g.N.Start.may_say rules latest g.N.Start.origin steps (trail_in new) (told_in new) new.latest above c.args.options.steps c.args.options.segment (way_of new.ways.items 0) c.in-Err.stop c.requires.fits
       (λ partition length_then is. subst (λ (n : ℕ). IsFull rules new.latest (of_part 0 (trail_in new)) (pairs_of (told_in new)) n (way_of new.ways.items 0) partition length_then) segment
       (c.in-Err.ensures.full partition length_then (ap (λ (stop : Stop). Err stop) is)))
-      fits);
+      fits
+      (λ other. with_later (g.N.Start.may_follow new.latest) (g.N.Start.may_follow latest) g.N.Start.may_say may g.N.Start.origin steps (trail_in new) (told_in new) [] (told.rests (c.drive.ensures.whole (λ is. other (let same : c.in-Err.stop ≡ stops.SayFault = cc (c.in-Err.is, is) in same)))))
+      (c.requires.asked (c.drive.ensures.tells tells)));
   late = subst IsLateCause (sym c.cause_of.ensures) (stop_late c.in-Err.stop);
   fault = λ is. c.in-Err.ensures.fault (ap (λ (stop : Stop). Err stop) (site_stop c.in-Err.stop (sym c.cause_of.ensures ∙ is)));
   say_fault = λ is. c.in-Err.ensures.say_fault (ap (λ (stop : Stop). Err stop) (say_stop c.in-Err.stop (sym c.cause_of.ensures ∙ is)));

@@ -10,6 +10,8 @@ use Rattle.part_items.specs.declared.items.Item.{Item}
 use Rattle.part_rounds.specs.Comes.{count_labels}
 use Rattle.part_rounds.specs.Rounds.{pairs_of}
 use Rattle.part_rounds.proofs.Entries.{entry_follows, entry_goes, labels_after}
+use Rattle.part_rounds.proofs.Further.{filled_further}
+use Rattle.part_rounds.specs.Further.{GoesFurther}
 use Rattle.hub_store.proofs.Stops.{ok_apart}
 use Rattle.part_rounds.proofs.committing.commit_items.Goals as goal
 use Rattle.run_rules.specs.Rules.{Follows}
@@ -52,6 +54,10 @@ returns-in-Err-clause-full g c of n is =
       follows = subst (λ (n : ℕ). Follows rules n (of_part 0 (trail_in c.commit.new.store)) (pairs_of (told_in c.commit.new.store)) (entry ∷ [])) (sym c.commit.ensures.latest) told;
       length_is = room.2 ∙ ap (λ (way : Way). length_with way (entry ∷ [])) (sym room.4);
       reaches = let reaches = room.1 in omega (arith, reaches, c.commit.ensures.segment);
+      further =
+          subst (λ (t : List Settled). GoesFurther rules (of_part 0 t) (pairs_of (told_in c.commit.new.store))) (sym c.in-Err.ensures.no_trail)
+          (subst (λ (t : List Said). GoesFurther rules (of_part 0 (trail_in old)) (pairs_of t)) (sym c.commit.ensures.said)
+          (filled_further rules (g.N.Start.origin.logs 0) old.latest (of_part 0 (trail_in old)) (pairs_of (told_in old)) c.args.position c.args.life (items_of c.args.items.items) c.requires.filled));
     }
 
 pub returns-in-Err-clause-fault : goal.returns-in-Err-clause-fault

@@ -1,15 +1,20 @@
+use Rattle.std.specs.Prelude.{IfOk}
 use Rattle.std.proofs.Common.{◌≡◌, ◌∙◌, ◌+◌, ℕ, List, [], Ok, refl, sym, ap, subst, arith}
 use Rattle.dura_model.specs.Partition.{Partition, enter}
 use Rattle.dura_value.specs.Items.{Entry}
-use Rattle.hub_store.specs.Changes.{trail_in}
+use Rattle.hub_store.specs.Changes.{trail_in, told_in}
 use Rattle.hub_store.specs.Origin.{Log}
 use Rattle.hub_store.specs.Trail.{Settled, of_part}
 use Rattle.part_files.specs.Placing.{placed}
 use Rattle.run_rules.specs.Rules.{Rules}
 use Rattle.hub_store.specs.Ways.{stage_of, way_of}
 use Rattle.part_rounds.proofs.Counts.{low_self, low_same, low_both, same_below_first, latest_both, few_more}
-use Rattle.part_rounds.specs.Comes.{LeavesRound, count_labels}
-use Rattle.part_rounds.specs.Rounds.{Stands, NoneUnsaid}
+use Rattle.flow_syntax.specs.Syntax.{Flows}
+use Rattle.hub_store.specs.declared.stop.Stop.TheVariants.{Full, SiteFault, SayFault, ClockFault, Memory}
+use Rattle.part_rounds.specs.Comes.{LeavesRound, StopsAt, count_labels}
+use Rattle.part_rounds.specs.Rounds.{pairs_of, Stands, NoneUnsaid}
+use Rattle.part_rounds.proofs.Further.{on_ok, memory_apart}
+use Rattle.part_rounds.proofs.Stopped.{leaves_at}
 use Rattle.hub_store.proofs.Stops.{ok_apart, same_stop, residual_is, tape_not_full, tape_not_fault, tape_not_clock, risen_after, residual_on_ok, residual_if_ok}
 use Rattle.part_rounds.proofs.rounds.drive.Goals as goal
 use Rattle.part_steps.specs.States.{state_of}
@@ -123,8 +128,19 @@ returns-in-Over g c =
       clock_later = low_both _ _ _ c.rounds.invariant.clock_later c.go_round.ensures.clock_later;
     }
 
+pub stop_at-requires-clause-begun : goal.stop_at-requires-clause-begun
+stop_at-requires-clause-begun g c = let place = ap (λ (p : Partition). p.position) c.rounds.invariant.entered.entered in omega (arith, place)
+
 pub returns : goal.returns
 returns g c =
+    let rules = g.N.Ruled.rules in
+    let log = g.N.Start.origin.logs 0 in
+    let told = told_in c.rounds.store in
+    let queues = c.rounds.port.queues in
+    let clients = c.args.clients.now in
+    let flows = c.requires.flows in
+    let comes = subst (λ (f : Flows). IfOk c.stop_at.result (λ end. StopsAt f (state_of c.rounds.state) queues clients c.rounds.labels end)) (sym flows) c.stop_at.ensures.comes in
+    let memory = memory_apart c.stop_at.result in
     record {
       tells = c.rounds.invariant.tells;
       sound = c.rounds.invariant.sound;
@@ -132,14 +148,15 @@ returns g c =
       latest = c.rounds.invariant.latest;
       whole = λ apart. c.rounds.invariant.sound.uncut c.rounds.invariant.still;
       moments = c.rounds.invariant.moments;
-      stage = c.rounds.invariant.stage;
-      still = c.rounds.invariant.still;
-      said = c.rounds.invariant.said;
-      leaves = (c.rounds.invariant.count, omega (arith, c.rounds-test.false));
-      full = λ of n is. absurd (ok_apart _ _ is);
-      fault = λ is. absurd (ok_apart _ _ is);
-      say_fault = λ is. absurd (ok_apart _ _ is);
-      clock_fault = λ is. absurd (ok_apart _ _ is);
+      stage = on_ok _ c.stop_at.result c.rounds.invariant.stage;
+      still = on_ok _ c.stop_at.result c.rounds.invariant.still;
+      said = on_ok _ c.stop_at.result c.rounds.invariant.said;
+      leaves = leaves_at rules log c.rounds.store.latest (of_part 0 (trail_in c.rounds.store)) (pairs_of told) queues clients c.args.steps c.rounds.labels c.rounds.state c.rounds.invariant.entered c.rounds.invariant.unsaid c.rounds.invariant.count
+          (omega (arith, c.rounds-test.false)) c.stop_at.result comes (c.stop_at.ensures.stirs rules told flows c.rounds.invariant.said);
+      full = λ of n is. let wrong : Full of n ≡ Memory = memory (Full of n) c.stop_at.ensures.stops is in absurd (cc wrong);
+      fault = λ is. let wrong : SiteFault ≡ Memory = memory SiteFault c.stop_at.ensures.stops is in absurd (cc wrong);
+      say_fault = λ is. let wrong : SayFault ≡ Memory = memory SayFault c.stop_at.ensures.stops is in absurd (cc wrong);
+      clock_fault = λ is. let wrong : ClockFault ≡ Memory = memory ClockFault c.stop_at.ensures.stops is in absurd (cc wrong);
       later = c.rounds.invariant.later;
       say_later = c.rounds.invariant.say_later;
       clock_later = c.rounds.invariant.clock_later;

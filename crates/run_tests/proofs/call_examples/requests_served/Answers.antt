@@ -87,9 +87,3 @@ returns-clause-not_done c = λ served.
     let same : fresh 0 ≡ served.0 = cc served.1 in
     let wrong : false ≡ true = ap (λ p. has_answer (shown_by no_flows p) (codes "a") starting) same ∙ served.2.answered 0 starting (omega arith) in
     cc wrong
-
-pub returns-clause-waiting : goal.returns-clause-waiting
-returns-clause-waiting c = (fresh 0, refl, record { request = starting; unanswered = refl; number_is = refl; first = waits_for_one.first })
-
-pub returns-clause-not_waiting : goal.returns-clause-not_waiting
-returns-clause-not_waiting c = λ served. cc served.2.unanswered
