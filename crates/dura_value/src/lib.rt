@@ -6,7 +6,7 @@
 //!   an instance came to.
 //! - `digest` is a digest of 64 bits.
 //! - `carrying` has a value go along with a step that may fail.
-//! - `limits` has the limits of the format, which `specs/Limits` states.
+//! - `limits` has the limits of the format, which `specs/Limits` states, and `sizes` holds lists against them.
 #![tactic(auto)]
 
 mod addresses;
@@ -23,6 +23,7 @@ mod outputs;
 mod reading;
 mod same_lists;
 mod same_spots;
+mod sizes;
 mod spots;
 mod text;
 
@@ -39,5 +40,6 @@ pub use messages::{Answer, Body, Message, Reply, Request};
 pub use names::{Key, Name, is_key, is_name};
 pub use outcome::Outcome;
 pub use outputs::{Answered, Answers, Messages, Outputs};
+pub use sizes::are_short;
 pub use spots::{Spot, Spots};
 pub use text::{Text, TextError};

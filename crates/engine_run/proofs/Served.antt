@@ -1,4 +1,4 @@
--- At the end of a run that rests each request that was said has its answer, and of each client the next one has none.
+-- What a run has served at its end: where it rests each request that was said has its answer, and of each client the next one has none.
 use Rattle.std.proofs.Common.{◌≡◌, ◌⊎◌, inl, inr, ◌<◌, ◌≤◌, ◌&&◌, ◌||◌, ℕ, zero, suc, Bool, true, false, cond, List, [], ◌∷◌, ◌++◌, length, map, get_or, slice_get, Option, Some, None, Ok, refl, sym, ◌∙◌, ap, subst, arith}
 use Rattle.std.specs.Prelude.{is_some, not, bytes_eq}
 use Rattle.std.specs.List.{All, AllByRecursion, filter, find, fold, list_any}

@@ -1,44 +1,19 @@
 //! Lists of scalars and their limits.
 
-ghost use Rattle.std.specs.Prelude.{◌≡◌, ◌≤◌, [], ◌∷◌, ◌++◌, length, IfOk};
-ghost use Rattle.dura_value.specs.Limits.{most_scalars};
-ghost use Rattle.dura_value.specs.Values.{scalar_size, scalars_size};
+ghost use Rattle.std.specs.Prelude.{◌≡◌, [], ◌∷◌, ◌++◌, IfOk};
 ghost use Rattle.flow_syntax.specs.Eval.{list_of, scalar_at, part_at};
 ghost use Rattle.flow_eval.specs.Gives.{Gives};
 
 use crate::fault::{EvalError, Fault};
 use crate::kinds::value_of;
-use dura_value::{MOST_SCALARS, MOST_SCALARS_BYTES, Scalar, Scalars, Value};
+use dura_value::{MOST_SCALARS, Scalar, Scalars, Value, are_short};
 use std::alloc::{AllocError, Global};
-
-/// How many bytes a scalar takes in the log.
-fn scalar_size(scalar: &Scalar) -> usize
-    ensures size { result ≡ scalar_size scalar.now }
-    ensures short { result ≤ 4099 }
-{
-    match scalar {
-        Scalar::Int(_) => 9,
-        Scalar::Text(text) => 3 + text.as_bytes().len(),
-        _ => 1,
-    }
-}
-
-fn scalars_size(scalars: &[Scalar]) -> usize
-    requires { length scalars.now ≤ most_scalars }
-    ensures { result ≡ scalars_size scalars.now }
-{
-    let mut size = 0;
-    for scalar in scalars {
-        size += scalar_size(scalar);
-    }
-    size
-}
 
 /// A list of these, unless it is past a limit.
 pub fn list_of(parts: Vec<Scalar>) -> Result<Value, EvalError>
     ensures { Gives (λ value. value) result (list_of parts.items) }
 {
-    if parts.len() > MOST_SCALARS || scalars_size(&parts) > MOST_SCALARS_BYTES {
+    if parts.len() > MOST_SCALARS || !are_short(&parts) {
         return Err(EvalError::Thrown(Fault::Size));
     }
     Ok(Value::List(Scalars::of(parts)))

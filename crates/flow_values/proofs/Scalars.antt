@@ -1,17 +1,13 @@
 -- Reading the parts of a list one after another, and how many bytes they take.
-use Rattle.std.proofs.Common.{◌≡◌, ℕ, ◌+◌, ◌<◌, ◌≤◌, List, [], ◌∷◌, ◌++◌, length, drop, get_or, false, Result, Ok, Err, refl, sym, ◌∙◌, ap, arith, append_assoc, add-one}
+use Rattle.std.proofs.Common.{◌≡◌, ℕ, ◌+◌, ◌<◌, ◌≤◌, List, [], ◌∷◌, ◌++◌, length, drop, get_or, Result, Ok, Err, refl, sym, ◌∙◌, ap, arith, append_assoc, add-one}
 use Rattle.std.proofs.Math.Seq.{drop-cons}
 use Rattle.std.proofs.lemmas.List.{append-nil, drop_all}
-use Rattle.std.specs.Prelude.{nat_le}
-use Rattle.std.proofs.lemmas.Bool.Decides.{nat_tests}
 use Rattle.serde_json.specs.Data.{Items, item}
 use Rattle.json_tree.specs.View.{view, items_view}
 use Rattle.json_tree.specs.declared.tree.Tree.{Tree}
 use Rattle.dura_value.specs.declared.data.Scalar.{Scalar}
-use Rattle.dura_value.specs.Limits.{most_scalars_bytes}
 use Rattle.flow_values.specs.Answers.{Fails, IsUnder}
 use Rattle.flow_values.specs.Faults.{Path, at, to_part, ◌>>=◌}
-use Rattle.dura_value.specs.Values.{scalar_size, scalars_size}
 use Rattle.flow_values.specs.Values.{count, scalar_in, scalars_from}
 use Rattle.flow_values.specs.declared.faults.PartError.{PartError}
 use Rattle.flow_values.specs.declared.faults.PartError.TheVariants.{Misshapen, Memory}
@@ -52,14 +48,3 @@ ends whole done vs i v (Misshapen path) (Misshapen outer) lt here before is unde
 ends whole done vs i v Memory (Misshapen outer) lt here before is under = absurd under
 ends whole done vs i v (Misshapen path) Memory lt here before is under = tt
 ends whole done vs i v Memory Memory lt here before is under = tt
-
-sizes_from : (ss : List Scalar) (i : ℕ) (s : Scalar) → i < length ss → s ≡ get_or ss i s → scalars_size (drop i ss) ≡ scalar_size s + scalars_size (drop (i + 1) ss)
-sizes_from ss i s lt at = rw (add-one, drop-cons ss i s lt, ← at) refl
-
--- a scalar that still fits was counted
-pub counted : (ss : List Scalar) (i left after : ℕ) (s : Scalar) → i < length ss → s ≡ get_or ss i s → scalars_size ss + left ≡ most_scalars_bytes + scalars_size (drop i ss) → after + scalar_size s ≡ left → scalars_size ss + after ≡ most_scalars_bytes + scalars_size (drop (i + 1) ss)
-counted ss i left after s lt at before is = omega (arith, sizes_from ss i s lt at)
-
--- a scalar doesn't fit any more
-pub too_many : (ss : List Scalar) (i left : ℕ) (s : Scalar) → i < length ss → s ≡ get_or ss i s → scalars_size ss + left ≡ most_scalars_bytes + scalars_size (drop i ss) → left < scalar_size s → nat_le (scalars_size ss) most_scalars_bytes ≡ false
-too_many ss i left s lt at before is = let above : most_scalars_bytes < scalars_size ss = omega (arith, sizes_from ss i s lt at) in grind (arith, nat_tests)

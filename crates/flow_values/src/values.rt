@@ -1,17 +1,14 @@
 //! Values and names.
 
-ghost use Rattle.std.specs.Prelude.{◌≡◌, ◌≤◌, [], nat_le, Ok};
+ghost use Rattle.std.specs.Prelude.{◌≡◌, [], Ok};
 ghost use Rattle.json_tree.specs.View.{view, items_view};
 ghost use Rattle.flow_values.specs.Answers.{Gives};
 ghost use Rattle.flow_values.specs.Faults.{at, to_part, where_fits};
-ghost use Rattle.dura_value.specs.Values.{scalar_size, scalars_size, value_of};
+ghost use Rattle.dura_value.specs.Values.{value_of};
 ghost use Rattle.flow_values.specs.Values.{is_text, list_in, name_in, scalar_in, scalars_from, value_in};
-ghost use Rattle.dura_value.specs.Limits.{most_scalars_bytes};
 
 use crate::faults::{PartError, Path, Step, under};
-use dura_value::{
-    MOST_SCALARS, MOST_SCALARS_BYTES, Name, Scalar, Scalars, Text, TextError, Value, is_name,
-};
+use dura_value::{MOST_SCALARS, Name, Scalar, Scalars, Text, TextError, Value, are_short, is_name};
 use json_tree::Tree;
 use std::alloc::Global;
 
@@ -102,36 +99,6 @@ fn scalars_in(alloc: Global, parts: &[Tree<'_>]) -> Result<Vec<Scalar>, PartErro
         }
     }
     Ok(scalars)
-}
-
-/// How many bytes a scalar takes where it is written.
-fn scalar_size(scalar: &Scalar) -> usize
-    ensures size { result ≡ scalar_size scalar.now }
-    ensures small { result ≤ 4099 }
-{
-    match scalar {
-        Scalar::Null => 1,
-        Scalar::False => 1,
-        Scalar::True => 1,
-        Scalar::Int(_) => 9,
-        Scalar::Text(text) => 3 + text.as_bytes().len(),
-    }
-}
-
-/// Whether scalars are few enough bytes for a list.
-#[tactic(auto, using(crate::proofs::Scalars::counted, crate::proofs::Scalars::too_many))]
-fn are_short(scalars: &[Scalar]) -> bool
-    ensures { result ≡ nat_le (scalars_size scalars.now) most_scalars_bytes }
-{
-    let mut left = MOST_SCALARS_BYTES;
-    for scalar in scalars {
-        let size = scalar_size(scalar);
-        if size > left {
-            return false;
-        }
-        left -= size;
-    }
-    true
 }
 
 #[tactic(auto, using(crate::proofs::Scalars::count_of_items))]

@@ -1,9 +1,8 @@
 -- Reading the parts of a list one after another, and how many bytes they take.
-use Rattle.std.proofs.Common.{◌≡◌, ℕ, ◌+◌, ◌<◌, ◌≤◌, List, [], ◌∷◌, ◌++◌, length, drop, get_or, false, Option, Some, None, Err, refl, sym, ◌∙◌, ap, arith, append_assoc, add-one}
+use Rattle.std.proofs.Common.{◌≡◌, ℕ, ◌+◌, ◌<◌, ◌≤◌, List, [], ◌∷◌, ◌++◌, length, drop, get_or, Option, Some, None, Err, refl, sym, ◌∙◌, ap, append_assoc, add-one}
 use Rattle.std.proofs.Math.Seq.{drop-cons}
 use Rattle.std.proofs.lemmas.List.{append-nil, drop_all}
-use Rattle.std.specs.Prelude.{nat_le, option_map}
-use Rattle.std.proofs.lemmas.Bool.Decides.{nat_tests}
+use Rattle.std.specs.Prelude.{option_map}
 use Rattle.serde_json.specs.Data.{Items, item}
 use Rattle.serde_json.specs.View.{view, items_view}
 use Rattle.serde_json.specs.declared.value.Value.{Value as Json}
@@ -11,9 +10,7 @@ use Rattle.dura_value.specs.declared.data.Scalar.{Scalar}
 use Rattle.request_reader.specs.Reading.{Gives, ◌>>=◌}
 use Rattle.request_reader.specs.declared.error.ReadError.{ReadError}
 use Rattle.request_reader.specs.declared.error.ReadError.TheVariants.{Refused, Memory}
-use Rattle.dura_value.specs.Values.{scalar_size, scalars_size}
 use Rattle.request_reader.specs.Values.{scalar_in, scalars_in}
-use Rattle.dura_value.specs.Limits.{most_scalars_bytes}
 
 -- the parts that are still to be read, behind those that were
 abbrev pub with_rest : List Scalar → Items → Option (List Scalar)
@@ -62,14 +59,3 @@ ends whole done vs i v lt at before none = let is = nothing_added done (scalar_i
 pub ends_by : (whole : Option (List Scalar)) (done : List Scalar) (vs : List Json) (i : ℕ) (v : Json) (error : ReadError) → i < length vs → v ≡ get_or vs i v → with_rest done (items_view (drop i vs)) ≡ whole → Gives {X = List Scalar} (λ ss. ss) (Err error) (option_map (λ s. done ++ s ∷ []) (scalar_in (view v))) → Gives {X = List Scalar} (λ ss. ss) (Err error) whole
 ends_by whole done vs i v Refused lt at before none = ends whole done vs i v lt at before none
 ends_by whole done vs i v Memory lt at before none = tt
-
-sizes_from : (ss : List Scalar) (i : ℕ) (s : Scalar) → i < length ss → s ≡ get_or ss i s → scalars_size (drop i ss) ≡ scalar_size s + scalars_size (drop (i + 1) ss)
-sizes_from ss i s lt at = rw (add-one, drop-cons ss i s lt, ← at) refl
-
--- a scalar that still fits was counted
-pub counted : (ss : List Scalar) (i left after : ℕ) (s : Scalar) → i < length ss → s ≡ get_or ss i s → scalars_size ss + left ≡ most_scalars_bytes + scalars_size (drop i ss) → after + scalar_size s ≡ left → scalars_size ss + after ≡ most_scalars_bytes + scalars_size (drop (i + 1) ss)
-counted ss i left after s lt at before is = omega (arith, sizes_from ss i s lt at)
-
--- a scalar doesn't fit any more
-pub too_many : (ss : List Scalar) (i left : ℕ) (s : Scalar) → i < length ss → s ≡ get_or ss i s → scalars_size ss + left ≡ most_scalars_bytes + scalars_size (drop i ss) → left < scalar_size s → nat_le (scalars_size ss) most_scalars_bytes ≡ false
-too_many ss i left s lt at before is = let above : most_scalars_bytes < scalars_size ss = omega (arith, sizes_from ss i s lt at) in grind (arith, nat_tests)

@@ -1,15 +1,14 @@
 //! The values that JSON stands for.
 
-ghost use Rattle.std.specs.Prelude.{◌≡◌, ◌≤◌, ◌++◌, [], ◌∷◌, length, nat_le, option_map};
+ghost use Rattle.std.specs.Prelude.{◌≡◌, ◌++◌, [], ◌∷◌, length, option_map};
 ghost use Rattle.std.specs.Str.{IsUtf8};
 ghost use Rattle.serde_json.specs.View.{view, items_view};
 ghost use Rattle.request_reader.specs.Reading.{Gives, where_it};
-ghost use Rattle.dura_value.specs.Limits.{most_scalars_bytes};
-ghost use Rattle.dura_value.specs.Values.{scalar_size, scalars_size, value_of};
+ghost use Rattle.dura_value.specs.Values.{value_of};
 ghost use Rattle.request_reader.specs.Values.{is_text, scalar_in, scalars_in, list_in, value_in, value_at};
 
 use crate::error::ReadError;
-use dura_value::{MOST_SCALARS, MOST_SCALARS_BYTES, Scalar, Scalars, Text, TextError, Value};
+use dura_value::{MOST_SCALARS, Scalar, Scalars, Text, TextError, Value, are_short};
 use serde_json::Value as Json;
 use std::alloc::Global;
 
@@ -72,36 +71,6 @@ fn scalars_in(alloc: Global, parts: &[Json]) -> Result<Vec<Scalar>, ReadError>
         }
     }
     Ok(scalars)
-}
-
-/// How many bytes a scalar takes where it is written.
-fn scalar_size(scalar: &Scalar) -> usize
-    ensures size { result ≡ scalar_size scalar.now }
-    ensures small { result ≤ 4099 }
-{
-    match scalar {
-        Scalar::Null => 1,
-        Scalar::False => 1,
-        Scalar::True => 1,
-        Scalar::Int(_) => 9,
-        Scalar::Text(text) => 3 + text.as_bytes().len(),
-    }
-}
-
-/// Whether scalars are few enough bytes for a list.
-#[tactic(auto, using(crate::proofs::Scalars::counted, crate::proofs::Scalars::too_many))]
-fn are_short(scalars: &[Scalar]) -> bool
-    ensures { result ≡ nat_le (scalars_size scalars.now) most_scalars_bytes }
-{
-    let mut left = MOST_SCALARS_BYTES;
-    for scalar in scalars {
-        let size = scalar_size(scalar);
-        if size > left {
-            return false;
-        }
-        left -= size;
-    }
-    true
 }
 
 #[tactic(auto, using(crate::proofs::Counted::count_of_items))]
