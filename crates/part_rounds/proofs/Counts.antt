@@ -52,3 +52,15 @@ low_more a b more limit first then = omega arith
 -- labels that are more by few, where there may be more
 pub few_more : (now labels count steps limit : ℕ) → now ≤ count + limit → labels ≡ count → labels < steps → now < steps + limit
 few_more now labels count steps limit few same less = omega arith
+
+pub few_round : (labels more count now steps limit : ℕ) → now ≡ count + more → now ≤ count + limit → labels < steps → labels + more < steps + limit
+few_round labels more count now steps limit is few less = omega arith
+
+pub some_above : (steps limit : ℕ) → 0 < limit → 0 < steps + limit
+some_above steps limit some = omega arith
+
+pub same_less : (labels count bound : ℕ) → labels ≡ count → labels < bound → count < bound
+same_less labels count bound same less = omega arith
+
+pub none_less : (count steps limit : ℕ) → count ≡ 0 → 0 < limit → count < steps + limit
+none_less count steps limit none some = omega arith

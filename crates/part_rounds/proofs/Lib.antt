@@ -8,6 +8,7 @@ pub mod InTime
 pub mod Moments
 pub mod Puttings
 pub mod Queues
+pub mod TimersInTime
 pub mod Turns
 pub mod Walks
 pub mod Stopped

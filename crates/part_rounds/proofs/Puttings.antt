@@ -19,7 +19,7 @@ use Rattle.part_rounds.specs.Fills.{Fills, IsUnderWay, GoesOn, Puts, CantTake}
 use Rattle.part_rounds.specs.Rounds.{pairs_of, HasSaid}
 use Rattle.part_rounds.specs.declared.filling.Filling.{Filling}
 use Rattle.part_rounds.proofs.Fillings.{fills_more, fills_all, makes_fills, makes_pending}
-use Rattle.part_steps.specs.Enabled.{Makes, NoneEnabled, moment_at}
+use Rattle.part_steps.specs.Enabled.{Makes}
 use Rattle.part_steps.specs.Enabled.Makes.{nothing, one_more}
 use Rattle.part_steps.specs.Outputs.{Outputs}
 use Rattle.part_rounds.proofs.Queues.{next_due}

@@ -48,7 +48,7 @@ pub(crate) fn take_next<R: Reactions, A: Activities, C: Clock>(
     requires some { 0 < limit }
     ensures fills { (rules : Rules) (told : List Said) → rules.flows ≡ R.flows reactions.now → HasSaid rules told port.now.queues → IfOk result (λ next. FillsNext rules (pairs_of told) (state_of state) next) }
     ensures comes { IfOk result (λ next. Comes (R.flows reactions.now) (state_of state) port.now.queues clients.now limit next) }
-    ensures at { IfOk result (λ next. ComesAt (R.flows reactions.now) (state_of state) port.now.queues clients.now (C.given clock.old) (C.given clock.new) next) }
+    ensures at { IfOk result (λ next. ComesAt (R.flows reactions.now) (λ name argument. A.gives name argument word) (state_of state) port.now.queues clients.now (C.given clock.old) (C.given clock.new) next) }
     ensures reads { HasRead (R.flows reactions.now) (state_of state) port.now.queues clients.now (C.given clock.old) (C.given clock.new) }
     ensures moment { IfOk result (λ next. IsByNow (state_of state) (C.latest clock.new) next) }
     ensures latest { C.latest clock.old ≤ C.latest clock.new }

@@ -22,9 +22,9 @@ returns-in-Ok-clause-goes_on g c = λ rules told same.
     c.in_ok-batch.ensures.entry
 
 pub returns-in-Ok-clause-at : goal.returns-in-Ok-clause-at
-returns-in-Ok-clause-at g c =
+returns-in-Ok-clause-at g c = λ gives.
     let items : c.append.new.self.items ≡ c.args.filling.items.items ++ c.in_ok-batch.batch.items.items = c.in-Ok.ensures.items in
-    filled_at (g.R.Reactions.flows c.args.reactions.now) c.args.now c.args.filling _ (count_of c.args.filling.state) c.in_ok-batch.batch.items.items (map outputs_of c.in_ok-batch.batch.outputs.items) c.requires.way.one c.in_ok-batch.ensures.made items
+    filled_at (g.R.Reactions.flows c.args.reactions.now) c.args.now gives c.args.filling _ (count_of c.args.filling.state) c.in_ok-batch.batch.items.items (map outputs_of c.in_ok-batch.batch.outputs.items) c.requires.way.one c.in_ok-batch.ensures.made items
 
 pub returns-in-Ok-clause-less : goal.returns-in-Ok-clause-less
 returns-in-Ok-clause-less g c = λ few.

@@ -20,7 +20,7 @@ returns-clause-none g c = λ less same.
     (still ∙ taken.0, taken.1, subst (λ (p : Partition). NoneEnabled (g.R.Reactions.flows c.args.reactions.now) 1 p (moment_at p c.args.now)) (still ∙ taken.0) none)
 
 pub returns-clause-at : goal.returns-clause-at
-returns-clause-at g c = λ from filled. c.in_ok-filled.ensures.at from (c.in_ok-taken.ensures.at c.args.now from filled)
+returns-clause-at g c = λ gives from filled. c.in_ok-filled.ensures.at gives from (c.in_ok-taken.ensures.at c.args.now gives from filled)
 
 pub returns-clause-longer : goal.returns-clause-longer
 returns-clause-longer g c =

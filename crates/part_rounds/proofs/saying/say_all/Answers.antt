@@ -1,7 +1,7 @@
 use Rattle.std.proofs.Common.{◌≡◌, ◌∙◌, Bool, Ok, None, refl, sym, ap, subst}
 use Rattle.client_port.specs.Ports.{Ports}
 use Rattle.part_rounds.proofs.Counts.{low_both}
-use Rattle.part_rounds.proofs.Turns.{own_none, own_both}
+use Rattle.part_rounds.proofs.Turns.{own_both}
 use Rattle.part_rounds.specs.Rounds.{next_answer}
 use Rattle.hub_store.proofs.Stops.{ok_apart, same_stop, residual_is, residual_of_stop, residual_on_ok, risen_after}
 use Rattle.part_steps.specs.States.{state_of}

@@ -38,5 +38,5 @@ pub returns-in-None-clause-goes_on : goal.returns-in-None-clause-goes_on
 returns-in-None-clause-goes_on g c = λ rules told same said. goes_on_still rules (pairs_of told) c.args.filling c.requires.way
 
 pub returns-in_ok-next-in-Some-clause-at : goal.returns-in_ok-next-in-Some-clause-at
-returns-in_ok-next-in-Some-clause-at g c = λ now.
-    puts_at (g.R.Reactions.flows c.args.reactions.now) now c.args.filling c.in_ok-next-in-Some.next (Took c.in-Some.message) c.in_ok-next-in-Some.ensures.puts (λ moment. tt)
+returns-in_ok-next-in-Some-clause-at g c = λ now gives.
+    puts_at (g.R.Reactions.flows c.args.reactions.now) now gives c.args.filling c.in_ok-next-in-Some.next (Took c.in-Some.message) c.in_ok-next-in-Some.ensures.puts (λ moment. tt) (λ from made. tt)
