@@ -18,7 +18,7 @@ use Rattle.hub_store.specs.Trail.{Settled, of_part, settled_at}
 use Rattle.part_files.specs.Placing.{next_life, labels_in}
 use Rattle.part_files.specs.Stands.{shown_by}
 use Rattle.run_causes.specs.declared.cause.Cause.{Cause}
-use Rattle.run_laws.specs.Begins.{may_follow, may_say}
+use Rattle.run_laws.specs.Begins.{BeginsAlone, may_follow, may_say}
 use Rattle.run_laws.proofs.Images.{moment_stands}
 use Rattle.run_laws.proofs.Requests.{answers_taken}
 use Rattle.run_laws.specs.Leaves.{StandsOn}
@@ -49,11 +49,13 @@ module _ (job : Job) (old steps new : List Step) (entries : List Entry) (state :
       let opening = opens entries state keeps given in
       record {
         origin = origin_with log_is steps;
+        alone = subst (λ (n : ℕ). BeginsAlone (origin_with log_is steps) (rules_with job state n) job.digest) life_is begins;
         kept = picked_entries job entries steps log opened state keeps.made life young;
         silent = (last opening).silent;
         opening = opening;
         further = goes.further;
         nothing = goes.nothing;
+        by_the_end = goes.by_the_end;
         stands = λ moment low high image is.
             subst (λ (n : ℕ). StandsOrderly (rules_with job state n) latest job.digest (origin_with log_is steps) (back_to moment new) (settled_at moment trail) image) life_is
             (in_order (rules_with job state life) latest job.digest (origin_with log_is steps) (back_to moment new) (settled_at moment trail) image

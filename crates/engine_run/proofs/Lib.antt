@@ -5,6 +5,7 @@ pub mod FileAsked
 pub mod Found
 pub mod Going
 pub mod LineAsked
+pub mod Lives
 pub mod Opens
 pub mod Ordered
 pub mod Picked

@@ -1,16 +1,15 @@
 -- Opening the logs leaves nothing but what it may.
-use Rattle.std.proofs.Common.{◌≡◌, ◌⊎◌, inl, inr, ◌==◌, ℕ, Bool, true, false, cond, List, [], ◌∷◌, Option, Some, None, refl, sym, ◌∙◌, ap, subst, arith, eqb-true}
+use Rattle.std.proofs.Common.{◌≡◌, ◌≢◌, ◌⊎◌, inl, inr, ◌==◌, ℕ, Bool, true, false, cond, List, [], ◌∷◌, Option, Some, None, refl, sym, ◌∙◌, ap, subst, arith, eqb-true}
 use Rattle.std.proofs.lemmas.Bool.{eq-eqb}
 use Rattle.commit_log.specs.Segment.{fresh as is_fresh, first_gate, reading_of}
 use Rattle.commit_log.specs.States.{IsFormatting}
 use Rattle.dura_model.specs.Partition.{fresh}
 use Rattle.dura_value.specs.Items.{Entry}
 use Rattle.engine_run.specs.Job.{Job}
-use Rattle.engine_run.specs.Opened.{IsOpening}
+use Rattle.engine_run.specs.Opened.{StandsBy, IsOpening}
 use Rattle.part_files.specs.Kept.{Kept, nothing, broken, keeps, kept_in}
 use Rattle.part_files.specs.Logs.{Refusal, Logs, log_in, no_log, damaged_at, base_place, or_else, unless, fault_of, same_base, late_base, first_fault, the_log, logs_of, logs_in, entries_in}
-use Rattle.part_files.specs.Placing.{labels_in}
-use Rattle.part_files.specs.Stands.{alone_with, Stands}
+use Rattle.part_files.specs.Stands.{alone_with}
 use Rattle.part_files.proofs.LabelsStand.{labels_stand}
 use Rattle.part_files.proofs.PayloadsKept.{reading_kept, nothing_yet}
 use Rattle.recover_core.specs.Recovering.{one_synced, both_synced, OnlySyncs}
@@ -19,7 +18,7 @@ use Rattle.run_laws.proofs.Images.{entries_alone}
 use Rattle.site_model.specs.History.{Step, on, synced, reads, changes_of, content_of, Leaves, IsImage, IsKept, writes_inside}
 use Rattle.site_model.specs.Moments.{Always, begins, goes_on, LeavesOnly}
 use Rattle.site_model.proofs.Images.{reads_is_image}
-use Rattle.site_model.proofs.Paths.{weaker}
+use Rattle.site_model.proofs.Paths.{other_change, weaker}
 
 -- ---- the log of two files
 
@@ -113,17 +112,22 @@ synced_inside file steps inside f = by (f == file) refl
     by true same = ap (λ (t : Bool). writes_inside (cond t (synced ∷ changes_of f steps) (changes_of f steps))) same ∙ inside f
     by false other = ap (λ (t : Bool). writes_inside (cond t (synced ∷ changes_of f steps) (changes_of f steps))) other ∙ inside f
 
+-- nothing happened to a file that is no log's
+both_others : (old : List Step) (file : ℕ) → file ≢ 16 → file ≢ 17 → changes_of file (both_synced old) ≡ changes_of file old
+both_others old file one two = other_change file 17 synced (one_synced old) two ∙ other_change file 16 synced old one
+
 module _ (job : Job) (entries : List Entry) (old : List Step) (inside : (f : ℕ) → writes_inside (changes_of f old) ≡ true) where
   pub opening_first : Always (IsOpening job entries old) old old
-  opening_first = begins (record { silent = refl; images = λ image is. inl is })
+  opening_first = begins (record { silent = refl; images = λ image is. inl is; others = λ file one two. refl })
 
   opening_one : Always (IsOpening job entries old) old (one_synced old)
-  opening_one = goes_on opening_first (record { silent = refl; images = λ image is. inl (synced_image 16 old image inside is) })
+  opening_one = goes_on opening_first (record { silent = refl; images = λ image is. inl (synced_image 16 old image inside is); others = λ file one two. other_change file 16 synced old one })
 
   pub opening_both : Always (IsOpening job entries old) old (both_synced old)
   opening_both = goes_on opening_one (record {
     silent = refl;
     images = λ image is. inl (synced_image 16 old image inside (synced_image 17 (one_synced old) image (synced_inside 16 old inside) is));
+    others = both_others old;
   })
 
   pub opening_synced : (new : List Step) → OnlySyncs old new → Always (IsOpening job entries old) old new
@@ -142,10 +146,10 @@ pub second_kept : (old : List Step) (image : List ℕ) → Leaves (changes_of 17
 second_kept old image leaves = leaves
 
 module _ (job : Job) (old : List Step) (one : kept_in 0 (content_of 16 old) ≡ nothing) (two : kept_in 0 (content_of 17 old) ≡ nothing) where
-  formatting_stands : (image : ℕ → List ℕ) → IsFormatting (content_of 16 old) (header_with job.digest) (image 16) → image 17 ≡ content_of 17 old → Stands job.flows job.digest image (labels_in [])
+  formatting_stands : (image : ℕ → List ℕ) → IsFormatting (content_of 16 old) (header_with job.digest) (image 16) → image 17 ≡ content_of 17 old → StandsBy job [] image
   formatting_stands image formatting second =
       let none : kept_in 0 (image 17) ≡ nothing = ap (kept_in 0) second ∙ two in
-      let stands = λ (is : entries_in (logs_in (alone_with job.digest) image) ≡ Some []). labels_stand job.flows job.digest image [] (fresh 0) is refl tt in
+      let stands : entries_in (logs_in (alone_with job.digest) image) ≡ Some [] → StandsBy job [] image = λ is. record { kept = is; stands = labels_stand job.flows job.digest image [] (fresh 0) is refl tt } in
       let empty = λ (is : reading_of (image 16) ≡ is_fresh).
       let first : kept_in 0 (image 16) ≡ nothing = (nothing_yet 0 (image 16)).0 is in
       stands (ap (λ (k : Kept). entries_in (logs_of (alone_with job.digest) k (kept_in 0 (image 17)))) first ∙ ap (λ (k : Kept). entries_in (logs_of (alone_with job.digest) nothing k)) none) in
@@ -163,4 +167,5 @@ module _ (job : Job) (old : List Step) (one : kept_in 0 (content_of 16 old) ≡ 
     silent = here.only.same_tape;
     images = λ image is. inr (formatting_stands image (here.images (image 16) (is.each 16))
         (second_kept old (image 17) (subst (λ c. Leaves c (image 17)) (here.only.others 17 (λ same. omega (arith, same))) (is.each 17))));
+    others = λ file one two. here.only.others file one ∙ both_others old file one two;
   }) leaves

@@ -1,9 +1,13 @@
 -- Which causes a run may end with, by what its files held at the start.
-use Rattle.std.specs.Prelude.{◌≡◌, ◌⊎◌, ℕ, List, Some, Err}
+use Rattle.std.specs.Prelude.{◌≡◌, ◌⊎◌, ◌<◌, ◌^◌, ℕ, List, [], Option, Some, None, Err}
+use Rattle.command_words.specs.declared.words.Call.{Call}
+use Rattle.command_words.specs.declared.words.Call.TheVariants.{Run, Show}
 use Rattle.dura_model.specs.Partition.{Partition}
 use Rattle.dura_value.specs.Items.{Entry}
 use Rattle.engine_run.specs.Job.{Job, Keeps}
 use Rattle.engine_run.specs.Kept.{IsClash, NoClash}
+use Rattle.hub_store.specs.Trail.{Settled}
+use Rattle.part_files.specs.Placing.{next_life}
 use Rattle.recover_core.specs.Recovering.{Recovers, OnlySyncs}
 use Rattle.recover_core.specs.declared.error.RecoverError.{RecoverError}
 use Rattle.recover_core.specs.declared.error.RecoverError.TheVariants as errors
@@ -17,9 +21,15 @@ use Rattle.site_model.specs.History.{Step}
 abbrev pub AsksFor : (ℕ → List ℕ) → Job → Type 0
 AsksFor files job = HasInput files job.flows job.digest job.requests
 
--- what the logs kept made a state in which nothing clashes
-abbrev pub IsReady : (ℕ → List ℕ) → Type 0
-IsReady files = (job : Job) × AsksFor files job × ((entries : List Entry) × (state : Partition) × Keeps job files entries state × NoClash state job.requests)
+-- The files are accepted: what the logs kept made a state in which nothing clashes, and a further life may begin.
+pub record IsReady (files : ℕ → List ℕ) : Type 0 where
+  pub job : Job
+  pub asks : AsksFor files job
+  pub entries : List Entry
+  pub state : Partition
+  pub keeps : Keeps job files entries state
+  pub no_clash : NoClash state job.requests
+  pub young : next_life entries < 2 ^ 62
 
 -- another request was taken under this client's name and number
 abbrev pub ClashesWithKept : (ℕ → List ℕ) → (client : List ℕ) → (number : ℕ) → Type 0
@@ -51,6 +61,42 @@ Answers files (Illegal partition position) = RefusesLogs files (errors.Illegal p
 Answers files (Spent partition number) = RefusesLogs files (errors.Spent partition number)
 Answers files (Unclosed partition position src seq) = ⊥
 Answers files Usage = ⊥
+
+-- why files are refused
+abbrev pub IsRefusal : Cause → Type 0
+IsRefusal (BadFlows fault) = Unit {0}
+IsRefusal (BadRequests line) = Unit {0}
+IsRefusal (BadPlan place) = Unit {0}
+IsRefusal (TooLong file) = Unit {0}
+IsRefusal (Clash client number) = Unit {0}
+IsRefusal (Damaged file offset) = Unit {0}
+IsRefusal (OtherShape found asked) = Unit {0}
+IsRefusal (OtherFlows found given) = Unit {0}
+IsRefusal (Illegal partition position) = Unit {0}
+IsRefusal other = ⊥
+
+-- why logs are refused, and not for a fault or for want of memory
+abbrev pub IsLogRefusal : RecoverError → Type 0
+IsLogRefusal errors.SiteFault = ⊥
+IsLogRefusal errors.Memory = ⊥
+IsLogRefusal other = Unit {0}
+
+-- The files are to be refused: the input files, or the logs, or a request that clashes with what was taken.
+pub data AreRefused (files : ℕ → List ℕ) : Type 0 where
+  for_input : (cause : Cause) → refusal_of files ≡ Some cause → AreRefused files
+  for_logs : (error : RecoverError) → IsLogRefusal error → RefusesLogs files error → AreRefused files
+  for_clash : (client : List ℕ) (number : ℕ) → ClashesWithKept files client number → AreRefused files
+
+-- Nothing was written, said or settled: each log file may have been synced once.
+pub record LeavesAll (old new : List Step) (trail : List Settled) : Type 0 where
+  pub syncs : OnlySyncs old new
+  pub nothing : trail ≡ []
+
+-- a call that settles nothing, by what its words ask for and why it ended: one that isn't a run, and one that refuses
+abbrev pub SettlesNothing : Option Call → Cause → Type 0
+SettlesNothing None cause = Unit {0}
+SettlesNothing (Some (Show partitions)) cause = Unit {0}
+SettlesNothing (Some (Run options)) cause = IsRefusal cause
 
 -- A refusal writes nothing, and says nothing: the log files may be synced.
 abbrev pub Untouched : (old new : List Step) → Cause → Type 0

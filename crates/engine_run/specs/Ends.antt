@@ -94,12 +94,13 @@ module _ (MayFollow : List Settled → List Said → ℕ → List Entry → Type
   EndsAs steps trail most_labels segment_length Memory = Unit {0}
   EndsAs steps trail most_labels segment_length other = ⊥
 
-  -- From where it began on it stood at every moment as it may, nothing was settled before, whole lines were said unless saying failed,
-  -- and it ended for its cause.
+  -- From where it began on it stood at every moment as it may, nothing was settled before and all of it by the end, whole lines were
+  -- said unless saying failed, and it ended for its cause.
   pub record GoesOn (new : List Step) (trail : List Settled) (most_labels segment_length : ℕ) (cause : Cause) : Type 0 where
     pub every : AtEveryMoment MayFollow MaySay o new trail
     pub further : Always (λ steps. Unit {0}) o.steps new
     pub nothing : (moment : ℕ) → moment < length o.steps → settled_at moment trail ≡ []
+    pub by_the_end : settled_at (length new) trail ≡ trail
     pub whole : SaysWhole MayFollow MaySay o new trail cause
     pub ends : EndsAs new trail most_labels segment_length cause
 

@@ -9,15 +9,16 @@ use Rattle.dura_value.specs.Items.{Entry}
 use Rattle.engine_run.specs.Ends.{SaysWhole, RunEndsAs}
 use Rattle.engine_run.specs.Job.{Job, Keeps, AreGivenIn}
 use Rattle.engine_run.specs.Picks.{rules_with}
-use Rattle.engine_run.specs.Served.{HasServed}
 use Rattle.engine_run.specs.Opened.{IsOpening}
+use Rattle.engine_run.specs.Prepared.{IsEarlyCause}
+use Rattle.engine_run.specs.Served.{HasServed}
 use Rattle.flow_syntax.specs.Syntax.{Flows}
 use Rattle.hub_store.specs.Moments.{AtEveryMoment}
 use Rattle.hub_store.specs.Origin.{Origin}
 use Rattle.hub_store.specs.Trail.{Settled, of_part, settled_at}
 use Rattle.part_files.specs.Placing.{next_life, labels_in}
 use Rattle.run_causes.specs.declared.cause.Cause.{Cause}
-use Rattle.run_laws.specs.Begins.{may_follow, may_say}
+use Rattle.run_laws.specs.Begins.{BeginsAlone, may_follow, may_say}
 use Rattle.run_laws.specs.Leaves.{StandsOn}
 use Rattle.run_rules.specs.Rules.{Rules}
 use Rattle.site_model.specs.History.{Step, tape, back_to, IsImage}
@@ -41,11 +42,13 @@ pub record StandsOrderly (rules : Rules) (latest digest : ℕ) (o : Origin) (ste
 -- full, the world isn't quiet.
 pub record RunsOn (job : Job) (entries : List Entry) (begin : Partition) (old new : List Step) (trail : List Settled) (most_labels segment_length latest : ℕ) (cause : Cause) : Type 0 where
   pub origin : Origin
+  pub alone : BeginsAlone origin (rules_with job begin (next_life entries)) job.digest
   pub kept : (origin.logs 0).entries ≡ entries
   pub silent : tape origin.steps ≡ tape old
   pub opening : Always (IsOpening job entries old) old origin.steps
   pub further : Always (λ steps. Unit {0}) origin.steps new
   pub nothing : (moment : ℕ) → moment < length origin.steps → settled_at moment trail ≡ []
+  pub by_the_end : settled_at (length new) trail ≡ trail
   pub stands : (moment : ℕ) → length origin.steps ≤ moment → moment ≤ length new → (image : ℕ → List ℕ) → IsImage (back_to moment new) image
       → StandsOrderly (rules_with job begin (next_life entries)) latest job.digest origin (back_to moment new) (settled_at moment trail) image
   pub every : AtEveryMoment (may_follow (rules_with job begin (next_life entries)) latest) (may_say (rules_with job begin (next_life entries))) origin new trail
@@ -53,12 +56,13 @@ pub record RunsOn (job : Job) (entries : List Entry) (begin : Partition) (old ne
   pub ends : RunEndsAs (rules_with job begin (next_life entries)) latest origin new trail most_labels segment_length cause
   pub served : HasServed (rules_with job begin (next_life entries)) trail cause
 
--- it ends before the logs are opened: nothing was settled
-pub record EndsEarly (job : Job) (entries : List Entry) (old new : List Step) (trail : List Settled) : Type 0 where
+-- It ends before the logs are opened, for a cause that a call may have by then: nothing was settled.
+pub record EndsEarly (job : Job) (entries : List Entry) (old new : List Step) (trail : List Settled) (cause : Cause) : Type 0 where
+  pub early : IsEarlyCause cause
   pub nothing : trail ≡ []
   pub opening : Always (IsOpening job entries old) old new
 
 -- Where the files as they were read at the start stood for a run, by these entries: each crash leaves what it may.
 abbrev pub Headline : Job → (files : ℕ → List ℕ) → (old new : List Step) → List Settled → (most_labels segment_length latest : ℕ) → Cause → Type 0
 Headline job files old new trail most_labels segment_length latest cause = (entries : List Entry) (begin : Partition) → Keeps job files entries begin → AreGivenIn job entries
-    → RunsOn job entries begin old new trail most_labels segment_length latest cause ⊎ EndsEarly job entries old new trail
+    → RunsOn job entries begin old new trail most_labels segment_length latest cause ⊎ EndsEarly job entries old new trail cause

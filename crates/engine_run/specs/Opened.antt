@@ -1,5 +1,5 @@
 -- Opening the logs.
-use Rattle.std.specs.Prelude.{◌≡◌, ◌⊎◌, ℕ, List, Ok}
+use Rattle.std.specs.Prelude.{◌≡◌, ◌≢◌, ◌⊎◌, ℕ, List, Some, Ok}
 use Rattle.commit_log.specs.declared.states.Resting.{Resting}
 use Rattle.commit_log.specs.Outcomes.{RestsAs}
 use Rattle.commit_log.specs.Segment.{first_gate}
@@ -7,18 +7,24 @@ use Rattle.dura_model.specs.Partition.{Partition}
 use Rattle.dura_value.specs.Items.{Entry}
 use Rattle.engine_run.specs.Job.{Job, Keeps, AreGivenIn}
 use Rattle.part_files.specs.Kept.{nothing, kept_in, first_of, decoded}
-use Rattle.part_files.specs.Logs.{first_log, second_log}
+use Rattle.part_files.specs.Logs.{first_log, second_log, logs_in, entries_in}
 use Rattle.part_files.specs.Placing.{labels_in}
-use Rattle.part_files.specs.Stands.{Stands}
+use Rattle.part_files.specs.Stands.{alone_with, Stands}
 use Rattle.run_laws.specs.Begins.{header_with}
 use Rattle.site_model.specs.History.{Step, changes_of, content_of, tape, Leaves, IsImage}
 use Rattle.site_model.specs.Moments.{Always}
 
+-- The files keep just these entries, and stand for their run.
+pub record StandsBy (job : Job) (entries : List Entry) (files : ℕ → List ℕ) : Type 0 where
+  pub kept : entries_in (logs_in (alone_with job.digest) files) ≡ Some entries
+  pub stands : Stands job.flows job.digest files (labels_in entries)
+
 -- Until the logs are opened nothing is said, and a crash leaves what it could have left at the start, or files that stand for the run
--- at the start, by these entries.
+-- at the start, by these entries. Nothing happens to a file that is no log's.
 pub record IsOpening (job : Job) (entries : List Entry) (old steps : List Step) : Type 0 where
   pub silent : tape steps ≡ tape old
-  pub images : (image : ℕ → List ℕ) → IsImage steps image → IsImage old image ⊎ Stands job.flows job.digest image (labels_in entries)
+  pub images : (image : ℕ → List ℕ) → IsImage steps image → IsImage old image ⊎ StandsBy job entries image
+  pub others : (file : ℕ) → file ≢ first_log 0 → file ≢ second_log 0 → changes_of file steps ≡ changes_of file old
 
 -- so it goes from one moment to another, where the files stood for a run
 abbrev pub OpensOnly : Job → (old new : List Step) → Type 0

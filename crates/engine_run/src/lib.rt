@@ -4,11 +4,12 @@
 //! - `ended` is what a call gives back, and `top` the call that a program makes; `recorded` is that call over recorded calls of the
 //!   system, which is what the program makes. `specs/Headline` is what it promises of every moment.
 //! - `prepared` is what a run begins with: what was read, and what was recovered (`opening`), which is no other than what is asked
-//!   for (`kept`); `order`: which request comes first. `running` goes on from there, under rules that are picked where it is called (`specs/Picks`).
+//!   for (`kept`); `laws` says what follows for many calls, one after another (`specs/Lives`); `order`: which request comes first. `running` goes on from there, under rules that are picked where it is called (`specs/Picks`).
 #![tactic(auto)]
 
 mod ended;
 mod kept;
+mod laws;
 mod named;
 mod opening;
 mod order;

@@ -1,12 +1,13 @@
 //! What a run begins with.
 
 ghost use Rattle.std.specs.Prelude.{◌≡◌, ◌≤◌, Err, IfOk, IfErr};
-ghost use Rattle.engine_run.specs.Causes.{AsksFor, Answers, Untouched};
+ghost use Rattle.engine_run.specs.Causes.{AsksFor, Answers, AreRefused, Untouched};
 ghost use Rattle.engine_run.specs.Job.{Job};
 ghost use Rattle.engine_run.specs.Kept.{NoClash};
 ghost use Rattle.engine_run.specs.Opened.{OpensOnly};
 ghost use Rattle.engine_run.specs.Prepared.{job_of, CanGoOn, IsPrepared, IsEarlyCause};
 ghost use Rattle.part_steps.specs.States.{state_of};
+ghost use Rattle.recover_core.specs.Recovering.{OnlySyncs};
 ghost use Rattle.site_model.specs.Calls.{HasRisen};
 ghost use Rattle.site_model.specs.History.{content_of};
 
@@ -50,6 +51,7 @@ pub(crate) fn prepare<V: Site>(alloc: Global, site: &mut V) -> Result<Prepared, 
     ensures answers { V.tells site.new → IfErr result (Answers (λ file. content_of file (V.history site.old))) }
     ensures early { IfErr result IsEarlyCause }
     ensures untouched { IfErr result (Untouched (V.history site.old) (V.history site.new)) }
+    ensures refused { V.tells site.new → AreRefused (λ file. content_of file (V.history site.old)) → OnlySyncs (V.history site.old) (V.history site.new) }
     ensures opens { V.tells site.new → (job : Job) → AsksFor (λ file. content_of file (V.history site.old)) job → OpensOnly job (V.history site.old) (V.history site.new) }
     ensures fault { result ≡ Err Cause.SiteFault → HasRisen (V.disk_faults site.old) (V.disk_faults site.new) }
     ensures later { V.disk_faults site.old ≤ V.disk_faults site.new }

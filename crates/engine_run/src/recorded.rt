@@ -4,7 +4,7 @@ ghost use Rattle.std.specs.Prelude.{◌≡◌, ◌⊎◌, ◌≤◌, ℕ, [], No
 ghost use Rattle.command_words.specs.Command.{call_in};
 ghost use Rattle.command_words.specs.declared.words.Call.TheVariants as calls;
 ghost use Rattle.command_words.specs.declared.words.RunOptions.{RunOptions as AnyOptions};
-ghost use Rattle.engine_run.specs.Causes.{AsksFor, Answers, Untouched};
+ghost use Rattle.engine_run.specs.Causes.{AsksFor, Answers, AreRefused, LeavesAll, SettlesNothing, Untouched};
 ghost use Rattle.engine_run.specs.Headline.{Headline};
 ghost use Rattle.engine_run.specs.Job.{Job};
 ghost use Rattle.engine_run.specs.Recorded.{files_before, steps_before, steps_after};
@@ -52,9 +52,12 @@ pub fn run_recorded<
     ensures only_usage { result.cause ≡ Cause.Usage → call_in words.now ≡ None }
     ensures idle { call_in words.now ≡ None → (steps_after S.unseen (C.events (calls_of result.site))) ≡ (steps_before S.unseen) }
 
-    // Which other causes a run may end with, by what the files held at the start, and that a refusal writes and says nothing.
+    // Which other causes a run may end with, by what the files held at the start, and that a refusal writes and says nothing. Where the
+    // files are to be refused nothing is written, said or settled, whatever the cause.
     ensures answers { Tells S.unseen (C.events (calls_of result.site)) → (options : AnyOptions) → call_in words.now ≡ Some (calls.Run options) → Answers (files_before S.unseen) result.cause }
     ensures untouched { (options : AnyOptions) → call_in words.now ≡ Some (calls.Run options) → Untouched (steps_before S.unseen) (steps_after S.unseen (C.events (calls_of result.site))) result.cause }
+    ensures refused { Tells S.unseen (C.events (calls_of result.site)) → (options : AnyOptions) → call_in words.now ≡ Some (calls.Run options) → AreRefused (files_before S.unseen) → LeavesAll (steps_before S.unseen) (steps_after S.unseen (C.events (calls_of result.site))) result.trail }
+    ensures settles_nothing { SettlesNothing (call_in words.now) result.cause → result.trail ≡ [] }
 
     // At every moment of a run, inside each call of the site too, a crash leaves files that stand for a legal run of the
     // failure-free machine: the one at the start, then what is settled by then, then at most the one frame whose gate is being

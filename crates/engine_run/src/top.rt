@@ -4,7 +4,7 @@ ghost use Rattle.std.specs.Prelude.{◌≡◌, ◌≢◌, ◌⊎◌, ◌≤◌, 
 ghost use Rattle.command_words.specs.Command.{call_in};
 ghost use Rattle.command_words.specs.declared.words.Call.TheVariants as calls;
 ghost use Rattle.command_words.specs.declared.words.RunOptions.{RunOptions as AnyOptions};
-ghost use Rattle.engine_run.specs.Causes.{AsksFor, Answers, Untouched};
+ghost use Rattle.engine_run.specs.Causes.{AsksFor, Answers, AreRefused, IsRefusal, LeavesAll, SettlesNothing, Untouched};
 ghost use Rattle.engine_run.specs.Headline.{Headline};
 ghost use Rattle.engine_run.specs.Job.{Job};
 ghost use Rattle.engine_run.specs.Showing.{ShowsAs, WritesNothing};
@@ -44,6 +44,8 @@ fn run_requests<V: Site, C: Clock, A: Activities>(
     ensures no_usage { result.cause ≢ Cause.Usage }
     ensures answers { V.tells result.site → Answers (λ file. content_of file (V.history site)) result.cause }
     ensures untouched { Untouched (V.history site) (V.history result.site) result.cause }
+    ensures refused { V.tells result.site → AreRefused (λ file. content_of file (V.history site)) → LeavesAll (V.history site) (V.history result.site) result.trail }
+    ensures settles_nothing { IsRefusal result.cause → result.trail ≡ [] }
     ensures headline { V.tells result.site → (job : Job) → AsksFor (λ file. content_of file (V.history site)) job
         → Headline job (λ file. content_of file (V.history site)) (V.history site) (V.history result.site) result.trail options.steps options.segment (C.latest result.clock) result.cause }
     ensures fault { result.cause ≡ Cause.SiteFault → HasRisen (V.disk_faults site) (V.disk_faults result.site) }
@@ -75,9 +77,12 @@ pub fn run_alone<V: Site, C: Clock, A: Activities>(
     ensures only_usage { result.cause ≡ Cause.Usage → call_in words.now ≡ None }
     ensures idle { call_in words.now ≡ None → V.history result.site ≡ V.history site }
 
-    // Which other causes a run may end with, by what the files held at the start, and that a refusal writes and says nothing.
+    // Which other causes a run may end with, by what the files held at the start, and that a refusal writes and says nothing. Where the
+    // files are to be refused nothing is written, said or settled, whatever the cause.
     ensures answers { V.tells result.site → (options : AnyOptions) → call_in words.now ≡ Some (calls.Run options) → Answers (λ file. content_of file (V.history site)) result.cause }
     ensures untouched { (options : AnyOptions) → call_in words.now ≡ Some (calls.Run options) → Untouched (V.history site) (V.history result.site) result.cause }
+    ensures refused { V.tells result.site → (options : AnyOptions) → call_in words.now ≡ Some (calls.Run options) → AreRefused (λ file. content_of file (V.history site)) → LeavesAll (V.history site) (V.history result.site) result.trail }
+    ensures settles_nothing { SettlesNothing (call_in words.now) result.cause → result.trail ≡ [] }
 
     // At every moment of a run, inside each call of the site too, a crash leaves files that stand for a legal run of the
     // failure-free machine: the one at the start, then what is settled by then, then at most the one frame whose gate is being
@@ -133,9 +138,12 @@ pub fn run<R: Threads + Wait + Sync, V: Site + Send, C: Clock + Send, A: Activit
     ensures only_usage { result.cause ≡ Cause.Usage → call_in words.now ≡ None }
     ensures idle { call_in words.now ≡ None → V.history result.site ≡ V.history site }
 
-    // Which other causes a run may end with, by what the files held at the start, and that a refusal writes and says nothing.
+    // Which other causes a run may end with, by what the files held at the start, and that a refusal writes and says nothing. Where the
+    // files are to be refused nothing is written, said or settled, whatever the cause.
     ensures answers { V.tells result.site → (options : AnyOptions) → call_in words.now ≡ Some (calls.Run options) → Answers (λ file. content_of file (V.history site)) result.cause }
     ensures untouched { (options : AnyOptions) → call_in words.now ≡ Some (calls.Run options) → Untouched (V.history site) (V.history result.site) result.cause }
+    ensures refused { V.tells result.site → (options : AnyOptions) → call_in words.now ≡ Some (calls.Run options) → AreRefused (λ file. content_of file (V.history site)) → LeavesAll (V.history site) (V.history result.site) result.trail }
+    ensures settles_nothing { SettlesNothing (call_in words.now) result.cause → result.trail ≡ [] }
 
     // At every moment of a run, inside each call of the site too, a crash leaves files that stand for a legal run of the
     // failure-free machine: the one at the start, then what is settled by then, then at most the one frame whose gate is being

@@ -93,6 +93,7 @@ module _ (o : Origin) (rules : Rules) (latest digest : ℕ) (begins : BeginsAlon
       let is_numbered = ((numbered_both (state_next (fresh 0)) ((o.logs 0).entries ++ of_part 0 trail) going).0 longer).0 in
       record {
         going = going;
+        kept = kept_entries files (of_part 0 trail ++ going) kept none;
         stands = subst (Stands rules.flows digest files) (labels_split (of_part 0 trail) going) (image_stands files (of_part 0 trail ++ going) goes kept none);
         writing = writing;
         given = (whole o rules latest digest begins (of_part 0 trail ++ going) goes).1;

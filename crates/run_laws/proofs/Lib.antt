@@ -3,6 +3,7 @@ pub mod Counts
 pub mod Does
 pub mod Effects
 pub mod Entities
+pub mod EntriesKept
 pub mod Found
 pub mod Founding
 pub mod Grants
@@ -11,6 +12,7 @@ pub mod Instances
 pub mod Keeps
 pub mod MessageKinds
 pub mod Moves
+pub mod NothingAnswered
 pub mod Order
 pub mod Ordered
 pub mod Programs

@@ -1,13 +1,13 @@
 -- Where a call begins, and what a crash leaves of it, by example.
-use Rattle.std.specs.Prelude.{[], ◌∷◌, codes, Option, Some, None}
+use Rattle.std.specs.Prelude.{ℕ, List, [], ◌∷◌, ◌++◌, take, slice_set, codes, Option, Some, None}
 use Rattle.dura_model.specs.Legal.{after}
 use Rattle.dura_model.specs.World.{World, empty}
 use Rattle.dura_value.specs.Ids.{client, orchestration}
 use Rattle.dura_value.specs.Items.{Entry, took, ran}
 use Rattle.flow_syntax.specs.Syntax.{Flows}
 use Rattle.hub_store.specs.Origin.{Log, Origin}
-use Rattle.hub_store.specs.Trail.{Said}
-use Rattle.part_files.specs.Examples.{digest, request}
+use Rattle.hub_store.specs.Trail.{Settled, Said}
+use Rattle.part_files.specs.Examples.{digest, request, taking, taking_frame, taking_log}
 use Rattle.part_files.specs.Logs.{first_log}
 use Rattle.part_files.specs.Placing.{labels_in}
 use Rattle.run_laws.specs.Begins.{header_with}
@@ -35,6 +35,21 @@ answering = record {
   incarnation = 0;
   items = took request ∷ ran (client (codes "a")) (orchestration (codes "Sum") (codes "x")) 0 ∷ ran (orchestration (codes "Sum") (codes "x")) (client (codes "a")) 0 ∷ [];
 }
+
+-- a log that had an entry without items, which no file keeps
+abbrev pub odd_origin : Origin
+odd_origin = record empty_origin { logs = λ partition. record empty_log { entries = record { position = 0; incarnation = 0; items = [] } ∷ [] } }
+
+-- the entry by which client a's request is taken was settled; and then another, by which it is taken again
+abbrev pub taken_once : List Settled
+taken_once = record { partition = 0; entry = taking 0; at = 0 } ∷ []
+
+abbrev pub taken_twice : List Settled
+taken_twice = record { partition = 0; entry = taking 0; at = 0 } ∷ record { partition = 0; entry = taking 1; at = 0 } ∷ []
+
+-- a log with both
+abbrev pub twice_log : List ℕ
+twice_log = take 76 taking_log ++ 0xC3 ∷ slice_set taking_frame 13 1 ++ 0 ∷ []
 
 abbrev pub world_in : Option World → World
 world_in None = empty

@@ -12,8 +12,9 @@ use Rattle.dura_value.specs.Messages.{Answer}
 use Rattle.hub_store.specs.Moments.{WroteGate, IsFront, IsSpeaking}
 use Rattle.hub_store.specs.Origin.{Origin}
 use Rattle.hub_store.specs.Trail.{Settled, Said, of_part}
+use Rattle.part_files.specs.Logs.{logs_in, entries_in}
 use Rattle.part_files.specs.Placing.{labels_in, placed, AllGiven}
-use Rattle.part_files.specs.Stands.{Stands}
+use Rattle.part_files.specs.Stands.{alone_with, Stands}
 use Rattle.request_reader.specs.Line.{Request}
 use Rattle.run_laws.specs.Begins.{pairs_of}
 use Rattle.run_rules.specs.Rules.{Rules, count_told, request_at, IsBy, EndPending}
@@ -66,12 +67,13 @@ pub data AllRan (rules : Rules) : List Entry → Type 0 where
   nothing_ran : AllRan rules []
   frame_more : {settled : List Entry} → AllRan rules settled → (state : Partition) → placed rules.flows 1 rules.begin settled ≡ Ok state → (going : List Entry) → EndPending state going → AllRan rules (settled ++ going)
 
--- The files stand for the run at the start, then what was settled, then no more than the one frame whose gate was being written. Each
--- outcome in it is one that its activity may give, and that ran once its task was settled; each entry that came is of this call, and
--- founded on entries before it. The tape goes on by lines that answer requests as that run does by what is settled, then no more than a
+-- The files stand for the run at the start, then what was settled, then no more than the one frame whose gate was being written; and
+-- just these entries are kept in them. Each outcome in the run is one that its activity may give, and that ran once its task was
+-- settled; each entry that came is of this call, and founded on entries before it. The tape goes on by lines that answer requests as that run does by what is settled, then no more than a
 -- front of one further.
 pub record StandsOn (rules : Rules) (latest digest : ℕ) (o : Origin) (steps : List Step) (trail : List Settled) (files : ℕ → List ℕ) : Type 0 where
   pub going : List Entry
+  pub kept : entries_in (logs_in (alone_with digest) files) ≡ Some ((o.logs 0).entries ++ (of_part 0 trail ++ going))
   pub stands : Stands rules.flows digest files (labels_in (o.logs 0).entries ++ labels_in (of_part 0 trail) ++ labels_in going)
   pub writing : (going ≡ []) ⊎ WroteGate (o.logs 0) (of_part 0 trail) (changes_of (o.logs 0).file steps)
   pub given : AllGiven rules.flows 1 (fresh 0) ((o.logs 0).entries ++ (of_part 0 trail ++ going))

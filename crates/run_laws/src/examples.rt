@@ -7,11 +7,11 @@ ghost use Rattle.dura_value.specs.Messages.{is_unknown};
 ghost use Rattle.dura_value.specs.declared.outcome.Outcome.{Outcome};
 ghost use Rattle.flow_syntax.specs.Syntax.{Flows};
 ghost use Rattle.hub_store.specs.Trail.{Said};
-ghost use Rattle.part_files.specs.Examples.{digest, two_files, empty_log as empty_bytes};
+ghost use Rattle.part_files.specs.Examples.{digest, two_files, empty_log as empty_bytes, taking_log};
 ghost use Rattle.run_laws.specs.Begins.{BeginsAlone};
-ghost use Rattle.run_laws.specs.Examples.{empty_origin, rules, answering, first_said};
+ghost use Rattle.run_laws.specs.Examples.{empty_origin, odd_origin, taken_once, taken_twice, twice_log, rules, answering, first_said};
 ghost use Rattle.run_laws.specs.Leaves.{IsAnswered, AllAnswered, IsHalfSaid, AllRan, StandsOn};
-ghost use Rattle.run_rules.specs.Examples.{rules_with, answering_rules, ending};
+ghost use Rattle.run_rules.specs.Examples.{rules_with, later_rules, answering_rules, ending};
 ghost use Rattle.site_model.specs.History.{said};
 
 /// A call over a log without entries begins where nothing happened: not under another digest, and not where something was answered.
@@ -44,4 +44,17 @@ pub fn crashes_leave()
     ensures empty { (flows : Flows) → StandsOn (rules_with flows) 0 digest empty_origin [] [] (two_files empty_bytes []) }
     ensures damaged { (flows : Flows) → StandsOn (rules_with flows) 0 digest empty_origin [] [] (two_files (slice_set empty_bytes 3 0) []) → ⊥ }
     ensures unsaid { (flows : Flows) → StandsOn (rules_with flows) 0 digest (record empty_origin { steps = said 97 ∷ [] }) [] [] (two_files empty_bytes []) → ⊥ }
+{}
+
+/// A crash leaves the entry that was settled. Without it, or with no other entries than the log had, which no file keeps, it leaves
+/// something else; so it does with an entry that isn't accepted, with one of another life, and with one whose gate wasn't written. And
+/// what stands on the tape answers somebody.
+pub fn crashes_leave_entries()
+    ensures taken { (flows : Flows) → StandsOn (rules_with flows) 0 digest empty_origin [] taken_once (two_files taking_log []) }
+    ensures lost { (flows : Flows) → StandsOn (rules_with flows) 0 digest empty_origin [] taken_once (two_files empty_bytes []) → ⊥ }
+    ensures kept { (flows : Flows) → StandsOn (rules_with flows) 0 digest odd_origin [] [] (two_files empty_bytes []) → ⊥ }
+    ensures accepted { (flows : Flows) → StandsOn (rules_with flows) 0 digest empty_origin [] taken_twice (two_files twice_log []) → ⊥ }
+    ensures of_call { (flows : Flows) → StandsOn (later_rules flows) 0 digest empty_origin [] taken_once (two_files taking_log []) → ⊥ }
+    ensures unwritten { (flows : Flows) → StandsOn (rules_with flows) 0 digest empty_origin [] [] (two_files taking_log []) → ⊥ }
+    ensures answering { (flows : Flows) → StandsOn (rules_with flows) 0 digest empty_origin (said 97 ∷ []) [] (two_files empty_bytes []) → ⊥ }
 {}

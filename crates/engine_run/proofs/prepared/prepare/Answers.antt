@@ -1,17 +1,17 @@
-use Rattle.std.proofs.Common.{◌≡◌, ◌∙◌, List, None, Ok, Err, map, refl, sym, ap, subst, arith}
+use Rattle.std.proofs.Common.{◌≡◌, ◌<◌, ◌^◌, ◌∙◌, inl, ℕ, List, None, Ok, Err, map, refl, sym, ap, subst, arith}
 use Rattle.std.specs.Prelude.{IfSome}
 use Rattle.std.proofs.lemmas.Result.{err_from_is_err_and}
 use Rattle.commit_log.specs.States.{IsFormatting}
 use Rattle.dura_value.specs.declared.messages.Request.{Request as OwnRequest}
 use Rattle.engine_run.specs.Job.{Job, Keeps}
-use Rattle.engine_run.specs.Kept.{Refuses}
+use Rattle.engine_run.specs.Kept.{NoClash, Refuses}
 use Rattle.engine_run.specs.Opened.{IsOpening, OpensOnly}
 use Rattle.engine_run.specs.Opening.{RecoversAs}
 use Rattle.engine_run.proofs.Asked.{same_job, same_entries}
 use Rattle.engine_run.proofs.Found.{some_with}
 use Rattle.engine_run.proofs.Opens.{opening_first, opening_synced, first_kept}
 use Rattle.engine_run.proofs.Preparing.{opened_from, opens_from}
-use Rattle.engine_run.proofs.Refusing.{logs_refused, clash_refused, logs_untouched}
+use Rattle.engine_run.proofs.Refusing.{logs_refused, clash_refused, logs_untouched, ready, not_refused}
 use Rattle.engine_run.proofs.prepared.prepare.Goals as goal
 use Rattle.flow_syntax.specs.Views.{flows_of}
 use Rattle.part_files.specs.Logs.{Logs, logs_in}
@@ -248,3 +248,42 @@ returns-clause-untouched g c = tt
 
 pub returns-clause-fault : goal.returns-clause-fault
 returns-clause-fault g c = λ is. absurd (cc is)
+
+pub returns-in_err-file-clause-refused : goal.returns-in_err-file-clause-refused
+returns-in_err-file-clause-refused g c = λ tells refused. inl c.read_input.ensures.unchanged
+
+pub returns-in_err-state-clause-refused : goal.returns-in_err-state-clause-refused
+returns-in_err-state-clause-refused g c = λ tells refused. subst (λ (s : List Step). OnlySyncs s (g.V.Site.history c.recover_logs.new.site)) c.read_input.ensures.unchanged c.recover_logs.ensures.syncs
+
+pub returns-in-Err-clause-refused : goal.returns-in-Err-clause-refused
+returns-in-Err-clause-refused g c = λ tells refused. subst (λ (s : List Step). OnlySyncs s (g.V.Site.history c.recover_logs.new.site)) c.read_input.ensures.unchanged c.recover_logs.ensures.syncs
+
+pub returns-in-Err-open_log-clause-refused : goal.returns-in-Err-open_log-clause-refused
+returns-in-Err-open_log-clause-refused g c = λ tells refused.
+    let old = g.V.Site.history c.args.site.now in
+    let file = c.in_ok-file.field-0.file in
+    let requests = c.in_ok-file.field-0.requests.items in
+    let found = c.in_ok-state.field-0 in
+    let job : Job = record { flows = flows_of file.flows; digest = file.digest; requests = map request_of requests } in
+    let tells_then = c.open_log.ensures.told tells in
+    let asks = c.in_ok-file.ensures.reads (c.recover_logs.ensures.told tells_then) in
+    let recovered = subst (λ (s : List Step). RecoversAs (flows_of file.flows) file.digest (λ f. content_of f s) (Ok found)) c.read_input.ensures.unchanged (c.in_ok-state.ensures.recovers tells_then) in
+    absurd (not_refused (λ f. content_of f old)
+    (ready (λ f. content_of f old) job recovered.entries (state_of found.state) asks (record { kept = recovered.kept; made = recovered.placed })
+    (subst (λ (rs : List OwnRequest). NoClash (state_of found.state) (map request_of rs)) c.deref.ensures.value c.in_default.ensures.ok)
+    (subst (λ (n : ℕ). n < 2 ^ 62) recovered.life recovered.young)) refused)
+
+pub returns-clause-refused : goal.returns-clause-refused
+returns-clause-refused g c = λ tells refused.
+    let old = g.V.Site.history c.args.site.now in
+    let file = c.in_ok-file.field-0.file in
+    let requests = c.in_ok-file.field-0.requests.items in
+    let found = c.in_ok-state.field-0 in
+    let job : Job = record { flows = flows_of file.flows; digest = file.digest; requests = map request_of requests } in
+    let tells_then = c.open_log.ensures.told tells in
+    let asks = c.in_ok-file.ensures.reads (c.recover_logs.ensures.told tells_then) in
+    let recovered = subst (λ (s : List Step). RecoversAs (flows_of file.flows) file.digest (λ f. content_of f s) (Ok found)) c.read_input.ensures.unchanged (c.in_ok-state.ensures.recovers tells_then) in
+    absurd (not_refused (λ f. content_of f old)
+    (ready (λ f. content_of f old) job recovered.entries (state_of found.state) asks (record { kept = recovered.kept; made = recovered.placed })
+    (subst (λ (rs : List OwnRequest). NoClash (state_of found.state) (map request_of rs)) c.deref.ensures.value c.in_default.ensures.ok)
+    (subst (λ (n : ℕ). n < 2 ^ 62) recovered.life recovered.young)) refused)

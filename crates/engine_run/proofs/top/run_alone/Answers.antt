@@ -1,11 +1,12 @@
-use Rattle.std.proofs.Common.{◌≤◌, ◌∙◌, inl, inr, refl, sym, ap, subst, arith}
+use Rattle.std.proofs.Common.{◌≡◌, ◌≤◌, ◌∙◌, inl, inr, Some, refl, sym, ap, subst, arith}
 use Rattle.std.proofs.Math.Nat.{le_of_eq}
 use Rattle.command_words.specs.Command.{call_in}
 use Rattle.command_words.specs.declared.words.Call.TheVariants.{Run, Show}
 use Rattle.command_words.specs.declared.words.RunOptions.{RunOptions}
-use Rattle.engine_run.specs.Causes.{Answers, Untouched}
+use Rattle.engine_run.specs.Causes.{Answers, SettlesNothing, Untouched}
 use Rattle.engine_run.specs.Headline.{Headline}
 use Rattle.engine_run.specs.Opened.{IsOpening}
+use Rattle.engine_run.specs.Prepared.{IsEarlyCause}
 use Rattle.engine_run.specs.Showing.{ShowsAs, WritesNothing}
 use Rattle.engine_run.proofs.Ending.{memory_no_site, memory_no_say, memory_no_clock}
 use Rattle.engine_run.proofs.Opens.{opening_first}
@@ -34,6 +35,7 @@ returns-in-Ok-Run g c =
     let is = rw c.in-Ok-Run.field-0-is at c.in-Ok-Run.ensures in
     let ran = c.run_requests.ensures in
     let end = c.run_requests.result in
+    let is_run : call_in c.args.words.now ≡ Some (Run c.in-Ok-Run.options) = is in
     let old = g.V.Site.history c.args.site in record {
       told = ran.told;
       status = ran.status;
@@ -42,6 +44,8 @@ returns-in-Ok-Run g c =
       idle = λ none. absurd (none_no_call (call_in c.args.words.now) (Run c.in-Ok-Run.options) none is);
       answers = λ tells options asked. ran.answers tells;
       untouched = λ options asked. ran.untouched;
+      refused = λ tells options asked refused. ran.refused tells refused;
+      settles_nothing = λ is. ran.settles_nothing (subst (λ call. SettlesNothing call end.cause) is_run is);
       headline = λ tells options asked job asks. subst (λ (o : RunOptions). Headline job (λ file. content_of file old) old (g.V.Site.history end.site) end.trail o.steps o.segment (g.C.Clock.latest end.clock) end.cause) (run_same (call_in c.args.words.now) c.in-Ok-Run.options options is asked) (ran.headline tells job asks);
       shows = λ tells partitions asked. absurd (run_no_show (call_in c.args.words.now) c.in-Ok-Run.options partitions is asked);
       writes_nothing = λ partitions asked. absurd (run_no_show (call_in c.args.words.now) c.in-Ok-Run.options partitions is asked);
@@ -67,6 +71,8 @@ returns-in-Ok-Show g c =
       idle = λ none. absurd (none_no_call (call_in c.args.words.now) (Show c.in-Ok-Show.field-0-0) none is);
       answers = λ tells options asked. absurd (run_no_show (call_in c.args.words.now) options c.in-Ok-Show.field-0-0 asked is);
       untouched = λ options asked. absurd (run_no_show (call_in c.args.words.now) options c.in-Ok-Show.field-0-0 asked is);
+      refused = λ tells options asked. absurd (run_no_show (call_in c.args.words.now) options c.in-Ok-Show.field-0-0 asked is);
+      settles_nothing = λ settles. end.trail ∙ c.none.ensures;
       headline = λ tells options asked. absurd (run_no_show (call_in c.args.words.now) options c.in-Ok-Show.field-0-0 asked is);
       shows = λ tells partitions asked.
           subst (λ (cause : Cause). ShowsAs (λ file. content_of file old) (tape old) (tape (g.V.Site.history c.end_with.result.site)) cause) (sym end.cause)
@@ -93,6 +99,8 @@ returns-in-Err-Usage g c =
       idle = λ none. ap g.V.Site.history end.site;
       answers = λ tells options asked. absurd (none_no_call (call_in c.args.words.now) (Run options) is asked);
       untouched = λ options asked. absurd (none_no_call (call_in c.args.words.now) (Run options) is asked);
+      refused = λ tells options asked. absurd (none_no_call (call_in c.args.words.now) (Run options) is asked);
+      settles_nothing = λ settles. end.trail ∙ c.none-in-Err-Usage.ensures;
       headline = λ tells options asked. absurd (none_no_call (call_in c.args.words.now) (Run options) is asked);
       shows = λ tells partitions asked. absurd (none_no_call (call_in c.args.words.now) (Show partitions) is asked);
       writes_nothing = λ partitions asked. absurd (none_no_call (call_in c.args.words.now) (Show partitions) is asked);
@@ -116,11 +124,14 @@ returns-in-Err-Memory g c =
       idle = λ none. ap g.V.Site.history end.site;
       answers = λ tells options asked. subst (Answers (λ file. content_of file old)) (sym end.cause) tt;
       untouched = λ options asked. subst (Untouched old now) (sym end.cause) tt;
+      refused = λ tells options asked refused. record { syncs = inl (ap g.V.Site.history end.site); nothing = end.trail ∙ c.none-in-Err-Memory.ensures };
+      settles_nothing = λ settles. end.trail ∙ c.none-in-Err-Memory.ensures;
       headline = λ tells options is job asks entries begin keeps given.
           let old = g.V.Site.history c.args.site in
           let site_is = c.end_with-in-Err-Memory.ensures.site in
           let told = subst g.V.Site.tells site_is tells in
           inr (record {
+            early = subst IsEarlyCause (sym c.end_with-in-Err-Memory.ensures.cause) tt;
             nothing = c.end_with-in-Err-Memory.ensures.trail ∙ c.none-in-Err-Memory.ensures;
             opening = subst (λ site. Always (IsOpening job entries old) old (g.V.Site.history site)) (sym site_is) (opening_first job entries old (λ f. g.met.V.Site.inside c.args.site f told));
           });

@@ -1,4 +1,4 @@
-use Rattle.std.proofs.Common.{◌≡◌, ◌≤◌, ◌∙◌, inl, inr, ℕ, List, Err, refl, sym, ap, subst, arith}
+use Rattle.std.proofs.Common.{◌≡◌, ◌≤◌, ◌<◌, ◌^◌, ◌∙◌, inl, inr, ℕ, List, Err, refl, sym, ap, subst, arith}
 use Rattle.std.proofs.Math.Nat.{le_of_eq}
 use Rattle.dura_model.specs.Partition.{Partition}
 use Rattle.dura_model.specs.Placed.{Belongs}
@@ -13,10 +13,11 @@ use Rattle.engine_run.proofs.Asked.{same_job, same_entries, same_state}
 use Rattle.engine_run.proofs.FileAsked.{file_asked}
 use Rattle.engine_run.proofs.Going.{runs_on}
 use Rattle.engine_run.proofs.Picked.{picked}
-use Rattle.engine_run.proofs.Refusing.{late_answers, late_untouched}
+use Rattle.engine_run.proofs.Refusing.{late_answers, late_untouched, late_no_refusal, ready, not_refused}
 use Rattle.engine_run.proofs.Standing.{shown_alone, has_begun}
 use Rattle.engine_run.proofs.top.run_requests.Goals as goal
 use Rattle.part_steps.specs.States.{state_of}
+use Rattle.recover_core.specs.Recovering.{OnlySyncs}
 use Rattle.recover_core.proofs.LogsFound.{risen_later}
 use Rattle.run_causes.specs.Causes.{status_of}
 use Rattle.run_causes.specs.declared.cause.Cause.{Cause}
@@ -80,7 +81,14 @@ returns-in-Ok g c =
           let told = c.go_named.ensures.told tells in
           let prepared = c.in-Ok.ensures.prepared told in
           late_answers (λ file. content_of file (g.V.Site.history c.args.site)) c.go_named.result.cause c.go_named.ensures.late
-          (job_of p, c.in-Ok.ensures.asks told, (prepared.entries, state_of p.state, prepared.keeps, c.in-Ok.ensures.no_clash));
+          (ready (λ file. content_of file (g.V.Site.history c.args.site)) (job_of p) prepared.entries (state_of p.state) (c.in-Ok.ensures.asks told) prepared.keeps c.in-Ok.ensures.no_clash (subst (λ (n : ℕ). n < 2 ^ 62) prepared.life_is c.in-Ok.ensures.can.young));
+      refused = λ tells refused.
+          let p = c.in-Ok.prepared in
+          let told = c.go_named.ensures.told tells in
+          let prepared = c.in-Ok.ensures.prepared told in
+          absurd (not_refused (λ file. content_of file (g.V.Site.history c.args.site))
+          (ready (λ file. content_of file (g.V.Site.history c.args.site)) (job_of p) prepared.entries (state_of p.state) (c.in-Ok.ensures.asks told) prepared.keeps c.in-Ok.ensures.no_clash (subst (λ (n : ℕ). n < 2 ^ 62) prepared.life_is c.in-Ok.ensures.can.young)) refused);
+      settles_nothing = λ is. absurd (late_no_refusal c.go_named.result.cause gone.late is);
       untouched = late_untouched (g.V.Site.history c.args.site) (g.V.Site.history c.go_named.result.site) c.go_named.result.cause gone.late;
       headline = λ tells job asks.
           let p = c.in-Ok.prepared in
@@ -102,7 +110,7 @@ returns-in-Ok g c =
                 let runs = runs_on own old steps new prepared.entries state prepared.keeps (subst (AreGivenIn own) (sym same) given) p.log prepared.opened opens p.life prepared.life_is c.in-Ok.ensures.can.younger end.trail c.args.options.steps c.args.options.segment (g.C.Clock.latest end.clock) end.cause goes in
                 inl (subst (λ (l : List Entry). RunsOn own l begin old new end.trail c.args.options.steps c.args.options.segment (g.C.Clock.latest end.clock) end.cause) same
                 (subst (λ (q : Partition). RunsOn own prepared.entries q old new end.trail c.args.options.steps c.args.options.segment (g.C.Clock.latest end.clock) end.cause) same_begin runs))
-            | inr stays ↦ inr (record { nothing = stays.nothing; opening = subst (Always (IsOpening own entries old) old) (sym stays.same) (opens entries begin keeps given) })
+            | inr stays ↦ inr (record { early = subst IsEarlyCause (sym stays.wanting) tt; nothing = stays.nothing; opening = subst (Always (IsOpening own entries old) old) (sym stays.same) (opens entries begin keeps given) })
           ] in
           subst (λ (j : Job). Headline j (λ file. content_of file old) old new end.trail c.args.options.steps c.args.options.segment (g.C.Clock.latest end.clock) end.cause) (same_job (λ file. content_of file old) own job asked asks) core;
       fault = λ is. risen_later _ _ _ prepare.later gone.later (gone.fault is);
@@ -123,11 +131,19 @@ returns-in-Err g c =
       no_usage = λ usage. subst IsEarlyCause (sym end.cause ∙ usage) c.in-Err.ensures.early;
       answers = λ tells. subst (Answers (λ file. content_of file old)) (sym end.cause) (c.in-Err.ensures.answers (subst g.V.Site.tells end.site tells));
       untouched = subst (λ (cause : Cause). Untouched old (g.V.Site.history c.end_with.result.site) cause) (sym end.cause) (subst (λ site. Untouched old (g.V.Site.history site) c.in-Err.cause) (sym end.site) c.in-Err.ensures.untouched);
+      refused = λ tells refused.
+          let told = subst g.V.Site.tells end.site tells in
+          record {
+            syncs = subst (λ site. OnlySyncs old (g.V.Site.history site)) (sym end.site) (c.in-Err.ensures.refused told refused);
+            nothing = end.trail ∙ c.none.ensures;
+          };
+      settles_nothing = λ is. end.trail ∙ c.none.ensures;
       headline = λ tells job asks entries begin keeps given.
           let old = g.V.Site.history c.args.site in
           let site_is = c.end_with.ensures.site in
           let told = subst g.V.Site.tells site_is tells in
           inr (record {
+            early = subst IsEarlyCause (sym c.end_with.ensures.cause) c.in-Err.ensures.early;
             nothing = c.end_with.ensures.trail ∙ c.none.ensures;
             opening = subst (λ site. Always (IsOpening job entries old) old (g.V.Site.history site)) (sym site_is) (c.in-Err.ensures.opens told job asks entries begin keeps given);
           });

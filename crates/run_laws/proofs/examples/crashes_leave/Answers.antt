@@ -11,6 +11,7 @@ pub returns-clause-empty : goal.returns-clause-empty
 unfolding header_at entries_from
 returns-clause-empty c = λ flows. record {
   going = [];
+  kept = refl;
   stands = record { entries = []; kept = refl; state = fresh 0; all = refl; legal = refl };
   writing = inl refl;
   given = tt;

@@ -1,0 +1,6 @@
+pub mod LogsKept
+pub mod Moves
+pub mod Orders
+pub mod Places
+pub mod Ready
+pub mod Stillness

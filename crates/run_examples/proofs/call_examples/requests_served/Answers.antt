@@ -1,0 +1,89 @@
+use Rattle.std.proofs.Common.{◌≡◌, true, false, ℕ, [], ◌∷◌, ◌++◌, List, Some, None, codes, refl, sym, ◌∙◌, ap, subst, arith}
+use Rattle.std.proofs.lemmas.List.Elements.{All-from_recursion}
+use Rattle.dura_model.specs.Legal.{Quiet, is_due}
+use Rattle.dura_model.specs.Partition.{fresh}
+use Rattle.dura_model.specs.World.{World, empty}
+use Rattle.dura_value.specs.Messages.{Message}
+use Rattle.engine_run.specs.Order.{no_later}
+use Rattle.engine_run.specs.Served.{has_answer, first_open, IsServed, IsFirstOpen}
+use Rattle.part_files.specs.Examples.{request}
+use Rattle.part_files.specs.Stands.{shown_by}
+use Rattle.request_reader.specs.Line.{Request}
+use Rattle.run_examples.specs.Calls.{no_flows, starting, rules_for, answered}
+use Rattle.run_examples.proofs.call_examples.requests_served.Goals as goal
+
+nobody_asks : (before : List Message) (r : Message) (behind : List Message) → [] ≡ before ++ r ∷ behind → ⊥
+nobody_asks [] r behind is = cc is
+nobody_asks (first ∷ before) r behind is = cc is
+
+-- nothing is left where nobody asks and nothing happened
+nothing_left : (w : World) → Quiet no_flows [] w → IsServed (rules_for []) w
+nothing_left w quiet = record { quiet = quiet; answered = All-from_recursion (λ (r : Request). has_answer w r.client r ≡ true) [] tt }
+
+quiet_at_first : Quiet no_flows [] empty
+quiet_at_first = record {
+  delivered = λ from to stamp. refl;
+  finished = λ id task. refl;
+  fired = λ id task. refl;
+  asked = λ before r behind is. absurd (nobody_asks before r behind is);
+}
+
+-- a request that was taken isn't due
+not_due : (before : List Message) (r : Message) (behind : List Message) → request ∷ [] ≡ before ++ r ∷ behind → is_due answered before r ≡ false
+not_due [] r behind is = let same : request ≡ r = cc is in subst (λ (m : Message). is_due answered [] m ≡ false) same refl
+not_due (first ∷ before) r behind is = let rest : [] ≡ before ++ r ∷ behind = cc is in absurd (nobody_asks before r behind rest)
+
+-- the one request is open
+waits_for_one : IsFirstOpen (rules_for (starting ∷ [])) empty (codes "a") 1
+waits_for_one = record {
+  request = starting;
+  unanswered = refl;
+  number_is = refl;
+  first = All-from_recursion (λ other. (r : Request) → first_open (rules_for (starting ∷ [])) empty other ≡ Some r → no_later (codes "a", 1) (other, r.number) ≡ true) (codes "a" ∷ [])
+      ((λ r is. let same : starting ≡ r = cc is in ap (λ (x : Request). no_later (codes "a", 1) (codes "a", x.number)) (sym same)), tt);
+}
+
+pub returns-clause-nobody : goal.returns-clause-nobody
+returns-clause-nobody c = nothing_left empty quiet_at_first
+
+pub returns-clause-answered : goal.returns-clause-answered
+returns-clause-answered c = record {
+  quiet = record { delivered = λ from to stamp. refl; finished = λ id task. refl; fired = λ id task. refl; asked = not_due };
+  answered = All-from_recursion (λ (r : Request). has_answer answered r.client r ≡ true) (starting ∷ []) (refl, tt);
+}
+
+pub returns-clause-not_answered : goal.returns-clause-not_answered
+returns-clause-not_answered c = λ served. let wrong : false ≡ true = served.answered 0 starting (omega arith) in cc wrong
+
+pub returns-clause-waits : goal.returns-clause-waits
+returns-clause-waits c = waits_for_one
+
+pub returns-clause-other_number : goal.returns-clause-other_number
+returns-clause-other_number c = λ waits.
+    let same : starting ≡ waits.request = cc waits.unanswered in
+    let number : 2 ≡ 1 = waits.number_is ∙ ap (λ (r : Request). r.number) (sym same) in
+    omega (arith, number)
+
+pub returns-clause-another_before : goal.returns-clause-another_before
+returns-clause-another_before c = λ waits. let wrong : false ≡ true = waits.first 0 (codes "a") (omega arith) starting refl in cc wrong
+
+pub returns-clause-none_open : goal.returns-clause-none_open
+returns-clause-none_open c = λ number waits. cc waits.unanswered
+
+pub returns-clause-done : goal.returns-clause-done
+returns-clause-done c = (
+  fresh 0,
+  refl,
+  nothing_left (shown_by no_flows (fresh 0)) (record {
+    delivered = λ from to stamp. refl;
+    finished = λ id task. refl;
+    fired = λ id task. refl;
+    asked = λ before r behind is. absurd (nobody_asks before r behind is);
+  }),
+)
+
+pub returns-clause-not_done : goal.returns-clause-not_done
+returns-clause-not_done c = λ served.
+    let same : fresh 0 ≡ served.0 = cc served.1 in
+    let wrong : false ≡ true = ap (λ p. has_answer (shown_by no_flows p) (codes "a") starting) same ∙ served.2.answered 0 starting (omega arith) in
+    cc wrong

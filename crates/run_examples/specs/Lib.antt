@@ -1,0 +1,4 @@
+pub mod Calls
+pub mod Directories
+pub mod LivesSeen
+pub mod States

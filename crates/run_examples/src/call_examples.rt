@@ -1,0 +1,170 @@
+//! Examples of what a call's clauses say.
+
+ghost use Rattle.std.specs.Prelude.{◌≡◌, ℕ, List, [], ◌∷◌, codes, slice_set};
+ghost use Rattle.dura_model.specs.Partition.{Partition, fresh};
+ghost use Rattle.dura_model.specs.World.{empty};
+ghost use Rattle.dura_value.specs.Items.{Entry};
+ghost use Rattle.engine_run.specs.Asked.{IsRequest, IsTaken};
+ghost use Rattle.engine_run.specs.Causes.{AsksFor, Answers, Untouched};
+ghost use Rattle.engine_run.specs.Ends.{AreAllSaid, IsFirstUnsaid, SaysWhole, RunEndsAs};
+ghost use Rattle.run_examples.specs.Calls.{nothing_asked, one_asked, no_flows, starting, waiting, second, third, unsaid, two_unsaid, all_said, settled_once, ended_twice, rules_for, asking_too, held_back, out_of_turn, answered};
+ghost use Rattle.engine_run.specs.Headline.{IsOrderly, EndsEarly, RunsOn};
+ghost use Rattle.engine_run.specs.Served.{IsServed, IsFirstOpen, Awaits, HasServed};
+ghost use Rattle.engine_run.specs.Job.{Keeps};
+ghost use Rattle.engine_run.specs.Kept.{IsClash, NoClash};
+ghost use Rattle.engine_run.specs.Opened.{IsOpening};
+ghost use Rattle.engine_run.specs.Showing.{ShowsAs, WritesNothing};
+ghost use Rattle.flow_syntax.specs.Syntax.{Flows};
+ghost use Rattle.hub_store.specs.Examples.{MayFollow, MaySay, nowhere, settled_when, speaking, spoken};
+ghost use Rattle.hub_store.specs.Origin.{Origin};
+ghost use Rattle.hub_store.specs.Trail.{Settled};
+ghost use Rattle.part_files.specs.Examples.{two_files, empty_log, taking, request_taken};
+ghost use Rattle.part_files.specs.Stands.{shown_by};
+ghost use Rattle.run_causes.specs.declared.cause.Cause.TheVariants as causes;
+ghost use Rattle.run_causes.specs.declared.cause.FlowsFault.TheVariants as faults;
+ghost use Rattle.run_causes.specs.declared.cause.PlanPlace.TheVariants as places;
+ghost use Rattle.run_inputs.specs.Examples.{three_files, good_files};
+ghost use Rattle.run_laws.specs.Requests.{KeepsRequests, AnswersTaken};
+ghost use Rattle.run_rules.specs.Rules.{Rules};
+ghost use Rattle.site_model.specs.History.{Step, on, said, synced, wrote};
+
+/// Files ask for what they hold, and for nothing else.
+pub fn files_ask()
+    ensures held { AsksFor good_files one_asked }
+    ensures no_request { AsksFor good_files (record one_asked { requests = [] }) → ⊥ }
+    ensures other_digest { AsksFor good_files (record one_asked { digest = 0 }) → ⊥ }
+{}
+
+/// A log without entries keeps none, where nothing happened: not under another digest, not where a byte is another, and no entry more.
+pub fn logs_keep()
+    ensures none { Keeps nothing_asked (two_files empty_log []) [] (fresh 0) }
+    ensures damaged { (entries : List Entry) (state : Partition) → Keeps nothing_asked (two_files (slice_set empty_log 3 0) []) entries state → ⊥ }
+    ensures other_digest { (entries : List Entry) (state : Partition) → Keeps (record nothing_asked { digest = 0 }) (two_files empty_log []) entries state → ⊥ }
+    ensures one_more { (state : Partition) → Keeps nothing_asked (two_files empty_log []) (taking 0 ∷ []) state → ⊥ }
+{}
+
+/// A request clashes where another was taken under its client's name and its number: not where none was, nor where it was itself.
+pub fn requests_clash()
+    ensures other { IsClash request_taken (waiting ∷ []) (codes "a") 1 }
+    ensures not_taken { NoClash (fresh 0) (waiting ∷ []) }
+    ensures same { NoClash request_taken (starting ∷ []) }
+    ensures others_clash { NoClash request_taken (waiting ∷ []) → ⊥ }
+    ensures none_clashes { (name : List ℕ) (number : ℕ) → IsClash (fresh 0) (waiting ∷ []) name number → ⊥ }
+{}
+
+/// A refusal of an input leaves all as it was. One of the logs may have synced them, and wrote nothing.
+pub fn refusals_touch_nothing()
+    ensures input { Untouched [] [] (causes.BadPlan places.Whole) }
+    ensures synced { Untouched [] (on 16 synced ∷ []) (causes.BadPlan places.Whole) → ⊥ }
+    ensures log { Untouched [] (on 16 synced ∷ []) (causes.Damaged 16 3) }
+    ensures written { Untouched [] (on 16 (wrote 0 1 (0 ∷ [])) ∷ []) (causes.Damaged 16 3) → ⊥ }
+{}
+
+/// A call isn't ended by words that were wrong once it reads files, nor by another fault of them than theirs.
+pub fn causes_of_files()
+    ensures theirs { Answers (three_files (codes "{}") [] (codes "{}")) (causes.BadPlan places.Whole) }
+    ensures other { Answers (three_files (codes "{}") [] (codes "{}")) (causes.BadFlows faults.NotJson) → ⊥ }
+    ensures usage { (files : ℕ → List ℕ) → Answers files causes.Usage → ⊥ }
+    ensures waiting { Answers (three_files (codes "{}") [] (codes "{}")) (causes.Waiting (codes "a") 1) → ⊥ }
+{}
+
+/// Before the logs are opened nothing is said. Where nothing happened nothing was settled.
+pub fn calls_open()
+    ensures silent { IsOpening nothing_asked [] [] [] }
+    ensures spoken { IsOpening nothing_asked [] [] (said 97 ∷ []) → ⊥ }
+    ensures other_file { IsOpening nothing_asked [] [] (on 3 synced ∷ []) → ⊥ }
+    ensures damaged { IsOpening nothing_asked [] [] (on 16 (wrote 0 2 (0xC3 ∷ 0 ∷ [])) ∷ []) → ⊥ }
+    ensures nothing { EndsEarly nothing_asked [] [] [] [] causes.Memory }
+    ensures settled { EndsEarly nothing_asked [] [] [] settled_once causes.Memory → ⊥ }
+    ensures late { EndsEarly nothing_asked [] [] [] [] causes.Done → ⊥ }
+    ensures spoken_early { EndsEarly nothing_asked [] [] (said 97 ∷ []) [] causes.Memory → ⊥ }
+{}
+
+/// Whether a client waits for an answer, and for which.
+pub fn answers_unsaid()
+    ensures all { AreAllSaid all_said (codes "a" ∷ []) }
+    ensures one { IsFirstUnsaid unsaid (codes "a" ∷ []) (codes "a") 1 }
+    ensures not_all { AreAllSaid unsaid (codes "a" ∷ []) → ⊥ }
+    ensures other_number { IsFirstUnsaid unsaid (codes "a" ∷ []) (codes "a") 2 → ⊥ }
+    ensures another_before { IsFirstUnsaid two_unsaid (codes "a" ∷ codes "b" ∷ []) (codes "b") 1 → ⊥ }
+    ensures none { (number : ℕ) → IsFirstUnsaid all_said (codes "a" ∷ []) (codes "a") number → ⊥ }
+{}
+
+/// A run ends with as many labels as may be, and as were settled: with no other number, with no fewer, not where nothing is left to do,
+/// and by no cause of its input.
+pub fn runs_end()
+    ensures labels { (latest : ℕ) → RunEndsAs (rules_for (starting ∷ [])) latest nowhere [] [] 0 100 (causes.Long 0) }
+    ensures at_rest { (latest : ℕ) → RunEndsAs (rules_for []) latest nowhere [] [] 0 100 (causes.Long 0) → ⊥ }
+    ensures left { HasServed (rules_for (starting ∷ [])) [] (causes.Long 0) }
+    ensures none_left { HasServed (rules_for []) [] (causes.Full 0 100) → ⊥ }
+    ensures other_number { (rules : Rules) (latest : ℕ) (o : Origin) (steps : List Step) → RunEndsAs rules latest o steps [] 0 100 (causes.Long 3) → ⊥ }
+    ensures too_few { (rules : Rules) (latest : ℕ) (o : Origin) (steps : List Step) → RunEndsAs rules latest o steps [] 1 100 (causes.Long 0) → ⊥ }
+    ensures input { (begin : Partition) (steps : List Step) (trail : List Settled) (latest : ℕ) → RunsOn nothing_asked [] begin [] steps trail 1 100 latest causes.Usage → ⊥ }
+{}
+
+/// The run in which nothing happens is orderly; one in which a task is ended twice isn't.
+pub fn runs_in_order()
+    ensures empty { (flows : Flows) → IsOrderly flows [] }
+    ensures twice { (flows : Flows) → IsOrderly flows ended_twice → ⊥ }
+{}
+
+/// To show what is there writes nothing. With a fault of the disk nothing was shown, and no request is waited for.
+pub fn shows()
+    ensures nothing { WritesNothing [] [] }
+    ensures synced { WritesNothing [] (on 16 synced ∷ []) }
+    ensures written { WritesNothing [] (on 16 (wrote 0 1 (0 ∷ [])) ∷ []) → ⊥ }
+    ensures fault { (files : ℕ → List ℕ) → ShowsAs files [] [] causes.SiteFault }
+    ensures shown { (files : ℕ → List ℕ) → ShowsAs files [] (97 ∷ []) causes.SiteFault → ⊥ }
+    ensures waiting { (files : ℕ → List ℕ) (number : ℕ) → ShowsAs files [] [] (causes.Waiting (codes "a") number) → ⊥ }
+{}
+
+/// A request is its client's under its number, and under no other. What is due of a client was taken, or it wasn't.
+pub fn requests_taken()
+    ensures request { IsRequest starting }
+    ensures other_number { IsRequest (record starting { number = 2 }) → ⊥ }
+    ensures other_client { IsRequest (record starting { client = codes "b" }) → ⊥ }
+    ensures taken { IsTaken request_taken unsaid (codes "a") }
+    ensures not_taken { IsTaken (fresh 0) unsaid (codes "a") → ⊥ }
+    ensures none_due { IsTaken (fresh 0) all_said (codes "a") }
+{}
+
+/// A run may end within a line only where saying failed.
+pub fn lines_whole()
+    ensures whole { SaysWhole MayFollow MaySay nowhere spoken (settled_when 0) causes.Memory }
+    ensures half { SaysWhole MayFollow MaySay nowhere speaking (settled_when 0) causes.Memory → ⊥ }
+    ensures failed { SaysWhole MayFollow MaySay nowhere speaking (settled_when 0) causes.SayFault }
+{}
+
+/// Where nobody asks all is served, and where who asked was answered; else the first request without an answer is waited for, under its
+/// number, unless another one comes before it.
+pub fn requests_served()
+    ensures nobody { IsServed (rules_for []) empty }
+    ensures answered { IsServed (rules_for (starting ∷ [])) answered }
+    ensures not_answered { IsServed (rules_for (starting ∷ [])) empty → ⊥ }
+    ensures waits { IsFirstOpen (rules_for (starting ∷ [])) empty (codes "a") 1 }
+    ensures other_number { IsFirstOpen (rules_for (starting ∷ [])) empty (codes "a") 2 → ⊥ }
+    ensures another_before { IsFirstOpen (rules_for (starting ∷ asking_too ∷ [])) empty (codes "b") 1 → ⊥ }
+    ensures none_open { (number : ℕ) → IsFirstOpen (rules_for (starting ∷ [])) answered (codes "a") number → ⊥ }
+    ensures done { HasServed (rules_for []) [] causes.Done }
+    ensures not_done { HasServed (rules_for (starting ∷ [])) [] causes.Done → ⊥ }
+{}
+
+/// A run waits for an answer only where nothing is left to do: where the client's next request is due it doesn't wait. That one is due
+/// once each in front of it was answered, and not yet once the last of them was.
+pub fn runs_wait()
+    ensures unanswered { Awaits (rules_for (starting ∷ [])) (shown_by no_flows held_back) (codes "a") 1 }
+    ensures due { (number : ℕ) → Awaits (rules_for (starting ∷ [])) empty (codes "a") number → ⊥ }
+    ensures out_of_turn { Awaits (rules_for (starting ∷ second ∷ third ∷ [])) out_of_turn (codes "a") 1 }
+    ensures in_turn { (number : ℕ) → Awaits (rules_for (starting ∷ third ∷ [])) answered (codes "a") number → ⊥ }
+    ensures waiting { HasServed (record (rules_for (starting ∷ [])) { begin = held_back }) [] (causes.Waiting (codes "a") 1) }
+    ensures not_waiting { HasServed (rules_for []) [] (causes.Waiting (codes "a") 1) → ⊥ }
+    ensures still_due { HasServed (rules_for (starting ∷ [])) [] (causes.Waiting (codes "a") 1) → ⊥ }
+{}
+
+/// A request that was taken stays so, and one that was answered; and only what was taken is answered.
+pub fn requests_stay()
+    ensures same { KeepsRequests request_taken request_taken }
+    ensures lost { KeepsRequests request_taken (fresh 0) → ⊥ }
+    ensures taken { AnswersTaken request_taken }
+    ensures not_taken { AnswersTaken (record (fresh 0) { answers = answered.answers }) → ⊥ }
+{}

@@ -1,0 +1,12 @@
+//! Definitions that clauses of the state and of the call cite, from both sides: for each an example that has it, and one that hasn't.
+//! They are said of the definitions alone: the functions do nothing.
+//!
+//! - `state_examples`: definitions of a partition's state (`part_steps`).
+//! - `call_examples`: those of the call (`engine_run`); `refusal_examples`: what its files held, and why they are refused;
+//!   `life_examples`: calls one after another.
+#![tactic(auto)]
+
+mod call_examples;
+mod life_examples;
+mod refusal_examples;
+mod state_examples;

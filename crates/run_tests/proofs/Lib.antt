@@ -1,4 +1,0 @@
-pub mod Moves
-pub mod Orders
-pub mod Places
-pub mod Stillness
