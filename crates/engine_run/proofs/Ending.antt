@@ -1,14 +1,16 @@
 -- Why rounds end.
-use Rattle.std.proofs.Common.{max, ◌≡◌, ◌≢◌, ◌<◌, ◌≤◌, ℕ, List, [], ◌∷◌, Result, Err, get_or, refl, sym, ◌∙◌, ap, subst, arith}
+use Rattle.std.proofs.Common.{max, ◌≡◌, ◌≢◌, ◌<◌, ◌≤◌, ◌^◌, ℕ, List, [], ◌∷◌, Result, Err, get_or, refl, sym, ◌∙◌, ap, subst, arith}
 use Rattle.std.specs.List.{All}
 use Rattle.client_port.specs.Clients.{clients_of}
 use Rattle.client_port.specs.Ports.{Queue}
+use Rattle.command_words.specs.declared.words.RunOptions.{RunOptions}
 use Rattle.commit_log.specs.Segment.{reading_of}
 use Rattle.commit_log.proofs.Written.{reads_closed}
 use Rattle.dura_model.specs.Partition.{Partition, enter}
 use Rattle.dura_value.specs.Items.{Entry}
-use Rattle.engine_run.specs.Ends.{AreAllSaid, IsFirstUnsaid, IsAtRest, WouldFill, EndsAs, IsRestCause, IsLateCause, cause_of_stop}
+use Rattle.engine_run.specs.Ends.{AreAllSaid, IsFirstUnsaid, IsAtRest, WouldFill, EndsAs, IsRestCause, IsLateCause, IsWanting, cause_of_stop}
 use Rattle.engine_run.specs.Asked.{IsRequest}
+use Rattle.engine_run.specs.Prepared.{IsEarlyCause}
 use Rattle.engine_run.proofs.FileAsked.{due_taken}
 use Rattle.engine_run.proofs.Quieted.{quiet_behind}
 use Rattle.hub_store.specs.Moments.{StandsWith}
@@ -18,7 +20,7 @@ use Rattle.hub_store.specs.Ways.{LogFits}
 use Rattle.hub_store.specs.declared.way.Way.{Way}
 use Rattle.hub_store.specs.declared.way.Way.TheVariants.{Resting, Bodied, Synced, Gated, Broken, Away}
 use Rattle.part_rounds.specs.Comes.{Entered, IsOver}
-use Rattle.part_rounds.specs.Commits.{IsFull}
+use Rattle.part_rounds.specs.Commits.{IsFull, IsSpent}
 use Rattle.part_rounds.specs.Rounds.{pairs_of, HasSaid}
 use Rattle.hub_store.specs.declared.stop.Stop.{Stop}
 use Rattle.hub_store.specs.declared.stop.Stop.TheVariants as stops
@@ -52,35 +54,36 @@ module _ (MayFollow : List Settled → List Said → ℕ → List Entry → Type
       }
 
   -- rounds that end where nothing is possible
-  pub rest_ends : (queues : List Queue) (clients : List (List ℕ)) (most_labels segment_length : ℕ) (cause : Cause) → IsAtRest MayFollow MaySay rules latest o steps trail queues → clients ≡ clients_of rules.requests → IsRestCause queues clients cause
-      → EndsAs MayFollow MaySay rules latest o steps trail most_labels segment_length cause
-  rest_ends queues clients most_labels segment_length Done rest names is = (queues, rest, subst (AreAllSaid queues) names is)
-  rest_ends queues clients most_labels segment_length (Waiting client number) rest names is = (queues, rest, subst (λ (l : List (List ℕ)). IsFirstUnsaid queues l client number) names is)
-  rest_ends queues clients most_labels segment_length (Long labels) rest names is = absurd is
-  rest_ends queues clients most_labels segment_length (Full partition length_then) rest names is = absurd is
-  rest_ends queues clients most_labels segment_length SiteFault rest names is = absurd is
-  rest_ends queues clients most_labels segment_length SayFault rest names is = absurd is
-  rest_ends queues clients most_labels segment_length ClockFault rest names is = absurd is
-  rest_ends queues clients most_labels segment_length Memory rest names is = absurd is
-  rest_ends queues clients most_labels segment_length Usage rest names is = absurd is
-  rest_ends queues clients most_labels segment_length (BadFlows fault) rest names is = absurd is
-  rest_ends queues clients most_labels segment_length (BadRequests line) rest names is = absurd is
-  rest_ends queues clients most_labels segment_length (Clash client number) rest names is = absurd is
-  rest_ends queues clients most_labels segment_length (BadPlan place) rest names is = absurd is
-  rest_ends queues clients most_labels segment_length (TooLong file) rest names is = absurd is
-  rest_ends queues clients most_labels segment_length (Damaged file offset) rest names is = absurd is
-  rest_ends queues clients most_labels segment_length (Illegal partition position) rest names is = absurd is
-  rest_ends queues clients most_labels segment_length (Unclosed partition position src seq) rest names is = absurd is
-  rest_ends queues clients most_labels segment_length (OtherShape found asked) rest names is = absurd is
-  rest_ends queues clients most_labels segment_length (OtherFlows found given) rest names is = absurd is
-  rest_ends queues clients most_labels segment_length (Spent partition number) rest names is = absurd is
+  pub rest_ends : (queues : List Queue) (clients : List (List ℕ)) (options : RunOptions) (cause : Cause) → IsAtRest MayFollow MaySay rules latest o steps trail queues → clients ≡ clients_of rules.requests → IsRestCause queues clients cause
+      → EndsAs MayFollow MaySay rules latest o steps trail options cause
+  rest_ends queues clients options Done rest names is = (queues, rest, subst (AreAllSaid queues) names is)
+  rest_ends queues clients options (Waiting client number) rest names is = (queues, rest, subst (λ (l : List (List ℕ)). IsFirstUnsaid queues l client number) names is)
+  rest_ends queues clients options (Long labels) rest names is = absurd is
+  rest_ends queues clients options (Full partition length_then) rest names is = absurd is
+  rest_ends queues clients options SiteFault rest names is = absurd is
+  rest_ends queues clients options SayFault rest names is = absurd is
+  rest_ends queues clients options ClockFault rest names is = absurd is
+  rest_ends queues clients options Memory rest names is = absurd is
+  rest_ends queues clients options Usage rest names is = absurd is
+  rest_ends queues clients options (BadFlows fault) rest names is = absurd is
+  rest_ends queues clients options (BadRequests line) rest names is = absurd is
+  rest_ends queues clients options (Clash client number) rest names is = absurd is
+  rest_ends queues clients options (BadPlan place) rest names is = absurd is
+  rest_ends queues clients options (TooLong file) rest names is = absurd is
+  rest_ends queues clients options (Damaged file offset) rest names is = absurd is
+  rest_ends queues clients options (Illegal partition position) rest names is = absurd is
+  rest_ends queues clients options (Unclosed partition position src seq) rest names is = absurd is
+  rest_ends queues clients options (OtherShape found asked) rest names is = absurd is
+  rest_ends queues clients options (OtherFlows found given) rest names is = absurd is
+  rest_ends queues clients options (Spent partition number) rest names is = absurd is
 
   -- the next entry doesn't fit
-  pub would_fill : (was : ℕ) → was ≤ latest → (segment_length : ℕ) (way : Way) (partition length_then : ℕ) → 0 < segment_length → IsFull rules was (of_part 0 trail) (pairs_of told) segment_length way partition length_then
-      → LogFits (o.logs 0) (of_part 0 trail) (changes_of (o.logs 0).file steps) way → WouldFill rules latest o steps trail segment_length length_then
-  would_fill was above segment_length (Resting log) partition length_then some full fits = record {
-    told = told;
+  pub would_fill : (was : ℕ) → was ≤ latest → (options : RunOptions) (way : Way) (partition length_then : ℕ) → 0 < options.segment → IsFull rules options.batch was (of_part 0 trail) (pairs_of told) options.segment way partition length_then
+      → LogFits (o.logs 0) (of_part 0 trail) (changes_of (o.logs 0).file steps) way → WouldFill rules latest o steps trail told options length_then
+  would_fill was above options (Resting log) partition length_then some full fits = record {
     entry = full.entry;
+    some = full.some;
+    few = full.few;
     follows = follows_later rules was latest (of_part 0 trail) (full.entry ∷ []) (pairs_of told) above full.follows;
     header = (o.logs 0).header;
     payloads = fits.payloads;
@@ -89,24 +92,28 @@ module _ (MayFollow : List Settled → List Said → ℕ → List Entry → Type
     length_is = full.length_is;
     reaches = full.reaches;
   }
-  would_fill was above segment_length (Bodied log frame) partition length_then some full fits = absurd (omega (arith, some, full.reaches, full.length_is))
-  would_fill was above segment_length (Synced log frame) partition length_then some full fits = absurd (omega (arith, some, full.reaches, full.length_is))
-  would_fill was above segment_length (Gated log frame) partition length_then some full fits = absurd (omega (arith, some, full.reaches, full.length_is))
-  would_fill was above segment_length (Broken log frame) partition length_then some full fits = absurd (omega (arith, some, full.reaches, full.length_is))
-  would_fill was above segment_length Away partition length_then some full fits = absurd (omega (arith, some, full.reaches, full.length_is))
+  would_fill was above options (Bodied log frame) partition length_then some full fits = absurd (omega (arith, some, full.reaches, full.length_is))
+  would_fill was above options (Synced log frame) partition length_then some full fits = absurd (omega (arith, some, full.reaches, full.length_is))
+  would_fill was above options (Gated log frame) partition length_then some full fits = absurd (omega (arith, some, full.reaches, full.length_is))
+  would_fill was above options (Broken log frame) partition length_then some full fits = absurd (omega (arith, some, full.reaches, full.length_is))
+  would_fill was above options Away partition length_then some full fits = absurd (omega (arith, some, full.reaches, full.length_is))
 
   -- rounds that stop
-  pub stop_ends : (was : ℕ) → was ≤ latest → (most_labels segment_length : ℕ) (way : Way) (stop : Stop) → 0 < segment_length
-      → ((partition length_then : ℕ) → stop ≡ stops.Full partition length_then → IsFull rules was (of_part 0 trail) (pairs_of told) segment_length way partition length_then)
+  pub stop_ends : (was : ℕ) → was ≤ latest → (options : RunOptions) (way : Way) (stop : Stop) → 0 < options.segment
+      → ((partition length_then : ℕ) → stop ≡ stops.Full partition length_then → IsFull rules options.batch was (of_part 0 trail) (pairs_of told) options.segment way partition length_then)
+      → ((partition number : ℕ) → stop ≡ stops.Spent partition number → IsSpent rules (of_part 0 trail) (pairs_of told) partition number)
       → LogFits (o.logs 0) (of_part 0 trail) (changes_of (o.logs 0).file steps) way → (stop ≢ stops.SayFault → StandsWith MayFollow MaySay o steps trail told []) → All IsRequest rules.requests
-      → EndsAs MayFollow MaySay rules latest o steps trail most_labels segment_length (cause_of_stop stop)
-  stop_ends was above most_labels segment_length way (stops.Full partition length_then) some full fits stands asked =
+      → EndsAs MayFollow MaySay rules latest o steps trail options (cause_of_stop stop)
+  stop_ends was above options way (stops.Full partition length_then) some full spent fits stands asked =
       let is = full partition length_then refl in
-      (is.alone, would_fill was above segment_length way partition length_then some is fits, record { told = told; stands = stands (λ same. cc same); further = is.further; asked = asked })
-  stop_ends was above most_labels segment_length way stops.SiteFault some full fits stands asked = tt
-  stop_ends was above most_labels segment_length way stops.SayFault some full fits stands asked = tt
-  stop_ends was above most_labels segment_length way stops.ClockFault some full fits stands asked = tt
-  stop_ends was above most_labels segment_length way stops.Memory some full fits stands asked = tt
+      (is.alone, (record { told = told; stands = stands (λ same. cc same); further = is.further; asked = asked }, would_fill was above options way partition length_then some is fits))
+  stop_ends was above options way (stops.Spent partition number) some full spent fits stands asked =
+      let is = spent partition number refl in
+      (is.alone, record { before = is.before; made = is.made; number_is = is.number_is; reaches = is.reaches }, record { told = told; stands = stands (λ same. cc same); further = is.further; asked = asked })
+  stop_ends was above options way stops.SiteFault some full spent fits stands asked = tt
+  stop_ends was above options way stops.SayFault some full spent fits stands asked = tt
+  stop_ends was above options way stops.ClockFault some full spent fits stands asked = tt
+  stop_ends was above options way stops.Memory some full spent fits stands asked = tt
 
 -- rounds that stop for another cause stopped for another reason
 pub other_stop : {X : Type 0} (stop : Stop) → cause_of_stop stop ≢ SayFault → (result : Result X Stop) → result ≡ Err stop → result ≢ Err stops.SayFault
@@ -136,16 +143,18 @@ rest_late queues clients (Full partition length_then) is = absurd is
 rest_late queues clients (Spent partition number) is = absurd is
 
 -- a cause of rounds that stop is a late one
-pub stop_late : (stop : Stop) → IsLateCause (cause_of_stop stop)
-stop_late (stops.Full partition length_then) = tt
-stop_late stops.SiteFault = tt
-stop_late stops.SayFault = tt
-stop_late stops.ClockFault = tt
-stop_late stops.Memory = tt
+pub stop_late : (stop : Stop) → ((partition number : ℕ) → stop ≡ stops.Spent partition number → (partition ≡ 0) × (2 ^ 62 ≤ number)) → IsLateCause (cause_of_stop stop)
+stop_late (stops.Full partition length_then) spent = tt
+stop_late (stops.Spent partition number) spent = spent partition number refl
+stop_late stops.SiteFault spent = tt
+stop_late stops.SayFault spent = tt
+stop_late stops.ClockFault spent = tt
+stop_late stops.Memory spent = tt
 
 -- a fault stops rounds alone that is why they stop
 pub site_stop : (stop : Stop) → cause_of_stop stop ≡ SiteFault → stop ≡ stops.SiteFault
 site_stop (stops.Full partition length_then) is = absurd (cc is)
+site_stop (stops.Spent partition number) is = absurd (cc is)
 site_stop stops.SiteFault is = refl
 site_stop stops.SayFault is = absurd (cc is)
 site_stop stops.ClockFault is = absurd (cc is)
@@ -153,6 +162,7 @@ site_stop stops.Memory is = absurd (cc is)
 
 pub say_stop : (stop : Stop) → cause_of_stop stop ≡ SayFault → stop ≡ stops.SayFault
 say_stop (stops.Full partition length_then) is = absurd (cc is)
+say_stop (stops.Spent partition number) is = absurd (cc is)
 say_stop stops.SiteFault is = absurd (cc is)
 say_stop stops.SayFault is = refl
 say_stop stops.ClockFault is = absurd (cc is)
@@ -160,6 +170,7 @@ say_stop stops.Memory is = absurd (cc is)
 
 pub clock_stop : (stop : Stop) → cause_of_stop stop ≡ ClockFault → stop ≡ stops.ClockFault
 clock_stop (stops.Full partition length_then) is = absurd (cc is)
+clock_stop (stops.Spent partition number) is = absurd (cc is)
 clock_stop stops.SiteFault is = absurd (cc is)
 clock_stop stops.SayFault is = absurd (cc is)
 clock_stop stops.ClockFault is = refl
@@ -174,6 +185,38 @@ memory_no_say cause is also = absurd (cc (is, also))
 
 pub memory_no_clock : (cause : Cause) → cause ≡ Memory → cause ≡ ClockFault → ⊥
 memory_no_clock cause is also = absurd (cc (is, also))
+
+-- why a run that doesn't go on at all ends early, for no fault
+pub wanting_early : (place : ℕ) (cause : Cause) → IsWanting place cause → IsEarlyCause cause
+wanting_early place Memory wanting = tt
+wanting_early place (Spent partition number) wanting = tt
+wanting_early place Done wanting = wanting
+wanting_early place Usage wanting = wanting
+wanting_early place (BadFlows fault) wanting = absurd wanting
+wanting_early place (BadRequests line) wanting = absurd wanting
+wanting_early place (Clash client number) wanting = absurd wanting
+wanting_early place (BadPlan at) wanting = absurd wanting
+wanting_early place (TooLong file) wanting = absurd wanting
+wanting_early place (Waiting client number) wanting = wanting
+wanting_early place (Long labels) wanting = wanting
+wanting_early place SiteFault wanting = absurd wanting
+wanting_early place SayFault wanting = wanting
+wanting_early place ClockFault wanting = wanting
+wanting_early place (Damaged file offset) wanting = absurd wanting
+wanting_early place (Illegal partition position) wanting = absurd wanting
+wanting_early place (Unclosed partition position src seq) wanting = wanting
+wanting_early place (OtherShape found asked) wanting = absurd wanting
+wanting_early place (OtherFlows found given) wanting = absurd wanting
+wanting_early place (Full partition length_then) wanting = wanting
+
+pub spent_no_site : (partition number : ℕ) (cause : Cause) → cause ≡ Spent partition number → cause ≡ SiteFault → ⊥
+spent_no_site partition number cause is also = absurd (cc (is, also))
+
+pub spent_no_say : (partition number : ℕ) (cause : Cause) → cause ≡ Spent partition number → cause ≡ SayFault → ⊥
+spent_no_say partition number cause is also = absurd (cc (is, also))
+
+pub spent_no_clock : (partition number : ℕ) (cause : Cause) → cause ≡ Spent partition number → cause ≡ ClockFault → ⊥
+spent_no_clock partition number cause is also = absurd (cc (is, also))
 
 -- no moment is above the clock's latest
 pub moment_above : (old new before now : ℕ) → new ≤ max old now → before ≤ now → old ≤ before → new ≤ now

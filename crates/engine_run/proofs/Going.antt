@@ -3,7 +3,7 @@ use Rattle.std.proofs.Common.{◌≡◌, ◌≤◌, ℕ, List, ◌++◌, subst}
 use Rattle.dura_model.specs.Partition.{Partition}
 use Rattle.dura_model.proofs.Outcomes.{never_twice}
 use Rattle.dura_value.specs.Items.{Entry}
-use Rattle.engine_run.specs.Ends.{SaysWhole, GoesOn, RunEndsAs}
+use Rattle.engine_run.specs.Ends.{Terms, GoesInTime, SaysWhole, GoesOn, RunEndsAs}
 use Rattle.engine_run.specs.Headline.{StandsOrderly, RunsOn}
 use Rattle.engine_run.specs.Job.{Job, Keeps, AreGivenIn}
 use Rattle.engine_run.specs.Opened.{IsOpened, OpensOnly}
@@ -40,10 +40,10 @@ in_order rules latest digest o steps trail image on = record {
 module _ (job : Job) (old steps new : List Step) (entries : List Entry) (state : Partition) (keeps : Keeps job (λ file. content_of file old) entries state) (given : AreGivenIn job entries)
     (log : Resting) (opened : IsOpened job.digest entries steps log) (opens : OpensOnly job old steps) where
   -- the rest of a run that goes on
-  pub runs_on : (life : ℕ) → life ≡ next_life entries → state.incarnation ≤ life → (trail : List Settled) (most_labels segment_length latest : ℕ) (cause : Cause)
-      → GoesOn (may_follow (rules_with job state life) latest) (may_say (rules_with job state life)) (rules_with job state life) latest (origin_with (log_in_file job.digest log.file steps state life) steps) new trail most_labels segment_length cause
-      → RunsOn job entries state old new trail most_labels segment_length latest cause
-  runs_on life life_is young trail most_labels segment_length latest cause goes =
+  pub runs_on : (life : ℕ) → life ≡ next_life entries → state.incarnation ≤ life → (trail : List Settled) (terms : Terms) (cause : Cause)
+      → GoesOn (may_follow (rules_with job state life) terms.latest) (may_say (rules_with job state life)) (rules_with job state life) terms.latest (origin_with (log_in_file job.digest log.file steps state life) steps) new trail terms cause
+      → RunsOn job entries state old new trail terms cause
+  runs_on life life_is young trail terms cause goes =
       let log_is = log_in_file job.digest log.file steps state life in
       let begins = begins_alone job entries steps log opened state keeps.made life young given in
       let opening = opens entries state keeps given in
@@ -57,12 +57,13 @@ module _ (job : Job) (old steps new : List Step) (entries : List Entry) (state :
         nothing = goes.nothing;
         by_the_end = goes.by_the_end;
         stands = λ moment low high image is.
-            subst (λ (n : ℕ). StandsOrderly (rules_with job state n) latest job.digest (origin_with log_is steps) (back_to moment new) (settled_at moment trail) image) life_is
-            (in_order (rules_with job state life) latest job.digest (origin_with log_is steps) (back_to moment new) (settled_at moment trail) image
-            (moment_stands (origin_with log_is steps) (rules_with job state life) latest job.digest begins (back_to moment new) (settled_at moment trail) image (goes.every moment low high) is));
-        every = subst (λ (n : ℕ). AtEveryMoment (may_follow (rules_with job state n) latest) (may_say (rules_with job state n)) (origin_with log_is steps) new trail) life_is goes.every;
-        whole = subst (λ (n : ℕ). SaysWhole (may_follow (rules_with job state n) latest) (may_say (rules_with job state n)) (origin_with log_is steps) new trail cause) life_is goes.whole;
-        ends = subst (λ (n : ℕ). RunEndsAs (rules_with job state n) latest (origin_with log_is steps) new trail most_labels segment_length cause) life_is goes.ends;
+            subst (λ (n : ℕ). StandsOrderly (rules_with job state n) terms.latest job.digest (origin_with log_is steps) (back_to moment new) (settled_at moment trail) image) life_is
+            (in_order (rules_with job state life) terms.latest job.digest (origin_with log_is steps) (back_to moment new) (settled_at moment trail) image
+            (moment_stands (origin_with log_is steps) (rules_with job state life) terms.latest job.digest begins (back_to moment new) (settled_at moment trail) image (goes.every moment low high) is));
+        every = subst (λ (n : ℕ). AtEveryMoment (may_follow (rules_with job state n) terms.latest) (may_say (rules_with job state n)) (origin_with log_is steps) new trail) life_is goes.every;
+        whole = subst (λ (n : ℕ). SaysWhole (may_follow (rules_with job state n) terms.latest) (may_say (rules_with job state n)) (origin_with log_is steps) new trail cause) life_is goes.whole;
+        in_time = subst (λ (n : ℕ). GoesInTime (rules_with job state n) terms trail) life_is goes.in_time;
+        ends = subst (λ (n : ℕ). RunEndsAs (rules_with job state n) terms.latest (origin_with log_is steps) new trail terms.options cause) life_is goes.ends;
         served = subst (λ (n : ℕ). HasServed (rules_with job state n) trail cause) life_is
-            (has_served (rules_with job state life) latest (origin_with log_is steps) new trail most_labels segment_length cause (answers_taken job.flows 1 0 state entries keeps.made) goes.ends);
+            (has_served (rules_with job state life) terms.latest (origin_with log_is steps) new trail terms.options cause (answers_taken job.flows 1 0 state entries keeps.made) goes.ends);
       }

@@ -187,7 +187,7 @@ module _ (flows : Flows) (digest : ℕ) (entries : List Entry) (before : List St
   }
 
   -- from then on
-  opened : (runs : RunsOn life.job own_entries first_kept.state life.old life.new life.trail life.most_labels life.segment_length life.latest life.cause) → length runs.origin.steps ≤ life.moment → CallComesTo flows digest entries life
+  opened : (runs : RunsOn life.job own_entries first_kept.state life.old life.new life.trail life.terms life.cause) → length runs.origin.steps ≤ life.moment → CallComesTo flows digest entries life
   opened runs high = record {
     more = first_kept.more ++ settled_then life;
     keep = λ image left.

@@ -1,5 +1,5 @@
 -- Why a run ends before it goes on.
-use Rattle.std.proofs.Common.{◌≡◌, ◌<◌, ◌^◌, ◌∙◌, inr, true, false, ℕ, List, Some, None, Ok, Err, sym, ap, subst, arith}
+use Rattle.std.proofs.Common.{◌≡◌, ◌<◌, ◌^◌, ◌∙◌, inr, true, false, ℕ, List, Some, None, Ok, Err, sym, ap, subst, arith, inl}
 use Rattle.std.proofs.lemmas.List.Elements.{All-contains}
 use Rattle.dura_model.specs.Partition.{Partition, fresh}
 use Rattle.dura_value.specs.Items.{Entry}
@@ -28,7 +28,7 @@ logs_refused files job (errors.Damaged file offset) asks recovers = (job, asks, 
 logs_refused files job (errors.OtherShape found asked) asks recovers = (job, asks, recovers)
 logs_refused files job (errors.OtherFlows found given) asks recovers = (job, asks, recovers)
 logs_refused files job (errors.Illegal partition position) asks recovers = (job, asks, recovers)
-logs_refused files job (errors.Spent partition number) asks recovers = (job, asks, recovers)
+logs_refused files job (errors.Spent partition number) asks recovers = inl (job, asks, recovers)
 logs_refused files job errors.SiteFault asks recovers = tt
 logs_refused files job errors.Memory asks recovers = tt
 
@@ -63,7 +63,7 @@ logs_untouched old new (Damaged file offset) is syncs = syncs
 logs_untouched old new (Illegal partition position) is syncs = syncs
 logs_untouched old new (OtherShape found asked) is syncs = syncs
 logs_untouched old new (OtherFlows found given) is syncs = syncs
-logs_untouched old new (Spent partition number) is syncs = syncs
+logs_untouched old new (Spent partition number) is syncs = tt
 logs_untouched old new Done is syncs = absurd is
 logs_untouched old new Usage is syncs = absurd is
 logs_untouched old new (BadFlows fault) is syncs = absurd is
@@ -100,7 +100,7 @@ late_answers files (Illegal partition position) is ready = absurd is
 late_answers files (Unclosed partition position src seq) is ready = absurd is
 late_answers files (OtherShape found asked) is ready = absurd is
 late_answers files (OtherFlows found given) is ready = absurd is
-late_answers files (Spent partition number) is ready = absurd is
+late_answers files (Spent partition number) is ready = inr (ready, is.0, is.1)
 
 pub late_untouched : (old new : List Step) (cause : Cause) → IsLateCause cause → Untouched old new cause
 late_untouched old new Done is = tt
@@ -122,7 +122,7 @@ late_untouched old new (OtherShape found asked) is = absurd is
 late_untouched old new (OtherFlows found given) is = absurd is
 late_untouched old new Memory is = tt
 late_untouched old new (Full partition length) is = tt
-late_untouched old new (Spent partition number) is = absurd is
+late_untouched old new (Spent partition number) is = tt
 
 -- ---- files that are accepted
 

@@ -5,6 +5,7 @@ use Rattle.std.specs.List.{All, AllByRecursion, filter, find, fold, list_any}
 use Rattle.std.specs.Option.{option_and_then}
 use Rattle.std.proofs.lemmas.List.Elements.{All-from_recursion, recursion_from_All, filter-append}
 use Rattle.std.proofs.lemmas.Option.{slice_get_cases, slice_get_within}
+use Rattle.command_words.specs.declared.words.RunOptions.{RunOptions}
 use Rattle.client_port.specs.Clients.{clients_of, requests_of, with_client}
 use Rattle.client_port.specs.Ports.{Queue, first_due, due_of}
 use Rattle.dura_model.specs.Legal.{Quiet, is_taken, may_ask, is_due}
@@ -317,7 +318,7 @@ module _ (rules : Rules) (latest : ℕ) (trail : List Settled) (told : List Said
 
 -- ---- the end
 
-module _ (rules : Rules) (latest : ℕ) (o : Origin) (steps : List Step) (trail : List Settled) (most_labels segment_length : ℕ) where
+module _ (rules : Rules) (latest : ℕ) (o : Origin) (steps : List Step) (trail : List Settled) (options : RunOptions) where
   busy : AnswersTaken rules.begin → IsUnfinished (may_follow rules latest) (may_say rules) rules latest o steps trail → IsLeftAt rules trail
   busy begun left =
       let further = left.further in (
@@ -326,7 +327,7 @@ module _ (rules : Rules) (latest : ℕ) (o : Origin) (steps : List Step) (trail 
         λ quiet. stirs rules latest left.stands.rightly further.before further.made further.shown further.younger (answers_taken_on rules.flows 1 rules.begin further.before (of_part 0 trail) begun further.made) left.asked quiet further.stirs,
       )
 
-  pub has_served : (cause : Cause) → AnswersTaken rules.begin → RunEndsAs rules latest o steps trail most_labels segment_length cause → HasServed rules trail cause
+  pub has_served : (cause : Cause) → AnswersTaken rules.begin → RunEndsAs rules latest o steps trail options cause → HasServed rules trail cause
   has_served Done begun ends =
       let rest = ends.1 in (
         rest.state,
@@ -357,5 +358,5 @@ module _ (rules : Rules) (latest : ℕ) (o : Origin) (steps : List Step) (trail 
   has_served (OtherShape found asked) begun ends = tt
   has_served (OtherFlows found given) begun ends = tt
   has_served Memory begun ends = tt
-  has_served (Full partition length_then) begun ends = busy begun ends.2
+  has_served (Full partition length_then) begun ends = busy begun ends.1.0
   has_served (Spent partition number) begun ends = tt

@@ -1,5 +1,5 @@
 -- Which causes a run may end with, by what its files held at the start.
-use Rattle.std.specs.Prelude.{◌≡◌, ◌⊎◌, ◌<◌, ◌^◌, ℕ, List, [], Option, Some, None, Err}
+use Rattle.std.specs.Prelude.{◌≡◌, ◌⊎◌, ◌<◌, ◌≤◌, ◌^◌, ℕ, List, [], Option, Some, None, Err}
 use Rattle.command_words.specs.declared.words.Call.{Call}
 use Rattle.command_words.specs.declared.words.Call.TheVariants.{Run, Show}
 use Rattle.dura_model.specs.Partition.{Partition}
@@ -58,7 +58,7 @@ Answers files (Damaged file offset) = RefusesLogs files (errors.Damaged file off
 Answers files (OtherShape found asked) = RefusesLogs files (errors.OtherShape found asked)
 Answers files (OtherFlows found given) = RefusesLogs files (errors.OtherFlows found given)
 Answers files (Illegal partition position) = RefusesLogs files (errors.Illegal partition position)
-Answers files (Spent partition number) = RefusesLogs files (errors.Spent partition number)
+Answers files (Spent partition number) = RefusesLogs files (errors.Spent partition number) ⊎ (IsReady files × (partition ≡ 0) × (2 ^ 62 ≤ number))
 Answers files (Unclosed partition position src seq) = ⊥
 Answers files Usage = ⊥
 
@@ -98,7 +98,7 @@ SettlesNothing None cause = Unit {0}
 SettlesNothing (Some (Show partitions)) cause = Unit {0}
 SettlesNothing (Some (Run options)) cause = IsRefusal cause
 
--- A refusal writes nothing, and says nothing: the log files may be synced.
+-- A refusal writes nothing, and says nothing: the log files may be synced. Where no life is left, `AreRefused` has it too.
 abbrev pub Untouched : (old new : List Step) → Cause → Type 0
 Untouched old new Done = Unit {0}
 Untouched old new (Waiting client number) = Unit {0}
@@ -108,6 +108,7 @@ Untouched old new SiteFault = Unit {0}
 Untouched old new SayFault = Unit {0}
 Untouched old new ClockFault = Unit {0}
 Untouched old new Memory = Unit {0}
+Untouched old new (Spent partition number) = Unit {0}
 Untouched old new Usage = new ≡ old
 Untouched old new (BadFlows fault) = new ≡ old
 Untouched old new (BadRequests line) = new ≡ old

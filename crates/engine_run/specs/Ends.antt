@@ -1,13 +1,16 @@
 -- Why a run ends that went on from what was recovered.
-use Rattle.std.specs.Prelude.{◌≡◌, ◌≢◌, ◌≤◌, ◌<◌, ℕ, true, ◌+◌, List, [], ◌∷◌, length, Some, None, Ok}
+use Rattle.std.specs.Prelude.{◌≡◌, ◌≢◌, ◌≤◌, ◌<◌, ◌^◌, ℕ, true, ◌+◌, List, [], ◌∷◌, length, Some, None, Ok}
 use Rattle.std.specs.List.{All}
 use Rattle.client_port.specs.Clients.{clients_of}
 use Rattle.client_port.specs.Ports.{Queue, due_of}
+use Rattle.command_words.specs.declared.words.RunOptions.{RunOptions}
 use Rattle.commit_log.specs.declared.header.Header.{Header}
 use Rattle.commit_log.specs.Segment.{segment, reading_of}
 use Rattle.dura_model.specs.Legal.{Quiet}
 use Rattle.dura_model.specs.Partition.{Partition, enter}
 use Rattle.dura_value.specs.Items.{Entry}
+use Rattle.dura_value.specs.declared.data.Value.{Value}
+use Rattle.dura_value.specs.declared.outcome.Outcome.{Outcome}
 use Rattle.engine_run.specs.Asked.{IsRequest, IsTaken}
 use Rattle.engine_run.specs.Order.{no_later}
 use Rattle.hub_store.specs.Moments.{StandsWith, AtEveryMoment}
@@ -18,16 +21,18 @@ use Rattle.part_files.specs.Stands.{shown_by}
 use Rattle.part_items.specs.Spelling.{spell_frame}
 use Rattle.part_rounds.specs.Comes.{IsOver, count_labels}
 use Rattle.part_rounds.specs.Further.{GoesFurther}
+use Rattle.part_rounds.specs.InTime.{GoesByClock}
 use Rattle.part_rounds.specs.Rounds.{pairs_of, HasSaid}
 use Rattle.hub_store.specs.declared.stop.Stop.{Stop}
 use Rattle.hub_store.specs.declared.stop.Stop.TheVariants as stops
 use Rattle.request_reader.specs.Line.{Request}
 use Rattle.run_causes.specs.declared.cause.Cause.{Cause}
-use Rattle.run_causes.specs.declared.cause.Cause.TheVariants.{Done, Waiting, Long, SiteFault, SayFault, ClockFault, Memory, Full}
+use Rattle.run_causes.specs.declared.cause.Cause.TheVariants.{Done, Waiting, Long, SiteFault, SayFault, ClockFault, Memory, Full, Spent}
 use Rattle.run_laws.specs.Begins.{may_follow, may_say}
 use Rattle.run_rules.specs.Rules.{Rules, Follows}
 use Rattle.site_model.specs.History.{Step, content_of}
 use Rattle.site_model.specs.Moments.{Always}
+use Rattle.site_model.specs.Readings.{Reading}
 
 -- each client's requests were answered, and the answers said
 abbrev pub AreAllSaid : List Queue → (clients : List (List ℕ)) → Type 0
@@ -44,17 +49,44 @@ pub record IsFirstUnsaid (queues : List Queue) (clients : List (List ℕ)) (clie
   pub unsaid : IsUnsaid queues client number
   pub first : All (λ name. (r : Request) → due_of name queues ≡ Some r → no_later (client, number) (name, r.number) ≡ true) clients
 
--- An entry that may follow would bring the log to this length, which isn't below the segment's.
-pub record WouldFill (rules : Rules) (latest : ℕ) (o : Origin) (steps : List Step) (trail : List Settled) (segment_length length_then : ℕ) : Type 0 where
+-- What a call goes by: its options; what activities give; and of the clock the moments that it had given before and by the end, and the
+-- greatest of them.
+pub record Terms : Type 0 where
+  pub options : RunOptions
+  pub gives : List ℕ → Value → ℕ → Outcome
+  pub before : List Reading
+  pub after : List Reading
+  pub latest : ℕ
+
+abbrev pub terms_of : RunOptions → (List ℕ → Value → ℕ → Outcome) → (before after : List Reading) → (latest : ℕ) → Terms
+terms_of options gives before after latest = record { options = options; gives = gives; before = before; after = after; latest = latest }
+
+-- It went by its clock: each entry is filled at the moment that the clock gave last, which it gave since the entry before, and with no more
+-- items than an entry may have; and no entry came once there were as many labels as there may be.
+pub record GoesInTime (rules : Rules) (terms : Terms) (trail : List Settled) : Type 0 where
   pub told : List Said
+  pub course : GoesByClock rules terms.gives terms.options.batch (clients_of rules.requests) terms.before [] [] terms.after (of_part 0 trail) told
+  pub no_more : count_labels (of_part 0 trail) < terms.options.steps + terms.options.batch
+
+-- An entry of 1 to so many items that may follow would bring the log to this length, which isn't below the segment's.
+pub record WouldFill (rules : Rules) (latest : ℕ) (o : Origin) (steps : List Step) (trail : List Settled) (told : List Said) (options : RunOptions) (length_then : ℕ) : Type 0 where
   pub entry : Entry
+  pub some : 0 < length entry.items
+  pub few : length entry.items ≤ options.batch
   pub follows : Follows rules latest (of_part 0 trail) (pairs_of told) (entry ∷ [])
   pub header : Header
   pub payloads : List (List ℕ)
   pub gate : ℕ
   pub stands : reading_of (content_of (o.logs 0).file steps) ≡ segment header payloads gate
   pub length_is : length_then ≡ gate + 6 + length (spell_frame (entry ∷ []))
-  pub reaches : segment_length ≤ length_then
+  pub reaches : options.segment ≤ length_then
+
+-- The place of the next entry is this number, which isn't below the limit of the format.
+pub record IsPlaceSpent (rules : Rules) (trail : List Settled) (number : ℕ) : Type 0 where
+  pub before : Partition
+  pub made : placed rules.flows 1 rules.begin (of_part 0 trail) ≡ Ok before
+  pub number_is : number ≡ before.position
+  pub reaches : 2 ^ 62 ≤ number
 
 module _ (MayFollow : List Settled → List Said → ℕ → List Entry → Type 0) (MaySay : List Settled → List Said → Said → List ℕ → Type 0) (o : Origin) where
   -- whole lines were said, unless saying failed
@@ -83,36 +115,45 @@ module _ (MayFollow : List Settled → List Said → ℕ → List Entry → Type
     pub asked : All IsRequest rules.requests
 
   -- why it ends
-  abbrev pub EndsAs : List Step → List Settled → (most_labels segment_length : ℕ) → Cause → Type 0
-  EndsAs steps trail most_labels segment_length Done = (queues : List Queue) × IsAtRest steps trail queues × AreAllSaid queues (clients_of rules.requests)
-  EndsAs steps trail most_labels segment_length (Waiting client number) = (queues : List Queue) × IsAtRest steps trail queues × IsFirstUnsaid queues (clients_of rules.requests) client number
-  EndsAs steps trail most_labels segment_length (Long labels) = (labels ≡ count_labels (of_part 0 trail)) × (most_labels ≤ labels) × IsUnfinished steps trail
-  EndsAs steps trail most_labels segment_length (Full partition length_then) = (partition ≡ 0) × WouldFill rules latest o steps trail segment_length length_then × IsUnfinished steps trail
-  EndsAs steps trail most_labels segment_length SiteFault = Unit {0}
-  EndsAs steps trail most_labels segment_length SayFault = Unit {0}
-  EndsAs steps trail most_labels segment_length ClockFault = Unit {0}
-  EndsAs steps trail most_labels segment_length Memory = Unit {0}
-  EndsAs steps trail most_labels segment_length other = ⊥
+  abbrev pub EndsAs : List Step → List Settled → RunOptions → Cause → Type 0
+  EndsAs steps trail options Done = (queues : List Queue) × IsAtRest steps trail queues × AreAllSaid queues (clients_of rules.requests)
+  EndsAs steps trail options (Waiting client number) = (queues : List Queue) × IsAtRest steps trail queues × IsFirstUnsaid queues (clients_of rules.requests) client number
+  EndsAs steps trail options (Long labels) = (labels ≡ count_labels (of_part 0 trail)) × (options.steps ≤ labels) × IsUnfinished steps trail
+  EndsAs steps trail options (Full partition length_then) = (partition ≡ 0) × ((left : IsUnfinished steps trail) × WouldFill rules latest o steps trail left.told options length_then)
+  EndsAs steps trail options (Spent partition number) = (partition ≡ 0) × IsPlaceSpent rules trail number × IsUnfinished steps trail
+  EndsAs steps trail options SiteFault = Unit {0}
+  EndsAs steps trail options SayFault = Unit {0}
+  EndsAs steps trail options ClockFault = Unit {0}
+  EndsAs steps trail options Memory = Unit {0}
+  EndsAs steps trail options other = ⊥
 
   -- From where it began on it stood at every moment as it may, nothing was settled before and all of it by the end, whole lines were
-  -- said unless saying failed, and it ended for its cause.
-  pub record GoesOn (new : List Step) (trail : List Settled) (most_labels segment_length : ℕ) (cause : Cause) : Type 0 where
+  -- said unless saying failed, it went by its clock, and it ended for its cause.
+  pub record GoesOn (new : List Step) (trail : List Settled) (terms : Terms) (cause : Cause) : Type 0 where
     pub every : AtEveryMoment MayFollow MaySay o new trail
     pub further : Always (λ steps. Unit {0}) o.steps new
     pub nothing : (moment : ℕ) → moment < length o.steps → settled_at moment trail ≡ []
     pub by_the_end : settled_at (length new) trail ≡ trail
     pub whole : SaysWhole MayFollow MaySay o new trail cause
-    pub ends : EndsAs new trail most_labels segment_length cause
+    pub in_time : GoesInTime rules terms trail
+    pub ends : EndsAs new trail terms.options cause
 
--- nothing happened, for want of memory
-pub record Stays (old new : List Step) (trail : List Settled) (cause : Cause) : Type 0 where
+-- why a run doesn't go on at all: for want of memory, or of a number for an entry at this place
+abbrev pub IsWanting : (place : ℕ) → Cause → Type 0
+IsWanting place Memory = Unit {0}
+IsWanting place (Spent partition number) = (partition ≡ 0) × (number ≡ place) × (2 ^ 62 ≤ number)
+IsWanting place other = ⊥
+
+-- nothing happened
+pub record Stays (old new : List Step) (trail : List Settled) (place : ℕ) (cause : Cause) : Type 0 where
   pub same : new ≡ old
   pub nothing : trail ≡ []
-  pub wanting : cause ≡ Memory
+  pub wanting : IsWanting place cause
 
 -- why rounds stop
 abbrev pub cause_of_stop : Stop → Cause
 cause_of_stop (stops.Full partition length) = Full partition length
+cause_of_stop (stops.Spent partition number) = Spent partition number
 cause_of_stop stops.SiteFault = SiteFault
 cause_of_stop stops.SayFault = SayFault
 cause_of_stop stops.ClockFault = ClockFault
@@ -130,6 +171,7 @@ IsLateCause Done = Unit {0}
 IsLateCause (Waiting client number) = Unit {0}
 IsLateCause (Long labels) = Unit {0}
 IsLateCause (Full partition length) = Unit {0}
+IsLateCause (Spent partition number) = (partition ≡ 0) × (2 ^ 62 ≤ number)
 IsLateCause SiteFault = Unit {0}
 IsLateCause SayFault = Unit {0}
 IsLateCause ClockFault = Unit {0}
@@ -137,5 +179,5 @@ IsLateCause Memory = Unit {0}
 IsLateCause other = ⊥
 
 -- why a run ends that commits and says what its rules let it
-abbrev pub RunEndsAs : Rules → (latest : ℕ) → Origin → List Step → List Settled → (most_labels segment_length : ℕ) → Cause → Type 0
+abbrev pub RunEndsAs : Rules → (latest : ℕ) → Origin → List Step → List Settled → RunOptions → Cause → Type 0
 RunEndsAs rules latest o = EndsAs (may_follow rules latest) (may_say rules) rules latest o

@@ -6,7 +6,7 @@ use Rattle.dura_model.specs.Steps.{Label}
 use Rattle.dura_model.specs.World.{World}
 use Rattle.dura_value.specs.Ids.{Id}
 use Rattle.dura_value.specs.Items.{Entry}
-use Rattle.engine_run.specs.Ends.{SaysWhole, RunEndsAs}
+use Rattle.engine_run.specs.Ends.{Terms, GoesInTime, SaysWhole, RunEndsAs}
 use Rattle.engine_run.specs.Job.{Job, Keeps, AreGivenIn}
 use Rattle.engine_run.specs.Picks.{rules_with}
 use Rattle.engine_run.specs.Opened.{IsOpening}
@@ -37,10 +37,11 @@ pub record StandsOrderly (rules : Rules) (latest digest : ℕ) (o : Origin) (ste
 -- From where the logs are opened on, at each moment, a crash leaves files that stand for the run at the start, then what was settled
 -- by then, then no more than the one frame whose gate was being written; and what was said by then answers requests as that run does.
 -- Each entry is of the life that the call began, and of no later moment than both the entries at the start and the clock's latest, and
--- takes only what was due of its client then; unless saying failed, whole lines were said; and it ends for its cause. Where it is done
+-- takes only what was due of its client then; it is filled at the moment that the clock gave last, with no more items than there may be,
+-- and not once there were as many labels as there may be; unless saying failed, whole lines were said; and it ends for its cause. Where it is done
 -- or waits the world is quiet for all requests: each has its answer, or the named one is the first without. Where it is long, or the log
 -- full, the world isn't quiet.
-pub record RunsOn (job : Job) (entries : List Entry) (begin : Partition) (old new : List Step) (trail : List Settled) (most_labels segment_length latest : ℕ) (cause : Cause) : Type 0 where
+pub record RunsOn (job : Job) (entries : List Entry) (begin : Partition) (old new : List Step) (trail : List Settled) (terms : Terms) (cause : Cause) : Type 0 where
   pub origin : Origin
   pub alone : BeginsAlone origin (rules_with job begin (next_life entries)) job.digest
   pub kept : (origin.logs 0).entries ≡ entries
@@ -50,10 +51,11 @@ pub record RunsOn (job : Job) (entries : List Entry) (begin : Partition) (old ne
   pub nothing : (moment : ℕ) → moment < length origin.steps → settled_at moment trail ≡ []
   pub by_the_end : settled_at (length new) trail ≡ trail
   pub stands : (moment : ℕ) → length origin.steps ≤ moment → moment ≤ length new → (image : ℕ → List ℕ) → IsImage (back_to moment new) image
-      → StandsOrderly (rules_with job begin (next_life entries)) latest job.digest origin (back_to moment new) (settled_at moment trail) image
-  pub every : AtEveryMoment (may_follow (rules_with job begin (next_life entries)) latest) (may_say (rules_with job begin (next_life entries))) origin new trail
-  pub whole : SaysWhole (may_follow (rules_with job begin (next_life entries)) latest) (may_say (rules_with job begin (next_life entries))) origin new trail cause
-  pub ends : RunEndsAs (rules_with job begin (next_life entries)) latest origin new trail most_labels segment_length cause
+      → StandsOrderly (rules_with job begin (next_life entries)) terms.latest job.digest origin (back_to moment new) (settled_at moment trail) image
+  pub every : AtEveryMoment (may_follow (rules_with job begin (next_life entries)) terms.latest) (may_say (rules_with job begin (next_life entries))) origin new trail
+  pub whole : SaysWhole (may_follow (rules_with job begin (next_life entries)) terms.latest) (may_say (rules_with job begin (next_life entries))) origin new trail cause
+  pub in_time : GoesInTime (rules_with job begin (next_life entries)) terms trail
+  pub ends : RunEndsAs (rules_with job begin (next_life entries)) terms.latest origin new trail terms.options cause
   pub served : HasServed (rules_with job begin (next_life entries)) trail cause
 
 -- It ends before the logs are opened, for a cause that a call may have by then: nothing was settled.
@@ -63,6 +65,6 @@ pub record EndsEarly (job : Job) (entries : List Entry) (old new : List Step) (t
   pub opening : Always (IsOpening job entries old) old new
 
 -- Where the files as they were read at the start stood for a run, by these entries: each crash leaves what it may.
-abbrev pub Headline : Job → (files : ℕ → List ℕ) → (old new : List Step) → List Settled → (most_labels segment_length latest : ℕ) → Cause → Type 0
-Headline job files old new trail most_labels segment_length latest cause = (entries : List Entry) (begin : Partition) → Keeps job files entries begin → AreGivenIn job entries
-    → RunsOn job entries begin old new trail most_labels segment_length latest cause ⊎ EndsEarly job entries old new trail cause
+abbrev pub Headline : Job → (files : ℕ → List ℕ) → (old new : List Step) → List Settled → Terms → Cause → Type 0
+Headline job files old new trail terms cause = (entries : List Entry) (begin : Partition) → Keeps job files entries begin → AreGivenIn job entries
+    → RunsOn job entries begin old new trail terms cause ⊎ EndsEarly job entries old new trail cause

@@ -3,6 +3,7 @@ use Rattle.std.specs.Prelude.{◌≡◌, ◌⊎◌, ◌≤◌, ℕ, List, [], �
 use Rattle.std.specs.List.{All}
 use Rattle.dura_model.specs.Partition.{Partition}
 use Rattle.dura_value.specs.Items.{Entry}
+use Rattle.engine_run.specs.Ends.{Terms}
 use Rattle.engine_run.specs.Headline.{IsOrderly, Headline}
 use Rattle.engine_run.specs.Job.{Job, Keeps, AreGivenIn}
 use Rattle.engine_run.specs.Picks.{rules_with}
@@ -35,16 +36,14 @@ AllKeep flows digest entries steps = (image : ℕ → List ℕ) → IsImage step
 
 -- ---- lives
 
--- One call: what it was asked for, what had happened when it began and what at its end, what it settled, its options, the clock's latest,
+-- One call: what it was asked for, what had happened when it began and what at its end, what it settled, what it went by,
 -- why it ended; and the moment of it at which a crash came, or the last one.
 pub record Life : Type 0 where
   pub job : Job
   pub old : List Step
   pub new : List Step
   pub trail : List Settled
-  pub most_labels : ℕ
-  pub segment_length : ℕ
-  pub latest : ℕ
+  pub terms : Terms
   pub cause : Cause
   pub moment : ℕ
 
@@ -60,7 +59,7 @@ settled_then life = of_part 0 (settled_at life.moment life.trail)
 pub record IsLife (flows : Flows) (digest : ℕ) (life : Life) : Type 0 where
   pub same_flows : life.job.flows ≡ flows
   pub same_digest : life.job.digest ≡ digest
-  pub promised : Headline life.job (λ file. content_of file life.old) life.old life.new life.trail life.most_labels life.segment_length life.latest life.cause
+  pub promised : Headline life.job (λ file. content_of file life.old) life.old life.new life.trail life.terms life.cause
   pub begun : length life.old ≤ life.moment
   pub within : life.moment ≤ length life.new
 

@@ -5,6 +5,7 @@ ghost use Rattle.command_words.specs.Command.{call_in};
 ghost use Rattle.command_words.specs.declared.words.Call.TheVariants as calls;
 ghost use Rattle.command_words.specs.declared.words.RunOptions.{RunOptions as AnyOptions};
 ghost use Rattle.engine_run.specs.Causes.{AsksFor, Answers, AreRefused, LeavesAll, SettlesNothing, Untouched};
+ghost use Rattle.engine_run.specs.Ends.{terms_of};
 ghost use Rattle.engine_run.specs.Headline.{Headline};
 ghost use Rattle.engine_run.specs.Job.{Job};
 ghost use Rattle.engine_run.specs.Recorded.{files_before, steps_before, steps_after};
@@ -63,7 +64,7 @@ pub fn run_recorded<
     // failure-free machine: the one at the start, then what is settled by then, then at most the one frame whose gate is being
     // written; and what was said by then answers requests as that run does. And why it ends.
     ensures headline { Tells S.unseen (C.events (calls_of result.site)) → (options : AnyOptions) → call_in words.now ≡ Some (calls.Run options) → (job : Job) → AsksFor (files_before S.unseen) job
-        → Headline job (files_before S.unseen) (steps_before S.unseen) (steps_after S.unseen (C.events (calls_of result.site))) result.trail options.steps options.segment (K.latest result.clock) result.cause }
+        → Headline job (files_before S.unseen) (steps_before S.unseen) (steps_after S.unseen (C.events (calls_of result.site))) result.trail (terms_of options A.gives (K.given clock) (K.given result.clock) (K.latest result.clock)) result.cause }
 
     // What is shown, and that nothing is written then.
     ensures shows { Tells S.unseen (C.events (calls_of result.site)) → (partitions : ℕ) → call_in words.now ≡ Some (calls.Show partitions) → ShowsAs (files_before S.unseen) (tape (steps_before S.unseen)) (tape (steps_after S.unseen (C.events (calls_of result.site)))) result.cause }

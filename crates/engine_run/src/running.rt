@@ -1,11 +1,11 @@
 //! Going on from what was recovered.
 
-ghost use Rattle.std.specs.Prelude.{◌≡◌, ◌≢◌, ◌⊎◌, ◌<◌, ◌≤◌, ◌^◌, [], ◌∷◌, map, true, false, IsSomeAnd, IfOk, IfSome, IfNone};
+ghost use Rattle.std.specs.Prelude.{◌≡◌, ◌≢◌, ◌⊎◌, ◌<◌, ◌≤◌, ◌+◌, ◌^◌, [], ◌∷◌, map, true, false, IsSomeAnd, IfOk, IfSome, IfNone};
 ghost use Rattle.std.specs.List.{All};
 ghost use Rattle.client_port.specs.Clients.{clients_of};
 ghost use Rattle.client_port.specs.Ports.{queues_of};
 ghost use Rattle.engine_run.specs.Asked.{IsRequest};
-ghost use Rattle.engine_run.specs.Ends.{AreAllSaid, IsFirstUnsaid, EndsAs, GoesOn, Stays, IsLateCause, IsRestCause, cause_of_stop};
+ghost use Rattle.engine_run.specs.Ends.{AreAllSaid, IsFirstUnsaid, EndsAs, GoesOn, Stays, IsLateCause, IsRestCause, cause_of_stop, terms_of};
 ghost use Rattle.engine_run.specs.Order.{no_later};
 ghost use Rattle.engine_run.specs.Picks.{origin_with, rules_with};
 ghost use Rattle.engine_run.specs.Prepared.{job_of, CanGoOn};
@@ -14,6 +14,8 @@ ghost use Rattle.hub_store.specs.Changes.{stage_at, trail_in, told_in};
 ghost use Rattle.hub_store.specs.Opened.{IsOrigin, HasBegun};
 ghost use Rattle.hub_store.specs.Sound.{IsSound};
 ghost use Rattle.hub_store.specs.Trail.{of_part};
+ghost use Rattle.part_rounds.specs.Comes.{count_labels};
+ghost use Rattle.part_rounds.specs.InTime.{GoesByClock};
 ghost use Rattle.part_rounds.specs.Rounds.{HasSaid, Stands};
 ghost use Rattle.part_steps.specs.States.{state_of, count_of, IsSound as IsOwnSound};
 ghost use Rattle.request_reader.specs.Line.{request_of};
@@ -38,8 +40,11 @@ use run_causes::Cause;
 use site_model::{Clock, Site};
 use std::alloc::{AllocError, Global};
 
-/// The place that no entry has.
-const PLACES: u64 = 1 << 61;
+/// The one partition.
+const ALONE: u32 = 0;
+
+/// The place that no entry may have: the format's numbers are below it.
+const PLACES: u64 = 1 << 62;
 
 /// Why a run ends that goes on no more.
 fn cause_of(stop: Stop) -> Cause
@@ -47,6 +52,7 @@ fn cause_of(stop: Stop) -> Cause
 {
     match stop {
         Stop::Full { partition, length } => Cause::Full { partition, length },
+        Stop::Spent { partition, number } => Cause::Spent { partition, number },
         Stop::SiteFault => Cause::SiteFault,
         Stop::SayFault => Cause::SayFault,
         Stop::ClockFault => Cause::ClockFault,
@@ -121,7 +127,7 @@ fn drive_on<V: Site, N: Ruled, C: Clock, A: Activities>(
     requires stands { Stands N.rules (N.origin.logs 0) (of_part 0 (trail_in store.old)) (state_of state) }
     requires own { IsOwnSound state }
     requires one { count_of state ≡ 1 }
-    requires room { (state_of state).position < 2 ^ 61 }
+    requires room { (state_of state).position < 2 ^ 63 }
     requires said { HasSaid N.rules (told_in store.old) port.old.queues }
     requires clients { clients.now ≡ clients_of N.rules.requests }
     requires asked { V.tells store.old.site → All IsRequest N.rules.requests }
@@ -129,7 +135,9 @@ fn drive_on<V: Site, N: Ruled, C: Clock, A: Activities>(
     ensures sound { IsSound store.new }
     ensures moment { store.new.latest ≤ C.latest clock.new }
     ensures whole { result ≢ Cause.SayFault → store.new.cut ≡ false }
-    ensures ends { V.tells store.new.site → EndsAs (N.may_follow (C.latest clock.new)) N.may_say N.rules (C.latest clock.new) N.origin (V.history store.new.site) (trail_in store.new) options.steps options.segment result }
+    ensures ends { V.tells store.new.site → EndsAs (N.may_follow (C.latest clock.new)) N.may_say N.rules (C.latest clock.new) N.origin (V.history store.new.site) (trail_in store.new) options result }
+    ensures goes { GoesByClock N.rules A.gives options.batch (clients_of N.rules.requests) (C.given clock.old) (of_part 0 (trail_in store.old)) (told_in store.old) (C.given clock.new) (of_part 0 (trail_in store.new)) (told_in store.new) }
+    ensures no_more { count_labels (of_part 0 (trail_in store.new)) < options.steps + options.batch }
     ensures late { IsLateCause result }
     ensures fault { result ≡ Cause.SiteFault → HasRisen (V.disk_faults store.old.site) (V.disk_faults store.new.site) }
     ensures say_fault { result ≡ Cause.SayFault → HasRisen (V.say_faults store.old.site) (V.say_faults store.new.site) }
@@ -196,7 +204,7 @@ pub(crate) fn go<V: Site, N: Ruled, C: Clock, A: Activities>(
     ensures told { V.tells result.site → V.tells site }
     ensures status { result.status ≡ status_of result.cause }
     ensures late { IsLateCause result.cause }
-    ensures goes { V.tells result.site → GoesOn (N.may_follow (C.latest result.clock)) N.may_say N.rules (C.latest result.clock) N.origin (V.history result.site) result.trail options.steps options.segment result.cause ⊎ Stays (V.history site) (V.history result.site) result.trail result.cause }
+    ensures goes { V.tells result.site → GoesOn (N.may_follow (C.latest result.clock)) N.may_say N.rules (C.latest result.clock) N.origin (V.history result.site) result.trail (terms_of options A.gives (C.given clock) (C.given result.clock) (C.latest result.clock)) result.cause ⊎ Stays (V.history site) (V.history result.site) result.trail (state_of prepared.state).position result.cause }
     ensures fault { result.cause ≡ Cause.SiteFault → HasRisen (V.disk_faults site) (V.disk_faults result.site) }
     ensures say_fault { result.cause ≡ Cause.SayFault → HasRisen (V.say_faults site) (V.say_faults result.site) }
     ensures clock_fault { result.cause ≡ Cause.ClockFault → HasRisen (C.clock_faults clock) (C.clock_faults result.clock) }
@@ -213,9 +221,14 @@ pub(crate) fn go<V: Site, N: Ruled, C: Clock, A: Activities>(
         life,
     } = prepared;
     let nothing = Trail::none(alloc);
-    if state.position() >= PLACES {
+    let position = state.position();
+    if position >= PLACES {
         state.let_go();
-        return end_with(Cause::Memory, nothing, site, clock);
+        let spent = Cause::Spent {
+            partition: ALONE,
+            number: position,
+        };
+        return end_with(spent, nothing, site, clock);
     }
     let Ok((mut port, clients)) = ports_of(alloc, requests) else {
         state.let_go();
@@ -261,7 +274,7 @@ pub(crate) fn go_named<V: Site, M: Named, C: Clock, A: Activities>(
     ensures told { V.tells result.site → V.tells site }
     ensures status { result.status ≡ status_of result.cause }
     ensures late { IsLateCause result.cause }
-    ensures goes { V.tells result.site → GoesOn (may_follow M.rules (C.latest result.clock)) (may_say M.rules) M.rules (C.latest result.clock) (origin_with M.log M.steps) (V.history result.site) result.trail options.steps options.segment result.cause ⊎ Stays (V.history site) (V.history result.site) result.trail result.cause }
+    ensures goes { V.tells result.site → GoesOn (may_follow M.rules (C.latest result.clock)) (may_say M.rules) M.rules (C.latest result.clock) (origin_with M.log M.steps) (V.history result.site) result.trail (terms_of options A.gives (C.given clock) (C.given result.clock) (C.latest result.clock)) result.cause ⊎ Stays (V.history site) (V.history result.site) result.trail (state_of prepared.state).position result.cause }
     ensures fault { result.cause ≡ Cause.SiteFault → HasRisen (V.disk_faults site) (V.disk_faults result.site) }
     ensures say_fault { result.cause ≡ Cause.SayFault → HasRisen (V.say_faults site) (V.say_faults result.site) }
     ensures clock_fault { result.cause ≡ Cause.ClockFault → HasRisen (C.clock_faults clock) (C.clock_faults result.clock) }

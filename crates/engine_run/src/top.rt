@@ -5,6 +5,7 @@ ghost use Rattle.command_words.specs.Command.{call_in};
 ghost use Rattle.command_words.specs.declared.words.Call.TheVariants as calls;
 ghost use Rattle.command_words.specs.declared.words.RunOptions.{RunOptions as AnyOptions};
 ghost use Rattle.engine_run.specs.Causes.{AsksFor, Answers, AreRefused, IsRefusal, LeavesAll, SettlesNothing, Untouched};
+ghost use Rattle.engine_run.specs.Ends.{terms_of};
 ghost use Rattle.engine_run.specs.Headline.{Headline};
 ghost use Rattle.engine_run.specs.Job.{Job};
 ghost use Rattle.engine_run.specs.Showing.{ShowsAs, WritesNothing};
@@ -47,7 +48,7 @@ fn run_requests<V: Site, C: Clock, A: Activities>(
     ensures refused { V.tells result.site → AreRefused (λ file. content_of file (V.history site)) → LeavesAll (V.history site) (V.history result.site) result.trail }
     ensures settles_nothing { IsRefusal result.cause → result.trail ≡ [] }
     ensures headline { V.tells result.site → (job : Job) → AsksFor (λ file. content_of file (V.history site)) job
-        → Headline job (λ file. content_of file (V.history site)) (V.history site) (V.history result.site) result.trail options.steps options.segment (C.latest result.clock) result.cause }
+        → Headline job (λ file. content_of file (V.history site)) (V.history site) (V.history result.site) result.trail (terms_of options A.gives (C.given clock) (C.given result.clock) (C.latest result.clock)) result.cause }
     ensures fault { result.cause ≡ Cause.SiteFault → HasRisen (V.disk_faults site) (V.disk_faults result.site) }
     ensures say_fault { result.cause ≡ Cause.SayFault → HasRisen (V.say_faults site) (V.say_faults result.site) }
     ensures clock_fault { result.cause ≡ Cause.ClockFault → HasRisen (C.clock_faults clock) (C.clock_faults result.clock) }
@@ -88,7 +89,7 @@ pub fn run_alone<V: Site, C: Clock, A: Activities>(
     // failure-free machine: the one at the start, then what is settled by then, then at most the one frame whose gate is being
     // written; and what was said by then answers requests as that run does. And why it ends.
     ensures headline { V.tells result.site → (options : AnyOptions) → call_in words.now ≡ Some (calls.Run options) → (job : Job) → AsksFor (λ file. content_of file (V.history site)) job
-        → Headline job (λ file. content_of file (V.history site)) (V.history site) (V.history result.site) result.trail options.steps options.segment (C.latest result.clock) result.cause }
+        → Headline job (λ file. content_of file (V.history site)) (V.history site) (V.history result.site) result.trail (terms_of options A.gives (C.given clock) (C.given result.clock) (C.latest result.clock)) result.cause }
 
     // What is shown, and that nothing is written then.
     ensures shows { V.tells result.site → (partitions : ℕ) → call_in words.now ≡ Some (calls.Show partitions) → ShowsAs (λ file. content_of file (V.history site)) (tape (V.history site)) (tape (V.history result.site)) result.cause }
@@ -149,7 +150,7 @@ pub fn run<R: Threads + Wait + Sync, V: Site + Send, C: Clock + Send, A: Activit
     // failure-free machine: the one at the start, then what is settled by then, then at most the one frame whose gate is being
     // written; and what was said by then answers requests as that run does. And why it ends.
     ensures headline { V.tells result.site → (options : AnyOptions) → call_in words.now ≡ Some (calls.Run options) → (job : Job) → AsksFor (λ file. content_of file (V.history site)) job
-        → Headline job (λ file. content_of file (V.history site)) (V.history site) (V.history result.site) result.trail options.steps options.segment (C.latest result.clock) result.cause }
+        → Headline job (λ file. content_of file (V.history site)) (V.history site) (V.history result.site) result.trail (terms_of options A.gives (C.given clock) (C.given result.clock) (C.latest result.clock)) result.cause }
 
     // What is shown, and that nothing is written then.
     ensures shows { V.tells result.site → (partitions : ℕ) → call_in words.now ≡ Some (calls.Show partitions) → ShowsAs (λ file. content_of file (V.history site)) (tape (V.history site)) (tape (V.history result.site)) result.cause }

@@ -1,6 +1,7 @@
 -- What a call's clauses say, by example.
-use Rattle.std.specs.Prelude.{List, [], ◌∷◌, ◌++◌, codes, Some}
+use Rattle.std.specs.Prelude.{ℕ, List, [], ◌∷◌, ◌++◌, codes, Some}
 use Rattle.client_port.specs.Ports.{Queue}
+use Rattle.command_words.specs.declared.words.RunOptions.{RunOptions}
 use Rattle.dura_model.specs.Partition.{Partition, fresh}
 use Rattle.dura_model.specs.Steps.{Label, finish}
 use Rattle.dura_model.specs.World.{World, empty, at_number}
@@ -9,6 +10,7 @@ use Rattle.dura_value.specs.Ids.{client, orchestration}
 use Rattle.dura_value.specs.Messages.{start, wait, to_request, was_started}
 use Rattle.dura_value.specs.declared.data.Value.TheVariants as values
 use Rattle.dura_value.specs.declared.outcome.Outcome.TheVariants as outcomes
+use Rattle.engine_run.specs.Ends.{Terms, terms_of}
 use Rattle.engine_run.specs.Job.{Job}
 use Rattle.flow_syntax.specs.Syntax.{Flows}
 use Rattle.hub_store.specs.Trail.{Settled}
@@ -95,3 +97,11 @@ answered = record empty {
   taken = at_number empty.taken (client (codes "a")) 1 (Some request);
   answers = at_number empty.answers (client (codes "a")) 1 (Some was_started);
 }
+
+-- options by which so many steps are enough
+abbrev pub by_steps : ℕ → RunOptions
+by_steps steps = record { partitions = 1; batch = 16; steps = steps; segment = 4096 }
+
+-- by which nothing is given, and no moment
+abbrev pub terms_by : (steps latest : ℕ) → Terms
+terms_by steps latest = terms_of (by_steps steps) (λ name argument word. outcomes.Done argument) [] [] latest

@@ -2,12 +2,12 @@
 use Rattle.std.specs.Prelude.{[], ◌∷◌}
 use Rattle.engine_run.specs.Lives.{Life}
 use Rattle.run_causes.specs.declared.cause.Cause.TheVariants.{Memory, Done}
-use Rattle.run_examples.specs.Calls.{nothing_asked, settled_once}
+use Rattle.run_examples.specs.Calls.{nothing_asked, settled_once, terms_by}
 use Rattle.site_model.specs.History.{said}
 
 -- a call in which nothing happened, for want of memory
 abbrev pub idle_life : Life
-idle_life = record { job = nothing_asked; old = []; new = []; trail = []; most_labels = 1; segment_length = 4096; latest = 0; cause = Memory; moment = 0 }
+idle_life = record { job = nothing_asked; old = []; new = []; trail = []; terms = terms_by 1 0; cause = Memory; moment = 0 }
 
 -- one that says that all was done
 abbrev pub done_life : Life

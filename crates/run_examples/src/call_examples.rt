@@ -7,7 +7,7 @@ ghost use Rattle.dura_value.specs.Items.{Entry};
 ghost use Rattle.engine_run.specs.Asked.{IsRequest, IsTaken};
 ghost use Rattle.engine_run.specs.Causes.{AsksFor, Answers, Untouched};
 ghost use Rattle.engine_run.specs.Ends.{AreAllSaid, IsFirstUnsaid, SaysWhole, RunEndsAs};
-ghost use Rattle.run_examples.specs.Calls.{nothing_asked, one_asked, no_flows, starting, waiting, second, third, unsaid, two_unsaid, all_said, settled_once, ended_twice, rules_for, asking_too, held_back, out_of_turn, answered};
+ghost use Rattle.run_examples.specs.Calls.{by_steps, terms_by, nothing_asked, one_asked, no_flows, starting, waiting, second, third, unsaid, two_unsaid, all_said, settled_once, ended_twice, rules_for, asking_too, held_back, out_of_turn, answered};
 ghost use Rattle.engine_run.specs.Headline.{IsOrderly, EndsEarly, RunsOn};
 ghost use Rattle.engine_run.specs.Served.{IsServed, IsFirstOpen, Awaits, HasServed};
 ghost use Rattle.engine_run.specs.Job.{Keeps};
@@ -93,13 +93,13 @@ pub fn answers_unsaid()
 /// A run ends with as many labels as may be, and as were settled: with no other number, with no fewer, not where nothing is left to do,
 /// and by no cause of its input.
 pub fn runs_end()
-    ensures labels { (latest : ℕ) → RunEndsAs (rules_for (starting ∷ [])) latest nowhere [] [] 0 100 (causes.Long 0) }
-    ensures at_rest { (latest : ℕ) → RunEndsAs (rules_for []) latest nowhere [] [] 0 100 (causes.Long 0) → ⊥ }
+    ensures labels { (latest : ℕ) → RunEndsAs (rules_for (starting ∷ [])) latest nowhere [] [] (by_steps 0) (causes.Long 0) }
+    ensures at_rest { (latest : ℕ) → RunEndsAs (rules_for []) latest nowhere [] [] (by_steps 0) (causes.Long 0) → ⊥ }
     ensures left { HasServed (rules_for (starting ∷ [])) [] (causes.Long 0) }
     ensures none_left { HasServed (rules_for []) [] (causes.Full 0 100) → ⊥ }
-    ensures other_number { (rules : Rules) (latest : ℕ) (o : Origin) (steps : List Step) → RunEndsAs rules latest o steps [] 0 100 (causes.Long 3) → ⊥ }
-    ensures too_few { (rules : Rules) (latest : ℕ) (o : Origin) (steps : List Step) → RunEndsAs rules latest o steps [] 1 100 (causes.Long 0) → ⊥ }
-    ensures input { (begin : Partition) (steps : List Step) (trail : List Settled) (latest : ℕ) → RunsOn nothing_asked [] begin [] steps trail 1 100 latest causes.Usage → ⊥ }
+    ensures other_number { (rules : Rules) (latest : ℕ) (o : Origin) (steps : List Step) → RunEndsAs rules latest o steps [] (by_steps 0) (causes.Long 3) → ⊥ }
+    ensures too_few { (rules : Rules) (latest : ℕ) (o : Origin) (steps : List Step) → RunEndsAs rules latest o steps [] (by_steps 1) (causes.Long 0) → ⊥ }
+    ensures input { (begin : Partition) (steps : List Step) (trail : List Settled) (latest : ℕ) → RunsOn nothing_asked [] begin [] steps trail (terms_by 1 latest) causes.Usage → ⊥ }
 {}
 
 /// The run in which nothing happens is orderly; one in which a task is ended twice isn't.

@@ -9,6 +9,7 @@ use Rattle.dura_value.specs.Items.{Entry}
 use Rattle.hub_store.specs.Ways.{way_of}
 use Rattle.part_rounds.specs.Comes.{Leaves}
 use Rattle.part_rounds.specs.Commits.{IsFull}
+use Rattle.part_rounds.specs.InTime.{GoesByClock}
 use Rattle.part_rounds.specs.Rounds.{pairs_of}
 use Rattle.hub_store.specs.declared.stop.Stop.{Stop}
 use Rattle.hub_store.specs.declared.stop.Stop.TheVariants as stops
@@ -80,7 +81,9 @@ returns-in-Ok g c = record {
       let stands = with_later (g.N.Start.may_follow new.latest) (g.N.Start.may_follow latest) g.N.Start.may_say may o steps (trail_in new) (told_in new) [] (told.rests (c.drive.ensures.sound.uncut c.in-Ok-Rest.ensures.still)) in
       let leaves = subst (Leaves rules (o.logs 0) new.latest (of_part 0 (trail_in new)) (pairs_of (told_in new)) queues clients c.args.options.steps) c.in-Ok-Rest.field-0-is c.in-Ok-Rest.ensures.leaves in
       let rest = at_rest (g.N.Start.may_follow latest) g.N.Start.may_say rules latest o steps (trail_in new) (told_in new) new.latest queues clients c.in-Ok-Rest.state stands c.in-Ok-Rest.ensures.said (c.requires.asked (c.drive.ensures.tells tells)) c.requires.clients leaves.0 leaves.1 in
-      rest_ends (g.N.Start.may_follow latest) g.N.Start.may_say rules latest o steps (trail_in new) (told_in new) queues clients c.args.options.steps c.args.options.segment c.in-Ok.cause rest c.requires.clients c.in-Ok.ensures;
+      rest_ends (g.N.Start.may_follow latest) g.N.Start.may_say rules latest o steps (trail_in new) (told_in new) queues clients c.args.options c.in-Ok.cause rest c.requires.clients c.in-Ok.ensures;
+  goes = subst (λ (l : List (List ℕ)). GoesByClock g.N.Ruled.rules g.A.Activities.gives c.args.options.batch l (g.C.Clock.given c.args.clock.now) (of_part 0 (trail_in c.args.store.now)) (told_in c.args.store.now) (g.C.Clock.given c.drive.new.clock) (of_part 0 (trail_in c.drive.new.store)) (told_in c.drive.new.store)) c.requires.clients c.drive.ensures.goes;
+  no_more = c.drive.ensures.no_more;
   late = rest_late c.drive.new.port.queues c.args.clients.now c.in-Ok.cause c.in-Ok.ensures;
   fault = λ is. absurd (subst (IsRestCause c.drive.new.port.queues c.args.clients.now) is c.in-Ok.ensures);
   say_fault = λ is. absurd (subst (IsRestCause c.drive.new.port.queues c.args.clients.now) is c.in-Ok.ensures);
@@ -97,6 +100,8 @@ returns-in-Err-rest_cause g c = record {
   moment = moment_above _ _ _ _ c.drive.ensures.latest c.drive.ensures.moments c.requires.moment;
   whole = λ other. c.drive.ensures.sound.uncut c.in-Ok-Rest.ensures.still;
   ends = λ tells. tt;
+  goes = subst (λ (l : List (List ℕ)). GoesByClock g.N.Ruled.rules g.A.Activities.gives c.args.options.batch l (g.C.Clock.given c.args.clock.now) (of_part 0 (trail_in c.args.store.now)) (told_in c.args.store.now) (g.C.Clock.given c.drive.new.clock) (of_part 0 (trail_in c.drive.new.store)) (told_in c.drive.new.store)) c.requires.clients c.drive.ensures.goes;
+  no_more = c.drive.ensures.no_more;
   late = tt;
   fault = λ is. absurd (memory_no_site Memory refl is);
   say_fault = λ is. absurd (memory_no_say Memory refl is);
@@ -132,6 +137,8 @@ returns-in-Ok-Long g c = record {
           asked = c.requires.asked (c.drive.ensures.tells tells);
         },
       );
+  goes = subst (λ (l : List (List ℕ)). GoesByClock g.N.Ruled.rules g.A.Activities.gives c.args.options.batch l (g.C.Clock.given c.args.clock.now) (of_part 0 (trail_in c.args.store.now)) (told_in c.args.store.now) (g.C.Clock.given c.drive.new.clock) (of_part 0 (trail_in c.drive.new.store)) (told_in c.drive.new.store)) c.requires.clients c.drive.ensures.goes;
+  no_more = c.drive.ensures.no_more;
   late = tt;
   fault = λ is. absurd (cc is);
   say_fault = λ is. absurd (cc is);
@@ -160,14 +167,17 @@ returns-in-Err g c = record {
       let may : (trail : List Settled) (told : List Said) (partition : ℕ) (going : List Entry) → g.N.Start.may_follow new.latest trail told partition going → g.N.Start.may_follow latest trail told partition going =
       λ trail told partition going follows. g.N.Start.later_follows new.latest latest trail told partition going above follows in
       let segment = c.drive.ensures.segment ∙ c.requires.segment in
-      subst (λ (cause : Cause). EndsAs (g.N.Start.may_follow latest) g.N.Start.may_say rules latest g.N.Start.origin steps (trail_in new) c.args.options.steps c.args.options.segment cause) (sym c.cause_of.ensures)
-      (stop_ends (g.N.Start.may_follow latest) g.N.Start.may_say rules latest g.N.Start.origin steps (trail_in new) (told_in new) new.latest above c.args.options.steps c.args.options.segment (way_of new.ways.items 0) c.in-Err.stop c.requires.fits
-      (λ partition length_then is. subst (λ (n : ℕ). IsFull rules new.latest (of_part 0 (trail_in new)) (pairs_of (told_in new)) n (way_of new.ways.items 0) partition length_then) segment
+      subst (λ (cause : Cause). EndsAs (g.N.Start.may_follow latest) g.N.Start.may_say rules latest g.N.Start.origin steps (trail_in new) c.args.options cause) (sym c.cause_of.ensures)
+      (stop_ends (g.N.Start.may_follow latest) g.N.Start.may_say rules latest g.N.Start.origin steps (trail_in new) (told_in new) new.latest above c.args.options (way_of new.ways.items 0) c.in-Err.stop c.requires.fits
+      (λ partition length_then is. subst (λ (n : ℕ). IsFull rules c.args.options.batch new.latest (of_part 0 (trail_in new)) (pairs_of (told_in new)) n (way_of new.ways.items 0) partition length_then) segment
       (c.in-Err.ensures.full partition length_then (ap (λ (stop : Stop). Err stop) is)))
+      (λ partition number is. c.in-Err.ensures.spent partition number (ap (λ (stop : Stop). Err stop) is))
       fits
       (λ other. with_later (g.N.Start.may_follow new.latest) (g.N.Start.may_follow latest) g.N.Start.may_say may g.N.Start.origin steps (trail_in new) (told_in new) [] (told.rests (c.drive.ensures.whole (λ is. other (let same : c.in-Err.stop ≡ stops.SayFault = cc (c.in-Err.is, is) in same)))))
       (c.requires.asked (c.drive.ensures.tells tells)));
-  late = subst IsLateCause (sym c.cause_of.ensures) (stop_late c.in-Err.stop);
+  goes = subst (λ (l : List (List ℕ)). GoesByClock g.N.Ruled.rules g.A.Activities.gives c.args.options.batch l (g.C.Clock.given c.args.clock.now) (of_part 0 (trail_in c.args.store.now)) (told_in c.args.store.now) (g.C.Clock.given c.drive.new.clock) (of_part 0 (trail_in c.drive.new.store)) (told_in c.drive.new.store)) c.requires.clients c.drive.ensures.goes;
+  no_more = c.drive.ensures.no_more;
+  late = subst IsLateCause (sym c.cause_of.ensures) (stop_late c.in-Err.stop (λ partition number is. let spent = c.in-Err.ensures.spent partition number (ap (λ (stop : Stop). Err stop) is) in (spent.alone, spent.reaches)));
   fault = λ is. c.in-Err.ensures.fault (ap (λ (stop : Stop). Err stop) (site_stop c.in-Err.stop (sym c.cause_of.ensures ∙ is)));
   say_fault = λ is. c.in-Err.ensures.say_fault (ap (λ (stop : Stop). Err stop) (say_stop c.in-Err.stop (sym c.cause_of.ensures ∙ is)));
   clock_fault = λ is. c.in-Err.ensures.clock_fault (ap (λ (stop : Stop). Err stop) (clock_stop c.in-Err.stop (sym c.cause_of.ensures ∙ is)));

@@ -1,16 +1,17 @@
-use Rattle.std.proofs.Common.{◌≡◌, ◌≤◌, ◌⊎◌, ◌∙◌, inl, inr, ℕ, List, [], length, map, sym, ap, subst, arith}
+use Rattle.std.proofs.Common.{◌≡◌, ◌^◌, refl, ◌≤◌, ◌⊎◌, ◌∙◌, inl, inr, ℕ, List, [], length, map, sym, ap, subst, arith}
 use Rattle.std.proofs.Math.Nat.{le_of_eq}
 use Rattle.client_port.specs.Clients.{clients_of}
 use Rattle.client_port.specs.Ports.{Queue, queues_of}
 use Rattle.dura_value.specs.Items.{Entry}
-use Rattle.engine_run.specs.Ends.{GoesOn, Stays, IsLateCause}
-use Rattle.engine_run.proofs.Ending.{memory_no_site, memory_no_say, memory_no_clock}
+use Rattle.engine_run.specs.Ends.{GoesOn, Stays, IsLateCause, IsWanting, terms_of}
+use Rattle.engine_run.proofs.Ending.{memory_no_site, memory_no_say, memory_no_clock, spent_no_site, spent_no_say, spent_no_clock}
 use Rattle.engine_run.proofs.Queues.{clients_named, nothing_said}
 use Rattle.engine_run.proofs.Runs.{run_further, nothing_before, settled_by}
 use Rattle.engine_run.proofs.running.go.Goals as goal
 use Rattle.hub_store.specs.Changes.{trail_in, told_in}
 use Rattle.hub_store.specs.Trail.{Settled, Said, of_part}
 use Rattle.hub_store.proofs.Later.{with_later, moments_later}
+use Rattle.part_rounds.specs.InTime.{GoesByClock}
 use Rattle.part_rounds.specs.Rounds.{HasSaid, Stands}
 use Rattle.part_steps.specs.States.{state_of}
 use Rattle.request_reader.specs.Line.{request_of}
@@ -92,14 +93,15 @@ drive_on-cause-requires-clause-clients g c =
 pub returns-then-position-ge-PLACES : goal.returns-then-position-ge-PLACES
 returns-then-position-ge-PLACES g c =
     let site_is = c.end_with.ensures.site in
-    let wanting = c.end_with.ensures.cause in record {
+    let wanting = c.end_with.ensures.cause in
+    let reaches : 2 ^ 62 ≤ c.position-position.result = search in record {
       told = λ tells. subst g.V.Site.tells site_is tells;
       status = c.end_with.ensures.status ∙ ap status_of (sym wanting);
-      late = subst IsLateCause (sym wanting) tt;
-      goes = λ tells. inr (record { same = ap g.V.Site.history site_is; nothing = c.end_with.ensures.trail ∙ c.none-nothing.ensures; wanting = wanting });
-      fault = λ is. absurd (memory_no_site c.end_with.result.cause wanting is);
-      say_fault = λ is. absurd (memory_no_say c.end_with.result.cause wanting is);
-      clock_fault = λ is. absurd (memory_no_clock c.end_with.result.cause wanting is);
+      late = subst IsLateCause (sym wanting) (refl, reaches);
+      goes = λ tells. inr (record { same = ap g.V.Site.history site_is; nothing = c.end_with.ensures.trail ∙ c.none-nothing.ensures; wanting = subst (IsWanting (state_of c.args.prepared.state).position) (sym wanting) (refl, c.position-position.ensures, reaches) });
+      fault = λ is. absurd (spent_no_site 0 c.position-position.result c.end_with.result.cause wanting is);
+      say_fault = λ is. absurd (spent_no_say 0 c.position-position.result c.end_with.result.cause wanting is);
+      clock_fault = λ is. absurd (spent_no_clock 0 c.position-position.result c.end_with.result.cause wanting is);
       later = le_of_eq (ap g.V.Site.disk_faults (sym site_is));
       say_later = le_of_eq (ap g.V.Site.say_faults (sym site_is));
       clock_later = le_of_eq (ap g.C.Clock.clock_faults (sym c.end_with.ensures.clock));
@@ -112,7 +114,7 @@ returns-in_default g c =
       told = λ tells. subst g.V.Site.tells site_is tells;
       status = c.end_with-in_default.ensures.status ∙ ap status_of (sym wanting);
       late = subst IsLateCause (sym wanting) tt;
-      goes = λ tells. inr (record { same = ap g.V.Site.history site_is; nothing = c.end_with-in_default.ensures.trail ∙ c.none-nothing.ensures; wanting = wanting });
+      goes = λ tells. inr (record { same = ap g.V.Site.history site_is; nothing = c.end_with-in_default.ensures.trail ∙ c.none-nothing.ensures; wanting = subst (IsWanting (state_of c.args.prepared.state).position) (sym wanting) tt });
       fault = λ is. absurd (memory_no_site c.end_with-in_default.result.cause wanting is);
       say_fault = λ is. absurd (memory_no_say c.end_with-in_default.result.cause wanting is);
       clock_fault = λ is. absurd (memory_no_clock c.end_with-in_default.result.cause wanting is);
@@ -128,7 +130,7 @@ returns-in_default-vec g c =
       told = λ tells. subst g.V.Site.tells site_is tells;
       status = c.end_with-in_default-vec.ensures.status ∙ ap status_of (sym wanting);
       late = subst IsLateCause (sym wanting) tt;
-      goes = λ tells. inr (record { same = ap g.V.Site.history site_is; nothing = c.end_with-in_default-vec.ensures.trail ∙ c.none-nothing.ensures; wanting = wanting });
+      goes = λ tells. inr (record { same = ap g.V.Site.history site_is; nothing = c.end_with-in_default-vec.ensures.trail ∙ c.none-nothing.ensures; wanting = subst (IsWanting (state_of c.args.prepared.state).position) (sym wanting) tt });
       fault = λ is. absurd (memory_no_site c.end_with-in_default-vec.result.cause wanting is);
       say_fault = λ is. absurd (memory_no_say c.end_with-in_default-vec.result.cause wanting is);
       clock_fault = λ is. absurd (memory_no_clock c.end_with-in_default-vec.result.cause wanting is);
@@ -144,7 +146,7 @@ returns-in-Err g c =
       told = λ tells. subst g.V.Site.tells site_is tells;
       status = c.end_with-in-Err.ensures.status ∙ ap status_of (sym wanting);
       late = subst IsLateCause (sym wanting) tt;
-      goes = λ tells. inr (record { same = ap g.V.Site.history site_is; nothing = c.end_with-in-Err.ensures.trail ∙ c.none-nothing.ensures; wanting = wanting });
+      goes = λ tells. inr (record { same = ap g.V.Site.history site_is; nothing = c.end_with-in-Err.ensures.trail ∙ c.none-nothing.ensures; wanting = subst (IsWanting (state_of c.args.prepared.state).position) (sym wanting) tt });
       fault = λ is. absurd (memory_no_site c.end_with-in-Err.result.cause wanting is);
       say_fault = λ is. absurd (memory_no_say c.end_with-in-Err.result.cause wanting is);
       clock_fault = λ is. absurd (memory_no_clock c.end_with-in-Err.result.cause wanting is);
@@ -173,9 +175,13 @@ returns g c =
           let latest = g.C.Clock.latest c.drive_on-cause.new.clock in
           let later : (trail : List Settled) (told : List Said) (partition : ℕ) (going : List Entry) → g.N.Start.may_follow store.latest trail told partition going → g.N.Start.may_follow latest trail told partition going =
           λ trail told partition going may. g.N.Start.later_follows store.latest latest trail told partition going c.drive_on-cause.ensures.moment may in
-          let most = c.args.options.steps in
-          let segment = c.args.options.segment in
-          let goes : GoesOn (g.N.Start.may_follow latest) g.N.Start.may_say g.N.Ruled.rules latest g.N.Start.origin (g.V.Site.history store.site) (trail_in store) most segment c.drive_on-cause.result = record {
+          let before = g.C.Clock.given c.args.clock in
+          let terms = terms_of c.args.options g.A.Activities.gives before (g.C.Clock.given c.drive_on-cause.new.clock) latest in
+          let place = (state_of c.args.prepared.state).position in
+          let course =
+          subst (λ (t : List Said). GoesByClock g.N.Ruled.rules g.A.Activities.gives c.args.options.batch (clients_of g.N.Ruled.rules.requests) before [] t (g.C.Clock.given c.drive_on-cause.new.clock) (of_part 0 (trail_in store)) (told_in store)) c.in-Ok-begin.ensures.told
+          (subst (λ (t : List Settled). GoesByClock g.N.Ruled.rules g.A.Activities.gives c.args.options.batch (clients_of g.N.Ruled.rules.requests) before (of_part 0 t) (told_in c.in-Ok-begin.store) (g.C.Clock.given c.drive_on-cause.new.clock) (of_part 0 (trail_in store)) (told_in store)) c.in-Ok-begin.ensures.trail c.drive_on-cause.ensures.goes) in
+          let goes : GoesOn (g.N.Start.may_follow latest) g.N.Start.may_say g.N.Ruled.rules latest g.N.Start.origin (g.V.Site.history store.site) (trail_in store) terms c.drive_on-cause.result = record {
             every = moments_later (g.N.Start.may_follow store.latest) (g.N.Start.may_follow latest) g.N.Start.may_say later g.N.Start.origin (g.V.Site.history store.site) (trail_in store) (c.end-site.ensures.every tells_then);
             further = run_further told.runs;
             nothing = nothing_before told.runs;
@@ -184,13 +190,15 @@ returns g c =
               told_in store,
               with_later (g.N.Start.may_follow store.latest) (g.N.Start.may_follow latest) g.N.Start.may_say later g.N.Start.origin (g.V.Site.history store.site) (trail_in store) (told_in store) [] (c.end-site.ensures.whole tells_then (c.drive_on-cause.ensures.whole other)),
             );
+            in_time = record { told = told_in store; course = course; no_more = c.drive_on-cause.ensures.no_more };
             ends = c.drive_on-cause.ensures.ends tells_then;
           } in
-          subst (λ (n : ℕ). GoesOn (g.N.Start.may_follow n) g.N.Start.may_say g.N.Ruled.rules n g.N.Start.origin (g.V.Site.history end.result.site) end.result.trail most segment end.result.cause ⊎ Stays (g.V.Site.history c.args.site) (g.V.Site.history end.result.site) end.result.trail end.result.cause)
-          (ap g.C.Clock.latest (sym end.ensures.clock))
-          (inl (subst (λ (cause : Cause). GoesOn (g.N.Start.may_follow latest) g.N.Start.may_say g.N.Ruled.rules latest g.N.Start.origin (g.V.Site.history end.result.site) end.result.trail most segment cause) (sym end.ensures.cause)
-          (subst (λ (t : List Settled). GoesOn (g.N.Start.may_follow latest) g.N.Start.may_say g.N.Ruled.rules latest g.N.Start.origin (g.V.Site.history end.result.site) t most segment c.drive_on-cause.result) (sym trail_is)
-          (subst (λ site. GoesOn (g.N.Start.may_follow latest) g.N.Start.may_say g.N.Ruled.rules latest g.N.Start.origin (g.V.Site.history site) (trail_in store) most segment c.drive_on-cause.result) (sym site_is) goes))));
+          subst (λ clock. GoesOn (g.N.Start.may_follow (g.C.Clock.latest clock)) g.N.Start.may_say g.N.Ruled.rules (g.C.Clock.latest clock) g.N.Start.origin (g.V.Site.history end.result.site) end.result.trail (terms_of c.args.options g.A.Activities.gives before (g.C.Clock.given clock) (g.C.Clock.latest clock)) end.result.cause
+          ⊎ Stays (g.V.Site.history c.args.site) (g.V.Site.history end.result.site) end.result.trail place end.result.cause)
+          (sym end.ensures.clock)
+          (inl (subst (λ (cause : Cause). GoesOn (g.N.Start.may_follow latest) g.N.Start.may_say g.N.Ruled.rules latest g.N.Start.origin (g.V.Site.history end.result.site) end.result.trail terms cause) (sym end.ensures.cause)
+          (subst (λ (t : List Settled). GoesOn (g.N.Start.may_follow latest) g.N.Start.may_say g.N.Ruled.rules latest g.N.Start.origin (g.V.Site.history end.result.site) t terms c.drive_on-cause.result) (sym trail_is)
+          (subst (λ site. GoesOn (g.N.Start.may_follow latest) g.N.Start.may_say g.N.Ruled.rules latest g.N.Start.origin (g.V.Site.history site) (trail_in store) terms c.drive_on-cause.result) (sym site_is) goes))));
       fault = λ is. subst (λ site. HasRisen (g.V.Site.disk_faults c.args.site) (g.V.Site.disk_faults site)) (sym site_is) (subst (λ site. HasRisen (g.V.Site.disk_faults site) (g.V.Site.disk_faults now)) begun_is (driven.fault (sym end.cause ∙ is)));
       say_fault = λ is. subst (λ site. HasRisen (g.V.Site.say_faults c.args.site) (g.V.Site.say_faults site)) (sym site_is) (subst (λ site. HasRisen (g.V.Site.say_faults site) (g.V.Site.say_faults now)) begun_is (driven.say_fault (sym end.cause ∙ is)));
       clock_fault = λ is. subst (λ clock. HasRisen (g.C.Clock.clock_faults c.args.clock) (g.C.Clock.clock_faults clock)) (sym end.clock) (driven.clock_fault (sym end.cause ∙ is));

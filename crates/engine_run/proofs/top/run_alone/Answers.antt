@@ -4,6 +4,7 @@ use Rattle.command_words.specs.Command.{call_in}
 use Rattle.command_words.specs.declared.words.Call.TheVariants.{Run, Show}
 use Rattle.command_words.specs.declared.words.RunOptions.{RunOptions}
 use Rattle.engine_run.specs.Causes.{Answers, SettlesNothing, Untouched}
+use Rattle.engine_run.specs.Ends.{terms_of}
 use Rattle.engine_run.specs.Headline.{Headline}
 use Rattle.engine_run.specs.Opened.{IsOpening}
 use Rattle.engine_run.specs.Prepared.{IsEarlyCause}
@@ -46,7 +47,7 @@ returns-in-Ok-Run g c =
       untouched = λ options asked. ran.untouched;
       refused = λ tells options asked refused. ran.refused tells refused;
       settles_nothing = λ is. ran.settles_nothing (subst (λ call. SettlesNothing call end.cause) is_run is);
-      headline = λ tells options asked job asks. subst (λ (o : RunOptions). Headline job (λ file. content_of file old) old (g.V.Site.history end.site) end.trail o.steps o.segment (g.C.Clock.latest end.clock) end.cause) (run_same (call_in c.args.words.now) c.in-Ok-Run.options options is asked) (ran.headline tells job asks);
+      headline = λ tells options asked job asks. subst (λ (o : RunOptions). Headline job (λ file. content_of file old) old (g.V.Site.history end.site) end.trail (terms_of o g.A.Activities.gives (g.C.Clock.given c.args.clock) (g.C.Clock.given end.clock) (g.C.Clock.latest end.clock)) end.cause) (run_same (call_in c.args.words.now) c.in-Ok-Run.options options is asked) (ran.headline tells job asks);
       shows = λ tells partitions asked. absurd (run_no_show (call_in c.args.words.now) c.in-Ok-Run.options partitions is asked);
       writes_nothing = λ partitions asked. absurd (run_no_show (call_in c.args.words.now) c.in-Ok-Run.options partitions is asked);
       fault = ran.fault;

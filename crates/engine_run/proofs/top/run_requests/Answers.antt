@@ -4,7 +4,8 @@ use Rattle.dura_model.specs.Partition.{Partition}
 use Rattle.dura_model.specs.Placed.{Belongs}
 use Rattle.dura_value.specs.Items.{Entry}
 use Rattle.engine_run.specs.Causes.{Answers, Untouched}
-use Rattle.engine_run.specs.Ends.{IsLateCause}
+use Rattle.engine_run.specs.Ends.{IsLateCause, terms_of}
+use Rattle.engine_run.proofs.Ending.{wanting_early}
 use Rattle.engine_run.specs.Headline.{RunsOn, Headline}
 use Rattle.engine_run.specs.Job.{Job, AreGivenIn}
 use Rattle.engine_run.specs.Opened.{IsOpening}
@@ -102,17 +103,18 @@ returns-in-Ok g c =
           let prepared = c.in-Ok.ensures.prepared told in
           let asked = c.in-Ok.ensures.asks told in
           let opens = c.in-Ok.ensures.opens told own asked in
-          let core : Headline own (λ file. content_of file old) old new end.trail c.args.options.steps c.args.options.segment (g.C.Clock.latest end.clock) end.cause = λ entries begin keeps given.
+          let terms = terms_of c.args.options g.A.Activities.gives (g.C.Clock.given c.args.clock) (g.C.Clock.given end.clock) (g.C.Clock.latest end.clock) in
+          let core : Headline own (λ file. content_of file old) old new end.trail terms end.cause = λ entries begin keeps given.
           let same = same_entries own (λ file. content_of file old) prepared.entries entries state begin prepared.keeps keeps in
           let same_begin = same_state own (λ file. content_of file old) prepared.entries entries state begin prepared.keeps keeps in
           elim (c.go_named.ensures.goes tells) [
             | inl goes ↦
-                let runs = runs_on own old steps new prepared.entries state prepared.keeps (subst (AreGivenIn own) (sym same) given) p.log prepared.opened opens p.life prepared.life_is c.in-Ok.ensures.can.younger end.trail c.args.options.steps c.args.options.segment (g.C.Clock.latest end.clock) end.cause goes in
-                inl (subst (λ (l : List Entry). RunsOn own l begin old new end.trail c.args.options.steps c.args.options.segment (g.C.Clock.latest end.clock) end.cause) same
-                (subst (λ (q : Partition). RunsOn own prepared.entries q old new end.trail c.args.options.steps c.args.options.segment (g.C.Clock.latest end.clock) end.cause) same_begin runs))
-            | inr stays ↦ inr (record { early = subst IsEarlyCause (sym stays.wanting) tt; nothing = stays.nothing; opening = subst (Always (IsOpening own entries old) old) (sym stays.same) (opens entries begin keeps given) })
+                let runs = runs_on own old steps new prepared.entries state prepared.keeps (subst (AreGivenIn own) (sym same) given) p.log prepared.opened opens p.life prepared.life_is c.in-Ok.ensures.can.younger end.trail terms end.cause goes in
+                inl (subst (λ (l : List Entry). RunsOn own l begin old new end.trail terms end.cause) same
+                (subst (λ (q : Partition). RunsOn own prepared.entries q old new end.trail terms end.cause) same_begin runs))
+            | inr stays ↦ inr (record { early = wanting_early (state_of p.state).position end.cause stays.wanting; nothing = stays.nothing; opening = subst (Always (IsOpening own entries old) old) (sym stays.same) (opens entries begin keeps given) })
           ] in
-          subst (λ (j : Job). Headline j (λ file. content_of file old) old new end.trail c.args.options.steps c.args.options.segment (g.C.Clock.latest end.clock) end.cause) (same_job (λ file. content_of file old) own job asked asks) core;
+          subst (λ (j : Job). Headline j (λ file. content_of file old) old new end.trail terms end.cause) (same_job (λ file. content_of file old) own job asked asks) core;
       fault = λ is. risen_later _ _ _ prepare.later gone.later (gone.fault is);
       say_fault = λ is. subst (λ (n : ℕ). HasRisen n (g.V.Site.say_faults c.go_named.result.site)) prepare.say_faults (gone.say_fault is);
       clock_fault = gone.clock_fault;

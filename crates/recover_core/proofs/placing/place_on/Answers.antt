@@ -19,7 +19,7 @@ enter-entered-requires g c =
     record {
       sound = ready.0;
       younger = ready.2;
-      room = subst (λ (p : Placing). position_in p < 2 ^ 62) c.in-On.is c.requires.room;
+      room = let room = subst (λ (p : Placing). position_in p < 2 ^ 62) c.in-On.is c.requires.room in omega (arith, room);
     }
 
 pub place_items-requires-clause-begun : goal.place_items-requires-clause-begun

@@ -18,7 +18,7 @@ use Rattle.part_rounds.specs.Fills.{Fills}
 use Rattle.part_rounds.specs.Further.{GoesFurther}
 use Rattle.run_causes.specs.declared.cause.Cause.TheVariants as causes
 use Rattle.run_rules.specs.Rules.{IsAsked, IsDue, EndsPending}
-use Rattle.run_examples.specs.Calls.{no_flows, starting, rules_for}
+use Rattle.run_examples.specs.Calls.{by_steps, no_flows, starting, rules_for}
 use Rattle.run_examples.proofs.call_examples.runs_end.Goals as goal
 
 nobody_asks : (before : List Message) (r : Message) (behind : List Message) → [] ≡ before ++ r ∷ behind → ⊥
@@ -69,7 +69,7 @@ returns-clause-labels c = λ latest. (
 )
 
 pub returns-clause-at_rest : goal.returns-clause-at_rest
-returns-clause-at_rest c = λ latest ends. none_left (has_served (rules_for []) latest nowhere [] [] 0 100 (causes.Long 0) (λ who number is. cc is) ends)
+returns-clause-at_rest c = λ latest ends. none_left (has_served (rules_for []) latest nowhere [] [] (by_steps 0) (causes.Long 0) (λ who number is. cc is) ends)
 
 pub returns-clause-left : goal.returns-clause-left
 returns-clause-left c = (fresh 0, refl, λ quiet. let wrong : true ≡ false = quiet.asked [] request [] refl in cc wrong)
