@@ -1,6 +1,6 @@
 //! Activities: plain steps with outside effects, and those that are shipped.
 
-ghost use Rattle.std.specs.Prelude.{◌≡◌, true, IfOk};
+ghost use Rattle.std.specs.Prelude.{◌≡◌, ℕ, List, true, IfOk};
 ghost use Rattle.std.specs.Option.{option_map};
 ghost use Rattle.activity_table.specs.Table.{may, joined, concatenated, failing, shipped};
 
@@ -10,6 +10,12 @@ use std::alloc::{AllocError, Global};
 
 /// The activities that an engine can run.
 pub trait Activities {
+    ghost use Rattle.dura_value.specs.declared.data.Value.{Value};
+    ghost use Rattle.dura_value.specs.declared.outcome.Outcome.{Outcome};
+
+    /// What an activity of this name gives with this argument and this word.
+    ghost gives: { List ℕ → Value → ℕ → Outcome };
+
     /// Runs an activity. `word` is different for each run, for those that want chance. An activity may be run more
     /// than once; its completion is recorded once. Err is want of memory, and then nothing is recorded.
     fn run(
@@ -19,7 +25,8 @@ pub trait Activities {
         argument: &Value,
         word: u64,
     ) -> Result<Outcome, AllocError>
-        ensures { IfOk result (λ outcome. may name.now argument.now outcome ≡ true) };
+        ensures given { IfOk result (λ outcome. outcome ≡ gives name.now argument.now word) }
+        ensures may { IfOk result (λ outcome. may name.now argument.now outcome ≡ true) };
 }
 
 /// The activities that are shipped.
@@ -31,6 +38,8 @@ pub trait Activities {
 pub struct Table;
 
 impl Activities for Table {
+    ghost gives = { shipped };
+
     #[tactic(auto, using(crate::proofs::Outcomes::shipped_may))]
     fn run(
         &self,

@@ -1,4 +1,5 @@
 pub mod Changes
 pub mod Copying
 pub mod Firsts
+pub mod Least
 pub mod Seen

@@ -1,5 +1,5 @@
 -- The ids that something is there for, one after another.
-use Rattle.std.specs.Prelude.{◌≡◌, Bool, true, Option, Some, None}
+use Rattle.std.specs.Prelude.{◌≡◌, ◌≤◌, ℕ, Bool, true, Option, Some, None}
 use Rattle.std.specs.Ordering.{is_lt, is_le}
 use Rattle.dura_value.specs.Ids.{Id}
 use Rattle.id_maps.specs.Keys.{id_cmp, key_of}
@@ -26,3 +26,9 @@ pub record IsNextBehind (there : Id → Bool) (last : Option Id) (id : Id) : Typ
 -- nothing is there for an id behind the last one
 abbrev pub NoneBehind : (there : Id → Bool) → Option Id → Type 0
 NoneBehind there last = (id : Id) → there id ≡ true → is_behind last id ≡ true → ⊥
+
+-- Something is there for this id and number: for the first id that has any, and of its numbers the least.
+pub record IsFirst (there : Id → ℕ → Bool) (id : Id) (number : ℕ) : Type 0 where
+  pub found : there id number ≡ true
+  pub first : (other : Id) (n : ℕ) → there other n ≡ true → is_no_later id other ≡ true
+  pub least : (n : ℕ) → there id n ≡ true → number ≤ n

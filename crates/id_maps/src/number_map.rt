@@ -1,6 +1,6 @@
 //! What is kept for each id and number.
 
-ghost use Rattle.std.specs.Prelude.{◌≡◌, ◌+◌, ℕ, Some, None, is_some, IsSome, IfSome, IfNone, IfOk, OnOk, option_map, if◌then◌else◌};
+ghost use Rattle.std.specs.Prelude.{◌≡◌, ◌≤◌, ◌+◌, ℕ, Some, None, is_some, IsSome, IfSome, IfNone, IfOk, OnOk, option_map, if◌then◌else◌};
 ghost use Rattle.std.specs.Fn.{FnReturnsAt};
 ghost use Rattle.std.specs.BTreeMap.{get, is_at};
 ghost use Rattle.std.specs.Ordering.{nat_cmp};
@@ -8,6 +8,7 @@ ghost use Rattle.dura_value.specs.Ids.{Id as PlainId};
 ghost use Rattle.dura_value.specs.Views.{id_of};
 ghost use Rattle.id_maps.specs.Copies.{AreNumbersCopied, IsCopyByNumber};
 ghost use Rattle.id_maps.specs.Maps.{by_number, count_of, no_number, at_number, cleared};
+ghost use Rattle.id_maps.specs.Order.{IsFirst};
 
 use crate::entries::{copy_entries, keep};
 use dura_value::Id;
@@ -27,8 +28,10 @@ pub fn copy_numbers<V: Drop, F: Fn(&V) -> Result<V, AllocError>>(
 }
 
 /// The least number.
+#[tactic(auto, using(crate::proofs::Least::no_greater))]
 fn least<V>(numbers: &BTreeMap<u32, V>) -> Option<u32>
     ensures there { IfSome result (λ number. IsSome (get nat_cmp numbers.now number)) }
+    ensures least { IfSome result (λ number. (other : ℕ) → IsSome (get nat_cmp numbers.now other) → number ≤ other) }
     ensures none { IfNone result ((number : ℕ) → get nat_cmp numbers.now number ≡ None) }
 {
     match numbers.first_key_value() {
@@ -77,6 +80,7 @@ impl<V> NumberMap<V> {
     /// The least number of this id that something is kept for.
     pub fn first_of(&self, id: &Id) -> Option<u32>
         ensures there { IfSome result (λ number. IsSome (by_number self.now (id_of id.now) number)) }
+        ensures least { IfSome result (λ number. (other : ℕ) → IsSome (by_number self.now (id_of id.now) other) → number ≤ other) }
         ensures none { IfNone result ((number : ℕ) → by_number self.now (id_of id.now) number ≡ None) }
     {
         match self.entries.get(id) {
@@ -85,9 +89,10 @@ impl<V> NumberMap<V> {
         }
     }
 
-    /// An id and a number that something is kept for, if there are any: of the first such id the least number.
+    /// The first id that something is kept for, and its least number.
     pub fn first(&self) -> Option<(&Id, u32)>
         ensures there { IfSome result (λ one. IsSome (by_number self.now (id_of one.0.now) one.1)) }
+        ensures first { IfSome result (λ one. IsFirst (λ id number. is_some (by_number self.now id number)) (id_of one.0.now) one.1) }
         ensures none { IfNone result ((id : PlainId) (number : ℕ) → by_number self.now id number ≡ None) }
     {
         for (id, numbers) in &self.entries {

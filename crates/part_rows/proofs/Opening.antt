@@ -1,5 +1,5 @@
 -- The message that has waited longest of those that their receivers take.
-use Rattle.std.proofs.Common.{◌≡◌, ◌∙◌, ◌+◌, ◌<◌, ◌≤◌, ◌&&◌, ℕ, List, [], ◌∷◌, drop, length, get_or, Bool, true, false, Option, Some, None, refl, ap, sym, subst, cond, arith}
+use Rattle.std.proofs.Common.{◌≡◌, ◌∙◌, ◌+◌, ◌<◌, ◌≤◌, ◌&&◌, ℕ, List, [], ◌∷◌, drop, length, get_or, Bool, true, false, Option, Some, None, option_map, refl, ap, sym, subst, cond, arith}
 use Rattle.std.specs.List.{find, slice_get}
 use Rattle.std.proofs.lemmas.Option.{slice_get_within, get_or_from_slice_get, slice_get-get_or}
 use Rattle.std.proofs.lemmas.List.{drop_more}
@@ -8,7 +8,7 @@ use Rattle.dura_value.proofs.Ids.{id_same, id_self, both_true}
 use Rattle.dura_value.specs.declared.messages.Message.{Message}
 use Rattle.dura_value.specs.Ids.{Id, id_eq}
 use Rattle.dura_value.specs.Messages as said
-use Rattle.dura_value.specs.Views.{id_of, body_of, messages_of}
+use Rattle.dura_value.specs.Views.{id_of, body_of, message_of, messages_of}
 use Rattle.flow_syntax.specs.Entity.{Entity}
 use Rattle.dura_model.specs.Partition.{first_in}
 use Rattle.part_rows.specs.Open.{lets_in}
@@ -73,6 +73,27 @@ module _ (entities : Id → Option Entity) where
   -- there is none up to the end
   pub found_nowhere : (ms : List Message) (place : ℕ) → find is_taken ms ≡ find is_taken (drop place ms) → length ms ≤ place → NoneOf ms
   found_nowhere ms place so_far past = none_found ms (so_far ∙ ap (find is_taken) (drop_of_length-le ms past))
+
+  -- what is found is found among what the messages say
+  seen_by : (b : Bool) (x : Message) (ms : List Message) → find (λ m. lets_in entities m.from m.to) (messages_of ms) ≡ option_map message_of (find is_taken ms)
+      → cond b (Some (message_of x)) (find (λ m. lets_in entities m.from m.to) (messages_of ms)) ≡ option_map message_of (cond b (Some x) (find is_taken ms))
+  seen_by true x ms later = refl
+  seen_by false x ms later = later
+
+  seen : (ms : List Message) → find (λ m. lets_in entities m.from m.to) (messages_of ms) ≡ option_map message_of (find is_taken ms)
+  seen [] = refl
+  seen (x ∷ ms) = seen_by (is_taken x) x ms (seen ms)
+
+  -- the one at this place has waited longest
+  pub oldest_here : (ms : List Message) (place : ℕ) (m : Message) → find is_taken ms ≡ find is_taken (drop place ms) → slice_get ms place ≡ Some m → is_taken m ≡ true
+      → Some (message_of m) ≡ find (λ x. lets_in entities x.from x.to) (messages_of ms)
+  oldest_here ms place m so_far is taken =
+      let here = so_far ∙ ap (find is_taken) (left ms place m is) ∙ ap (λ (b : Bool). cond b (Some m) (find is_taken (drop (place + 1) ms))) taken in
+      sym (seen ms ∙ ap (option_map message_of) here)
+
+  -- none has waited
+  pub oldest_nowhere : (ms : List Message) (place : ℕ) → find is_taken ms ≡ find is_taken (drop place ms) → length ms ≤ place → None ≡ find (λ x. lets_in entities x.from x.to) (messages_of ms)
+  oldest_nowhere ms place so_far past = sym (seen ms ∙ ap (option_map message_of) (so_far ∙ ap (find is_taken) (drop_of_length-le ms past)))
 
   -- a place inside is one of a message
   pub is_there : {X : Type 0} (ms : List Message) (place : ℕ) → place < length ms → slice_get ms place ≡ None → X

@@ -1,7 +1,8 @@
 -- Which messages their receivers take.
 use Rattle.std.specs.Prelude.{◌≡◌, ℕ, Bool, true, false, Option, Some, None}
+use Rattle.std.specs.List.{find}
 use Rattle.dura_value.specs.Ids.{Id, orchestration, entity, client}
-use Rattle.dura_value.specs.Messages.{Body}
+use Rattle.dura_value.specs.Messages.{Body, Message}
 use Rattle.flow_syntax.specs.Entity.{Entity, takes}
 use Rattle.dura_model.specs.Partition.{Partition, first_in, last_in}
 
@@ -15,6 +16,10 @@ abbrev pub lets_in : (Id → Option Entity) → (from to : Id) → Bool
 lets_in entities from (entity class key) = takes_from (entities (entity class key)) from
 lets_in entities from (orchestration flow key) = true
 lets_in entities from (client name) = true
+
+-- the message that has waited longest of those that their receivers take
+abbrev pub oldest_open : Partition → Option Message
+oldest_open p = find (λ m. lets_in p.entities m.from m.to) p.queue
 
 abbrev pub last_of_entity : Option Entity → ℕ
 last_of_entity None = 0

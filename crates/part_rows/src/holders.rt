@@ -1,11 +1,11 @@
 //! The rows of instances and entities.
 
 ghost use Rattle.std.specs.Prelude.{◌≡◌, Some, None, OnOk, IfSome, IfNone, option_map};
-ghost use Rattle.dura_value.specs.Views.{id_of};
+ghost use Rattle.dura_value.specs.Views.{id_of, message_of};
 ghost use Rattle.flow_messages.specs.Views.{entity_of};
 ghost use Rattle.dura_model.specs.World.{at_id};
 ghost use Rattle.part_rows.specs.Views.{row_of};
-ghost use Rattle.part_rows.specs.Open.{lets_in, last_at, IsOpen, NoneOpen};
+ghost use Rattle.part_rows.specs.Open.{lets_in, last_at, oldest_open, IsOpen, NoneOpen};
 ghost use Rattle.part_rows.specs.Parts.{part_of};
 
 use crate::parts::PartRows;
@@ -46,8 +46,9 @@ impl PartRows {
     }
 
     /// The message that has waited longest of those that their receivers take.
-    #[tactic(auto, using(crate::proofs::Opening::passed_over, crate::proofs::Opening::found_here, crate::proofs::Opening::found_nowhere, crate::proofs::Opening::is_there))]
+    #[tactic(auto, using(crate::proofs::Opening::passed_over, crate::proofs::Opening::found_here, crate::proofs::Opening::found_nowhere, crate::proofs::Opening::is_there, crate::proofs::Opening::oldest_here, crate::proofs::Opening::oldest_nowhere))]
     pub fn first_open(&self) -> Option<&Message>
+        ensures oldest { option_map (λ m. message_of m.now) result ≡ oldest_open (part_of self.now) }
         ensures some { IfSome result (λ m. IsOpen (part_of self.now) (id_of m.now.from) (id_of m.now.to)) }
         ensures none { IfNone result (NoneOpen (part_of self.now)) }
     {

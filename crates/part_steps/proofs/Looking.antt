@@ -1,7 +1,8 @@
 -- What is seen through two views is seen through both; and what is there keeps a partition from being quiet.
-use Rattle.std.proofs.Common.{◌≡◌, ◌∙◌, ℕ, true, false, Option, Some, None, IsSome, ap, sym}
+use Rattle.std.proofs.Common.{◌≡◌, ◌∙◌, ℕ, true, false, Option, Some, None, IsSome, refl, ap, sym}
 use Rattle.std.specs.Prelude.{option_map, is_some}
 use Rattle.dura_value.specs.Ids.{Id}
+use Rattle.id_maps.specs.Order.{IsFirst}
 use Rattle.part_rows.specs.Timers.{IsNext, NoTimer}
 use Rattle.dura_model.specs.Partition.{Partition}
 use Rattle.part_rows.specs.Open.{IsOpen, NoneOpen}
@@ -14,6 +15,17 @@ seen_through {X} {Y} f g (Some x) y is = ap (option_map g) is
 pub seen_there : {X Y : Type 0} (g : X → Y) (x : Option X) → IsSome x → IsSome (option_map g x)
 seen_there g None there = there
 seen_there g (Some x) there = there
+
+test_seen : {X Y : Type 0} (g : X → Y) (x : Option X) → is_some (option_map g x) ≡ is_some x
+test_seen g None = refl
+test_seen g (Some x) = refl
+
+pub seen_first : {X Y : Type 0} (g : X → Y) (f : Id → ℕ → Option X) (id : Id) (number : ℕ) → IsFirst (λ i n. is_some (f i n)) id number → IsFirst (λ i n. is_some (option_map g (f i n))) id number
+seen_first g f id number is = record {
+  found = test_seen g (f id number) ∙ is.found;
+  first = λ other n there. is.first other n (sym (test_seen g (f other n)) ∙ there);
+  least = λ n there. is.least n (sym (test_seen g (f id n)) ∙ there);
+}
 
 pub seen_nowhere : {X Y : Type 0} (g : X → Y) (f : Id → ℕ → Option X) → ((id : Id) (n : ℕ) → f id n ≡ None) → (id : Id) (n : ℕ) → option_map g (f id n) ≡ None
 seen_nowhere g f none id n = ap (option_map g) (none id n)

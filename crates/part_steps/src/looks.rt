@@ -2,6 +2,7 @@
 
 ghost use Rattle.std.specs.Prelude.{◌≡◌, true, false, is_some, IsSome, IfSome, IfNone, option_map};
 ghost use Rattle.dura_value.specs.Views.{id_of, answer_of, message_of};
+ghost use Rattle.id_maps.specs.Order.{IsFirst};
 ghost use Rattle.part_rows.specs.Timers.{IsNext, NoTimer};
 ghost use Rattle.part_rows.specs.Views.{activity_of};
 ghost use Rattle.part_steps.specs.Quiet.{NoActivity, IsQuiet};
@@ -50,10 +51,11 @@ impl PartState {
         self.rows.activities.get(id, task)
     }
 
-    /// A task whose activity is pending, if there is one: of the first such instance the least.
-    #[tactic(auto, using(crate::proofs::Looking::seen_there, crate::proofs::Looking::seen_nowhere))]
+    /// The first instance that has a pending activity, and the least of its tasks that have one.
+    #[tactic(auto, using(crate::proofs::Looking::seen_there, crate::proofs::Looking::seen_first, crate::proofs::Looking::seen_nowhere))]
     pub fn pending_task(&self) -> Option<(&Id, u32)>
         ensures there { IfSome result (λ one. IsSome ((state_of self.now).activities (id_of one.0.now) one.1)) }
+        ensures first { IfSome result (λ one. IsFirst (λ id task. is_some ((state_of self.now).activities id task)) (id_of one.0.now) one.1) }
         ensures none { IfNone result (NoActivity (state_of self.now)) }
     {
         self.rows.activities.first()

@@ -5,7 +5,7 @@ ghost use Rattle.flow_syntax.specs.Syntax.{Flows as PlainFlows};
 ghost use Rattle.part_items.specs.Plain.{item_of};
 ghost use Rattle.dura_model.specs.Partition.{fresh, enter, accepted};
 ghost use Rattle.part_steps.specs.Applied.{Becomes};
-ghost use Rattle.part_steps.specs.Enabled.{moment_at, IsEnabled, NoneEnabled};
+ghost use Rattle.part_steps.specs.Enabled.{ComesNext, moment_at, IsEnabled, NoneEnabled};
 ghost use Rattle.part_steps.specs.Outputs.{outputs_by};
 ghost use Rattle.part_steps.specs.States.{IsSound, state_of, count_of};
 
@@ -118,6 +118,7 @@ impl PartState {
     pub fn enabled(&self, now: u64) -> Result<Option<Item>, AllocError>
         requires { IsSound self.now }
         ensures some { IfOk result (λ item. IfSome item (λ one. (flows : PlainFlows) → IsEnabled flows (count_of self.now) (state_of self.now) (moment_at (state_of self.now) now) (item_of one))) }
+        ensures next { IfOk result (λ item. IfSome item (λ one. ComesNext (state_of self.now) (moment_at (state_of self.now) now) (item_of one))) }
         ensures none { IfOk result (λ item. IfNone item ((flows : PlainFlows) → NoneEnabled flows (count_of self.now) (state_of self.now) (moment_at (state_of self.now) now))) }
     {
         let moment = self.moment(now);
