@@ -11,6 +11,8 @@ pub enum Reason {
     Directory,
     /// Another run holds the directory.
     Locked,
+    /// Another run holds the file, which it has under another name.
+    HeldFile,
     /// What has the file's name is a directory, a pipe or a device.
     NotRegular,
     /// The file is the same as another one, by a link.
@@ -23,6 +25,7 @@ impl fmt::Display for Reason {
             Reason::NullDevice => f.write_str("the null device can't be opened"),
             Reason::Directory => f.write_str("the directory can't be opened or locked"),
             Reason::Locked => f.write_str("another run holds the directory"),
+            Reason::HeldFile => f.write_str("another run holds this file"),
             Reason::NotRegular => f.write_str("not a regular file"),
             Reason::SameAs(name) => write!(f, "the same file as {name}"),
         }

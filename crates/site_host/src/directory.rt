@@ -158,6 +158,7 @@ impl<R: Files<File = File>> Directory<R> {
         }
         self.point_to(name)?;
         let file = File::create_new(&self.rt, self.file_path.as_str())?;
+        self.hold(&file)?;
         self.files.push(OpenFile {
             name,
             file,
@@ -190,6 +191,18 @@ impl<R: Files<File = File>> Directory<R> {
         Ok(true)
     }
 
+    // Locks a log. The lock of the directory doesn't keep out a run that has the same log in another one, by a link.
+    fn hold(&mut self, file: &File) -> io::Result<()> {
+        match file.try_lock() {
+            Ok(()) => Ok(()),
+            Err(TryLockError::WouldBlock) => {
+                let error = io::Error::from(ErrorKind::WouldBlock);
+                Err(self.because(Reason::HeldFile, error))
+            }
+            Err(TryLockError::Error(error)) => Err(error),
+        }
+    }
+
     // Opens the null device for reading until descriptors 0 to 2 are taken. So no file gets one of them, and a standard
     // output that is closed stays one that can't be written.
     fn take_streams(&mut self) -> io::Result<()> {
@@ -218,6 +231,9 @@ impl<R: Files<File = File>> Directory<R> {
         if let Some(other) = self.files.iter().find(|other| other.identity == identity) {
             let reason = Reason::SameAs(other.name);
             return Err(self.because(reason, error));
+        }
+        if !name.is_input() {
+            self.hold(&file)?;
         }
         self.make_safe(&file)?;
         self.files.push(OpenFile {
