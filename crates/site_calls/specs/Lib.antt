@@ -1,4 +1,5 @@
 pub mod Events
+pub mod Failures
 pub mod FileNumbers
 pub mod Known
 pub mod Laws

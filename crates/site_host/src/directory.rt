@@ -1,5 +1,5 @@
 // A directory that is held for the run, and its files, each opened once and kept open.
-ghost use Rattle.std.specs.Prelude.{◌≤◌, length, IfOk};
+ghost use Rattle.std.specs.Prelude.{◌≡◌, ◌<◌, ◌≤◌, length, IfOk, Ok};
 
 use site_calls::{FileName, Reason};
 use std::alloc::{AllocError, Global};
@@ -38,9 +38,9 @@ pub(crate) struct Directory<R> {
 }
 
 #[derive(Drop)]
-pub(crate) struct OpenFile {
+struct OpenFile {
     name: FileName,
-    pub(crate) file: File,
+    file: File,
     // the device and the file's number there, of a file that was found
     identity: Option<(u64, u64)>,
     // why the file can't be written
@@ -68,24 +68,33 @@ impl<R> Directory<R> {
     }
 
     /// The file with this number, which was found or made.
-    pub(crate) fn file(&self, number: u32) -> io::Result<&OpenFile> {
+    fn file(&self, number: u32) -> io::Result<&OpenFile> {
         let name = name_of(number)?;
         let found = self.files.iter().find(|file| file.name == name);
         found.ok_or(io::Error::from(ErrorKind::NotFound))
     }
 
+    pub(crate) fn measure(&self, number: u32) -> io::Result<u64> {
+        Ok(self.file(number)?.file.metadata()?.len())
+    }
+
+    /// Reads some bytes, and says how many.
+    pub(crate) fn read(&self, number: u32, at: u64, out: &mut [u8]) -> io::Result<usize>
+        ensures { IfOk result (λ count. count ≤ length out.old) }
+    {
+        self.file(number)?.file.read_at(out, at)
+    }
+
     /// Writes some of the bytes, and says how many.
     pub(crate) fn write(&self, number: u32, at: u64, bytes: &[u8]) -> io::Result<usize>
-        ensures { IfOk result (λ count. count ≤ length bytes.now) }
+        ensures some { IfOk result (λ count. 0 < count) }
+        ensures count { IfOk result (λ count. count ≤ length bytes.now) }
     {
         let OpenFile { file, refusal, .. } = self.file(number)?;
         if let Some(refusal) = refusal {
             return Err(*refusal);
         }
-        match file.write_at(bytes, at) {
-            Ok(0) => Err(io::Error::from(ErrorKind::WriteZero)),
-            answer => answer,
-        }
+        unless_nothing(file.write_at(bytes, at))
     }
 
     pub(crate) fn sync(&self, number: u32) -> io::Result<()> {
@@ -244,6 +253,18 @@ impl<R: Files<File = File>> Directory<R> {
         })?;
         Ok(())
     }
+}
+
+/// A call that moved no byte, and said so, failed.
+pub(crate) fn unless_nothing(answer: io::Result<usize>) -> io::Result<usize>
+    ensures some { IfOk result (λ count. 0 < count) }
+    ensures same { IfOk result (λ count. answer ≡ Ok count) }
+{
+    let count = answer?;
+    if count == 0 {
+        return Err(io::Error::from(ErrorKind::WriteZero));
+    }
+    Ok(count)
 }
 
 // A number that is no file's is an error.
