@@ -1,5 +1,5 @@
 -- Which calls failed.
-use Rattle.std.proofs.Common.{◌≡◌, ◌<◌, ◌≤◌, ◌+◌, ℕ, Bool, true, List, ◌∷◌, Result, Ok, Err, sym, ap, subst, arith}
+use Rattle.std.proofs.Common.{◌≡◌, ◌<◌, ◌≤◌, ◌+◌, ℕ, Bool, true, List, ◌∷◌, Result, Ok, Err, ap, subst, arith}
 use Rattle.std.specs.Prelude.{cond, OnErr, MatchResult}
 use Rattle.site_calls.specs.Events.{Event}
 use Rattle.site_calls.specs.Failures.{FailsByCall, count_of}

@@ -1,5 +1,5 @@
 -- A read, as far as its calls have come.
-use Rattle.std.proofs.Common.{◌≡◌, ℕ, ◌+◌, ◌-◌, ◌<◌, ◌≤◌, List, ◌∷◌, length, take, drop, sym, ◌∙◌, ap, subst, arith, length-take, length-drop}
+use Rattle.std.proofs.Common.{◌≡◌, ℕ, ◌+◌, ◌-◌, ◌<◌, ◌≤◌, List, ◌∷◌, length, take, drop, ◌∙◌, ap, subst, arith, length-take, length-drop}
 use Rattle.site_model.specs.History.{content_of}
 use Rattle.site_calls.specs.Events.{Event, Unseen, got, replay, IsHonest, Agrees}
 use Rattle.site_calls.specs.Runs.{StandsStill, IsNoted}

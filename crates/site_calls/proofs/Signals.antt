@@ -1,5 +1,5 @@
 -- Calls that are made again after a signal.
-use Rattle.std.proofs.Common.{◌≡◌, ◌<◌, ◌≤◌, ◌+◌, ℕ, Bool, true, false, List, ◌∷◌, length, take, Result, Ok, Err, refl, sym, ◌∙◌, ap, subst, arith}
+use Rattle.std.proofs.Common.{◌≡◌, ◌≤◌, ◌+◌, ℕ, Bool, true, false, List, ◌∷◌, length, take, Result, Ok, Err, refl, sym, ◌∙◌, ap, arith}
 use Rattle.std.specs.Prelude.{OnOk, IfOk, MatchResult}
 use Rattle.site_calls.specs.Events.{Event, Unseen, Standing, put, lost, replay, IsHonest}
 use Rattle.site_calls.specs.Failures.{FailsByCall, count_of}

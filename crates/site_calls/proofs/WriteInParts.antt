@@ -1,9 +1,8 @@
 -- A write, as far as its calls have come.
 use Rattle.std.proofs.Common.{◌≡◌, ℕ, ◌+◌, ◌≤◌, List, ◌∷◌, ◌++◌, length, take, drop, Ok, Err, sym, ◌∙◌, ap, subst, arith, length-append, length-take, length-drop}
 use Rattle.std.proofs.lemmas.List.{take-take, take_at, take_all}
-use Rattle.site_model.specs.History.{on, wrote}
 use Rattle.site_calls.specs.Events.{Event, Unseen, Standing, put, lost, after, replay}
-use Rattle.site_calls.specs.Runs.{stepped, WritesOnce, IsWriting}
+use Rattle.site_calls.specs.Runs.{WritesOnce, IsWriting}
 
 -- the bytes that are known after a call
 put_long : (count : ℕ) (bytes known : List ℕ) → count ≤ length bytes → length known ≤ length bytes

@@ -4,5 +4,6 @@ pub mod FileNumbers
 pub mod Known
 pub mod Laws
 pub mod Notes
+pub mod Reasons
 pub mod Runs
 pub mod Site

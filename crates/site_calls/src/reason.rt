@@ -1,4 +1,7 @@
 // What the system's error doesn't say.
+ghost use Rattle.std.specs.Prelude.{Some};
+ghost use Rattle.site_calls.specs.Reasons.{reason_text};
+
 use crate::file_name::FileName;
 use std::fmt;
 
@@ -20,6 +23,8 @@ pub enum Reason {
 }
 
 impl fmt::Display for Reason {
+    ghost output = { λ reason. Some (reason_text reason) };
+
     fn fmt<W: fmt::Write>(&self, f: &mut fmt::Formatter<W>) -> fmt::Result {
         match *self {
             Reason::NullDevice => f.write_str("the null device can't be opened"),

@@ -4,7 +4,7 @@ ghost use Rattle.std.specs.Prelude.{◌≡◌, ◌<◌, ◌≤◌, length, IfOk,
 use site_calls::{FileName, Reason};
 use std::alloc::{AllocError, Global};
 use std::fmt::Display;
-use std::fs::{File, OpenOptions, TryLockError};
+use std::fs::{File, Metadata, OpenOptions, TryLockError};
 use std::io::ErrorKind;
 use std::os::fd::AsRawFd;
 use std::os::unix::fs::{FileExt, MetadataExt};
@@ -231,11 +231,11 @@ impl<R: Files<File = File>> Directory<R> {
     // Opens the file that the path leads to. A pipe isn't opened, which might wait, nor the same file under two names.
     fn open_there(&mut self, name: FileName) -> io::Result<()> {
         let error = io::Error::from(ErrorKind::InvalidInput);
-        if !fs::metadata(&self.rt, self.file_path.as_str())?.is_file() {
+        if !looked_up(&self.rt, self.file_path.as_str())?.is_file() {
             return Err(self.because(Reason::NotRegular, error));
         }
         let (file, refusal) = open_named(&self.rt, self.file_path.as_str(), name)?;
-        let metadata = file.metadata()?;
+        let metadata = looked_into(&file)?;
         let identity = Some((metadata.dev(), metadata.ino()));
         if let Some(other) = self.files.iter().find(|other| other.identity == identity) {
             let reason = Reason::SameAs(other.name);
@@ -253,6 +253,28 @@ impl<R: Files<File = File>> Directory<R> {
         })?;
         Ok(())
     }
+}
+
+// What there is at a path. A call that a signal cuts off is made again.
+fn looked_up(rt: &impl Files<File = File>, path: &str) -> io::Result<Metadata> {
+    for _ in 0..u64::MAX {
+        match fs::metadata(rt, path) {
+            Err(error) if error.kind() == ErrorKind::Interrupted => {}
+            answer => return answer,
+        }
+    }
+    Err(io::Error::from(ErrorKind::Interrupted))
+}
+
+// The same of an open file.
+fn looked_into(file: &File) -> io::Result<Metadata> {
+    for _ in 0..u64::MAX {
+        match file.metadata() {
+            Err(error) if error.kind() == ErrorKind::Interrupted => {}
+            answer => return answer,
+        }
+    }
+    Err(io::Error::from(ErrorKind::Interrupted))
 }
 
 /// A call that moved no byte, and said so, failed.

@@ -1,6 +1,4 @@
-use Rattle.std.proofs.Common.{ℕ, ◌+◌, arith, Bool, true, false}
-use Rattle.std.specs.Prelude.{cond}
-use Rattle.site_calls.specs.Events.{failed}
+use Rattle.std.proofs.Common.{arith}
 use Rattle.site_calls.specs.Failures.{is_disk_failure}
 use Rattle.site_calls.proofs.laws.an_error_has_its_call.Goals as goal
 

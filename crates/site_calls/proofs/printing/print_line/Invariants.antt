@@ -1,4 +1,4 @@
-use Rattle.std.proofs.Common.{◌≡◌, ◌≤◌, ◌-◌, ℕ, Bool, length, take}
+use Rattle.std.proofs.Common.{◌≡◌, ◌≤◌, ◌-◌, Bool, length, take}
 use Rattle.site_model.specs.History.{saying}
 use Rattle.site_calls.specs.Events.{Event, Unseen, replay}
 use Rattle.site_calls.specs.Failures.{count_of}

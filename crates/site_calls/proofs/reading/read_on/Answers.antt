@@ -1,5 +1,4 @@
-use Rattle.std.proofs.Common.{arith, refl, length, ◌≤◌, ◌+◌, ℕ, subst}
-use Rattle.site_calls.specs.Events.{got}
+use Rattle.std.proofs.Common.{arith, refl, length, ◌≤◌, ◌+◌}
 use Rattle.site_calls.proofs.Events.{told_told, still_still, still_by}
 use Rattle.site_calls.proofs.ReadInParts.{reading_more}
 use Rattle.site_calls.proofs.reading.read_on.Goals as goal

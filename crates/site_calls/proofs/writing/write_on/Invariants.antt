@@ -1,4 +1,4 @@
-use Rattle.std.proofs.Common.{◌≤◌, ◌-◌, ℕ, Bool, length}
+use Rattle.std.proofs.Common.{◌≤◌, ◌-◌, Bool, length}
 use Rattle.site_calls.specs.Events.{Event, Unseen, replay}
 use Rattle.site_calls.specs.Failures.{count_of}
 use Rattle.site_calls.specs.Runs.{StaysHonest, IsWriting}

@@ -1,6 +1,6 @@
 use Rattle.std.proofs.Common.{arith}
 use Rattle.site_calls.specs.Failures.{is_disk_failure, is_say_failure}
-use Rattle.site_calls.proofs.Failures.{counted_once, fails_through}
+use Rattle.site_calls.proofs.Failures.{counted_once}
 use Rattle.site_calls.proofs.Tells.{told_before, syncs_longer, syncs_inside_still}
 use Rattle.site_calls.proofs.site.CalledSiteSite.sync.Goals as goal
 
