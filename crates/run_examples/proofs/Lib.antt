@@ -1,3 +1,4 @@
+pub mod Idle
 pub mod LogsKept
 pub mod Moves
 pub mod Orders
@@ -5,3 +6,4 @@ pub mod Places
 pub mod Ready
 pub mod Shown
 pub mod Stillness
+pub mod Unread
