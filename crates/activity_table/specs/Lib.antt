@@ -1,2 +1,3 @@
 pub mod Activities
+pub mod Chance
 pub mod Table

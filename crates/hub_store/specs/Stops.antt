@@ -3,7 +3,7 @@ use Rattle.std.specs.Prelude.{Bool, true, false}
 use Rattle.hub_store.specs.declared.refusal.BodyRefusal.{BodyRefusal}
 use Rattle.hub_store.specs.declared.refusal.BodyRefusal.TheVariants as refusals
 use Rattle.hub_store.specs.declared.stop.Stop.{Stop}
-use Rattle.hub_store.specs.declared.stop.Stop.TheVariants.{Full, SiteFault, SayFault, ClockFault, Memory}
+use Rattle.hub_store.specs.declared.stop.Stop.TheVariants.{Full, Spent, SiteFault, SayFault, ClockFault, Memory}
 
 -- why a frame was not written
 abbrev pub stop_of_body : BodyRefusal → Stop
@@ -14,6 +14,7 @@ stop_of_body refusals.Memory = Memory
 -- whether the log or the disk is why, or want of memory
 abbrev pub is_of_disk : Stop → Bool
 is_of_disk (Full partition length) = true
+is_of_disk (Spent partition number) = false
 is_of_disk SiteFault = true
 is_of_disk Memory = true
 is_of_disk SayFault = false
@@ -22,6 +23,7 @@ is_of_disk ClockFault = false
 -- whether the tape is why, or want of memory
 abbrev pub is_of_tape : Stop → Bool
 is_of_tape (Full partition length) = false
+is_of_tape (Spent partition number) = false
 is_of_tape SiteFault = false
 is_of_tape Memory = true
 is_of_tape SayFault = true
@@ -30,6 +32,7 @@ is_of_tape ClockFault = false
 -- whether the clock is why, or want of memory
 abbrev pub is_of_clock : Stop → Bool
 is_of_clock (Full partition length) = false
+is_of_clock (Spent partition number) = false
 is_of_clock SiteFault = false
 is_of_clock Memory = true
 is_of_clock SayFault = false

@@ -17,6 +17,13 @@ pub enum Stop {
         /// The length that its log would have.
         length: u64,
     },
+    /// No number is left for another entry: this one isn't below the limit of the format.
+    Spent {
+        /// The partition.
+        partition: u32,
+        /// The number.
+        number: u64,
+    },
     /// The disk failed.
     SiteFault,
     /// The tape failed.

@@ -39,6 +39,28 @@ raised_below old raised now t clock same is low = omega arith
 pub latest_both : (old mid now before after : ℕ) → now ≤ max mid after → mid ≤ max old before → before ≤ after → now ≤ max old after
 latest_both old mid now before after then first rise = omega arith
 
--- labels that are more by few
-pub few_more : (labels steps more : ℕ) → labels < steps → more ≤ 64 → labels + more ≤ steps + 63
-few_more labels steps more less few = omega arith
+-- equal to the other, or to a part of it
+pub low_is : (a b : ℕ) → a ≡ b → a ≤ b
+low_is a b same = omega arith
+
+pub low_add : (a b more : ℕ) → a ≡ b → a ≤ b + more
+low_add a b more same = omega arith
+
+pub low_more : (a b more limit : ℕ) → a ≤ b + more → more ≤ limit → a ≤ b + limit
+low_more a b more limit first then = omega arith
+
+-- labels that are more by few, where there may be more
+pub few_more : (now labels count steps limit : ℕ) → now ≤ count + limit → labels ≡ count → labels < steps → now < steps + limit
+few_more now labels count steps limit few same less = omega arith
+
+pub few_round : (labels more count now steps limit : ℕ) → now ≡ count + more → now ≤ count + limit → labels < steps → labels + more < steps + limit
+few_round labels more count now steps limit is few less = omega arith
+
+pub some_above : (steps limit : ℕ) → 0 < limit → 0 < steps + limit
+some_above steps limit some = omega arith
+
+pub same_less : (labels count bound : ℕ) → labels ≡ count → labels < bound → count < bound
+same_less labels count bound same less = omega arith
+
+pub none_less : (count steps limit : ℕ) → count ≡ 0 → 0 < limit → count < steps + limit
+none_less count steps limit none some = omega arith

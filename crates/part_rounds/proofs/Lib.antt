@@ -1,10 +1,14 @@
 pub mod Entries
 pub mod Counts
+pub mod Course
 pub mod Endings
 pub mod Fillings
 pub mod Further
+pub mod InTime
 pub mod Moments
 pub mod Puttings
 pub mod Queues
+pub mod TimersInTime
+pub mod Turns
 pub mod Walks
 pub mod Stopped

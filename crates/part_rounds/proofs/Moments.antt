@@ -135,7 +135,7 @@ moment_of (ended id task outcome) = 0
 moment_of (fired id task stamp) = stamp
 moment_of (trim reader number) = 0
 
-raised_max : (p : Partition) (stamp : ℕ) → (raised_to stamp p).stamp ≡ max p.stamp stamp
+pub raised_max : (p : Partition) (stamp : ℕ) → (raised_to stamp p).stamp ≡ max p.stamp stamp
 raised_max p stamp = raised_is p.stamp stamp (nat_le p.stamp stamp) refl
 
 -- the greatest moment behind an item is the greater of the one before and the item's
@@ -162,7 +162,7 @@ own_moment (ended id task outcome) moment low = tt
 own_moment (fired id task stamp) moment low = low
 own_moment (trim reader number) moment low = tt
 
-both_some : {X Y : Type 0} (o : Option X) (f : X → Option Y) (y : Y) → option_and_then f o ≡ Some y → (x : X) × (o ≡ Some x) × (f x ≡ Some y)
+pub both_some : {X Y : Type 0} (o : Option X) (f : X → Option Y) (y : Y) → option_and_then f o ≡ Some y → (x : X) × (o ≡ Some x) × (f x ≡ Some y)
 both_some None f y is = absurd (cc is)
 both_some (Some x) f y is = (x, refl, is)
 

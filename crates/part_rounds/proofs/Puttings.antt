@@ -19,7 +19,7 @@ use Rattle.part_rounds.specs.Fills.{Fills, IsUnderWay, GoesOn, Puts, CantTake}
 use Rattle.part_rounds.specs.Rounds.{pairs_of, HasSaid}
 use Rattle.part_rounds.specs.declared.filling.Filling.{Filling}
 use Rattle.part_rounds.proofs.Fillings.{fills_more, fills_all, makes_fills, makes_pending}
-use Rattle.part_steps.specs.Enabled.{Makes, NoneEnabled, moment_at}
+use Rattle.part_steps.specs.Enabled.{Makes}
 use Rattle.part_steps.specs.Enabled.Makes.{nothing, one_more}
 use Rattle.part_steps.specs.Outputs.{Outputs}
 use Rattle.part_rounds.proofs.Queues.{next_due}
@@ -138,12 +138,9 @@ made_nothing : {flows : Flows} {count now : ℕ} {first p : Partition} {items : 
 made_nothing nothing is = refl
 made_nothing (one_more {items} before item at taken) is = let lengths : length items + 1 ≡ 0 = sym (length-append items (item ∷ [])) ∙ ap length is in absurd (omega (arith, lengths))
 
--- where nothing came behind the others, nothing was possible
-pub filled_in_vain : (flows : Flows) (count now : ℕ) (p q : Partition) (old more all : List OwnItem) (made : List Outputs) → count ≡ 1 → Makes flows count now p (items_of more) made q → all ≡ old ++ more → length all ≡ length old
-    → (more ≡ [] → NoneEnabled flows count p (moment_at p now)) → (q ≡ p) × NoneEnabled flows 1 p (moment_at p now)
-filled_in_vain flows count now p q old more all made one makes items same none =
-    let empty : more ≡ [] = nothing_more old more (ap length (sym items) ∙ same) in
-    (made_nothing makes (ap items_of empty), subst (λ (n : ℕ). NoneEnabled flows n p (moment_at p now)) one (none empty))
+-- where nothing came behind the others, the state is as it was
+pub filled_still : (flows : Flows) (count now : ℕ) (p q : Partition) (old more all : List OwnItem) (made : List Outputs) → Makes flows count now p (items_of more) made q → all ≡ old ++ more → length all ≡ length old → q ≡ p
+filled_still flows count now p q old more all made makes items same = made_nothing makes (ap items_of (nothing_more old more (ap length (sym items) ∙ same)))
 
 -- nothing more came in
 pub goes_on_still : (rules : Rules) (told : Told) (filling : Filling) → IsUnderWay filling → GoesOn rules told filling filling

@@ -20,13 +20,15 @@ use Rattle.part_rounds.specs.declared.rounds.Round.TheVariants.{On, Over}
 use Rattle.part_steps.specs.declared.state.PartState.{PartState}
 use Rattle.part_rounds.specs.declared.coming.Coming.TheVariants as comings
 use Rattle.part_rows.specs.Timers.{NoTimer}
+use Rattle.part_steps.specs.Enabled.{NoneEnabled, moment_at}
 use Rattle.part_steps.specs.States.{state_of, count_of, IsSound}
 use Rattle.run_rules.specs.Rules.{Rules, Told}
 
--- an entry's items, 1 to so many, that can be written; or nothing is possible any more, no timer is pending, and the state is as it
--- was
+-- an entry's items, 1 to so many, that can be written, fewer only where no delivery and no timer is possible behind them; or nothing is
+-- possible any more, no timer is pending, and the state is as it was
 abbrev pub Comes : Flows → Partition → List Queue → List (List ℕ) → (limit : ℕ) → Coming → Type 0
 Comes flows p queues clients limit (comings.Filled filling now) = IsUnderWay filling × (0 < length filling.items.items) × (length filling.items.items ≤ limit) × All FitsItem (items_of filling.items.items)
+    × (length filling.items.items < limit → NoneEnabled flows 1 (state_of filling.state) (moment_at (state_of filling.state) now))
 Comes flows p queues clients limit (comings.Rest state) = IsSound state × (count_of state ≡ 1) × (state_of state ≡ p) × ((now : ℕ) × IsIdle flows p queues clients now) × NoTimer p.timers
 
 -- the items lead from this state to that of the filling

@@ -41,7 +41,7 @@ pub(crate) fn commit_items<V: Site, N: Ruled>(
     ensures segment { store.new.segment ≡ store.old.segment }
     ensures latest { store.new.latest ≡ store.old.latest }
     ensures whole { store.new.cut ≡ store.old.cut }
-    ensures full { (of n : ℕ) → result ≡ Err (Stop.Full of n) → IsFull N.rules store.new.latest (of_part 0 (trail_in store.new)) (pairs_of (told_in store.new)) store.new.segment (way_of store.new.ways.items 0) of n }
+    ensures full { (of n : ℕ) → result ≡ Err (Stop.Full of n) → IsFull N.rules (length items.items) store.new.latest (of_part 0 (trail_in store.new)) (pairs_of (told_in store.new)) store.new.segment (way_of store.new.ways.items 0) of n }
     ensures labels { OnOk result (count_labels (of_part 0 (trail_in store.new)) ≡ count_labels (of_part 0 (trail_in store.old)) + length items.items) }
     ensures stops { IfErr result (λ stop. is_of_disk stop ≡ true) }
     ensures fault { result ≡ Err Stop.SiteFault → HasRisen (V.disk_faults store.old.site) (V.disk_faults store.new.site) }

@@ -2,6 +2,7 @@
 
 ghost use Rattle.std.specs.Prelude.{◌≡◌, ◌<◌, ◌≤◌, ◌-◌, max, IfOk, length};
 ghost use Rattle.part_rounds.specs.Fills.{IsUnderWay, GoesOn, Puts};
+ghost use Rattle.part_rounds.specs.InTime.{Giving, GoesOnAt};
 ghost use Rattle.part_steps.specs.Enabled.{NoneEnabled, moment_at};
 ghost use Rattle.part_steps.specs.States.{state_of};
 ghost use Rattle.run_rules.specs.Rules.{Rules, Told};
@@ -64,7 +65,8 @@ pub(crate) fn put<R: Reactions>(
     }
 }
 
-/// Puts the deliveries and timers that are possible now behind the others, up to so many items in all.
+/// Puts the deliveries and timers that are possible now behind the others, up to so many items in all; fewer only where none is possible
+/// behind them.
 pub(crate) fn fill<R: Reactions>(
     alloc: Global,
     reactions: &R,
@@ -78,8 +80,9 @@ pub(crate) fn fill<R: Reactions>(
     ensures under_way { IfOk result (λ next. IsUnderWay next) }
     ensures few { IfOk result (λ next. length next.items.items ≤ limit) }
     ensures moment { IfOk result (λ next. (state_of next.state).stamp ≤ max (state_of filling.state).stamp now) }
-    ensures none { length filling.items.items < limit → IfOk result (λ next. length next.items.items ≡ length filling.items.items
-        → (state_of next.state ≡ state_of filling.state) × NoneEnabled (R.flows reactions.now) 1 (state_of filling.state) (moment_at (state_of filling.state) now)) }
+    ensures at { (gives : Giving) → IfOk result (λ next. GoesOnAt (R.flows reactions.now) now gives filling next) }
+    ensures less { IfOk result (λ next. length next.items.items < limit → NoneEnabled (R.flows reactions.now) 1 (state_of next.state) (moment_at (state_of next.state) now)) }
+    ensures still { IfOk result (λ next. length next.items.items ≡ length filling.items.items → state_of next.state ≡ state_of filling.state) }
 {
     let Filling { state, mut items } = filling;
     let room = limit.saturating_sub(items.len() as u32);

@@ -6,6 +6,7 @@ ghost use Rattle.part_items.specs.ItemFits.{FitsItem};
 ghost use Rattle.hub_store.specs.Trail.{Said};
 ghost use Rattle.part_items.specs.Plain.{items_of};
 ghost use Rattle.part_rounds.specs.Fills.{IsUnderWay, Fills, GoesOn, CantTake, IsIdle};
+ghost use Rattle.part_rounds.specs.InTime.{Giving, GoesOnAt, IsFilledAt};
 ghost use Rattle.part_rounds.specs.Rounds.{pairs_of, HasSaid};
 ghost use Rattle.part_steps.specs.Enabled.{NoneEnabled, moment_at};
 ghost use Rattle.part_steps.specs.States.{state_of, count_of, IsSound};
@@ -47,6 +48,8 @@ pub(crate) fn fill_on<R: Reactions>(
     requires room { length filling.items.items ≤ limit }
     ensures goes_on { (rules : Rules) (told : List Said) → rules.flows ≡ R.flows reactions.now → HasSaid rules told port.now.queues → IfOk result (λ next. GoesOn rules (pairs_of told) filling next) }
     ensures few { IfOk result (λ next. length next.items.items ≤ limit) }
+    ensures at { (gives : Giving) → IfOk result (λ next. GoesOnAt (R.flows reactions.now) now gives filling next) }
+    ensures less { IfOk result (λ next. length next.items.items < limit → NoneEnabled (R.flows reactions.now) 1 (state_of next.state) (moment_at (state_of next.state) now)) }
     ensures moment { IfOk result (λ next. (state_of next.state).stamp ≤ max (state_of filling.state).stamp now) }
     ensures fit { IfOk result (λ next. All FitsItem (items_of next.items.items)) }
     ensures under_way { IfOk result (λ next. IsUnderWay next) }
@@ -83,6 +86,8 @@ pub(crate) fn gather<R: Reactions, A: Activities>(
     ensures fills { (rules : Rules) (told : List Said) → rules.flows ≡ R.flows reactions.now → HasSaid rules told port.now.queues → IfOk result (λ next. Fills rules (pairs_of told) (state_of state) (items_of next.items.items) (state_of next.state)) }
     ensures under_way { IfOk result (λ next. IsUnderWay next) }
     ensures few { IfOk result (λ next. length next.items.items ≤ limit) }
+    ensures at { IfOk result (λ next. IsFilledAt (R.flows reactions.now) chance.now (λ name argument. A.gives name argument chance.word) (state_of state) next) }
+    ensures less { IfOk result (λ next. length next.items.items < limit → NoneEnabled (R.flows reactions.now) 1 (state_of next.state) (moment_at (state_of next.state) chance.now)) }
     ensures moment { IfOk result (λ next. (state_of next.state).stamp ≤ max (state_of state).stamp chance.now) }
     ensures fit { IfOk result (λ next. All FitsItem (items_of next.items.items)) }
     ensures none { IfOk result (λ next. next.items.items ≡ [] → (state_of next.state ≡ state_of state)

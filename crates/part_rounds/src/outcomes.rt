@@ -1,10 +1,11 @@
 //! Running the activities that are pending.
 
 ghost use Rattle.std.specs.List.{All};
-ghost use Rattle.std.specs.Prelude.{◌≡◌, ◌≤◌, [], true, IfOk, IfSome, IfNone, length};
+ghost use Rattle.std.specs.Prelude.{◌≡◌, ◌≤◌, ℕ, [], true, IfOk, IfSome, IfNone, length};
 ghost use Rattle.activity_table.specs.Table.{may};
 ghost use Rattle.part_items.specs.Plain.{item_of, items_of};
 ghost use Rattle.part_rounds.specs.Fills.{IsUnderWay, GoesOn, IsOfPending, CantEnd};
+ghost use Rattle.part_rounds.specs.InTime.{GoesOnAt, IsRun};
 ghost use Rattle.part_steps.specs.Quiet.{NoActivity};
 ghost use Rattle.part_steps.specs.States.{state_of};
 ghost use Rattle.run_rules.specs.Rules.{Rules, Told};
@@ -25,7 +26,8 @@ fn run<A: Activities>(
     activity: &Activity,
     word: u64,
 ) -> Result<Outcome, AllocError>
-    ensures { IfOk result (λ outcome. may activity.now.name activity.now.argument outcome ≡ true) }
+    ensures given { IfOk result (λ outcome. outcome ≡ A.gives activity.now.name activity.now.argument word) }
+    ensures may { IfOk result (λ outcome. may activity.now.name activity.now.argument outcome ≡ true) }
 {
     let Ok(name) = str::from_utf8(activity.name.as_bytes()) else {
         unreachable!()
@@ -41,6 +43,7 @@ fn outcome_of_pending<A: Activities>(
     word: u64,
 ) -> Result<Option<Item>, AllocError>
     ensures some { IfOk result (λ item. IfSome item (λ one. IsOfPending (state_of state.now) (item_of one))) }
+    ensures runs { IfOk result (λ item. IfSome item (λ one. IsRun (λ name argument. A.gives name argument word) (state_of state.now) (item_of one))) }
     ensures none { IfOk result (λ item. IfNone item (NoActivity (state_of state.now))) }
 {
     let Some((id, task)) = state.pending_task() else {
@@ -65,6 +68,7 @@ pub(crate) fn run_pending<R: Reactions, A: Activities>(
     requires way { IsUnderWay filling }
     requires empty { filling.items.items ≡ [] }
     ensures goes_on { (rules : Rules) (told : Told) → rules.flows ≡ R.flows reactions.now → IfOk result (λ next. GoesOn rules told filling next) }
+    ensures at { (now : ℕ) → IfOk result (λ next. GoesOnAt (R.flows reactions.now) now (λ name argument. A.gives name argument word) filling next) }
     ensures few { IfOk result (λ next. length next.items.items ≤ 1) }
     ensures moment { IfOk result (λ next. (state_of next.state).stamp ≡ (state_of filling.state).stamp) }
     ensures none { IfOk result (λ next. next.items.items ≡ [] → state_of next.state ≡ state_of filling.state) }

@@ -6,7 +6,9 @@ ghost use Rattle.hub_store.specs.Sound.{IsSound};
 ghost use Rattle.hub_store.specs.Trail.{of_part};
 ghost use Rattle.hub_store.specs.Ways.{way_of};
 ghost use Rattle.part_rounds.specs.Comes.{Entered, LeavesRound, Leaves, count_labels};
-ghost use Rattle.part_rounds.specs.Commits.{IsFull};
+ghost use Rattle.part_rounds.specs.Commits.{IsFull, IsSpent};
+ghost use Rattle.part_rounds.specs.InTime.{GoesByClock};
+ghost use Rattle.part_rounds.specs.Turns.{SettlesThenSays};
 ghost use Rattle.part_rounds.specs.Rounds.{pairs_of, HasSaid, NoneUnsaid, IsFilledTo, Stands};
 ghost use Rattle.part_items.specs.Plain.{items_of};
 ghost use Rattle.part_rounds.specs.Fills.{IsUnderWay};
@@ -28,8 +30,11 @@ use part_steps::PartState;
 use site_model::{Clock, Site};
 use std::alloc::Global;
 
-/// The place that no entry has.
-const PLACES: u64 = 1 << 61;
+/// The one partition.
+const ALONE: u32 = 0;
+
+/// The place that no entry may have: the format's numbers are below it.
+const PLACES: u64 = 1 << 62;
 
 /// What a round came to.
 pub(crate) enum Round {
@@ -60,7 +65,7 @@ fn settle_filling<V: Site, N: Ruled>(
     requires sound { IsSound store.old }
     requires going { store.old.halted ≡ false }
     requires rests { stage_at store.old 0 ≡ Stage.Resting }
-    requires room { position < 2 ^ 61 }
+    requires room { position < 2 ^ 62 }
     requires filled { IsFilledTo N.rules (N.origin.logs 0) store.old.latest (of_part 0 (trail_in store.old)) (pairs_of (told_in store.old)) position life (items_of filling.items.items) (state_of filling.state) }
     requires way { IsUnderWay filling }
     requires said { HasSaid N.rules (told_in store.old) port.old.queues }
@@ -75,10 +80,13 @@ fn settle_filling<V: Site, N: Ruled>(
     ensures entered { IfOk result (λ state. Entered N.rules (N.origin.logs 0) store.new.latest (of_part 0 (trail_in store.new)) state) }
     ensures unsaid { IfOk result (λ state. NoneUnsaid (state_of state) port.new.queues clients.now) }
     ensures labels { OnOk result (count_labels (of_part 0 (trail_in store.new)) ≡ count_labels (of_part 0 (trail_in store.old)) + length filling.items.items) }
-    ensures full { (of n : ℕ) → result ≡ Err (Stop.Full of n) → IsFull N.rules store.new.latest (of_part 0 (trail_in store.new)) (pairs_of (told_in store.new)) store.new.segment (way_of store.new.ways.items 0) of n }
+    ensures settles { SettlesThenSays clients.now (record { position = position; incarnation = life; items = items_of filling.items.items }) (of_part 0 (trail_in store.old)) (told_in store.old) (of_part 0 (trail_in store.new)) (told_in store.new) }
+    ensures no_more { count_labels (of_part 0 (trail_in store.new)) ≤ count_labels (of_part 0 (trail_in store.old)) + length filling.items.items }
+    ensures full { (of n : ℕ) → result ≡ Err (Stop.Full of n) → IsFull N.rules (length filling.items.items) store.new.latest (of_part 0 (trail_in store.new)) (pairs_of (told_in store.new)) store.new.segment (way_of store.new.ways.items 0) of n }
     ensures fault { result ≡ Err Stop.SiteFault → HasRisen (V.disk_faults store.old.site) (V.disk_faults store.new.site) }
     ensures say_fault { result ≡ Err Stop.SayFault → HasRisen (V.say_faults store.old.site) (V.say_faults store.new.site) }
     ensures no_clock { result ≡ Err Stop.ClockFault → ⊥ }
+    ensures no_spent { (of n : ℕ) → result ≡ Err (Stop.Spent of n) → ⊥ }
     ensures later { V.disk_faults store.old.site ≤ V.disk_faults store.new.site }
     ensures say_later { V.say_faults store.old.site ≤ V.say_faults store.new.site }
 {
@@ -134,7 +142,10 @@ fn go_round<V: Site, N: Ruled, R: Reactions, A: Activities, C: Clock>(
     ensures still { OnOk result (store.new.halted ≡ false) }
     ensures said { OnOk result (HasSaid N.rules (told_in store.new) port.new.queues) }
     ensures leaves { IfOk result (λ round. LeavesRound N.rules (N.origin.logs 0) store.new.latest (of_part 0 (trail_in store.old)) (of_part 0 (trail_in store.new)) port.new.queues clients.now round) }
-    ensures full { (of n : ℕ) → result ≡ Err (Stop.Full of n) → IsFull N.rules store.new.latest (of_part 0 (trail_in store.new)) (pairs_of (told_in store.new)) store.new.segment (way_of store.new.ways.items 0) of n }
+    ensures goes { GoesByClock N.rules A.gives limit clients.now (C.given clock.old) (of_part 0 (trail_in store.old)) (told_in store.old) (C.given clock.new) (of_part 0 (trail_in store.new)) (told_in store.new) }
+    ensures no_more { count_labels (of_part 0 (trail_in store.new)) ≤ count_labels (of_part 0 (trail_in store.old)) + limit }
+    ensures spent { (of n : ℕ) → result ≡ Err (Stop.Spent of n) → IsSpent N.rules (of_part 0 (trail_in store.new)) (pairs_of (told_in store.new)) of n }
+    ensures full { (of n : ℕ) → result ≡ Err (Stop.Full of n) → IsFull N.rules limit store.new.latest (of_part 0 (trail_in store.new)) (pairs_of (told_in store.new)) store.new.segment (way_of store.new.ways.items 0) of n }
     ensures fault { result ≡ Err Stop.SiteFault → HasRisen (V.disk_faults store.old.site) (V.disk_faults store.new.site) }
     ensures say_fault { result ≡ Err Stop.SayFault → HasRisen (V.say_faults store.old.site) (V.say_faults store.new.site) }
     ensures clock_fault { result ≡ Err Stop.ClockFault → HasRisen (C.clock_faults clock.old) (C.clock_faults clock.new) }
@@ -143,15 +154,18 @@ fn go_round<V: Site, N: Ruled, R: Reactions, A: Activities, C: Clock>(
     ensures clock_later { C.clock_faults clock.old ≤ C.clock_faults clock.new }
 {
     let position = state.position() - 1;
-    if position >= PLACES {
-        state.let_go();
-        return Err(Stop::Memory);
-    }
     let chance = word(life, 0, position);
     match take_next(
         alloc, reactions, acts, clock, state, port, clients, chance, limit,
     )? {
         Coming::Filled(filling, now) => {
+            if position >= PLACES {
+                filling.let_go();
+                return Err(Stop::Spent {
+                    partition: ALONE,
+                    number: position,
+                });
+            }
             store.raise(now);
             let more = filling.items.len() as u64;
             let state = settle_filling(alloc, store, port, clients, position, life, filling)?;
@@ -188,7 +202,7 @@ pub fn drive<V: Site, N: Ruled, R: Reactions, A: Activities, C: Clock>(
     requires new { trail_in store.old ≡ [] }
     requires own { IsOwnSound state }
     requires one { count_of state ≡ 1 }
-    requires room { (state_of state).position < 2 ^ 61 }
+    requires room { (state_of state).position < 2 ^ 63 }
     requires said { HasSaid N.rules (told_in store.old) port.old.queues }
     ensures tells { V.tells store.new.site → V.tells store.old.site }
     ensures sound { IsSound store.new }
@@ -200,7 +214,10 @@ pub fn drive<V: Site, N: Ruled, R: Reactions, A: Activities, C: Clock>(
     ensures still { OnOk result (store.new.halted ≡ false) }
     ensures said { OnOk result (HasSaid N.rules (told_in store.new) port.new.queues) }
     ensures leaves { IfOk result (λ end. Leaves N.rules (N.origin.logs 0) store.new.latest (of_part 0 (trail_in store.new)) (pairs_of (told_in store.new)) port.new.queues clients.now steps end) }
-    ensures full { (of n : ℕ) → result ≡ Err (Stop.Full of n) → IsFull N.rules store.new.latest (of_part 0 (trail_in store.new)) (pairs_of (told_in store.new)) store.new.segment (way_of store.new.ways.items 0) of n }
+    ensures goes { GoesByClock N.rules A.gives limit clients.now (C.given clock.old) (of_part 0 (trail_in store.old)) (told_in store.old) (C.given clock.new) (of_part 0 (trail_in store.new)) (told_in store.new) }
+    ensures no_more { count_labels (of_part 0 (trail_in store.new)) < steps + limit }
+    ensures spent { (of n : ℕ) → result ≡ Err (Stop.Spent of n) → IsSpent N.rules (of_part 0 (trail_in store.new)) (pairs_of (told_in store.new)) of n }
+    ensures full { (of n : ℕ) → result ≡ Err (Stop.Full of n) → IsFull N.rules limit store.new.latest (of_part 0 (trail_in store.new)) (pairs_of (told_in store.new)) store.new.segment (way_of store.new.ways.items 0) of n }
     ensures fault { result ≡ Err Stop.SiteFault → HasRisen (V.disk_faults store.old.site) (V.disk_faults store.new.site) }
     ensures say_fault { result ≡ Err Stop.SayFault → HasRisen (V.say_faults store.old.site) (V.say_faults store.new.site) }
     ensures clock_fault { result ≡ Err Stop.ClockFault → HasRisen (C.clock_faults clock.old) (C.clock_faults clock.new) }

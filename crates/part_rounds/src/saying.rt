@@ -9,6 +9,7 @@ ghost use Rattle.hub_store.specs.Trail.{of_part};
 ghost use Rattle.part_files.specs.Placing.{placed};
 ghost use Rattle.hub_store.specs.Stops.{is_of_tape};
 ghost use Rattle.part_rounds.specs.Rounds.{pairs_of, HasSaid, KeepsDue, next_answer};
+ghost use Rattle.part_rounds.specs.Turns.{SaysOwn, SaysInTurn};
 ghost use Rattle.part_steps.specs.States.{state_of};
 ghost use Rattle.run_rules.specs.Rules.{count_told};
 ghost use Rattle.site_model.specs.Calls.{HasRisen};
@@ -44,6 +45,7 @@ pub(crate) fn say_next<V: Site, N: Ruled>(
     ensures tells { V.tells store.new.site → V.tells store.old.site }
     ensures sound { IsSound store.new }
     ensures trail { trail_in store.new ≡ trail_in store.old }
+    ensures own { SaysOwn client.now (told_in store.old) (told_in store.new) }
     ensures ways { store.new.ways ≡ store.old.ways }
     ensures segment { store.new.segment ≡ store.old.segment }
     ensures latest { store.new.latest ≡ store.old.latest }
@@ -96,6 +98,7 @@ fn say_all<V: Site, N: Ruled>(
     ensures tells { V.tells store.new.site → V.tells store.old.site }
     ensures sound { IsSound store.new }
     ensures trail { trail_in store.new ≡ trail_in store.old }
+    ensures own { SaysOwn client.now (told_in store.old) (told_in store.new) }
     ensures ways { store.new.ways ≡ store.old.ways }
     ensures segment { store.new.segment ≡ store.old.segment }
     ensures latest { store.new.latest ≡ store.old.latest }
@@ -113,7 +116,7 @@ fn say_all<V: Site, N: Ruled>(
     Ok(())
 }
 
-/// Says the answers to the requests of these clients, of each until the next has none.
+/// Says the answers to the requests of these clients, of one after the other, and of each until the next has none.
 pub(crate) fn say_due<V: Site, N: Ruled>(
     alloc: Global,
     store: &mut Store<V, N>,
@@ -128,6 +131,7 @@ pub(crate) fn say_due<V: Site, N: Ruled>(
     ensures tells { V.tells store.new.site → V.tells store.old.site }
     ensures sound { IsSound store.new }
     ensures trail { trail_in store.new ≡ trail_in store.old }
+    ensures in_turn { SaysInTurn clients.now (told_in store.old) (told_in store.new) }
     ensures ways { store.new.ways ≡ store.old.ways }
     ensures segment { store.new.segment ≡ store.old.segment }
     ensures latest { store.new.latest ≡ store.old.latest }

@@ -1,12 +1,13 @@
 //! Taking what clients ask.
 
 ghost use Rattle.std.specs.List.{All};
-ghost use Rattle.std.specs.Prelude.{◌≡◌, ◌<◌, ◌≤◌, ◌+◌, List, true, is_some, Some, IfOk, IfSome, IfNone, length};
+ghost use Rattle.std.specs.Prelude.{◌≡◌, ◌<◌, ◌≤◌, ◌+◌, ℕ, List, true, is_some, Some, IfOk, IfSome, IfNone, length};
 ghost use Rattle.dura_value.specs.Views.{message_of};
 ghost use Rattle.client_port.specs.Ports.{due_of};
 ghost use Rattle.dura_value.specs.Ids.{client as a_client};
 ghost use Rattle.hub_store.specs.Trail.{Said};
 ghost use Rattle.part_rounds.specs.Fills.{IsUnderWay, GoesOn, CantTake};
+ghost use Rattle.part_rounds.specs.InTime.{Giving, GoesOnAt};
 ghost use Rattle.part_rounds.specs.Rounds.{pairs_of, HasSaid};
 ghost use Rattle.part_steps.specs.States.{state_of};
 ghost use Rattle.request_reader.specs.Line.{Request};
@@ -48,6 +49,7 @@ fn take_of<R: Reactions>(
 ) -> Result<Filling, AllocError>
     requires way { IsUnderWay filling }
     ensures goes_on { (rules : Rules) (told : List Said) → rules.flows ≡ R.flows reactions.now → HasSaid rules told port.now.queues → IfOk result (λ next. GoesOn rules (pairs_of told) filling next) }
+    ensures at { (now : ℕ) (gives : Giving) → IfOk result (λ next. GoesOnAt (R.flows reactions.now) now gives filling next) }
     ensures under_way { IfOk result (λ next. IsUnderWay next) }
     ensures longer { IfOk result (λ next. length filling.items.items ≤ length next.items.items) }
     ensures one { IfOk result (λ next. length next.items.items ≤ length filling.items.items + 1) }
@@ -82,6 +84,7 @@ pub(crate) fn take_due<R: Reactions>(
     requires way { IsUnderWay filling }
     requires room { length filling.items.items ≤ limit }
     ensures goes_on { (rules : Rules) (told : List Said) → rules.flows ≡ R.flows reactions.now → HasSaid rules told port.now.queues → IfOk result (λ next. GoesOn rules (pairs_of told) filling next) }
+    ensures at { (now : ℕ) (gives : Giving) → IfOk result (λ next. GoesOnAt (R.flows reactions.now) now gives filling next) }
     ensures under_way { IfOk result (λ next. IsUnderWay next) }
     ensures longer { IfOk result (λ next. length filling.items.items ≤ length next.items.items) }
     ensures few { IfOk result (λ next. length next.items.items ≤ limit) }

@@ -36,7 +36,6 @@ pub record Filled (flows : Flows) (now : ℕ) (first : PartState) (many : ℕ) (
   pub begun : 0 < (state_of b.state).position
   pub entry : (state_of b.state).position ≡ (state_of first).position
   pub length_is : length b.items.items ≡ many
-  pub untouched : many ≡ 0 → state_of b.state ≡ state_of first
 
 pub filled_first : (flows : Flows) (now : ℕ) (first : PartState) (b : Batch) → IsSound first → 0 < (state_of first).position → b.state ≡ first → b.items.items ≡ [] → b.outputs.items ≡ [] → Filled flows now first 0 b
 filled_first flows now first b sound begun state_is items_is outputs_is = record {
@@ -48,7 +47,6 @@ filled_first flows now first b sound begun state_is items_is outputs_is = record
   begun = subst (λ (s : PartState). 0 < (state_of s).position) (sym state_is) begun;
   entry = ap (λ (s : PartState). (state_of s).position) state_is;
   length_is = ap (λ (l : List own.Item). length l) items_is;
-  untouched = λ none. ap state_of state_is;
 }
 
 pub filled_more : (flows : Flows) (now : ℕ) (first : PartState) (many : ℕ) (old new : Batch) → Filled flows now first many old → HasMore flows now old new → Filled flows now first (many + 1) new
@@ -64,17 +62,12 @@ filled_more flows now first many old new filled more = record {
       let here = ap (λ (l : List Item). length l) more.items in
       let was = filled.length_is in
       omega (arith, here, was, length-map new.items.items item_of, length-map old.items.items item_of, length-append (items_of old.items.items) (more.item ∷ []));
-  untouched = λ none. absurd (omega (arith, none));
 }
 
--- nothing more was possible, and there are no items
-pub none_at_first : (flows : Flows) (first : PartState) (many now : ℕ) (old new : Batch) → Filled flows now first many old → IsOver flows now old new → new.items.items ≡ [] → NoneEnabled flows (count_of first) (state_of first) (moment_at (state_of first) now)
-none_at_first flows first many now old new filled over none =
-    let same = ap (λ (b : Batch). length b.items.items) over.same in
-    let empty = ap (λ (l : List own.Item). length l) none in
-    let was = filled.length_is in
-    let zero : many ≡ 0 = omega (arith, same, empty, was) in
-    subst (λ (p : Partition). NoneEnabled flows (count_of first) p (moment_at p now)) (filled.untouched zero)
+-- nothing more was possible
+pub none_behind : (flows : Flows) (first : PartState) (many now : ℕ) (old new : Batch) → Filled flows now first many old → IsOver flows now old new → NoneEnabled flows (count_of first) (state_of new.state) (moment_at (state_of new.state) now)
+none_behind flows first many now old new filled over =
+    subst (λ (b : Batch). NoneEnabled flows (count_of first) (state_of b.state) (moment_at (state_of b.state) now)) (sym over.same)
     (subst (λ (k : ℕ). NoneEnabled flows k (state_of old.state) (moment_at (state_of old.state) now)) filled.partitions over.none)
 
 pub over_filled : (flows : Flows) (first : PartState) (many now : ℕ) (old new : Batch) → Filled flows now first many old → IsOver flows now old new → Filled flows now first many new

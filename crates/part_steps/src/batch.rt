@@ -110,9 +110,9 @@ pub(crate) fn add_next<R: Reactions>(
     }
 }
 
-/// Deliveries and timers that are possible now, each after those before it, up to this many. There are none only where nothing
-/// is possible. They are applied as they are chosen, so that each is chosen in the state that it meets.
-#[tactic(auto, using(crate::proofs::Batching::filled_first, crate::proofs::Batching::filled_more, crate::proofs::Batching::none_at_first, crate::proofs::Batching::over_filled))]
+/// Deliveries and timers that are possible now, each after those before it, up to this many; there are fewer only where nothing is
+/// possible behind them. They are applied as they are chosen, so that each is chosen in the state that it meets.
+#[tactic(auto, using(crate::proofs::Batching::filled_first, crate::proofs::Batching::filled_more, crate::proofs::Batching::none_behind, crate::proofs::Batching::over_filled))]
 pub fn next_items<R: Reactions>(
     alloc: Global,
     reactions: &R,
@@ -124,7 +124,7 @@ pub fn next_items<R: Reactions>(
     requires begun { 0 < (state_of state).position }
     ensures made { IfOk result (λ batch. Makes (R.flows reactions.now) (count_of state) now (state_of state) (items_of batch.items.items) (map outputs_of batch.outputs.items) (state_of batch.state)) }
     ensures limit { IfOk result (λ batch. length batch.items.items ≤ limit) }
-    ensures none { IfOk result (λ batch. 0 < limit → batch.items.items ≡ [] → NoneEnabled (R.flows reactions.now) (count_of state) (state_of state) (moment_at (state_of state) now)) }
+    ensures none { IfOk result (λ batch. length batch.items.items < limit → NoneEnabled (R.flows reactions.now) (count_of state) (state_of batch.state) (moment_at (state_of batch.state) now)) }
     ensures partitions { IfOk result (λ batch. count_of batch.state ≡ count_of state) }
     ensures entry { IfOk result (λ batch. (state_of batch.state).position ≡ (state_of state).position) }
     ensures sound { IfOk result (λ batch. IsSound batch.state) }

@@ -65,7 +65,7 @@ impl PartState {
     pub fn enter(self, incarnation: u64) -> PartState
         requires sound { IsSound self }
         requires younger { (state_of self).incarnation ≤ incarnation }
-        requires room { (state_of self).position < 2 ^ 62 }
+        requires room { (state_of self).position < 2 ^ 63 }
         ensures entered { state_of result ≡ enter incarnation (state_of self) }
         ensures partitions { count_of result ≡ count_of self }
         ensures sound { IsSound result }

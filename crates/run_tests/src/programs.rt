@@ -67,6 +67,20 @@ fn texts(rt: &impl Abort, alloc: Global, words: &[&str]) -> Vec<Text> {
     texts
 }
 
+/// A run of these words by a clock.
+fn run_with(
+    rt: &impl Abort,
+    alloc: Global,
+    words: &[&str],
+    site: MemorySite,
+    clock: TickClock,
+) -> Run {
+    let words = texts(rt, alloc, words);
+    let ended = run_alone(alloc, &words, site, clock, &Table);
+    drop(words);
+    ended
+}
+
 /// A run of these words, where the calls of the clock with these numbers fail.
 pub(crate) fn run_words(
     rt: &impl Abort,
@@ -75,11 +89,13 @@ pub(crate) fn run_words(
     site: MemorySite,
     fails: Vec<u64>,
 ) -> Run {
-    let words = texts(rt, alloc, words);
-    let clock = TickClock::new(0, fails);
-    let ended = run_alone(alloc, &words, site, clock, &Table);
-    drop(words);
-    ended
+    run_with(rt, alloc, words, site, TickClock::new(0, fails))
+}
+
+/// A run from this moment on.
+pub(crate) fn run_from(rt: &impl Abort, alloc: Global, site: MemorySite, moment: u32) -> Run {
+    let clock = TickClock::new(u64::from(moment), Vec::new(alloc));
+    run_with(rt, alloc, &["run"], site, clock)
 }
 
 /// A run with so many items in an entry at the most.

@@ -1,9 +1,10 @@
 //! Runs without faults.
 
 use crate::programs::{
-    NAP, PROGRAMS, Program, SUM, check_end, check_kept, check_tape, run_by, run_on, site_left,
-    site_of, tape_and_lines,
+    NAP, PROGRAMS, Program, SUM, check_end, check_kept, check_tape, run_by, run_from, run_on,
+    site_left, site_of, tape_and_lines,
 };
+use part_items::Item;
 use site_memory::MemorySite;
 use std::alloc::Global;
 use std::process::Abort;
@@ -60,5 +61,31 @@ fn the_clock_behind_a_nap(rt: HostRuntime) {
     let alloc = rt.alloc();
     let ended = run_on(&rt, alloc, site_of(&rt, alloc, NAP, &[]));
     assert!(rt; ended.clock.latest() >= 10);
+    drop(ended);
+}
+
+/// The moment of a delivery or of a timer.
+fn moment_of(item: &Item) -> Option<u64> {
+    match item {
+        Item::Ran(_, _, stamp) | Item::Fired(_, _, stamp) => Some(*stamp),
+        _ => None,
+    }
+}
+
+/// Whoever begins a nap of 10 milliseconds at moment 1000 wakes at 1010: all before it is at the one, and all from it on at the other.
+#[test]
+fn a_nap_from_a_later_moment(rt: HostRuntime) {
+    let alloc = rt.alloc();
+    let ended = run_from(&rt, alloc, site_of(&rt, alloc, NAP, &[]), 1000);
+    check_end(&rt, &ended, 0);
+    let mut woken = false;
+    for entry in ended.trail.as_slice() {
+        for item in entry.items.as_slice() {
+            woken = woken || matches!(item, Item::Fired(_, _, _));
+            let wanted = if woken { 1010 } else { 1000 };
+            assert!(rt; moment_of(item).is_none_or(|stamp| stamp == wanted));
+        }
+    }
+    assert!(rt; woken);
     drop(ended);
 }

@@ -1,9 +1,10 @@
 // The clock of the machine.
-ghost use Rattle.std.specs.Prelude.{◌≡◌, ◌≤◌, max, IfOk, OnErr};
+ghost use Rattle.std.specs.Prelude.{◌≡◌, ◌≤◌, ◌∷◌, [], max, IfOk, OnErr};
 ghost use Rattle.site_model.specs.Calls.{HasCause};
+ghost use Rattle.site_model.specs.Readings.{asked, waited};
 
 use site_calls::counted;
-use site_model::{Clock, Failed, LAST_MOMENT};
+use site_model::{Clock, Failed, LAST_MOMENT, Readings};
 use std::io::ErrorKind;
 use std::time::{Duration, SystemTime, UNIX_EPOCH};
 use std::{io, rt, thread};
@@ -17,6 +18,7 @@ pub struct WallClock<R> {
     rt: R,
     latest: u64,
     faults: u64,
+    readings: Readings,
 }
 
 impl<R> WallClock<R> {
@@ -26,6 +28,7 @@ impl<R> WallClock<R> {
             rt,
             latest: 0,
             faults: 0,
+            readings: Readings::new(),
         }
     }
 
@@ -34,6 +37,7 @@ impl<R> WallClock<R> {
         ensures same { IfOk result (λ t. read ≡ Ok t) }
         ensures latest { IfOk result (λ t. self.new.latest ≡ max self.old.latest t) }
         ensures failed { OnErr result (self.new.latest ≡ self.old.latest) }
+        ensures readings { self.new.readings ≡ self.old.readings }
         ensures cause { HasCause self.old.faults self.new.faults result }
     {
         let moment = counted(read, &mut self.faults)?;
@@ -45,16 +49,22 @@ impl<R> WallClock<R> {
 impl<R: rt::Clock> Clock for WallClock<R> {
     ghost latest = { λ clock. clock.latest };
 
+    ghost given = { λ clock. clock.readings.moments };
+
     ghost clock_faults = { λ clock. clock.faults };
 
     fn now(&mut self) -> Result<u64, Failed> {
         let read = read_clock(&self.rt);
-        self.give(read)
+        let now = self.give(read)?;
+        self.readings.asked(now);
+        Ok(now)
     }
 
     fn wait_until(&mut self, moment: u64) -> Result<u64, Failed> {
         let read = read_from(&self.rt, moment);
-        self.give(read)
+        let now = self.give(read)?;
+        self.readings.waited(moment, now);
+        Ok(now)
     }
 }
 

@@ -1,10 +1,15 @@
 -- What the clock in memory is seen as.
-use Rattle.std.specs.Prelude.{ℕ}
+use Rattle.std.specs.Prelude.{ℕ, List}
 use Rattle.site_memory.specs.declared.tick.TickClock.{TickClock}
+use Rattle.site_model.specs.Readings.{Reading}
 
 -- the greatest moment that it gave
 abbrev pub tick_latest : TickClock → ℕ
 tick_latest clock = clock.latest
+
+-- the moments that it gave, the newest first
+abbrev pub tick_given : TickClock → List Reading
+tick_given clock = clock.readings.moments
 
 -- how often it has failed
 abbrev pub tick_faults : TickClock → ℕ

@@ -1,9 +1,10 @@
 // The clock in memory.
-ghost use Rattle.std.specs.Prelude.{◌≡◌, ◌≤◌, ◌<◌, ◌^◌, max, IfOk, OnErr};
+ghost use Rattle.std.specs.Prelude.{◌≡◌, ◌≤◌, ◌<◌, ◌^◌, [], ◌∷◌, max, IfOk, OnErr};
 ghost use Rattle.site_model.specs.Calls.{HasCause};
+ghost use Rattle.site_model.specs.Readings.{asked, waited};
 
 use crate::faults::raised;
-use site_model::{Clock, Failed, LAST_MOMENT};
+use site_model::{Clock, Failed, LAST_MOMENT, Readings};
 
 /// A clock that stands still until it is waited for, and fails where it is told to.
 ///
@@ -14,18 +15,20 @@ pub struct TickClock {
     latest: u64,
     calls: u64,
     faults: u64,
+    readings: Readings,
     fails: Vec<u64>,
     ghost range: { at < 2 ^ 63 },
 }
 
 impl TickClock {
-    ghost use Rattle.site_memory.specs.Tick.{tick_at, tick_latest, tick_faults};
+    ghost use Rattle.site_memory.specs.Tick.{tick_at, tick_latest, tick_given, tick_faults};
 
     /// A clock at this moment. The calls with these numbers fail, counted from 0 over both kinds.
     pub fn new(at: u64, fails: Vec<u64>) -> TickClock
         requires { at ≤ LAST_MOMENT }
         ensures at { tick_at result ≡ at }
         ensures latest { tick_latest result ≡ 0 }
+        ensures given { tick_given result ≡ [] }
         ensures faults { tick_faults result ≡ 0 }
     {
         TickClock {
@@ -33,6 +36,7 @@ impl TickClock {
             latest: 0,
             calls: 0,
             faults: 0,
+            readings: Readings::new(),
             fails,
         }
     }
@@ -60,16 +64,20 @@ fn call(calls: &mut u64, fails: &[u64]) -> bool {
 }
 
 impl Clock for TickClock {
-    ghost use Rattle.site_memory.specs.Tick.{tick_at, tick_latest, tick_faults};
+    ghost use Rattle.site_memory.specs.Tick.{tick_at, tick_latest, tick_given, tick_faults};
 
     ghost latest = { tick_latest };
+
+    ghost given = { tick_given };
 
     ghost clock_faults = { tick_faults };
 
     fn now(&mut self) -> Result<u64, Failed>
         ensures range { IfOk result (λ t. t ≤ LAST_MOMENT) }
         ensures latest { IfOk result (λ t. tick_latest self.new ≡ max (tick_latest self.old) t) }
+        ensures given { IfOk result (λ t. tick_given self.new ≡ asked t ∷ tick_given self.old) }
         ensures failed { OnErr result (tick_latest self.new ≡ tick_latest self.old) }
+        ensures gave_none { OnErr result (tick_given self.new ≡ tick_given self.old) }
         ensures cause { HasCause (tick_faults self.old) (tick_faults self.new) result }
         ensures at { IfOk result (λ t. t ≡ tick_at self.old) }
         ensures stays { tick_at self.new ≡ tick_at self.old }
@@ -79,6 +87,7 @@ impl Clock for TickClock {
             return Err(Failed);
         }
         self.latest = self.latest.max(self.at);
+        self.readings.asked(self.at);
         Ok(self.at)
     }
 
@@ -87,7 +96,9 @@ impl Clock for TickClock {
         ensures reached { IfOk result (λ t. moment ≤ t) }
         ensures range { IfOk result (λ t. t ≤ LAST_MOMENT) }
         ensures latest { IfOk result (λ t. tick_latest self.new ≡ max (tick_latest self.old) t) }
+        ensures given { IfOk result (λ t. tick_given self.new ≡ waited moment t ∷ tick_given self.old) }
         ensures failed { OnErr result (tick_latest self.new ≡ tick_latest self.old) }
+        ensures gave_none { OnErr result (tick_given self.new ≡ tick_given self.old) }
         ensures cause { HasCause (tick_faults self.old) (tick_faults self.new) result }
         ensures at { IfOk result (λ t. t ≡ max (tick_at self.old) moment) }
         ensures moved { IfOk result (λ t. tick_at self.new ≡ t) }
@@ -99,6 +110,7 @@ impl Clock for TickClock {
         }
         self.at = self.at.max(moment);
         self.latest = self.latest.max(self.at);
+        self.readings.waited(moment, self.at);
         Ok(self.at)
     }
 }

@@ -1,6 +1,7 @@
 // The clock.
-ghost use Rattle.std.specs.Prelude.{◌≡◌, ◌≤◌, ℕ, max, IfOk, OnErr};
+ghost use Rattle.std.specs.Prelude.{◌≡◌, ◌≤◌, ◌∷◌, ℕ, List, max, IfOk, OnErr};
 ghost use Rattle.site_model.specs.Calls.{HasCause};
+ghost use Rattle.site_model.specs.Readings.{Reading, asked, waited};
 
 use crate::Failed;
 
@@ -12,6 +13,9 @@ pub trait Clock {
     /// The greatest moment that it gave.
     ghost latest: { Self → ℕ };
 
+    /// The moments that it gave, the newest first.
+    ghost given: { Self → List Reading };
+
     /// How often it has failed.
     ghost clock_faults: { Self → ℕ };
 
@@ -19,7 +23,9 @@ pub trait Clock {
     fn now(&mut self) -> Result<u64, Failed>
         ensures range { IfOk result (λ t. t ≤ LAST_MOMENT) }
         ensures latest { IfOk result (λ t. latest self.new ≡ max (latest self.old) t) }
+        ensures given { IfOk result (λ t. given self.new ≡ asked t ∷ given self.old) }
         ensures failed { OnErr result (latest self.new ≡ latest self.old) }
+        ensures gave_none { OnErr result (given self.new ≡ given self.old) }
         ensures cause { HasCause (clock_faults self.old) (clock_faults self.new) result };
 
     /// Waits until this moment or later, and gives the moment then.
@@ -28,6 +34,8 @@ pub trait Clock {
         ensures reached { IfOk result (λ t. moment ≤ t) }
         ensures range { IfOk result (λ t. t ≤ LAST_MOMENT) }
         ensures latest { IfOk result (λ t. latest self.new ≡ max (latest self.old) t) }
+        ensures given { IfOk result (λ t. given self.new ≡ waited moment t ∷ given self.old) }
         ensures failed { OnErr result (latest self.new ≡ latest self.old) }
+        ensures gave_none { OnErr result (given self.new ≡ given self.old) }
         ensures cause { HasCause (clock_faults self.old) (clock_faults self.new) result };
 }

@@ -1,4 +1,4 @@
-use Rattle.std.proofs.Common.{◌≡◌, ℕ, ◌+◌, List, [], ◌∷◌, ◌++◌, length, sym, ◌∙◌, ap, subst, arith}
+use Rattle.std.proofs.Common.{◌≡◌, ℕ, ◌+◌, ◌<◌, ◌≤◌, List, [], ◌∷◌, ◌++◌, length, sym, ◌∙◌, ap, subst, arith}
 use Rattle.std.proofs.lemmas.List.{length-map}
 use Rattle.dura_value.specs.Items.{Entry}
 use Rattle.hub_store.specs.Changes.{trail_in, told_in}
@@ -51,6 +51,8 @@ returns-in-Err-clause-full g c of n is =
     record {
       alone = room.0;
       entry = entry;
+      some = subst (λ (items : List Item). 0 < length (items_of items)) (sym c.of.ensures) c.requires.filled.some;
+      few = let many = length-map c.args.items.items item_of in subst (λ (items : List Item). length (items_of items) ≤ length c.args.items.items) (sym c.of.ensures) (omega (arith, many));
       follows = subst (λ (n : ℕ). Follows rules n (of_part 0 (trail_in c.commit.new.store)) (pairs_of (told_in c.commit.new.store)) (entry ∷ [])) (sym c.commit.ensures.latest) told;
       length_is = room.2 ∙ ap (λ (way : Way). length_with way (entry ∷ [])) (sym room.4);
       reaches = let reaches = room.1 in omega (arith, reaches, c.commit.ensures.segment);

@@ -15,8 +15,12 @@ returns-clause-none g c = λ less same.
     let first : length c.in_ok-taken.taken.items.items ≡ length c.args.filling.items.items = omega (arith, grown, c.in_ok-taken.ensures.longer, same) in
     let then : length c.in_ok-filled.filled.items.items ≡ length c.in_ok-taken.taken.items.items = omega (arith, grown, c.in_ok-taken.ensures.longer, same) in
     let taken = c.in_ok-taken.ensures.none less first in
-    let filled = c.in_ok-filled.ensures.none (omega (arith, less, first)) then in
-    (filled.0 ∙ taken.0, taken.1, subst (λ (p : Partition). NoneEnabled (g.R.Reactions.flows c.args.reactions.now) 1 p (moment_at p c.args.now)) taken.0 filled.1)
+    let still = c.in_ok-filled.ensures.still then in
+    let none = c.in_ok-filled.ensures.less (omega (arith, less, same)) in
+    (still ∙ taken.0, taken.1, subst (λ (p : Partition). NoneEnabled (g.R.Reactions.flows c.args.reactions.now) 1 p (moment_at p c.args.now)) (still ∙ taken.0) none)
+
+pub returns-clause-at : goal.returns-clause-at
+returns-clause-at g c = λ gives from filled. c.in_ok-filled.ensures.at gives from (c.in_ok-taken.ensures.at c.args.now gives from filled)
 
 pub returns-clause-longer : goal.returns-clause-longer
 returns-clause-longer g c =

@@ -1,9 +1,11 @@
-use Rattle.std.proofs.Common.{◌≡◌, ◌∙◌, ℕ, List, [], length, refl, sym, ap, subst, arith}
+use Rattle.std.proofs.Common.{◌≡◌, ◌∙◌, ℕ, List, [], Some, length, refl, sym, ap, subst, arith}
 use Rattle.std.specs.List.{All}
 use Rattle.dura_model.specs.Partition.{Partition, fresh}
+use Rattle.part_files.specs.Placing.{all_accepted}
 use Rattle.part_items.specs.Plain.{items_of}
 use Rattle.part_items.specs.declared.items.Item.{Item}
 use Rattle.part_rounds.specs.Fills.{Fills, CantTake}
+use Rattle.part_rounds.specs.InTime.{AreAt, Giving, IsRun}
 use Rattle.part_rounds.specs.Rounds.{pairs_of}
 use Rattle.part_steps.specs.Enabled.{NoneEnabled, moment_at}
 use Rattle.part_steps.specs.States.{state_of}
@@ -33,3 +35,14 @@ returns-clause-none g c = λ empty.
         steps = subst (λ (p : Partition). NoneEnabled (g.R.Reactions.flows c.args.reactions.now) 1 p (moment_at p c.args.chance.now)) ended filled.2;
       },
     )
+
+pub returns-clause-at : goal.returns-clause-at
+returns-clause-at g c =
+    let flows = g.R.Reactions.flows c.args.reactions.now in
+    let p = state_of c.args.state in
+    let gives : Giving = λ name argument. g.A.Activities.gives name argument c.args.chance.word in
+    c.in_ok-filled.ensures.at gives p (c.in_ok-ended.ensures.at c.args.chance.now p (record {
+      made = subst (λ (l : List Item). all_accepted flows 1 p (items_of l) ≡ Some p) (sym c.new.ensures.items) refl;
+      at = subst (λ (l : List Item). AreAt flows c.args.chance.now p (items_of l)) (sym c.new.ensures.items) tt;
+      runs = subst (λ (l : List Item). All (IsRun gives p) (items_of l)) (sym c.new.ensures.items) (λ k d inside. absurd (omega (arith, inside)));
+    }))

@@ -2,7 +2,9 @@ use Rattle.std.proofs.Common.{◌≡◌, IfSome, length, ap, subst, arith}
 use Rattle.part_items.specs.Plain.{item_of}
 use Rattle.part_steps.specs.States.{state_of}
 use Rattle.part_rounds.specs.Fills.{IsOfPending}
+use Rattle.part_rounds.specs.InTime.{Giving, IsRun}
 use Rattle.part_rounds.proofs.Endings.{put_idle, ended_goes_on}
+use Rattle.part_rounds.proofs.InTime.{puts_at, outcome_at, first_run}
 use Rattle.part_rounds.proofs.Moments.{puts_still, outcome_still}
 use Rattle.part_rounds.proofs.Puttings.{puts_one, puts_none, puts_only, goes_on_still}
 use Rattle.part_rounds.proofs.outcomes.run_pending.Goals as goal
@@ -39,3 +41,11 @@ returns-in_ok-next-in-Some-clause-settled g c =
 
 pub returns-in-None-clause-goes_on : goal.returns-in-None-clause-goes_on
 returns-in-None-clause-goes_on g c = λ rules told same. goes_on_still rules told c.args.filling c.requires.way
+
+pub returns-in_ok-next-in-Some-clause-at : goal.returns-in_ok-next-in-Some-clause-at
+returns-in_ok-next-in-Some-clause-at g c = λ now.
+    let pending = subst (λ o. IfSome o (λ one. IsOfPending (state_of c.args.filling.state) (item_of one))) c.in-Some.is c.in-Ok.ensures.some in
+    let gives : Giving = λ name argument. g.A.Activities.gives name argument c.args.word in
+    let run = subst (λ o. IfSome o (λ one. IsRun gives (state_of c.args.filling.state) (item_of one))) c.in-Some.is c.in-Ok.ensures.runs in
+    puts_at (g.R.Reactions.flows c.args.reactions.now) now gives c.args.filling c.in_ok-next-in-Some.next c.in-Some.item c.in_ok-next-in-Some.ensures.puts
+    (λ moment. outcome_at (state_of c.args.filling.state) (item_of c.in-Some.item) moment pending) (λ from made. first_run (g.R.Reactions.flows c.args.reactions.now) gives from c.args.filling (item_of c.in-Some.item) c.requires.empty made run)

@@ -8,12 +8,15 @@ use Rattle.hub_store.specs.Trail.{Settled, of_part}
 use Rattle.part_files.specs.Placing.{placed}
 use Rattle.run_rules.specs.Rules.{Rules}
 use Rattle.hub_store.specs.Ways.{stage_of, way_of}
-use Rattle.part_rounds.proofs.Counts.{low_self, low_same, low_both, same_below_first, latest_both, few_more}
+use Rattle.part_rounds.proofs.Counts.{low_self, low_same, low_both, same_below_first, latest_both, few_more, few_round, some_above, same_less, none_less}
+use Rattle.part_rounds.proofs.Course.{goes_both, then_says}
+use Rattle.part_rounds.specs.InTime.GoesByClock.{begins}
+use Rattle.hub_store.specs.Stops.{is_of_tape}
 use Rattle.flow_syntax.specs.Syntax.{Flows}
-use Rattle.hub_store.specs.declared.stop.Stop.TheVariants.{Full, SiteFault, SayFault, ClockFault, Memory}
+use Rattle.hub_store.specs.declared.stop.Stop.TheVariants.{Full, Spent, SiteFault, SayFault, ClockFault, Memory}
 use Rattle.part_rounds.specs.Comes.{LeavesRound, StopsAt, count_labels}
 use Rattle.part_rounds.specs.Rounds.{pairs_of, Stands, NoneUnsaid}
-use Rattle.part_rounds.proofs.Further.{on_ok, memory_apart}
+use Rattle.part_rounds.proofs.Further.{on_ok, memory_apart, kind_not_spent}
 use Rattle.part_rounds.proofs.Stopped.{leaves_at}
 use Rattle.hub_store.proofs.Stops.{ok_apart, same_stop, residual_is, tape_not_full, tape_not_fault, tape_not_clock, risen_after, residual_on_ok, residual_if_ok}
 use Rattle.part_rounds.proofs.rounds.drive.Goals as goal
@@ -46,7 +49,8 @@ rounds-init g c =
       };
       unsaid = subst (λ (p : Partition). NoneUnsaid p c.say_due.new.port.queues c.args.clients.now) (sym c.enter-state.ensures.entered) c.in-Ok.ensures.none;
       count = sym (ap (λ (t : List Settled). count_labels (of_part 0 t)) (c.say_due.ensures.trail ∙ c.requires.new));
-      few = omega arith;
+      few = some_above _ _ c.requires.some;
+      goes = then_says g.N.Ruled.rules g.A.Activities.gives c.args.limit c.args.clients.now (g.C.Clock.given c.args.clock.now) (g.C.Clock.given c.args.clock.now) (of_part 0 (trail_in c.args.store.now)) (of_part 0 (trail_in c.args.store.now)) (of_part 0 (trail_in c.say_due.new.store)) (told_in c.args.store.now) (told_in c.args.store.now) (told_in c.say_due.new.store) begins (ap (of_part 0) c.say_due.ensures.trail) c.say_due.ensures.in_turn;
       later = low_same _ _ c.say_due.ensures.disk_faults;
       say_later = c.say_due.ensures.later;
       clock_later = low_self _;
@@ -55,7 +59,6 @@ rounds-init g c =
 pub rounds-preserved : goal.rounds-preserved
 rounds-preserved g c =
     let leaves = subst (LeavesRound g.N.Ruled.rules (g.N.Start.origin.logs 0) c.go_round.new.store.latest (of_part 0 (trail_in c.rounds.store)) (of_part 0 (trail_in c.go_round.new.store)) c.go_round.new.port.queues c.args.clients.now) c.in-On.is c.in_ok-next.ensures.leaves in
-    let few = leaves.3 in
     let latest = c.go_round.ensures.latest in
     let latest_before = c.rounds.invariant.latest in
     let moments = c.go_round.ensures.moments in
@@ -71,7 +74,8 @@ rounds-preserved g c =
       entered = leaves.0;
       unsaid = leaves.1;
       count = ap (λ (n : ℕ). n + c.in-On.more) c.rounds.invariant.count ∙ sym leaves.4;
-      few = few_more _ _ _ c.rounds-test.true few;
+      few = few_round _ _ _ _ _ _ leaves.4 c.go_round.ensures.no_more c.rounds-test.true;
+      goes = goes_both g.N.Ruled.rules g.A.Activities.gives c.args.limit c.args.clients.now c.rounds.invariant.goes c.go_round.ensures.goes;
       later = low_both _ _ _ c.rounds.invariant.later c.go_round.ensures.later;
       say_later = low_both _ _ _ c.rounds.invariant.say_later c.go_round.ensures.say_later;
       clock_later = low_both _ _ _ c.rounds.invariant.clock_later c.go_round.ensures.clock_later;
@@ -93,6 +97,9 @@ returns-in_err-next g c =
       still = residual_on_ok _ c.from_residual.result _ c.from_residual.ensures.1;
       said = residual_on_ok _ c.from_residual.result _ c.from_residual.ensures.1;
       leaves = residual_if_ok _ c.from_residual.result _ c.from_residual.ensures.1;
+      goes = goes_both g.N.Ruled.rules g.A.Activities.gives c.args.limit c.args.clients.now c.rounds.invariant.goes c.go_round.ensures.goes;
+      no_more = few_more _ _ _ _ _ c.go_round.ensures.no_more c.rounds.invariant.count c.rounds-test.true;
+      spent = λ of n is. c.in_err-next.ensures.spent of n (same_stop _ _ _ _ refl (residual_is _ _ c.from_residual.ensures.1) is);
       full = λ of n is. c.in_err-next.ensures.full of n (same_stop _ _ _ _ refl (residual_is _ _ c.from_residual.ensures.1) is);
       fault = λ is. risen_after _ _ _ c.rounds.invariant.later c.go_round.ensures.later (c.in_err-next.ensures.fault (same_stop _ _ _ _ refl (residual_is _ _ c.from_residual.ensures.1) is));
       say_fault = λ is. risen_after _ _ _ c.rounds.invariant.say_later c.go_round.ensures.say_later (c.in_err-next.ensures.say_fault (same_stop _ _ _ _ refl (residual_is _ _ c.from_residual.ensures.1) is));
@@ -119,6 +126,9 @@ returns-in-Over g c =
       still = c.in_ok-next.ensures.still;
       said = c.in_ok-next.ensures.said;
       leaves = leaves;
+      goes = goes_both g.N.Ruled.rules g.A.Activities.gives c.args.limit c.args.clients.now c.rounds.invariant.goes c.go_round.ensures.goes;
+      no_more = few_more _ _ _ _ _ c.go_round.ensures.no_more c.rounds.invariant.count c.rounds-test.true;
+      spent = λ of n is. absurd (ok_apart _ _ is);
       full = λ of n is. absurd (ok_apart _ _ is);
       fault = λ is. absurd (ok_apart _ _ is);
       say_fault = λ is. absurd (ok_apart _ _ is);
@@ -153,6 +163,9 @@ returns g c =
       said = on_ok _ c.stop_at.result c.rounds.invariant.said;
       leaves = leaves_at rules log c.rounds.store.latest (of_part 0 (trail_in c.rounds.store)) (pairs_of told) queues clients c.args.steps c.rounds.labels c.rounds.state c.rounds.invariant.entered c.rounds.invariant.unsaid c.rounds.invariant.count
           (omega (arith, c.rounds-test.false)) c.stop_at.result comes (c.stop_at.ensures.stirs rules told flows c.rounds.invariant.said);
+      goes = c.rounds.invariant.goes;
+      no_more = same_less _ _ _ c.rounds.invariant.count c.rounds.invariant.few;
+      spent = λ of n is. let wrong : Spent of n ≡ Memory = memory (Spent of n) c.stop_at.ensures.stops is in absurd (cc wrong);
       full = λ of n is. let wrong : Full of n ≡ Memory = memory (Full of n) c.stop_at.ensures.stops is in absurd (cc wrong);
       fault = λ is. let wrong : SiteFault ≡ Memory = memory SiteFault c.stop_at.ensures.stops is in absurd (cc wrong);
       say_fault = λ is. let wrong : SayFault ≡ Memory = memory SayFault c.stop_at.ensures.stops is in absurd (cc wrong);
@@ -177,6 +190,9 @@ returns-in-Err g c =
       still = tt;
       said = tt;
       leaves = tt;
+      goes = then_says g.N.Ruled.rules g.A.Activities.gives c.args.limit c.args.clients.now (g.C.Clock.given c.args.clock.now) (g.C.Clock.given c.args.clock.now) (of_part 0 (trail_in c.args.store.now)) (of_part 0 (trail_in c.args.store.now)) (of_part 0 (trail_in c.say_due.new.store)) (told_in c.args.store.now) (told_in c.args.store.now) (told_in c.say_due.new.store) begins (ap (of_part 0) c.say_due.ensures.trail) c.say_due.ensures.in_turn;
+      no_more = none_less _ _ _ (ap (λ (t : List Settled). count_labels (of_part 0 t)) (c.say_due.ensures.trail ∙ c.requires.new)) c.requires.some;
+      spent = λ of n is. absurd (kind_not_spent is_of_tape _ _ of n refl c.in-Err.ensures.stops refl is);
       full = λ of n is. absurd (tape_not_full _ _ of n c.in-Err.ensures.stops refl is);
       fault = λ is. absurd (tape_not_fault _ _ c.in-Err.ensures.stops refl is);
       say_fault = λ is. c.in-Err.ensures.fault (same_stop _ _ _ _ refl refl is);

@@ -1,11 +1,18 @@
-use Rattle.std.proofs.Common.{◌∙◌, ◌<◌, ◌-◌, List, refl, sym, ap, subst, arith}
+use Rattle.std.proofs.Common.{◌≡◌, ◌∙◌, ℕ, ◌+◌, ◌<◌, ◌≤◌, ◌-◌, List, length, refl, sym, ap, subst, arith}
 use Rattle.std.proofs.lemmas.List.{length-map}
+use Rattle.activity_table.specs.Chance.{word_of}
 use Rattle.dura_model.specs.Partition.{Partition}
 use Rattle.flow_syntax.specs.Syntax.{Flows}
 use Rattle.hub_store.specs.Changes.{trail_in, told_in}
 use Rattle.hub_store.specs.Trail.{Settled, Said, of_part}
 use Rattle.part_items.specs.Plain.{item_of, items_of}
-use Rattle.part_rounds.proofs.Counts.{low_self, low_from, below_first, raised_below}
+use Rattle.part_rounds.proofs.Counts.{low_self, low_from, low_add, low_more, below_first, raised_below}
+use Rattle.part_rounds.proofs.Course.{only_reads, filled_goes}
+use Rattle.part_rounds.proofs.Further.{kind_not_spent, full_wider, fills_further, place_spent}
+use Rattle.part_rounds.specs.InTime.{ComesAt}
+use Rattle.part_rounds.specs.Turns.{SettlesThenSays}
+use Rattle.dura_value.specs.Items.{Entry}
+use Rattle.hub_store.specs.Stops.{is_of_clock}
 use Rattle.part_rounds.specs.Comes.{Comes, FillsNext, IsByNow, count_labels}
 use Rattle.part_rounds.specs.Fills.{Fills, IsIdle}
 use Rattle.part_rounds.specs.Rounds.{pairs_of, NoneUnsaid, IsFilledTo}
@@ -25,7 +32,7 @@ settle_filling-requires-clause-filled g c =
     let fills = subst (FillsNext rules (pairs_of told) (state_of c.args.state)) c.in-Filled.is (c.in_ok-filling.ensures.fills rules told c.requires.flows c.requires.said) in
     let place = ap (λ (p : Partition). p.position) entered.entered in
     let many = length-map filling.items.items item_of in
-    let room : c.position-position.result - 1 < 2305843009213693952 = search in
+    let room : c.position-position.result - 1 < 4611686018427387904 = search in
     let by_now = subst (IsByNow (state_of c.args.state) (g.C.Clock.latest c.take_next.new.clock)) c.in-Filled.is c.in_ok-filling.ensures.moment in
     let log = g.N.Start.origin.logs 0 in
     let items = items_of filling.items.items in
@@ -61,18 +68,33 @@ returns-then-position-ge-PLACES g c =
       segment = refl;
       latest = below_first _ _;
       whole = λ apart. c.requires.sound.uncut c.requires.going;
-      moments = low_self _;
+      moments = c.take_next.ensures.latest;
       stage = tt;
       still = tt;
       said = tt;
       leaves = tt;
+      goes = only_reads g.N.Ruled.rules g.A.Activities.gives c.args.limit c.args.clients.now (g.C.Clock.given c.args.clock.now) (of_part 0 (trail_in c.args.store.now)) (told_in c.args.store.now) c.requires.entered.before (state_of c.args.state) c.requires.entered.stands.made c.requires.entered.entered (g.R.Reactions.flows c.args.reactions.now) c.requires.flows c.args.port.now.queues c.requires.said (g.C.Clock.given c.take_next.new.clock) c.take_next.ensures.reads;
+      no_more = low_add _ _ _ refl;
+      spent = λ of n is.
+          let rules = g.N.Ruled.rules in
+          let told = told_in c.args.store.now in
+          let items = c.in-Filled.filling.items.items in
+          let entered = c.requires.entered in
+          let comes = subst (Comes (g.R.Reactions.flows c.args.reactions.now) (state_of c.args.state) c.args.port.now.queues c.args.clients.now c.args.limit) c.in-Filled.is c.in_ok-filling.ensures.comes in
+          let fills = subst (FillsNext rules (pairs_of told) (state_of c.args.state)) c.in-Filled.is (c.in_ok-filling.ensures.fills rules told c.requires.flows c.requires.said) in
+          let place = ap (λ (p : Partition). p.position) entered.entered in
+          let many = length-map items item_of in
+          let some = comes.1 in
+          place_spent rules (of_part 0 (trail_in c.args.store.now)) (pairs_of told) entered.before (c.position-position.result - 1) of n _ refl is entered.stands.made (omega (arith, c.position-position.ensures, place)) (search)
+          (fills_further rules (g.N.Start.origin.logs 0) (of_part 0 (trail_in c.args.store.now)) (pairs_of told) entered.before (state_of c.in-Filled.filling.state) (items_of items) entered.stands
+          (subst (λ (p : Partition). Fills rules (pairs_of told) p (items_of items) (state_of c.in-Filled.filling.state)) entered.entered fills) (omega (arith, some, many)));
       full = λ of n is. absurd (cc is);
       fault = λ is. absurd (cc is);
       say_fault = λ is. absurd (cc is);
       clock_fault = λ is. absurd (cc is);
       later = low_self _;
       say_later = low_self _;
-      clock_later = low_self _;
+      clock_later = c.take_next.ensures.later;
     }
 
 pub returns-in_err-filling : goal.returns-in_err-filling
@@ -88,6 +110,9 @@ returns-in_err-filling g c =
       still = residual_on_ok _ c.from_residual.result _ c.from_residual.ensures.1;
       said = residual_on_ok _ c.from_residual.result _ c.from_residual.ensures.1;
       leaves = residual_if_ok _ c.from_residual.result _ c.from_residual.ensures.1;
+      goes = only_reads g.N.Ruled.rules g.A.Activities.gives c.args.limit c.args.clients.now (g.C.Clock.given c.args.clock.now) (of_part 0 (trail_in c.args.store.now)) (told_in c.args.store.now) c.requires.entered.before (state_of c.args.state) c.requires.entered.stands.made c.requires.entered.entered (g.R.Reactions.flows c.args.reactions.now) c.requires.flows c.args.port.now.queues c.requires.said (g.C.Clock.given c.take_next.new.clock) c.take_next.ensures.reads;
+      no_more = low_add _ _ _ refl;
+      spent = λ of n is. absurd (kind_not_spent is_of_clock _ _ of n refl c.in_err-filling.ensures.stops (residual_is _ _ c.from_residual.ensures.1) is);
       full = λ of n is. absurd (clock_not_full _ _ of n c.in_err-filling.ensures.stops (residual_is _ _ c.from_residual.ensures.1) is);
       fault = λ is. absurd (clock_not_fault _ _ c.in_err-filling.ensures.stops (residual_is _ _ c.from_residual.ensures.1) is);
       say_fault = λ is. absurd (clock_not_said _ _ c.in_err-filling.ensures.stops (residual_is _ _ c.from_residual.ensures.1) is);
@@ -108,6 +133,7 @@ returns-in_err-state-in-Filled g c =
     let tape = c.settle_filling.ensures.say_later in
     let disk_site = ap g.V.Site.disk_faults site in
     let tape_site = ap g.V.Site.say_faults site in
+    let comes = subst (Comes (g.R.Reactions.flows c.args.reactions.now) (state_of c.args.state) c.args.port.now.queues c.args.clients.now c.args.limit) c.in-Filled.is c.in_ok-filling.ensures.comes in
     record {
       tells = λ t. subst g.V.Site.tells site (c.settle_filling.ensures.tells t);
       sound = c.settle_filling.ensures.sound;
@@ -119,7 +145,20 @@ returns-in_err-state-in-Filled g c =
       still = residual_on_ok _ c.from_residual-in_err-state-in-Filled.result _ c.from_residual-in_err-state-in-Filled.ensures.1;
       said = residual_on_ok _ c.from_residual-in_err-state-in-Filled.result _ c.from_residual-in_err-state-in-Filled.ensures.1;
       leaves = residual_if_ok _ c.from_residual-in_err-state-in-Filled.result _ c.from_residual-in_err-state-in-Filled.ensures.1;
-      full = λ of n is. c.in_err-state-in-Filled.ensures.full of n (same_stop _ _ _ _ refl (residual_is _ _ c.from_residual-in_err-state-in-Filled.ensures.1) is);
+      goes =
+          let entry : Entry = record { position = c.position-position.result - 1; incarnation = c.args.life; items = items_of c.in-Filled.filling.items.items } in
+          let new = c.settle_filling.new.store in
+          let place = ap (λ (p : Partition). p.position) c.requires.entered.entered in
+          let at_place : c.position-position.result - 1 ≡ c.requires.entered.before.position = omega (arith, c.position-position.ensures, place) in
+          let word_is = c.word-chance.ensures ∙ ap (λ (n : ℕ). word_of n 0 (c.position-position.result - 1)) c.requires.life ∙ ap (word_of g.N.Ruled.rules.life 0) at_place in
+          let at = subst (ComesAt (g.R.Reactions.flows c.args.reactions.now) (λ name argument. g.A.Activities.gives name argument c.word-chance.result) (state_of c.args.state) c.args.port.now.queues c.args.clients.now (g.C.Clock.given c.args.clock.now) (g.C.Clock.given c.take_next.new.clock)) c.in-Filled.is c.in_ok-filling.ensures.at in
+          let then =
+          subst (λ (t : List Settled). SettlesThenSays c.args.clients.now entry (of_part 0 t) (told_in c.args.store.now) (of_part 0 (trail_in new)) (told_in new)) c.raise.ensures.trail
+          (subst (λ (t : List Said). SettlesThenSays c.args.clients.now entry (of_part 0 (trail_in c.raise.new.self)) t (of_part 0 (trail_in new)) (told_in new)) c.raise.ensures.told c.settle_filling.ensures.settles) in
+          filled_goes g.N.Ruled.rules g.A.Activities.gives c.args.limit c.args.clients.now (g.C.Clock.given c.args.clock.now) (of_part 0 (trail_in c.args.store.now)) (told_in c.args.store.now) c.requires.entered.before (state_of c.args.state) c.requires.entered.stands.made c.requires.entered.entered (g.R.Reactions.flows c.args.reactions.now) c.requires.flows c.args.port.now.queues c.requires.said c.word-chance.result c.args.life (c.position-position.result - 1) c.in-Filled.now c.in-Filled.filling (g.C.Clock.given c.take_next.new.clock) (of_part 0 (trail_in new)) (told_in new) word_is at_place c.requires.life at comes then;
+      no_more = low_more _ _ _ _ (subst (λ (t : List Settled). count_labels (of_part 0 (trail_in c.settle_filling.new.store)) ≤ count_labels (of_part 0 t) + length c.in-Filled.filling.items.items) c.raise.ensures.trail c.settle_filling.ensures.no_more) comes.2;
+      spent = λ of n is. absurd (c.in_err-state-in-Filled.ensures.no_spent of n (same_stop _ _ _ _ refl (residual_is _ _ c.from_residual-in_err-state-in-Filled.ensures.1) is));
+      full = λ of n is. full_wider _ _ _ _ _ _ _ _ _ _ comes.2 (c.in_err-state-in-Filled.ensures.full of n (same_stop _ _ _ _ refl (residual_is _ _ c.from_residual-in_err-state-in-Filled.ensures.1) is));
       fault = λ is. subst (λ n. HasRisen n (g.V.Site.disk_faults c.settle_filling.new.store.site)) disk_site (c.in_err-state-in-Filled.ensures.fault (same_stop _ _ _ _ refl (residual_is _ _ c.from_residual-in_err-state-in-Filled.ensures.1) is));
       say_fault = λ is. subst (λ n. HasRisen n (g.V.Site.say_faults c.settle_filling.new.store.site)) tape_site (c.in_err-state-in-Filled.ensures.say_fault (same_stop _ _ _ _ refl (residual_is _ _ c.from_residual-in_err-state-in-Filled.ensures.1) is));
       clock_fault = λ is. absurd (c.in_err-state-in-Filled.ensures.no_clock (same_stop _ _ _ _ refl (residual_is _ _ c.from_residual-in_err-state-in-Filled.ensures.1) is));
@@ -155,6 +194,19 @@ returns-in_ok-state-in-Filled g c =
       still = c.in_ok-state-in-Filled.ensures.still;
       said = c.in_ok-state-in-Filled.ensures.said;
       leaves = (c.in_ok-state-in-Filled.ensures.entered, c.in_ok-state-in-Filled.ensures.unsaid, omega (arith, some, c.len-more.ensures), omega (arith, many, c.requires.few, c.len-more.ensures), omega (arith, labels, trail, c.len-more.ensures));
+      goes =
+          let entry : Entry = record { position = c.position-position.result - 1; incarnation = c.args.life; items = items_of c.in-Filled.filling.items.items } in
+          let new = c.settle_filling.new.store in
+          let place = ap (λ (p : Partition). p.position) c.requires.entered.entered in
+          let at_place : c.position-position.result - 1 ≡ c.requires.entered.before.position = omega (arith, c.position-position.ensures, place) in
+          let word_is = c.word-chance.ensures ∙ ap (λ (n : ℕ). word_of n 0 (c.position-position.result - 1)) c.requires.life ∙ ap (word_of g.N.Ruled.rules.life 0) at_place in
+          let at = subst (ComesAt (g.R.Reactions.flows c.args.reactions.now) (λ name argument. g.A.Activities.gives name argument c.word-chance.result) (state_of c.args.state) c.args.port.now.queues c.args.clients.now (g.C.Clock.given c.args.clock.now) (g.C.Clock.given c.take_next.new.clock)) c.in-Filled.is c.in_ok-filling.ensures.at in
+          let then =
+          subst (λ (t : List Settled). SettlesThenSays c.args.clients.now entry (of_part 0 t) (told_in c.args.store.now) (of_part 0 (trail_in new)) (told_in new)) c.raise.ensures.trail
+          (subst (λ (t : List Said). SettlesThenSays c.args.clients.now entry (of_part 0 (trail_in c.raise.new.self)) t (of_part 0 (trail_in new)) (told_in new)) c.raise.ensures.told c.settle_filling.ensures.settles) in
+          filled_goes g.N.Ruled.rules g.A.Activities.gives c.args.limit c.args.clients.now (g.C.Clock.given c.args.clock.now) (of_part 0 (trail_in c.args.store.now)) (told_in c.args.store.now) c.requires.entered.before (state_of c.args.state) c.requires.entered.stands.made c.requires.entered.entered (g.R.Reactions.flows c.args.reactions.now) c.requires.flows c.args.port.now.queues c.requires.said c.word-chance.result c.args.life (c.position-position.result - 1) c.in-Filled.now c.in-Filled.filling (g.C.Clock.given c.take_next.new.clock) (of_part 0 (trail_in new)) (told_in new) word_is at_place c.requires.life at comes then;
+      no_more = low_more _ _ _ _ (subst (λ (t : List Settled). count_labels (of_part 0 (trail_in c.settle_filling.new.store)) ≤ count_labels (of_part 0 t) + length c.in-Filled.filling.items.items) c.raise.ensures.trail c.settle_filling.ensures.no_more) comes.2;
+      spent = λ of n is. absurd (ok_apart _ _ is);
       full = λ of n is. absurd (ok_apart _ _ is);
       fault = λ is. absurd (ok_apart _ _ is);
       say_fault = λ is. absurd (ok_apart _ _ is);
@@ -189,6 +241,9 @@ returns-in-Rest g c =
           said = subst (λ (p : Partition). NoneUnsaid p queues c.args.clients.now) (sym comes.2) c.requires.unsaid;
         },
       );
+      goes = only_reads g.N.Ruled.rules g.A.Activities.gives c.args.limit c.args.clients.now (g.C.Clock.given c.args.clock.now) (of_part 0 (trail_in c.args.store.now)) (told_in c.args.store.now) c.requires.entered.before (state_of c.args.state) c.requires.entered.stands.made c.requires.entered.entered (g.R.Reactions.flows c.args.reactions.now) c.requires.flows c.args.port.now.queues c.requires.said (g.C.Clock.given c.take_next.new.clock) c.take_next.ensures.reads;
+      no_more = low_add _ _ _ refl;
+      spent = λ of n is. absurd (ok_apart _ _ is);
       full = λ of n is. absurd (ok_apart _ _ is);
       fault = λ is. absurd (ok_apart _ _ is);
       say_fault = λ is. absurd (ok_apart _ _ is);

@@ -1,11 +1,14 @@
-use Rattle.std.proofs.Common.{◌∙◌, ℕ, List, refl, sym, ap, subst, arith}
+use Rattle.std.proofs.Common.{◌∙◌, inl, inr, ℕ, List, refl, sym, ap, subst, arith}
 use Rattle.dura_model.specs.Partition.{Partition, enter}
 use Rattle.dura_value.specs.Items.{Entry}
 use Rattle.hub_store.specs.Changes.{trail_in, told_in}
-use Rattle.hub_store.specs.Trail.{Settled, of_part}
+use Rattle.hub_store.specs.Trail.{Settled, Said, of_part}
 use Rattle.hub_store.specs.Ways.{stage_of, way_of}
 use Rattle.part_items.specs.Plain.{items_of}
-use Rattle.part_rounds.proofs.Counts.{low_same, low_from, low_to}
+use Rattle.part_rounds.proofs.Counts.{low_same, low_from, low_to, low_is, low_add}
+use Rattle.part_rounds.proofs.Further.{kind_not_spent}
+use Rattle.part_rounds.specs.Turns.{SaysInTurn}
+use Rattle.hub_store.specs.Stops.{is_of_disk, is_of_tape}
 use Rattle.part_rounds.specs.Comes.{count_labels}
 use Rattle.part_rounds.specs.Rounds.{pairs_of, Stands, NoneUnsaid}
 use Rattle.part_rounds.proofs.Entries.{stands_after, place_after}
@@ -49,6 +52,9 @@ returns-in-Err g c =
       entered = tt;
       unsaid = tt;
       labels = tt;
+      settles = inl (ap (of_part 0) c.in-Err.ensures.no_trail, c.commit_items.ensures.said);
+      no_more = low_add _ _ _ (ap (λ (t : List Settled). count_labels (of_part 0 t)) c.in-Err.ensures.no_trail);
+      no_spent = λ of n is. kind_not_spent is_of_disk _ _ of n refl c.in-Err.ensures.stops refl is;
       full = λ of n is. c.in-Err.ensures.full of n (same_stop _ _ _ _ refl refl is);
       fault = λ is. c.in-Err.ensures.fault (same_stop _ _ _ _ refl refl is);
       say_fault = λ is. absurd (disk_not_said _ _ c.in-Err.ensures.stops refl is);
@@ -73,6 +79,9 @@ returns-in-Err-say_due g c =
       entered = tt;
       unsaid = tt;
       labels = tt;
+      settles = inr (ap (of_part 0) c.say_due.ensures.trail ∙ c.in-Ok.ensures.trail, subst (λ (t : List Said). SaysInTurn c.args.clients.now t (told_in c.say_due.new.store)) c.commit_items.ensures.said c.say_due.ensures.in_turn);
+      no_more = low_is _ _ (ap (λ (t : List Settled). count_labels (of_part 0 t)) c.say_due.ensures.trail ∙ c.in-Ok.ensures.labels);
+      no_spent = λ of n is. kind_not_spent is_of_tape _ _ of n refl c.in-Err-say_due.ensures.stops refl is;
       full = λ of n is. absurd (tape_not_full _ _ of n c.in-Err-say_due.ensures.stops refl is);
       fault = λ is. absurd (tape_not_fault _ _ c.in-Err-say_due.ensures.stops refl is);
       say_fault = λ is. subst (λ (n : ℕ). HasRisen n (g.V.Site.say_faults c.say_due.new.store.site)) c.commit_items.ensures.say_faults (c.in-Err-say_due.ensures.fault (same_stop _ _ _ _ refl refl is));
@@ -112,6 +121,9 @@ returns-in-Ok-say_due g c =
       };
       unsaid = let entered = c.enter.ensures.entered in subst (λ (p : Partition). NoneUnsaid p c.say_due.new.port.queues c.args.clients.now) (sym entered) c.in-Ok-say_due.ensures.none;
       labels = ap (λ (t : List Settled). count_labels (of_part 0 t)) c.say_due.ensures.trail ∙ c.in-Ok.ensures.labels;
+      settles = inr (ap (of_part 0) c.say_due.ensures.trail ∙ c.in-Ok.ensures.trail, subst (λ (t : List Said). SaysInTurn c.args.clients.now t (told_in c.say_due.new.store)) c.commit_items.ensures.said c.say_due.ensures.in_turn);
+      no_more = low_is _ _ (ap (λ (t : List Settled). count_labels (of_part 0 t)) c.say_due.ensures.trail ∙ c.in-Ok.ensures.labels);
+      no_spent = λ of n is. ok_apart _ _ is;
       full = λ of n is. absurd (ok_apart _ _ is);
       fault = λ is. absurd (ok_apart _ _ is);
       say_fault = λ is. absurd (ok_apart _ _ is);

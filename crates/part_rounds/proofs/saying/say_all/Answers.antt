@@ -1,6 +1,7 @@
 use Rattle.std.proofs.Common.{◌≡◌, ◌∙◌, Bool, Ok, None, refl, sym, ap, subst}
 use Rattle.client_port.specs.Ports.{Ports}
 use Rattle.part_rounds.proofs.Counts.{low_both}
+use Rattle.part_rounds.proofs.Turns.{own_both}
 use Rattle.part_rounds.specs.Rounds.{next_answer}
 use Rattle.hub_store.proofs.Stops.{ok_apart, same_stop, residual_is, residual_of_stop, residual_on_ok, risen_after}
 use Rattle.part_steps.specs.States.{state_of}
@@ -11,6 +12,7 @@ answers-preserved g c = record {
   tells = λ t. c.answers.invariant.tells (c.say_next.ensures.tells t);
   sound = c.say_next.ensures.sound;
   trail = c.say_next.ensures.trail ∙ c.answers.invariant.trail;
+  own = own_both _ _ _ _ c.answers.invariant.own c.say_next.ensures.own;
   ways = c.say_next.ensures.ways ∙ c.answers.invariant.ways;
   segment = c.say_next.ensures.segment ∙ c.answers.invariant.segment;
   latest = c.say_next.ensures.latest ∙ c.answers.invariant.latest;
@@ -27,6 +29,7 @@ returns-in_err-say_next g c =
       tells = λ t. c.answers.invariant.tells (c.say_next.ensures.tells t);
       sound = c.say_next.ensures.sound;
       trail = c.say_next.ensures.trail ∙ c.answers.invariant.trail;
+      own = own_both _ _ _ _ c.answers.invariant.own c.say_next.ensures.own;
       ways = c.say_next.ensures.ways ∙ c.answers.invariant.ways;
       segment = c.say_next.ensures.segment ∙ c.answers.invariant.segment;
       latest = c.say_next.ensures.latest ∙ c.answers.invariant.latest;
@@ -48,6 +51,7 @@ returns g c =
       tells = λ t. c.answers.invariant.tells (c.say_next.ensures.tells t);
       sound = c.say_next.ensures.sound;
       trail = c.say_next.ensures.trail ∙ c.answers.invariant.trail;
+      own = own_both _ _ _ _ c.answers.invariant.own c.say_next.ensures.own;
       ways = c.say_next.ensures.ways ∙ c.answers.invariant.ways;
       segment = c.say_next.ensures.segment ∙ c.answers.invariant.segment;
       latest = c.say_next.ensures.latest ∙ c.answers.invariant.latest;

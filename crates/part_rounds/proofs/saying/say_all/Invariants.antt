@@ -3,6 +3,7 @@ use Rattle.client_port.specs.Clients.{requests_of}
 use Rattle.hub_store.specs.Changes.{trail_in, told_in}
 use Rattle.hub_store.specs.Sound.{IsSound}
 use Rattle.part_rounds.specs.Rounds.{pairs_of, HasSaid, KeepsDue}
+use Rattle.part_rounds.specs.Turns.{SaysOwn}
 use Rattle.run_rules.specs.Rules.{count_told}
 use Rattle.part_rounds.proofs.saying.say_all.Given as goal
 
@@ -11,6 +12,7 @@ invariant-answers g l = record {
   tells : g.V.Site.tells l.store.site → g.V.Site.tells l.fn.store.site;
   sound : IsSound l.store;
   trail : trail_in l.store ≡ trail_in l.fn.store;
+  own : SaysOwn l.client (told_in l.fn.store) (told_in l.store);
   ways : l.store.ways ≡ l.fn.store.ways;
   segment : l.store.segment ≡ l.fn.store.segment;
   latest : l.store.latest ≡ l.fn.store.latest;

@@ -1,9 +1,10 @@
-use Rattle.std.proofs.Common.{◌≡◌, ◌∙◌, ℕ, List, None, get_or, take, refl}
+use Rattle.std.proofs.Common.{◌≡◌, ◌∙◌, ℕ, ◌+◌, List, None, get_or, take, refl}
 use Rattle.part_steps.specs.States.{state_of}
 use Rattle.part_rounds.proofs.Counts.{low_both}
 use Rattle.part_rounds.specs.Rounds.{next_answer}
 use Rattle.part_rounds.proofs.Queues.{still_none}
 use Rattle.hub_store.proofs.Stops.{ok_apart, same_stop, residual_is, residual_of_stop, residual_on_ok, risen_after}
+use Rattle.part_rounds.proofs.Turns.{turn_next, turn_whole}
 use Rattle.part_rounds.proofs.Walks.{all_next, all_whole}
 use Rattle.part_rounds.proofs.saying.say_due.Goals as goal
 
@@ -19,6 +20,7 @@ loop-client-preserved g c =
       tells = λ t. c.loop-client.invariant.tells (c.say_all.ensures.tells t);
       sound = c.say_all.ensures.sound;
       trail = c.say_all.ensures.trail ∙ c.loop-client.invariant.trail;
+      in_turn = turn_next c.args.clients.now c.loop-client.client-index c.client-item.result _ _ _ c.loop-client-test.true c.client-item.is c.loop-client.invariant.in_turn c.say_all.ensures.own;
       ways = c.say_all.ensures.ways ∙ c.loop-client.invariant.ways;
       segment = c.say_all.ensures.segment ∙ c.loop-client.invariant.segment;
       latest = c.say_all.ensures.latest ∙ c.loop-client.invariant.latest;
@@ -37,6 +39,7 @@ returns-in_err-say_all g c =
       tells = λ t. c.loop-client.invariant.tells (c.say_all.ensures.tells t);
       sound = c.say_all.ensures.sound;
       trail = c.say_all.ensures.trail ∙ c.loop-client.invariant.trail;
+      in_turn = turn_whole c.args.clients.now (c.loop-client.client-index + 1) _ _ (turn_next c.args.clients.now c.loop-client.client-index c.client-item.result _ _ _ c.loop-client-test.true c.client-item.is c.loop-client.invariant.in_turn c.say_all.ensures.own);
       ways = c.say_all.ensures.ways ∙ c.loop-client.invariant.ways;
       segment = c.say_all.ensures.segment ∙ c.loop-client.invariant.segment;
       latest = c.say_all.ensures.latest ∙ c.loop-client.invariant.latest;
@@ -56,6 +59,7 @@ returns g c =
       tells = c.loop-client.invariant.tells;
       sound = c.loop-client.invariant.sound;
       trail = c.loop-client.invariant.trail;
+      in_turn = turn_whole c.args.clients.now c.loop-client.client-index _ _ c.loop-client.invariant.in_turn;
       ways = c.loop-client.invariant.ways;
       segment = c.loop-client.invariant.segment;
       latest = c.loop-client.invariant.latest;

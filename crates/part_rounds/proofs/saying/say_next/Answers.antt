@@ -8,6 +8,8 @@ use Rattle.part_steps.specs.States.{state_of}
 use Rattle.dura_value.specs.Ids.{client}
 use Rattle.request_reader.specs.Line.{Request, request_of}
 use Rattle.part_rounds.proofs.Counts.{low_self}
+use Rattle.part_rounds.proofs.Further.{on_err}
+use Rattle.part_rounds.proofs.Turns.{own_none, own_one}
 use Rattle.part_rounds.specs.Rounds.{pairs_of, HasSaid, KeepsDue}
 use Rattle.run_rules.specs.Rules.{count_told}
 use Rattle.hub_store.specs.Trail.{Said}
@@ -45,6 +47,7 @@ returns g c =
       tells = c.say-told.ensures.told;
       sound = c.say-told.ensures.sound;
       trail = c.say-told.ensures.trail;
+      own = own_one name r.number told _ c.in-Ok.ensures.ok;
       ways = c.say-told.ensures.ways;
       segment = c.say-told.ensures.segment;
       latest = c.say-told.ensures.latest;
@@ -73,6 +76,7 @@ returns-in_default g c =
       tells = λ t. t;
       sound = c.requires.sound;
       trail = refl;
+      own = own_none _ _ _ refl;
       ways = refl;
       segment = refl;
       latest = refl;
@@ -100,6 +104,7 @@ returns-in_default-answer g c =
       tells = λ t. t;
       sound = c.requires.sound;
       trail = refl;
+      own = own_none _ _ _ refl;
       ways = refl;
       segment = refl;
       latest = refl;
@@ -120,6 +125,7 @@ returns-in_err-id g c = record {
   tells = λ t. t;
   sound = c.requires.sound;
   trail = refl;
+  own = own_none _ _ _ refl;
   ways = refl;
   segment = refl;
   latest = refl;
@@ -140,6 +146,7 @@ returns-in_err-line g c = record {
   tells = λ t. t;
   sound = c.requires.sound;
   trail = refl;
+  own = own_none _ _ _ refl;
   ways = refl;
   segment = refl;
   latest = refl;
@@ -160,6 +167,7 @@ returns-in_err-said g c = record {
   tells = c.say-told.ensures.told;
   sound = c.say-told.ensures.sound;
   trail = c.say-told.ensures.trail;
+  own = own_one c.args.client.now (request_of c.in-Some.request.now).number (told_in c.args.store.now) _ c.in-Ok.ensures.ok;
   ways = c.say-told.ensures.ways;
   segment = c.say-told.ensures.segment;
   latest = c.say-told.ensures.latest;
@@ -264,3 +272,9 @@ returns-in-Err-Memory-clause-disk_faults g c = c.say-told.ensures.disk_faults
 
 pub returns-in-Err-Memory-clause-others : goal.returns-in-Err-Memory-clause-others
 returns-in-Err-Memory-clause-others g c = tt
+
+pub returns-in-Err-SayFault-clause-own : goal.returns-in-Err-SayFault-clause-own
+returns-in-Err-SayFault-clause-own g c = own_none _ _ _ (on_err _ c.say-told.result _ c.say-told.ensures.err c.in-Err-SayFault.is)
+
+pub returns-in-Err-Memory-clause-own : goal.returns-in-Err-Memory-clause-own
+returns-in-Err-Memory-clause-own g c = own_none _ _ _ (on_err _ c.say-told.result _ c.say-told.ensures.err c.in-Err-Memory.is)

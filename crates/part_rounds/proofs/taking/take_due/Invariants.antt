@@ -1,7 +1,8 @@
-use Rattle.std.proofs.Common.{◌≡◌, ◌≤◌, List, length, take}
+use Rattle.std.proofs.Common.{◌≡◌, ◌≤◌, ℕ, List, length, take}
 use Rattle.std.specs.List.{All}
 use Rattle.hub_store.specs.Trail.{Said}
 use Rattle.part_rounds.specs.Fills.{IsUnderWay, GoesOn, CantTake}
+use Rattle.part_rounds.specs.InTime.{Giving, GoesOnAt}
 use Rattle.part_rounds.specs.Rounds.{pairs_of, HasSaid}
 use Rattle.part_steps.specs.States.{state_of}
 use Rattle.run_rules.specs.Rules.{Rules}
@@ -13,6 +14,7 @@ invariant-loop-client g l = record {
   way : IsUnderWay l.filling;
   few : length l.filling.items.items ≤ l.limit;
   moment : (state_of l.filling.state).stamp ≡ (state_of l.fn.filling.state).stamp;
+  at : (now : ℕ) (gives : Giving) → GoesOnAt (g.R.Reactions.flows l.reactions) now gives l.fn.filling l.filling;
   longer : length l.fn.filling.items.items ≤ length l.filling.items.items;
   goes_on : (rules : Rules) (told : List Said) → rules.flows ≡ g.R.Reactions.flows l.reactions → HasSaid rules told l.port.queues → GoesOn rules (pairs_of told) l.fn.filling l.filling;
   still : length l.filling.items.items ≡ length l.fn.filling.items.items → (state_of l.filling.state ≡ state_of l.fn.filling.state)

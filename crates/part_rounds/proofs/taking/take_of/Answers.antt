@@ -4,6 +4,7 @@ use Rattle.dura_value.specs.Views.{message_of}
 use Rattle.request_reader.specs.Line.{Request}
 use Rattle.dura_value.specs.Items.{took}
 use Rattle.part_items.specs.declared.items.Item.TheVariants.{Took}
+use Rattle.part_rounds.proofs.InTime.{puts_at}
 use Rattle.part_rounds.proofs.Moments.{puts_still}
 use Rattle.part_rounds.proofs.Puttings.{puts_goes_on, puts_longer, puts_one, due_asked, put_in_vain, goes_on_still}
 use Rattle.part_rounds.specs.Rounds.{pairs_of}
@@ -35,3 +36,7 @@ returns-in_ok-next-in-Some-clause-one g c = puts_one (g.R.Reactions.flows c.args
 
 pub returns-in-None-clause-goes_on : goal.returns-in-None-clause-goes_on
 returns-in-None-clause-goes_on g c = λ rules told same said. goes_on_still rules (pairs_of told) c.args.filling c.requires.way
+
+pub returns-in_ok-next-in-Some-clause-at : goal.returns-in_ok-next-in-Some-clause-at
+returns-in_ok-next-in-Some-clause-at g c = λ now gives.
+    puts_at (g.R.Reactions.flows c.args.reactions.now) now gives c.args.filling c.in_ok-next-in-Some.next (Took c.in-Some.message) c.in_ok-next-in-Some.ensures.puts (λ moment. tt) (λ from made. tt)
