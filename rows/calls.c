@@ -6,7 +6,7 @@
 //   CALLS_NONE=N       the Nth write moves nothing and says so
 //   CALLS_KILL=N       the program is killed before the Nth call that writes, syncs, makes or prints; -N: right behind it
 //   CALLS_SHORT=K      a transfer moves at most K bytes
-//   CALLS_SIGNAL=1     every second transfer is cut off by a signal first, and moves nothing
+//   CALLS_SIGNAL=1     every second transfer, and every second other call, is cut off by a signal first, and does nothing
 #define _GNU_SOURCE
 #include <dlfcn.h>
 #include <errno.h>
@@ -17,10 +17,12 @@
 #include <stdlib.h>
 #include <string.h>
 #include <sys/file.h>
+#include <sys/stat.h>
 #include <unistd.h>
 
 static long changes = 0;
 static long transfers = 0;
+static long others = 0;
 static long writes = 0;
 
 static long number(const char *name) {
@@ -86,6 +88,12 @@ static int is_cut_off(void) {
     return number("CALLS_SIGNAL") && transfers % 2;
 }
 
+// Likewise a call that moves no bytes, counted by itself.
+static int other_is_cut_off(void) {
+    others++;
+    return number("CALLS_SIGNAL") && others % 2;
+}
+
 static size_t shortened(size_t count) {
     long most = number("CALLS_SHORT");
     return most && count > (size_t)most ? (size_t)most : count;
@@ -94,6 +102,9 @@ static size_t shortened(size_t count) {
 #define FAIL(name) \
     if (fails(name)) { errno = EIO; return -1; }
 
+#define CUT_OFF \
+    if (other_is_cut_off()) { errno = EINTR; return -1; }
+
 int open(const char *path, int flags, ...) {
     int (*real)(const char *, int, ...) = dlsym(RTLD_NEXT, "open");
     va_list args;
@@ -101,6 +112,7 @@ int open(const char *path, int flags, ...) {
     int mode = va_arg(args, int);
     va_end(args);
     int makes = flags & O_CREAT;
+    CUT_OFF
     if (makes) before_change();
     FAIL(makes ? "make" : "open")
     int result = real(path, flags, mode);
@@ -113,14 +125,26 @@ int open(const char *path, int flags, ...) {
 
 int flock(int fd, int operation) {
     int (*real)(int, int) = dlsym(RTLD_NEXT, "flock");
+    CUT_OFF
     FAIL("lock")
     int result = real(fd, operation);
     list("lock %s\n", name_of(fd));
     return result;
 }
 
+int statx(int fd, const char *path, int flags, unsigned int mask, struct statx *out) {
+    int (*real)(int, const char *, int, unsigned int, struct statx *) = dlsym(RTLD_NEXT, "statx");
+    CUT_OFF
+    FAIL("stat")
+    int result = real(fd, path, flags, mask, out);
+    const char *last = strrchr(path, '/');
+    list("stat %s\n", last && last[1] ? last + 1 : *path ? path : name_of(fd));
+    return result;
+}
+
 int fsync(int fd) {
     int (*real)(int) = dlsym(RTLD_NEXT, "fsync");
+    CUT_OFF
     before_change();
     FAIL("sync")
     int result = real(fd);

@@ -25,7 +25,6 @@ use Rattle.run_laws.specs.Leaves.{StandsOn}
 use Rattle.run_rules.specs.Rules.{Rules}
 use Rattle.run_laws.proofs.Ordered.{never_overlaps}
 use Rattle.site_model.specs.History.{Step, content_of, back_to}
-use Rattle.site_model.proofs.Paths.{last}
 
 -- a run for which files stand is legal
 in_order : (rules : Rules) (latest digest : ℕ) (o : Origin) (steps : List Step) (trail : List Settled) (image : ℕ → List ℕ) → StandsOn rules latest digest o steps trail image → StandsOrderly rules latest digest o steps trail image
@@ -51,7 +50,6 @@ module _ (job : Job) (old steps new : List Step) (entries : List Entry) (state :
         origin = origin_with log_is steps;
         alone = subst (λ (n : ℕ). BeginsAlone (origin_with log_is steps) (rules_with job state n) job.digest) life_is begins;
         kept = picked_entries job entries steps log opened state keeps.made life young;
-        silent = (last opening).silent;
         opening = opening;
         further = goes.further;
         nothing = goes.nothing;

@@ -17,5 +17,6 @@ pub mod Runs
 pub mod Served
 pub mod Shown
 pub mod Standing
+pub mod Starting
 pub mod Stirred
 pub mod Words

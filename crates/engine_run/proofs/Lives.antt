@@ -25,7 +25,7 @@ use Rattle.run_laws.specs.Leaves.AllAnswered.{nothing_said, one_more as one_line
 use Rattle.run_rules.specs.Rules.{Rules}
 use Rattle.site_model.specs.History.{Change, wrote, synced, reads, Step, changes_of, content_of, tape, back_to, Torn, Leaves, IsImage}
 use Rattle.site_model.specs.Moments.{Always, begins, goes_on}
-use Rattle.site_model.proofs.Paths.{each_moment, no_shorter}
+use Rattle.site_model.proofs.Paths.{each_moment, last, no_shorter}
 
 -- ---- images
 
@@ -219,7 +219,7 @@ module _ (flows : Flows) (digest : ℕ) (entries : List Entry) (before : List St
           lines = on.lines;
           part = on.part;
           answered = subst (λ (l : List Entry). AllAnswered (rules_with life.job first_kept.state (next_life l)) runs.origin (settled_then life) on.told on.lines) (sym runs.kept) on.answered;
-          spoken = on.spoken ∙ ap (λ (t : List ℕ). t ++ on.lines ++ on.part) runs.silent;
+          spoken = on.spoken ∙ ap (λ (t : List ℕ). t ++ on.lines ++ on.part) (last runs.opening).silent;
           saying = subst (λ (l : List Entry). (on.part ≡ []) ⊎ IsHalfSaid (rules_with life.job first_kept.state (next_life l)) runs.origin (settled_then life) on.told (by_then life) on.part) (sym runs.kept) on.saying;
         });
   }

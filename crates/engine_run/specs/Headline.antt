@@ -21,7 +21,7 @@ use Rattle.run_causes.specs.declared.cause.Cause.{Cause}
 use Rattle.run_laws.specs.Begins.{BeginsAlone, may_follow, may_say}
 use Rattle.run_laws.specs.Leaves.{StandsOn}
 use Rattle.run_rules.specs.Rules.{Rules}
-use Rattle.site_model.specs.History.{Step, tape, back_to, IsImage}
+use Rattle.site_model.specs.History.{Step, back_to, IsImage}
 use Rattle.site_model.specs.Moments.{Always}
 
 -- No task is ended twice, and no two critical sections ever overlap.
@@ -45,7 +45,6 @@ pub record RunsOn (job : Job) (entries : List Entry) (begin : Partition) (old ne
   pub origin : Origin
   pub alone : BeginsAlone origin (rules_with job begin (next_life entries)) job.digest
   pub kept : (origin.logs 0).entries ≡ entries
-  pub silent : tape origin.steps ≡ tape old
   pub opening : Always (IsOpening job entries old) old origin.steps
   pub further : Always (λ steps. Unit {0}) origin.steps new
   pub nothing : (moment : ℕ) → moment < length origin.steps → settled_at moment trail ≡ []

@@ -1,14 +1,15 @@
 //! Laws of what a run promises. They are said of the definitions alone: the functions do nothing.
 
-ghost use Rattle.std.specs.Prelude.{ℕ, List};
+ghost use Rattle.std.specs.Prelude.{◌≡◌, ◌≤◌, ℕ, List, []};
 ghost use Rattle.dura_value.specs.Items.{Entry};
 ghost use Rattle.engine_run.specs.Causes.{AreRefused, IsReady};
-ghost use Rattle.engine_run.specs.Lives.{AllKeep, KeepsOn, Life, Lives, AreJoined};
+ghost use Rattle.engine_run.specs.Lives.{AllKeep, KeepsOn, BeginsOn, Life, Lives, AreJoined};
 ghost use Rattle.flow_syntax.specs.Syntax.{Flows};
 ghost use Rattle.hub_store.specs.Origin.{Origin};
 ghost use Rattle.hub_store.specs.Trail.{Settled};
 ghost use Rattle.run_laws.specs.Leaves.{StandsOn};
 ghost use Rattle.run_rules.specs.Rules.{Rules};
+ghost use Rattle.site_calls.specs.Events.{file_numbers, start_of};
 ghost use Rattle.site_model.specs.History.{Step, IsImage};
 
 /// Files that are accepted aren't refused.
@@ -21,6 +22,11 @@ pub fn accepted_files()
 #[tactic(auto, using(crate::proofs::Lives::next_may_begin))]
 pub fn images_are_kept()
     ensures { (rules : Rules) (latest digest : ℕ) (o : Origin) (steps : List Step) (trail : List Settled) (image : ℕ → List ℕ) → StandsOn rules latest digest o steps trail image → KeepsOn rules.flows digest (o.logs 0).entries image }
+{}
+
+/// The history of recorded calls begins on a crash image where the program's files hold it, and are numbered as it numbers them.
+pub fn programs_begin_on_images()
+    ensures { (before : List Step) (files : ℕ → List ℕ) → IsImage before files → ((file : ℕ) → file_numbers ≤ file → files file ≡ []) → BeginsOn before (start_of files) }
 {}
 
 /// Whatever number of calls there were, each begun on what a crash at any moment left of the one before: what a crash leaves of the

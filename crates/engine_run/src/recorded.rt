@@ -1,6 +1,6 @@
 //! The top call over calls of the system that are recorded.
 
-ghost use Rattle.std.specs.Prelude.{◌≡◌, ◌⊎◌, ◌≤◌, ℕ, [], None, Some};
+ghost use Rattle.std.specs.Prelude.{◌≡◌, ◌⊎◌, ◌<◌, ◌≤◌, ℕ, [], None, Some};
 ghost use Rattle.command_words.specs.Command.{call_in};
 ghost use Rattle.command_words.specs.declared.words.Call.TheVariants as calls;
 ghost use Rattle.command_words.specs.declared.words.RunOptions.{RunOptions as AnyOptions};
@@ -12,6 +12,7 @@ ghost use Rattle.engine_run.specs.Recorded.{files_before, steps_before, steps_af
 ghost use Rattle.engine_run.specs.Showing.{ShowsAs, WritesNothing};
 ghost use Rattle.run_causes.specs.Causes.{status_of};
 ghost use Rattle.site_calls.specs.Events.{Tells};
+ghost use Rattle.site_calls.specs.Failures.{disk_failures, say_failures};
 ghost use Rattle.site_calls.specs.Site.{calls_of, disk_faults_of, say_faults_of};
 ghost use Rattle.site_model.specs.Calls.{HasRisen};
 ghost use Rattle.site_model.specs.History.{tape};
@@ -70,9 +71,11 @@ pub fn run_recorded<
     ensures shows { Tells S.unseen (C.events (calls_of result.site)) → (partitions : ℕ) → call_in words.now ≡ Some (calls.Show partitions) → ShowsAs (files_before S.unseen) (tape (steps_before S.unseen)) (tape (steps_after S.unseen (C.events (calls_of result.site)))) result.cause }
     ensures writes_nothing { (partitions : ℕ) → call_in words.now ≡ Some (calls.Show partitions) → WritesNothing (steps_before S.unseen) (steps_after S.unseen (C.events (calls_of result.site))) }
 
-    // A fault has its cause.
+    // A fault has its cause: the count of its kind rose, and the record has a call of the system that failed.
     ensures fault { result.cause ≡ Cause.SiteFault → HasRisen (disk_faults_of site) (disk_faults_of result.site) }
+    ensures fault_call { result.cause ≡ Cause.SiteFault → 0 < disk_failures (C.events (calls_of result.site)) }
     ensures say_fault { result.cause ≡ Cause.SayFault → HasRisen (say_faults_of site) (say_faults_of result.site) }
+    ensures say_fault_call { result.cause ≡ Cause.SayFault → 0 < say_failures (C.events (calls_of result.site)) }
     ensures clock_fault { result.cause ≡ Cause.ClockFault → HasRisen (K.clock_faults clock) (K.clock_faults result.clock) }
     ensures later { disk_faults_of site ≤ disk_faults_of result.site }
     ensures say_later { say_faults_of site ≤ say_faults_of result.site }

@@ -2,6 +2,7 @@ pub mod AnswersWait
 pub mod Bodies
 pub mod Calls
 pub mod EveryMoment
+pub mod FactsLacking
 pub mod Faults
 pub mod FramesGo
 pub mod Later

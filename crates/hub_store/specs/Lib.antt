@@ -1,5 +1,6 @@
 pub mod Changes
 pub mod Examples
+pub mod FieldExamples
 pub mod Frames
 pub mod Moments
 pub mod Opened

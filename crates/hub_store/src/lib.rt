@@ -10,6 +10,7 @@ mod body;
 mod commits;
 mod end;
 mod examples;
+mod field_examples;
 mod gate;
 mod laws;
 mod raise;

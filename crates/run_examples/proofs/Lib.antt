@@ -1,6 +1,9 @@
+pub mod Idle
 pub mod LogsKept
 pub mod Moves
 pub mod Orders
 pub mod Places
 pub mod Ready
+pub mod Shown
 pub mod Stillness
+pub mod Unread

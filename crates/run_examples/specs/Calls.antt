@@ -26,6 +26,10 @@ no_flows = record { flows = []; classes = [] }
 abbrev pub nothing_asked : Job
 nothing_asked = record { flows = no_flows; digest = digest; requests = [] }
 
+-- client a's request alone
+abbrev pub one_start : Job
+one_start = record nothing_asked { requests = starting ∷ [] }
+
 -- what files of one flow and one request ask for
 abbrev pub one_asked : Job
 one_asked = record { flows = one_flow; digest = fnv flows_bytes; requests = one_request ∷ [] }

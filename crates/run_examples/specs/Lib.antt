@@ -1,4 +1,5 @@
 pub mod Calls
 pub mod Directories
+pub mod Going
 pub mod LivesSeen
 pub mod States

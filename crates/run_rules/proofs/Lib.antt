@@ -1,1 +1,3 @@
+pub mod AskedSum
+pub mod FirstEntry
 pub mod Going

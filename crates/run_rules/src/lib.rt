@@ -5,4 +5,5 @@
 #![tactic(auto)]
 
 mod examples;
+mod field_examples;
 mod laws;

@@ -5,7 +5,7 @@ use Rattle.std.proofs.lemmas.List.{take-take, drop-take}
 use Rattle.site_model.specs.History.{Step, Change, on, wrote, synced, content_of, reads}
 use Rattle.site_model.specs.History as history
 use Rattle.site_model.proofs.Paths.{own_change}
-use Rattle.site_calls.specs.Events.{Event, Unseen, Standing, found, made, measured, got, begun, put, lost, flushed, named, absent, printed, after, replay, IsHonest, Tells, start_of}
+use Rattle.site_calls.specs.Events.{Event, Unseen, Standing, found, made, measured, got, begun, put, lost, flushed, named, absent, printed, failed, unprinted, after, replay, IsHonest, Tells, start_of}
 use Rattle.site_calls.specs.Laws.{HasHonestAnswers, HoldsTwoBytes, honest_events, NoneIsHonest, SyncCounts, LeavesUnseen, left_by}
 use Rattle.site_calls.proofs.FirstSteps.{held, length-start_of}
 
@@ -86,6 +86,8 @@ stays_broken left (named true) m broken = broken
 stays_broken left (named false) m broken = refl
 stays_broken left (absent file) m broken = broken
 stays_broken left (printed bytes) m broken = broken
+stays_broken left (failed file) m broken = broken
+stays_broken left unprinted m broken = broken
 
 pub broken_later : (unseen : Unseen) (later events : List Event) → (replay unseen events).broken ≡ true → (replay unseen (later ++ events)).broken ≡ true
 broken_later unseen [] events broken = broken

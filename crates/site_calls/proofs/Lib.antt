@@ -1,8 +1,10 @@
 pub mod Events
+pub mod Failures
 pub mod FirstSteps
 pub mod Histories
 pub mod Inside
 pub mod PrintInParts
 pub mod ReadInParts
+pub mod Signals
 pub mod Tells
 pub mod WriteInParts

@@ -1,8 +1,8 @@
 -- A read, as far as its calls have come.
-use Rattle.std.proofs.Common.{◌≡◌, ℕ, ◌+◌, ◌-◌, ◌≤◌, List, ◌∷◌, length, take, drop, sym, ◌∙◌, ap, subst, arith, length-take, length-drop}
+use Rattle.std.proofs.Common.{◌≡◌, ℕ, ◌+◌, ◌-◌, ◌<◌, ◌≤◌, List, ◌∷◌, length, take, drop, ◌∙◌, ap, subst, arith, length-take, length-drop}
 use Rattle.site_model.specs.History.{content_of}
 use Rattle.site_calls.specs.Events.{Event, Unseen, got, replay, IsHonest, Agrees}
-use Rattle.site_calls.specs.Runs.{StandsStill}
+use Rattle.site_calls.specs.Runs.{StandsStill, IsNoted}
 
 -- so many bytes from this offset on are the front of the buffer
 pub record IsReading (content : List ℕ) (at done : ℕ) (out : List ℕ) : Type 0 where
@@ -27,14 +27,14 @@ honest_got file at want count bytes unseen old mid new still is honest =
     let agrees : Agrees (got file at want count bytes) (replay unseen mid).steps = (subst (IsHonest unseen) is honest).1 in
     subst (λ m. Agrees (got file at want count bytes) m.steps) (still unseen) agrees
 
-pub reading_more : (file at want done count next : ℕ) (out : List ℕ) (unseen : Unseen) (old mid new : List Event) → next ≡ done + count → done + count ≤ length out → StandsStill old mid
-    → new ≡ got file at want count (take (done + count) out) ∷ mid → IsHonest unseen new
-    → IsReading (content_of file (replay unseen old).steps) at next out
-reading_more file at want done count next out unseen old mid new further within still is honest =
-    let content = content_of file (replay unseen old).steps in
-    subst (λ (n : ℕ). IsReading content at n out) (sym further)
-    (agrees_is content at (done + count) out within (honest_got file at want count (take (done + count) out) unseen old mid new still is honest).0)
+module _ (file at want done count : ℕ) (out : List ℕ) (unseen : Unseen) (old mid new : List Event) (still : StandsStill old mid) (noted : IsNoted (got file at want count (take (done + count) out)) mid new)
+    (honest : IsHonest unseen new) (within : done + count ≤ length out) where
+  newest : Agrees (got file at want count (take (done + count) out)) (replay unseen old).steps
+  newest = honest_got file at want count (take (done + count) out) unseen old noted.before new (λ u. noted.still u ∙ still u) noted.newest honest
 
-pub reading_kept : (content : List ℕ) (at done next : ℕ) (before out : List ℕ) → next ≡ done → take done out ≡ take done before → IsReading content at done before → IsReading content at next out
-reading_kept content at done next before out same kept reading =
-    subst (λ (n : ℕ). IsReading content at n out) (sym same) (record { within = reading.within; front = kept ∙ reading.front })
+  pub reading_more : IsReading (content_of file (replay unseen old).steps) at (done + count) out
+  reading_more = agrees_is (content_of file (replay unseen old).steps) at (done + count) out within newest.0
+
+  -- the answer that gave nothing tells that the file ends
+  pub reading_ends : count ≡ 0 → done < want → length (content_of file (replay unseen old).steps) - at ≤ done
+  reading_ends none short = omega (arith, newest.1 none (omega (arith, length-take (done + count) out)), length-take (done + count) out)

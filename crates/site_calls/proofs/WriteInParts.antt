@@ -1,16 +1,8 @@
 -- A write, as far as its calls have come.
 use Rattle.std.proofs.Common.{◌≡◌, ℕ, ◌+◌, ◌≤◌, List, ◌∷◌, ◌++◌, length, take, drop, Ok, Err, sym, ◌∙◌, ap, subst, arith, length-append, length-take, length-drop}
 use Rattle.std.proofs.lemmas.List.{take-take, take_at, take_all}
-use Rattle.site_model.specs.History.{on, wrote}
 use Rattle.site_calls.specs.Events.{Event, Unseen, Standing, put, lost, after, replay}
-use Rattle.site_calls.specs.Runs.{stepped, WritesOnce}
-
--- the newest step is the write, of which these bytes are known, and the first ones are those that were asked for
-pub record IsWriting (file at : ℕ) (bytes : List ℕ) (done : ℕ) (old new : Standing) : Type 0 where
-  pub known : List ℕ
-  pub no_longer : length known ≤ length bytes
-  pub front : take done known ≡ take done bytes
-  pub step : new ≡ stepped (on file (wrote at (length bytes) known)) old
+use Rattle.site_calls.specs.Runs.{WritesOnce, IsWriting}
 
 -- the bytes that are known after a call
 put_long : (count : ℕ) (bytes known : List ℕ) → count ≤ length bytes → length known ≤ length bytes

@@ -2,7 +2,7 @@
 use Rattle.std.specs.Prelude.{◌≡◌, Bool, true, false, ◌||◌, ℕ, zero, suc, ◌+◌, ◌^◌, ◌<◌, ◌≤◌, if◌then◌else◌, List, [], ◌∷◌, ◌++◌, length, take, drop}
 use Rattle.site_model.specs.History.{Step, on, wrote, synced, content_of, saying}
 
--- One call with its answer. A call that failed and changed nothing is none.
+-- one call with its answer
 pub data Event : Type 0 where
   -- a file was looked for, and is there or not
   found : (file : ℕ) → (is_there : Bool) → Event
@@ -26,6 +26,10 @@ pub data Event : Type 0 where
   absent : (file : ℕ) → Event
   -- these bytes were printed
   printed : (bytes : List ℕ) → Event
+  -- a call on a file failed, or was refused, and changed nothing
+  failed : (file : ℕ) → Event
+  -- a call that prints failed, and printed nothing
+  unprinted : Event
 
 -- What no answer tells: what each file held at the start, and what the call of a write that failed left, by the number
 -- of events before it.
@@ -79,6 +83,8 @@ after left (named true) m = record m { loose = false }
 after left (named false) m = record m { broken = true }
 after left (absent file) m = record m { steps = on file synced ∷ m.steps }
 after left (printed bytes) m = record m { steps = saying bytes m.steps }
+after left (failed file) m = m
+after left unprinted m = m
 
 -- how things stand after all events, the newest first
 abbrev pub replay : Unseen → List Event → Standing
@@ -100,6 +106,8 @@ Agrees (flushed file is_safe) steps = Unit {0}
 Agrees (named is_safe) steps = Unit {0}
 Agrees (absent file) steps = Unit {0}
 Agrees (printed bytes) steps = Unit {0}
+Agrees (failed file) steps = Unit {0}
+Agrees unprinted steps = Unit {0}
 
 -- each answer is that of files that held this at the start and that nobody else wrote
 abbrev pub IsHonest : Unseen → List Event → Type 0

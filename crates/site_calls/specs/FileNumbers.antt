@@ -1,5 +1,6 @@
--- The numbers of the files.
-use Rattle.std.specs.Prelude.{◌⊎◌, ◌<◌, ◌≤◌, ◌+◌, ◌*◌, ℕ}
+-- The numbers of the files, and their names.
+use Rattle.std.specs.Prelude.{◌⊎◌, ◌<◌, ◌≤◌, ◌+◌, ◌*◌, ◌/◌, ◌%◌, ◌++◌, ℕ, List, codes}
+use Rattle.std.specs.Fmt.{decimal}
 use Rattle.site_calls.specs.declared.file_name.FileName.{FileName}
 use Rattle.site_calls.specs.declared.file_name.FileName.TheVariants.{Flows, Requests, Plan, Part}
 use Rattle.site_calls.specs.declared.file_name.PartKind.{PartKind}
@@ -22,3 +23,17 @@ number_of Flows = 0
 number_of Requests = 1
 number_of Plan = 2
 number_of (Part partition kind) = 16 + 4 * partition + place_of kind
+
+-- how the name of a partition's file ends
+abbrev pub kind_text : PartKind → List ℕ
+kind_text FirstLog = codes "log0"
+kind_text SecondLog = codes "log1"
+kind_text FirstCheckpoint = codes "ck0"
+kind_text SecondCheckpoint = codes "ck1"
+
+-- the name in the directory, a partition's number in two digits
+abbrev pub name_text : FileName → List ℕ
+name_text Flows = codes "flows.json"
+name_text Requests = codes "requests.jsonl"
+name_text Plan = codes "plan.json"
+name_text (Part partition kind) = codes "p" ++ decimal (partition / 10) ++ decimal (partition % 10) ++ codes "." ++ kind_text kind

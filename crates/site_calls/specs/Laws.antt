@@ -2,7 +2,7 @@
 use Rattle.std.specs.Prelude.{◌≡◌, Bool, true, false, ℕ, ◌+◌, ◌-◌, ◌≤◌, List, [], ◌∷◌, ◌++◌, length, take, drop}
 use Rattle.site_model.specs.History.{Step, on, synced, content_of}
 use Rattle.site_model.specs.History as history
-use Rattle.site_calls.specs.Events.{Event, Unseen, found, measured, got, begun, put, lost, flushed, replay, Agrees, IsHonest}
+use Rattle.site_calls.specs.Events.{Event, Unseen, found, made, measured, got, begun, put, lost, flushed, named, absent, printed, failed, unprinted, replay, Agrees, IsHonest}
 
 -- To each call that asks what the disk holds there is an answer that agrees, also in the midst of a read.
 pub record HasHonestAnswers (steps : List Step) : Type 0 where
@@ -19,6 +19,15 @@ HoldsTwoBytes unseen = unseen.files 0 ≡ 7 ∷ 8 ∷ []
 abbrev pub honest_events : List Event
 honest_events =
     got 0 1 4 0 (8 ∷ 9 ∷ []) ∷ got 0 1 4 2 (8 ∷ 9 ∷ []) ∷ measured 0 3 ∷ put (9 ∷ []) ∷ begun 0 2 1 ∷ measured 0 2 ∷ found 0 true ∷ []
+
+-- a call of each kind that failed, four of them on files and names
+abbrev pub failed_events : List Event
+failed_events = unprinted ∷ named false ∷ flushed 0 false ∷ lost (7 ∷ []) ∷ failed 0 ∷ []
+
+-- a call of each kind that didn't
+abbrev pub answered_events : List Event
+answered_events =
+    printed [] ∷ absent 1 ∷ named true ∷ flushed 0 true ∷ put [] ∷ begun 0 0 1 ∷ got 0 0 1 0 [] ∷ measured 0 0 ∷ made 0 ∷ found 0 true ∷ found 0 false ∷ []
 
 -- of these answers none is honest
 pub record NoneIsHonest (unseen : Unseen) : Type 0 where

@@ -1,6 +1,6 @@
 -- How a call is noted.
 use Rattle.std.specs.Prelude.{ℕ, List, slice_index, ◌==◌, if◌then◌else◌}
-use Rattle.site_calls.specs.Events.{Event, found, made, measured, got, begun, put, lost, flushed, named, absent, printed}
+use Rattle.site_calls.specs.Events.{Event, found, made, measured, got, begun, put, lost, flushed, named, absent, printed, failed, unprinted}
 
 -- The event of a note: the first number is its kind, the others are the event's, in their order, with 1 for a yes.
 abbrev pub event_of : List ℕ → List ℕ → Event
@@ -18,4 +18,6 @@ event_of numbers bytes =
     if kind == 7 then flushed one (two == 1) else
     if kind == 8 then named (one == 1) else
     if kind == 9 then absent one else
-    printed bytes
+    if kind == 10 then printed bytes else
+    if kind == 11 then failed one else
+    unprinted

@@ -1,5 +1,5 @@
 // Each error of the system is counted, and only the count says that there was one.
-ghost use Rattle.std.specs.Prelude.{◌≡◌, IfOk, MatchResult, Ok, Err, Some};
+ghost use Rattle.std.specs.Prelude.{◌≡◌, ◌+◌, ◌≤◌, IfOk, MatchResult, Ok, Err, Some};
 ghost use Rattle.site_model.specs.Calls.{HasCause};
 
 use site_model::Failed;
@@ -27,6 +27,7 @@ pub struct Fault {
 pub fn counted<T>(outcome: io::Result<T>, faults: &mut u64) -> Result<T, Failed>
     ensures cause { HasCause faults.old faults.new result }
     ensures same { IfOk result (λ value. outcome ≡ Ok value) }
+    ensures once { MatchResult outcome (λ _. faults.new ≡ faults.old) (λ _. faults.new ≤ faults.old + 1) }
 {
     match outcome {
         Ok(value) => Ok(value),
@@ -55,6 +56,7 @@ pub(crate) fn noted<T>(
 ) -> Result<T, Failed>
     ensures cause { HasCause faults.old faults.new result }
     ensures same { IfOk result (λ value. outcome ≡ Ok value) }
+    ensures once { MatchResult outcome (λ _. faults.new ≡ faults.old) (λ _. faults.new ≤ faults.old + 1) }
     ensures last { MatchResult outcome (λ _. last.new ≡ last.old) (λ fault. last.new ≡ Some fault) }
 {
     match outcome {

@@ -1,6 +1,6 @@
 // The files of a site by number, and their names.
-ghost use Rattle.std.specs.Prelude.{◌≡◌, ◌↔◌, ◌%◌, nat_lt, IsSome, IfSome};
-ghost use Rattle.site_calls.specs.FileNumbers.{IsFileNumber, number_of, place_of};
+ghost use Rattle.std.specs.Prelude.{◌≡◌, ◌↔◌, ◌%◌, nat_lt, IsSome, IfSome, Some};
+ghost use Rattle.site_calls.specs.FileNumbers.{IsFileNumber, number_of, place_of, name_text, kind_text};
 
 use std::fmt;
 
@@ -65,17 +65,23 @@ fn kind_of(number: u32) -> PartKind
 }
 
 impl fmt::Display for FileName {
+    ghost output = { λ name. Some (name_text name) };
+
     fn fmt<W: fmt::Write>(&self, f: &mut fmt::Formatter<W>) -> fmt::Result {
         match *self {
             FileName::Flows => f.write_str("flows.json"),
             FileName::Requests => f.write_str("requests.jsonl"),
             FileName::Plan => f.write_str("plan.json"),
-            FileName::Part(partition, kind) => write!(f, "p{partition:02}.{kind}"),
+            FileName::Part(partition, kind) => {
+                write!(f, "p{}{}.{kind}", partition / 10, partition % 10)
+            }
         }
     }
 }
 
 impl fmt::Display for PartKind {
+    ghost output = { λ kind. Some (kind_text kind) };
+
     fn fmt<W: fmt::Write>(&self, f: &mut fmt::Formatter<W>) -> fmt::Result {
         f.write_str(match *self {
             PartKind::FirstLog => "log0",

@@ -1,8 +1,9 @@
 // Laws of the definitions. Each is the contract of a function that does nothing.
-ghost use Rattle.std.specs.Prelude.{◌≡◌, ℕ, ◌<◌, ◌≤◌, List, [], ◌∷◌, ◌++◌, length, take, drop, true, false};
+ghost use Rattle.std.specs.Prelude.{◌≡◌, ℕ, ◌<◌, ◌≤◌, List, [], ◌∷◌, ◌++◌, length, take, drop, true, false, Ok, Err};
 ghost use Rattle.site_model.specs.History.{Step, content_of};
-ghost use Rattle.site_calls.specs.Events.{Event, Unseen, made, flushed, named, start_of, file_numbers, replay, IsHonest, Tells};
-ghost use Rattle.site_calls.specs.Laws.{HasHonestAnswers, HoldsTwoBytes, honest_events, NoneIsHonest, SyncCounts, left_by, LeavesUnseen};
+ghost use Rattle.site_calls.specs.Events.{Event, Unseen, found, failed, made, flushed, named, start_of, file_numbers, replay, IsHonest, Tells};
+ghost use Rattle.site_calls.specs.Failures.{FailsByCall, is_disk_failure, disk_failures, say_failures};
+ghost use Rattle.site_calls.specs.Laws.{failed_events, answered_events, HasHonestAnswers, HoldsTwoBytes, honest_events, NoneIsHonest, SyncCounts, left_by, LeavesUnseen};
 
 /// Before the first call each file reads as it was held at the start, and behind the last number there is none.
 pub fn a_file_reads_as_it_was_held()
@@ -28,6 +29,19 @@ pub fn a_wrong_answer_is_seen()
 /// Answers that agreed do so whatever follows, and those that didn't never will.
 pub fn the_past_stays()
     ensures { (unseen : Unseen) (later events : List Event) → IsHonest unseen (later ++ events) → IsHonest unseen events }
+{}
+
+/// Each call that failed counts once, and no other counts.
+pub fn just_failed_calls_count()
+    ensures failed { (disk_failures failed_events ≡ 4) × (say_failures failed_events ≡ 1) }
+    ensures answered { (disk_failures answered_events ≡ 0) × (say_failures answered_events ≡ 0) }
+{}
+
+/// An error comes with a call more that failed, and not with another one, nor may a call be taken back.
+pub fn an_error_has_its_call()
+    ensures has { (error : ℕ) → FailsByCall {T = ℕ} is_disk_failure [] (failed 0 ∷ []) (Err error) }
+    ensures has_not { (error : ℕ) → FailsByCall {T = ℕ} is_disk_failure (failed 0 ∷ []) (found 0 true ∷ failed 0 ∷ []) (Err error) → ⊥ }
+    ensures taken_back { (value : ℕ) → FailsByCall {E = ℕ} is_disk_failure (failed 0 ∷ []) [] (Ok value) → ⊥ }
 {}
 
 /// A sync counts only where every name is safe and no sync has failed.

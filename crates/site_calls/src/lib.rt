@@ -6,11 +6,12 @@
 //! - `fault`: how an error of the system becomes a counted fault.
 //! - `file_name`: which numbers are files, and their names.
 //! - `site`: the site. What it does at each call stands in `reading`, `writing`, `syncing` and `printing`, over calls
-//!   alone, and `known` is what it knows of its history.
+//!   alone, which `again` makes again after a signal, and `known` is what it knows of its history.
 //! - `record`: the list of calls of an implementation, and `reason`: why a call failed, beside the system's error.
 //! - `laws`: what follows from the definitions.
 #![tactic(auto)]
 
+mod again;
 mod calls;
 mod fault;
 mod file_name;
@@ -29,8 +30,8 @@ pub use fault::{Fault, FaultPlace, counted};
 pub use file_name::{FileName, PartKind};
 pub use laws::{
     a_failed_sync_stays, a_file_reads_as_it_was_held, a_lost_write_leaves_what_was_unseen,
-    a_sync_counts_where_names_are_safe, a_wrong_answer_is_seen, an_honest_answer_exists,
-    honest_answers_tell, the_past_stays,
+    a_sync_counts_where_names_are_safe, a_wrong_answer_is_seen, an_error_has_its_call,
+    an_honest_answer_exists, honest_answers_tell, just_failed_calls_count, the_past_stays,
 };
 pub use reason::Reason;
 pub use record::Record;

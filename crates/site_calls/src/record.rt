@@ -1,7 +1,7 @@
 //! The list of calls of the system that an implementation made. Only clauses read it.
 ghost use Rattle.std.specs.Prelude.{◌≡◌, List, [], ◌∷◌};
 ghost use Rattle.std.specs.Borrow.{ftrue};
-ghost use Rattle.site_calls.specs.Events.{Event, found, made, measured, got, begun, put, lost, flushed, named, absent, printed};
+ghost use Rattle.site_calls.specs.Events.{Event, found, made, measured, got, begun, put, lost, flushed, named, absent, printed, failed, unprinted};
 ghost use Rattle.site_calls.specs.Notes.{event_of};
 
 use std::marker::{Model, PhantomData};
@@ -28,6 +28,10 @@ const NAMED: u64 = 8;
 const ABSENT: u64 = 9;
 
 const PRINTED: u64 = 10;
+
+const FAILED: u64 = 11;
+
+const UNPRINTED: u64 = 12;
 
 /// The calls so far, the newest first. No memory holds them, and noting one does nothing when it runs.
 #[derive(Drop)]
@@ -133,5 +137,19 @@ impl Record {
         ensures { self.new.events ≡ printed bytes.now ∷ self.old.events }
     {
         self.note(&[PRINTED], bytes);
+    }
+
+    /// A call on a file failed, and changed nothing.
+    pub fn failed(&mut self, file: u32)
+        ensures { self.new.events ≡ failed file ∷ self.old.events }
+    {
+        self.note(&[FAILED, file as u64], &[]);
+    }
+
+    /// A call that prints failed.
+    pub fn unprinted(&mut self)
+        ensures { self.new.events ≡ unprinted ∷ self.old.events }
+    {
+        self.note(&[UNPRINTED], &[]);
     }
 }

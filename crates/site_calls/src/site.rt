@@ -1,8 +1,9 @@
 // A site over calls of the system.
-ghost use Rattle.std.specs.Prelude.{◌≡◌, true, ℕ};
+ghost use Rattle.std.specs.Prelude.{◌≡◌, ◌≤◌, true, ℕ};
 ghost use Rattle.std.proofs.Props.{props};
 ghost use Rattle.site_model.specs.History.{changes_of, writes_inside};
 ghost use Rattle.site_calls.specs.Events.{replay, Tells};
+ghost use Rattle.site_calls.specs.Failures.{disk_failures, say_failures};
 ghost use Rattle.site_calls.specs.Known.{Knows};
 
 use crate::fault::{Fault, FaultPlace, noted, placed};
@@ -29,6 +30,9 @@ pub struct CalledSite<C: Calls, S: Start> {
     start: PhantomData<S>,
     ghost knows: { Knows known (replay S.unseen (C.events calls)) } by { Prim.hlevel props },
     ghost inside: { Tells S.unseen (C.events calls) → (file : ℕ) → writes_inside (changes_of file (replay S.unseen (C.events calls)).steps) ≡ true } by { Prim.hlevel props },
+    // each fault has a call of its own that failed
+    pub ghost disk_calls: { disk_faults ≤ disk_failures (C.events calls) } by { Prim.hlevel props },
+    pub ghost say_calls: { say_faults ≤ say_failures (C.events calls) } by { Prim.hlevel props },
 }
 
 impl<C: Calls, S: Start> CalledSite<C, S> {

@@ -2,13 +2,14 @@
 ghost use Rattle.std.specs.Prelude.{◌≡◌, ◌≤◌, length, true};
 ghost use Rattle.site_model.specs.Calls.{Writes};
 ghost use Rattle.site_calls.specs.Events.{Unseen, replay};
+ghost use Rattle.site_calls.specs.Failures.{FailsByCall, is_disk_failure};
 ghost use Rattle.site_calls.specs.Known.{Knows};
 ghost use Rattle.site_calls.specs.Runs.{StaysHonest, WritesOnce};
 
 use crate::Calls;
+use crate::again::{find_file, write_some};
 use crate::known::Known;
 use std::io;
-use std::io::ErrorKind;
 
 /// Writes to a file, which is made where it isn't there.
 pub(crate) fn write_file<C: Calls>(
@@ -21,6 +22,7 @@ pub(crate) fn write_file<C: Calls>(
     ensures told { StaysHonest (C.events calls.old) (C.events calls.new) }
     ensures known { (unseen : Unseen) → Knows known.old (replay unseen (C.events calls.old)) → Knows known.new (replay unseen (C.events calls.new)) }
     ensures done { (unseen : Unseen) → Writes file at bytes.now (replay unseen (C.events calls.old)).steps (replay unseen (C.events calls.new)).steps result }
+    ensures failure { FailsByCall is_disk_failure (C.events calls.old) (C.events calls.new) result }
 {
     find_or_make(calls, known, file)?;
     known.count_steps(1);
@@ -32,8 +34,9 @@ fn find_or_make<C: Calls>(calls: &mut C, known: &mut Known, file: u32) -> io::Re
     ensures told { StaysHonest (C.events calls.old) (C.events calls.new) }
     ensures known { (unseen : Unseen) → Knows known.old (replay unseen (C.events calls.old)) → Knows known.new (replay unseen (C.events calls.new)) }
     ensures same { (unseen : Unseen) → (replay unseen (C.events calls.new)).steps ≡ (replay unseen (C.events calls.old)).steps }
+    ensures failure { FailsByCall is_disk_failure (C.events calls.old) (C.events calls.new) result }
 {
-    if !calls.find(file)? {
+    if !find_file(calls, file)? {
         calls.make(file)?;
         known.is_loose = true;
     }
@@ -44,19 +47,13 @@ fn find_or_make<C: Calls>(calls: &mut C, known: &mut Known, file: u32) -> io::Re
 fn write_on<C: Calls>(calls: &mut C, file: u32, at: u64, bytes: &[u8]) -> io::Result<()>
     ensures told { StaysHonest (C.events calls.old) (C.events calls.new) }
     ensures done { (unseen : Unseen) → WritesOnce file at bytes.now (replay unseen (C.events calls.old)) (replay unseen (C.events calls.new)) result }
+    ensures failure { FailsByCall is_disk_failure (C.events calls.old) (C.events calls.new) result }
 {
     calls.begin_write(file, at, bytes.len());
     let mut done = 0;
-    for _ in 0..u64::MAX {
-        if done == bytes.len() {
-            return Ok(());
-        }
-        match calls.write_some(file, at, done, bytes) {
-            Ok(0) => return Err(io::Error::from(ErrorKind::WriteZero)),
-            Ok(count) => done += count,
-            Err(error) if error.kind() == ErrorKind::Interrupted => {}
-            Err(error) => return Err(error),
-        }
+    while done < bytes.len() {
+        let count = write_some(calls, file, at, done, bytes)?;
+        done += count;
     }
-    Err(io::Error::from(ErrorKind::TimedOut))
+    Ok(())
 }

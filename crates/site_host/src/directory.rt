@@ -1,10 +1,10 @@
 // A directory that is held for the run, and its files, each opened once and kept open.
-ghost use Rattle.std.specs.Prelude.{◌≤◌, length, IfOk};
+ghost use Rattle.std.specs.Prelude.{◌≡◌, ◌<◌, ◌≤◌, length, IfOk, Ok};
 
 use site_calls::{FileName, Reason};
 use std::alloc::{AllocError, Global};
 use std::fmt::Display;
-use std::fs::{File, OpenOptions, TryLockError};
+use std::fs::{File, Metadata, OpenOptions, TryLockError};
 use std::io::ErrorKind;
 use std::os::fd::AsRawFd;
 use std::os::unix::fs::{FileExt, MetadataExt};
@@ -38,9 +38,9 @@ pub(crate) struct Directory<R> {
 }
 
 #[derive(Drop)]
-pub(crate) struct OpenFile {
+struct OpenFile {
     name: FileName,
-    pub(crate) file: File,
+    file: File,
     // the device and the file's number there, of a file that was found
     identity: Option<(u64, u64)>,
     // why the file can't be written
@@ -68,24 +68,33 @@ impl<R> Directory<R> {
     }
 
     /// The file with this number, which was found or made.
-    pub(crate) fn file(&self, number: u32) -> io::Result<&OpenFile> {
+    fn file(&self, number: u32) -> io::Result<&OpenFile> {
         let name = name_of(number)?;
         let found = self.files.iter().find(|file| file.name == name);
         found.ok_or(io::Error::from(ErrorKind::NotFound))
     }
 
+    pub(crate) fn measure(&self, number: u32) -> io::Result<u64> {
+        Ok(self.file(number)?.file.metadata()?.len())
+    }
+
+    /// Reads some bytes, and says how many.
+    pub(crate) fn read(&self, number: u32, at: u64, out: &mut [u8]) -> io::Result<usize>
+        ensures { IfOk result (λ count. count ≤ length out.old) }
+    {
+        self.file(number)?.file.read_at(out, at)
+    }
+
     /// Writes some of the bytes, and says how many.
     pub(crate) fn write(&self, number: u32, at: u64, bytes: &[u8]) -> io::Result<usize>
-        ensures { IfOk result (λ count. count ≤ length bytes.now) }
+        ensures some { IfOk result (λ count. 0 < count) }
+        ensures count { IfOk result (λ count. count ≤ length bytes.now) }
     {
         let OpenFile { file, refusal, .. } = self.file(number)?;
         if let Some(refusal) = refusal {
             return Err(*refusal);
         }
-        match file.write_at(bytes, at) {
-            Ok(0) => Err(io::Error::from(ErrorKind::WriteZero)),
-            answer => answer,
-        }
+        unless_nothing(file.write_at(bytes, at))
     }
 
     pub(crate) fn sync(&self, number: u32) -> io::Result<()> {
@@ -158,6 +167,7 @@ impl<R: Files<File = File>> Directory<R> {
         }
         self.point_to(name)?;
         let file = File::create_new(&self.rt, self.file_path.as_str())?;
+        self.hold(&file)?;
         self.files.push(OpenFile {
             name,
             file,
@@ -190,6 +200,18 @@ impl<R: Files<File = File>> Directory<R> {
         Ok(true)
     }
 
+    // Locks a log. The lock of the directory doesn't keep out a run that has the same log in another one, by a link.
+    fn hold(&mut self, file: &File) -> io::Result<()> {
+        match file.try_lock() {
+            Ok(()) => Ok(()),
+            Err(TryLockError::WouldBlock) => {
+                let error = io::Error::from(ErrorKind::WouldBlock);
+                Err(self.because(Reason::HeldFile, error))
+            }
+            Err(TryLockError::Error(error)) => Err(error),
+        }
+    }
+
     // Opens the null device for reading until descriptors 0 to 2 are taken. So no file gets one of them, and a standard
     // output that is closed stays one that can't be written.
     fn take_streams(&mut self) -> io::Result<()> {
@@ -209,15 +231,18 @@ impl<R: Files<File = File>> Directory<R> {
     // Opens the file that the path leads to. A pipe isn't opened, which might wait, nor the same file under two names.
     fn open_there(&mut self, name: FileName) -> io::Result<()> {
         let error = io::Error::from(ErrorKind::InvalidInput);
-        if !fs::metadata(&self.rt, self.file_path.as_str())?.is_file() {
+        if !looked_up(&self.rt, self.file_path.as_str())?.is_file() {
             return Err(self.because(Reason::NotRegular, error));
         }
         let (file, refusal) = open_named(&self.rt, self.file_path.as_str(), name)?;
-        let metadata = file.metadata()?;
+        let metadata = looked_into(&file)?;
         let identity = Some((metadata.dev(), metadata.ino()));
         if let Some(other) = self.files.iter().find(|other| other.identity == identity) {
             let reason = Reason::SameAs(other.name);
             return Err(self.because(reason, error));
+        }
+        if !name.is_input() {
+            self.hold(&file)?;
         }
         self.make_safe(&file)?;
         self.files.push(OpenFile {
@@ -228,6 +253,40 @@ impl<R: Files<File = File>> Directory<R> {
         })?;
         Ok(())
     }
+}
+
+// What there is at a path. A call that a signal cuts off is made again.
+fn looked_up(rt: &impl Files<File = File>, path: &str) -> io::Result<Metadata> {
+    for _ in 0..u64::MAX {
+        match fs::metadata(rt, path) {
+            Err(error) if error.kind() == ErrorKind::Interrupted => {}
+            answer => return answer,
+        }
+    }
+    Err(io::Error::from(ErrorKind::Interrupted))
+}
+
+// The same of an open file.
+fn looked_into(file: &File) -> io::Result<Metadata> {
+    for _ in 0..u64::MAX {
+        match file.metadata() {
+            Err(error) if error.kind() == ErrorKind::Interrupted => {}
+            answer => return answer,
+        }
+    }
+    Err(io::Error::from(ErrorKind::Interrupted))
+}
+
+/// A call that moved no byte, and said so, failed.
+pub(crate) fn unless_nothing(answer: io::Result<usize>) -> io::Result<usize>
+    ensures some { IfOk result (λ count. 0 < count) }
+    ensures same { IfOk result (λ count. answer ≡ Ok count) }
+{
+    let count = answer?;
+    if count == 0 {
+        return Err(io::Error::from(ErrorKind::WriteZero));
+    }
+    Ok(count)
 }
 
 // A number that is no file's is an error.

@@ -2,12 +2,11 @@
 ghost use Rattle.std.specs.Prelude.{◌≡◌, [], IfOk};
 ghost use Rattle.site_host.specs.Host.{events_of};
 
-use crate::directory::Directory;
+use crate::directory::{Directory, unless_nothing};
 use site_calls::{Calls, Reason, Record};
 use std::alloc::{AllocError, Global};
 use std::fs::File;
 use std::io;
-use std::os::unix::fs::FileExt;
 use std::rt::Files;
 
 /// The files of a directory, which is locked for the life of this value, and standard output.
@@ -40,33 +39,41 @@ impl<R: Files<File = File> + Print> Calls for Host<R> {
     ghost events = { λ host. events_of host };
 
     fn find(&mut self, file: u32) -> io::Result<bool> {
-        let is_there = self.directory.find(file)?;
-        self.record.found(file, is_there);
-        Ok(is_there)
+        let answer = self.directory.find(file);
+        match answer {
+            Ok(is_there) => self.record.found(file, is_there),
+            Err(_) => self.record.failed(file),
+        }
+        answer
     }
 
     fn make(&mut self, file: u32) -> io::Result<()> {
-        self.directory.make(file)?;
-        self.record.made(file);
-        Ok(())
+        let answer = self.directory.make(file);
+        match answer {
+            Ok(()) => self.record.made(file),
+            Err(_) => self.record.failed(file),
+        }
+        answer
     }
 
     fn measure(&mut self, file: u32) -> io::Result<u64> {
-        let size = self.directory.file(file)?.file.metadata()?.len();
-        self.record.measured(file, size);
-        Ok(size)
+        let answer = self.directory.measure(file);
+        match answer {
+            Ok(size) => self.record.measured(file, size),
+            Err(_) => self.record.failed(file),
+        }
+        answer
     }
 
     fn read_some(&mut self, file: u32, at: u64, done: usize, out: &mut [u8]) -> io::Result<usize> {
         let from = at.saturating_add(done as u64);
-        let count = self
-            .directory
-            .file(file)?
-            .file
-            .read_at(&mut out[done..], from)?;
+        let answer = self.directory.read(file, from, &mut out[done..]);
         let size = out.len();
-        self.record.got(file, at, size, count, &out[..done + count]);
-        Ok(count)
+        match answer {
+            Ok(count) => self.record.got(file, at, size, count, &out[..done + count]),
+            Err(_) => self.record.failed(file),
+        }
+        answer
     }
 
     fn begin_write(&mut self, file: u32, at: u64, size: usize) {
@@ -99,9 +106,16 @@ impl<R: Files<File = File> + Print> Calls for Host<R> {
         self.record.absent(file);
     }
 
+    fn give_up(&mut self, file: u32) {
+        self.record.flushed(file, false);
+    }
+
     fn print_some(&mut self, done: usize, line: &[u8]) -> io::Result<usize> {
-        let count = self.directory.rt.write_some(&line[done..])?;
-        self.record.printed(&line[done..done + count]);
-        Ok(count)
+        let answer = unless_nothing(self.directory.rt.write_some(&line[done..]));
+        match answer {
+            Ok(count) => self.record.printed(&line[done..done + count]),
+            Err(_) => self.record.unprinted(),
+        }
+        answer
     }
 }

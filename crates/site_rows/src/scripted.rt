@@ -1,5 +1,5 @@
 // Calls on one file in memory, which are cut short and fail where a script says so.
-ghost use Rattle.std.specs.Prelude.{◌≡◌, ◌+◌, ◌≤◌, [], length, take};
+ghost use Rattle.std.specs.Prelude.{◌≡◌, ◌+◌, ◌<◌, ◌≤◌, [], length, take, IfOk};
 
 use site_calls::{Calls, Record};
 use std::alloc::Global;
@@ -68,6 +68,20 @@ impl ScriptedCalls {
         Err(io::Error::from(kind))
     }
 
+    /// Makes a call that moves bytes, of which there are so many, and says how many it may move. One that moves none fails.
+    fn moves(&mut self, name: &str, size: usize) -> io::Result<usize>
+        requires { 0 < size }
+        ensures record { self.new.record ≡ self.old.record }
+        ensures some { IfOk result (λ count. 0 < count) }
+        ensures count { IfOk result (λ count. count ≤ size) }
+    {
+        let count = self.call(name)?.min(size);
+        if count == 0 {
+            return Err(io::Error::from(ErrorKind::WriteZero));
+        }
+        Ok(count)
+    }
+
     /// Puts bytes over those of the file from this offset on, and past its end, if there is memory.
     fn puts(&mut self, at: u64, bytes: &[u8]) -> bool
         ensures { self.new.record ≡ self.old.record }
@@ -103,31 +117,51 @@ impl Calls for ScriptedCalls {
     ghost events = { λ calls. calls.record.events };
 
     fn find(&mut self, file: u32) -> io::Result<bool> {
-        self.call("find")?;
+        if let Err(error) = self.call("find") {
+            self.record.failed(file);
+            return Err(error);
+        }
         let is_there = file == FILE && self.is_there;
         self.record.found(file, is_there);
         Ok(is_there)
     }
 
     fn make(&mut self, file: u32) -> io::Result<()> {
-        self.call("make")?;
-        if file != FILE {
-            return Err(io::Error::from(ErrorKind::Unsupported));
+        match self.call("make") {
+            Ok(_) if file == FILE => {
+                self.is_there = true;
+                self.record.made(file);
+                Ok(())
+            }
+            Ok(_) => {
+                self.record.failed(file);
+                Err(io::Error::from(ErrorKind::Unsupported))
+            }
+            Err(error) => {
+                self.record.failed(file);
+                Err(error)
+            }
         }
-        self.is_there = true;
-        self.record.made(file);
-        Ok(())
     }
 
     fn measure(&mut self, file: u32) -> io::Result<u64> {
-        self.call("measure")?;
+        if let Err(error) = self.call("measure") {
+            self.record.failed(file);
+            return Err(error);
+        }
         let size = self.content.len() as u64;
         self.record.measured(file, size);
         Ok(size)
     }
 
     fn read_some(&mut self, file: u32, at: u64, done: usize, out: &mut [u8]) -> io::Result<usize> {
-        let most = self.call("read")?;
+        let most = match self.call("read") {
+            Ok(most) => most,
+            Err(error) => {
+                self.record.failed(file);
+                return Err(error);
+            }
+        };
         let from = at.saturating_add(done as u64);
         let count = copy_some(&self.content, from, most, done, out);
         let size = out.len();
@@ -140,14 +174,14 @@ impl Calls for ScriptedCalls {
     }
 
     fn write_some(&mut self, _file: u32, at: u64, done: usize, bytes: &[u8]) -> io::Result<usize> {
-        match self.call("write") {
-            Ok(most) => {
-                let mut count = most.min(bytes.len() - done);
-                if !self.puts(at.saturating_add(done as u64), &bytes[done..done + count]) {
-                    count = 0;
-                }
+        match self.moves("write", bytes.len() - done) {
+            Ok(count) if self.puts(at.saturating_add(done as u64), &bytes[done..done + count]) => {
                 self.record.put(&bytes[..done + count]);
                 Ok(count)
+            }
+            Ok(_) => {
+                self.record.lost(&bytes[..done]);
+                Err(io::Error::from(ErrorKind::WriteZero))
             }
             Err(error) => {
                 self.record.lost(&bytes[..done]);
@@ -178,17 +212,25 @@ impl Calls for ScriptedCalls {
         self.record.absent(file);
     }
 
+    fn give_up(&mut self, file: u32) {
+        self.record.flushed(file, false);
+    }
+
     fn print_some(&mut self, done: usize, line: &[u8]) -> io::Result<usize> {
-        let most = self.call("print")?;
-        let mut count = most.min(line.len() - done);
-        if self
-            .tape
-            .extend_from_slice(&line[done..done + count])
-            .is_err()
-        {
-            count = 0;
+        let answer = self.moves("print", line.len() - done);
+        match answer {
+            Ok(count) if self.tape.extend_from_slice(&line[done..done + count]).is_ok() => {
+                self.record.printed(&line[done..done + count]);
+                Ok(count)
+            }
+            Ok(_) => {
+                self.record.unprinted();
+                Err(io::Error::from(ErrorKind::WriteZero))
+            }
+            Err(error) => {
+                self.record.unprinted();
+                Err(error)
+            }
         }
-        self.record.printed(&line[done..done + count]);
-        Ok(count)
     }
 }

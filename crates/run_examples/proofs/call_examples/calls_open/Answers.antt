@@ -29,7 +29,6 @@ unfolding damaged_image
 damaged_left = record { each = λ file. by file (file == 16) refl }
   where
     by : (file : ℕ) (test : Bool) → (file == 16) ≡ test → Leaves (changes_of file (on 16 (wrote 0 2 (0xC3 ∷ 0 ∷ [])) ∷ [])) (damaged_image file)
-    unfolding damaged_image
     by file true same = subst (λ (t : Bool). Leaves (cond t (wrote 0 2 (0xC3 ∷ 0 ∷ []) ∷ []) []) (cond t (0xC3 ∷ 0 ∷ []) [])) (sym same) ([], refl, record { before = refl; behind = refl; no_shorter = omega arith; no_longer = omega arith })
     by file false other = subst (λ (t : Bool). Leaves (cond t (wrote 0 2 (0xC3 ∷ 0 ∷ []) ∷ []) []) (cond t (0xC3 ∷ 0 ∷ []) [])) (sym other) refl
 

@@ -12,4 +12,4 @@ pub returns-clause-usage : goal.returns-clause-usage
 returns-clause-usage c = λ files is. is
 
 pub returns-clause-waiting : goal.returns-clause-waiting
-returns-clause-waiting c = λ ready. let wrong = sym refusal_plan ∙ ready.1.accepted in cc wrong
+returns-clause-waiting c = λ ready. let wrong = sym refusal_plan ∙ ready.asks.accepted in cc wrong

@@ -1,4 +1,4 @@
-use Rattle.std.proofs.Common.{sym, subst, ap}
+use Rattle.std.proofs.Common.{arith, sym, subst, ap}
 use Rattle.site_calls.specs.Events.{replay}
 use Rattle.site_calls.specs.Known.{Knows}
 use Rattle.site_calls.proofs.FirstSteps.{inside_start_of}
@@ -11,4 +11,6 @@ invariant_of-result g c =
     record {
       knows = subst (Knows c.at_start.result) none (c.at_start.ensures g.S.Start.unseen);
       inside = λ told. subst (λ m. AllInside m.steps) none (inside_start_of g.S.Start.unseen.files);
+      disk_calls = omega arith;
+      say_calls = omega arith;
     }

@@ -1,6 +1,8 @@
-use Rattle.std.proofs.Common.{sym, subst}
+use Rattle.std.proofs.Common.{arith, sym, subst}
 use Rattle.site_calls.specs.Known.{Knows}
 use Rattle.site_calls.proofs.Inside.{AllInside}
+use Rattle.site_calls.specs.Failures.{is_disk_failure, is_say_failure}
+use Rattle.site_calls.proofs.Failures.{counted_once, fails_through}
 use Rattle.site_calls.proofs.Tells.{told_still, ok_through}
 use Rattle.site_calls.proofs.site.CalledSiteSite.length.Goals as goal
 
@@ -12,6 +14,9 @@ invariant_of-self g c =
     record {
       knows = subst (Knows site.known) (sym still) site.knows;
       inside = λ tells. subst (λ m. AllInside m.steps) (sym still) (site.inside (told_still unseen _ _ (c.length_of-outcome.ensures.told unseen) still tells));
+      disk_calls = counted_once is_disk_failure _ _ c.placed-outcome.result _ _ c.noted.ensures.once
+          (fails_through is_disk_failure _ _ c.length_of-outcome.result c.placed-outcome.result _ _ c.placed-outcome.ensures c.length_of-outcome.ensures.failure) site.disk_calls;
+      say_calls = omega (arith, site.say_calls, c.length_of-outcome.ensures.failure.kept is_say_failure);
     }
 
 pub returns-clause-told : goal.returns-clause-told

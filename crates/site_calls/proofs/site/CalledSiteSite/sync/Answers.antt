@@ -1,3 +1,6 @@
+use Rattle.std.proofs.Common.{arith}
+use Rattle.site_calls.specs.Failures.{is_disk_failure, is_say_failure}
+use Rattle.site_calls.proofs.Failures.{counted_once}
 use Rattle.site_calls.proofs.Tells.{told_before, syncs_longer, syncs_inside_still}
 use Rattle.site_calls.proofs.site.CalledSiteSite.sync.Goals as goal
 
@@ -11,6 +14,8 @@ invariant_of-self g c =
       inside = λ tells.
           let before = told_before unseen _ _ (c.sync_file-outcome.ensures.told unseen) (syncs_longer _ _ _ c.args.file done) tells in
           syncs_inside_still _ _ _ c.args.file done (site.inside before);
+      disk_calls = counted_once is_disk_failure _ _ c.sync_file-outcome.result _ _ c.noted.ensures.once c.sync_file-outcome.ensures.failure site.disk_calls;
+      say_calls = omega (arith, site.say_calls, c.sync_file-outcome.ensures.failure.kept is_say_failure);
     }
 
 pub returns-clause-told : goal.returns-clause-told

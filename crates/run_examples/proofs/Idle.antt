@@ -1,0 +1,86 @@
+-- A run that finds a log without entries, and does nothing.
+use Rattle.std.proofs.Common.{◌≡◌, ◌≤◌, ◌<◌, inl, ℕ, List, [], ◌∷◌, length, refl, sym, ap, subst, arith}
+use Rattle.commit_log.specs.Segment.{header_at}
+use Rattle.dura_model.specs.Partition.{fresh}
+use Rattle.dura_model.proofs.Outcomes.{never_twice}
+use Rattle.engine_run.specs.Headline.{StandsOrderly, RunsOn}
+use Rattle.engine_run.specs.Picks.{rules_with}
+use Rattle.hub_store.specs.Examples.{one_log, log_written}
+use Rattle.hub_store.specs.Moments.{Keeps, StandsWith, Stands, AtEveryMoment}
+use Rattle.hub_store.specs.Moments.Told.{silent}
+use Rattle.part_files.specs.Examples.{digest, empty_log}
+use Rattle.part_files.specs.Kept.{entries_from, kept_in, keeps}
+use Rattle.part_files.specs.Logs.{second_log}
+use Rattle.part_files.specs.Stands.{shown_by}
+use Rattle.part_rounds.specs.InTime.GoesByClock.{begins as clock_begins}
+use Rattle.run_causes.specs.declared.cause.Cause.TheVariants.{Memory}
+use Rattle.run_examples.specs.Calls.{nothing_asked, no_flows, terms_by}
+use Rattle.run_laws.specs.Begins.{BeginsAlone, may_follow, may_say}
+use Rattle.run_laws.proofs.Images.{moment_stands}
+use Rattle.run_laws.proofs.Ordered.{never_overlaps}
+use Rattle.run_rules.specs.Rules.{Rules}
+use Rattle.site_model.specs.History.{changes_of, back_to, IsImage, Leaves}
+use Rattle.site_model.specs.Moments.Always.{begins}
+
+abbrev rules : Rules
+rules = rules_with nothing_asked (fresh 0) 0
+
+alone : BeginsAlone one_log rules digest
+alone = record {
+  one = refl;
+  header = refl;
+  made = refl;
+  given = tt;
+  other = second_log 0;
+  files = inl (refl, refl);
+  empty = λ image is. ap (kept_in 0) is;
+}
+
+-- all of the log is on the disk, and keeps nothing
+keeps_none : (image : List ℕ) → image ≡ empty_log → Keeps (one_log.logs 0) [] image
+unfolding header_at entries_from
+keeps_none image is = (33, ap (kept_in 0) is)
+
+stands_with : StandsWith (may_follow rules 0) (may_say rules) one_log log_written [] [] []
+stands_with = record {
+  lines = [];
+  rightly = silent;
+  spoken = refl;
+  images = λ partition below image left. inl (keeps_none image left);
+  others = λ file none. refl;
+}
+
+stands : Stands (may_follow rules 0) (may_say rules) one_log log_written []
+stands = record { told = []; part = []; stands = stands_with; speaking = inl refl }
+
+every : AtEveryMoment (may_follow rules 0) (may_say rules) one_log log_written []
+every moment low high =
+    let now : 2 ≡ moment = omega (arith, low, high) in
+    subst (λ (m : ℕ). Stands (may_follow rules 0) (may_say rules) one_log (back_to m log_written) []) now stands
+
+at_each : (moment : ℕ) → 2 ≤ moment → moment ≤ 2 → (image : ℕ → List ℕ) → IsImage (back_to moment log_written) image → StandsOrderly rules 0 digest one_log (back_to moment log_written) [] image
+at_each moment low high image is =
+    let on = moment_stands one_log rules 0 digest alone (back_to moment log_written) [] image (every moment low high) is in record {
+      on = on;
+      orderly = record {
+        once = λ id task. never_twice no_flows _ (shown_by no_flows on.stands.state) on.stands.legal id task;
+        apart = λ front rest world split legal overlap. never_overlaps no_flows front world legal overlap;
+      };
+    }
+
+pub idle_runs : RunsOn nothing_asked [] (fresh 0) log_written log_written [] (terms_by 1 0) Memory
+idle_runs = record {
+  origin = one_log;
+  alone = alone;
+  kept = refl;
+  opening = begins (record { silent = refl; images = λ image is. inl is; others = λ file one two. refl });
+  further = begins tt;
+  nothing = λ moment low. refl;
+  by_the_end = refl;
+  stands = at_each;
+  every = every;
+  whole = λ other. ([], stands_with);
+  in_time = record { told = []; course = clock_begins; no_more = omega arith };
+  ends = tt;
+  served = tt;
+}

@@ -1,0 +1,52 @@
+-- What is there on single directories.
+use Rattle.std.proofs.Common.{◌≡◌, ◌∙◌, ℕ, List, [], Some, None, Ok, refl, sym, ap, subst}
+use Rattle.std.specs.Fmt.{digits}
+use Rattle.std.specs.Str.{chars, is_utf8}
+use Rattle.dura_model.specs.Partition.{Partition, fresh}
+use Rattle.dura_value.specs.Items.{Entry}
+use Rattle.engine_run.specs.Causes.{IsLogRefusal}
+use Rattle.engine_run.specs.Causes.AreRefused.{for_logs}
+use Rattle.engine_run.specs.Showing.{IsThere, RefusesThere}
+use Rattle.flow_syntax.specs.Syntax.{Flows}
+use Rattle.part_files.specs.Logs.{logs_in, entries_in}
+use Rattle.part_files.specs.Placing.{placed}
+use Rattle.part_files.specs.Stands.{alone_with}
+use Rattle.recover_core.specs.declared.error.RecoverError.{RecoverError}
+use Rattle.run_causes.specs.declared.cause.Cause.TheVariants.{BadFlows}
+use Rattle.run_causes.specs.declared.cause.FlowsFault.TheVariants.{NotJson}
+use Rattle.run_examples.specs.Calls.{one_asked}
+use Rattle.run_examples.proofs.LogsKept.{fresh_kept}
+use Rattle.run_examples.proofs.Ready.{ready, not_ready}
+use Rattle.run_inputs.specs.Examples.{good_files, one_flow}
+use Rattle.run_inputs.specs.Refusal.{flows_refused}
+use Rattle.run_inputs.proofs.Computed.{flows_of_one, flows_refusal_one, requests_of_one, refusal_good}
+use Rattle.serde_json.proofs.OnLiterals.{serde_json_on_literals}
+
+pub is_there : IsThere good_files one_flow (fresh 0)
+is_there = record {
+  digest = one_asked.digest;
+  flows_in_file = record { accepted = flows_refusal_one; flows_in_file = flows_of_one; digest_of_file = refl };
+  entries = [];
+  keeps = record { kept = fresh_kept; made = refl };
+}
+
+-- an empty file is no JSON
+pub no_flows_there : flows_refused [] ≡ Some (BadFlows NotJson)
+unfolding serde_json_on_literals is_utf8 chars digits
+no_flows_there = refl
+
+-- nothing was done in a fresh directory
+pub only_fresh : (flows : Flows) (state : Partition) → IsThere good_files flows state → fresh 0 ≡ state
+only_fresh flows state there =
+    let kept = subst (λ (n : ℕ). entries_in (logs_in (alone_with n) good_files) ≡ Some there.entries) there.flows_in_file.digest_of_file there.keeps.kept in
+    let none : [] ≡ there.entries = cc (fresh_kept, kept) in
+    let made : Ok (fresh 0) ≡ Ok state = ap (placed flows 1 (fresh 0)) none ∙ there.keeps.made in
+    cc made
+
+-- and its logs aren't refused
+pub no_refusal : (error : RecoverError) → IsLogRefusal error → RefusesThere good_files error → ⊥
+no_refusal error is refuses = not_ready good_files (for_logs error is (
+  record { flows = refuses.0; digest = refuses.1; requests = one_asked.requests },
+  record { flows_in_file = refuses.2.flows_in_file; digest_of_file = refuses.2.digest_of_file; requests_in_file = requests_of_one; accepted = refusal_good },
+  refuses.3,
+)) ready
