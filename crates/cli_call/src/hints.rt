@@ -115,9 +115,21 @@ fn write_failure(
     let error = failure.error.as_str();
     match failure.reason {
         None => write_hint(out, place, ": ", error, ""),
-        Some(Reason::NullDevice) => write_hint(out, "the null device can't be opened: ", error, "", ""),
+        Some(Reason::NullDevice) => write_hint(
+            out,
+            "the null device can't be opened: ",
+            error,
+            "",
+            "",
+        ),
         Some(Reason::Directory) => write_hint(out, "the directory ", directory, ": ", error),
-        Some(Reason::Locked) => write_hint(out, "another run holds the directory ", directory, "", ""),
+        Some(Reason::Locked) => write_hint(
+            out,
+            "another run holds the directory ",
+            directory,
+            "",
+            "",
+        ),
         Some(Reason::HeldFile) => write_reason(alloc, out, place, Reason::HeldFile),
         Some(Reason::NotRegular) => write_reason(alloc, out, place, Reason::NotRegular),
         Some(Reason::SameAs(name)) => write_reason(alloc, out, place, Reason::SameAs(name)),

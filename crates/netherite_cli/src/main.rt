@@ -1,7 +1,7 @@
 //! The command `netherite`: the real outside that it hands to the engine, and how it ends.
 #![tactic(auto)]
 
-ghost use Rattle.std.specs.Prelude.{◌≡◌, ◌⊎◌, IfOk, None};
+ghost use Rattle.std.specs.Prelude.{◌≡◌, ◌⊎◌, IfOk, IfErr, MatchResult, None, Ok};
 ghost use Rattle.std.specs.Process.{exit_status};
 ghost use Rattle.cli_call.specs.Call.{cause_of};
 ghost use Rattle.command_words.specs.Command.{call_in};
@@ -9,17 +9,24 @@ ghost use Rattle.run_causes.specs.Causes.{status_of};
 
 use activity_table::Table;
 use cli_call::{Call, CallError, Findings, call_from, ending, look};
-use engine_run::{Ended, run_recorded};
+use engine_run::run_recorded;
 use run_causes::Cause;
-use site_calls::{CalledSite, Start, Unknown};
+use site_calls::{CalledSite, Fault, Reason, Start, Unknown};
 use site_host::{Host, WallClock};
-use std::alloc::AllocError;
 use std::env;
 use std::process::ExitCode;
 use std::sync::Wait;
 use std::thread::Threads;
 
-type Real<S> = Ended<CalledSite<Host<HostRuntime>, S>, WallClock<HostRuntime>>;
+// A call that was made, and how it ended.
+#[derive(Drop)]
+struct Ran {
+    call: Call,
+    cause: Cause,
+    // what failed last, and why
+    fault: Option<Fault>,
+    reason: Option<Reason>,
+}
 
 fn main(rt: HostRuntime) -> ExitCode {
     serve(&rt, rt, Unknown)
@@ -31,31 +38,50 @@ fn serve<T: Threads + Wait + Sync, S: Start + Send>(
     rt: HostRuntime,
     start: S,
 ) -> ExitCode {
-    let call = match call_from(rt.alloc(), env::args(&rt)) {
-        Ok(call) => call,
-        Err(error) => return refuse(&rt, error),
-    };
-    match run_call(threads, rt, &call, start) {
-        Ok(ended) => finish(&rt, &call, &ended),
-        Err(_) => refuse(&rt, CallError::Memory),
-    }
+    let given = call_from(rt.alloc(), env::args(&rt));
+    conclude(&rt, run_call(threads, rt, given, start))
 }
 
-// Runs a call: its words, on its directory.
+// Runs a call, if there is one: its words, on its directory.
 fn run_call<T: Threads + Wait + Sync, S: Start + Send>(
     threads: &T,
     rt: HostRuntime,
-    call: &Call,
+    given: Result<Call, CallError>,
     start: S,
-) -> Result<Real<S>, AllocError>
-    ensures status { IfOk result (λ ended. ended.status ≡ status_of ended.cause) }
-    ensures usage { IfOk result (λ ended. call_in call.now.words.items ≡ None → (ended.cause ≡ Cause.Usage) ⊎ (ended.cause ≡ Cause.Memory)) }
-    ensures only_usage { IfOk result (λ ended. ended.cause ≡ Cause.Usage → call_in call.now.words.items ≡ None) }
+) -> Result<Ran, CallError>
+    ensures call { IfOk result (λ ran. given ≡ Ok ran.call) }
+    ensures usage { IfOk result (λ ran. call_in ran.call.words.items ≡ None → (ran.cause ≡ Cause.Usage) ⊎ (ran.cause ≡ Cause.Memory)) }
+    ensures only_usage { IfOk result (λ ran. ran.cause ≡ Cause.Usage → call_in ran.call.words.items ≡ None) }
+    ensures refused { IfErr result (λ error. MatchResult given (λ _. error ≡ CallError.Memory) (λ why. error ≡ why)) }
 {
-    let host = Host::open(rt, rt.alloc(), call.directory.as_str())?;
+    let call = match given {
+        Ok(call) => call,
+        Err(error) => return Err(error),
+    };
+    let Ok(host) = Host::open(rt, rt.alloc(), call.directory.as_str()) else {
+        return Err(CallError::Memory);
+    };
     let site = CalledSite::new(host, start);
     let clock = WallClock::new(rt);
-    Ok(run_recorded(threads, rt.alloc(), &call.words, site, clock, &Table))
+    let ended = run_recorded(threads, rt.alloc(), &call.words, site, clock, &Table);
+    let fault = ended.site.fault();
+    let reason = ended.site.calls().reason();
+    Ok(Ran {
+        call,
+        cause: ended.cause,
+        fault,
+        reason,
+    })
+}
+
+// Ends as a call did, or for why there was none.
+fn conclude(rt: &HostRuntime, ran: Result<Ran, CallError>) -> ExitCode
+    ensures { MatchResult ran (λ ran. exit_status result ≡ status_of ran.cause) (λ error. exit_status result ≡ status_of (cause_of error)) }
+{
+    match ran {
+        Ok(ran) => finish(rt, &ran),
+        Err(error) => refuse(rt, error),
+    }
 }
 
 // Ends where there is no call.
@@ -67,14 +93,13 @@ fn refuse(rt: &HostRuntime, error: CallError) -> ExitCode
 }
 
 // Ends as a call did. Where memory is out, less is told.
-fn finish<S: Start>(rt: &HostRuntime, call: &Call, ended: &Real<S>) -> ExitCode
-    ensures { exit_status result ≡ status_of ended.now.cause }
+fn finish(rt: &HostRuntime, ran: &Ran) -> ExitCode
+    ensures { exit_status result ≡ status_of ran.now.cause }
 {
-    let fault = ended.site.fault();
-    let reason = ended.site.calls().reason();
-    match look(rt, call.directory.as_str(), &ended.cause, fault, reason) {
-        Ok(found) => end(rt, &ended.cause, &found),
-        Err(_) => end(rt, &ended.cause, &Findings::nothing(rt.alloc(), false)),
+    let directory = ran.call.directory.as_str();
+    match look(rt, directory, &ran.cause, ran.fault, ran.reason) {
+        Ok(found) => end(rt, &ran.cause, &found),
+        Err(_) => end(rt, &ran.cause, &Findings::nothing(rt.alloc(), false)),
     }
 }
 
