@@ -12,6 +12,7 @@ pub mod Openings
 pub mod Payloads
 pub mod Saying
 pub mod Settling
+pub mod Shortness
 pub mod Standing
 pub mod Stops
 pub mod Stores

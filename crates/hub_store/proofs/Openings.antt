@@ -9,6 +9,7 @@ use Rattle.commit_log.specs.declared.states.Resting.{Resting}
 use Rattle.commit_log.proofs.Steps.{resting_images}
 use Rattle.dura_value.specs.Items.{Entry}
 use Rattle.hub_store.specs.declared.start.Start as starts
+use Rattle.hub_store.specs.declared.trail.Settled as rows
 use Rattle.hub_store.specs.declared.store.Store.{Store}
 use Rattle.hub_store.specs.declared.way.Way.{Way}
 use Rattle.hub_store.specs.Plain.{trail_of, told_of}
@@ -22,7 +23,7 @@ use Rattle.hub_store.specs.Moments.Told.{silent}
 use Rattle.hub_store.specs.Runs.{Runs}
 use Rattle.hub_store.specs.Runs.Runs.{starts as run_starts}
 use Rattle.hub_store.specs.Sound.{IsTold, IsSound}
-use Rattle.hub_store.specs.Ways.{LogFits, way_of, due_in}
+use Rattle.hub_store.specs.Ways.{LogFits, way_of, due_in, stage_of}
 use Rattle.hub_store.proofs.Payloads.{kept_payloads}
 
 -- each of these is the way of a log at rest
@@ -84,6 +85,9 @@ sound_begun {V} {N} {G} {H} store logs many origin ways trail told due none uncu
   due = ap (sum_by due_in) ways ∙ none_due logs ∙ sym due;
   room = omega (arith, due, none);
   uncut = λ still. uncut;
+  short = λ tells p below.
+      let found = way_at logs p (omega (arith, many, below)) in
+      inl (ap stage_of (ap (λ (w : List Way). way_of w p) ways ∙ found.2), ap (λ (t : List rows.Settled). of_part p (trail_of t)) trail);
   told = λ tells.
       let stands = told_begun (H.may_follow store.latest) H.may_say H.origin (G.history store.site) logs many origin (begun tells) in
       subst (λ (b : Bool). IsTold (H.may_follow store.latest) H.may_say H.origin (G.history store.site) store.ways.items (trail_of store.trail.items) (told_of store.told.items) b) (sym uncut)

@@ -8,6 +8,7 @@ pub mod OpenedAgain
 pub mod Origin
 pub mod Plain
 pub mod Runs
+pub mod Short
 pub mod Sound
 pub mod Stops
 pub mod Trail

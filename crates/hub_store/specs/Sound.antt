@@ -10,6 +10,7 @@ use Rattle.hub_store.specs.Trail.{Settled, Said, of_part}
 use Rattle.hub_store.specs.Plain.{trail_of, told_of}
 use Rattle.hub_store.specs.Moments.{Stands, StandsWith}
 use Rattle.hub_store.specs.Runs.{Runs}
+use Rattle.hub_store.specs.Short.{KeepsShort}
 use Rattle.hub_store.specs.Ways.{way_of, due_in, LogFits}
 use Rattle.hub_store.specs.declared.start.Start as starts
 use Rattle.hub_store.specs.declared.way.Way.{Way}
@@ -24,7 +25,7 @@ module _ (MayFollow : List Settled → List Said → ℕ → List Entry → Type
     pub rests : cut ≡ false → StandsWith MayFollow MaySay o now trail told []
 
 -- Each partition has a log of its own, none of which is taken out, the trail has room for the frames under way, no line was cut before a
--- call failed, and where the site tells, all is told.
+-- call failed, and where the site tells, logs that were written stay below the segment's length, and all is told.
 pub record IsSound {V N : Type 0} {G : sites.Ghosts V} {H : starts.Ghosts N} (store : Store V N G H) : Type 0 where
   pub count : length store.ways.items ≡ H.origin.count
   pub there : (partition : ℕ) → partition < H.origin.count → way_of store.ways.items partition ≢ Away
@@ -33,4 +34,5 @@ pub record IsSound {V N : Type 0} {G : sites.Ghosts V} {H : starts.Ghosts N} (st
   pub due : sum_by due_in store.ways.items ≡ store.due
   pub room : vec_len store.trail + store.due ≤ vec_capacity store.trail
   pub uncut : store.halted ≡ false → store.cut ≡ false
+  pub short : G.tells store.site → (partition : ℕ) → partition < H.origin.count → KeepsShort store.segment (of_part partition (trail_of store.trail.items)) (way_of store.ways.items partition)
   pub told : G.tells store.site → IsTold (H.may_follow store.latest) H.may_say H.origin (G.history store.site) store.ways.items (trail_of store.trail.items) (told_of store.told.items) store.cut

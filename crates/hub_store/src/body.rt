@@ -10,6 +10,7 @@ ghost use Rattle.part_items.specs.Plain.{entries_of};
 ghost use Rattle.part_items.specs.Spelling.{spell_frame, CanSpellFrame};
 ghost use Rattle.hub_store.specs.Changes.{stage_at, going_at, trail_in, MovesOnly};
 ghost use Rattle.hub_store.specs.Frames.{goes_on, GoesBehind, length_with};
+ghost use Rattle.hub_store.specs.Short.{reach_of};
 ghost use Rattle.hub_store.specs.Sound.{IsSound};
 ghost use Rattle.hub_store.specs.Trail.{of_part};
 ghost use Rattle.hub_store.specs.Ways.{WayFits, way_of, stage_of, going_in, due_in};
@@ -63,6 +64,7 @@ fn body_log<V: Site>(
         → WayFits log.file h payloads (changes_of log.file (V.history site.new)) result.0 }
     ensures going { (going_in result.0 ≡ None) ⊎ (going_in result.0 ≡ Some (entries_of frame)) }
     ensures due { due_in result.0 ≤ length frame }
+    ensures short { (h : Header) (payloads : List (List ℕ)) → IsResting (changes_of log.file (V.history site.old)) h payloads log.gate → (result.0 ≡ Way.Resting log) ⊎ (reach_of result.0 < limit) }
     ensures there { result.0 ≢ Way.Away }
     ensures ok { OnOk result.1 ((stage_of result.0 ≡ Stage.Bodied) × (going_in result.0 ≡ Some (entries_of frame))) }
     ensures full { limit ≤ log.gate + 6 + length payload.now → result.1 ≡ Err (BodyRefusal.Full part (log.gate + 6 + length payload.now)) }

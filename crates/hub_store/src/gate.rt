@@ -10,6 +10,7 @@ ghost use Rattle.dura_value.specs.Items.{Entry};
 ghost use Rattle.part_items.specs.Plain.{entries_of};
 ghost use Rattle.part_items.specs.Spelling.{spell_frame};
 ghost use Rattle.hub_store.specs.Changes.{stage_at, going_at, trail_in, told_in, MovesOnly, HasHalted};
+ghost use Rattle.hub_store.specs.Short.{reach_of};
 ghost use Rattle.hub_store.specs.Sound.{IsSound};
 ghost use Rattle.hub_store.specs.Ways.{WayFits, stage_of, going_in, due_in};
 
@@ -32,6 +33,7 @@ fn gate_log<V: Site>(site: &mut V, log: Synced, frame: Frame) -> (Way, Result<()
         → WayFits log.file h payloads (changes_of log.file (V.history site.new)) result.0 }
     ensures going { going_in result.0 ≡ Some (entries_of frame) }
     ensures due { due_in result.0 ≡ length frame }
+    ensures reach { reach_of result.0 ≡ reach_of (Way.Synced log frame) }
     ensures ok { OnOk result.1 (stage_of result.0 ≡ Stage.Gated) }
     ensures err { OnErr result.1 (result.1 ≡ Err Refusal.SiteFault) }
     ensures broken { OnErr result.1 (stage_of result.0 ≡ Stage.Broken) }

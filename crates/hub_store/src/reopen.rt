@@ -1,6 +1,6 @@
 //! Going on after a device call that failed.
 
-ghost use Rattle.std.specs.Prelude.{◌≡◌, ◌≢◌, ◌≤◌, ◌<◌, ◌↔◌, ℕ, List, true, false, Some, Err, Ok, OnOk, OnErr, IfOk, length, slice_index};
+ghost use Rattle.std.specs.Prelude.{◌≡◌, ◌≢◌, ◌≤◌, ◌<◌, ◌+◌, ◌↔◌, ℕ, max, MatchResult, List, true, false, Some, Err, Ok, OnOk, OnErr, IfOk, length, slice_index};
 ghost use Rattle.site_model.specs.History.{changes_of, content_of};
 ghost use Rattle.site_model.specs.Calls.{HasRisen, HasCause};
 ghost use Rattle.commit_log.specs.declared.header.Header.{Header};
@@ -10,6 +10,7 @@ ghost use Rattle.part_items.specs.Plain.{entries_of};
 ghost use Rattle.part_items.specs.Spelling.{spell_frame};
 ghost use Rattle.hub_store.specs.Changes.{stage_at, going_at, trail_in, told_in, KeepsOthers, Settles};
 ghost use Rattle.hub_store.specs.OpenedAgain.{Reopens};
+ghost use Rattle.hub_store.specs.Short.{reach_of};
 ghost use Rattle.hub_store.specs.Sound.{IsSound};
 ghost use Rattle.hub_store.specs.Ways.{WayFits, way_of, stage_of, going_in, gate_of, due_in};
 
@@ -40,6 +41,7 @@ fn reopen_log<V: Site>(site: &mut V, way: Way) -> (Result<Reopened, Broken>, Fra
         → Reopens file h payloads (spell_frame (entries_of result.1)) way (V.history site.old) (V.history site.new) result.0 }
     ensures going { going_in way ≡ Some (entries_of result.1) }
     ensures due { due_in way ≡ length result.1 }
+    ensures reach { MatchResult result.0 (λ found. found.log.gate + 1 ≤ reach_of way) (λ log. max log.gate log.next + 1 ≤ reach_of way) }
     ensures cause { HasCause (V.disk_faults site.old) (V.disk_faults site.new) result.0 }
     ensures say_faults { V.say_faults site.new ≡ V.say_faults site.old }
 {

@@ -9,6 +9,7 @@ ghost use Rattle.commit_log.specs.States.{IsBodied, HasFrames};
 ghost use Rattle.part_items.specs.Plain.{entries_of};
 ghost use Rattle.part_items.specs.Spelling.{spell_frame};
 ghost use Rattle.hub_store.specs.Changes.{stage_at, going_at, MovesOnly, HasHalted};
+ghost use Rattle.hub_store.specs.Short.{reach_of};
 ghost use Rattle.hub_store.specs.Sound.{IsSound};
 ghost use Rattle.hub_store.specs.Ways.{WayFits, stage_of, going_in, due_in};
 
@@ -29,6 +30,7 @@ fn sync_log<V: Site>(site: &mut V, log: Bodied, frame: Frame) -> (Way, Result<()
         → WayFits log.file h payloads (changes_of log.file (V.history site.new)) result.0 }
     ensures going { going_in result.0 ≡ Some (entries_of frame) }
     ensures due { due_in result.0 ≡ length frame }
+    ensures reach { reach_of result.0 ≡ reach_of (Way.Bodied log frame) }
     ensures ok { OnOk result.1 (stage_of result.0 ≡ Stage.Synced) }
     ensures err { OnErr result.1 (result.1 ≡ Err Refusal.SiteFault) }
     ensures broken { OnErr result.1 (stage_of result.0 ≡ Stage.Broken) }

@@ -1,4 +1,5 @@
-use Rattle.std.proofs.Common.{ℕ, List, Err, refl, subst}
+use Rattle.std.proofs.Common.{◌≡◌, ◌+◌, inl, inr, ℕ, List, length, Err, refl, subst, arith}
+use Rattle.std.proofs.lemmas.Bool.{cases_lt}
 use Rattle.site_model.specs.History.{changes_of}
 use Rattle.commit_log.specs.declared.states.BodyError.{BodyError}
 use Rattle.commit_log.specs.Outcomes.{AfterBody}
@@ -6,6 +7,7 @@ use Rattle.commit_log.specs.States.{IsBodied, IsBroken}
 use Rattle.part_items.specs.Plain.{entries_of}
 use Rattle.part_items.specs.Spelling.{spell_frame}
 use Rattle.hub_store.proofs.Bodies.{ok_apart, full_memory, full_fault, memory_fault}
+use Rattle.hub_store.proofs.Shortness.{next_gate}
 use Rattle.hub_store.proofs.body.body_log.Goals as goal
 
 pub returns-in-Err-SiteFault-clause-fits : goal.returns-in-Err-SiteFault-clause-fits
@@ -58,3 +60,16 @@ returns-in-Err-Memory-clause-untouched g c of n is = absurd (full_memory _ of n 
 
 pub returns-in-Err-Memory-clause-fault : goal.returns-in-Err-Memory-clause-fault
 returns-in-Err-Memory-clause-fault g c is = absurd (memory_fault _ refl is)
+
+-- a log that would come to the limit is full before anything is written
+pub returns-in-Err-SiteFault-clause-short : goal.returns-in-Err-SiteFault-clause-short
+returns-in-Err-SiteFault-clause-short g c h payloads rests =
+    let log = c.in-Err-SiteFault.log in
+    let now = g.V.Site.history c.body.new.site in
+    let payload = c.args.payload.now in
+    let broken = subst (λ (e : BodyError). AfterBody now h payloads payload (Err e)) c.in-Err-SiteFault.field-0-is (c.in-Err-SiteFault.ensures.after h payloads rests) in
+    let ends = next_gate h payloads payload c.args.log.gate log.next (changes_of c.args.log.file (g.V.Site.history c.args.site.now)) (changes_of log.file now) rests log.gate broken in
+    elim (cases_lt (c.args.log.gate + 6 + length payload) c.args.limit) [
+      | inl below ↦ inr (omega (arith, below, ends.0, ends.1))
+      | inr past ↦ absurd (let full = c.in-Err-SiteFault.ensures.full past in let fault = c.in-Err-SiteFault.field-0-is in cc (full, fault))
+    ]

@@ -1,9 +1,11 @@
-use Rattle.std.proofs.Common.{◌≡◌, OnOk, Some, length, inr, refl, sym, ◌∙◌, ap, subst, arith}
+use Rattle.std.proofs.Common.{◌≡◌, ℕ, OnOk, Some, length, inl, inr, refl, sym, ◌∙◌, ap, subst, arith}
+use Rattle.commit_log.specs.States.{IsResting}
 use Rattle.site_model.specs.History.{changes_of}
 use Rattle.hub_store.specs.declared.way.Way.{Way}
 use Rattle.hub_store.specs.declared.way.Stage.TheVariants as stages
 use Rattle.hub_store.specs.Plain.{trail_of, told_of}
 use Rattle.hub_store.specs.Trail.{of_part}
+use Rattle.hub_store.specs.Short.{KeepsShort}
 use Rattle.hub_store.specs.Ways.{LogFits, stage_of, due_in, going_in}
 use Rattle.part_items.specs.Plain.{entries_of}
 use Rattle.hub_store.proofs.Bodies.{full_of, way_put}
@@ -23,7 +25,7 @@ body_log-way-requires-clause-rests g c tells =
     (subst (λ (w : Way). LogFits (o.logs p) (of_part p trail) (changes_of (o.logs p).file (g.V.Site.history old.site)) w) (sym c.in-Resting.ensures.way) (stood.logs p c.requires.place))
 
 pub returns-in_err-reserve-clause-sound : goal.returns-in_err-reserve-clause-sound
-returns-in_err-reserve-clause-sound g c = sound_roomier c.args.self.now _ c.requires.sound refl refl refl refl refl refl refl c.reserve.ensures.items c.reserve.ensures.len c.reserve.ensures.capacity
+returns-in_err-reserve-clause-sound g c = sound_roomier c.args.self.now _ c.requires.sound refl refl refl refl refl refl refl c.reserve.ensures.items c.reserve.ensures.len c.reserve.ensures.capacity refl
 
 pub returns-clause-sound : goal.returns-clause-sound
 returns-clause-sound g c =
@@ -43,6 +45,15 @@ returns-clause-sound g c =
     let fits = subst (λ (w : Way). LogFits (o.logs p) (of_part p trail) (changes_of (o.logs p).file before) w) (sym c.in-Resting.ensures.way) (stood.logs p c.requires.place) in
     let goes = body_goes (g.N.Start.may_follow old.latest) g.N.Start.may_say o p c.in-Resting.log c.args.frame trail told before now way c.body_log-way.ensures.during c.body_log-way.ensures.fits c.body_log-way.ensures.going (c.requires.behind).again fits in
     told_on (g.N.Start.may_follow old.latest) g.N.Start.may_say o p before now old.ways.items way trail told old.cut _ c.requires.sound.apart c.requires.sound.count c.requires.place (c.requires.sound.uncut c.requires.going) stood goes.0 goes.1)
+    refl c.body_log-way.ensures.told (λ q apart. refl)
+    (λ tells.
+    let then = c.body_log-way.ensures.told tells in
+    let fits = subst (λ (w : Way). LogFits (o.logs p) (of_part p trail) (changes_of (o.logs p).file before) w) (sym c.in-Resting.ensures.way) ((c.requires.sound.told then).logs p c.requires.place) in
+    let rests = subst (λ (f : ℕ). IsResting (changes_of f before) (o.logs p).header fits.payloads c.in-Resting.log.gate) (sym fits.fits.0) fits.fits.1 in
+    elim (c.body_log-way.ensures.short (o.logs p).header fits.payloads rests) [
+      | inl same ↦ subst (KeepsShort old.segment (of_part p trail)) (sym (same ∙ c.in-Resting.ensures.way)) (c.requires.sound.short then p c.requires.place)
+      | inr short ↦ inr short
+    ])
 
 pub returns-clause-full : goal.returns-clause-full
 returns-clause-full g c long =

@@ -1,13 +1,17 @@
 use Rattle.std.proofs.Common.{◌≡◌, Err, OnOk, OnErr, refl, sym, ◌∙◌, ap, subst, arith}
+use Rattle.std.proofs.Math.Nat.{le_of_eq}
 use Rattle.site_model.specs.History.{changes_of}
 use Rattle.hub_store.specs.declared.refusal.Refusal.TheVariants.{SiteFault}
 use Rattle.hub_store.specs.declared.way.Way.{Way}
+use Rattle.hub_store.specs.declared.way.Way.TheVariants as ways
 use Rattle.hub_store.specs.declared.way.Stage.TheVariants as stages
 use Rattle.hub_store.specs.Plain.{trail_of, told_of}
 use Rattle.hub_store.specs.Trail.{of_part}
+use Rattle.hub_store.specs.Short.{KeepsShort}
 use Rattle.hub_store.specs.Ways.{LogFits, stage_of, due_in, going_in}
 use Rattle.hub_store.proofs.Bodies.{way_put, fault_no_frame}
 use Rattle.hub_store.proofs.Calls.{synced_there, gate_goes}
+use Rattle.hub_store.proofs.Shortness.{still_short}
 use Rattle.hub_store.proofs.Standing.{told_on}
 use Rattle.hub_store.proofs.Stores.{put_for, others_stay, sound_on, with_frame}
 use Rattle.hub_store.proofs.store.Store.gate.Goals as goal
@@ -38,6 +42,9 @@ returns-clause-sound g c =
     let follows = c.requires.follows _ (ap going_in (sym c.in-Synced.ensures.way)) in
     let goes = gate_goes (g.N.Start.may_follow old.latest) g.N.Start.may_say o p c.in-Synced.log c.in-Synced.frame trail told before now way c.gate_log-way.ensures.step.0 c.gate_log-way.ensures.step.1 c.gate_log-way.ensures.during c.gate_log-way.ensures.fits c.gate_log-way.ensures.going follows fits in
     told_on (g.N.Start.may_follow old.latest) g.N.Start.may_say o p before now old.ways.items way trail told old.cut _ c.requires.sound.apart c.requires.sound.count c.requires.place (c.requires.sound.uncut c.requires.going) stood goes.0 goes.1)
+    refl c.gate_log-way.ensures.told
+    (λ tells. still_short old.segment (of_part p trail) (of_part p trail) (ways.Synced c.in-Synced.log c.in-Synced.frame) way _ refl (le_of_eq c.gate_log-way.ensures.reach)
+    (subst (KeepsShort old.segment (of_part p trail)) (sym c.in-Synced.ensures.way) (c.requires.sound.short (c.gate_log-way.ensures.told tells) p c.requires.place)))
 
 pub returns-clause-ok : goal.returns-clause-ok
 returns-clause-ok g c =

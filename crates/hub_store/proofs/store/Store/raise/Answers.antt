@@ -15,6 +15,7 @@ returns-clause-sound g c =
       due = sound.due;
       room = sound.room;
       uncut = sound.uncut;
+      short = sound.short;
       told = λ tells.
           is_told_later (g.N.Start.may_follow old.latest) (g.N.Start.may_follow c.max-self.result) g.N.Start.may_say
           (λ trail told partition going may. g.N.Start.later_follows old.latest c.max-self.result trail told partition going (omega (arith, c.max-self.ensures)) may)

@@ -1,4 +1,7 @@
-use Rattle.std.proofs.Common.{◌≡◌, false, inl, inr, ◌++◌, length, refl, sym, ◌∙◌, ap, subst, arith}
+use Rattle.std.proofs.Common.{◌≡◌, ◌≤◌, ◌+◌, max, false, inl, inr, ◌++◌, List, length, refl, sym, ◌∙◌, ap, subst, arith}
+use Rattle.std.specs.Prelude.{MatchResult}
+use Rattle.std.proofs.lemmas.List.{append-nil}
+use Rattle.dura_value.specs.Items.{Entry}
 use Rattle.site_model.specs.History.{changes_of}
 use Rattle.hub_store.specs.declared.way.Way.{Way}
 use Rattle.hub_store.specs.declared.way.Way.TheVariants as ways
@@ -7,10 +10,12 @@ use Rattle.part_items.specs.Spelling.{spell_frame}
 use Rattle.hub_store.specs.OpenedAgain.{Reopens}
 use Rattle.hub_store.specs.Plain.{trail_of, told_of}
 use Rattle.hub_store.specs.Trail.{of_part, settling}
+use Rattle.hub_store.specs.Short.{reach_of, KeepsShort}
 use Rattle.hub_store.specs.Ways.{LogFits, GoesOn, stage_of, gate_of, going_in, due_in}
 use Rattle.hub_store.proofs.Bodies.{way_put, rests_there, true_apart, ok_apart, fault_no_frame, dropped_settled}
 use Rattle.hub_store.proofs.OpenedAgain.{not_true, not_false, settled_just, dropped_just, reopen_path, rests_with, rests_without, breaks_again}
-use Rattle.hub_store.proofs.Settling.{told_settled}
+use Rattle.hub_store.proofs.Settling.{of_part-append, no_part, told_settled}
+use Rattle.hub_store.proofs.Shortness.{still_short}
 use Rattle.hub_store.proofs.Standing.{told_on}
 use Rattle.hub_store.proofs.Stores.{put_for, others_stay, sound_on, sound_any, due_of_one}
 use Rattle.hub_store.proofs.store.Store.reopen.Goals as goal
@@ -37,6 +42,10 @@ returns-in-Err-clause-sound g c =
     let path = reopen_path (g.N.Start.may_follow old.latest) g.N.Start.may_say o p trail told before now c.reopen_log-answer.result.0 again.syncs again.during ((stood.rests c.requires.whole).images p c.requires.place) in
     let breaks = breaks_again (g.N.Start.may_follow old.latest) g.N.Start.may_say o p trail now before was frame c.in-Err.log fits c.reopen_log-answer.ensures.going failed.broken_is failed.after in
     told_on (g.N.Start.may_follow old.latest) g.N.Start.may_say o p before now old.ways.items way trail told old.cut _ c.requires.sound.apart c.requires.sound.count c.requires.place c.requires.whole stood path breaks)
+    refl c.reopen_log-answer.ensures.told
+    (λ tells. still_short old.segment (of_part p trail) (of_part p trail) was way _ c.reopen_log-answer.ensures.going
+    (subst (λ r. MatchResult r (λ found. found.log.gate + 1 ≤ reach_of was) (λ log. max log.gate log.next + 1 ≤ reach_of was)) c.in-Err.is c.reopen_log-answer.ensures.reach)
+    (subst (KeepsShort old.segment (of_part p trail)) (sym c.take_way-way.ensures.way) (c.requires.sound.short (c.reopen_log-answer.ensures.told tells) p c.requires.place)))
 
 pub returns-then-not-found-clause-sound : goal.returns-then-not-found-clause-sound
 returns-then-not-found-clause-sound g c =
@@ -65,6 +74,10 @@ returns-then-not-found-clause-sound g c =
     let path = reopen_path (g.N.Start.may_follow old.latest) g.N.Start.may_say o p trail told before now c.reopen_log-answer.result.0 again.syncs again.during ((stood.rests c.requires.whole).images p c.requires.place) in
     let rests = rests_without (g.N.Start.may_follow old.latest) g.N.Start.may_say o p trail now before was (spell_frame (entries_of frame)) found fits (not_true found.settled c.if-not-found.true) opened.file_is opened.after in
     told_on (g.N.Start.may_follow old.latest) g.N.Start.may_say o p before now old.ways.items way trail told old.cut _ c.requires.sound.apart c.requires.sound.count c.requires.place c.requires.whole stood path rests)
+    refl c.reopen_log-answer.ensures.told (λ q apart. refl)
+    (λ tells. still_short old.segment (of_part p trail) (of_part p trail) was way _ c.reopen_log-answer.ensures.going
+    (subst (λ r. MatchResult r (λ found. found.log.gate + 1 ≤ reach_of was) (λ log. max log.gate log.next + 1 ≤ reach_of was)) c.in-Ok.is c.reopen_log-answer.ensures.reach)
+    (subst (KeepsShort old.segment (of_part p trail)) (sym c.take_way-way.ensures.way) (c.requires.sound.short (c.reopen_log-answer.ensures.told tells) p c.requires.place)))
 
 pub returns-then-not-found-clause-opened : goal.returns-then-not-found-clause-opened
 returns-then-not-found-clause-opened g c tells =
@@ -115,6 +128,11 @@ returns-clause-sound g c =
     (λ is. let shut : found.settled ≡ false = opened.closed (inr (ap stage_of c.take_way-way.ensures.way ∙ is)) in true_apart (sym settled ∙ shut)) in
     let rests = rests_with (g.N.Start.may_follow old.latest) g.N.Start.may_say o now (o.logs p).file (o.logs p).header fits.payloads (spell_frame (entries_of frame)) found settled opened.file_is opened.after in
     told_settled (g.N.Start.may_follow old.latest) g.N.Start.may_say o (g.N.Start.still_follows old.latest) p found.log trail told (entries_of frame) fits.payloads before now old.ways.items old.cut _ at c.requires.sound.apart c.requires.sound.count c.requires.place c.requires.whole (c.moment-at.ensures tells) follows stood path reads opened.file_is rests)
+    refl c.reopen_log-answer.ensures.told
+    (λ q apart. of_part-append q trail (settling p at (entries_of frame)) ∙ ap (λ (l : List Entry). of_part q trail ++ l) (no_part p q at (entries_of frame) (λ same. apart (sym same))) ∙ append-nil (of_part q trail))
+    (λ tells. still_short old.segment (of_part p trail) (of_part p (trail ++ settling p at (entries_of frame))) was way _ c.reopen_log-answer.ensures.going
+    (subst (λ r. MatchResult r (λ found. found.log.gate + 1 ≤ reach_of was) (λ log. max log.gate log.next + 1 ≤ reach_of was)) c.in-Ok.is c.reopen_log-answer.ensures.reach)
+    (subst (KeepsShort old.segment (of_part p trail)) (sym c.take_way-way.ensures.way) (c.requires.sound.short (c.reopen_log-answer.ensures.told tells) p c.requires.place)))
 
 pub returns-clause-opened : goal.returns-clause-opened
 returns-clause-opened g c tells =

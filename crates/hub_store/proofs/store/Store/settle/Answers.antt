@@ -1,14 +1,18 @@
-use Rattle.std.proofs.Common.{◌++◌, length, refl, sym, ◌∙◌, ap, subst, arith}
+use Rattle.std.proofs.Common.{◌++◌, List, length, refl, sym, ◌∙◌, ap, subst, arith}
+use Rattle.std.proofs.lemmas.List.{append-nil}
+use Rattle.dura_value.specs.Items.{Entry}
 use Rattle.site_model.specs.History.{changes_of}
 use Rattle.hub_store.specs.declared.way.Way.{Way}
 use Rattle.hub_store.specs.declared.way.Way.TheVariants as ways
 use Rattle.part_items.specs.Plain.{entries_of}
 use Rattle.hub_store.specs.Plain.{trail_of, told_of}
 use Rattle.hub_store.specs.Trail.{of_part, settling}
+use Rattle.hub_store.specs.Short.{KeepsShort}
 use Rattle.hub_store.specs.Ways.{LogFits, stage_of, due_in, going_in}
 use Rattle.hub_store.proofs.Bodies.{way_put, rests_there, true_apart, ok_apart, fault_no_frame}
 use Rattle.hub_store.proofs.Calls.{settle_path, settle_rests, settle_breaks}
-use Rattle.hub_store.proofs.Settling.{told_settled}
+use Rattle.hub_store.proofs.Settling.{of_part-append, no_part, told_settled}
+use Rattle.hub_store.proofs.Shortness.{still_short}
 use Rattle.hub_store.proofs.Standing.{told_on}
 use Rattle.hub_store.proofs.Stores.{put_for, others_stay, sound_on, sound_any, due_of_one}
 use Rattle.hub_store.proofs.store.Store.settle.Goals as goal
@@ -37,6 +41,10 @@ returns-in-Ok-clause-sound g c =
     let path = settle_path (g.N.Start.may_follow old.latest) g.N.Start.may_say o p log frame trail told before now c.settle.result c.settle.ensures.syncs c.settle.ensures.during follows fits in
     let rests = settle_rests (g.N.Start.may_follow old.latest) g.N.Start.may_say o p log frame trail before now c.in-Ok.log (c.in-Ok.ensures.place).0 c.in-Ok.ensures.after fits in
     told_settled (g.N.Start.may_follow old.latest) g.N.Start.may_say o (g.N.Start.still_follows old.latest) p c.in-Ok.log trail told (entries_of frame) fits.payloads before now old.ways.items old.cut _ at c.requires.sound.apart c.requires.sound.count c.requires.place (c.requires.sound.uncut c.requires.going) (c.moment-at.ensures tells) follows stood path fits.next rests.0 rests.1)
+    refl c.settle.ensures.told
+    (λ q apart. of_part-append q trail (settling p at (entries_of frame)) ∙ ap (λ (l : List Entry). of_part q trail ++ l) (no_part p q at (entries_of frame) (λ same. apart (sym same))) ∙ append-nil (of_part q trail))
+    (λ tells. still_short old.segment (of_part p trail) (of_part p (trail ++ settling p at (entries_of frame))) (ways.Gated log frame) (ways.Resting c.in-Ok.log) _ refl (omega (arith, c.in-Ok.ensures.place.1))
+    (subst (KeepsShort old.segment (of_part p trail)) (sym c.in-Gated.ensures.way) (c.requires.sound.short (c.settle.ensures.told tells) p c.requires.place)))
 
 pub returns-in-Ok-clause-trail : goal.returns-in-Ok-clause-trail
 returns-in-Ok-clause-trail g c = record {
@@ -67,6 +75,9 @@ returns-in-Err-clause-sound g c =
     let path = settle_path (g.N.Start.may_follow old.latest) g.N.Start.may_say o p log frame trail told before now c.settle.result c.settle.ensures.syncs c.settle.ensures.during follows fits in
     let breaks = settle_breaks (g.N.Start.may_follow old.latest) g.N.Start.may_say o p log frame trail before now c.in-Err.log (c.in-Err.ensures.broken).0 c.in-Err.ensures.after fits in
     told_on (g.N.Start.may_follow old.latest) g.N.Start.may_say o p before now old.ways.items way trail told old.cut _ c.requires.sound.apart c.requires.sound.count c.requires.place (c.requires.sound.uncut c.requires.going) stood path breaks)
+    refl c.settle.ensures.told
+    (λ tells. still_short old.segment (of_part p trail) (of_part p trail) (ways.Gated log frame) way _ refl (omega (arith, c.in-Err.ensures.broken.1, c.in-Err.ensures.broken.2))
+    (subst (KeepsShort old.segment (of_part p trail)) (sym c.in-Gated.ensures.way) (c.requires.sound.short (c.settle.ensures.told tells) p c.requires.place)))
 
 pub returns-in-Ok-clause-ok : goal.returns-in-Ok-clause-ok
 returns-in-Ok-clause-ok g c =
