@@ -1,15 +1,18 @@
 // The words that the program was called with.
-ghost use Rattle.std.specs.Prelude.{◌≡◌, map, string_bytes, IfOk, IsErrOf};
+ghost use Rattle.std.specs.Prelude.{◌≡◌, ◌≢◌, map, string_bytes, IfOk, IfErr, IsErrOf, MatchResult, Err};
+ghost use Rattle.std.specs.IoError.{error_kind};
+ghost use Rattle.std.specs.Vec.Iter.{into_iter_items};
 ghost use Rattle.std.specs.List.{All};
 ghost use Rattle.dura_value.specs.Text.{IsText};
-ghost use Rattle.cli_call.specs.Call.{IsCall, Spells};
+ghost use Rattle.cli_call.specs.Call.{IsCall, Spells, cause_of};
 ghost use Rattle.cli_call.specs.declared.call.CallError.TheVariants.{Memory};
 
 use dura_value::{Text, TextError};
-use std::alloc::{AllocFailed, Global};
-use std::env;
+use run_causes::Cause;
+use std::alloc::{AllocError, AllocFailed, Global};
+use std::env::Args;
+use std::io;
 use std::io::ErrorKind;
-use std::rt::Env;
 
 /// A call `netherite DIRECTORY WORD..`.
 #[derive(Drop)]
@@ -23,10 +26,24 @@ pub struct Call {
 /// Why there is no call.
 #[derive(Clone, Copy, PartialEq, Eq)]
 pub enum CallError {
-    /// There is no directory, or a word is no text.
+    /// There is no directory, or a word is longer than a text may be.
     Usage,
+    /// A word isn't UTF-8.
+    NotUtf8,
     /// Memory ran out.
     Memory,
+}
+
+impl CallError {
+    /// Why the program ends.
+    pub fn cause(self) -> Cause
+        ensures { result ≡ cause_of self }
+    {
+        match self {
+            CallError::Usage | CallError::NotUtf8 => Cause::Usage,
+            CallError::Memory => Cause::Memory,
+        }
+    }
 }
 
 impl<T: Drop> From<AllocFailed<T>> for CallError {
@@ -37,16 +54,38 @@ impl<T: Drop> From<AllocFailed<T>> for CallError {
     }
 }
 
-/// This call of the program.
-pub fn read_call<R: Env + AllocGlobal>(rt: &R) -> Result<Call, CallError> {
-    let arguments = arguments_of(rt)?;
-    call_of(rt.alloc(), &arguments)
+/// The call that the arguments of a process spell, as the system gave them or didn't.
+pub fn call_from(alloc: Global, given: io::Result<Args>) -> Result<Call, CallError>
+    ensures call { IfOk result (λ call. MatchResult given (λ arguments. Spells (into_iter_items arguments) call) (λ _. ⊥)) }
+    ensures usage { IsErrOf result CallError.Usage → MatchResult given (λ arguments. ¬ IsCall (into_iter_items arguments)) (λ _. ⊥) }
+    ensures not_utf8 { MatchResult given (λ _. ¬ IsErrOf result CallError.NotUtf8) (λ error. error_kind error ≢ ErrorKind.OutOfMemory → result ≡ Err CallError.NotUtf8) }
+    ensures memory { IfErr given (λ error. error_kind error ≡ ErrorKind.OutOfMemory → result ≡ Err CallError.Memory) }
+{
+    match given {
+        Ok(arguments) => match listed(alloc, arguments) {
+            Ok(arguments) => call_of(alloc, &arguments),
+            Err(_) => Err(CallError::Memory),
+        },
+        Err(error) if error.kind() == ErrorKind::OutOfMemory => Err(CallError::Memory),
+        Err(_) => Err(CallError::NotUtf8),
+    }
+}
+
+fn listed(alloc: Global, mut arguments: Args) -> Result<Vec<String>, AllocError>
+    ensures { IfOk result (λ list. list.items ≡ into_iter_items arguments) }
+{
+    let mut list = Vec::new(alloc);
+    while let Some(argument) = arguments.next() {
+        list.push(argument)?;
+    }
+    Ok(list)
 }
 
 /// The call that these arguments spell.
 pub fn call_of(alloc: Global, arguments: &[String]) -> Result<Call, CallError>
     ensures call { IfOk result (Spells arguments.now) }
     ensures usage { IsErrOf result CallError.Usage → ¬ IsCall arguments.now }
+    ensures utf8 { ¬ IsErrOf result CallError.NotUtf8 }
 {
     let [_program, directory, words @ ..] = arguments else {
         return Err(CallError::Usage);
@@ -62,6 +101,7 @@ fn words_of(alloc: Global, arguments: &[String]) -> Result<Vec<Text>, CallError>
     ensures same { IfOk result (λ words. words.items ≡ map string_bytes arguments.now) }
     ensures texts { IfOk result (λ words. All IsText words.items) }
     ensures usage { IsErrOf result CallError.Usage → ¬ All IsText (map string_bytes arguments.now) }
+    ensures utf8 { ¬ IsErrOf result CallError.NotUtf8 }
 {
     let mut words = Vec::new(alloc);
     for argument in arguments {
@@ -76,26 +116,12 @@ fn words_of(alloc: Global, arguments: &[String]) -> Result<Vec<Text>, CallError>
 fn word_of(alloc: Global, argument: &str) -> Result<Text, CallError>
     ensures text { IfOk result (λ word. (word ≡ argument.now) × IsText argument.now) }
     ensures usage { IsErrOf result CallError.Usage → ¬ IsText argument.now }
+    ensures utf8 { ¬ IsErrOf result CallError.NotUtf8 }
 {
     match Text::read(alloc, argument.as_bytes()) {
         Ok(text) => Ok(text),
         Err(TextError::TooLong { .. }) => Err(CallError::Usage),
         Err(TextError::NotUtf8 { .. }) => Err(CallError::Usage),
         Err(TextError::Memory) => Err(CallError::Memory),
-    }
-}
-
-/// The arguments of this process. One that is no text is refused.
-fn arguments_of<R: Env + AllocGlobal>(rt: &R) -> Result<Vec<String>, CallError> {
-    let mut arguments = Vec::new(rt.alloc());
-    match env::args(rt) {
-        Ok(given) => {
-            for argument in given {
-                arguments.push(argument)?;
-            }
-            Ok(arguments)
-        }
-        Err(error) if error.kind() == ErrorKind::OutOfMemory => Err(CallError::Memory),
-        Err(_) => Err(CallError::Usage),
     }
 }

@@ -1,90 +1,149 @@
-// What a person is told beside the cause, on lines of standard error that begin with two blanks. Where that can't be
-// written, the status alone tells the cause.
+// What a person is told on standard error: the cause, and behind it more, on lines that begin with two blanks.
+ghost use Rattle.std.specs.Prelude.{◌≡◌, ◌++◌, codes, string_bytes, IfOk, OnOk};
+ghost use Rattle.site_calls.specs.Reasons.{reason_text};
+ghost use Rattle.cli_call.specs.Hints.{hint, further_text, failure_text, absent_text, usage_text, ending_text};
+
+use crate::findings::{Absent, Failure, Findings};
 use run_causes::Cause;
-use site_calls::{Fault, FaultPlace, FileName, Reason};
-use std::{fmt, fs};
+use site_calls::Reason;
+use std::alloc::{AllocError, Global};
 
-/// Tells which words are understood.
-pub fn hint_command(rt: &impl Eprint) {
-    let _ = eprintln!(rt; "  netherite DIRECTORY run [--batch N] [--steps N] [--segment BYTES]");
-    let _ = eprintln!(rt; "  netherite DIRECTORY show");
+/// All that is told of an end. Nothing is told of one that is done.
+pub fn ending(alloc: Global, cause: &Cause, found: &Findings) -> Result<Vec<u8>, AllocError>
+    ensures { IfOk result (λ text. text.items ≡ ending_text cause.now found.now) }
+{
+    let mut text = Vec::new(alloc);
+    if cause.status() == 0 {
+        return Ok(text);
+    }
+    text.extend_from_slice(b"netherite: ")?;
+    text.extend_from_slice(&cause.line(alloc)?)?;
+    text.push(b'\n')?;
+    write_further(alloc, &mut text, cause, found)?;
+    Ok(text)
 }
 
-/// Tells more of a cause than its text does: of a fault what failed and why, and of a file what is wrong with it.
-pub fn hint_cause(
-    rt: &HostRuntime,
-    directory: &str,
+// Appends the lines behind the first.
+fn write_further(
+    alloc: Global,
+    out: &mut Vec<u8>,
     cause: &Cause,
-    fault: Option<Fault>,
-    reason: Option<Reason>,
-) {
+    found: &Findings,
+) -> Result<(), AllocError>
+    ensures { OnOk result (out.new.items ≡ out.old.items ++ further_text cause.now found.now) }
+{
+    let directory = found.directory.as_str();
     match cause {
-        Cause::BadFlows { .. } => hint_absent(rt, directory, FileName::Flows),
-        Cause::BadRequests { .. } => hint_absent(rt, directory, FileName::Requests),
-        Cause::BadPlan { .. } => hint_absent(rt, directory, FileName::Plan),
-        Cause::SiteFault | Cause::SayFault => hint_fault(rt, directory, fault, reason),
-        Cause::Damaged { file, .. } => hint_damage(rt, *file),
-        Cause::OtherFlows { .. } => hint_flows(rt),
-        _ => {}
-    }
-}
-
-// Tells that an input isn't there, or that nothing is.
-fn hint_absent(rt: &HostRuntime, directory: &str, name: FileName) {
-    if is_absent(rt, directory) {
-        let _ = eprintln!(rt; "  the directory {directory} isn't there");
-        return;
-    }
-    let Ok(path) = format!(in rt.alloc(); "{directory}/{name}") else {
-        return;
-    };
-    if is_absent(rt, path.as_str()) {
-        let _ = eprintln!(rt; "  {name} isn't there");
-    }
-}
-
-fn is_absent(rt: &HostRuntime, path: &str) -> bool {
-    matches!(fs::exists(rt, path), Ok(false))
-}
-
-// Tells what failed, and why.
-fn hint_fault(rt: &HostRuntime, directory: &str, fault: Option<Fault>, reason: Option<Reason>) {
-    let Some(Fault { place, error }) = fault else {
-        return;
-    };
-    let _ = match reason {
-        None => eprintln!(rt; "  {}: {error}", PlaceName(place)),
-        Some(Reason::NullDevice) => eprintln!(rt; "  {}: {error}", Reason::NullDevice),
-        Some(Reason::Directory) => eprintln!(rt; "  the directory {directory}: {error}"),
-        Some(Reason::Locked) => eprintln!(rt; "  {} {directory}", Reason::Locked),
-        Some(reason) => eprintln!(rt; "  {}: {reason}", PlaceName(place)),
-    };
-}
-
-// Tells which log is none that a run could have left.
-fn hint_damage(rt: &HostRuntime, file: u32) {
-    let name = PlaceName(FaultPlace::File(file));
-    let _ = eprintln!(rt; "  {name} is no log that a run of these files could have left");
-}
-
-// Tells that the log was begun with other flows.
-fn hint_flows(rt: &HostRuntime) {
-    let _ = eprintln!(rt; "  flows.json isn't the one that the log was begun with");
-}
-
-// A place by its name.
-#[derive(Clone, Copy)]
-struct PlaceName(FaultPlace);
-
-impl fmt::Display for PlaceName {
-    fn fmt<W: fmt::Write>(&self, f: &mut fmt::Formatter<W>) -> fmt::Result {
-        match self.0 {
-            FaultPlace::File(number) => match FileName::from_number(number) {
-                Some(name) => write!(f, "{name}"),
-                None => write!(f, "file {number}"),
-            },
-            FaultPlace::Names => f.write_str("the names of the directory"),
-            FaultPlace::Output => f.write_str("standard output"),
+        Cause::Usage => out.extend_from_slice(usage_lines(found.is_foreign).as_bytes()),
+        Cause::BadFlows { .. } | Cause::BadRequests { .. } | Cause::BadPlan { .. } => {
+            write_absent(alloc, out, directory, found.absent)
         }
+        Cause::SiteFault | Cause::SayFault => match &found.failure {
+            Some(failure) => write_failure(alloc, out, directory, failure),
+            None => Ok(()),
+        },
+        Cause::Damaged { .. } => {
+            let why = " is no log that a run of these files could have left";
+            write_hint(out, found.log.as_str(), why, "", "")
+        }
+        Cause::OtherFlows { .. } => {
+            let why = "flows.json isn't the one that the log was begun with";
+            write_hint(out, why, "", "", "")
+        }
+        _ => Ok(()),
     }
+}
+
+// Appends a line of four parts.
+fn write_hint(out: &mut Vec<u8>, a: &str, b: &str, c: &str, d: &str) -> Result<(), AllocError>
+    ensures { OnOk result (out.new.items ≡ out.old.items ++ hint (a.now ++ b.now ++ c.now ++ d.now)) }
+{
+    out.extend_from_slice(b"  ")?;
+    out.extend_from_slice(a.as_bytes())?;
+    out.extend_from_slice(b.as_bytes())?;
+    out.extend_from_slice(c.as_bytes())?;
+    out.extend_from_slice(d.as_bytes())?;
+    out.push(b'\n')?;
+    Ok(())
+}
+
+// Which words are understood.
+fn usage_lines(is_foreign: bool) -> &'static str
+    ensures { result.now ≡ usage_text is_foreign }
+{
+    if is_foreign {
+        "  netherite DIRECTORY run [--batch N] [--steps N] [--segment BYTES]
+  netherite DIRECTORY show
+  a word isn't UTF-8; a directory of such a name is called . from within
+"
+    } else {
+        "  netherite DIRECTORY run [--batch N] [--steps N] [--segment BYTES]
+  netherite DIRECTORY show
+"
+    }
+}
+
+// Appends that an input isn't there, or that nothing is.
+fn write_absent(
+    alloc: Global,
+    out: &mut Vec<u8>,
+    directory: &str,
+    absent: Absent,
+) -> Result<(), AllocError>
+    ensures { OnOk result (out.new.items ≡ out.old.items ++ absent_text directory.now absent) }
+{
+    match absent {
+        Absent::Nothing => Ok(()),
+        Absent::Input(name) => {
+            let name = name.to_string(alloc)?;
+            write_hint(out, name.as_str(), " isn't there", "", "")
+        }
+        Absent::Directory => write_hint(out, "the directory ", directory, " isn't there", ""),
+    }
+}
+
+// Appends what failed, and why.
+fn write_failure(
+    alloc: Global,
+    out: &mut Vec<u8>,
+    directory: &str,
+    failure: &Failure,
+) -> Result<(), AllocError>
+    ensures { OnOk result (out.new.items ≡ out.old.items ++ failure_text directory.now failure.now) }
+{
+    let place = failure.place.as_str();
+    let error = failure.error.as_str();
+    match failure.reason {
+        None => write_hint(out, place, ": ", error, ""),
+        Some(Reason::NullDevice) => write_hint(
+            out,
+            "the null device can't be opened: ",
+            error,
+            "",
+            "",
+        ),
+        Some(Reason::Directory) => write_hint(out, "the directory ", directory, ": ", error),
+        Some(Reason::Locked) => write_hint(
+            out,
+            "another run holds the directory ",
+            directory,
+            "",
+            "",
+        ),
+        Some(Reason::HeldFile) => write_reason(alloc, out, place, Reason::HeldFile),
+        Some(Reason::NotRegular) => write_reason(alloc, out, place, Reason::NotRegular),
+        Some(Reason::SameAs(name)) => write_reason(alloc, out, place, Reason::SameAs(name)),
+    }
+}
+
+fn write_reason(
+    alloc: Global,
+    out: &mut Vec<u8>,
+    place: &str,
+    reason: Reason,
+) -> Result<(), AllocError>
+    ensures { OnOk result (out.new.items ≡ out.old.items ++ hint (place.now ++ codes ": " ++ reason_text reason)) }
+{
+    let reason = reason.to_string(alloc)?;
+    write_hint(out, place, ": ", reason.as_str(), "")
 }

@@ -1,19 +1,32 @@
 //! The command `netherite`: the real outside that it hands to the engine, and how it ends.
 #![tactic(auto)]
 
-ghost use Rattle.std.specs.Prelude.{◌≡◌};
+ghost use Rattle.std.specs.Prelude.{◌≡◌, ◌⊎◌, IfOk, IfErr, MatchResult, None, Ok};
 ghost use Rattle.std.specs.Process.{exit_status};
+ghost use Rattle.cli_call.specs.Call.{cause_of};
+ghost use Rattle.command_words.specs.Command.{call_in};
 ghost use Rattle.run_causes.specs.Causes.{status_of};
 
 use activity_table::Table;
-use cli_call::{CallError, hint_cause, hint_command, read_call};
+use cli_call::{Call, CallError, Findings, call_from, ending, look};
 use engine_run::run_recorded;
 use run_causes::Cause;
-use site_calls::{CalledSite, Start, Unknown};
+use site_calls::{CalledSite, Fault, Reason, Start, Unknown};
 use site_host::{Host, WallClock};
+use std::env;
 use std::process::ExitCode;
 use std::sync::Wait;
 use std::thread::Threads;
+
+// A call that was made, and how it ended.
+#[derive(Drop)]
+struct Ran {
+    call: Call,
+    cause: Cause,
+    // what failed last, and why
+    fault: Option<Fault>,
+    reason: Option<Reason>,
+}
 
 fn main(rt: HostRuntime) -> ExitCode {
     serve(&rt, rt, Unknown)
@@ -25,47 +38,83 @@ fn serve<T: Threads + Wait + Sync, S: Start + Send>(
     rt: HostRuntime,
     start: S,
 ) -> ExitCode {
-    let alloc = rt.alloc();
-    let call = match read_call(&rt) {
+    let given = call_from(rt.alloc(), env::args(&rt));
+    conclude(&rt, run_call(threads, rt, given, start))
+}
+
+// Runs a call, if there is one: its words, on its directory.
+fn run_call<T: Threads + Wait + Sync, S: Start + Send>(
+    threads: &T,
+    rt: HostRuntime,
+    given: Result<Call, CallError>,
+    start: S,
+) -> Result<Ran, CallError>
+    ensures call { IfOk result (λ ran. given ≡ Ok ran.call) }
+    ensures usage { IfOk result (λ ran. call_in ran.call.words.items ≡ None → (ran.cause ≡ Cause.Usage) ⊎ (ran.cause ≡ Cause.Memory)) }
+    ensures only_usage { IfOk result (λ ran. ran.cause ≡ Cause.Usage → call_in ran.call.words.items ≡ None) }
+    ensures refused { IfErr result (λ error. MatchResult given (λ _. error ≡ CallError.Memory) (λ why. error ≡ why)) }
+{
+    let call = match given {
         Ok(call) => call,
-        Err(CallError::Usage) => return end(&rt, &Cause::Usage),
-        Err(CallError::Memory) => return end(&rt, &Cause::Memory),
+        Err(error) => return Err(error),
     };
-    let host = match Host::open(rt, alloc, call.directory.as_str()) {
-        Ok(host) => host,
-        Err(_) => return end(&rt, &Cause::Memory),
+    let Ok(host) = Host::open(rt, rt.alloc(), call.directory.as_str()) else {
+        return Err(CallError::Memory);
     };
     let site = CalledSite::new(host, start);
     let clock = WallClock::new(rt);
-    let ended = run_recorded(threads, alloc, &call.words, site, clock, &Table);
+    let ended = run_recorded(threads, rt.alloc(), &call.words, site, clock, &Table);
     let fault = ended.site.fault();
     let reason = ended.site.calls().reason();
-    let status = end(&rt, &ended.cause);
-    hint_cause(&rt, call.directory.as_str(), &ended.cause, fault, reason);
-    status
+    Ok(Ran {
+        call,
+        cause: ended.cause,
+        fault,
+        reason,
+    })
 }
 
-// Ends with the cause's status. A cause that isn't done goes to standard error; where that is closed, the status alone
-// tells it.
-fn end(rt: &HostRuntime, cause: &Cause) -> ExitCode
+// Ends as a call did, or for why there was none.
+fn conclude(rt: &HostRuntime, ran: Result<Ran, CallError>) -> ExitCode
+    ensures { MatchResult ran (λ ran. exit_status result ≡ status_of ran.cause) (λ error. exit_status result ≡ status_of (cause_of error)) }
+{
+    match ran {
+        Ok(ran) => finish(rt, &ran),
+        Err(error) => refuse(rt, error),
+    }
+}
+
+// Ends where there is no call.
+fn refuse(rt: &HostRuntime, error: CallError) -> ExitCode
+    ensures { exit_status result ≡ status_of (cause_of error) }
+{
+    let found = Findings::nothing(rt.alloc(), error == CallError::NotUtf8);
+    end(rt, &error.cause(), &found)
+}
+
+// Ends as a call did. Where memory is out, less is told.
+fn finish(rt: &HostRuntime, ran: &Ran) -> ExitCode
+    ensures { exit_status result ≡ status_of ran.now.cause }
+{
+    let directory = ran.call.directory.as_str();
+    match look(rt, directory, &ran.cause, ran.fault, ran.reason) {
+        Ok(found) => end(rt, &ran.cause, &found),
+        Err(_) => end(rt, &ran.cause, &Findings::nothing(rt.alloc(), false)),
+    }
+}
+
+// Ends with the cause's status. What is told goes to standard error; where that is closed, the status alone tells it.
+fn end(rt: &HostRuntime, cause: &Cause, found: &Findings) -> ExitCode
     ensures { exit_status result ≡ status_of cause.now }
 {
-    tell(rt, cause);
-    if matches!(cause, Cause::Usage) {
-        hint_command(rt);
+    if let Ok(text) = ending(rt.alloc(), cause, found) {
+        tell(rt, &text);
     }
     ExitCode::from(cause.status())
 }
 
-// Tells the cause on standard error, unless it is done.
-fn tell(rt: &HostRuntime, cause: &Cause) {
-    if matches!(cause, Cause::Done) {
-        return;
-    }
-    let Ok(line) = cause.line(rt.alloc()) else {
-        return;
-    };
-    if let Ok(text) = str::from_utf8(&line) {
-        let _ = eprintln!(rt; "netherite: {text}");
+fn tell(rt: &HostRuntime, text: &[u8]) {
+    if let Ok(text) = str::from_utf8(text) {
+        let _ = eprint!(rt; "{text}");
     }
 }

@@ -26,10 +26,6 @@ no_flows = record { flows = []; classes = [] }
 abbrev pub nothing_asked : Job
 nothing_asked = record { flows = no_flows; digest = digest; requests = [] }
 
--- client a's request alone
-abbrev pub one_start : Job
-one_start = record nothing_asked { requests = starting ∷ [] }
-
 -- what files of one flow and one request ask for
 abbrev pub one_asked : Job
 one_asked = record { flows = one_flow; digest = fnv flows_bytes; requests = one_request ∷ [] }
@@ -40,6 +36,10 @@ starting = record { client = codes "a"; number = 1; message = request }
 
 abbrev pub waiting : Request
 waiting = record { client = codes "a"; number = 1; message = record { from = client (codes "a"); to = orchestration (codes "Sum") (codes "x"); body = wait 1 } }
+
+-- client a's request alone
+abbrev pub one_start : Job
+one_start = record nothing_asked { requests = starting ∷ [] }
 
 -- client b does so too; and a request to start Sum/x was taken of both
 abbrev pub waiting_too : Request

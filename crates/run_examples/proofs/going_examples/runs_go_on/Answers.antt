@@ -48,9 +48,9 @@ returns-clause-other_file c = λ runs.
     let opened = no_shorter runs.opening in
     let ended = no_shorter runs.further in
     let other = (runs.every 3 ended (omega arith)).stands.others 3 (λ part below is.
-        let first : part ≡ 0 = omega (arith, below, runs.alone.one) in
-        let file : (runs.origin.logs 0).file ≡ 3 = subst (λ (p : ℕ). (runs.origin.logs p).file ≡ 3) first is in
-        elim runs.alone.files [ inl places ↦ omega (arith, file, places.0) | inr places ↦ omega (arith, file, places.0) ]) in
+    let first : part ≡ 0 = omega (arith, below, runs.alone.one) in
+    let file : (runs.origin.logs 0).file ≡ 3 = subst (λ (p : ℕ). (runs.origin.logs p).file ≡ 3) first is in
+    elim runs.alone.files [ inl places ↦ omega (arith, file, places.0) | inr places ↦ omega (arith, file, places.0) ]) in
     let before = (last runs.opening).others 3 (λ is. omega (arith, is)) (λ is. omega (arith, is)) in
     cc (other ∙ before)
 
