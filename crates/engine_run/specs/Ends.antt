@@ -15,6 +15,7 @@ use Rattle.engine_run.specs.Asked.{IsRequest, IsTaken}
 use Rattle.engine_run.specs.Order.{no_later}
 use Rattle.hub_store.specs.Moments.{StandsWith, AtEveryMoment}
 use Rattle.hub_store.specs.Origin.{Origin}
+use Rattle.hub_store.specs.Short.{IsShort}
 use Rattle.hub_store.specs.Trail.{Settled, Said, of_part, settled_at}
 use Rattle.part_files.specs.Placing.{placed}
 use Rattle.part_files.specs.Stands.{shown_by}
@@ -128,7 +129,7 @@ module _ (MayFollow : List Settled → List Said → ℕ → List Entry → Type
   EndsAs steps trail options other = ⊥
 
   -- From where it began on it stood at every moment as it may, nothing was settled before and all of it by the end, whole lines were
-  -- said unless saying failed, it went by its clock, and it ended for its cause.
+  -- said unless saying failed, it went by its clock, its log stayed below the segment's length, and it ended for its cause.
   pub record GoesOn (new : List Step) (trail : List Settled) (terms : Terms) (cause : Cause) : Type 0 where
     pub every : AtEveryMoment MayFollow MaySay o new trail
     pub further : Always (λ steps. Unit {0}) o.steps new
@@ -136,6 +137,7 @@ module _ (MayFollow : List Settled → List Said → ℕ → List Entry → Type
     pub by_the_end : settled_at (length new) trail ≡ trail
     pub whole : SaysWhole MayFollow MaySay o new trail cause
     pub in_time : GoesInTime rules terms trail
+    pub short : IsShort terms.options.segment (of_part 0 trail) (content_of (o.logs 0).file new)
     pub ends : EndsAs new trail terms.options cause
 
 -- why a run doesn't go on at all: for want of memory, or of a number for an entry at this place

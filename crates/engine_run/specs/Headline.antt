@@ -15,13 +15,14 @@ use Rattle.engine_run.specs.Served.{HasServed}
 use Rattle.flow_syntax.specs.Syntax.{Flows}
 use Rattle.hub_store.specs.Moments.{AtEveryMoment}
 use Rattle.hub_store.specs.Origin.{Origin}
+use Rattle.hub_store.specs.Short.{IsShort}
 use Rattle.hub_store.specs.Trail.{Settled, of_part, settled_at}
 use Rattle.part_files.specs.Placing.{next_life, labels_in}
 use Rattle.run_causes.specs.declared.cause.Cause.{Cause}
 use Rattle.run_laws.specs.Begins.{BeginsAlone, may_follow, may_say}
 use Rattle.run_laws.specs.Leaves.{StandsOn}
 use Rattle.run_rules.specs.Rules.{Rules}
-use Rattle.site_model.specs.History.{Step, back_to, IsImage}
+use Rattle.site_model.specs.History.{Step, content_of, back_to, IsImage}
 use Rattle.site_model.specs.Moments.{Always}
 
 -- No task is ended twice, and no two critical sections ever overlap.
@@ -38,7 +39,7 @@ pub record StandsOrderly (rules : Rules) (latest digest : ℕ) (o : Origin) (ste
 -- by then, then no more than the one frame whose gate was being written; and what was said by then answers requests as that run does.
 -- Each entry is of the life that the call began, and of no later moment than both the entries at the start and the clock's latest, and
 -- takes only what was due of its client then; it is filled at the moment that the clock gave last, with no more items than there may be,
--- and not once there were as many labels as there may be; unless saying failed, whole lines were said; and it ends for its cause. Where it is done
+-- and not once there were as many labels as there may be; a log that was written ends below the segment's length; unless saying failed, whole lines were said; and it ends for its cause. Where it is done
 -- or waits the world is quiet for all requests: each has its answer, or the named one is the first without. Where it is long, or the log
 -- full, the world isn't quiet.
 pub record RunsOn (job : Job) (entries : List Entry) (begin : Partition) (old new : List Step) (trail : List Settled) (terms : Terms) (cause : Cause) : Type 0 where
@@ -54,6 +55,7 @@ pub record RunsOn (job : Job) (entries : List Entry) (begin : Partition) (old ne
   pub every : AtEveryMoment (may_follow (rules_with job begin (next_life entries)) terms.latest) (may_say (rules_with job begin (next_life entries))) origin new trail
   pub whole : SaysWhole (may_follow (rules_with job begin (next_life entries)) terms.latest) (may_say (rules_with job begin (next_life entries))) origin new trail cause
   pub in_time : GoesInTime (rules_with job begin (next_life entries)) terms trail
+  pub short : IsShort terms.options.segment (of_part 0 trail) (content_of (origin.logs 0).file new)
   pub ends : RunEndsAs (rules_with job begin (next_life entries)) terms.latest origin new trail terms.options cause
   pub served : HasServed (rules_with job begin (next_life entries)) trail cause
 

@@ -134,6 +134,7 @@ fn drive_on<V: Site, N: Ruled, C: Clock, A: Activities>(
     ensures tells { V.tells store.new.site → V.tells store.old.site }
     ensures sound { IsSound store.new }
     ensures moment { store.new.latest ≤ C.latest clock.new }
+    ensures segment { store.new.segment ≡ store.old.segment }
     ensures whole { result ≢ Cause.SayFault → store.new.cut ≡ false }
     ensures ends { V.tells store.new.site → EndsAs (N.may_follow (C.latest clock.new)) N.may_say N.rules (C.latest clock.new) N.origin (V.history store.new.site) (trail_in store.new) options result }
     ensures goes { GoesByClock N.rules A.gives options.batch (clients_of N.rules.requests) (C.given clock.old) (of_part 0 (trail_in store.old)) (told_in store.old) (C.given clock.new) (of_part 0 (trail_in store.new)) (told_in store.new) }

@@ -80,6 +80,7 @@ idle_runs = record {
   stands = at_each;
   every = every;
   whole = λ other. ([], stands_with);
+  short = λ h payloads gate is some. absurd (some refl);
   in_time = record { told = []; course = clock_begins; no_more = omega arith };
   ends = tt;
   served = tt;

@@ -219,7 +219,11 @@ impl Calls for ScriptedCalls {
     fn print_some(&mut self, done: usize, line: &[u8]) -> io::Result<usize> {
         let answer = self.moves("print", line.len() - done);
         match answer {
-            Ok(count) if self.tape.extend_from_slice(&line[done..done + count]).is_ok() => {
+            Ok(count)
+                if self
+                    .tape
+                    .extend_from_slice(&line[done..done + count])
+                    .is_ok() => {
                 self.record.printed(&line[done..done + count]);
                 Ok(count)
             }

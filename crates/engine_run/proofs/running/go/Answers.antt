@@ -9,6 +9,7 @@ use Rattle.engine_run.proofs.Queues.{clients_named, nothing_said}
 use Rattle.engine_run.proofs.Runs.{run_further, nothing_before, settled_by}
 use Rattle.engine_run.proofs.running.go.Goals as goal
 use Rattle.hub_store.specs.Changes.{trail_in, told_in}
+use Rattle.hub_store.specs.Short.{IsShort}
 use Rattle.hub_store.specs.Trail.{Settled, Said, of_part}
 use Rattle.hub_store.proofs.Later.{with_later, moments_later}
 use Rattle.part_rounds.specs.InTime.{GoesByClock}
@@ -19,6 +20,7 @@ use Rattle.run_causes.specs.declared.cause.Cause.{Cause}
 use Rattle.run_causes.specs.Causes.{status_of}
 use Rattle.run_rules.specs.Rules.{Rules}
 use Rattle.site_model.specs.Calls.{HasRisen}
+use Rattle.site_model.specs.History.{content_of}
 
 pub begin-requires-clause-short : goal.begin-requires-clause-short
 begin-requires-clause-short g c = c.requires.short
@@ -190,6 +192,8 @@ returns g c =
               told_in store,
               with_later (g.N.Start.may_follow store.latest) (g.N.Start.may_follow latest) g.N.Start.may_say later g.N.Start.origin (g.V.Site.history store.site) (trail_in store) (told_in store) [] (c.end-site.ensures.whole tells_then (c.drive_on-cause.ensures.whole other)),
             );
+            short = subst (λ (n : ℕ). IsShort n (of_part 0 (trail_in store)) (content_of (g.N.Start.origin.logs 0).file (g.V.Site.history store.site))) (c.drive_on-cause.ensures.segment ∙ c.in-Ok-begin.ensures.segment)
+                (c.end-site.ensures.short tells_then 0 (omega (arith, g.met.N.Ruled.one)));
             in_time = record { told = told_in store; course = course; no_more = c.drive_on-cause.ensures.no_more };
             ends = c.drive_on-cause.ensures.ends tells_then;
           } in
