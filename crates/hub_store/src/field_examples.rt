@@ -4,6 +4,7 @@
 ghost use Rattle.std.specs.Prelude.{[], ◌∷◌};
 ghost use Rattle.part_files.specs.Examples.{empty_log, taking, taking_log};
 ghost use Rattle.hub_store.specs.Examples.{settled_when, request, answer, speaking, IsTold, Stand, StandWith};
+ghost use Rattle.hub_store.specs.Short.{IsShort};
 ghost use Rattle.hub_store.specs.FieldExamples.{wrong_byte, IsNext, TakingFollows, NoneFollows, frame_opened, body_written, other_byte, HasNext, WroteBehind};
 
 /// Where nothing was settled and nobody was answered no line is there.
@@ -46,4 +47,11 @@ pub fn gates_last()
     ensures body { WroteBehind [] body_written → ⊥ }
     ensures elsewhere { WroteBehind [] other_byte → ⊥ }
     ensures unsettled { WroteBehind (taking 0 ∷ []) frame_opened → ⊥ }
+{}
+
+/// A log whose gate stands at 33 is 34 bytes long, which isn't below 34. Where nothing was settled it is no matter.
+pub fn logs_end_below()
+    ensures below { IsShort 35 (taking 0 ∷ []) empty_log }
+    ensures at { IsShort 34 (taking 0 ∷ []) empty_log → ⊥ }
+    ensures untouched { IsShort 0 [] empty_log }
 {}
