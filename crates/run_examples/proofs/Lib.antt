@@ -3,6 +3,7 @@ pub mod LogsKept
 pub mod Moves
 pub mod Orders
 pub mod Places
+pub mod Quiescent
 pub mod Ready
 pub mod Shown
 pub mod Stillness

@@ -1,5 +1,7 @@
 pub mod Calls
+pub mod Clocks
 pub mod Directories
+pub mod Ending
 pub mod Going
 pub mod LivesSeen
 pub mod States

@@ -90,6 +90,7 @@ pub fn causes_of_files()
     ensures shape { Answers good_files (causes.OtherShape 2 1) → ⊥ }
     ensures other_flows { Answers good_files (causes.OtherFlows 1 2) → ⊥ }
     ensures illegal { Answers good_files (causes.Illegal 0 0) → ⊥ }
+    ensures spent { Answers good_files (causes.Spent 0 0) → ⊥ }
     ensures unclosed { (files : ℕ → List ℕ) → Answers files (causes.Unclosed 0 0 0 0) → ⊥ }
     ensures done { Answers (directory requests_bytes empty_log) causes.Done → ⊥ }
     ensures waiting { Answers (directory requests_bytes empty_log) (causes.Waiting (codes "a") 1) → ⊥ }

@@ -1,4 +1,4 @@
-use Rattle.std.proofs.Common.{inl, inr, [], codes}
+use Rattle.std.proofs.Common.{inl, inr, [], codes, arith}
 use Rattle.engine_run.specs.Causes.AreRefused.{for_input, for_logs, for_clash}
 use Rattle.recover_core.specs.declared.error.RecoverError.TheVariants as errors
 use Rattle.run_causes.specs.declared.cause.Cause.TheVariants as causes
@@ -50,3 +50,6 @@ returns-clause-say_fault c = λ is. not_ready _ refused_logs is
 
 pub returns-clause-clock_fault : goal.returns-clause-clock_fault
 returns-clause-clock_fault c = λ is. not_ready _ refused_logs is
+
+pub returns-clause-spent : goal.returns-clause-spent
+returns-clause-spent c = λ is. elim is [ inl logs ↦ not_ready _ (for_logs (errors.Spent 0 0) tt logs) ready | inr late ↦ let reaches = late.2 in omega (arith, reaches) ]

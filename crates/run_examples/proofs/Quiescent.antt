@@ -1,0 +1,14 @@
+-- Where nothing happened nothing is possible.
+use Rattle.std.proofs.Common.{◌≡◌, List, [], ◌∷◌, ◌++◌, refl}
+use Rattle.dura_model.specs.Legal.{Quiet}
+use Rattle.dura_model.specs.Partition.{fresh}
+use Rattle.dura_value.specs.Messages.{Message}
+use Rattle.part_files.specs.Stands.{shown_by}
+use Rattle.run_examples.specs.Calls.{no_flows}
+
+nobody_asks : (before : List Message) (r : Message) (behind : List Message) → [] ≡ before ++ r ∷ behind → ⊥
+nobody_asks [] r behind is = cc is
+nobody_asks (first ∷ before) r behind is = cc is
+
+pub quiet_at_first : Quiet no_flows [] (shown_by no_flows (fresh 0))
+quiet_at_first = record { delivered = λ from to stamp. refl; finished = λ id task. refl; fired = λ id task. refl; asked = λ before r behind is. absurd (nobody_asks before r behind is) }

@@ -1,0 +1,48 @@
+//! Examples of why a run ends that went on: in each all facts hold, or all but one.
+
+ghost use Rattle.std.specs.Prelude.{ℕ, List, [], ◌∷◌, ◌^◌, ◌+◌};
+ghost use Rattle.client_port.specs.Ports.{Queue};
+ghost use Rattle.engine_run.specs.Ends.{EndsAs, IsAtRest, IsUnfinished, IsPlaceSpent, WouldFill};
+ghost use Rattle.hub_store.specs.Examples.{MayFollow, MaySay, nowhere, one_log, log_written};
+ghost use Rattle.hub_store.specs.Trail.{Settled};
+ghost use Rattle.run_causes.specs.declared.cause.Cause.TheVariants as causes;
+ghost use Rattle.run_examples.specs.Calls.{by_steps, no_flows, rules_for, starting, unsaid};
+ghost use Rattle.run_examples.specs.Ending.{misnumbered, answered_before, taken_twice, by_segment, by_batch, at_last_place};
+ghost use Rattle.run_rules.specs.Examples.{rules_with};
+ghost use Rattle.site_model.specs.History.{on, synced};
+
+/// A run that nobody asks for anything is done where nothing happened. It doesn't rest where another file was touched; where its clients
+/// are others; where what was settled makes no state; where an answer waits to be said; or where a request isn't its client's.
+pub fn runs_rest()
+    ensures done { EndsAs MayFollow MaySay (rules_for []) 0 nowhere [] [] (by_steps 1) causes.Done }
+    ensures other_file { (queues : List Queue) → IsAtRest MayFollow MaySay (rules_for []) 0 nowhere (on 3 synced ∷ []) [] queues → ⊥ }
+    ensures other_clients { IsAtRest MayFollow MaySay (rules_for []) 0 nowhere [] [] unsaid → ⊥ }
+    ensures no_state { (queues : List Queue) → IsAtRest MayFollow MaySay (rules_for []) 0 nowhere [] taken_twice queues → ⊥ }
+    ensures unsaid { IsAtRest MayFollow MaySay answered_before 0 nowhere [] [] unsaid → ⊥ }
+    ensures not_sent { (queues : List Queue) → IsAtRest MayFollow MaySay (rules_for (misnumbered ∷ [])) 0 nowhere [] [] queues → ⊥ }
+{}
+
+/// A run has something left to do only where it stands as it may, and where each request is its client's.
+pub fn runs_unfinished()
+    ensures other_file { IsUnfinished MayFollow MaySay (rules_for (starting ∷ [])) 0 nowhere (on 3 synced ∷ []) [] → ⊥ }
+    ensures not_sent { IsUnfinished MayFollow MaySay (rules_for (misnumbered ∷ [])) 0 nowhere [] [] → ⊥ }
+{}
+
+/// A log of 34 bytes would come to 77 by the entry that takes the client's request. It isn't full below that; nor by an entry of no item, or
+/// where what was settled makes no state, or where no log is; nor by a length that no entry brings it to.
+pub fn logs_full()
+    ensures full { WouldFill (rules_with no_flows) 0 one_log log_written [] [] (by_segment 77) 77 }
+    ensures below { WouldFill (rules_with no_flows) 0 one_log log_written [] [] (by_segment 78) 77 → ⊥ }
+    ensures no_item { (length_then : ℕ) → WouldFill (rules_with no_flows) 0 one_log log_written [] [] (by_batch 0) length_then → ⊥ }
+    ensures no_state { (length_then : ℕ) → WouldFill (rules_with no_flows) 0 one_log log_written taken_twice [] (by_segment 0) length_then → ⊥ }
+    ensures no_log { (length_then : ℕ) → WouldFill (rules_with no_flows) 0 one_log [] [] [] (by_segment 0) length_then → ⊥ }
+    ensures too_short { WouldFill (rules_with no_flows) 0 one_log log_written [] [] (by_segment 0) 38 → ⊥ }
+{}
+
+/// No place is left at 2^62 or behind it, where that is the place of the next entry.
+pub fn places_spent()
+    ensures last { IsPlaceSpent at_last_place [] (2 ^ 62) }
+    ensures other { IsPlaceSpent at_last_place [] (2 ^ 62 + 1) → ⊥ }
+    ensures early { IsPlaceSpent (rules_for []) [] 0 → ⊥ }
+    ensures no_state { (number : ℕ) → IsPlaceSpent (rules_for []) taken_twice number → ⊥ }
+{}
