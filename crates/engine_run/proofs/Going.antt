@@ -59,9 +59,10 @@ module _ (job : Job) (old steps new : List Step) (entries : List Entry) (state :
             (in_order (rules_with job state life) terms.latest job.digest (origin_with log_is steps) (back_to moment new) (settled_at moment trail) image
             (moment_stands (origin_with log_is steps) (rules_with job state life) terms.latest job.digest begins (back_to moment new) (settled_at moment trail) image (goes.every moment low high) is));
         every = subst (λ (n : ℕ). AtEveryMoment (may_follow (rules_with job state n) terms.latest) (may_say (rules_with job state n)) (origin_with log_is steps) new trail) life_is goes.every;
-        whole = subst (λ (n : ℕ). SaysWhole (may_follow (rules_with job state n) terms.latest) (may_say (rules_with job state n)) (origin_with log_is steps) new trail cause) life_is goes.whole;
+        told = goes.told;
+        whole = subst (λ (n : ℕ). SaysWhole (may_follow (rules_with job state n) terms.latest) (may_say (rules_with job state n)) (origin_with log_is steps) new trail goes.told cause) life_is goes.whole;
         short = goes.short;
-        in_time = subst (λ (n : ℕ). GoesInTime (rules_with job state n) terms trail) life_is goes.in_time;
+        in_time = subst (λ (n : ℕ). GoesInTime (rules_with job state n) terms trail goes.told) life_is goes.in_time;
         ends = subst (λ (n : ℕ). RunEndsAs (rules_with job state n) terms.latest (origin_with log_is steps) new trail terms.options cause) life_is goes.ends;
         served = subst (λ (n : ℕ). HasServed (rules_with job state n) trail cause) life_is
             (has_served (rules_with job state life) terms.latest (origin_with log_is steps) new trail terms.options cause (answers_taken job.flows 1 0 state entries keeps.made) goes.ends);

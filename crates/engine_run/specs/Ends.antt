@@ -64,8 +64,7 @@ terms_of options gives before after latest = record { options = options; gives =
 
 -- It went by its clock: each entry is filled at the moment that the clock gave last, which it gave since the entry before, and with no more
 -- items than an entry may have; and no entry came once there were as many labels as there may be.
-pub record GoesInTime (rules : Rules) (terms : Terms) (trail : List Settled) : Type 0 where
-  pub told : List Said
+pub record GoesInTime (rules : Rules) (terms : Terms) (trail : List Settled) (told : List Said) : Type 0 where
   pub course : GoesByClock rules terms.gives terms.options.batch (clients_of rules.requests) terms.before [] [] terms.after (of_part 0 trail) told
   pub no_more : count_labels (of_part 0 trail) < terms.options.steps + terms.options.batch
 
@@ -90,9 +89,9 @@ pub record IsPlaceSpent (rules : Rules) (trail : List Settled) (number : ℕ) : 
   pub reaches : 2 ^ 62 ≤ number
 
 module _ (MayFollow : List Settled → List Said → ℕ → List Entry → Type 0) (MaySay : List Settled → List Said → Said → List ℕ → Type 0) (o : Origin) where
-  -- whole lines were said, unless saying failed
-  abbrev pub SaysWhole : List Step → List Settled → Cause → Type 0
-  SaysWhole steps trail cause = cause ≢ SayFault → (told : List Said) × StandsWith MayFollow MaySay o steps trail told []
+  -- whole lines were said, which answer these requests, unless saying failed
+  abbrev pub SaysWhole : List Step → List Settled → (told : List Said) → Cause → Type 0
+  SaysWhole steps trail told cause = cause ≢ SayFault → StandsWith MayFollow MaySay o steps trail told []
 
 module _ (MayFollow : List Settled → List Said → ℕ → List Entry → Type 0) (MaySay : List Settled → List Said → Said → List ℕ → Type 0) (rules : Rules) (latest : ℕ) (o : Origin) where
   -- Once this was settled the world is quiet but for requests, what is due of each client was taken, and nothing is possible any more;
@@ -135,8 +134,9 @@ module _ (MayFollow : List Settled → List Said → ℕ → List Entry → Type
     pub further : Always (λ steps. Unit {0}) o.steps new
     pub nothing : (moment : ℕ) → moment < length o.steps → settled_at moment trail ≡ []
     pub by_the_end : settled_at (length new) trail ≡ trail
-    pub whole : SaysWhole MayFollow MaySay o new trail cause
-    pub in_time : GoesInTime rules terms trail
+    pub told : List Said
+    pub whole : SaysWhole MayFollow MaySay o new trail told cause
+    pub in_time : GoesInTime rules terms trail told
     pub short : IsShort terms.options.segment (of_part 0 trail) (content_of (o.logs 0).file new)
     pub ends : EndsAs new trail terms.options cause
 

@@ -16,7 +16,7 @@ use Rattle.flow_syntax.specs.Syntax.{Flows}
 use Rattle.hub_store.specs.Moments.{AtEveryMoment}
 use Rattle.hub_store.specs.Origin.{Origin}
 use Rattle.hub_store.specs.Short.{IsShort}
-use Rattle.hub_store.specs.Trail.{Settled, of_part, settled_at}
+use Rattle.hub_store.specs.Trail.{Settled, Said, of_part, settled_at}
 use Rattle.part_files.specs.Placing.{next_life, labels_in}
 use Rattle.run_causes.specs.declared.cause.Cause.{Cause}
 use Rattle.run_laws.specs.Begins.{BeginsAlone, may_follow, may_say}
@@ -53,8 +53,9 @@ pub record RunsOn (job : Job) (entries : List Entry) (begin : Partition) (old ne
   pub stands : (moment : ℕ) → length origin.steps ≤ moment → moment ≤ length new → (image : ℕ → List ℕ) → IsImage (back_to moment new) image
       → StandsOrderly (rules_with job begin (next_life entries)) terms.latest job.digest origin (back_to moment new) (settled_at moment trail) image
   pub every : AtEveryMoment (may_follow (rules_with job begin (next_life entries)) terms.latest) (may_say (rules_with job begin (next_life entries))) origin new trail
-  pub whole : SaysWhole (may_follow (rules_with job begin (next_life entries)) terms.latest) (may_say (rules_with job begin (next_life entries))) origin new trail cause
-  pub in_time : GoesInTime (rules_with job begin (next_life entries)) terms trail
+  pub told : List Said
+  pub whole : SaysWhole (may_follow (rules_with job begin (next_life entries)) terms.latest) (may_say (rules_with job begin (next_life entries))) origin new trail told cause
+  pub in_time : GoesInTime (rules_with job begin (next_life entries)) terms trail told
   pub short : IsShort terms.options.segment (of_part 0 trail) (content_of (origin.logs 0).file new)
   pub ends : RunEndsAs (rules_with job begin (next_life entries)) terms.latest origin new trail terms.options cause
   pub served : HasServed (rules_with job begin (next_life entries)) trail cause

@@ -1,5 +1,5 @@
 -- A run that finds a log without entries, and does nothing.
-use Rattle.std.proofs.Common.{◌≡◌, ◌≤◌, ◌<◌, inl, ℕ, List, [], ◌∷◌, length, refl, sym, ap, subst, arith}
+use Rattle.std.proofs.Common.{◌≡◌, ◌≤◌, inl, ℕ, List, [], refl, ap, subst, arith}
 use Rattle.commit_log.specs.Segment.{header_at}
 use Rattle.dura_model.specs.Partition.{fresh}
 use Rattle.dura_model.proofs.Outcomes.{never_twice}
@@ -9,7 +9,7 @@ use Rattle.hub_store.specs.Examples.{one_log, log_written}
 use Rattle.hub_store.specs.Moments.{Keeps, StandsWith, Stands, AtEveryMoment}
 use Rattle.hub_store.specs.Moments.Told.{silent}
 use Rattle.part_files.specs.Examples.{digest, empty_log}
-use Rattle.part_files.specs.Kept.{entries_from, kept_in, keeps}
+use Rattle.part_files.specs.Kept.{entries_from, kept_in}
 use Rattle.part_files.specs.Logs.{second_log}
 use Rattle.part_files.specs.Stands.{shown_by}
 use Rattle.part_rounds.specs.InTime.GoesByClock.{begins as clock_begins}
@@ -19,7 +19,7 @@ use Rattle.run_laws.specs.Begins.{BeginsAlone, may_follow, may_say}
 use Rattle.run_laws.proofs.Images.{moment_stands}
 use Rattle.run_laws.proofs.Ordered.{never_overlaps}
 use Rattle.run_rules.specs.Rules.{Rules}
-use Rattle.site_model.specs.History.{changes_of, back_to, IsImage, Leaves}
+use Rattle.site_model.specs.History.{back_to, IsImage}
 use Rattle.site_model.specs.Moments.Always.{begins}
 
 abbrev rules : Rules
@@ -79,9 +79,10 @@ idle_runs = record {
   by_the_end = refl;
   stands = at_each;
   every = every;
-  whole = λ other. ([], stands_with);
+  told = [];
+  whole = λ other. stands_with;
   short = λ h payloads gate is some. absurd (some refl);
-  in_time = record { told = []; course = clock_begins; no_more = omega arith };
+  in_time = record { course = clock_begins; no_more = omega arith };
   ends = tt;
   served = tt;
 }

@@ -1,6 +1,5 @@
 -- What is enabled in a state.
 use Rattle.std.proofs.Common.{◌≡◌, ℕ, true, false, List, [], ◌∷◌, Some, None, refl, subst}
-use Rattle.dura_value.specs.Ids.{Id}
 use Rattle.dura_value.specs.Items.{Item, took, got, ran, ended, fired, trim}
 use Rattle.dura_model.specs.Partition.{Partition, accepted}
 use Rattle.part_steps.specs.Enabled.{moment_at, is_at, IsEnabled, NoneEnabled, Makes}

@@ -1,5 +1,5 @@
 -- Which files a run may begin on.
-use Rattle.std.proofs.Common.{◌≡◌, ◌∙◌, ℕ, List, [], ◌∷◌, Some, None, true, false, codes, refl, sym, ap, arith}
+use Rattle.std.proofs.Common.{◌≡◌, ℕ, List, [], ◌∷◌, true, false, codes, refl, arith}
 use Rattle.std.proofs.lemmas.List.Elements.{All-from_recursion}
 use Rattle.dura_model.specs.Partition.{fresh}
 use Rattle.engine_run.specs.Causes.{AsksFor, AreRefused, IsReady}

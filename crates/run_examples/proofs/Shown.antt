@@ -1,9 +1,8 @@
 -- What is there on single directories.
-use Rattle.std.proofs.Common.{◌≡◌, ◌∙◌, ℕ, List, [], Some, None, Ok, refl, sym, ap, subst}
+use Rattle.std.proofs.Common.{◌≡◌, ◌∙◌, ℕ, [], Some, Ok, refl, ap, subst}
 use Rattle.std.specs.Fmt.{digits}
 use Rattle.std.specs.Str.{chars, is_utf8}
 use Rattle.dura_model.specs.Partition.{Partition, fresh}
-use Rattle.dura_value.specs.Items.{Entry}
 use Rattle.engine_run.specs.Causes.{IsLogRefusal}
 use Rattle.engine_run.specs.Causes.AreRefused.{for_logs}
 use Rattle.engine_run.specs.Showing.{IsThere, RefusesThere}

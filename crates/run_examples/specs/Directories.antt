@@ -1,10 +1,7 @@
 -- Directories to look at: what their files hold.
 use Rattle.std.specs.Prelude.{ℕ, List, [], ◌∷◌, ◌++◌, take, drop, slice_set, codes, ◌==◌, if◌then◌else◌}
-use Rattle.dura_value.specs.Items.{Entry, ended}
-use Rattle.dura_value.specs.Ids.{orchestration}
-use Rattle.dura_value.specs.declared.outcome.Outcome.{Outcome}
 use Rattle.part_files.specs.Examples.{empty_log, taking_frame}
-use Rattle.run_inputs.specs.Examples.{three_files, flows_bytes, requests_bytes}
+use Rattle.run_inputs.specs.Examples.{three_files, flows_bytes}
 
 -- one flow, these requests, and this first log
 abbrev pub directory : (requests first : List ℕ) → ℕ → List ℕ

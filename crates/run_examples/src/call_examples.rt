@@ -15,9 +15,9 @@ ghost use Rattle.engine_run.specs.Kept.{IsClash, NoClash};
 ghost use Rattle.engine_run.specs.Opened.{IsOpening};
 ghost use Rattle.engine_run.specs.Showing.{ShowsAs, WritesNothing};
 ghost use Rattle.flow_syntax.specs.Syntax.{Flows};
-ghost use Rattle.hub_store.specs.Examples.{MayFollow, MaySay, nowhere, settled_when, speaking, spoken};
+ghost use Rattle.hub_store.specs.Examples.{request as asking, MayFollow, MaySay, nowhere, settled_when, speaking, spoken};
 ghost use Rattle.hub_store.specs.Origin.{Origin};
-ghost use Rattle.hub_store.specs.Trail.{Settled};
+ghost use Rattle.hub_store.specs.Trail.{Settled, Said};
 ghost use Rattle.part_files.specs.Examples.{two_files, empty_log, taking, request_taken};
 ghost use Rattle.part_files.specs.Stands.{shown_by};
 ghost use Rattle.run_causes.specs.declared.cause.Cause.TheVariants as causes;
@@ -130,9 +130,9 @@ pub fn requests_taken()
 
 /// A run may end within a line only where saying failed.
 pub fn lines_whole()
-    ensures whole { SaysWhole MayFollow MaySay nowhere spoken (settled_when 0) causes.Memory }
-    ensures half { SaysWhole MayFollow MaySay nowhere speaking (settled_when 0) causes.Memory → ⊥ }
-    ensures failed { SaysWhole MayFollow MaySay nowhere speaking (settled_when 0) causes.SayFault }
+    ensures whole { SaysWhole MayFollow MaySay nowhere spoken (settled_when 0) (asking ∷ []) causes.Memory }
+    ensures half { (told : List Said) → SaysWhole MayFollow MaySay nowhere speaking (settled_when 0) told causes.Memory → ⊥ }
+    ensures failed { SaysWhole MayFollow MaySay nowhere speaking (settled_when 0) [] causes.SayFault }
 {}
 
 /// Where nobody asks all is served, and where who asked was answered; else the first request without an answer is waited for, under its

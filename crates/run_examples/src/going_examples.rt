@@ -1,17 +1,24 @@
 //! Examples of runs that go on from what their log keeps.
 
-ghost use Rattle.std.specs.Prelude.{ℕ, List, [], ◌∷◌};
+ghost use Rattle.std.specs.Prelude.{◌≡◌, ℕ, slice_set, IsSome, List, [], ◌∷◌};
 ghost use Rattle.dura_model.specs.Partition.{Partition, fresh};
 ghost use Rattle.dura_value.specs.Items.{Entry};
 ghost use Rattle.engine_run.specs.Ends.{GoesInTime};
 ghost use Rattle.engine_run.specs.Headline.{RunsOn, StandsOrderly};
 ghost use Rattle.engine_run.specs.Job.{Job};
-ghost use Rattle.hub_store.specs.Examples.{one_log, log_written};
+ghost use Rattle.flow_syntax.specs.Syntax.{Flows};
+ghost use Rattle.hub_store.specs.Examples.{request, one_log, log_written};
+ghost use Rattle.hub_store.specs.Trail.{Said};
 ghost use Rattle.part_files.specs.Examples.{digest, two_files, empty_log, taking, request_taken};
+ghost use Rattle.part_files.specs.Placing.{placed};
 ghost use Rattle.run_causes.specs.declared.cause.Cause.{Cause};
 ghost use Rattle.run_causes.specs.declared.cause.Cause.TheVariants as causes;
 ghost use Rattle.run_examples.specs.Calls.{nothing_asked, one_start, rules_for, settled_once, terms_by};
-ghost use Rattle.run_examples.specs.Going.{taking_written, settled_at_first, settled_too_late, hurried};
+ghost use Rattle.run_examples.specs.Going.{taking_written, settled_at_first, settled_too_late, hurried, at_once, at_once_log, settled_at_once, ok_of};
+ghost use Rattle.run_laws.specs.Examples.{empty_origin};
+ghost use Rattle.run_laws.specs.Leaves.{StandsOn};
+ghost use Rattle.run_rules.specs.Examples.{rules_with};
+ghost use Rattle.run_rules.specs.FieldExamples.{sum_flows};
 ghost use Rattle.run_rules.specs.Rules.{Rules};
 ghost use Rattle.site_model.specs.History.{Step, on, said, synced};
 
@@ -30,9 +37,19 @@ pub fn runs_go_on()
     ensures unread { (job : Job) (entries : List Entry) (begin : Partition) (old new : List Step) (latest : ℕ) (cause : Cause) → RunsOn job entries begin old new settled_once (terms_by 1 latest) cause → ⊥ }
 {}
 
-/// What goes by the clock: nothing, where it wasn't read; not an entry; and no entry once there are as many labels as there may be.
+/// What goes by the clock: nothing, where it wasn't read; not an entry; no answer where nobody asks; and no entry once there are as many
+/// labels as there may be.
 pub fn runs_go_in_time()
-    ensures nothing { (rules : Rules) → GoesInTime rules (terms_by 1 0) [] }
-    ensures unread { (rules : Rules) → GoesInTime rules (terms_by 1 0) settled_once → ⊥ }
-    ensures too_many { (rules : Rules) → GoesInTime rules hurried settled_once → ⊥ }
+    ensures nothing { (rules : Rules) → GoesInTime rules (terms_by 1 0) [] [] }
+    ensures unread { (rules : Rules) (told : List Said) → GoesInTime rules (terms_by 1 0) settled_once told → ⊥ }
+    ensures untold { (rules : Rules) → rules.requests ≡ [] → GoesInTime rules (terms_by 1 0) [] (request ∷ []) → ⊥ }
+    ensures too_many { (rules : Rules) (told : List Said) → GoesInTime rules hurried settled_once told → ⊥ }
+{}
+
+/// An activity that was asked for in the entry in which it ends didn't run once its schedule was settled, so such an entry doesn't stand,
+/// though each of its items is accepted. Nor does a damaged log.
+pub fn crashes_stand()
+    ensures early { StandsOn (rules_with sum_flows) 5 digest empty_origin [] settled_at_once (two_files at_once_log []) → ⊥ }
+    ensures accepted { IsSome (ok_of (placed sum_flows 1 (fresh 0) (at_once ∷ []))) }
+    ensures damaged { (flows : Flows) → StandsOrderly (rules_with flows) 0 digest empty_origin [] [] (two_files (slice_set empty_log 3 0) []) → ⊥ }
 {}

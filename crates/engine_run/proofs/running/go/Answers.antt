@@ -188,13 +188,12 @@ returns g c =
             further = run_further told.runs;
             nothing = nothing_before told.runs;
             by_the_end = settled_by told.runs (length (g.V.Site.history store.site)) (omega arith);
-            whole = λ other. (
-              told_in store,
-              with_later (g.N.Start.may_follow store.latest) (g.N.Start.may_follow latest) g.N.Start.may_say later g.N.Start.origin (g.V.Site.history store.site) (trail_in store) (told_in store) [] (c.end-site.ensures.whole tells_then (c.drive_on-cause.ensures.whole other)),
-            );
+            told = told_in store;
+            whole = λ other.
+              with_later (g.N.Start.may_follow store.latest) (g.N.Start.may_follow latest) g.N.Start.may_say later g.N.Start.origin (g.V.Site.history store.site) (trail_in store) (told_in store) [] (c.end-site.ensures.whole tells_then (c.drive_on-cause.ensures.whole other));
             short = subst (λ (n : ℕ). IsShort n (of_part 0 (trail_in store)) (content_of (g.N.Start.origin.logs 0).file (g.V.Site.history store.site))) (c.drive_on-cause.ensures.segment ∙ c.in-Ok-begin.ensures.segment)
                 (c.end-site.ensures.short tells_then 0 (omega (arith, g.met.N.Ruled.one)));
-            in_time = record { told = told_in store; course = course; no_more = c.drive_on-cause.ensures.no_more };
+            in_time = record { course = course; no_more = c.drive_on-cause.ensures.no_more };
             ends = c.drive_on-cause.ensures.ends tells_then;
           } in
           subst (λ clock. GoesOn (g.N.Start.may_follow (g.C.Clock.latest clock)) g.N.Start.may_say g.N.Ruled.rules (g.C.Clock.latest clock) g.N.Start.origin (g.V.Site.history end.result.site) end.result.trail (terms_of c.args.options g.A.Activities.gives before (g.C.Clock.given clock) (g.C.Clock.latest clock)) end.result.cause

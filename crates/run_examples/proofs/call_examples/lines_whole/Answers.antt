@@ -1,7 +1,7 @@
 use Rattle.std.proofs.Common.{◌≡◌, ◌*◌, ℕ, List, [], ◌∷◌, length, refl, ◌∙◌, ap, arith}
 use Rattle.std.proofs.lemmas.List.{length-append, append-nil}
 use Rattle.run_examples.proofs.call_examples.lines_whole.Goals as goal
-use Rattle.hub_store.specs.Examples.{MayFollow, MaySay, request}
+use Rattle.hub_store.specs.Examples.{MayFollow, MaySay}
 use Rattle.hub_store.specs.Moments.{Told}
 use Rattle.hub_store.specs.Moments.Told.{silent, settles, says}
 use Rattle.hub_store.specs.Trail.{Settled, Said}
@@ -19,13 +19,13 @@ by_twos (says {trail} {told} {lines} before one line say) =
     omega (arith, rest, long, more, two)
 
 pub returns-clause-whole : goal.returns-clause-whole
-returns-clause-whole c = λ other. (request ∷ [], stands_behind 0)
+returns-clause-whole c = λ other. stands_behind 0
 
 pub returns-clause-half : goal.returns-clause-half
-returns-clause-half c = λ whole.
+returns-clause-half c = λ told whole.
     let end = whole (λ is. cc is) in
-    let twos = by_twos end.1.rightly in
-    let one : 1 ≡ length end.1.lines = ap length (end.1.spoken ∙ append-nil end.1.lines) in
+    let twos = by_twos end.rightly in
+    let one : 1 ≡ length end.lines = ap length (end.spoken ∙ append-nil end.lines) in
     omega (arith, twos, one)
 
 pub returns-clause-failed : goal.returns-clause-failed

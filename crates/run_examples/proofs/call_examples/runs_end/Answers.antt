@@ -1,10 +1,10 @@
-use Rattle.std.proofs.Common.{◌≡◌, inr, ℕ, true, false, List, [], ◌∷◌, ◌++◌, Some, codes, refl, ap, subst, arith}
+use Rattle.std.proofs.Common.{◌≡◌, inr, true, false, List, [], ◌∷◌, ◌++◌, Some, codes, refl, subst, arith}
 use Rattle.std.proofs.lemmas.List.Elements.{All-from_recursion}
-use Rattle.dura_model.specs.Legal.{Quiet, is_due}
+use Rattle.dura_model.specs.Legal.{Quiet}
 use Rattle.dura_model.specs.Partition.{Partition, fresh, enter, post}
 use Rattle.dura_model.specs.World.{at_number}
 use Rattle.dura_model.proofs.Kept.{fresh_shown}
-use Rattle.dura_value.specs.Items.{Item, took}
+use Rattle.dura_value.specs.Items.{took}
 use Rattle.dura_value.specs.Messages.{Message}
 use Rattle.engine_run.specs.Asked.{IsRequest}
 use Rattle.engine_run.specs.Served.{IsLeftAt}

@@ -1,16 +1,15 @@
-use Rattle.std.proofs.Common.{◌≡◌, ◌&&◌, true, false, ℕ, Bool, [], ◌∷◌, ◌++◌, List, Some, None, codes, refl, sym, ◌∙◌, ap, subst, arith}
+use Rattle.std.proofs.Common.{◌≡◌, true, false, ℕ, [], ◌∷◌, ◌++◌, List, Some, codes, refl, sym, ◌∙◌, ap, subst}
 use Rattle.std.proofs.lemmas.List.Elements.{All-from_recursion}
 use Rattle.dura_model.specs.Legal.{Quiet, is_due}
 use Rattle.dura_model.specs.Partition.{Partition, fresh}
-use Rattle.dura_model.specs.World.{World, empty}
+use Rattle.dura_model.specs.World.{World}
 use Rattle.dura_value.specs.Messages.{Message}
 use Rattle.engine_run.specs.Order.{no_later}
-use Rattle.engine_run.specs.Served.{first_open, Awaits, IsFirstOpen}
+use Rattle.engine_run.specs.Served.{first_open, IsFirstOpen}
 use Rattle.part_files.specs.Examples.{request}
 use Rattle.part_files.specs.Stands.{shown_by}
 use Rattle.request_reader.specs.Line.{Request}
-use Rattle.run_rules.specs.Rules.{Rules}
-use Rattle.run_examples.specs.Calls.{no_flows, starting, second, third, rules_for, held_back, out_of_turn, answered}
+use Rattle.run_examples.specs.Calls.{no_flows, starting, second, third, rules_for, held_back, out_of_turn}
 use Rattle.run_examples.proofs.call_examples.runs_wait.Goals as goal
 
 nobody_asks : (before : List Message) (r : Message) (behind : List Message) → [] ≡ before ++ r ∷ behind → ⊥

@@ -1,8 +1,6 @@
-use Rattle.std.proofs.Common.{◌≡◌, ◌∙◌, ℕ, List, [], ◌∷◌, Some, None, refl, sym, subst}
-use Rattle.client_port.specs.Ports.{Queue}
+use Rattle.std.proofs.Common.{◌≡◌, ℕ, List, [], ◌∷◌, Some, None, refl, subst}
 use Rattle.dura_model.specs.Partition.{Partition, accepted}
 use Rattle.dura_value.specs.Items.{ran}
-use Rattle.flow_syntax.specs.Syntax.{Flows}
 use Rattle.part_rounds.specs.InTime.{Reads}
 use Rattle.part_rounds.specs.InTime.Reads.{fails, asks as asks_once, waits}
 use Rattle.part_rounds.specs.Fills.{IsIdle}

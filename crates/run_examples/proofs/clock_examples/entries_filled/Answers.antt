@@ -1,12 +1,10 @@
-use Rattle.std.proofs.Common.{◌≡◌, ◌∙◌, ℕ, List, [], ◌∷◌, Some, None, codes, refl, sym, ap, subst, arith}
+use Rattle.std.proofs.Common.{◌≡◌, [], ◌∷◌, Some, None, refl, sym, subst, arith}
 use Rattle.std.proofs.lemmas.List.Elements.{All-from_recursion}
 use Rattle.activity_table.specs.Chance.{word_of}
 use Rattle.dura_model.specs.Partition.{Partition, fresh, enter, post, accepted}
-use Rattle.dura_model.specs.World.{Activity, at_number}
+use Rattle.dura_model.specs.World.{at_number}
 use Rattle.dura_value.specs.Items.{took, ran, ended}
-use Rattle.dura_value.specs.declared.outcome.Outcome.{Outcome}
-use Rattle.part_files.specs.Examples.{request, request_taken}
-use Rattle.part_files.specs.Placing.{all_accepted}
+use Rattle.part_files.specs.Examples.{request}
 use Rattle.part_rounds.specs.InTime.{IsRun}
 use Rattle.part_steps.specs.Enabled.{moment_at}
 use Rattle.run_examples.specs.Calls.{no_flows}

@@ -1,4 +1,4 @@
-use Rattle.std.proofs.Common.{◌≡◌, Some, arith}
+use Rattle.std.proofs.Common.{◌≡◌, arith}
 use Rattle.run_examples.proofs.clock_examples.timers_due.Goals as goal
 
 pub returns-clause-early : goal.returns-clause-early

@@ -1,5 +1,5 @@
-use Rattle.std.proofs.Common.{◌≡◌, ◌∙◌, ℕ, ◌^◌, Ok, Err, refl, ap, arith}
-use Rattle.dura_model.specs.Partition.{Partition, fresh}
+use Rattle.std.proofs.Common.{◌≡◌, ◌^◌, Ok, Err, refl, ap, arith}
+use Rattle.dura_model.specs.Partition.{Partition}
 use Rattle.run_examples.specs.Ending.{at_last_place}
 use Rattle.run_examples.proofs.ending_examples.places_spent.Goals as goal
 

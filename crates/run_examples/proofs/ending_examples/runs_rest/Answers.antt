@@ -1,15 +1,9 @@
-use Rattle.std.proofs.Common.{◌≡◌, ◌∙◌, inl, true, false, ℕ, List, [], ◌∷◌, ◌++◌, Some, None, Ok, Err, codes, refl, sym, ap, subst, arith}
-use Rattle.std.specs.List.{All}
-use Rattle.std.proofs.lemmas.List.Elements.{All-from_recursion}
-use Rattle.client_port.specs.Ports.{Queue, due_of}
+use Rattle.std.proofs.Common.{◌≡◌, ◌∙◌, inl, true, false, [], Some, None, Ok, Err, codes, refl, ap, arith}
 use Rattle.dura_model.specs.Partition.{Partition, fresh, enter}
-use Rattle.dura_value.specs.Messages.{Answer, was_started}
-use Rattle.engine_run.specs.Asked.{IsRequest, IsTaken}
+use Rattle.dura_value.specs.Messages.{was_started}
 use Rattle.hub_store.specs.Moments.Told.{silent}
-use Rattle.part_files.specs.Placing.{placed}
-use Rattle.part_rounds.specs.Fills.{CantTake}
-use Rattle.part_rounds.specs.Rounds.{next_answer, of_client}
-use Rattle.run_examples.specs.Calls.{no_flows, rules_for, unsaid}
+use Rattle.part_rounds.specs.Rounds.{next_answer}
+use Rattle.run_examples.specs.Calls.{unsaid}
 use Rattle.run_examples.specs.Ending.{misnumbered, answered_state}
 use Rattle.run_examples.proofs.Quiescent.{quiet_at_first}
 use Rattle.run_examples.proofs.ending_examples.runs_rest.Goals as goal

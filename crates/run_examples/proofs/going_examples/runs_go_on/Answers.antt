@@ -1,16 +1,11 @@
-use Rattle.std.proofs.Common.{◌≡◌, ◌≤◌, ◌∙◌, inl, inr, ℕ, List, [], ◌∷◌, length, Ok, refl, sym, ap, subst, arith}
-use Rattle.commit_log.specs.Segment.{header_at}
+use Rattle.std.proofs.Common.{◌≡◌, ◌∙◌, inl, inr, ℕ, List, [], ◌∷◌, Ok, ap, subst, arith}
 use Rattle.dura_model.specs.Partition.{Partition, fresh}
 use Rattle.dura_value.specs.Items.{Entry}
-use Rattle.flow_syntax.specs.Syntax.{Flows}
-use Rattle.hub_store.specs.Examples.{one_log, log_written}
 use Rattle.part_files.specs.Examples.{taking, request_taken}
-use Rattle.part_files.specs.Kept.{entries_from}
 use Rattle.part_files.specs.Placing.{placed}
 use Rattle.run_examples.specs.Calls.{no_flows}
 use Rattle.run_examples.proofs.Idle.{idle_runs}
 use Rattle.run_examples.proofs.Unread.{nothing_unread}
-use Rattle.site_model.specs.History.{on, synced, changes_of}
 use Rattle.site_model.proofs.Paths.{no_shorter, last}
 use Rattle.run_examples.proofs.going_examples.runs_go_on.Goals as goal
 
@@ -55,4 +50,4 @@ returns-clause-other_file c = λ runs.
     cc (other ∙ before)
 
 pub returns-clause-unread : goal.returns-clause-unread
-returns-clause-unread c = λ job entries begin old new latest cause runs. nothing_unread _ latest runs.in_time
+returns-clause-unread c = λ job entries begin old new latest cause runs. nothing_unread _ latest runs.told runs.in_time

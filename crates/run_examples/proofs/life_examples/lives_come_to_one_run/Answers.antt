@@ -1,14 +1,13 @@
-use Rattle.std.proofs.Common.{◌≡◌, ◌∙◌, inl, inr, ℕ, List, [], ◌∷◌, ◌++◌, Some, refl, sym, ap, subst, arith}
+use Rattle.std.proofs.Common.{◌≡◌, ◌∙◌, inl, inr, ℕ, List, [], ◌∷◌, ◌++◌, refl, sym, ap, subst, arith}
 use Rattle.std.proofs.lemmas.List.Elements.{All-from_recursion}
 use Rattle.dura_model.specs.Partition.{fresh}
 use Rattle.dura_model.proofs.Outcomes.{never_twice}
 use Rattle.dura_value.specs.Items.{Entry}
-use Rattle.engine_run.specs.Lives.{KeepsOn, Speaks, IsSaidBy, IsSettledIn}
+use Rattle.engine_run.specs.Lives.{KeepsOn, IsSaidBy, IsSettledIn}
 use Rattle.engine_run.specs.Picks.{rules_with}
 use Rattle.part_files.specs.Examples.{digest, two_files, empty_log, taking}
-use Rattle.part_files.specs.Logs.{logs_in, entries_in}
 use Rattle.part_files.specs.Placing.{next_life}
-use Rattle.part_files.specs.Stands.{alone_with, shown_by}
+use Rattle.part_files.specs.Stands.{shown_by}
 use Rattle.part_files.proofs.LabelsStand.{labels_stand}
 use Rattle.run_examples.specs.Calls.{no_flows, nothing_asked}
 use Rattle.run_examples.specs.LivesSeen.{idle_life, settled_life, spoken_life}

@@ -1,14 +1,11 @@
-use Rattle.std.proofs.Common.{◌≡◌, ◌≤◌, inl, inr, ℕ, List, [], ◌∷◌, length, Some, refl, ap, subst, arith}
+use Rattle.std.proofs.Common.{inl, inr, [], refl, ap, arith}
 use Rattle.commit_log.specs.Segment.{header_at}
 use Rattle.dura_model.specs.Partition.{fresh}
 use Rattle.engine_run.specs.Lives.{IsLife, no_life, one_more}
 use Rattle.flow_syntax.specs.Syntax.{Flows}
-use Rattle.hub_store.specs.Origin.{Origin}
 use Rattle.part_files.specs.Examples.{digest}
-use Rattle.part_files.specs.Kept.{entries_from}
 use Rattle.run_examples.specs.Calls.{no_flows}
 use Rattle.run_examples.specs.LivesSeen.{idle_life}
-use Rattle.site_model.specs.History.{Step}
 use Rattle.site_model.specs.Moments.Always.{begins}
 use Rattle.site_model.proofs.Paths.{no_shorter}
 use Rattle.run_examples.proofs.life_examples.lives_of_calls.Goals as goal

@@ -1,4 +1,4 @@
-use Rattle.std.proofs.Common.{◌≡◌, ◌∙◌, Ok, refl, sym, ap, arith}
+use Rattle.std.proofs.Common.{◌≡◌, refl, ap, arith}
 use Rattle.dura_model.specs.Partition.{Partition, fresh}
 use Rattle.part_files.specs.Examples.{request_taken}
 use Rattle.run_examples.proofs.LogsKept.{torn_kept}

@@ -1,4 +1,4 @@
-use Rattle.std.proofs.Common.{inl, inr, [], codes, arith}
+use Rattle.std.proofs.Common.{inl, inr, codes, arith}
 use Rattle.engine_run.specs.Causes.AreRefused.{for_input, for_logs, for_clash}
 use Rattle.recover_core.specs.declared.error.RecoverError.TheVariants as errors
 use Rattle.run_causes.specs.declared.cause.Cause.TheVariants as causes

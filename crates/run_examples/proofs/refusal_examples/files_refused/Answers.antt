@@ -1,5 +1,4 @@
 use Rattle.run_examples.proofs.Ready.{ready, refused_input, refused_logs, refused_clash, not_ready}
-use Rattle.engine_run.proofs.Refusing.{not_refused}
 use Rattle.run_examples.proofs.refusal_examples.files_refused.Goals as goal
 
 pub returns-clause-ready : goal.returns-clause-ready

@@ -1,5 +1,5 @@
-use Rattle.std.proofs.Common.{◌≡◌, ◌∙◌, ℕ, sym, ap, subst, refl, arith}
-use Rattle.dura_model.specs.Partition.{Partition, fresh}
+use Rattle.std.proofs.Common.{◌≡◌, ℕ, ap, subst, refl, arith}
+use Rattle.dura_model.specs.Partition.{Partition}
 use Rattle.flow_syntax.specs.Syntax.{Flows}
 use Rattle.part_files.specs.Examples.{digest, empty_log, request_taken}
 use Rattle.part_files.specs.Logs.{refused, other_flows, logs_in}

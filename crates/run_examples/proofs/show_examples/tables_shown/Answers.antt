@@ -1,4 +1,4 @@
-use Rattle.std.proofs.Common.{◌≡◌, ◌∙◌, inl, inr, List, [], refl, sym, subst}
+use Rattle.std.proofs.Common.{◌≡◌, ◌∙◌, inl, inr, [], refl, sym, subst}
 use Rattle.dura_model.specs.Partition.{Partition, fresh}
 use Rattle.run_examples.proofs.Shown.{is_there, only_fresh, no_flows_there}
 use Rattle.run_inputs.specs.Examples.{one_flow}
