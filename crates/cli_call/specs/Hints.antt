@@ -1,5 +1,5 @@
 -- What a person is told of an end.
-use Rattle.std.specs.Prelude.{ℕ, Bool, true, false, Option, None, Some, ◌==◌, if◌then◌else◌, List, [], ◌∷◌, ◌++◌, codes, string_bytes}
+use Rattle.std.specs.Prelude.{ℕ, Bool, Option, None, Some, ◌==◌, if◌then◌else◌, List, [], ◌∷◌, ◌++◌, codes, string_bytes}
 use Rattle.site_calls.specs.FileNumbers.{name_text}
 use Rattle.site_calls.specs.Reasons.{reason_text}
 use Rattle.site_calls.specs.declared.reason.Reason.{Reason}

@@ -1,5 +1,5 @@
 -- Logs stay below the segment's length.
-use Rattle.std.proofs.Common.{◌≡◌, ◌≢◌, inl, inr, ℕ, ◌+◌, ◌<◌, ◌≤◌, max, List, [], ◌∷◌, ◌++◌, length, None, Some, sym, ◌∙◌, ap, subst, arith, length-append}
+use Rattle.std.proofs.Common.{◌≡◌, ◌≢◌, inl, inr, ℕ, ◌+◌, ◌<◌, ◌≤◌, max, List, [], ◌∷◌, ◌++◌, length, Some, sym, ◌∙◌, ap, subst, arith, length-append}
 use Rattle.std.proofs.Math.ListN.{set}
 use Rattle.std.proofs.lemmas.Bool.{cases_eq}
 use Rattle.std.proofs.lemmas.List.{get_or-set_same, get_or-set_other}
@@ -11,7 +11,7 @@ use Rattle.commit_log.proofs.Written.{segment-push, length-framed, reads_closed}
 use Rattle.dura_value.specs.Items.{Entry}
 use Rattle.hub_store.specs.Short.{reach_of, KeepsShort, IsShort}
 use Rattle.hub_store.specs.Trail.{Settled, of_part}
-use Rattle.hub_store.specs.Ways.{way_of, stage_of, going_in, WayFits}
+use Rattle.hub_store.specs.Ways.{way_of, going_in, WayFits}
 use Rattle.hub_store.specs.declared.way.Way.{Way}
 use Rattle.hub_store.specs.declared.way.Way.TheVariants.{Resting, Bodied, Synced, Gated, Broken, Away}
 use Rattle.part_items.specs.Plain.{entries_of}

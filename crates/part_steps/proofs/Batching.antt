@@ -6,7 +6,7 @@ use Rattle.dura_value.specs.declared.outputs.Outputs as made_outputs
 use Rattle.flow_syntax.specs.Syntax.{Flows}
 use Rattle.part_items.specs.Plain.{item_of, items_of}
 use Rattle.part_items.specs.declared.items.Item as own
-use Rattle.dura_model.specs.Partition.{Partition, accepted}
+use Rattle.dura_model.specs.Partition.{accepted}
 use Rattle.part_steps.specs.declared.batch.Batch.{Batch}
 use Rattle.part_steps.specs.declared.state.PartState.{PartState}
 use Rattle.part_steps.specs.Batches.{HasMore, IsOver}

@@ -190,7 +190,7 @@ returns g c =
             by_the_end = settled_by told.runs (length (g.V.Site.history store.site)) (omega arith);
             told = told_in store;
             whole = λ other.
-              with_later (g.N.Start.may_follow store.latest) (g.N.Start.may_follow latest) g.N.Start.may_say later g.N.Start.origin (g.V.Site.history store.site) (trail_in store) (told_in store) [] (c.end-site.ensures.whole tells_then (c.drive_on-cause.ensures.whole other));
+                with_later (g.N.Start.may_follow store.latest) (g.N.Start.may_follow latest) g.N.Start.may_say later g.N.Start.origin (g.V.Site.history store.site) (trail_in store) (told_in store) [] (c.end-site.ensures.whole tells_then (c.drive_on-cause.ensures.whole other));
             short = subst (λ (n : ℕ). IsShort n (of_part 0 (trail_in store)) (content_of (g.N.Start.origin.logs 0).file (g.V.Site.history store.site))) (c.drive_on-cause.ensures.segment ∙ c.in-Ok-begin.ensures.segment)
                 (c.end-site.ensures.short tells_then 0 (omega (arith, g.met.N.Ruled.one)));
             in_time = record { course = course; no_more = c.drive_on-cause.ensures.no_more };

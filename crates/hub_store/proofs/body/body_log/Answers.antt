@@ -1,4 +1,4 @@
-use Rattle.std.proofs.Common.{◌≡◌, ◌+◌, inl, inr, ℕ, List, length, Err, refl, subst, arith}
+use Rattle.std.proofs.Common.{◌+◌, inl, inr, ℕ, List, length, Err, refl, subst, arith}
 use Rattle.std.proofs.lemmas.Bool.{cases_lt}
 use Rattle.site_model.specs.History.{changes_of}
 use Rattle.commit_log.specs.declared.states.BodyError.{BodyError}

@@ -1,4 +1,4 @@
-use Rattle.std.proofs.Common.{◌≡◌, ◌∙◌, ℕ, List, [], ◌∷◌, refl, sym, arith}
+use Rattle.std.proofs.Common.{◌≡◌, [], refl, arith}
 use Rattle.commit_log.specs.Segment.{header_at, frames_from, segment, reading_of}
 use Rattle.commit_log.specs.declared.header.Header.{Header}
 use Rattle.part_files.specs.Examples.{digest, empty_log}

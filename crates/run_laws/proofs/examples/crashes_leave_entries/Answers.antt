@@ -1,25 +1,19 @@
-use Rattle.std.proofs.Common.{◌≡◌, ◌∙◌, inl, inr, ℕ, List, [], ◌∷◌, ◌++◌, Some, Ok, Err, refl, sym, ap, subst, arith}
+use Rattle.std.proofs.Common.{◌≡◌, ◌∙◌, inl, inr, ℕ, List, [], ◌∷◌, ◌++◌, Ok, Err, refl, ap, arith}
 use Rattle.std.specs.List.{All}
 use Rattle.std.proofs.lemmas.List.Elements.{All-from_recursion}
-use Rattle.std.proofs.lemmas.List.{append-nil}
 use Rattle.dura_model.specs.Dependencies.Founded.{none, one_more}
-use Rattle.dura_model.specs.Partition.{Partition, fresh}
-use Rattle.dura_value.specs.Items.{Entry, Item}
-use Rattle.flow_syntax.specs.Syntax.{Flows}
-use Rattle.hub_store.specs.Moments.{WroteGate}
-use Rattle.hub_store.specs.Trail.{Said}
-use Rattle.part_files.specs.Examples.{request_taken, digest, taking, taking_log, two_files}
-use Rattle.part_files.specs.Logs.{Logs, logs_in, entries_in}
+use Rattle.dura_model.specs.Partition.{fresh}
+use Rattle.dura_value.specs.Items.{Entry}
+use Rattle.part_files.specs.Examples.{taking}
 use Rattle.part_files.specs.Placing.{placed}
-use Rattle.part_files.specs.Stands.{alone_with}
 use Rattle.run_laws.specs.Examples.{empty_origin}
-use Rattle.run_laws.specs.Leaves.{IsOfCall, AllRan, StandsOn, committed}
+use Rattle.run_laws.specs.Leaves.{IsOfCall, committed}
 use Rattle.run_laws.specs.Leaves.AllAnswered.{nothing_said}
 use Rattle.run_laws.specs.Leaves.AllRan.{nothing_ran, frame_more}
 use Rattle.run_laws.proofs.EntriesKept.{once_kept, twice_kept, none_kept, once_stands}
 use Rattle.run_laws.proofs.NothingAnswered.{no_answer, nothing_settled}
-use Rattle.run_rules.specs.Examples.{rules_with, later_rules}
-use Rattle.run_rules.specs.Rules.{EndsPending, EndPending, IsBy}
+use Rattle.run_rules.specs.Examples.{rules_with}
+use Rattle.run_rules.specs.Rules.{EndsPending, IsBy}
 use Rattle.run_laws.proofs.examples.crashes_leave_entries.Goals as goal
 
 pub returns-clause-taken : goal.returns-clause-taken
