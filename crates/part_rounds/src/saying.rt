@@ -27,7 +27,10 @@ use std::alloc::{AllocError, Global};
 pub(crate) fn client_of(name: &Name) -> Result<Id, AllocError>
     ensures { IfOk result (λ id. id ≡ Id.Client name.now) }
 {
-    Ok(Id::Client(name.clone()?))
+    match name.clone() {
+        Ok(name) => Ok(Id::Client(name)),
+        Err(error) => Err(error),
+    }
 }
 
 /// Says the answer to a client's next request, if there are both.

@@ -15,7 +15,8 @@ use Rattle.dura_value.specs.Items.{Entry}
 use Rattle.hub_store.specs.Stops.{is_of_clock}
 use Rattle.part_rounds.specs.Comes.{Comes, FillsNext, IsByNow, count_labels}
 use Rattle.part_rounds.specs.Fills.{Fills, IsIdle}
-use Rattle.part_rounds.specs.Rounds.{pairs_of, NoneUnsaid, IsFilledTo}
+use Rattle.hub_store.specs.Ways.{stage_of, way_of}
+use Rattle.part_rounds.specs.Rounds.{pairs_of, HasSaid, NoneUnsaid, IsFilledTo}
 use Rattle.hub_store.proofs.Stops.{ok_apart, same_stop, residual_is, clock_not_full, clock_not_fault, clock_not_said, residual_on_ok, residual_if_ok}
 use Rattle.part_rounds.proofs.rounds.go_round.Goals as goal
 use Rattle.part_steps.specs.States.{state_of}
@@ -252,3 +253,31 @@ returns-in-Rest g c =
       say_later = low_self _;
       clock_later = c.take_next.ensures.later;
     }
+
+pub take_next-requires-clause-sound : goal.take_next-requires-clause-sound
+take_next-requires-clause-sound g c = c.requires.entered.sound
+
+pub take_next-requires-clause-one : goal.take_next-requires-clause-one
+take_next-requires-clause-one g c = c.requires.entered.one
+
+pub take_next-requires-clause-begun : goal.take_next-requires-clause-begun
+take_next-requires-clause-begun g c = let place = ap (λ (p : Partition). p.position) c.requires.entered.entered in omega (arith, place)
+
+pub take_next-requires-clause-some : goal.take_next-requires-clause-some
+take_next-requires-clause-some g c = c.requires.some
+
+pub settle_filling-requires-clause-sound : goal.settle_filling-requires-clause-sound
+settle_filling-requires-clause-sound g c = c.raise.ensures.sound
+
+pub settle_filling-requires-clause-going : goal.settle_filling-requires-clause-going
+settle_filling-requires-clause-going g c = c.raise.ensures.halted ∙ c.requires.going
+
+pub settle_filling-requires-clause-rests : goal.settle_filling-requires-clause-rests
+settle_filling-requires-clause-rests g c = ap (λ ways. stage_of (way_of ways.items 0)) c.raise.ensures.ways ∙ c.requires.rests
+
+pub settle_filling-requires-clause-way : goal.settle_filling-requires-clause-way
+settle_filling-requires-clause-way g c =
+    (subst (Comes (g.R.Reactions.flows c.args.reactions.now) (state_of c.args.state) c.args.port.now.queues c.args.clients.now c.args.limit) c.in-Filled.is c.in_ok-filling.ensures.comes).0
+
+pub settle_filling-requires-clause-said : goal.settle_filling-requires-clause-said
+settle_filling-requires-clause-said g c = subst (λ (t : List Said). HasSaid g.N.Ruled.rules t c.args.port.now.queues) (sym c.raise.ensures.told) c.requires.said

@@ -10,7 +10,7 @@ use Rattle.part_rounds.proofs.Further.{kind_not_spent}
 use Rattle.part_rounds.specs.Turns.{SaysInTurn}
 use Rattle.hub_store.specs.Stops.{is_of_disk, is_of_tape}
 use Rattle.part_rounds.specs.Comes.{count_labels}
-use Rattle.part_rounds.specs.Rounds.{pairs_of, Stands, NoneUnsaid}
+use Rattle.part_rounds.specs.Rounds.{pairs_of, HasSaid, Stands, NoneUnsaid}
 use Rattle.part_rounds.proofs.Entries.{stands_after, place_after}
 use Rattle.hub_store.proofs.Stops.{ok_apart, same_stop, disk_not_said, disk_not_clock, tape_not_full, tape_not_fault, tape_not_clock}
 use Rattle.part_steps.specs.States.{state_of}
@@ -131,3 +131,27 @@ returns-in-Ok-say_due g c =
       later = low_to _ _ _ put c.commit_items.ensures.later;
       say_later = low_from _ _ _ told c.say_due.ensures.later;
     }
+
+pub commit_items-requires-clause-sound : goal.commit_items-requires-clause-sound
+commit_items-requires-clause-sound g c = c.requires.sound
+
+pub commit_items-requires-clause-going : goal.commit_items-requires-clause-going
+commit_items-requires-clause-going g c = c.requires.going
+
+pub commit_items-requires-clause-rests : goal.commit_items-requires-clause-rests
+commit_items-requires-clause-rests g c = c.requires.rests
+
+pub commit_items-requires-clause-filled : goal.commit_items-requires-clause-filled
+commit_items-requires-clause-filled g c = c.requires.filled.filled
+
+pub say_due-requires-clause-sound : goal.say_due-requires-clause-sound
+say_due-requires-clause-sound g c = c.commit_items.ensures.sound
+
+pub say_due-requires-clause-going : goal.say_due-requires-clause-going
+say_due-requires-clause-going g c = c.in-Ok.ensures.still
+
+pub say_due-requires-clause-said : goal.say_due-requires-clause-said
+say_due-requires-clause-said g c = subst (λ (t : List Said). HasSaid g.N.Ruled.rules t c.args.port.now.queues) (sym c.commit_items.ensures.said) c.requires.said
+
+pub enter-requires-clause-sound : goal.enter-requires-clause-sound
+enter-requires-clause-sound g c = c.requires.way.sound

@@ -278,3 +278,9 @@ returns-in-Err-SayFault-clause-own g c = own_none _ _ _ (on_err _ c.say-told.res
 
 pub returns-in-Err-Memory-clause-own : goal.returns-in-Err-Memory-clause-own
 returns-in-Err-Memory-clause-own g c = own_none _ _ _ (on_err _ c.say-told.result _ c.say-told.ensures.err c.in-Err-Memory.is)
+
+pub say-told-requires-clause-sound : goal.say-told-requires-clause-sound
+say-told-requires-clause-sound g c = c.requires.sound
+
+pub say-told-requires-clause-going : goal.say-told-requires-clause-going
+say-told-requires-clause-going g c = c.requires.going
