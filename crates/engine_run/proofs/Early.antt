@@ -1,5 +1,5 @@
 -- Why a run ends before it goes on, and causes that differ.
-use Rattle.std.proofs.Common.{◌≡◌, inl, false, ℕ, List, Result, Ok, Err, sym, ap, subst, arith}
+use Rattle.std.proofs.Common.{◌≡◌, ◌<◌, ◌^◌, inl, false, ℕ, List, Result, Ok, Err, sym, ap, subst, arith}
 use Rattle.std.proofs.lemmas.Bool.Decides.{nat_tests}
 use Rattle.std.specs.Prelude.{nat_eq, IsErrAnd, IfErr}
 use Rattle.dura_model.specs.Partition.{Partition}
@@ -26,6 +26,9 @@ ok_same one other is = cc is
 pub err_same : {T E : Type 0} (one other : E) → ◌≡◌ {A = Result T E} (Err one) (Err other) → one ≡ other
 err_same one other is = cc is
 
+pub same_err : {T E : Type 0} (r : Result T E) (one other : E) → r ≡ Err one → r ≡ Err other → one ≡ other
+same_err r one other is also = cc (is, also)
+
 -- the answer of a `?`
 pub residual_err : {T : Type 0} (P : Cause → Type 0) (r : Result T Cause) (cause : Cause) → IsErrAnd r (λ y. y ≡ cause) → P cause → IfErr r P
 residual_err P (Ok x) cause has holds = absurd has
@@ -34,6 +37,17 @@ residual_err P (Err y) cause has holds = subst P (sym has) holds
 pub residual_same : {T : Type 0} (r : Result T Cause) (cause other : Cause) → IsErrAnd r (λ y. y ≡ cause) → r ≡ Err other → cause ≡ other
 residual_same (Ok x) cause other has is = absurd has
 residual_same (Err y) cause other has is = cc (has, is)
+
+-- ---- the one partition
+
+pub one_some : (count : ℕ) → count ≡ 1 → 0 < count
+one_some count is = omega arith
+
+pub one_first : (count place : ℕ) → count ≡ 1 → place < count → place ≡ 0
+one_first count place is within = omega arith
+
+pub room_left : (found place : ℕ) → found ≡ place → found < 2 ^ 62 → place < 2 ^ 63
+room_left found place is below = omega arith
 
 -- ---- the input files
 
