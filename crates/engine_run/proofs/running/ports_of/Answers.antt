@@ -1,5 +1,5 @@
 use Rattle.std.proofs.lemmas.Result.{err_from_is_err_and}
-use Rattle.std.proofs.Common.{◌≡◌, ◌∙◌, map, ap}
+use Rattle.std.proofs.Common.{ap}
 use Rattle.client_port.specs.Ports.{Ports}
 use Rattle.engine_run.proofs.running.ports_of.Goals as goal
 

@@ -1,4 +1,4 @@
-use Rattle.std.proofs.Common.{◌≡◌, ◌≤◌, ◌<◌, ◌^◌, ◌∙◌, inl, inr, ℕ, List, Err, refl, sym, ap, subst, le_trans}
+use Rattle.std.proofs.Common.{◌≤◌, ◌<◌, ◌^◌, ◌∙◌, inl, inr, ℕ, List, Err, refl, sym, ap, subst, le_trans}
 use Rattle.std.proofs.Math.Nat.{le_of_eq}
 use Rattle.dura_model.specs.Partition.{Partition}
 use Rattle.dura_model.specs.Placed.{Belongs}

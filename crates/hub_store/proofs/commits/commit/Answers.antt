@@ -1,4 +1,4 @@
-use Rattle.std.proofs.Common.{refl, ◌∙◌, ap, arith, le_trans, le_refl}
+use Rattle.std.proofs.Common.{refl, ◌∙◌, ap, le_trans, le_refl}
 use Rattle.hub_store.specs.Changes.{trail_in}
 use Rattle.hub_store.specs.Frames.{length_with}
 use Rattle.hub_store.specs.Ways.{way_of}

@@ -1,4 +1,4 @@
-use Rattle.std.proofs.Common.{◌≡◌, Err, OnOk, OnErr, refl, sym, ◌∙◌, ap, subst, arith, le_refl}
+use Rattle.std.proofs.Common.{◌≡◌, Err, OnOk, OnErr, refl, sym, ◌∙◌, ap, subst, le_refl}
 use Rattle.std.proofs.Math.Nat.{le_of_eq}
 use Rattle.site_model.specs.History.{changes_of}
 use Rattle.hub_store.specs.declared.refusal.Refusal.TheVariants.{SiteFault}

@@ -1,5 +1,5 @@
 use Rattle.site_model.specs.Calls.{HasRisen}
-use Rattle.std.proofs.Common.{◌≡◌, ◌≤◌, ◌+◌, max, false, inl, inr, ◌++◌, List, length, refl, sym, ◌∙◌, ap, subst, arith, le_refl, OnErr}
+use Rattle.std.proofs.Common.{◌≡◌, ◌≤◌, ◌+◌, max, false, inl, inr, ◌++◌, List, length, refl, sym, ◌∙◌, ap, subst, le_refl, OnErr}
 use Rattle.std.specs.Prelude.{MatchResult}
 use Rattle.std.proofs.lemmas.List.{append-nil}
 use Rattle.dura_value.specs.Items.{Entry}

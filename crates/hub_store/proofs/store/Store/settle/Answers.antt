@@ -1,4 +1,4 @@
-use Rattle.std.proofs.Common.{◌++◌, List, length, refl, sym, ◌∙◌, ap, subst, arith, le_refl}
+use Rattle.std.proofs.Common.{◌++◌, List, length, refl, sym, ◌∙◌, ap, subst, le_refl}
 use Rattle.std.proofs.lemmas.List.{append-nil}
 use Rattle.dura_value.specs.Items.{Entry}
 use Rattle.site_model.specs.History.{changes_of}
