@@ -1,6 +1,6 @@
 -- How long a log would be with a frame.
-use Rattle.std.proofs.Common.{◌≡◌, ◌≢◌, true, false, ℕ, ◌+◌, ◌-◌, max, ◌<◌, ◌≤◌, List, length, Result, Ok, Err, ◌∙◌, ap, subst, arith}
-use Rattle.std.specs.Prelude.{IsErrAnd, OnOk}
+use Rattle.std.proofs.Common.{◌≡◌, ◌≢◌, true, false, ℕ, zero, suc, ◌+◌, ◌-◌, max, ◌<◌, ◌≤◌, List, length, Result, Ok, Err, ◌∙◌, ap, subst, arith}
+use Rattle.std.specs.Prelude.{◌==◌, IsErrAnd, OnOk}
 use Rattle.std.proofs.Math.ListN.{set}
 use Rattle.std.proofs.lemmas.List.{get_or-set_same}
 use Rattle.commit_log.specs.declared.states.Broken.{Broken}
@@ -85,6 +85,13 @@ less_room old len frame was before now room all dues enough size fits grown same
 pub still_room : (before old len room : ℕ) → before + old ≤ room → before + (old - len) ≤ room
 still_room before old len room fits = omega arith
 
+pub some_left : (n : ℕ) → (n == 0) ≡ false → 0 < n
+some_left zero is = absurd (true_apart is)
+some_left (suc n) is = omega arith
+
+pub room_for : (before left had frame room all : ℕ) → before + left ≡ had + frame → room ≡ all → had + frame ≤ all → 0 < left → before < room
+room_for before left had frame room all len same fits some = omega arith
+
 -- ---- how far a log reaches
 
 pub reach_next : (gate next then : ℕ) → then ≡ next → then + 1 ≤ max gate next + 1
@@ -92,6 +99,9 @@ reach_next gate next then is = omega arith
 
 pub reach_same : (gate next at then : ℕ) → at ≡ gate → then ≡ next → max at then + 1 ≤ max gate next + 1
 reach_same gate next at then is also = omega arith
+
+pub reach_is : (gate next at then : ℕ) → at ≡ gate → then ≡ next → max at then + 1 ≡ max gate next + 1
+reach_is gate next at then is also = omega arith
 
 -- the answer of a `?`
 pub none_ok : {T E : Type 0} (A : Type 0) (Q : E → Type 0) (r : Result T E) → IsErrAnd r Q → OnOk r A

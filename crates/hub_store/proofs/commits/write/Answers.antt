@@ -1,5 +1,6 @@
+use Rattle.hub_store.proofs.Faults.{faulted}
 use Rattle.std.proofs.Common.{refl, le_trans, ◌∙◌}
-use Rattle.hub_store.proofs.Stops.{ok_apart, ok_no_refusal, fault_not_full, body_full, body_room, body_fault, body_of_disk}
+use Rattle.hub_store.proofs.Stops.{ok_apart, ok_no_refusal, fault_not_full, body_full, body_room, body_fault, body_of_disk, risen_after}
 use Rattle.hub_store.proofs.commits.write.Goals as goal
 
 pub returns-in-Err-clause-full : goal.returns-in-Err-clause-full
@@ -141,3 +142,6 @@ returns-in-Ok-sync_body-clause-still g c = c.in-Ok-sync_body.ensures.still
 
 pub returns-in-Ok-sync_body-clause-stops : goal.returns-in-Ok-sync_body-clause-stops
 returns-in-Ok-sync_body-clause-stops g c = tt
+
+pub returns-in-Err-sync_body-clause-fault : goal.returns-in-Err-sync_body-clause-fault
+returns-in-Err-sync_body-clause-fault g c = λ is. risen_after _ _ _ c.body.ensures.later c.sync_body.ensures.halted.later (faulted _ _ _ _ _ _ refl c.in-Err-sync_body.ensures.no_frame.0 c.in-Ok.ensures.ok.0 c.in-Err-sync_body.ensures.halts c.sync_body.ensures.halted)

@@ -1,3 +1,4 @@
+use Rattle.hub_store.proofs.Bodies.{reach_is}
 use Rattle.std.proofs.Common.{◌≡◌, ℕ, [], ◌∷◌, ◌∙◌, sym, ap, subst, refl}
 use Rattle.site_model.specs.History.{wrote, reads, changes_of}
 use Rattle.site_model.proofs.Paths.{own_change}
@@ -94,3 +95,9 @@ returns-in-Err-clause-cause g c = record { later = c.gate.ensures.cause.later; s
 
 pub returns-in-Err-clause-say_faults : goal.returns-in-Err-clause-say_faults
 returns-in-Err-clause-say_faults g c = c.gate.ensures.say_faults
+
+pub returns-in-Ok-clause-reach : goal.returns-in-Ok-clause-reach
+returns-in-Ok-clause-reach g c = reach_is c.args.log.gate c.args.log.next c.in-Ok.log.gate c.in-Ok.log.next c.in-Ok.ensures.place.1 c.in-Ok.ensures.place.2
+
+pub returns-in-Err-clause-reach : goal.returns-in-Err-clause-reach
+returns-in-Err-clause-reach g c = reach_is c.args.log.gate c.args.log.next c.in-Err.log.gate c.in-Err.log.next c.in-Err.ensures.broken.1 c.in-Err.ensures.broken.2

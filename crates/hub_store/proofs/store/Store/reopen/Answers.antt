@@ -1,5 +1,5 @@
 use Rattle.site_model.specs.Calls.{HasRisen}
-use Rattle.std.proofs.Common.{◌≡◌, ◌≤◌, ◌+◌, max, false, inl, inr, ◌++◌, List, length, refl, sym, ◌∙◌, ap, subst, le_refl, OnErr}
+use Rattle.std.proofs.Common.{◌≡◌, ◌≤◌, ◌+◌, max, false, inl, inr, ◌++◌, List, length, refl, sym, ◌∙◌, ap, subst, le_refl, OnErr, OnOk}
 use Rattle.std.specs.Prelude.{MatchResult}
 use Rattle.std.proofs.lemmas.List.{append-nil}
 use Rattle.dura_value.specs.Items.{Entry}
@@ -393,3 +393,9 @@ returns-then-eq-clause-later g c = le_refl _
 
 pub returns-then-eq-clause-same : goal.returns-then-eq-clause-same
 returns-then-eq-clause-same g c = tt
+
+pub returns-then-not-found-clause-same : goal.returns-then-not-found-clause-same
+returns-then-not-found-clause-same g c = subst (λ r. OnOk r (g.V.Site.disk_faults c.reopen_log-answer.new.site ≡ g.V.Site.disk_faults c.args.self.now.site)) c.in-Ok.is c.reopen_log-answer.ensures.cause.same
+
+pub returns-clause-same : goal.returns-clause-same
+returns-clause-same g c = subst (λ r. OnOk r (g.V.Site.disk_faults c.reopen_log-answer.new.site ≡ g.V.Site.disk_faults c.args.self.now.site)) c.in-Ok.is c.reopen_log-answer.ensures.cause.same
