@@ -30,3 +30,9 @@ at_some o x P is holds = subst (λ (p : Option _). IfSome p P) (sym is) holds
 
 pub at_none : {A : Type 0} (o : Option A) (P : A → Type 0) → o ≡ None → IfSome o P
 at_none o P is = subst (λ (p : Option _). IfSome p P) (sym is) tt
+
+pub some_and : {A : Type 0} (o : Option A) (x : A) (P : A → Type 0) → o ≡ Some x → P x → IsSomeAnd o P
+some_and o x P is holds = subst (λ (p : Option _). IsSomeAnd p P) (sym is) holds
+
+pub none_then : {A : Type 0} (o : Option A) (T : Type 0) → o ≡ None → IfNone o T → T
+none_then o T is holds = subst (λ (p : Option _). IfNone p T) is holds

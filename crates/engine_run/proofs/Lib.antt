@@ -1,5 +1,6 @@
 pub mod Asked
 pub mod Asking
+pub mod Early
 pub mod Ending
 pub mod FileAsked
 pub mod Found

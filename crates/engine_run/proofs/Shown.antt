@@ -1,7 +1,10 @@
 -- What is shown where nothing is said.
-use Rattle.std.proofs.Common.{◌≡◌, inl, inr, ℕ, List, Err, ap}
+use Rattle.std.proofs.Common.{◌≡◌, inl, inr, ℕ, List, Result, Err, ap, subst}
+use Rattle.std.specs.Prelude.{IfErr}
+use Rattle.std.proofs.lemmas.Result.{IfErr-at_err}
+use Rattle.dura_model.specs.Partition.{Partition}
 use Rattle.engine_run.specs.Opening.{cause_of_recovery}
-use Rattle.engine_run.specs.Showing.{ShowsAs}
+use Rattle.engine_run.specs.Showing.{ShowsAs, IsThere}
 use Rattle.flow_syntax.specs.Syntax.{Flows}
 use Rattle.recover_core.specs.Recovering.{Recovers, OnlySyncs}
 use Rattle.recover_core.specs.declared.error.RecoverError.{RecoverError}
@@ -11,6 +14,8 @@ use Rattle.run_causes.specs.declared.cause.Cause.TheVariants.{Done, Usage, BadFl
 use Rattle.run_inputs.specs.Input.{HasFlows, IsFlowsCause, Refuses}
 use Rattle.run_inputs.specs.Refusal.{flows_refusal}
 use Rattle.site_model.specs.History.{Step, tape}
+use Rattle.state_lines.specs.Fronts.{StopsInTable}
+use Rattle.state_lines.specs.declared.error.ShowError.{ShowError}
 
 -- syncs say nothing
 pub syncs_tape : (old new : List Step) → OnlySyncs old new → tape new ≡ tape old
@@ -50,3 +55,13 @@ logs_shown files old new flows digest has (errors.Illegal partition position) re
 logs_shown files old new flows digest has (errors.Spent partition number) recovers same = ((flows, digest, has, recovers), same)
 logs_shown files old new flows digest has errors.SiteFault recovers same = same
 logs_shown files old new flows digest has errors.Memory recovers same = inl same
+
+-- ---- a table that stops
+
+pub stopped : {T : Type 0} (r : Result T ShowError) (P : ShowError → Type 0) (found error : ShowError) → IfErr r P → r ≡ Err found → found ≡ error → P error
+stopped r P found error stops is same = subst P same (IfErr-at_err P is stops)
+
+pub stops_shown : (files : ℕ → List ℕ) (flows own : Flows) (state : Partition) (old mid now : List ℕ) (error : ShowError) → IsThere files flows state → own ≡ flows → mid ≡ old → StopsInTable own state error mid now
+    → (f : Flows) × (p : Partition) × IsThere files f p × StopsInTable f p error old now
+stops_shown files flows own state old mid now error there is same stops =
+    (flows, state, there, subst (λ (t : List ℕ). StopsInTable flows state error t now) same (subst (λ (f : Flows). StopsInTable f state error mid now) is stops))

@@ -1,9 +1,12 @@
 -- How long a log would be with a frame.
-use Rattle.std.proofs.Common.{◌≡◌, ◌≢◌, true, false, ℕ, ◌+◌, ◌<◌, ◌≤◌, List, length, Result, Ok, Err, ◌∙◌, ap, subst}
+use Rattle.std.proofs.Common.{◌≡◌, ◌≢◌, true, false, ℕ, zero, suc, ◌+◌, ◌-◌, max, ◌<◌, ◌≤◌, List, length, Result, Ok, Err, ◌∙◌, ap, subst, arith}
+use Rattle.std.specs.Prelude.{◌==◌, IsErrAnd, OnOk}
 use Rattle.std.proofs.Math.ListN.{set}
 use Rattle.std.proofs.lemmas.List.{get_or-set_same}
+use Rattle.commit_log.specs.declared.states.Broken.{Broken}
 use Rattle.commit_log.specs.declared.states.Resting.{Resting}
 use Rattle.dura_value.specs.Items.{Entry}
+use Rattle.part_items.specs.declared.frames.Entry as rows
 use Rattle.part_items.specs.Spelling.{spell_frame}
 use Rattle.hub_store.specs.declared.refusal.BodyRefusal.{BodyRefusal}
 use Rattle.hub_store.specs.declared.refusal.BodyRefusal.TheVariants.{Full, SiteFault, Memory}
@@ -60,3 +63,51 @@ dropped_settled result dropped settled = cc
 
 pub unsaid_apart : {T : Type 0} (result : Result T SayError) → result ≡ Err unsaid.SayFault → result ≡ Err unsaid.Memory → ⊥
 unsaid_apart result fault memory = cc
+
+-- a place among as many as there are
+pub within : (p n count : ℕ) → n ≡ count → p < count → p < n
+within p n count is below = omega arith
+
+pub broken_there : (log : Broken) (frame : List rows.Entry) → places.Broken log frame ≢ places.Away
+broken_there log frame is = cc
+
+-- ---- frames under way, and the trail's room for them
+
+pub grown_due : (due old more was : ℕ) → 0 ≡ was → more ≡ due → due + old ≡ (old + more) + was
+grown_due due old more was none is = omega arith
+
+pub less_due : (old len frame was : ℕ) → frame ≡ was → was ≤ old → len ≡ frame → 0 + old ≡ (old - len) + was
+less_due old len frame was dues enough size = omega arith
+
+pub less_room : (old len frame was before now room all : ℕ) → frame ≡ was → was ≤ old → len ≡ frame → before + old ≤ room → now ≡ before + frame → all ≡ room → now + (old - len) ≤ all
+less_room old len frame was before now room all dues enough size fits grown same = omega arith
+
+pub still_room : (before old len room : ℕ) → before + old ≤ room → before + (old - len) ≤ room
+still_room before old len room fits = omega arith
+
+pub some_left : (n : ℕ) → (n == 0) ≡ false → 0 < n
+some_left zero is = absurd (true_apart is)
+some_left (suc n) is = omega arith
+
+pub room_for : (before left had frame room all : ℕ) → before + left ≡ had + frame → room ≡ all → had + frame ≤ all → 0 < left → before < room
+room_for before left had frame room all len same fits some = omega arith
+
+-- ---- how far a log reaches
+
+pub reach_next : (gate next then : ℕ) → then ≡ next → then + 1 ≤ max gate next + 1
+reach_next gate next then is = omega arith
+
+pub reach_same : (gate next at then : ℕ) → at ≡ gate → then ≡ next → max at then + 1 ≤ max gate next + 1
+reach_same gate next at then is also = omega arith
+
+pub reach_is : (gate next at then : ℕ) → at ≡ gate → then ≡ next → max at then + 1 ≡ max gate next + 1
+reach_is gate next at then is also = omega arith
+
+-- the answer of a `?`
+pub none_ok : {T E : Type 0} (A : Type 0) (Q : E → Type 0) (r : Result T E) → IsErrAnd r Q → OnOk r A
+none_ok A Q (Ok x) has = absurd has
+none_ok A Q (Err y) has = tt
+
+pub is_memory : {T : Type 0} (r : Result T BodyRefusal) → IsErrAnd r (λ y. y ≡ Memory) → r ≡ Err Memory
+is_memory (Ok x) has = absurd has
+is_memory (Err y) has = ap (λ (refusal : BodyRefusal). Err refusal) has

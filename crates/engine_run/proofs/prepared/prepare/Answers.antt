@@ -1,24 +1,31 @@
-use Rattle.std.proofs.Common.{◌≡◌, ◌<◌, ◌^◌, ◌∙◌, inl, ℕ, List, None, Ok, Err, map, refl, sym, ap, subst, arith}
+use Rattle.std.proofs.Common.{◌≡◌, ◌<◌, ◌^◌, ◌∙◌, inl, ℕ, List, None, Ok, Err, map, refl, sym, ap, subst, le_trans}
 use Rattle.std.specs.Prelude.{IfSome}
 use Rattle.std.proofs.lemmas.Result.{err_from_is_err_and}
 use Rattle.commit_log.specs.States.{IsFormatting}
 use Rattle.dura_value.specs.declared.messages.Request.{Request as OwnRequest}
+use Rattle.engine_run.specs.Causes.{Answers, Untouched}
 use Rattle.engine_run.specs.Job.{Job, Keeps}
 use Rattle.engine_run.specs.Kept.{NoClash, Refuses}
 use Rattle.engine_run.specs.Opened.{IsOpening, OpensOnly}
 use Rattle.engine_run.specs.Opening.{RecoversAs}
+use Rattle.engine_run.specs.Prepared.{IsEarlyCause}
 use Rattle.engine_run.proofs.Asked.{same_job, same_entries}
+use Rattle.engine_run.proofs.Early.{ok_same, err_same, residual_err, residual_same, input_answers, input_early, input_untouched, log_early, clash_early, clash_untouched}
 use Rattle.engine_run.proofs.Found.{some_with}
 use Rattle.engine_run.proofs.Opens.{opening_first, opening_synced, first_kept}
 use Rattle.engine_run.proofs.Preparing.{opened_from, opens_from}
 use Rattle.engine_run.proofs.Refusing.{logs_refused, clash_refused, logs_untouched, ready, not_refused}
 use Rattle.engine_run.proofs.prepared.prepare.Goals as goal
 use Rattle.flow_syntax.specs.Views.{flows_of}
+use Rattle.hub_store.proofs.Stops.{ok_apart}
 use Rattle.part_files.specs.Logs.{Logs, logs_in}
 use Rattle.part_files.specs.Stands.{alone_with}
 use Rattle.part_steps.specs.States.{state_of}
 use Rattle.recover_core.specs.Recovering.{IsLogOf, RestsFor, OnlySyncs, both_synced}
+use Rattle.recover_core.proofs.LogsFound.{risen_later}
 use Rattle.request_reader.specs.Line.{request_of}
+use Rattle.run_causes.specs.declared.cause.Cause.{Cause}
+use Rattle.run_causes.specs.declared.cause.Cause.TheVariants.{SiteFault}
 use Rattle.run_laws.specs.Begins.{header_with}
 use Rattle.site_model.specs.History.{Step, changes_of, content_of, IsKept}
 use Rattle.site_model.specs.Moments.{Always, LeavesOnly}
@@ -112,7 +119,7 @@ returns-clause-prepared g c tells =
       keeps = record { kept = recovered.kept; made = recovered.placed };
       life_is = recovered.life;
       opened = opened_from file.digest old now recovered.entries found.log log recovered.kept recovered.log rests
-          (some_with found.log (λ l. (Ok log ≡ Ok l) × (now ≡ g.V.Site.history c.recover_logs.new.site)) (λ l. (log ≡ l) × (now ≡ both_synced old)) (λ l is. (cc is.0, is.1 ∙ synced)) c.in-Ok.ensures.there)
+          (some_with found.log (λ l. (Ok log ≡ Ok l) × (now ≡ g.V.Site.history c.recover_logs.new.site)) (λ l. (log ≡ l) × (now ≡ both_synced old)) (λ l is. (ok_same log l is.0, is.1 ∙ synced)) c.in-Ok.ensures.there)
           (λ is. c.in-Ok.ensures.place is)
           (λ is. c.in-Ok.ensures.rests is tells kept)
           (λ is. subst (λ (s : List Step). LeavesOnly 16 s now (IsFormatting (content_of 16 s) (header_with file.digest))) synced (c.in-Ok.ensures.during is tells kept));
@@ -163,7 +170,7 @@ pub returns-in_err-state-clause-told : goal.returns-in_err-state-clause-told
 returns-in_err-state-clause-told g c = λ tells. c.read_input.ensures.told (c.recover_logs.ensures.told tells)
 
 pub returns-in_err-state-clause-later : goal.returns-in_err-state-clause-later
-returns-in_err-state-clause-later g c = omega (arith, c.read_input.ensures.later, c.recover_logs.ensures.later)
+returns-in_err-state-clause-later g c = le_trans c.read_input.ensures.later c.recover_logs.ensures.later
 
 pub returns-in_err-state-clause-say_faults : goal.returns-in_err-state-clause-say_faults
 returns-in_err-state-clause-say_faults g c = c.recover_logs.ensures.say_faults ∙ c.read_input.ensures.say_faults
@@ -184,7 +191,7 @@ pub returns-in-Err-clause-told : goal.returns-in-Err-clause-told
 returns-in-Err-clause-told g c = λ tells. c.read_input.ensures.told (c.recover_logs.ensures.told tells)
 
 pub returns-in-Err-clause-later : goal.returns-in-Err-clause-later
-returns-in-Err-clause-later g c = omega (arith, c.read_input.ensures.later, c.recover_logs.ensures.later)
+returns-in-Err-clause-later g c = le_trans c.read_input.ensures.later c.recover_logs.ensures.later
 
 pub returns-in-Err-clause-say_faults : goal.returns-in-Err-clause-say_faults
 returns-in-Err-clause-say_faults g c = c.recover_logs.ensures.say_faults ∙ c.read_input.ensures.say_faults
@@ -205,7 +212,7 @@ pub returns-in-Err-open_log-clause-told : goal.returns-in-Err-open_log-clause-to
 returns-in-Err-open_log-clause-told g c = λ tells. c.read_input.ensures.told (c.recover_logs.ensures.told (c.open_log.ensures.told tells))
 
 pub returns-in-Err-open_log-clause-later : goal.returns-in-Err-open_log-clause-later
-returns-in-Err-open_log-clause-later g c = omega (arith, c.read_input.ensures.later, c.recover_logs.ensures.later, c.open_log.ensures.later)
+returns-in-Err-open_log-clause-later g c = le_trans (le_trans c.read_input.ensures.later c.recover_logs.ensures.later) c.open_log.ensures.later
 
 pub returns-in-Err-open_log-clause-say_faults : goal.returns-in-Err-open_log-clause-say_faults
 returns-in-Err-open_log-clause-say_faults g c = c.open_log.ensures.say_faults ∙ c.recover_logs.ensures.say_faults ∙ c.read_input.ensures.say_faults
@@ -226,7 +233,7 @@ pub returns-clause-told : goal.returns-clause-told
 returns-clause-told g c = λ tells. c.read_input.ensures.told (c.recover_logs.ensures.told (c.open_log.ensures.told tells))
 
 pub returns-clause-later : goal.returns-clause-later
-returns-clause-later g c = omega (arith, c.read_input.ensures.later, c.recover_logs.ensures.later, c.open_log.ensures.later)
+returns-clause-later g c = le_trans (le_trans c.read_input.ensures.later c.recover_logs.ensures.later) c.open_log.ensures.later
 
 pub returns-clause-say_faults : goal.returns-clause-say_faults
 returns-clause-say_faults g c = c.open_log.ensures.say_faults ∙ c.recover_logs.ensures.say_faults ∙ c.read_input.ensures.say_faults
@@ -247,7 +254,7 @@ pub returns-clause-untouched : goal.returns-clause-untouched
 returns-clause-untouched g c = tt
 
 pub returns-clause-fault : goal.returns-clause-fault
-returns-clause-fault g c = λ is. absurd (cc is)
+returns-clause-fault g c = λ is. absurd (ok_apart _ _ is)
 
 pub returns-in_err-file-clause-refused : goal.returns-in_err-file-clause-refused
 returns-in_err-file-clause-refused g c = λ tells refused. inl c.read_input.ensures.unchanged
@@ -287,3 +294,55 @@ returns-clause-refused g c = λ tells refused.
     (ready (λ f. content_of f old) job recovered.entries (state_of found.state) asks (record { kept = recovered.kept; made = recovered.placed })
     (subst (λ (rs : List OwnRequest). NoClash (state_of found.state) (map request_of rs)) c.deref.ensures.value c.in_default.ensures.ok)
     (subst (λ (n : ℕ). n < 2 ^ 62) recovered.life recovered.young)) refused)
+
+pub returns-in_err-file-clause-answers : goal.returns-in_err-file-clause-answers
+returns-in_err-file-clause-answers g c = λ tells.
+    let files : ℕ → List ℕ = λ f. content_of f (g.V.Site.history c.args.site.now) in
+    residual_err (Answers files) c.from_residual.result c.in_err-file.field-0.0 c.from_residual.ensures.1 (input_answers files c.in_err-file.field-0.0 c.in_err-file.ensures.input_cause (c.in_err-file.ensures.reads tells))
+
+pub returns-in_err-file-clause-early : goal.returns-in_err-file-clause-early
+returns-in_err-file-clause-early g c = residual_err IsEarlyCause c.from_residual.result c.in_err-file.field-0.0 c.from_residual.ensures.1 (input_early c.in_err-file.field-0.0 c.in_err-file.ensures.input_cause)
+
+pub returns-in_err-file-clause-untouched : goal.returns-in_err-file-clause-untouched
+returns-in_err-file-clause-untouched g c =
+    let old = g.V.Site.history c.args.site.now in
+    let new = g.V.Site.history c.read_input.new.site in
+    residual_err (Untouched old new) c.from_residual.result c.in_err-file.field-0.0 c.from_residual.ensures.1 (input_untouched old new c.in_err-file.field-0.0 c.in_err-file.ensures.input_cause c.read_input.ensures.unchanged)
+
+pub returns-in_err-file-clause-fault : goal.returns-in_err-file-clause-fault
+returns-in_err-file-clause-fault g c = λ is. c.in_err-file.ensures.fault (ap (λ (cause : Cause). Err cause) (residual_same c.from_residual.result c.in_err-file.field-0.0 SiteFault c.from_residual.ensures.1 is))
+
+pub returns-in_err-state-clause-early : goal.returns-in_err-state-clause-early
+returns-in_err-state-clause-early g c = residual_err IsEarlyCause c.from_residual-in_err-state.result c.in_err-state.field-0.0 c.from_residual-in_err-state.ensures.1 (log_early c.in_err-state.field-0.0 c.in_err-state.ensures.early)
+
+pub returns-in_err-state-clause-fault : goal.returns-in_err-state-clause-fault
+returns-in_err-state-clause-fault g c = λ is.
+    risen_later _ _ _ c.read_input.ensures.later c.recover_logs.ensures.later (c.in_err-state.ensures.fault (ap (λ (cause : Cause). Err cause) (residual_same c.from_residual-in_err-state.result c.in_err-state.field-0.0 SiteFault c.from_residual-in_err-state.ensures.1 is)))
+
+pub returns-in-Err-clause-early : goal.returns-in-Err-clause-early
+returns-in-Err-clause-early g c = clash_early (state_of c.in_ok-state.field-0.state) (map request_of c.deref.result.now) c.in-Err.cause c.in-Err.ensures.err
+
+pub returns-in-Err-clause-untouched : goal.returns-in-Err-clause-untouched
+returns-in-Err-clause-untouched g c =
+    let old = g.V.Site.history c.args.site.now in
+    let now = g.V.Site.history c.recover_logs.new.site in
+    let syncs = subst (λ (s : List Step). OnlySyncs s now) c.read_input.ensures.unchanged c.recover_logs.ensures.syncs in
+    clash_untouched (state_of c.in_ok-state.field-0.state) (map request_of c.deref.result.now) old now c.in-Err.cause c.in-Err.ensures.err syncs
+
+pub returns-in-Err-clause-fault : goal.returns-in-Err-clause-fault
+returns-in-Err-clause-fault g c = λ is. absurd (subst (Refuses (state_of c.in_ok-state.field-0.state) (map request_of c.deref.result.now)) (err_same c.in-Err.cause SiteFault is) c.in-Err.ensures.err)
+
+pub returns-in-Err-open_log-clause-answers : goal.returns-in-Err-open_log-clause-answers
+returns-in-Err-open_log-clause-answers g c = λ tells. subst (Answers (λ f. content_of f (g.V.Site.history c.args.site.now))) (sym (err_same c.in-Err-open_log.cause SiteFault c.in-Err-open_log.ensures.stops.1)) tt
+
+pub returns-in-Err-open_log-clause-early : goal.returns-in-Err-open_log-clause-early
+returns-in-Err-open_log-clause-early g c = subst IsEarlyCause (sym (err_same c.in-Err-open_log.cause SiteFault c.in-Err-open_log.ensures.stops.1)) tt
+
+pub returns-in-Err-open_log-clause-untouched : goal.returns-in-Err-open_log-clause-untouched
+returns-in-Err-open_log-clause-untouched g c = subst (Untouched (g.V.Site.history c.args.site.now) (g.V.Site.history c.open_log.new.site)) (sym (err_same c.in-Err-open_log.cause SiteFault c.in-Err-open_log.ensures.stops.1)) tt
+
+pub returns-in-Err-open_log-clause-fault : goal.returns-in-Err-open_log-clause-fault
+returns-in-Err-open_log-clause-fault g c = λ is. risen_later _ _ _ (le_trans c.read_input.ensures.later c.recover_logs.ensures.later) c.open_log.ensures.later c.in-Err-open_log.ensures.fault
+
+pub returns-clause-no_clash : goal.returns-clause-no_clash
+returns-clause-no_clash g c = subst (λ (rs : List OwnRequest). NoClash (state_of c.in_ok-state.field-0.state) (map request_of rs)) c.deref.ensures.value c.in_default.ensures.ok

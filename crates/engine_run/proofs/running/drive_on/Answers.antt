@@ -1,5 +1,6 @@
-use Rattle.std.proofs.Common.{◌≡◌, ◌≢◌, ◌∙◌, ◌≤◌, ℕ, List, [], Err, refl, sym, ap, subst, arith}
+use Rattle.std.proofs.Common.{◌≢◌, ◌∙◌, ◌≤◌, ℕ, List, [], Err, refl, sym, ap, subst}
 use Rattle.engine_run.specs.Ends.{EndsAs, IsLateCause, IsRestCause}
+use Rattle.engine_run.proofs.Early.{differ, one_some, same_err}
 use Rattle.engine_run.proofs.Ending.{at_rest, rest_ends, rest_late, stop_ends, stop_late, other_stop, site_stop, say_stop, clock_stop, memory_no_site, memory_no_say, memory_no_clock, moment_above}
 use Rattle.engine_run.proofs.running.drive_on.Goals as goal
 use Rattle.hub_store.specs.Changes.{trail_in, told_in}
@@ -14,7 +15,7 @@ use Rattle.part_rounds.specs.Rounds.{pairs_of}
 use Rattle.hub_store.specs.declared.stop.Stop.{Stop}
 use Rattle.hub_store.specs.declared.stop.Stop.TheVariants as stops
 use Rattle.run_causes.specs.declared.cause.Cause.{Cause}
-use Rattle.run_causes.specs.declared.cause.Cause.TheVariants.{SayFault, Memory}
+use Rattle.run_causes.specs.declared.cause.Cause.TheVariants.{Long, SiteFault, SayFault, ClockFault, Memory}
 
 pub drive-requires-clause-sound : goal.drive-requires-clause-sound
 drive-requires-clause-sound g c = c.requires.sound
@@ -143,9 +144,9 @@ returns-in-Ok-Long g c = record {
   goes = subst (λ (l : List (List ℕ)). GoesByClock g.N.Ruled.rules g.A.Activities.gives c.args.options.batch l (g.C.Clock.given c.args.clock.now) (of_part 0 (trail_in c.args.store.now)) (told_in c.args.store.now) (g.C.Clock.given c.drive.new.clock) (of_part 0 (trail_in c.drive.new.store)) (told_in c.drive.new.store)) c.requires.clients c.drive.ensures.goes;
   no_more = c.drive.ensures.no_more;
   late = tt;
-  fault = λ is. absurd (cc is);
-  say_fault = λ is. absurd (cc is);
-  clock_fault = λ is. absurd (cc is);
+  fault = λ is. absurd (differ (Long c.in-Ok-Long.labels) SiteFault refl is);
+  say_fault = λ is. absurd (differ (Long c.in-Ok-Long.labels) SayFault refl is);
+  clock_fault = λ is. absurd (differ (Long c.in-Ok-Long.labels) ClockFault refl is);
   later = c.drive.ensures.later;
   say_later = c.drive.ensures.say_later;
   clock_later = c.drive.ensures.clock_later;
@@ -163,7 +164,7 @@ returns-in-Err g c = record {
       let rules = g.N.Ruled.rules in
       let steps = g.V.Site.history new.site in
       let told = c.drive.ensures.sound.told tells in
-      let fits = told.logs 0 (omega (arith, g.met.N.Ruled.one)) in
+      let fits = told.logs 0 (one_some g.N.Start.origin.count g.met.N.Ruled.one) in
       let latest = g.C.Clock.latest c.drive.new.clock in
       let raised = c.drive.ensures.latest in
       let later = c.drive.ensures.moments in
@@ -177,7 +178,7 @@ returns-in-Err g c = record {
       (c.in-Err.ensures.full partition length_then (ap (λ (stop : Stop). Err stop) is)))
       (λ partition number is. c.in-Err.ensures.spent partition number (ap (λ (stop : Stop). Err stop) is))
       fits
-      (λ other. with_later (g.N.Start.may_follow new.latest) (g.N.Start.may_follow latest) g.N.Start.may_say may g.N.Start.origin steps (trail_in new) (told_in new) [] (told.rests (c.drive.ensures.whole (λ is. other (let same : c.in-Err.stop ≡ stops.SayFault = cc (c.in-Err.is, is) in same)))))
+      (λ other. with_later (g.N.Start.may_follow new.latest) (g.N.Start.may_follow latest) g.N.Start.may_say may g.N.Start.origin steps (trail_in new) (told_in new) [] (told.rests (c.drive.ensures.whole (λ is. other (same_err c.drive.result c.in-Err.stop stops.SayFault c.in-Err.is is)))))
       (c.requires.asked (c.drive.ensures.tells tells)));
   goes = subst (λ (l : List (List ℕ)). GoesByClock g.N.Ruled.rules g.A.Activities.gives c.args.options.batch l (g.C.Clock.given c.args.clock.now) (of_part 0 (trail_in c.args.store.now)) (told_in c.args.store.now) (g.C.Clock.given c.drive.new.clock) (of_part 0 (trail_in c.drive.new.store)) (told_in c.drive.new.store)) c.requires.clients c.drive.ensures.goes;
   no_more = c.drive.ensures.no_more;

@@ -1,6 +1,6 @@
-use Rattle.std.proofs.Common.{◌≡◌, ◌∙◌, true, sym}
+use Rattle.std.proofs.Common.{◌≡◌, ◌∙◌, inl, inr, true, refl, sym}
 use Rattle.engine_run.specs.Order.{no_later}
-use Rattle.engine_run.proofs.Found.{at_some, at_none}
+use Rattle.engine_run.proofs.Found.{at_some, at_none, some_and}
 use Rattle.engine_run.proofs.Ordered.{no_later_itself, no_later_turned}
 use Rattle.engine_run.proofs.running.earlier.Goals as goal
 use Rattle.engine_run.proofs.running.earlier.Goals.{in_default-via-in-Some+else-comes_no_later, in_default-via-in_default}
@@ -20,3 +20,12 @@ returns-in_default-clause-old c =
           (no_later_turned (w.in-Some.other.now, w.in-Some.least) (c.args.client.now, c.args.number) (sym w.comes_no_later.ensures ∙ w.if-comes_no_later.false))
       | in_default-via-in_default w ↦ at_none c.args.first (λ one. no_later (c.args.client.now, c.args.number) (one.0.now, one.1) ≡ true) w.in_default.is
     ]
+
+pub returns-in-Some-clause-one : goal.returns-in-Some-clause-one
+returns-in-Some-clause-one c = inr (some_and c.args.first _ (λ one. (c.in-Some.other.now ≡ one.0.now) × (c.in-Some.least ≡ one.1)) c.in-Some.is (refl, refl))
+
+pub returns-in-Some-clause-new : goal.returns-in-Some-clause-new
+returns-in-Some-clause-new c = sym c.comes_no_later.ensures ∙ c.if-comes_no_later.true
+
+pub returns-in_default-clause-one : goal.returns-in_default-clause-one
+returns-in_default-clause-one c = inl (refl, refl)

@@ -1,14 +1,16 @@
-use Rattle.std.proofs.Common.{◌≡◌, ◌^◌, refl, ◌≤◌, ◌⊎◌, ◌∙◌, inl, inr, ℕ, List, [], length, map, sym, ap, subst, arith}
+use Rattle.std.proofs.Common.{◌≡◌, refl, ◌≤◌, ◌⊎◌, ◌∙◌, inl, inr, ℕ, List, [], length, map, sym, ap, subst, arith}
 use Rattle.std.proofs.Math.Nat.{le_of_eq}
 use Rattle.client_port.specs.Clients.{clients_of}
 use Rattle.client_port.specs.Ports.{Queue, queues_of}
 use Rattle.dura_value.specs.Items.{Entry}
 use Rattle.engine_run.specs.Ends.{GoesOn, Stays, IsLateCause, IsWanting, terms_of}
+use Rattle.engine_run.proofs.Early.{one_some, room_left}
 use Rattle.engine_run.proofs.Ending.{memory_no_site, memory_no_say, memory_no_clock, spent_no_site, spent_no_say, spent_no_clock}
 use Rattle.engine_run.proofs.Queues.{clients_named, nothing_said}
 use Rattle.engine_run.proofs.Runs.{run_further, nothing_before, settled_by}
 use Rattle.engine_run.proofs.running.go.Goals as goal
 use Rattle.hub_store.specs.Changes.{trail_in, told_in}
+use Rattle.hub_store.specs.Opened.{HasBegun}
 use Rattle.hub_store.specs.Short.{IsShort}
 use Rattle.hub_store.specs.Trail.{Settled, Said, of_part}
 use Rattle.hub_store.proofs.Later.{with_later, moments_later}
@@ -35,7 +37,7 @@ pub drive_on-cause-requires-clause-going : goal.drive_on-cause-requires-clause-g
 drive_on-cause-requires-clause-going g c = c.in-Ok-begin.ensures.going
 
 pub drive_on-cause-requires-clause-rests : goal.drive_on-cause-requires-clause-rests
-drive_on-cause-requires-clause-rests g c = c.in-Ok-begin.ensures.rest 0 (omega (arith, g.met.N.Ruled.one))
+drive_on-cause-requires-clause-rests g c = c.in-Ok-begin.ensures.rest 0 (one_some g.N.Start.origin.count g.met.N.Ruled.one)
 
 pub drive_on-cause-requires-clause-new : goal.drive_on-cause-requires-clause-new
 drive_on-cause-requires-clause-new g c = c.in-Ok-begin.ensures.trail
@@ -96,7 +98,7 @@ pub returns-then-position-ge-PLACES : goal.returns-then-position-ge-PLACES
 returns-then-position-ge-PLACES g c =
     let site_is = c.end_with.ensures.site in
     let wanting = c.end_with.ensures.cause in
-    let reaches : 2 ^ 62 ≤ c.position-position.result = search in record {
+    let reaches = c.if-position-ge-PLACES.true in record {
       told = λ tells. subst g.V.Site.tells site_is tells;
       status = c.end_with.ensures.status ∙ ap status_of (sym wanting);
       late = subst IsLateCause (sym wanting) (refl, reaches);
@@ -192,7 +194,7 @@ returns g c =
             whole = λ other.
                 with_later (g.N.Start.may_follow store.latest) (g.N.Start.may_follow latest) g.N.Start.may_say later g.N.Start.origin (g.V.Site.history store.site) (trail_in store) (told_in store) [] (c.end-site.ensures.whole tells_then (c.drive_on-cause.ensures.whole other));
             short = subst (λ (n : ℕ). IsShort n (of_part 0 (trail_in store)) (content_of (g.N.Start.origin.logs 0).file (g.V.Site.history store.site))) (c.drive_on-cause.ensures.segment ∙ c.in-Ok-begin.ensures.segment)
-                (c.end-site.ensures.short tells_then 0 (omega (arith, g.met.N.Ruled.one)));
+                (c.end-site.ensures.short tells_then 0 (one_some g.N.Start.origin.count g.met.N.Ruled.one));
             in_time = record { course = course; no_more = c.drive_on-cause.ensures.no_more };
             ends = c.drive_on-cause.ensures.ends tells_then;
           } in
@@ -209,3 +211,12 @@ returns g c =
       say_later = subst (λ site. g.V.Site.say_faults c.args.site ≤ g.V.Site.say_faults site) (sym site_is) (subst (λ site. g.V.Site.say_faults site ≤ g.V.Site.say_faults now) begun_is driven.say_later);
       clock_later = subst (λ clock. g.C.Clock.clock_faults c.args.clock ≤ g.C.Clock.clock_faults clock) (sym end.clock) driven.clock_later;
     }
+
+pub begin-requires-clause-count : goal.begin-requires-clause-count
+begin-requires-clause-count g c = ap length c.in-Ok-vec.ensures.items ∙ sym g.met.N.Ruled.one
+
+pub begin-requires-clause-begun : goal.begin-requires-clause-begun
+begin-requires-clause-begun g c tells = subst (HasBegun g.N.Start.origin (g.V.Site.history c.args.site)) (sym c.in-Ok-vec.ensures.items) (c.requires.begun tells)
+
+pub drive_on-cause-requires-clause-room : goal.drive_on-cause-requires-clause-room
+drive_on-cause-requires-clause-room g c = room_left c.position-position.result _ c.position-position.ensures c.if-position-ge-PLACES.false

@@ -1,8 +1,9 @@
-use Rattle.std.proofs.Common.{◌∙◌, inl, ℕ, List, Ok, Err, refl, sym, ap, subst, arith}
+use Rattle.std.proofs.Common.{◌∙◌, inl, inr, ℕ, List, Ok, Err, refl, sym, ap, subst, le_trans}
 use Rattle.std.proofs.Math.Nat.{le_of_eq}
 use Rattle.engine_run.specs.Opening.{IsLogCause, RecoversAs}
 use Rattle.engine_run.specs.Showing.{ShowsAs}
-use Rattle.engine_run.proofs.Shown.{syncs_tape, flows_shown, logs_shown}
+use Rattle.engine_run.proofs.Early.{differ}
+use Rattle.engine_run.proofs.Shown.{syncs_tape, flows_shown, logs_shown, stopped, stops_shown}
 use Rattle.engine_run.proofs.showing.show.Goals as goal
 use Rattle.flow_syntax.specs.Syntax.{Flows}
 use Rattle.flow_syntax.specs.Views.{flows_of}
@@ -10,9 +11,13 @@ use Rattle.part_steps.specs.States.{state_of}
 use Rattle.recover_core.specs.Recovering.{OnlySyncs}
 use Rattle.recover_core.proofs.LogsFound.{risen_later}
 use Rattle.run_causes.specs.declared.cause.Cause.{Cause}
+use Rattle.run_causes.specs.declared.cause.Cause.TheVariants.{Done, Usage, SiteFault, SayFault, ClockFault, Memory}
 use Rattle.run_inputs.specs.Input.{IsFlowsCause}
+use Rattle.site_model.specs.Calls.{HasRisen}
 use Rattle.site_model.specs.History.{Step, changes_of, content_of, tape}
 use Rattle.state_lines.specs.Fronts.{SaysTable}
+use Rattle.state_lines.specs.declared.error.ShowError.{ShowError}
+use Rattle.state_lines.specs.declared.error.ShowError.TheVariants as stops
 
 pub returns-in-Err : goal.returns-in-Err
 returns-in-Err g c =
@@ -50,7 +55,7 @@ returns-in-Err-recover_logs g c =
       say_fault = λ is. absurd (subst IsLogCause is early);
       no_clock = λ is. subst IsLogCause is early;
       no_usage = λ is. subst IsLogCause is early;
-      later = omega (arith, read.later, recover.later);
+      later = le_trans read.later recover.later;
       say_later = le_of_eq (sym (recover.say_faults ∙ read.say_faults));
     }
 
@@ -74,12 +79,12 @@ returns-in-Ok-said g c =
           let recovers = subst (λ (s : List Step). RecoversAs flows file.digest (λ f. content_of f s) (Ok found)) read.unchanged (c.in-Ok-recover_logs.ensures.recovers told) in
           (flows, state, record { digest = file.digest; flows_in_file = c.in-Ok.ensures.reads (recover.told told); entries = recovers.entries; keeps = record { kept = recovers.kept; made = recovers.placed } }, subst (λ (t : List ℕ). SaysTable flows state t (tape now)) (syncs_tape old mid syncs) (subst (λ (f : Flows). SaysTable f state (tape mid) (tape now)) c.of-machines.ensures c.in-Ok-said.ensures.said));
       nothing = record { mid = mid; syncs = syncs; files = said.files };
-      fault = λ is. absurd (cc is);
-      say_fault = λ is. absurd (cc is);
-      no_clock = λ is. absurd (cc is);
-      no_usage = λ is. absurd (cc is);
-      later = omega (arith, read.later, recover.later, said.disk_faults);
-      say_later = omega (arith, before, said.later);
+      fault = λ is. absurd (differ Done SiteFault refl is);
+      say_fault = λ is. absurd (differ Done SayFault refl is);
+      no_clock = differ Done ClockFault refl;
+      no_usage = differ Done Usage refl;
+      later = le_trans (le_trans read.later recover.later) (le_of_eq (sym said.disk_faults));
+      say_later = le_trans (le_of_eq (sym before)) said.later;
     }
 
 pub returns-in-Err-SayFault-clause-told : goal.returns-in-Err-SayFault-clause-told
@@ -89,19 +94,19 @@ pub returns-in-Err-SayFault-clause-nothing : goal.returns-in-Err-SayFault-clause
 returns-in-Err-SayFault-clause-nothing g c = let read = c.read_flow_file.ensures in let recover = c.recover_logs.ensures in let said = c.say_table-said.ensures in let mid = g.V.Site.history c.recover_logs.new.site in let syncs = subst (λ (s : List Step). OnlySyncs s mid) read.unchanged recover.syncs in record { mid = mid; syncs = syncs; files = said.files }
 
 pub returns-in-Err-SayFault-clause-fault : goal.returns-in-Err-SayFault-clause-fault
-returns-in-Err-SayFault-clause-fault g c = λ is. absurd (cc is)
+returns-in-Err-SayFault-clause-fault g c = λ is. absurd (differ SayFault SiteFault refl is)
 
 pub returns-in-Err-SayFault-clause-no_clock : goal.returns-in-Err-SayFault-clause-no_clock
-returns-in-Err-SayFault-clause-no_clock g c = λ is. absurd (cc is)
+returns-in-Err-SayFault-clause-no_clock g c = differ SayFault ClockFault refl
 
 pub returns-in-Err-SayFault-clause-no_usage : goal.returns-in-Err-SayFault-clause-no_usage
-returns-in-Err-SayFault-clause-no_usage g c = λ is. absurd (cc is)
+returns-in-Err-SayFault-clause-no_usage g c = differ SayFault Usage refl
 
 pub returns-in-Err-SayFault-clause-later : goal.returns-in-Err-SayFault-clause-later
-returns-in-Err-SayFault-clause-later g c = let read = c.read_flow_file.ensures in let recover = c.recover_logs.ensures in let said = c.say_table-said.ensures in omega (arith, read.later, recover.later, said.disk_faults)
+returns-in-Err-SayFault-clause-later g c = le_trans (le_trans c.read_flow_file.ensures.later c.recover_logs.ensures.later) (le_of_eq (sym c.say_table-said.ensures.disk_faults))
 
 pub returns-in-Err-SayFault-clause-say_later : goal.returns-in-Err-SayFault-clause-say_later
-returns-in-Err-SayFault-clause-say_later g c = let read = c.read_flow_file.ensures in let recover = c.recover_logs.ensures in let said = c.say_table-said.ensures in let before = recover.say_faults ∙ read.say_faults in omega (arith, before, said.later)
+returns-in-Err-SayFault-clause-say_later g c = le_trans (le_of_eq (sym (c.recover_logs.ensures.say_faults ∙ c.read_flow_file.ensures.say_faults))) c.say_table-said.ensures.later
 
 pub returns-clause-told : goal.returns-clause-told
 returns-clause-told g c = let read = c.read_flow_file.ensures in let recover = c.recover_logs.ensures in let said = c.say_table-said.ensures in λ tells. read.told (recover.told (said.tells tells))
@@ -110,19 +115,59 @@ pub returns-clause-nothing : goal.returns-clause-nothing
 returns-clause-nothing g c = let read = c.read_flow_file.ensures in let recover = c.recover_logs.ensures in let said = c.say_table-said.ensures in let mid = g.V.Site.history c.recover_logs.new.site in let syncs = subst (λ (s : List Step). OnlySyncs s mid) read.unchanged recover.syncs in record { mid = mid; syncs = syncs; files = said.files }
 
 pub returns-clause-fault : goal.returns-clause-fault
-returns-clause-fault g c = λ is. absurd (cc is)
+returns-clause-fault g c = λ is. absurd (differ Memory SiteFault refl is)
 
 pub returns-clause-say_fault : goal.returns-clause-say_fault
-returns-clause-say_fault g c = λ is. absurd (cc is)
+returns-clause-say_fault g c = λ is. absurd (differ Memory SayFault refl is)
 
 pub returns-clause-no_clock : goal.returns-clause-no_clock
-returns-clause-no_clock g c = λ is. absurd (cc is)
+returns-clause-no_clock g c = differ Memory ClockFault refl
 
 pub returns-clause-no_usage : goal.returns-clause-no_usage
-returns-clause-no_usage g c = λ is. absurd (cc is)
+returns-clause-no_usage g c = differ Memory Usage refl
 
 pub returns-clause-later : goal.returns-clause-later
-returns-clause-later g c = let read = c.read_flow_file.ensures in let recover = c.recover_logs.ensures in let said = c.say_table-said.ensures in omega (arith, read.later, recover.later, said.disk_faults)
+returns-clause-later g c = le_trans (le_trans c.read_flow_file.ensures.later c.recover_logs.ensures.later) (le_of_eq (sym c.say_table-said.ensures.disk_faults))
 
 pub returns-clause-say_later : goal.returns-clause-say_later
-returns-clause-say_later g c = let read = c.read_flow_file.ensures in let recover = c.recover_logs.ensures in let said = c.say_table-said.ensures in let before = recover.say_faults ∙ read.say_faults in omega (arith, before, said.later)
+returns-clause-say_later g c = le_trans (le_of_eq (sym (c.recover_logs.ensures.say_faults ∙ c.read_flow_file.ensures.say_faults))) c.say_table-said.ensures.later
+
+pub returns-in-Err-SayFault-clause-shows : goal.returns-in-Err-SayFault-clause-shows
+returns-in-Err-SayFault-clause-shows g c tells =
+    let read = c.read_flow_file.ensures in
+    let recover = c.recover_logs.ensures in
+    let said = c.say_table-said in
+    let file = c.in-Ok.file in
+    let flows = flows_of file.flows in
+    let found = c.in-Ok-recover_logs.recovered in
+    let old = g.V.Site.history c.args.site.now in
+    let mid = g.V.Site.history c.recover_logs.new.site in
+    let syncs = subst (λ (s : List Step). OnlySyncs s mid) read.unchanged recover.syncs in
+    let told = said.ensures.tells tells in
+    let recovers = subst (λ (s : List Step). RecoversAs flows file.digest (λ f. content_of f s) (Ok found)) read.unchanged (c.in-Ok-recover_logs.ensures.recovers told) in
+    stops_shown (λ f. content_of f old) flows _ (state_of found.state) (tape old) (tape mid) (tape (g.V.Site.history said.new.site)) stops.SayFault
+    (record { digest = file.digest; flows_in_file = c.in-Ok.ensures.reads (recover.told told); entries = recovers.entries; keeps = record { kept = recovers.kept; made = recovers.placed } })
+    c.of-machines.ensures (syncs_tape old mid syncs) (stopped said.result _ c.in-Err-SayFault.field-0 stops.SayFault said.ensures.part c.in-Err-SayFault.is (rw c.in-Err-SayFault.is at c.in-Err-SayFault.field-0-is))
+
+pub returns-in-Err-SayFault-clause-say_fault : goal.returns-in-Err-SayFault-clause-say_fault
+returns-in-Err-SayFault-clause-say_fault g c = λ is.
+    let said = c.say_table-said in
+    subst (λ (n : ℕ). HasRisen n (g.V.Site.say_faults said.new.site)) (c.recover_logs.ensures.say_faults ∙ c.read_flow_file.ensures.say_faults)
+    (said.ensures.fault (c.in-Err-SayFault.is ∙ ap (λ (e : ShowError). Err e) (rw c.in-Err-SayFault.is at c.in-Err-SayFault.field-0-is)))
+
+pub returns-clause-shows : goal.returns-clause-shows
+returns-clause-shows g c tells =
+    let read = c.read_flow_file.ensures in
+    let recover = c.recover_logs.ensures in
+    let said = c.say_table-said in
+    let file = c.in-Ok.file in
+    let flows = flows_of file.flows in
+    let found = c.in-Ok-recover_logs.recovered in
+    let old = g.V.Site.history c.args.site.now in
+    let mid = g.V.Site.history c.recover_logs.new.site in
+    let syncs = subst (λ (s : List Step). OnlySyncs s mid) read.unchanged recover.syncs in
+    let told = said.ensures.tells tells in
+    let recovers = subst (λ (s : List Step). RecoversAs flows file.digest (λ f. content_of f s) (Ok found)) read.unchanged (c.in-Ok-recover_logs.ensures.recovers told) in
+    inr (stops_shown (λ f. content_of f old) flows _ (state_of found.state) (tape old) (tape mid) (tape (g.V.Site.history said.new.site)) stops.Memory
+    (record { digest = file.digest; flows_in_file = c.in-Ok.ensures.reads (recover.told told); entries = recovers.entries; keeps = record { kept = recovers.kept; made = recovers.placed } })
+    c.of-machines.ensures (syncs_tape old mid syncs) (stopped said.result _ c.in-Err-Memory.field-0 stops.Memory said.ensures.part c.in-Err-Memory.is (rw c.in-Err-Memory.is at c.in-Err-Memory.field-0-is)))

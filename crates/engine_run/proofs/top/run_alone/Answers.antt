@@ -9,12 +9,14 @@ use Rattle.engine_run.specs.Headline.{Headline}
 use Rattle.engine_run.specs.Opened.{IsOpening}
 use Rattle.engine_run.specs.Prepared.{IsEarlyCause}
 use Rattle.engine_run.specs.Showing.{ShowsAs, WritesNothing}
+use Rattle.engine_run.proofs.Early.{differ}
 use Rattle.engine_run.proofs.Ending.{memory_no_site, memory_no_say, memory_no_clock}
 use Rattle.engine_run.proofs.Opens.{opening_first}
 use Rattle.engine_run.proofs.Words.{run_is_within, run_same, run_no_show, none_no_call}
 use Rattle.engine_run.proofs.top.run_alone.Goals as goal
 use Rattle.run_causes.specs.Causes.{status_of}
 use Rattle.run_causes.specs.declared.cause.Cause.{Cause}
+use Rattle.run_causes.specs.declared.cause.Cause.TheVariants.{Usage, SiteFault, SayFault, ClockFault, Memory}
 use Rattle.site_model.specs.Calls.{HasRisen}
 use Rattle.site_model.specs.History.{changes_of, content_of, tape}
 use Rattle.site_model.specs.Moments.{Always}
@@ -105,9 +107,9 @@ returns-in-Err-Usage g c =
       headline = λ tells options asked. absurd (none_no_call (call_in c.args.words.now) (Run options) is asked);
       shows = λ tells partitions asked. absurd (none_no_call (call_in c.args.words.now) (Show partitions) is asked);
       writes_nothing = λ partitions asked. absurd (none_no_call (call_in c.args.words.now) (Show partitions) is asked);
-      fault = λ is. absurd (cc (end.cause, is));
-      say_fault = λ is. absurd (cc (end.cause, is));
-      clock_fault = λ is. absurd (cc (end.cause, is));
+      fault = λ is. absurd (differ Usage SiteFault refl (sym end.cause ∙ is));
+      say_fault = λ is. absurd (differ Usage SayFault refl (sym end.cause ∙ is));
+      clock_fault = λ is. absurd (differ Usage ClockFault refl (sym end.cause ∙ is));
       later = le_of_eq (ap g.V.Site.disk_faults (sym end.site));
       say_later = le_of_eq (ap g.V.Site.say_faults (sym end.site));
       clock_later = le_of_eq (ap g.C.Clock.clock_faults (sym end.clock));
@@ -121,7 +123,7 @@ returns-in-Err-Memory g c =
       told = λ tells. subst g.V.Site.tells end.site tells;
       status = end.status ∙ ap status_of (sym end.cause);
       usage = λ none. inr end.cause;
-      only_usage = λ usage. absurd (cc (end.cause, usage));
+      only_usage = λ usage. absurd (differ Memory Usage refl (sym end.cause ∙ usage));
       idle = λ none. ap g.V.Site.history end.site;
       answers = λ tells options asked. subst (Answers (λ file. content_of file old)) (sym end.cause) tt;
       untouched = λ options asked. subst (Untouched old now) (sym end.cause) tt;

@@ -1,4 +1,4 @@
-use Rattle.std.proofs.Common.{◌≡◌, ◌≤◌, ◌<◌, ◌^◌, ◌∙◌, inl, inr, ℕ, List, Err, refl, sym, ap, subst, arith}
+use Rattle.std.proofs.Common.{◌≤◌, ◌<◌, ◌^◌, ◌∙◌, inl, inr, ℕ, List, Err, refl, sym, ap, subst, le_trans}
 use Rattle.std.proofs.Math.Nat.{le_of_eq}
 use Rattle.dura_model.specs.Partition.{Partition}
 use Rattle.dura_model.specs.Placed.{Belongs}
@@ -11,13 +11,14 @@ use Rattle.engine_run.specs.Job.{Job, AreGivenIn}
 use Rattle.engine_run.specs.Opened.{IsOpening}
 use Rattle.engine_run.specs.Prepared.{job_of, IsEarlyCause}
 use Rattle.engine_run.proofs.Asked.{same_job, same_entries, same_state}
+use Rattle.engine_run.proofs.Early.{one_first}
 use Rattle.engine_run.proofs.FileAsked.{file_asked}
 use Rattle.engine_run.proofs.Going.{runs_on}
 use Rattle.engine_run.proofs.Picked.{picked}
 use Rattle.engine_run.proofs.Refusing.{late_answers, late_untouched, late_no_refusal, ready, not_refused}
 use Rattle.engine_run.proofs.Standing.{shown_alone, has_begun}
 use Rattle.engine_run.proofs.top.run_requests.Goals as goal
-use Rattle.part_steps.specs.States.{state_of}
+use Rattle.part_steps.specs.States.{state_of, count_of}
 use Rattle.recover_core.specs.Recovering.{OnlySyncs}
 use Rattle.recover_core.proofs.LogsFound.{risen_later}
 use Rattle.run_causes.specs.Causes.{status_of}
@@ -32,7 +33,7 @@ go_named-requires-clause-stands g c =
     let state = state_of p.state in
     let can = c.in-Ok.ensures.can in
     let here = picked p.digest p.log.file (g.V.Site.history c.prepare.new.site) state p.life in
-    let first : p.state.rows.number ≡ 0 = omega (arith, can.sound.below, can.alone) in
+    let first = one_first (count_of p.state) p.state.rows.number can.alone can.sound.below in
     record {
       made = refl;
       shown = shown_alone state (subst (λ (n : ℕ). Belongs 1 n state) first (subst (λ (n : ℕ). Belongs n p.state.rows.number state) can.alone can.sound.belongs));
@@ -118,7 +119,7 @@ returns-in-Ok g c =
       fault = λ is. risen_later _ _ _ prepare.later gone.later (gone.fault is);
       say_fault = λ is. subst (λ (n : ℕ). HasRisen n (g.V.Site.say_faults c.go_named.result.site)) prepare.say_faults (gone.say_fault is);
       clock_fault = gone.clock_fault;
-      later = omega (arith, prepare.later, gone.later);
+      later = le_trans prepare.later gone.later;
       say_later = subst (λ (n : ℕ). n ≤ g.V.Site.say_faults c.go_named.result.site) prepare.say_faults gone.say_later;
       clock_later = gone.clock_later;
     }

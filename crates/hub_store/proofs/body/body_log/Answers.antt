@@ -1,4 +1,4 @@
-use Rattle.std.proofs.Common.{◌+◌, inl, inr, ℕ, List, length, Err, refl, subst, arith}
+use Rattle.std.proofs.Common.{◌+◌, inl, inr, ℕ, List, length, Err, refl, subst, arith, le_refl, zero-le}
 use Rattle.std.proofs.lemmas.Bool.{cases_lt}
 use Rattle.site_model.specs.History.{changes_of}
 use Rattle.commit_log.specs.declared.states.BodyError.{BodyError}
@@ -6,7 +6,7 @@ use Rattle.commit_log.specs.Outcomes.{AfterBody}
 use Rattle.commit_log.specs.States.{IsBodied, IsBroken}
 use Rattle.part_items.specs.Plain.{entries_of}
 use Rattle.part_items.specs.Spelling.{spell_frame}
-use Rattle.hub_store.proofs.Bodies.{ok_apart, full_memory, full_fault, memory_fault}
+use Rattle.hub_store.proofs.Bodies.{ok_apart, full_memory, full_fault, memory_fault, rests_there}
 use Rattle.hub_store.proofs.Shortness.{next_gate}
 use Rattle.hub_store.proofs.body.body_log.Goals as goal
 
@@ -73,3 +73,93 @@ returns-in-Err-SiteFault-clause-short g c h payloads rests =
       | inl below ↦ inr (omega (arith, below, ends.0, ends.1))
       | inr past ↦ absurd (let full = c.in-Err-SiteFault.ensures.full past in let fault = c.in-Err-SiteFault.field-0-is in cc (full, fault))
     ]
+
+pub returns-in-Ok-clause-told : goal.returns-in-Ok-clause-told
+returns-in-Ok-clause-told g c = c.body.ensures.told
+
+pub returns-in-Ok-clause-during : goal.returns-in-Ok-clause-during
+returns-in-Ok-clause-during g c = c.body.ensures.during
+
+pub returns-in-Ok-clause-going : goal.returns-in-Ok-clause-going
+returns-in-Ok-clause-going g c = inr refl
+
+pub returns-in-Ok-clause-due : goal.returns-in-Ok-clause-due
+returns-in-Ok-clause-due g c = le_refl _
+
+pub returns-in-Ok-clause-ok : goal.returns-in-Ok-clause-ok
+returns-in-Ok-clause-ok g c = (refl, refl)
+
+pub returns-in-Ok-clause-later : goal.returns-in-Ok-clause-later
+returns-in-Ok-clause-later g c = c.body.ensures.later
+
+pub returns-in-Ok-clause-say_faults : goal.returns-in-Ok-clause-say_faults
+returns-in-Ok-clause-say_faults g c = c.body.ensures.say_faults
+
+pub returns-in-Err-SiteFault-clause-told : goal.returns-in-Err-SiteFault-clause-told
+returns-in-Err-SiteFault-clause-told g c = c.body.ensures.told
+
+pub returns-in-Err-SiteFault-clause-during : goal.returns-in-Err-SiteFault-clause-during
+returns-in-Err-SiteFault-clause-during g c = c.body.ensures.during
+
+pub returns-in-Err-SiteFault-clause-going : goal.returns-in-Err-SiteFault-clause-going
+returns-in-Err-SiteFault-clause-going g c = inr refl
+
+pub returns-in-Err-SiteFault-clause-due : goal.returns-in-Err-SiteFault-clause-due
+returns-in-Err-SiteFault-clause-due g c = le_refl _
+
+pub returns-in-Err-SiteFault-clause-ok : goal.returns-in-Err-SiteFault-clause-ok
+returns-in-Err-SiteFault-clause-ok g c = tt
+
+pub returns-in-Err-SiteFault-clause-later : goal.returns-in-Err-SiteFault-clause-later
+returns-in-Err-SiteFault-clause-later g c = c.body.ensures.later
+
+pub returns-in-Err-SiteFault-clause-say_faults : goal.returns-in-Err-SiteFault-clause-say_faults
+returns-in-Err-SiteFault-clause-say_faults g c = c.body.ensures.say_faults
+
+pub returns-in-Err-Full-clause-told : goal.returns-in-Err-Full-clause-told
+returns-in-Err-Full-clause-told g c = c.body.ensures.told
+
+pub returns-in-Err-Full-clause-during : goal.returns-in-Err-Full-clause-during
+returns-in-Err-Full-clause-during g c = c.body.ensures.during
+
+pub returns-in-Err-Full-clause-going : goal.returns-in-Err-Full-clause-going
+returns-in-Err-Full-clause-going g c = inl refl
+
+pub returns-in-Err-Full-clause-due : goal.returns-in-Err-Full-clause-due
+returns-in-Err-Full-clause-due g c = zero-le
+
+pub returns-in-Err-Full-clause-ok : goal.returns-in-Err-Full-clause-ok
+returns-in-Err-Full-clause-ok g c = tt
+
+pub returns-in-Err-Full-clause-later : goal.returns-in-Err-Full-clause-later
+returns-in-Err-Full-clause-later g c = c.body.ensures.later
+
+pub returns-in-Err-Full-clause-say_faults : goal.returns-in-Err-Full-clause-say_faults
+returns-in-Err-Full-clause-say_faults g c = c.body.ensures.say_faults
+
+pub returns-in-Err-Full-clause-there : goal.returns-in-Err-Full-clause-there
+returns-in-Err-Full-clause-there g c = rests_there _
+
+pub returns-in-Err-Memory-clause-told : goal.returns-in-Err-Memory-clause-told
+returns-in-Err-Memory-clause-told g c = c.body.ensures.told
+
+pub returns-in-Err-Memory-clause-during : goal.returns-in-Err-Memory-clause-during
+returns-in-Err-Memory-clause-during g c = c.body.ensures.during
+
+pub returns-in-Err-Memory-clause-going : goal.returns-in-Err-Memory-clause-going
+returns-in-Err-Memory-clause-going g c = inl refl
+
+pub returns-in-Err-Memory-clause-due : goal.returns-in-Err-Memory-clause-due
+returns-in-Err-Memory-clause-due g c = zero-le
+
+pub returns-in-Err-Memory-clause-ok : goal.returns-in-Err-Memory-clause-ok
+returns-in-Err-Memory-clause-ok g c = tt
+
+pub returns-in-Err-Memory-clause-later : goal.returns-in-Err-Memory-clause-later
+returns-in-Err-Memory-clause-later g c = c.body.ensures.later
+
+pub returns-in-Err-Memory-clause-say_faults : goal.returns-in-Err-Memory-clause-say_faults
+returns-in-Err-Memory-clause-say_faults g c = c.body.ensures.say_faults
+
+pub returns-in-Err-Memory-clause-there : goal.returns-in-Err-Memory-clause-there
+returns-in-Err-Memory-clause-there g c = rests_there _

@@ -1,4 +1,5 @@
-use Rattle.std.proofs.Common.{ℕ, subst}
+use Rattle.hub_store.proofs.Bodies.{reach_is}
+use Rattle.std.proofs.Common.{ℕ, subst, refl}
 use Rattle.site_model.specs.History.{changes_of}
 use Rattle.commit_log.specs.States.{IsBroken}
 use Rattle.part_items.specs.Plain.{entries_of}
@@ -13,3 +14,63 @@ returns-in-Err-clause-fits g c h payloads bodied =
       subst (λ (f : ℕ). IsBroken (changes_of f (g.V.Site.history c.sync_body.new.site)) h payloads payload c.in-Err.log.gate c.in-Err.log.next) place.0
           (c.in-Err.ensures.after h payloads payload bodied),
     )
+
+pub returns-in-Ok-clause-told : goal.returns-in-Ok-clause-told
+returns-in-Ok-clause-told g c = c.sync_body.ensures.told
+
+pub returns-in-Ok-clause-during : goal.returns-in-Ok-clause-during
+returns-in-Ok-clause-during g c = c.sync_body.ensures.during
+
+pub returns-in-Ok-clause-going : goal.returns-in-Ok-clause-going
+returns-in-Ok-clause-going g c = refl
+
+pub returns-in-Ok-clause-due : goal.returns-in-Ok-clause-due
+returns-in-Ok-clause-due g c = refl
+
+pub returns-in-Ok-clause-ok : goal.returns-in-Ok-clause-ok
+returns-in-Ok-clause-ok g c = refl
+
+pub returns-in-Ok-clause-err : goal.returns-in-Ok-clause-err
+returns-in-Ok-clause-err g c = tt
+
+pub returns-in-Ok-clause-broken : goal.returns-in-Ok-clause-broken
+returns-in-Ok-clause-broken g c = tt
+
+pub returns-in-Ok-clause-cause : goal.returns-in-Ok-clause-cause
+returns-in-Ok-clause-cause g c = record { later = c.sync_body.ensures.cause.later; same = c.in-Ok.ensures.cause.same; risen = tt }
+
+pub returns-in-Ok-clause-say_faults : goal.returns-in-Ok-clause-say_faults
+returns-in-Ok-clause-say_faults g c = c.sync_body.ensures.say_faults
+
+pub returns-in-Err-clause-told : goal.returns-in-Err-clause-told
+returns-in-Err-clause-told g c = c.sync_body.ensures.told
+
+pub returns-in-Err-clause-during : goal.returns-in-Err-clause-during
+returns-in-Err-clause-during g c = c.sync_body.ensures.during
+
+pub returns-in-Err-clause-going : goal.returns-in-Err-clause-going
+returns-in-Err-clause-going g c = refl
+
+pub returns-in-Err-clause-due : goal.returns-in-Err-clause-due
+returns-in-Err-clause-due g c = refl
+
+pub returns-in-Err-clause-ok : goal.returns-in-Err-clause-ok
+returns-in-Err-clause-ok g c = tt
+
+pub returns-in-Err-clause-err : goal.returns-in-Err-clause-err
+returns-in-Err-clause-err g c = refl
+
+pub returns-in-Err-clause-broken : goal.returns-in-Err-clause-broken
+returns-in-Err-clause-broken g c = refl
+
+pub returns-in-Err-clause-cause : goal.returns-in-Err-clause-cause
+returns-in-Err-clause-cause g c = record { later = c.sync_body.ensures.cause.later; same = tt; risen = c.in-Err.ensures.cause.risen }
+
+pub returns-in-Err-clause-say_faults : goal.returns-in-Err-clause-say_faults
+returns-in-Err-clause-say_faults g c = c.sync_body.ensures.say_faults
+
+pub returns-in-Ok-clause-reach : goal.returns-in-Ok-clause-reach
+returns-in-Ok-clause-reach g c = reach_is c.args.log.gate c.args.log.next c.in-Ok.log.gate c.in-Ok.log.next c.in-Ok.ensures.place.1 c.in-Ok.ensures.place.2
+
+pub returns-in-Err-clause-reach : goal.returns-in-Err-clause-reach
+returns-in-Err-clause-reach g c = reach_is c.args.log.gate c.args.log.next c.in-Err.log.gate c.in-Err.log.next c.in-Err.ensures.broken.1 c.in-Err.ensures.broken.2

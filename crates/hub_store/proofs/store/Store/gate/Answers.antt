@@ -1,4 +1,4 @@
-use Rattle.std.proofs.Common.{◌≡◌, Err, OnOk, OnErr, refl, sym, ◌∙◌, ap, subst, arith}
+use Rattle.std.proofs.Common.{◌≡◌, Err, OnOk, OnErr, refl, sym, ◌∙◌, ap, subst, le_refl}
 use Rattle.std.proofs.Math.Nat.{le_of_eq}
 use Rattle.site_model.specs.History.{changes_of}
 use Rattle.hub_store.specs.declared.refusal.Refusal.TheVariants.{SiteFault}
@@ -9,7 +9,7 @@ use Rattle.hub_store.specs.Plain.{trail_of, told_of}
 use Rattle.hub_store.specs.Trail.{of_part}
 use Rattle.hub_store.specs.Short.{KeepsShort}
 use Rattle.hub_store.specs.Ways.{LogFits, stage_of, due_in, going_in}
-use Rattle.hub_store.proofs.Bodies.{way_put, fault_no_frame}
+use Rattle.hub_store.proofs.Bodies.{way_put, fault_no_frame, true_apart, within}
 use Rattle.hub_store.proofs.Calls.{synced_there, gate_goes}
 use Rattle.hub_store.proofs.Shortness.{still_short}
 use Rattle.hub_store.proofs.Standing.{told_on}
@@ -51,13 +51,13 @@ returns-clause-ok g c =
     let p = c.args.part in
     let way = c.gate_log-way.result.0 in
     subst (λ (w : Way). OnOk c.gate_log-way.result.1 (stage_of w ≡ stages.Gated))
-    (sym (way_put _ _ p way (put_for _ _ _ p way c.take_way.ensures.rest c.put_way.ensures) (omega (arith, c.requires.sound.count, c.requires.place)))) c.gate_log-way.ensures.ok
+    (sym (way_put _ _ p way (put_for _ _ _ p way c.take_way.ensures.rest c.put_way.ensures) (within _ _ _ c.requires.sound.count c.requires.place))) c.gate_log-way.ensures.ok
 
 pub returns-clause-frame : goal.returns-clause-frame
 returns-clause-frame g c =
     let p = c.args.part in
     let way = c.gate_log-way.result.0 in
-    ap going_in (way_put _ _ p way (put_for _ _ _ p way c.take_way.ensures.rest c.put_way.ensures) (omega (arith, c.requires.sound.count, c.requires.place)))
+    ap going_in (way_put _ _ p way (put_for _ _ _ p way c.take_way.ensures.rest c.put_way.ensures) (within _ _ _ c.requires.sound.count c.requires.place))
     ∙ c.gate_log-way.ensures.going ∙ ap going_in c.in-Synced.ensures.way
 
 pub returns-clause-only : goal.returns-clause-only
@@ -74,3 +74,57 @@ returns-clause-no_frame g c = (
 
 pub returns-clause-unchanged : goal.returns-clause-unchanged
 returns-clause-unchanged g c is = let other = subst (λ r. OnErr r (r ≡ Err SiteFault)) is c.gate_log-way.ensures.err in absurd (fault_no_frame _ other refl)
+
+pub returns-clause-told : goal.returns-clause-told
+returns-clause-told g c = c.gate_log-way.ensures.told
+
+pub returns-clause-segment : goal.returns-clause-segment
+returns-clause-segment g c = refl
+
+pub returns-clause-latest : goal.returns-clause-latest
+returns-clause-latest g c = refl
+
+pub returns-clause-whole : goal.returns-clause-whole
+returns-clause-whole g c = refl
+
+pub returns-clause-say_faults : goal.returns-clause-say_faults
+returns-clause-say_faults g c = c.gate_log-way.ensures.say_faults
+
+pub returns-then-ne-clause-told : goal.returns-then-ne-clause-told
+returns-then-ne-clause-told g c = λ t. t
+
+pub returns-then-ne-clause-sound : goal.returns-then-ne-clause-sound
+returns-then-ne-clause-sound g c = c.requires.sound
+
+pub returns-then-ne-clause-segment : goal.returns-then-ne-clause-segment
+returns-then-ne-clause-segment g c = refl
+
+pub returns-then-ne-clause-latest : goal.returns-then-ne-clause-latest
+returns-then-ne-clause-latest g c = refl
+
+pub returns-then-ne-clause-whole : goal.returns-then-ne-clause-whole
+returns-then-ne-clause-whole g c = refl
+
+pub returns-then-ne-clause-say_faults : goal.returns-then-ne-clause-say_faults
+returns-then-ne-clause-say_faults g c = refl
+
+pub returns-then-ne-clause-ok : goal.returns-then-ne-clause-ok
+returns-then-ne-clause-ok g c = tt
+
+pub returns-then-ne-clause-frame : goal.returns-then-ne-clause-frame
+returns-then-ne-clause-frame g c = refl
+
+pub returns-then-ne-clause-only : goal.returns-then-ne-clause-only
+returns-then-ne-clause-only g c = record { trail = refl; told = refl; others = λ other apart. refl }
+
+pub returns-then-ne-clause-unchanged : goal.returns-then-ne-clause-unchanged
+returns-then-ne-clause-unchanged g c = λ is. refl
+
+pub returns-then-ne-clause-still : goal.returns-then-ne-clause-still
+returns-then-ne-clause-still g c = tt
+
+pub returns-then-ne-clause-halts : goal.returns-then-ne-clause-halts
+returns-then-ne-clause-halts g c = λ is. absurd (fault_no_frame _ is refl)
+
+pub returns-then-ne-clause-halted : goal.returns-then-ne-clause-halted
+returns-then-ne-clause-halted g c = record { later = le_refl _; same = λ is. refl; risen = λ is. absurd (true_apart (sym is ∙ c.requires.going)) }

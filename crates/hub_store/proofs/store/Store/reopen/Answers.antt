@@ -1,4 +1,5 @@
-use Rattle.std.proofs.Common.{◌≡◌, ◌≤◌, ◌+◌, max, false, inl, inr, ◌++◌, List, length, refl, sym, ◌∙◌, ap, subst, arith}
+use Rattle.site_model.specs.Calls.{HasRisen}
+use Rattle.std.proofs.Common.{◌≡◌, ◌≤◌, ◌+◌, max, false, inl, inr, ◌++◌, List, length, refl, sym, ◌∙◌, ap, subst, le_refl, OnErr, OnOk}
 use Rattle.std.specs.Prelude.{MatchResult}
 use Rattle.std.proofs.lemmas.List.{append-nil}
 use Rattle.dura_value.specs.Items.{Entry}
@@ -12,7 +13,7 @@ use Rattle.hub_store.specs.Plain.{trail_of, told_of}
 use Rattle.hub_store.specs.Trail.{of_part, settling}
 use Rattle.hub_store.specs.Short.{reach_of, KeepsShort}
 use Rattle.hub_store.specs.Ways.{LogFits, GoesOn, stage_of, gate_of, going_in, due_in}
-use Rattle.hub_store.proofs.Bodies.{way_put, rests_there, true_apart, ok_apart, fault_no_frame, dropped_settled}
+use Rattle.hub_store.proofs.Bodies.{way_put, rests_there, true_apart, ok_apart, fault_no_frame, dropped_settled, within, broken_there, less_due, less_room, still_room}
 use Rattle.hub_store.proofs.OpenedAgain.{not_true, not_false, settled_just, dropped_just, reopen_path, rests_with, rests_without, breaks_again}
 use Rattle.hub_store.proofs.Settling.{of_part-append, no_part, told_settled}
 use Rattle.hub_store.proofs.Shortness.{still_short}
@@ -33,7 +34,7 @@ returns-in-Err-clause-sound g c =
     let was = c.take_way-way.result in
     let way = ways.Broken c.in-Err.log frame in
     let dues = c.reopen_log-answer.ensures.due in
-    sound_on old _ p way c.requires.sound c.requires.place (λ is. cc) (put_for _ _ _ p way c.take_way-way.ensures.rest c.put_way.ensures) (sym dues ∙ ap due_in c.take_way-way.ensures.way) refl refl c.requires.whole refl
+    sound_on old _ p way c.requires.sound c.requires.place (broken_there c.in-Err.log frame) (put_for _ _ _ p way c.take_way-way.ensures.rest c.put_way.ensures) (sym dues ∙ ap due_in c.take_way-way.ensures.way) refl refl c.requires.whole refl
     (λ tells.
     let stood = c.requires.sound.told (c.reopen_log-answer.ensures.told tells) in
     let fits = subst (λ (w : Way). LogFits (o.logs p) (of_part p trail) (changes_of (o.logs p).file before) w) (sym c.take_way-way.ensures.way) (stood.logs p c.requires.place) in
@@ -64,8 +65,8 @@ returns-then-not-found-clause-sound g c =
     let was_due = ap due_in c.take_way-way.ensures.way in
     let enough = due_of_one old p c.requires.sound c.requires.place in
     let size = ap length c.entries.ensures in
-    sound_any old _ p way trail c.requires.sound c.requires.place (rests_there found.log) (put_for _ _ _ p way c.take_way-way.ensures.rest c.put_way-2.ensures) (omega (arith, dues, was_due, enough, size))
-    (omega (arith, c.requires.sound.room)) refl c.requires.whole refl
+    sound_any old _ p way trail c.requires.sound c.requires.place (rests_there found.log) (put_for _ _ _ p way c.take_way-way.ensures.rest c.put_way-2.ensures) (less_due _ _ _ _ (sym dues ∙ was_due) enough size)
+    (still_room _ _ _ _ c.requires.sound.room) refl c.requires.whole refl
     (λ tells.
     let stood = c.requires.sound.told (c.reopen_log-answer.ensures.told tells) in
     let fits = subst (λ (w : Way). LogFits (o.logs p) (of_part p trail) (changes_of (o.logs p).file before) w) (sym c.take_way-way.ensures.way) (stood.logs p c.requires.place) in
@@ -113,7 +114,7 @@ returns-clause-sound g c =
     let enough = due_of_one old p c.requires.sound c.requires.place in
     let size = ap length c.entries.ensures in
     sound_any old _ p way (trail ++ settling p at (entries_of frame)) c.requires.sound c.requires.place (rests_there found.log) (put_for _ _ _ p way c.take_way-way.ensures.rest c.put_way-2.ensures)
-    (omega (arith, dues, was_due, enough, size)) (omega (arith, dues, was_due, enough, size, c.requires.sound.room, c.settle_entries.ensures.len, c.settle_entries.ensures.capacity)) c.settle_entries.ensures.trail c.requires.whole refl
+    (less_due _ _ _ _ (sym dues ∙ was_due) enough size) (less_room _ _ _ _ _ _ _ _ (sym dues ∙ was_due) enough size c.requires.sound.room c.settle_entries.ensures.len c.settle_entries.ensures.capacity) c.settle_entries.ensures.trail c.requires.whole refl
     (λ tells.
     let stood = c.requires.sound.told (c.reopen_log-answer.ensures.told tells) in
     let fits = subst (λ (w : Way). LogFits (o.logs p) (of_part p trail) (changes_of (o.logs p).file before) w) (sym c.take_way-way.ensures.way) (stood.logs p c.requires.place) in
@@ -153,7 +154,7 @@ pub returns-in-Err-clause-frame : goal.returns-in-Err-clause-frame
 returns-in-Err-clause-frame g c =
     let p = c.args.part in
     let way = ways.Broken c.in-Err.log c.reopen_log-answer.result.1 in
-    ap going_in (way_put _ _ p way (put_for _ _ _ p way c.take_way-way.ensures.rest c.put_way.ensures) (omega (arith, c.requires.sound.count, c.requires.place)))
+    ap going_in (way_put _ _ p way (put_for _ _ _ p way c.take_way-way.ensures.rest c.put_way.ensures) (within _ _ _ c.requires.sound.count c.requires.place))
     ∙ sym c.reopen_log-answer.ensures.going ∙ ap going_in c.take_way-way.ensures.way
 
 pub returns-in-Err-clause-others : goal.returns-in-Err-clause-others
@@ -175,7 +176,7 @@ pub returns-then-not-found-clause-ok : goal.returns-then-not-found-clause-ok
 returns-then-not-found-clause-ok g c =
     let p = c.args.part in
     let way = ways.Resting c.in-Ok.found.log in
-    ap stage_of (way_put _ _ p way (put_for _ _ _ p way c.take_way-way.ensures.rest c.put_way-2.ensures) (omega (arith, c.requires.sound.count, c.requires.place)))
+    ap stage_of (way_put _ _ p way (put_for _ _ _ p way c.take_way-way.ensures.rest c.put_way-2.ensures) (within _ _ _ c.requires.sound.count c.requires.place))
 
 pub returns-then-not-found-clause-others : goal.returns-then-not-found-clause-others
 returns-then-not-found-clause-others g c =
@@ -199,7 +200,7 @@ pub returns-clause-ok : goal.returns-clause-ok
 returns-clause-ok g c =
     let p = c.args.part in
     let way = ways.Resting c.in-Ok.found.log in
-    ap stage_of (way_put _ _ p way (put_for _ _ _ p way c.take_way-way.ensures.rest c.put_way-2.ensures) (omega (arith, c.requires.sound.count, c.requires.place)))
+    ap stage_of (way_put _ _ p way (put_for _ _ _ p way c.take_way-way.ensures.rest c.put_way-2.ensures) (within _ _ _ c.requires.sound.count c.requires.place))
 
 pub returns-clause-others : goal.returns-clause-others
 returns-clause-others g c =
@@ -227,3 +228,174 @@ returns-clause-halts g c is = absurd (ok_apart _ _ is)
 
 pub returns-clause-unchanged : goal.returns-clause-unchanged
 returns-clause-unchanged g c is = absurd (ok_apart _ _ is)
+
+pub returns-in-Err-clause-told : goal.returns-in-Err-clause-told
+returns-in-Err-clause-told g c = c.reopen_log-answer.ensures.told
+
+pub returns-in-Err-clause-ok : goal.returns-in-Err-clause-ok
+returns-in-Err-clause-ok g c = tt
+
+pub returns-in-Err-clause-no_trail : goal.returns-in-Err-clause-no_trail
+returns-in-Err-clause-no_trail g c = refl
+
+pub returns-in-Err-clause-opened : goal.returns-in-Err-clause-opened
+returns-in-Err-clause-opened g c = λ tells. tt
+
+pub returns-in-Err-clause-said : goal.returns-in-Err-clause-said
+returns-in-Err-clause-said g c = refl
+
+pub returns-in-Err-clause-segment : goal.returns-in-Err-clause-segment
+returns-in-Err-clause-segment g c = refl
+
+pub returns-in-Err-clause-latest : goal.returns-in-Err-clause-latest
+returns-in-Err-clause-latest g c = refl
+
+pub returns-in-Err-clause-whole : goal.returns-in-Err-clause-whole
+returns-in-Err-clause-whole g c = refl
+
+pub returns-in-Err-clause-still : goal.returns-in-Err-clause-still
+returns-in-Err-clause-still g c = tt
+
+pub returns-in-Err-clause-halts : goal.returns-in-Err-clause-halts
+returns-in-Err-clause-halts g c = λ is. refl
+
+pub returns-in-Err-clause-same : goal.returns-in-Err-clause-same
+returns-in-Err-clause-same g c = tt
+
+pub returns-in-Err-clause-later : goal.returns-in-Err-clause-later
+returns-in-Err-clause-later g c = c.reopen_log-answer.ensures.cause.later
+
+pub returns-in-Err-clause-fault : goal.returns-in-Err-clause-fault
+returns-in-Err-clause-fault g c = λ is. subst (λ r. OnErr r (HasRisen (g.V.Site.disk_faults c.args.self.now.site) (g.V.Site.disk_faults c.reopen_log-answer.new.site))) c.in-Err.is c.reopen_log-answer.ensures.cause.risen
+
+pub returns-in-Err-clause-say_faults : goal.returns-in-Err-clause-say_faults
+returns-in-Err-clause-say_faults g c = c.reopen_log-answer.ensures.say_faults
+
+pub returns-then-not-found-clause-told : goal.returns-then-not-found-clause-told
+returns-then-not-found-clause-told g c = c.reopen_log-answer.ensures.told
+
+pub returns-then-not-found-clause-dropped : goal.returns-then-not-found-clause-dropped
+returns-then-not-found-clause-dropped g c = λ is. refl
+
+pub returns-then-not-found-clause-no_trail : goal.returns-then-not-found-clause-no_trail
+returns-then-not-found-clause-no_trail g c = tt
+
+pub returns-then-not-found-clause-frame : goal.returns-then-not-found-clause-frame
+returns-then-not-found-clause-frame g c = tt
+
+pub returns-then-not-found-clause-said : goal.returns-then-not-found-clause-said
+returns-then-not-found-clause-said g c = refl
+
+pub returns-then-not-found-clause-segment : goal.returns-then-not-found-clause-segment
+returns-then-not-found-clause-segment g c = refl
+
+pub returns-then-not-found-clause-latest : goal.returns-then-not-found-clause-latest
+returns-then-not-found-clause-latest g c = refl
+
+pub returns-then-not-found-clause-whole : goal.returns-then-not-found-clause-whole
+returns-then-not-found-clause-whole g c = refl
+
+pub returns-then-not-found-clause-still : goal.returns-then-not-found-clause-still
+returns-then-not-found-clause-still g c = refl
+
+pub returns-then-not-found-clause-later : goal.returns-then-not-found-clause-later
+returns-then-not-found-clause-later g c = c.reopen_log-answer.ensures.cause.later
+
+pub returns-then-not-found-clause-say_faults : goal.returns-then-not-found-clause-say_faults
+returns-then-not-found-clause-say_faults g c = c.reopen_log-answer.ensures.say_faults
+
+pub returns-clause-told : goal.returns-clause-told
+returns-clause-told g c = c.reopen_log-answer.ensures.told
+
+pub returns-clause-no_trail : goal.returns-clause-no_trail
+returns-clause-no_trail g c = tt
+
+pub returns-clause-frame : goal.returns-clause-frame
+returns-clause-frame g c = tt
+
+pub returns-clause-said : goal.returns-clause-said
+returns-clause-said g c = refl
+
+pub returns-clause-segment : goal.returns-clause-segment
+returns-clause-segment g c = refl
+
+pub returns-clause-latest : goal.returns-clause-latest
+returns-clause-latest g c = refl
+
+pub returns-clause-whole : goal.returns-clause-whole
+returns-clause-whole g c = refl
+
+pub returns-clause-still : goal.returns-clause-still
+returns-clause-still g c = refl
+
+pub returns-clause-later : goal.returns-clause-later
+returns-clause-later g c = c.reopen_log-answer.ensures.cause.later
+
+pub returns-clause-say_faults : goal.returns-clause-say_faults
+returns-clause-say_faults g c = c.reopen_log-answer.ensures.say_faults
+
+pub returns-then-eq-clause-told : goal.returns-then-eq-clause-told
+returns-then-eq-clause-told g c = λ t. t
+
+pub returns-then-eq-clause-sound : goal.returns-then-eq-clause-sound
+returns-then-eq-clause-sound g c = c.requires.sound
+
+pub returns-then-eq-clause-segment : goal.returns-then-eq-clause-segment
+returns-then-eq-clause-segment g c = refl
+
+pub returns-then-eq-clause-latest : goal.returns-then-eq-clause-latest
+returns-then-eq-clause-latest g c = refl
+
+pub returns-then-eq-clause-whole : goal.returns-then-eq-clause-whole
+returns-then-eq-clause-whole g c = refl
+
+pub returns-then-eq-clause-say_faults : goal.returns-then-eq-clause-say_faults
+returns-then-eq-clause-say_faults g c = refl
+
+pub returns-then-eq-clause-ok : goal.returns-then-eq-clause-ok
+returns-then-eq-clause-ok g c = tt
+
+pub returns-then-eq-clause-settled : goal.returns-then-eq-clause-settled
+returns-then-eq-clause-settled g c = λ is. absurd (ok_apart _ _ (sym is))
+
+pub returns-then-eq-clause-dropped : goal.returns-then-eq-clause-dropped
+returns-then-eq-clause-dropped g c = λ is. absurd (ok_apart _ _ (sym is))
+
+pub returns-then-eq-clause-no_trail : goal.returns-then-eq-clause-no_trail
+returns-then-eq-clause-no_trail g c = refl
+
+pub returns-then-eq-clause-opened : goal.returns-then-eq-clause-opened
+returns-then-eq-clause-opened g c = λ tells. tt
+
+pub returns-then-eq-clause-frame : goal.returns-then-eq-clause-frame
+returns-then-eq-clause-frame g c = refl
+
+pub returns-then-eq-clause-said : goal.returns-then-eq-clause-said
+returns-then-eq-clause-said g c = refl
+
+pub returns-then-eq-clause-others : goal.returns-then-eq-clause-others
+returns-then-eq-clause-others g c = λ other apart. refl
+
+pub returns-then-eq-clause-unchanged : goal.returns-then-eq-clause-unchanged
+returns-then-eq-clause-unchanged g c = λ is. refl
+
+pub returns-then-eq-clause-still : goal.returns-then-eq-clause-still
+returns-then-eq-clause-still g c = tt
+
+pub returns-then-eq-clause-halts : goal.returns-then-eq-clause-halts
+returns-then-eq-clause-halts g c = λ is. absurd (fault_no_frame _ is refl)
+
+pub returns-then-eq-clause-fault : goal.returns-then-eq-clause-fault
+returns-then-eq-clause-fault g c = λ is. absurd (fault_no_frame _ is refl)
+
+pub returns-then-eq-clause-later : goal.returns-then-eq-clause-later
+returns-then-eq-clause-later g c = le_refl _
+
+pub returns-then-eq-clause-same : goal.returns-then-eq-clause-same
+returns-then-eq-clause-same g c = tt
+
+pub returns-then-not-found-clause-same : goal.returns-then-not-found-clause-same
+returns-then-not-found-clause-same g c = subst (λ r. OnOk r (g.V.Site.disk_faults c.reopen_log-answer.new.site ≡ g.V.Site.disk_faults c.args.self.now.site)) c.in-Ok.is c.reopen_log-answer.ensures.cause.same
+
+pub returns-clause-same : goal.returns-clause-same
+returns-clause-same g c = subst (λ r. OnOk r (g.V.Site.disk_faults c.reopen_log-answer.new.site ≡ g.V.Site.disk_faults c.args.self.now.site)) c.in-Ok.is c.reopen_log-answer.ensures.cause.same
