@@ -1,5 +1,5 @@
 -- Bytes that are a text, and bytes of which only a front is UTF-8.
-use Rattle.std.proofs.Common.{◌≡◌, ◌≤◌, ◌<◌, ℕ, List, Ok, Err, Bool, true, false, length, take, drop, refl, subst, sym, ◌∙◌, inl, inr, arith}
+use Rattle.std.proofs.Common.{◌≡◌, ◌≤◌, ◌<◌, ℕ, List, Ok, Err, true, false, length, take, drop, refl, subst, sym, inl, inr, arith}
 use Rattle.std.specs.Int.{w16}
 use Rattle.std.specs.Prelude.{nat_lt}
 use Rattle.std.specs.Str.{IsUtf8, is_utf8, IsValidUpTo}

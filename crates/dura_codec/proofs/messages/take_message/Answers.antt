@@ -1,4 +1,3 @@
-use Rattle.std.proofs.Common.{refl}
 use Rattle.dura_codec.specs.Grammar.{message_at}
 use Rattle.dura_codec.proofs.Steps.{stops, leaves}
 use Rattle.dura_codec.proofs.messages.take_message.Goals as goal

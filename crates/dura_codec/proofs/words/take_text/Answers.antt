@@ -1,5 +1,4 @@
-use Rattle.std.proofs.Common.{◌≡◌, ◌∙◌, false, refl}
-use Rattle.std.specs.Str.{is_utf8}
+use Rattle.std.proofs.Common.{refl}
 use Rattle.dura_codec.specs.Grammar.{text_at}
 use Rattle.dura_codec.proofs.Steps.{leaves, leaves_within, above}
 use Rattle.dura_codec.proofs.Texts.{no_text, is_text, is_not_text, is_cut_text}
