@@ -1,3 +1,4 @@
 pub mod Fronts
 pub mod Several
+pub mod Steps
 pub mod Texts

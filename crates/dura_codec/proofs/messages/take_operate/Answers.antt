@@ -1,0 +1,20 @@
+use Rattle.std.proofs.Common.{refl}
+use Rattle.dura_codec.specs.Grammar.{operate_at}
+use Rattle.dura_codec.proofs.Steps.{stops, leaves}
+use Rattle.dura_codec.proofs.messages.take_operate.Goals as goal
+
+pub returns-in-Ok : goal.returns-in-Ok
+unfolding operate_at
+returns-in-Ok c = let reply = rw c.in-Ok.ensures.ok.0 at c.take_reply.ensures in rw (c.in_ok-operation.ensures, c.in_ok-argument.ensures, reply, c.in-Ok.ensures.ok.1) refl
+
+pub returns-in-Err : goal.returns-in-Err
+unfolding operate_at
+returns-in-Err c = let reply = rw c.in-Err.ensures.err at c.take_reply.ensures in rw (c.in_ok-operation.ensures, c.in_ok-argument.ensures) (stops _ _ _ reply)
+
+pub returns-in_err-operation : goal.returns-in_err-operation
+unfolding operate_at
+returns-in_err-operation c = leaves _ _ _ _ _ c.from_residual.ensures.1 c.in_err-operation.ensures
+
+pub returns-in_err-argument : goal.returns-in_err-argument
+unfolding operate_at
+returns-in_err-argument c = rw c.in_ok-operation.ensures (leaves _ _ _ _ _ c.from_residual-in_err-argument.ensures.1 c.in_err-argument.ensures)
