@@ -1,6 +1,6 @@
 use Rattle.std.proofs.Common.{◌≡◌, ◌∙◌, Ok, ap, refl, sym}
 use Rattle.json_tree.specs.View.{view}
-use Rattle.flow_syntax.specs.Syntax.{Expression, signal}
+use Rattle.flow_syntax.specs.Syntax.{signal}
 use Rattle.flow_syntax.specs.Views.{expression_of}
 use Rattle.flow_values.specs.Expressions.{expression_in}
 use Rattle.flow_values.specs.Faults.{at, to_part}
