@@ -3,6 +3,7 @@
 ghost use Rattle.std.specs.Prelude.{◌≡◌, IfOk};
 
 use dura_value::Id;
+use flow_messages::copy_id;
 use std::alloc::AllocError;
 
 /// A timer. In order the one that is due first comes first; of those due at one moment the first by id, then by task.
@@ -23,7 +24,7 @@ impl Timer {
     {
         Ok(Timer {
             due,
-            id: id.clone()?,
+            id: copy_id(id)?,
             task,
         })
     }

@@ -1,0 +1,14 @@
+use Rattle.std.proofs.Common.{ap, codes, false}
+use Rattle.json_tree.specs.View.{view}
+use Rattle.flow_values.specs.Faults.{at, to_key}
+use Rattle.flow_values.proofs.Parts.{fails_under}
+use Rattle.flow_reader.specs.Classes.{named_in}
+use Rattle.flow_reader.specs.Statements.{body_in}
+use Rattle.flow_reader.proofs.file.flows_at.Goals as goal
+
+pub returns-in-Ok : goal.returns-in-Ok
+returns-in-Ok c = ap (at (to_key (codes "flows"))) c.in-Ok.ensures
+
+pub returns-in-Err : goal.returns-in-Err
+returns-in-Err c =
+    fails_under (named_in (body_in false) (view c.args.value.now)) (to_key (codes "flows")) c.in-Err.error c.under.result c.in-Err.ensures c.under.ensures
