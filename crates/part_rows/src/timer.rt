@@ -3,7 +3,6 @@
 ghost use Rattle.std.specs.Prelude.{◌≡◌, IfOk};
 
 use dura_value::Id;
-use flow_messages::copy_id;
 use std::alloc::AllocError;
 
 /// A timer. In order the one that is due first comes first; of those due at one moment the first by id, then by task.
@@ -24,7 +23,7 @@ impl Timer {
     {
         Ok(Timer {
             due,
-            id: copy_id(id)?,
+            id: id.clone()?,
             task,
         })
     }
