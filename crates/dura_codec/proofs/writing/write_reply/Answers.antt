@@ -16,4 +16,3 @@ returns-in_ok-push-in-Request c = rw c.in-Request.is (written c.write_u32-in-Req
 
 pub returns-in_err-push-in-Request : goal.returns-in_err-push-in-Request
 returns-in_err-push-in-Request c = unwritten _ c.from_residual-in_err-push-in-Request.result c.from_residual-in_err-push-in-Request.ensures.0
-
