@@ -1,3 +1,4 @@
+pub mod Founded
 pub mod Idle
 pub mod LogsKept
 pub mod Moves

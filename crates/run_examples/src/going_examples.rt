@@ -1,7 +1,9 @@
 //! Examples of runs that go on from what their log keeps.
 
-ghost use Rattle.std.specs.Prelude.{◌≡◌, ℕ, slice_set, IsSome, List, [], ◌∷◌};
+ghost use Rattle.std.specs.Prelude.{◌≡◌, ℕ, slice_set, IsSome, Some, List, [], ◌∷◌, ◌++◌};
+ghost use Rattle.dura_model.specs.Dependencies.{Founded, names_of};
 ghost use Rattle.dura_model.specs.Partition.{Partition, fresh};
+ghost use Rattle.dura_model.specs.Steps.{Label};
 ghost use Rattle.dura_value.specs.Items.{Entry};
 ghost use Rattle.engine_run.specs.Ends.{GoesInTime};
 ghost use Rattle.engine_run.specs.Headline.{RunsOn, StandsOrderly};
@@ -10,17 +12,26 @@ ghost use Rattle.flow_syntax.specs.Syntax.{Flows};
 ghost use Rattle.hub_store.specs.Examples.{request, one_log, log_written};
 ghost use Rattle.hub_store.specs.Trail.{Said};
 ghost use Rattle.part_files.specs.Examples.{digest, two_files, empty_log, taking, request_taken};
-ghost use Rattle.part_files.specs.Placing.{placed};
+ghost use Rattle.part_files.specs.Logs.{logs_in, entries_in};
+ghost use Rattle.part_files.specs.Placing.{placed, AllGiven};
+ghost use Rattle.part_files.specs.Stands.{alone_with, Stands as FilesStand};
 ghost use Rattle.run_causes.specs.declared.cause.Cause.{Cause};
 ghost use Rattle.run_causes.specs.declared.cause.Cause.TheVariants as causes;
 ghost use Rattle.run_examples.specs.Calls.{nothing_asked, one_start, rules_for, settled_once, terms_by};
 ghost use Rattle.run_examples.specs.Going.{taking_written, settled_at_first, settled_too_late, hurried, at_once, at_once_log, settled_at_once, ok_of};
 ghost use Rattle.run_laws.specs.Examples.{empty_origin};
-ghost use Rattle.run_laws.specs.Leaves.{StandsOn};
+ghost use Rattle.run_laws.specs.Leaves.{StandsOn, committed_in};
 ghost use Rattle.run_rules.specs.Examples.{rules_with};
 ghost use Rattle.run_rules.specs.FieldExamples.{sum_flows};
 ghost use Rattle.run_rules.specs.Rules.{Rules};
 ghost use Rattle.site_model.specs.History.{Step, on, said, synced};
+
+/// That all that came is founded follows from the rest of what stands on an image: it keeps the entries, which make a state, each outcome
+/// in them one that its activity may give. So no image lacks just that.
+pub fn what_stands_is_founded()
+    ensures { (flows : Flows) (digest : ℕ) (recovered more : List Entry) (files : ℕ → List ℕ) (run : List Label) → entries_in (logs_in (alone_with digest) files) ≡ Some (recovered ++ more) → FilesStand flows digest files run
+        → AllGiven flows 1 (fresh 0) (recovered ++ more) → Founded (names_of (committed_in recovered)) (committed_in more) }
+{}
 
 /// A run that finds a log without entries and then does nothing, for want of memory, keeps all that a run promises. It doesn't where it
 /// is said to begin in another state, or with other entries; at a later moment, or to end at an earlier one; where an entry was settled

@@ -1,0 +1,22 @@
+-- That what came is founded follows from the rest of what stands on an image.
+use Rattle.std.proofs.Common.{◌≡◌, ◌∙◌, ℕ, List, ◌++◌, Option, Some, Ok, sym, subst}
+use Rattle.dura_model.specs.Dependencies.{Founded, names_of}
+use Rattle.dura_model.specs.Partition.{fresh}
+use Rattle.dura_model.specs.Steps.{Label}
+use Rattle.dura_value.specs.Items.{Entry}
+use Rattle.flow_syntax.specs.Syntax.{Flows}
+use Rattle.part_files.specs.Logs.{logs_in, entries_in}
+use Rattle.part_files.specs.Placing.{placed, AllGiven}
+use Rattle.part_files.specs.Stands.{alone_with, Stands}
+use Rattle.part_files.proofs.LogsNumbered.{entries_numbered}
+use Rattle.run_laws.proofs.Founding.{entries_founded}
+use Rattle.run_laws.specs.Leaves.{committed_in}
+
+same_entries : (one other : List Entry) → ◌≡◌ {A = Option (List Entry)} (Some one) (Some other) → one ≡ other
+same_entries one other is = cc is
+
+pub founded_follows : (flows : Flows) (digest : ℕ) (recovered more : List Entry) (files : ℕ → List ℕ) (run : List Label) → entries_in (logs_in (alone_with digest) files) ≡ Some (recovered ++ more) → Stands flows digest files run
+    → AllGiven flows 1 (fresh 0) (recovered ++ more) → Founded (names_of (committed_in recovered)) (committed_in more)
+founded_follows flows digest recovered more files run kept stands given =
+    let same = same_entries stands.entries (recovered ++ more) (sym stands.kept ∙ kept) in
+    entries_founded flows recovered more stands.state (entries_numbered (alone_with digest) files (recovered ++ more) kept) (subst (λ (l : List Entry). placed flows 1 (fresh 0) l ≡ Ok stands.state) same stands.all) given
