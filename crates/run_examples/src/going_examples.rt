@@ -1,11 +1,13 @@
 //! Examples of runs that go on from what their log keeps.
 
-ghost use Rattle.std.specs.Prelude.{◌≡◌, ℕ, slice_set, IsSome, Some, List, [], ◌∷◌, ◌++◌};
+ghost use Rattle.std.specs.Prelude.{◌≡◌, ◌≤◌, ◌+◌, ℕ, slice_set, IsSome, Some, List, [], ◌∷◌, ◌++◌};
+ghost use Rattle.commit_log.specs.Segment.{segment, reading_of};
+ghost use Rattle.commit_log.specs.declared.header.Header.{Header};
 ghost use Rattle.dura_model.specs.Dependencies.{Founded, names_of};
 ghost use Rattle.dura_model.specs.Partition.{Partition, fresh};
 ghost use Rattle.dura_model.specs.Steps.{Label};
 ghost use Rattle.dura_value.specs.Items.{Entry};
-ghost use Rattle.engine_run.specs.Ends.{GoesInTime};
+ghost use Rattle.engine_run.specs.Ends.{GoesInTime, Terms};
 ghost use Rattle.engine_run.specs.Headline.{RunsOn, StandsOrderly};
 ghost use Rattle.engine_run.specs.Job.{Job};
 ghost use Rattle.flow_syntax.specs.Syntax.{Flows};
@@ -24,7 +26,7 @@ ghost use Rattle.run_laws.specs.Leaves.{StandsOn, committed_in};
 ghost use Rattle.run_rules.specs.Examples.{rules_with};
 ghost use Rattle.run_rules.specs.FieldExamples.{sum_flows};
 ghost use Rattle.run_rules.specs.Rules.{Rules};
-ghost use Rattle.site_model.specs.History.{Step, on, said, synced};
+ghost use Rattle.site_model.specs.History.{Step, on, said, synced, content_of};
 
 /// That all that came is founded follows from the rest of what stands on an image: it keeps the entries, which make a state, each outcome
 /// in them one that its activity may give. So no image lacks just that.
@@ -35,7 +37,8 @@ pub fn what_stands_is_founded()
 
 /// A run that finds a log without entries and then does nothing, for want of memory, keeps all that a run promises. It doesn't where it
 /// is said to begin in another state, or with other entries; at a later moment, or to end at an earlier one; where an entry was settled
-/// before the log was opened, or behind the end; where another file was touched; and where the clock wasn't read for what was settled.
+/// before the log was opened, or behind the end; where another file was touched; where the clock wasn't read for what was
+/// settled; and where something was settled and the log reads as one that isn't below the segment's length.
 pub fn runs_go_on()
     ensures nothing { RunsOn nothing_asked [] (fresh 0) log_written log_written [] (terms_by 1 0) causes.Memory }
     ensures other_state { RunsOn nothing_asked [] request_taken log_written log_written [] (terms_by 1 0) causes.Memory → ⊥ }
@@ -46,6 +49,8 @@ pub fn runs_go_on()
     ensures settled_after { RunsOn nothing_asked [] (fresh 0) log_written log_written settled_too_late (terms_by 1 0) causes.SayFault → ⊥ }
     ensures other_file { RunsOn nothing_asked [] (fresh 0) log_written (on 3 synced ∷ log_written) [] (terms_by 1 0) causes.SayFault → ⊥ }
     ensures unread { (job : Job) (entries : List Entry) (begin : Partition) (old new : List Step) (latest : ℕ) (cause : Cause) → RunsOn job entries begin old new settled_once (terms_by 1 latest) cause → ⊥ }
+    ensures too_long { (job : Job) (entries : List Entry) (begin : Partition) (old new : List Step) (terms : Terms) (cause : Cause) (h : Header) (payloads : List (List ℕ)) (gate : ℕ)
+        → ((file : ℕ) → reading_of (content_of file new) ≡ segment h payloads gate) → terms.options.segment ≤ gate + 1 → RunsOn job entries begin old new settled_once terms cause → ⊥ }
 {}
 
 /// What goes by the clock: nothing, where it wasn't read; not an entry; no answer where nobody asks; and no entry once there are as many

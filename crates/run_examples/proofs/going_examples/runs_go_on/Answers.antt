@@ -51,3 +51,8 @@ returns-clause-other_file c = λ runs.
 
 pub returns-clause-unread : goal.returns-clause-unread
 returns-clause-unread c = λ job entries begin old new latest cause runs. nothing_unread _ latest runs.told runs.in_time
+
+pub returns-clause-too_long : goal.returns-clause-too_long
+returns-clause-too_long c = λ job entries begin old new terms cause h payloads gate reads long runs.
+    let below = runs.short h payloads gate (reads (runs.origin.logs 0).file) (λ none. cc none) in
+    omega (arith, below, long)
