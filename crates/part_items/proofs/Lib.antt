@@ -1,6 +1,5 @@
 pub mod Each
 pub mod EntryLemmas
-pub mod Exits
 pub mod FitLists
 pub mod FitSpots
 pub mod Ids

@@ -1,4 +1,5 @@
 pub mod Founded
+pub mod HalfSaid
 pub mod Idle
 pub mod LogsKept
 pub mod Moves

@@ -1,13 +1,14 @@
 //! Examples of runs that go on from what their log keeps.
 
-ghost use Rattle.std.specs.Prelude.{◌≡◌, ◌≤◌, ◌+◌, ℕ, slice_set, IsSome, Some, List, [], ◌∷◌, ◌++◌};
+ghost use Rattle.std.specs.Prelude.{◌≡◌, ◌≤◌, ◌+◌, ℕ, slice_set, IsSome, Some, Ok, List, [], ◌∷◌, ◌++◌};
+ghost use Rattle.command_words.specs.declared.words.RunOptions.{RunOptions};
 ghost use Rattle.commit_log.specs.Segment.{segment, reading_of};
 ghost use Rattle.commit_log.specs.declared.header.Header.{Header};
 ghost use Rattle.dura_model.specs.Dependencies.{Founded, names_of};
 ghost use Rattle.dura_model.specs.Partition.{Partition, fresh};
 ghost use Rattle.dura_model.specs.Steps.{Label};
 ghost use Rattle.dura_value.specs.Items.{Entry};
-ghost use Rattle.engine_run.specs.Ends.{GoesInTime, SaysWhole, Terms};
+ghost use Rattle.engine_run.specs.Ends.{GoesInTime, RunEndsAs, Terms};
 ghost use Rattle.engine_run.specs.Headline.{RunsOn, StandsOrderly};
 ghost use Rattle.engine_run.specs.Job.{Job};
 ghost use Rattle.engine_run.specs.Picks.{rules_with as job_rules};
@@ -18,14 +19,13 @@ ghost use Rattle.hub_store.specs.Origin.{Origin};
 ghost use Rattle.hub_store.specs.Trail.{Said, Settled};
 ghost use Rattle.part_files.specs.Examples.{digest, two_files, empty_log, taking, request_taken};
 ghost use Rattle.part_files.specs.Logs.{logs_in, entries_in};
-ghost use Rattle.part_files.specs.Placing.{placed, next_life, AllGiven};
+ghost use Rattle.part_files.specs.Placing.{placed, AllGiven};
 ghost use Rattle.part_files.specs.Stands.{alone_with, Stands as FilesStand};
 ghost use Rattle.run_causes.specs.declared.cause.Cause.{Cause};
 ghost use Rattle.run_causes.specs.declared.cause.Cause.TheVariants as causes;
 ghost use Rattle.run_examples.specs.Calls.{nothing_asked, one_start, rules_for, settled_once, terms_by};
-ghost use Rattle.run_examples.specs.Going.{taking_written, settled_at_first, settled_too_late, hurried, at_once, at_once_log, settled_at_once, ok_of};
-ghost use Rattle.run_laws.specs.Begins.{may_follow, may_say};
-ghost use Rattle.run_laws.specs.Examples.{empty_origin};
+ghost use Rattle.run_examples.specs.Going.{taking_written, settled_at_first, settled_too_late, hurried, at_once, at_once_log, settled_at_once, ok_of, once_answered, answering_written, half_said};
+ghost use Rattle.run_laws.specs.Examples.{answering, empty_origin};
 ghost use Rattle.run_laws.specs.Leaves.{StandsOn, committed_in};
 ghost use Rattle.run_rules.specs.Examples.{rules_with};
 ghost use Rattle.run_rules.specs.FieldExamples.{sum_flows};
@@ -39,11 +39,18 @@ pub fn what_stands_is_founded()
         → AllGiven flows 1 (fresh 0) (recovered ++ more) → Founded (names_of (committed_in recovered)) (committed_in more) }
 {}
 
+/// What a run has served follows from why it ended: where its log's entries made the state at which it began, whoever rests with all said
+/// has served all, whoever rests otherwise awaits the first without an answer, and where something is possible still something is left.
+/// So no run lacks just that.
+pub fn what_is_served_follows()
+    ensures { (job : Job) (entries : List Entry) (begin : Partition) (life latest : ℕ) (o : Origin) (steps : List Step) (trail : List Settled) (options : RunOptions) (cause : Cause)
+        → placed job.flows 1 (fresh 0) entries ≡ Ok begin → RunEndsAs (job_rules job begin life) latest o steps trail options cause → HasServed (job_rules job begin life) trail cause }
+{}
+
 /// A run that finds a log without entries and then does nothing, for want of memory, keeps all that a run promises. It doesn't where it
 /// is said to begin in another state, or with other entries; at a later moment, or to end at an earlier one; where an entry was settled
 /// before the log was opened, or behind the end; where another file was touched; where the clock wasn't read for what was
-/// settled; and where something was settled and the log reads as one that isn't below the segment's length;
-/// nor where its cause isn't what it has served, or a line is cut off for another cause than `SayFault`.
+/// settled; and where something was settled and the log reads as one that isn't below the segment's length.
 pub fn runs_go_on()
     ensures nothing { RunsOn nothing_asked [] (fresh 0) log_written log_written [] (terms_by 1 0) causes.Memory }
     ensures other_state { RunsOn nothing_asked [] request_taken log_written log_written [] (terms_by 1 0) causes.Memory → ⊥ }
@@ -56,11 +63,13 @@ pub fn runs_go_on()
     ensures unread { (job : Job) (entries : List Entry) (begin : Partition) (old new : List Step) (latest : ℕ) (cause : Cause) → RunsOn job entries begin old new settled_once (terms_by 1 latest) cause → ⊥ }
     ensures too_long { (job : Job) (entries : List Entry) (begin : Partition) (old new : List Step) (terms : Terms) (cause : Cause) (h : Header) (payloads : List (List ℕ)) (gate : ℕ)
         → ((file : ℕ) → reading_of (content_of file new) ≡ segment h payloads gate) → terms.options.segment ≤ gate + 1 → RunsOn job entries begin old new settled_once terms cause → ⊥ }
-    ensures unserved { (job : Job) (entries : List Entry) (begin : Partition) (old new : List Step) (trail : List Settled) (terms : Terms) (cause : Cause)
-        → (HasServed (job_rules job begin (next_life entries)) trail cause → ⊥) → RunsOn job entries begin old new trail terms cause → ⊥ }
-    ensures cut { (job : Job) (entries : List Entry) (begin : Partition) (old new : List Step) (trail : List Settled) (terms : Terms) (cause : Cause)
-        → ((o : Origin) (told : List Said) → SaysWhole (may_follow (job_rules job begin (next_life entries)) terms.latest) (may_say (job_rules job begin (next_life entries))) o new trail told cause → ⊥)
-        → RunsOn job entries begin old new trail terms cause → ⊥ }
+{}
+
+/// A run that finds an answer to be said and says the first byte of its line keeps all that a run promises where saying failed then, and
+/// doesn't where it ends for want of memory: only where saying fails is a line cut off.
+pub fn lines_are_cut_off_by_faults_alone()
+    ensures failed { RunsOn one_start (answering ∷ []) once_answered answering_written half_said [] (terms_by 1 0) causes.SayFault }
+    ensures ended { RunsOn one_start (answering ∷ []) once_answered answering_written half_said [] (terms_by 1 0) causes.Memory → ⊥ }
 {}
 
 /// What goes by the clock: nothing, where it wasn't read; not an entry; no answer where nobody asks; and no entry once there are as many

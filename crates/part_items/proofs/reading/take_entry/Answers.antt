@@ -1,6 +1,6 @@
 use Rattle.std.proofs.Common.{refl}
 use Rattle.part_items.specs.Grammar.{entry_at}
-use Rattle.part_items.proofs.Exits.{leaves}
+use Rattle.dura_codec.proofs.Steps.{leaves}
 use Rattle.part_items.proofs.reading.take_entry.Goals as goal
 
 pub returns : goal.returns

@@ -1,6 +1,6 @@
 use Rattle.std.proofs.Common.{refl}
 use Rattle.part_items.specs.Grammar.{took_at}
-use Rattle.part_items.proofs.Exits.{stops}
+use Rattle.dura_codec.proofs.Steps.{stops}
 use Rattle.part_items.proofs.reading.take_took.Goals as goal
 
 pub returns-in-Ok : goal.returns-in-Ok

@@ -1,6 +1,6 @@
 use Rattle.std.proofs.Common.{refl}
 use Rattle.part_items.specs.Grammar.{trim_at}
-use Rattle.part_items.proofs.Exits.{stops, leaves}
+use Rattle.dura_codec.proofs.Steps.{stops, leaves}
 use Rattle.part_items.proofs.reading.take_trim.Goals as goal
 
 pub returns-in-Ok : goal.returns-in-Ok

@@ -56,9 +56,3 @@ pub returns-clause-too_long : goal.returns-clause-too_long
 returns-clause-too_long c = λ job entries begin old new terms cause h payloads gate reads long runs.
     let below = runs.short h payloads gate (reads (runs.origin.logs 0).file) (λ none. cc none) in
     omega (arith, below, long)
-
-pub returns-clause-unserved : goal.returns-clause-unserved
-returns-clause-unserved c = λ job entries begin old new trail terms cause none runs. none runs.served
-
-pub returns-clause-cut : goal.returns-clause-cut
-returns-clause-cut c = λ job entries begin old new trail terms cause none runs. none runs.origin runs.told runs.whole
