@@ -1,5 +1,7 @@
-pub mod Clients
 pub mod Changes
+pub mod Clients
 pub mod Dues
+pub mod Floats
+pub mod Parts
 pub mod Said
 pub mod Stays

@@ -1,4 +1,5 @@
 pub mod Clients
+pub mod Lines
 pub mod Places
 pub mod Ports
 pub mod Views

@@ -2,7 +2,7 @@
 use Rattle.std.specs.Prelude.{ℕ, ◌+◌, List, [], ◌∷◌, ◌++◌, fold, length, nat_lt, Bool, if◌then◌else◌, Option, Some, None}
 use Rattle.std.specs.List.{filter_map, list_any, slice_get}
 use Rattle.std.specs.Str.{bytes_eq}
-use Rattle.answer_lines.specs.Lines.{line_of}
+use Rattle.client_port.specs.Lines.{line_of}
 use Rattle.dura_value.specs.Messages.{Answer}
 use Rattle.request_reader.specs.Line.{Request}
 

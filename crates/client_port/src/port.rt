@@ -6,8 +6,8 @@ ghost use Rattle.client_port.specs.Views.{lines_of, queue_of};
 ghost use Rattle.dura_value.specs.Views.{answer_of};
 ghost use Rattle.request_reader.specs.Line.{request_of};
 
+use crate::lines::answer_line;
 use crate::queues::{Queue, Queues, all_clients, all_due, first_due, queues_of};
-use answer_lines::answer_line;
 use dura_value::{Answer, Name, Request};
 use std::alloc::{AllocError, Global};
 use std::marker::Model;

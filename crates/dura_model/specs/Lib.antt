@@ -3,6 +3,5 @@ pub mod Dependencies
 pub mod Legal
 pub mod Partition
 pub mod Placed
-pub mod Requests
 pub mod Steps
 pub mod World

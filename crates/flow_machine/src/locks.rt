@@ -15,8 +15,7 @@ use dura_value::{Spot, Spots, with};
 use flow_eval::{EvalError, to_key};
 use flow_messages::{Made, copy_name, copy_spots, pass_on};
 use flow_syntax::{Locked, Stmt};
-use flow_tasks::{Kind, Section};
-use lock_sets::set_of;
+use flow_tasks::{Kind, Section, set_of};
 use std::alloc::{AllocError, Global};
 
 impl<'f> Machine<'f> {

@@ -1,5 +1,6 @@
 pub mod ByName
 pub mod Copies
+pub mod Inserts
 pub mod Kept
 pub mod OpenTasks
 pub mod Places

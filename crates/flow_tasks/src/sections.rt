@@ -5,9 +5,9 @@ ghost use Rattle.dura_value.specs.Views.{spot_of};
 ghost use Rattle.flow_syntax.specs.Machine.{may_ask, may_signal, may_start, may_lock};
 ghost use Rattle.flow_tasks.specs.Views.{section_of, tasks_of};
 
+use crate::sets::is_among;
 use crate::tasks::Tasks;
 use dura_value::{Spot, Spots};
-use lock_sets::is_among;
 
 /// Where an instance is as to sections.
 #[derive(Drop)]

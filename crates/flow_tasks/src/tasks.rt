@@ -8,8 +8,8 @@ ghost use Rattle.flow_tasks.specs.Changes.{can_arrive, tasks_with};
 ghost use Rattle.flow_tasks.specs.OpenTasks.{is_open_ask, passes_at};
 
 use crate::open_tasks::OpenTasks;
+use crate::sets::are_same;
 use dura_value::{Name, Outcome, Spot, Spots, Value};
-use lock_sets::are_same;
 use std::alloc::{AllocError, Global};
 use std::marker::Model;
 

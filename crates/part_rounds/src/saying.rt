@@ -15,8 +15,7 @@ ghost use Rattle.run_rules.specs.Rules.{count_told};
 ghost use Rattle.site_model.specs.Calls.{HasRisen};
 
 use crate::ruled::Ruled;
-use answer_lines::answer_line;
-use client_port::Port;
+use client_port::{Port, answer_line};
 use dura_value::{Id, Name};
 use hub_store::{SayError, Stop, Store};
 use part_steps::PartState;

@@ -2,7 +2,7 @@
 use Rattle.std.proofs.Common.{◌≡◌, ◌∙◌, ◌≤◌, ◌<◌, ◌==◌, sym, inl, inr, ℕ, Bool, true, false, List, [], ◌∷◌, ◌++◌, drop, length, codes, refl, ap, subst, arith}
 use Rattle.std.proofs.lemmas.Bool.Decides.{nat_tests}
 use Rattle.std.proofs.lemmas.List.{length-append, append-nil}
-use Rattle.answer_lines.specs.Lines.{line_of, answer_text}
+use Rattle.client_port.specs.Lines.{line_of, answer_text}
 use Rattle.commit_log.specs.Segment.{header_at}
 use Rattle.commit_log.specs.Segment.{frame_at as framed_at}
 use Rattle.std.specs.Fmt.{decimal}

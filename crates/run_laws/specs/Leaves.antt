@@ -1,7 +1,7 @@
 -- What a crash leaves of a run, and which answers were said.
 use Rattle.std.specs.Prelude.{◌≡◌, ◌⊎◌, ℕ, max, List, [], ◌∷◌, ◌++◌, map, Some, Ok}
 use Rattle.std.specs.List.{All}
-use Rattle.answer_lines.specs.Lines.{line_of}
+use Rattle.client_port.specs.Lines.{line_of}
 use Rattle.dura_model.specs.Dependencies.{Committed, names_of, Founded}
 use Rattle.dura_model.specs.Legal.{Legal}
 use Rattle.dura_model.specs.Partition.{Partition, fresh}

@@ -2,7 +2,7 @@
 //! nothing.
 
 ghost use Rattle.std.specs.Prelude.{◌≡◌, ℕ, List, [], ◌∷◌, codes, slice_set};
-ghost use Rattle.answer_lines.specs.Lines.{line_of};
+ghost use Rattle.client_port.specs.Lines.{line_of};
 ghost use Rattle.dura_value.specs.Messages.{is_unknown};
 ghost use Rattle.dura_value.specs.declared.outcome.Outcome.{Outcome};
 ghost use Rattle.flow_syntax.specs.Syntax.{Flows};

@@ -2,7 +2,7 @@
 use Rattle.std.specs.Prelude.{◌≡◌, ℕ, ◌≤◌, max, List, length, Option, Some, Ok, IsSome}
 use Rattle.std.specs.List.{All, filter, slice_get}
 use Rattle.std.specs.Str.{bytes_eq}
-use Rattle.answer_lines.specs.Lines.{line_of}
+use Rattle.client_port.specs.Lines.{line_of}
 use Rattle.client_port.specs.Clients.{requests_of}
 use Rattle.dura_model.specs.Partition.{Partition}
 use Rattle.dura_value.specs.Ids.{client}

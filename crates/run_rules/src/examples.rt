@@ -1,7 +1,7 @@
 //! Examples of what a call may commit and say. They are said of the definitions alone: the functions do nothing.
 
 ghost use Rattle.std.specs.Prelude.{◌≡◌, ℕ, List, [], ◌∷◌, codes};
-ghost use Rattle.answer_lines.specs.Lines.{line_of};
+ghost use Rattle.client_port.specs.Lines.{line_of};
 ghost use Rattle.dura_value.specs.Ids.{Id};
 ghost use Rattle.dura_value.specs.Items.{took, ran, ended, fired};
 ghost use Rattle.dura_value.specs.Messages.{was_started};

@@ -1,6 +1,6 @@
 -- The table of a partition's state: a line for each entity that was delivered to, then one for each instance of an orchestration.
 use Rattle.std.specs.Prelude.{◌≡◌, ℕ, Bool, List, [], ◌∷◌, ◌++◌, Option, Some, None, is_some, option_map, if◌then◌else◌}
-use Rattle.answer_lines.specs.Lines.{answer_text}
+use Rattle.client_port.specs.Lines.{answer_text}
 use Rattle.dura_model.specs.Partition.{Partition}
 use Rattle.dura_value.specs.Ids.{Id, orchestration, entity, client, written}
 use Rattle.dura_value.specs.Messages.{Answer, is_missing}

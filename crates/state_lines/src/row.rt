@@ -8,7 +8,7 @@ ghost use Rattle.state_lines.specs.Steps.{SaysPart};
 ghost use Rattle.state_lines.specs.Table.{table_line};
 
 use crate::error::ShowError;
-use answer_lines::write_answer;
+use client_port::write_answer;
 use dura_value::{Answer, Id};
 use site_model::Site;
 use std::alloc::{AllocError, Global};

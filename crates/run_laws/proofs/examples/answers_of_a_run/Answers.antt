@@ -1,5 +1,5 @@
 use Rattle.std.proofs.Common.{◌≡◌, ℕ, List, [], ◌∷◌, ◌++◌, drop, Some, codes, refl, ◌∙◌, ap, subst, arith}
-use Rattle.answer_lines.specs.Lines.{line_of}
+use Rattle.client_port.specs.Lines.{line_of}
 use Rattle.dura_model.specs.Legal.{Legal}
 use Rattle.dura_model.specs.World.{World, empty}
 use Rattle.dura_value.specs.Ids.{client}

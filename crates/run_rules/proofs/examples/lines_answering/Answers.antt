@@ -1,5 +1,5 @@
 use Rattle.std.proofs.Common.{◌≡◌, Some, codes, refl, sym, ◌∙◌, ap, arith}
-use Rattle.answer_lines.specs.Lines.{line_of}
+use Rattle.client_port.specs.Lines.{line_of}
 use Rattle.dura_model.specs.Partition.{Partition, fresh}
 use Rattle.dura_value.specs.Ids.{client}
 use Rattle.dura_value.specs.Messages.{was_started}

@@ -2,7 +2,7 @@
 
 ghost use Rattle.std.specs.Prelude.{◌≡◌, ◌++◌, ◌<◌, length, IfOk, OnOk};
 ghost use Rattle.dura_value.specs.Views.{answer_of};
-ghost use Rattle.answer_lines.specs.Lines.{answer_text, line_of};
+ghost use Rattle.client_port.specs.Lines.{answer_text, line_of};
 
 use crate::json::{quoted_text, value_text};
 use dura_value::{Answer, Name};

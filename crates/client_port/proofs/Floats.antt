@@ -7,7 +7,7 @@ use Rattle.dura_value.specs.declared.data.Scalar.{Scalar}
 use Rattle.dura_value.specs.declared.data.Scalar.TheVariants as scalars
 use Rattle.dura_value.specs.declared.data.Value.{Value}
 use Rattle.dura_value.specs.declared.data.Value.TheVariants as values
-use Rattle.answer_lines.specs.Lines.{scalar_data, items_data, value_data}
+use Rattle.client_port.specs.Lines.{scalar_data, items_data, value_data}
 
 scalar_plain : (s : Scalar) → has_float (scalar_data s) ≡ false
 scalar_plain scalars.Null = refl

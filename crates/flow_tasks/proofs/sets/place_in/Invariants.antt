@@ -1,7 +1,7 @@
 use Rattle.std.proofs.Common.{◌≡◌, ◌++◌, drop, take}
 use Rattle.dura_value.specs.Messages.{inserted}
 use Rattle.dura_value.specs.Views.{spot_of, spots_of}
-use Rattle.lock_sets.proofs.sets.place_in.Given as goal
+use Rattle.flow_tasks.proofs.sets.place_in.Given as goal
 
 -- it goes behind the entities so far
 abbrev pub invariant-loop-place : goal.invariant-loop-place

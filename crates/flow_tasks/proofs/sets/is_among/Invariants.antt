@@ -1,7 +1,7 @@
 use Rattle.std.proofs.Common.{◌≡◌, drop}
 use Rattle.dura_value.specs.Messages.{is_among}
 use Rattle.dura_value.specs.Views.{spot_of, spots_of}
-use Rattle.lock_sets.proofs.sets.is_among.Given as goal
+use Rattle.flow_tasks.proofs.sets.is_among.Given as goal
 
 -- it is among the rest where it is among all
 abbrev pub invariant-loop-other : goal.invariant-loop-other

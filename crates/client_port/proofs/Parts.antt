@@ -7,7 +7,7 @@ use Rattle.serde_json.specs.Data.{item}
 use Rattle.serde_json.specs.View.{view, items_of, items_view}
 use Rattle.serde_json.specs.declared.value.Value.{Value as Json}
 use Rattle.dura_value.specs.declared.data.Scalar.{Scalar}
-use Rattle.answer_lines.specs.Lines.{scalar_data, items_data}
+use Rattle.client_port.specs.Lines.{scalar_data, items_data}
 
 pub with_part : (js : List Json) (ss : List Scalar) (i : ℕ) (j : Json) (s : Scalar) → i < length ss → s ≡ get_or ss i s → map view js ≡ map scalar_data (take i ss) → view j ≡ scalar_data s → map view (js ++ j ∷ []) ≡ map scalar_data (take (i + 1) ss)
 with_part js ss i j s lt at is same =

@@ -2,8 +2,8 @@
 use Rattle.std.proofs.Common.{◌≡◌, take}
 use Rattle.std.specs.Prelude.{map}
 use Rattle.serde_json.specs.View.{view}
-use Rattle.answer_lines.specs.Lines.{scalar_data}
-use Rattle.answer_lines.proofs.json.list_of.Given as goal
+use Rattle.client_port.specs.Lines.{scalar_data}
+use Rattle.client_port.proofs.json.list_of.Given as goal
 
 abbrev pub invariant-loop-scalar : goal.invariant-loop-scalar
 invariant-loop-scalar l = map view l.parts.items ≡ map scalar_data (take l.scalar-index l.scalars)

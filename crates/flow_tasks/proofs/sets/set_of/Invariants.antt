@@ -1,8 +1,8 @@
 use Rattle.std.proofs.Common.{◌≡◌, length}
 use Rattle.dura_value.specs.Messages.{set_of}
 use Rattle.dura_value.specs.Views.{spots_of}
-use Rattle.lock_sets.proofs.Inserts.{all_inserted}
-use Rattle.lock_sets.proofs.sets.set_of.Given as goal
+use Rattle.flow_tasks.proofs.Inserts.{all_inserted}
+use Rattle.flow_tasks.proofs.sets.set_of.Given as goal
 
 -- the first ones are still to be put into the set
 abbrev pub invariant-loop-spot : goal.invariant-loop-spot

@@ -4,7 +4,7 @@ ghost use Rattle.std.specs.Prelude.{◌≡◌, IfOk};
 ghost use Rattle.serde_json.specs.Data.{array, string};
 ghost use Rattle.serde_json.specs.View.{view};
 ghost use Rattle.serde_json.specs.Written.{compact_text};
-ghost use Rattle.answer_lines.specs.Lines.{scalar_data, items_data, value_data};
+ghost use Rattle.client_port.specs.Lines.{scalar_data, items_data, value_data};
 
 use dura_value::{Scalar, Text, Value};
 use serde_json::Value as Json;
