@@ -13,5 +13,5 @@ abbrev pub all_of : Queues → List Queue
 all_of q = map queue_of q.all.items
 
 -- The place of each queue is kept by its client.
-pub record Stands (q : Queues) : Type 0 where
+pub record PlacesStand (q : Queues) : Type 0 where
   pub places : (name : List ℕ) → get (slice_cmp nat_cmp) q.places name ≡ position_from (is_of name) 0 (all_of q)

@@ -53,7 +53,7 @@ fn push_line(lines: &mut Vec<Vec<u8>>, line: Option<Vec<u8>>) -> Result<(), Allo
 }
 
 impl Model for Port {
-    ghost use Rattle.client_port.specs.Places.{all_of, Stands};
+    ghost use Rattle.client_port.specs.Places.{all_of, PlacesStand};
     ghost use Rattle.client_port.specs.Ports.{Ports};
     ghost use Rattle.client_port.specs.Views.{lines_of};
 
@@ -61,7 +61,7 @@ impl Model for Port {
 
     ghost view = { λ p. record { queues = all_of p.queues; lines = lines_of p.lines.items } };
 
-    ghost invariant = { λ p. Stands p.queues };
+    ghost invariant = { λ p. PlacesStand p.queues };
 }
 
 impl Port {

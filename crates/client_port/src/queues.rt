@@ -2,7 +2,7 @@
 
 ghost use Rattle.std.specs.Prelude.{◌≡◌, ◌<◌, [], ◌∷◌, ◌++◌, length, map, option_map, Some, None, IfOk, OnOk, IfSome};
 ghost use Rattle.std.specs.List.{position_from};
-ghost use Rattle.client_port.specs.Places.{all_of, Stands};
+ghost use Rattle.client_port.specs.Places.{all_of, PlacesStand};
 ghost use Rattle.client_port.specs.Ports.{all_due, at_client, first_due, is_of, queues_of, with_request, with_said};
 ghost use Rattle.client_port.specs.Views.{queue_of};
 ghost use Rattle.request_reader.specs.Line.{request_of};
@@ -107,7 +107,7 @@ impl Queues {
     /// There is no queue.
     fn new(alloc: Global) -> Queues
         ensures nothing { all_of result ≡ [] }
-        ensures stands { Stands result }
+        ensures stands { PlacesStand result }
     {
         Queues {
             all: Vec::new(alloc),
@@ -118,7 +118,7 @@ impl Queues {
     /// The place of the client's queue.
     #[tactic(auto, using(crate::proofs::Stays::within))]
     pub(crate) fn place_of(&self, client: &Name) -> Option<usize>
-        requires { Stands self.now }
+        requires { PlacesStand self.now }
         ensures place { result ≡ position_from (is_of client.now) 0 (all_of self.now) }
         ensures within { IfSome result (λ i. i < length self.now.all.items) }
     {
@@ -130,11 +130,11 @@ impl Queues {
 
     /// The request comes behind its client's others.
     fn join(&mut self, place: usize, request: Request) -> Result<(), AllocError>
-        requires stands { Stands self.old }
+        requires stands { PlacesStand self.old }
         requires there { Some place ≡ position_from (is_of request.client) 0 (all_of self.old) }
         requires within { place < length self.old.all.items }
         ensures joined { OnOk result (all_of self.new ≡ with_request (all_of self.old) (request_of request)) }
-        ensures stands { OnOk result (Stands self.new) }
+        ensures stands { OnOk result (PlacesStand self.new) }
     {
         let queue = &mut self.all[place];
         queue.requests.push(request)?;
@@ -143,10 +143,10 @@ impl Queues {
 
     /// The client's first request opens its queue.
     fn open(&mut self, alloc: Global, request: Request) -> Result<(), AllocError>
-        requires stands { Stands self.old }
+        requires stands { PlacesStand self.old }
         requires new { None ≡ position_from (is_of request.client) 0 (all_of self.old) }
         ensures opened { OnOk result (all_of self.new ≡ with_request (all_of self.old) (request_of request)) }
-        ensures stands { OnOk result (Stands self.new) }
+        ensures stands { OnOk result (PlacesStand self.new) }
     {
         let place = self.all.as_slice().len();
         let (client, request) = with(copy_of(&request.client), request)?;
@@ -159,9 +159,9 @@ impl Queues {
 
     /// The request goes to its client's queue.
     fn add(&mut self, alloc: Global, request: Request) -> Result<(), AllocError>
-        requires { Stands self.old }
+        requires { PlacesStand self.old }
         ensures added { OnOk result (all_of self.new ≡ with_request (all_of self.old) (request_of request)) }
-        ensures stands { OnOk result (Stands self.new) }
+        ensures stands { OnOk result (PlacesStand self.new) }
     {
         match self.place_of(&request.client) {
             Some(place) => self.join(place, request),
@@ -171,11 +171,11 @@ impl Queues {
 
     /// One more of the client's was said, where there is one.
     pub(crate) fn count_said(&mut self, client: &Name, place: usize)
-        requires stands { Stands self.old }
+        requires stands { PlacesStand self.old }
         requires there { Some place ≡ position_from (is_of client.now) 0 (all_of self.old) }
         requires within { place < length self.old.all.items }
         ensures counted { all_of self.new ≡ at_client with_said client.now (all_of self.old) }
-        ensures stands { Stands self.new }
+        ensures stands { PlacesStand self.new }
     {
         count_said(&mut self.all[place]);
     }
@@ -184,7 +184,7 @@ impl Queues {
 /// The requests of a file by client.
 pub(crate) fn queues_of(alloc: Global, requests: Vec<Request>) -> Result<Queues, AllocError>
     ensures queues { IfOk result (λ queues. all_of queues ≡ queues_of (map request_of requests.items)) }
-    ensures stands { IfOk result Stands }
+    ensures stands { IfOk result PlacesStand }
 {
     let mut queues = Queues::new(alloc);
     for request in requests {

@@ -4,10 +4,10 @@ use Rattle.command_words.specs.declared.words.WordsError.{WordsError}
 use Rattle.command_words.specs.declared.words.WordsError.TheVariants as errors
 
 -- what was read is what is wanted; usage is what wants nothing; and memory may run out
-abbrev pub Gives : {X : Type 0} → Result X WordsError → Option X → Type 0
-Gives (Ok x) wanted = wanted ≡ Some x
-Gives (Err errors.Usage) wanted = wanted ≡ None
-Gives (Err errors.Memory) wanted = Unit {0}
+abbrev pub WordsGive : {X : Type 0} → Result X WordsError → Option X → Type 0
+WordsGive (Ok x) wanted = wanted ≡ Some x
+WordsGive (Err errors.Usage) wanted = wanted ≡ None
+WordsGive (Err errors.Memory) wanted = Unit {0}
 
 infixl 10 ◌>>=◌
 -- then f of it, where there is one

@@ -8,7 +8,7 @@ ghost use Rattle.clap.specs.Matches.{found_of};
 ghost use Rattle.clap.specs.Simple.{subcommand_of, subcommand_rows_of};
 ghost use Rattle.clap.specs.Walk.{rows_of};
 ghost use Rattle.command_words.specs.Command.{netherite, number_of, partitions_of, run_of, call_of, call_in};
-ghost use Rattle.command_words.specs.Reading.{Gives};
+ghost use Rattle.command_words.specs.Reading.{WordsGive};
 ghost use Rattle.command_words.specs.declared.words.WordsError.TheVariants.{Memory};
 
 use crate::command;
@@ -148,7 +148,7 @@ fn call_of(name: &str, matches: &ArgMatches) -> Option<Call>
 }
 
 fn call_in(alloc: Global, words: &[&str]) -> Result<Call, WordsError>
-    ensures { Gives result (call_in (map (λ word. word.now) words.now)) }
+    ensures { WordsGive result (call_in (map (λ word. word.now) words.now)) }
 {
     let matches = matches_of(alloc, words)?;
     let call = match matches.subcommand() {
@@ -174,7 +174,7 @@ fn strs_of<'a>(alloc: Global, words: &'a [Text]) -> Result<Vec<&'a str>, AllocEr
 
 /// What the words ask for: usage comes exactly where the command doesn't take them.
 pub fn read_words(alloc: Global, words: &[Text]) -> Result<Call, WordsError>
-    ensures { Gives result (call_in words.now) }
+    ensures { WordsGive result (call_in words.now) }
 {
     let words = strs_of(alloc, words)?;
     call_in(alloc, &words)

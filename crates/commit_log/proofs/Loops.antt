@@ -5,7 +5,7 @@ use Rattle.std.proofs.lemmas.List.{append-nil, length-append, drop_more}
 use Rattle.commit_log.specs.declared.parse.ParseError.{ParseError}
 use Rattle.commit_log.specs.declared.parse.ParseError.TheVariants as errors
 use Rattle.commit_log.specs.Segment.{◌>>=◌, open_gate, constant_at, frame_at, frames_from}
-use Rattle.commit_log.specs.Reading.{Fails}
+use Rattle.commit_log.specs.Reading.{SegmentFails}
 
 -- what was read before, and what is still read
 abbrev pub with_front : List (List ℕ) → Result (List (List ℕ) × ℕ) ℕ → Result (List (List ℕ) × ℕ) ℕ
@@ -33,8 +33,8 @@ module _ (front : List (List ℕ)) (all at : ℕ) (total : Result (List (List �
       rw (pushed, moved, count) (sym one ∙ ap (λ (l : List ℕ). with_front front (frames_from (suc all - length front) at l)) (sym whole) ∙ so_far)
 
   -- an open gate and no whole frame
-  pub breaks_off : (e : ParseError) (gate : ℕ) (behind rest : List ℕ) → rest ≡ gate ∷ behind → gate ≡ open_gate → Fails e (frame_at (at + 1) behind)
-      → with_front front (frames_from (suc all - length front) at rest) ≡ total → Fails e total
+  pub breaks_off : (e : ParseError) (gate : ℕ) (behind rest : List ℕ) → rest ≡ gate ∷ behind → gate ≡ open_gate → SegmentFails e (frame_at (at + 1) behind)
+      → with_front front (frames_from (suc all - length front) at rest) ≡ total → SegmentFails e total
   unfolding frames_from
   breaks_off errors.Memory gate behind rest split is_open fails so_far = tt
   breaks_off (errors.At offset) gate behind rest split is_open fails so_far =

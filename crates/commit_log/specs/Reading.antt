@@ -11,13 +11,13 @@ use Rattle.commit_log.specs.Segment.{fresh, damaged, segment, reading_of}
 use Rattle.commit_log.specs.Outcomes.{RestsAs}
 
 -- What a step of reading returned, seen by view, is what the definition gives, unless memory ran out.
-abbrev pub Fails : {Y : Type 0} → ParseError → Result Y ℕ → Type 0
-Fails errors.Memory wanted = Unit {0}
-Fails (errors.At offset) wanted = wanted ≡ Err offset
+abbrev pub SegmentFails : {Y : Type 0} → ParseError → Result Y ℕ → Type 0
+SegmentFails errors.Memory wanted = Unit {0}
+SegmentFails (errors.At offset) wanted = wanted ≡ Err offset
 
-abbrev pub Gives : {X Y : Type 0} → (X → Y) → Result X ParseError → Result Y ℕ → Type 0
-Gives view (Ok x) wanted = wanted ≡ Ok (view x)
-Gives view (Err e) wanted = Fails e wanted
+abbrev pub SegmentGives : {X Y : Type 0} → (X → Y) → Result X ParseError → Result Y ℕ → Type 0
+SegmentGives view (Ok x) wanted = wanted ≡ Ok (view x)
+SegmentGives view (Err e) wanted = SegmentFails e wanted
 
 -- what the bytes of a whole file were taken for
 abbrev pub ReadsAs : List ℕ → ℕ → Result Parsed OpenError → Type 0

@@ -2,7 +2,7 @@
 ghost use Rattle.std.specs.Prelude.{◌≡◌, ◌+◌, ◌<◌, ◌^◌, IfOk, ℕ, List, length, suc};
 ghost use Rattle.std.specs.Int.{w32, w64};
 ghost use Rattle.commit_log.specs.Segment.{constant_at, number_at, header_at, frame_at, frames_from, segment_at};
-ghost use Rattle.commit_log.specs.Reading.{Gives};
+ghost use Rattle.commit_log.specs.Reading.{SegmentGives};
 ghost use Rattle.commit_log.specs.declared.parse.ParseError.TheVariants.{Memory};
 
 use crate::frame::OPEN_GATE;
@@ -56,7 +56,7 @@ pub(crate) struct Parsed {
 const SIGNATURE: [u8; 8] = *b"NETHLOG\x01";
 
 fn u32_at(at: u64, bytes: &[u8]) -> Result<(u32, &[u8]), ParseError>
-    ensures { Gives (λ x. (x.0, x.1.now)) result (number_at w32 at bytes.now) }
+    ensures { SegmentGives (λ x. (x.0, x.1.now)) result (number_at w32 at bytes.now) }
 {
     if bytes.len() < 4 {
         return Err(ParseError::At(at));
@@ -67,7 +67,7 @@ fn u32_at(at: u64, bytes: &[u8]) -> Result<(u32, &[u8]), ParseError>
 }
 
 fn u64_at(at: u64, bytes: &[u8]) -> Result<(u64, &[u8]), ParseError>
-    ensures { Gives (λ x. (x.0, x.1.now)) result (number_at w64 at bytes.now) }
+    ensures { SegmentGives (λ x. (x.0, x.1.now)) result (number_at w64 at bytes.now) }
 {
     if bytes.len() < 8 {
         return Err(ParseError::At(at));
@@ -82,7 +82,7 @@ fn u64_at(at: u64, bytes: &[u8]) -> Result<(u64, &[u8]), ParseError>
 /// The bytes behind a constant, which are these one by one.
 fn read_constant<'a>(wanted: &[u8], at: u64, bytes: &'a [u8]) -> Result<&'a [u8], ParseError>
     requires { at + length wanted.now < 2 ^ 64 }
-    ensures { Gives (λ x. x.now) result (constant_at wanted.now at bytes.now) }
+    ensures { SegmentGives (λ x. x.now) result (constant_at wanted.now at bytes.now) }
 {
     let mut at = at;
     let mut rest = bytes;
@@ -103,7 +103,7 @@ fn read_constant<'a>(wanted: &[u8], at: u64, bytes: &'a [u8]) -> Result<&'a [u8]
 
 #[tactic(auto, unfolding(crate::specs::Segment::header_at))]
 fn read_header(bytes: &[u8]) -> Result<(Header, &[u8]), ParseError>
-    ensures { Gives (λ x. (x.0, x.1.now)) result (header_at bytes.now) }
+    ensures { SegmentGives (λ x. (x.0, x.1.now)) result (header_at bytes.now) }
 {
     let rest = read_constant(&SIGNATURE, 1, bytes)?;
     let (partition, rest) = u32_at(9, rest)?;
@@ -125,7 +125,7 @@ fn read_header(bytes: &[u8]) -> Result<(Header, &[u8]), ParseError>
 #[tactic(auto, unfolding(crate::specs::Segment::frame_at))]
 fn read_frame(at: u64, bytes: &[u8]) -> Result<(&[u8], &[u8]), ParseError>
     requires { at < 2 ^ 32 }
-    ensures gives { Gives (λ x. (x.0.now, x.1.now)) result (frame_at at bytes.now) }
+    ensures gives { SegmentGives (λ x. (x.0.now, x.1.now)) result (frame_at at bytes.now) }
     ensures sizes { IfOk result (λ x. (4 + length x.0.now + length x.1.now ≡ length bytes.now) × (at + 5 + length x.0.now < 2 ^ 31)) }
 {
     let (size, rest) = u32_at(at, bytes)?;
@@ -138,7 +138,7 @@ fn read_frame(at: u64, bytes: &[u8]) -> Result<(&[u8], &[u8]), ParseError>
 
 /// The payloads behind open gates, and where the first closed gate stands.
 fn read_frames(alloc: Global, bytes: &[u8]) -> Result<(Vec<Payload>, u64), ParseError>
-    ensures gives { Gives (λ x. (x.0.items, x.1)) result (frames_from (suc (length bytes.now)) FIRST_GATE bytes.now) }
+    ensures gives { SegmentGives (λ x. (x.0.items, x.1)) result (frames_from (suc (length bytes.now)) FIRST_GATE bytes.now) }
     ensures below { IfOk result (λ x. x.1 + 1 < 2 ^ 31) }
 {
     let mut payloads = Vec::new(alloc);
@@ -164,7 +164,7 @@ fn read_frames(alloc: Global, bytes: &[u8]) -> Result<(Vec<Payload>, u64), Parse
 
 /// What a segment holds whose format's gate is open: the bytes behind that gate.
 pub(crate) fn parse(alloc: Global, bytes: &[u8]) -> Result<Parsed, ParseError>
-    ensures gives { Gives (λ x. (x.header, (x.payloads.items, x.gate))) result (segment_at bytes.now) }
+    ensures gives { SegmentGives (λ x. (x.header, (x.payloads.items, x.gate))) result (segment_at bytes.now) }
     ensures below { IfOk result (λ x. x.gate + 1 < 2 ^ 31) }
 {
     let (header, rest) = read_header(bytes)?;

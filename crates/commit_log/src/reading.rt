@@ -5,7 +5,7 @@ ghost use Rattle.site_model.specs.Calls.{HasRisen, HasCause, Syncs};
 ghost use Rattle.site_model.specs.Moments.{LeavesOnly};
 ghost use Rattle.commit_log.specs.Segment.{reading_of, segment_at};
 ghost use Rattle.commit_log.specs.States.{IsSegment, EndsAt};
-ghost use Rattle.commit_log.specs.Reading.{Gives, OpensAs, ReadsAs};
+ghost use Rattle.commit_log.specs.Reading.{SegmentGives, OpensAs, ReadsAs};
 
 use crate::frame::OPEN_GATE;
 use crate::opening::{OpenError, Opened};

@@ -6,7 +6,7 @@ use Rattle.std.specs.Int.{Width, w32, w64, byte_len, from_be_bytes}
 use Rattle.dura_value.specs.declared.faults.ReadError.{ReadError}
 use Rattle.dura_value.specs.declared.faults.ReadError.TheVariants as places
 use Rattle.dura_value.specs.Limits.{number_limit}
-use Rattle.dura_value.specs.Reading.{◌>>=◌, Gives}
+use Rattle.dura_value.specs.Reading.{◌>>=◌, ReadGives}
 use Rattle.dura_codec.specs.declared.fields.FieldError.{FieldError}
 use Rattle.dura_codec.specs.declared.fields.FieldError.TheVariants.{Bad, Memory}
 
@@ -42,7 +42,7 @@ fault_in bytes Memory = places.Memory
 
 -- a thing was read from the front of bytes, or the offset of the fault was given, unless memory ran out
 abbrev pub ReadsAs : {X Y : Type 0} → (X → Y) → (List ℕ → Read Y) → List ℕ → Result (X × Bor (List ℕ)) ReadError → Type 0
-ReadsAs view grammar bytes result = Gives (λ x. (view x.0, x.1.now)) result (placed bytes (grammar bytes))
+ReadsAs view grammar bytes result = ReadGives (λ x. (view x.0, x.1.now)) result (placed bytes (grammar bytes))
 
 abbrev pub byte_at : List ℕ → Read ℕ
 byte_at [] = Err 0

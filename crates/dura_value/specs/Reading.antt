@@ -15,13 +15,13 @@ abbrev pub ◌>>=◌ : {A B : Type 0} → Result A ℕ → (A → Result B ℕ) 
 (Err offset) >>= f = Err offset
 
 -- what was answered, seen by a view, is what was read, unless memory ran out
-abbrev pub Fails : {Y : Type 0} → ReadError → Result Y ℕ → Type 0
-Fails Memory read = Unit {0}
-Fails (Bad offset) read = read ≡ Err offset
+abbrev pub ReadFails : {Y : Type 0} → ReadError → Result Y ℕ → Type 0
+ReadFails Memory read = Unit {0}
+ReadFails (Bad offset) read = read ≡ Err offset
 
-abbrev pub Gives : {X Y : Type 0} → (X → Y) → Result X ReadError → Result Y ℕ → Type 0
-Gives view (Ok x) read = read ≡ Ok (view x)
-Gives view (Err error) read = Fails error read
+abbrev pub ReadGives : {X Y : Type 0} → (X → Y) → Result X ReadError → Result Y ℕ → Type 0
+ReadGives view (Ok x) read = read ≡ Ok (view x)
+ReadGives view (Err error) read = ReadFails error read
 
 -- how many of the first bytes begin a name
 abbrev pub name_front : List ℕ → ℕ

@@ -2,7 +2,7 @@
 
 ghost use Rattle.std.specs.Prelude.{◌≡◌, ◌+◌, ◌^◌, ◌<◌, ◌≤◌, length};
 ghost use Rattle.std.specs.List.{position_or_len};
-ghost use Rattle.dura_value.specs.Reading.{Gives, name_at, key_at, pair_at, id_in, name_front, key_front, is_slash};
+ghost use Rattle.dura_value.specs.Reading.{ReadGives, name_at, key_at, pair_at, id_in, name_front, key_front, is_slash};
 ghost use Rattle.dura_value.specs.Views.{id_of};
 
 use crate::addresses::{BETWEEN, Id, OF_CLIENT, OF_ENTITY};
@@ -58,7 +58,7 @@ fn key_front(bytes: &[u8]) -> usize
 
 fn name_at(alloc: Global, at: usize, bytes: &[u8]) -> Result<Name, ReadError>
     requires { at < 2 }
-    ensures { Gives (λ name. name) result (name_at at bytes.now) }
+    ensures { ReadGives (λ name. name) result (name_at at bytes.now) }
 {
     if !is_name(bytes) {
         return Err(ReadError::Bad {
@@ -70,7 +70,7 @@ fn name_at(alloc: Global, at: usize, bytes: &[u8]) -> Result<Name, ReadError>
 
 fn key_at(alloc: Global, at: usize, bytes: &[u8]) -> Result<Key, ReadError>
     requires { at ≤ 2 ^ 63 + 2 }
-    ensures { Gives (λ key. key) result (key_at at bytes.now) }
+    ensures { ReadGives (λ key. key) result (key_at at bytes.now) }
 {
     if !is_key(bytes) {
         return Err(ReadError::Bad {
@@ -84,7 +84,7 @@ fn key_at(alloc: Global, at: usize, bytes: &[u8]) -> Result<Key, ReadError>
 #[tactic(auto, unfolding(crate::specs::Reading::pair_at))]
 fn pair_at(alloc: Global, at: usize, bytes: &[u8]) -> Result<(Name, Key), ReadError>
     requires { at < 2 }
-    ensures { Gives (λ pair. (pair.0, pair.1)) result (pair_at at bytes.now) }
+    ensures { ReadGives (λ pair. (pair.0, pair.1)) result (pair_at at bytes.now) }
 {
     let place = count_to_slash(bytes);
     let name = name_at(alloc, at, &bytes[..place])?;
@@ -98,7 +98,7 @@ fn pair_at(alloc: Global, at: usize, bytes: &[u8]) -> Result<(Name, Key), ReadEr
 impl Name {
     /// The name that is written so. Bad says how many of the first bytes begin one.
     pub fn read(alloc: Global, bytes: &[u8]) -> Result<Name, ReadError>
-        ensures { Gives (λ name. name) result (name_at 0 bytes.now) }
+        ensures { ReadGives (λ name. name) result (name_at 0 bytes.now) }
     {
         name_at(alloc, 0, bytes)
     }
@@ -107,7 +107,7 @@ impl Name {
 impl Key {
     /// The key that is written so. Bad says how many of the first bytes begin one.
     pub fn read(alloc: Global, bytes: &[u8]) -> Result<Key, ReadError>
-        ensures { Gives (λ key. key) result (key_at 0 bytes.now) }
+        ensures { ReadGives (λ key. key) result (key_at 0 bytes.now) }
     {
         key_at(alloc, 0, bytes)
     }
@@ -117,7 +117,7 @@ impl Id {
     /// The id that is written so. Bad says how many of the first bytes begin one.
     #[tactic(auto, unfolding(crate::specs::Reading::id_in))]
     pub fn read(alloc: Global, bytes: &[u8]) -> Result<Id, ReadError>
-        ensures { Gives id_of result (id_in bytes.now) }
+        ensures { ReadGives id_of result (id_in bytes.now) }
     {
         match bytes {
             [] => Err(ReadError::Bad { offset: 0 }),

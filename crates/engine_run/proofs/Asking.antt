@@ -15,8 +15,8 @@ use Rattle.dura_value.proofs.Ids.{same_bytes}
 use Rattle.engine_run.specs.Asked.{IsRequest}
 use Rattle.engine_run.specs.Served.{has_answer}
 use Rattle.engine_run.proofs.FileAsked.{says_whose}
-use Rattle.hub_store.specs.Moments.{Told}
-use Rattle.hub_store.specs.Moments.Told.{silent, settles, says}
+use Rattle.hub_store.specs.Moments.{SaidSoFar}
+use Rattle.hub_store.specs.Moments.SaidSoFar.{silent, settles, says}
 use Rattle.hub_store.specs.Trail.{Settled, Said, of_part, settling}
 use Rattle.hub_store.proofs.Settling.{of_part-append, own_part}
 use Rattle.part_files.specs.Placing.{placed}
@@ -37,7 +37,7 @@ not_below a b is = grind (arith, nat_tests, is)
 
 module _ (rules : Rules) (latest : ℕ) where
   -- each request that was said has its answer by what was settled
-  pub told_answered : {trail : List Settled} {told : List Said} {lines : List ℕ} → Told (may_follow rules latest) (may_say rules) trail told lines → (state : Partition) → placed rules.flows 1 rules.begin (of_part 0 trail) ≡ Ok state
+  pub told_answered : {trail : List Settled} {told : List Said} {lines : List ℕ} → SaidSoFar (may_follow rules latest) (may_say rules) trail told lines → (state : Partition) → placed rules.flows 1 rules.begin (of_part 0 trail) ≡ Ok state
       → (name : List ℕ) (place : ℕ) (r : Request) → place < count_told (pairs_of told) name → request_at rules name place ≡ Some r → is_some (state.answers (client name) r.number) ≡ true
   told_answered silent state made name place r low at = absurd (omega (arith, low))
   told_answered (settles {trail} {told} before partition at_moment going follows) state made name place r low at =

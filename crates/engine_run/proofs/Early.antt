@@ -3,8 +3,8 @@ use Rattle.std.proofs.Common.{◌≡◌, ◌<◌, ◌^◌, inl, false, ℕ, List
 use Rattle.std.proofs.lemmas.Bool.Decides.{nat_tests}
 use Rattle.std.specs.Prelude.{nat_eq, IsErrAnd, IfErr}
 use Rattle.dura_model.specs.Partition.{Partition}
-use Rattle.engine_run.specs.Causes.{Answers, Untouched}
-use Rattle.engine_run.specs.Kept.{Refuses as ClashRefuses}
+use Rattle.engine_run.specs.Causes.{CauseHolds, Untouched}
+use Rattle.engine_run.specs.Kept.{RefusesKept as ClashRefuses}
 use Rattle.engine_run.specs.Opening.{IsLogCause}
 use Rattle.engine_run.specs.Prepared.{IsEarlyCause}
 use Rattle.recover_core.specs.Recovering.{OnlySyncs}
@@ -12,7 +12,7 @@ use Rattle.request_reader.specs.Line.{Request}
 use Rattle.run_causes.specs.Causes.{status_of}
 use Rattle.run_causes.specs.declared.cause.Cause.{Cause}
 use Rattle.run_causes.specs.declared.cause.Cause.TheVariants.{Done, Usage, BadFlows, BadRequests, Clash, BadPlan, TooLong, Waiting, Long, SiteFault, SayFault, ClockFault, Damaged, Illegal, Unclosed, OtherShape, OtherFlows, Memory, Full, Spent}
-use Rattle.run_inputs.specs.Input.{IsInputCause, Refuses}
+use Rattle.run_inputs.specs.Input.{IsInputCause, RefusesInput}
 use Rattle.run_inputs.specs.Refusal.{refusal_of}
 use Rattle.site_model.specs.History.{Step}
 
@@ -51,7 +51,7 @@ room_left found place is below = omega arith
 
 -- ---- the input files
 
-pub input_answers : (files : ℕ → List ℕ) (cause : Cause) → IsInputCause cause → Refuses (refusal_of files) cause → Answers files cause
+pub input_answers : (files : ℕ → List ℕ) (cause : Cause) → IsInputCause cause → RefusesInput (refusal_of files) cause → CauseHolds files cause
 input_answers files Done is refuses = absurd is
 input_answers files Usage is refuses = absurd is
 input_answers files (BadFlows fault) is refuses = refuses

@@ -5,7 +5,7 @@ use Rattle.dura_model.proofs.Outcomes.{never_twice}
 use Rattle.dura_value.specs.Items.{Entry}
 use Rattle.engine_run.specs.Ends.{Terms, GoesInTime, SaysWhole, GoesOn, RunEndsAs}
 use Rattle.engine_run.specs.Headline.{StandsOrderly, RunsOn}
-use Rattle.engine_run.specs.Job.{Job, Keeps, AreGivenIn}
+use Rattle.engine_run.specs.Job.{Job, FilesKeep, AreGivenIn}
 use Rattle.engine_run.specs.Opened.{IsOpened, OpensOnly}
 use Rattle.engine_run.specs.Picks.{log_in_file, origin_with, rules_with}
 use Rattle.engine_run.specs.Served.{HasServed}
@@ -36,7 +36,7 @@ in_order rules latest digest o steps trail image on = record {
   };
 }
 
-module _ (job : Job) (old steps new : List Step) (entries : List Entry) (state : Partition) (keeps : Keeps job (λ file. content_of file old) entries state) (given : AreGivenIn job entries)
+module _ (job : Job) (old steps new : List Step) (entries : List Entry) (state : Partition) (keeps : FilesKeep job (λ file. content_of file old) entries state) (given : AreGivenIn job entries)
     (log : Resting) (opened : IsOpened job.digest entries steps log) (opens : OpensOnly job old steps) where
   -- the rest of a run that goes on
   pub runs_on : (life : ℕ) → life ≡ next_life entries → state.incarnation ≤ life → (trail : List Settled) (terms : Terms) (cause : Cause)

@@ -8,7 +8,7 @@ use Rattle.dura_model.specs.Partition.{fresh}
 use Rattle.dura_model.proofs.Outcomes.{never_twice}
 use Rattle.dura_value.specs.Items.{Entry}
 use Rattle.engine_run.specs.Headline.{IsOrderly, RunsOn}
-use Rattle.engine_run.specs.Job.{Keeps, AreGivenIn}
+use Rattle.engine_run.specs.Job.{FilesKeep, AreGivenIn}
 use Rattle.engine_run.specs.Lives.{asking_nothing, KeepsOn, AllKeep, Life, by_then, settled_then, IsLife, BeginsOn, Lives, no_life, one_more, IsSaidBy, IsSettledIn, AreJoined}
 use Rattle.engine_run.specs.Opened.{IsOpening}
 use Rattle.engine_run.specs.Picks.{rules_with}
@@ -17,7 +17,7 @@ use Rattle.hub_store.specs.Origin.{Origin}
 use Rattle.hub_store.specs.Trail.{Settled, Said, of_part, settled_at}
 use Rattle.part_files.specs.Logs.{logs_in, entries_in}
 use Rattle.part_files.specs.Placing.{placed, next_life, labels_in, AllGiven}
-use Rattle.part_files.specs.Stands.{alone_with, Stands, shown_by}
+use Rattle.part_files.specs.Stands.{alone_with, FilesStand, shown_by}
 use Rattle.part_files.proofs.LabelsStand.{labels_stand}
 use Rattle.run_laws.proofs.Ordered.{never_overlaps}
 use Rattle.run_laws.specs.Leaves.{IsAnswered, AllAnswered, IsHalfSaid, StandsOn}
@@ -75,7 +75,7 @@ kept_behind : (flows : Flows) (digest : ℕ) (one other : List Entry) (files : �
 kept_behind flows digest one other files keeps = record {
   more = other ++ keeps.more;
   state = keeps.state;
-  keeps = subst (λ (l : List Entry). Keeps (asking_nothing flows digest) files l keeps.state) (append_assoc one other keeps.more) keeps.keeps;
+  keeps = subst (λ (l : List Entry). FilesKeep (asking_nothing flows digest) files l keeps.state) (append_assoc one other keeps.more) keeps.keeps;
   given = subst (AreGivenIn (asking_nothing flows digest)) (append_assoc one other keeps.more) keeps.given;
 }
 
@@ -160,7 +160,7 @@ module _ (flows : Flows) (digest : ℕ) (entries : List Entry) (before : List St
   abbrev own_entries : List Entry
   own_entries = entries ++ first_kept.more
 
-  keeps_own : Keeps life.job (λ file. content_of file life.old) own_entries first_kept.state
+  keeps_own : FilesKeep life.job (λ file. content_of file life.old) own_entries first_kept.state
   keeps_own = record {
     kept = subst (λ (n : ℕ). entries_in (logs_in (alone_with n) (λ file. content_of file life.old)) ≡ Some own_entries) (sym is.same_digest) first_kept.keeps.kept;
     made = ap (λ (f : Flows). placed f 1 (fresh 0) own_entries) is.same_flows ∙ first_kept.keeps.made;
@@ -266,10 +266,10 @@ lives_joined flows digest first last entries lives keep all image left =
       kept = record {
         more = then.behind ++ kept.more;
         state = kept.state;
-        keeps = subst (λ (l : List Entry). Keeps (asking_nothing flows digest) image l kept.state) run kept.keeps;
+        keeps = subst (λ (l : List Entry). FilesKeep (asking_nothing flows digest) image l kept.state) run kept.keeps;
         given = subst (AreGivenIn (asking_nothing flows digest)) run kept.given;
       };
-      stands = subst (λ (l : List Entry). Stands flows digest image (labels_in l)) run stands;
+      stands = subst (λ (l : List Entry). FilesStand flows digest image (labels_in l)) run stands;
       orderly = subst (λ (l : List Entry). IsOrderly flows (labels_in l)) run (record {
         once = λ id task. never_twice flows (labels_in (then.entries ++ kept.more)) (shown_by flows stands.state) stands.legal id task;
         apart = λ front rest world split legal overlap. never_overlaps flows front world legal overlap;

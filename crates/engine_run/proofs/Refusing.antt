@@ -3,11 +3,11 @@ use Rattle.std.proofs.Common.{◌≡◌, ◌<◌, ◌^◌, ◌∙◌, inr, true,
 use Rattle.std.proofs.lemmas.List.Elements.{All-contains}
 use Rattle.dura_model.specs.Partition.{Partition, fresh}
 use Rattle.dura_value.specs.Items.{Entry}
-use Rattle.engine_run.specs.Causes.{AsksFor, IsReady, Answers, IsRefusal, IsLogRefusal, AreRefused, Untouched}
+use Rattle.engine_run.specs.Causes.{AsksFor, IsReady, CauseHolds, IsRefusal, IsLogRefusal, AreRefused, Untouched}
 use Rattle.engine_run.specs.Causes.AreRefused.{for_input, for_logs, for_clash}
 use Rattle.engine_run.specs.Ends.{IsLateCause}
-use Rattle.engine_run.specs.Job.{Job, Keeps}
-use Rattle.engine_run.specs.Kept.{clashes, IsClash, NoClash, Refuses}
+use Rattle.engine_run.specs.Job.{Job, FilesKeep}
+use Rattle.engine_run.specs.Kept.{clashes, IsClash, NoClash, RefusesKept}
 use Rattle.engine_run.specs.Opening.{cause_of_recovery, IsLogCause}
 use Rattle.engine_run.proofs.Asked.{same_job, same_state}
 use Rattle.flow_syntax.specs.Syntax.{Flows}
@@ -23,7 +23,7 @@ use Rattle.request_reader.specs.Line.{Request}
 use Rattle.site_model.specs.History.{Step}
 
 -- the logs are refused
-pub logs_refused : (files : ℕ → List ℕ) (job : Job) (error : RecoverError) → AsksFor files job → Recovers job.flows job.digest files (Err error) → Answers files (cause_of_recovery error)
+pub logs_refused : (files : ℕ → List ℕ) (job : Job) (error : RecoverError) → AsksFor files job → Recovers job.flows job.digest files (Err error) → CauseHolds files (cause_of_recovery error)
 logs_refused files job (errors.Damaged file offset) asks recovers = (job, asks, recovers)
 logs_refused files job (errors.OtherShape found asked) asks recovers = (job, asks, recovers)
 logs_refused files job (errors.OtherFlows found given) asks recovers = (job, asks, recovers)
@@ -33,7 +33,7 @@ logs_refused files job errors.SiteFault asks recovers = tt
 logs_refused files job errors.Memory asks recovers = tt
 
 -- another request was taken
-pub clash_refused : (files : ℕ → List ℕ) (job : Job) (entries : List Entry) (state : Partition) (cause : Cause) → AsksFor files job → Keeps job files entries state → Refuses state job.requests cause → Answers files cause
+pub clash_refused : (files : ℕ → List ℕ) (job : Job) (entries : List Entry) (state : Partition) (cause : Cause) → AsksFor files job → FilesKeep job files entries state → RefusesKept state job.requests cause → CauseHolds files cause
 clash_refused files job entries state (Clash name number) asks keeps clash = inr (job, asks, (entries, state, keeps, clash))
 clash_refused files job entries state Memory asks keeps clash = tt
 clash_refused files job entries state Done asks keeps clash = absurd clash
@@ -80,7 +80,7 @@ logs_untouched old new (Full partition length) is syncs = absurd is
 
 -- ---- a run that went on
 
-pub late_answers : (files : ℕ → List ℕ) (cause : Cause) → IsLateCause cause → IsReady files → Answers files cause
+pub late_answers : (files : ℕ → List ℕ) (cause : Cause) → IsLateCause cause → IsReady files → CauseHolds files cause
 late_answers files Done is ready = ready
 late_answers files (Waiting name number) is ready = ready
 late_answers files (Long labels) is ready = ready
@@ -145,7 +145,7 @@ no_log_refusal flows digest files entries state errors.Memory kept made young is
 none_clash : (state : Partition) (requests : List Request) (name : List ℕ) (number : ℕ) → NoClash state requests → IsClash state requests name number → ⊥
 none_clash state requests name number none clash = let wrong : true ≡ false = sym clash.there.clashes ∙ All-contains (λ r. clashes state r ≡ false) requests clash.there.request none clash.there.asked in cc wrong
 
-pub ready : (files : ℕ → List ℕ) (job : Job) (entries : List Entry) (state : Partition) → AsksFor files job → Keeps job files entries state → NoClash state job.requests → next_life entries < 2 ^ 62 → IsReady files
+pub ready : (files : ℕ → List ℕ) (job : Job) (entries : List Entry) (state : Partition) → AsksFor files job → FilesKeep job files entries state → NoClash state job.requests → next_life entries < 2 ^ 62 → IsReady files
 ready files job entries state asks keeps no_clash young = record { job = job; asks = asks; entries = entries; state = state; keeps = keeps; no_clash = no_clash; young = young }
 
 -- files that are accepted aren't refused
@@ -157,7 +157,7 @@ not_refused files is_ready (for_logs error is refused) =
     (subst (λ (j : Job). Recovers j.flows j.digest files (Err error)) same refused.2)
 not_refused files is_ready (for_clash name number refused) =
     let same = same_job files refused.0 is_ready.job refused.1 is_ready.asks in
-    let kept : Keeps is_ready.job files refused.2.0 refused.2.1 = subst (λ (j : Job). Keeps j files refused.2.0 refused.2.1) same refused.2.2 in
+    let kept : FilesKeep is_ready.job files refused.2.0 refused.2.1 = subst (λ (j : Job). FilesKeep j files refused.2.0 refused.2.1) same refused.2.2 in
     let state = same_state is_ready.job files refused.2.0 is_ready.entries refused.2.1 is_ready.state kept is_ready.keeps in
     none_clash is_ready.state is_ready.job.requests name number is_ready.no_clash
     (subst (λ (p : Partition). IsClash p is_ready.job.requests name number) state (subst (λ (j : Job). IsClash refused.2.1 j.requests name number) same refused.2.3))

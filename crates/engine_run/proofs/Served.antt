@@ -21,7 +21,7 @@ use Rattle.engine_run.specs.Served.{has_answer, IsServed, first_open, IsFirstOpe
 use Rattle.engine_run.proofs.Asking.{told_answered, get_front, get_here, get_within, front_all, and_false, asks_in_vain}
 use Rattle.engine_run.proofs.FileAsked.{says_whose}
 use Rattle.engine_run.proofs.Stirred.{stirs}
-use Rattle.hub_store.specs.Moments.{Told}
+use Rattle.hub_store.specs.Moments.{SaidSoFar}
 use Rattle.hub_store.specs.Origin.{Origin}
 use Rattle.hub_store.specs.Trail.{Settled, Said, of_part}
 use Rattle.part_files.specs.Placing.{placed}
@@ -170,7 +170,7 @@ side (suc a) (suc b) = elim (side a b) [
 
 -- ---- at rest
 
-module _ (rules : Rules) (latest : ℕ) (trail : List Settled) (told : List Said) (lines : List ℕ) (story : Told (may_follow rules latest) (may_say rules) trail told lines) (queues : List Queue) (said : HasSaid rules told queues)
+module _ (rules : Rules) (latest : ℕ) (trail : List Settled) (told : List Said) (lines : List ℕ) (story : SaidSoFar (may_follow rules latest) (may_say rules) trail told lines) (queues : List Queue) (said : HasSaid rules told queues)
     (state : Partition) (made : placed rules.flows 1 rules.begin (of_part 0 trail) ≡ Ok state) where
   abbrev world : World
   world = shown_by rules.flows state

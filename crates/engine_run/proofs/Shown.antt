@@ -11,7 +11,7 @@ use Rattle.recover_core.specs.declared.error.RecoverError.{RecoverError}
 use Rattle.recover_core.specs.declared.error.RecoverError.TheVariants as errors
 use Rattle.run_causes.specs.declared.cause.Cause.{Cause}
 use Rattle.run_causes.specs.declared.cause.Cause.TheVariants.{Done, Usage, BadFlows, BadRequests, Clash, BadPlan, TooLong, Waiting, Long, SiteFault, SayFault, ClockFault, Damaged, Illegal, Unclosed, OtherShape, OtherFlows, Memory, Full, Spent}
-use Rattle.run_inputs.specs.Input.{HasFlows, IsFlowsCause, Refuses}
+use Rattle.run_inputs.specs.Input.{HasFlows, IsFlowsCause, RefusesInput}
 use Rattle.run_inputs.specs.Refusal.{flows_refusal}
 use Rattle.site_model.specs.History.{Step, tape}
 use Rattle.state_lines.specs.Fronts.{StopsInTable}
@@ -24,7 +24,7 @@ syncs_tape old new (inr (inl is)) = ap tape is
 syncs_tape old new (inr (inr is)) = ap tape is
 
 -- flows that were refused
-pub flows_shown : (files : ℕ → List ℕ) (old new : List ℕ) (cause : Cause) → IsFlowsCause cause → Refuses (flows_refusal files) cause → new ≡ old → ShowsAs files old new cause
+pub flows_shown : (files : ℕ → List ℕ) (old new : List ℕ) (cause : Cause) → IsFlowsCause cause → RefusesInput (flows_refusal files) cause → new ≡ old → ShowsAs files old new cause
 flows_shown files old new Done is refuses same = absurd is
 flows_shown files old new Usage is refuses same = absurd is
 flows_shown files old new (BadFlows fault) is refuses same = (refuses, same)

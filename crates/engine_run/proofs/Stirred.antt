@@ -23,7 +23,7 @@ use Rattle.engine_run.specs.Asked.{IsRequest}
 use Rattle.engine_run.proofs.Asking.{told_answered, get_front, front_all, asks_on}
 use Rattle.engine_run.proofs.FileAsked.{says_whose}
 use Rattle.flow_syntax.specs.Syntax.{Flows}
-use Rattle.hub_store.specs.Moments.{Told}
+use Rattle.hub_store.specs.Moments.{SaidSoFar}
 use Rattle.hub_store.specs.Trail.{Settled, Said, of_part}
 use Rattle.part_files.specs.Placing.{placed, all_accepted}
 use Rattle.part_files.specs.Stands.{shown_by}
@@ -88,7 +88,7 @@ none_fires flows count p next id task stamp (Some o) (Some due) none is = cc non
 
 -- ---- the world
 
-module _ (rules : Rules) (latest : ℕ) {trail : List Settled} {told : List Said} {lines : List ℕ} (story : Told (may_follow rules latest) (may_say rules) trail told lines) (before : Partition)
+module _ (rules : Rules) (latest : ℕ) {trail : List Settled} {told : List Said} {lines : List ℕ} (story : SaidSoFar (may_follow rules latest) (may_say rules) trail told lines) (before : Partition)
     (made : placed rules.flows 1 rules.begin (of_part 0 trail) ≡ Ok before) (shows : AreShown 1 (λ place. before)) (younger : before.incarnation ≤ rules.life) (rightly : AnswersTaken before)
     (asked : All IsRequest rules.requests) (quiet : Quiet rules.flows (map (λ (r : Request). r.message) rules.requests) (shown_by rules.flows before)) where
   abbrev world : World

@@ -4,7 +4,7 @@ use Rattle.command_words.specs.declared.words.Call.{Call}
 use Rattle.command_words.specs.declared.words.Call.TheVariants.{Run, Show}
 use Rattle.dura_model.specs.Partition.{Partition}
 use Rattle.dura_value.specs.Items.{Entry}
-use Rattle.engine_run.specs.Job.{Job, Keeps}
+use Rattle.engine_run.specs.Job.{Job, FilesKeep}
 use Rattle.engine_run.specs.Kept.{IsClash, NoClash}
 use Rattle.hub_store.specs.Trail.{Settled}
 use Rattle.part_files.specs.Placing.{next_life}
@@ -27,40 +27,40 @@ pub record IsReady (files : ℕ → List ℕ) : Type 0 where
   pub asks : AsksFor files job
   pub entries : List Entry
   pub state : Partition
-  pub keeps : Keeps job files entries state
+  pub keeps : FilesKeep job files entries state
   pub no_clash : NoClash state job.requests
   pub young : next_life entries < 2 ^ 62
 
 -- another request was taken under this client's name and number
 abbrev pub ClashesWithKept : (ℕ → List ℕ) → (client : List ℕ) → (number : ℕ) → Type 0
-ClashesWithKept files client number = (job : Job) × AsksFor files job × ((entries : List Entry) × (state : Partition) × Keeps job files entries state × IsClash state job.requests client number)
+ClashesWithKept files client number = (job : Job) × AsksFor files job × ((entries : List Entry) × (state : Partition) × FilesKeep job files entries state × IsClash state job.requests client number)
 
 -- the logs are refused for this
 abbrev pub RefusesLogs : (ℕ → List ℕ) → RecoverError → Type 0
 RefusesLogs files error = (job : Job) × AsksFor files job × Recovers job.flows job.digest files (Err error)
 
 -- A fault of the outside and want of memory may come at any time; the faults have a clause of their own.
-abbrev pub Answers : (ℕ → List ℕ) → Cause → Type 0
-Answers files Done = IsReady files
-Answers files (Waiting client number) = IsReady files
-Answers files (Long labels) = IsReady files
-Answers files (Full partition length) = IsReady files
-Answers files SayFault = IsReady files
-Answers files ClockFault = IsReady files
-Answers files SiteFault = Unit {0}
-Answers files Memory = Unit {0}
-Answers files (BadFlows fault) = refusal_of files ≡ Some (BadFlows fault)
-Answers files (BadRequests line) = refusal_of files ≡ Some (BadRequests line)
-Answers files (BadPlan place) = refusal_of files ≡ Some (BadPlan place)
-Answers files (TooLong file) = refusal_of files ≡ Some (TooLong file)
-Answers files (Clash client number) = (refusal_of files ≡ Some (Clash client number)) ⊎ ClashesWithKept files client number
-Answers files (Damaged file offset) = RefusesLogs files (errors.Damaged file offset)
-Answers files (OtherShape found asked) = RefusesLogs files (errors.OtherShape found asked)
-Answers files (OtherFlows found given) = RefusesLogs files (errors.OtherFlows found given)
-Answers files (Illegal partition position) = RefusesLogs files (errors.Illegal partition position)
-Answers files (Spent partition number) = RefusesLogs files (errors.Spent partition number) ⊎ (IsReady files × (partition ≡ 0) × (2 ^ 62 ≤ number))
-Answers files (Unclosed partition position src seq) = ⊥
-Answers files Usage = ⊥
+abbrev pub CauseHolds : (ℕ → List ℕ) → Cause → Type 0
+CauseHolds files Done = IsReady files
+CauseHolds files (Waiting client number) = IsReady files
+CauseHolds files (Long labels) = IsReady files
+CauseHolds files (Full partition length) = IsReady files
+CauseHolds files SayFault = IsReady files
+CauseHolds files ClockFault = IsReady files
+CauseHolds files SiteFault = Unit {0}
+CauseHolds files Memory = Unit {0}
+CauseHolds files (BadFlows fault) = refusal_of files ≡ Some (BadFlows fault)
+CauseHolds files (BadRequests line) = refusal_of files ≡ Some (BadRequests line)
+CauseHolds files (BadPlan place) = refusal_of files ≡ Some (BadPlan place)
+CauseHolds files (TooLong file) = refusal_of files ≡ Some (TooLong file)
+CauseHolds files (Clash client number) = (refusal_of files ≡ Some (Clash client number)) ⊎ ClashesWithKept files client number
+CauseHolds files (Damaged file offset) = RefusesLogs files (errors.Damaged file offset)
+CauseHolds files (OtherShape found asked) = RefusesLogs files (errors.OtherShape found asked)
+CauseHolds files (OtherFlows found given) = RefusesLogs files (errors.OtherFlows found given)
+CauseHolds files (Illegal partition position) = RefusesLogs files (errors.Illegal partition position)
+CauseHolds files (Spent partition number) = RefusesLogs files (errors.Spent partition number) ⊎ (IsReady files × (partition ≡ 0) × (2 ^ 62 ≤ number))
+CauseHolds files (Unclosed partition position src seq) = ⊥
+CauseHolds files Usage = ⊥
 
 -- why files are refused
 abbrev pub IsRefusal : Cause → Type 0

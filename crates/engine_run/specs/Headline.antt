@@ -7,7 +7,7 @@ use Rattle.dura_model.specs.World.{World}
 use Rattle.dura_value.specs.Ids.{Id}
 use Rattle.dura_value.specs.Items.{Entry}
 use Rattle.engine_run.specs.Ends.{Terms, GoesInTime, SaysWhole, RunEndsAs}
-use Rattle.engine_run.specs.Job.{Job, Keeps, AreGivenIn}
+use Rattle.engine_run.specs.Job.{Job, FilesKeep, AreGivenIn}
 use Rattle.engine_run.specs.Picks.{rules_with}
 use Rattle.engine_run.specs.Opened.{IsOpening}
 use Rattle.engine_run.specs.Prepared.{IsEarlyCause}
@@ -68,5 +68,5 @@ pub record EndsEarly (job : Job) (entries : List Entry) (old new : List Step) (t
 
 -- Where the files as they were read at the start stood for a run, by these entries: each crash leaves what it may.
 abbrev pub Headline : Job → (files : ℕ → List ℕ) → (old new : List Step) → List Settled → Terms → Cause → Type 0
-Headline job files old new trail terms cause = (entries : List Entry) (begin : Partition) → Keeps job files entries begin → AreGivenIn job entries
+Headline job files old new trail terms cause = (entries : List Entry) (begin : Partition) → FilesKeep job files entries begin → AreGivenIn job entries
     → RunsOn job entries begin old new trail terms cause ⊎ EndsEarly job entries old new trail cause

@@ -15,7 +15,7 @@ pub record Job : Type 0 where
   pub requests : List Request
 
 -- The logs among these files keep these entries, which made this state, one after another.
-pub record Keeps (job : Job) (files : ℕ → List ℕ) (entries : List Entry) (state : Partition) : Type 0 where
+pub record FilesKeep (job : Job) (files : ℕ → List ℕ) (entries : List Entry) (state : Partition) : Type 0 where
   pub kept : entries_in (logs_in (alone_with job.digest) files) ≡ Some entries
   pub made : placed job.flows 1 (fresh 0) entries ≡ Ok state
 

@@ -36,7 +36,7 @@ abbrev pub NoClash : Partition → List Request → Type 0
 NoClash p requests = All (λ r. clashes p r ≡ false) requests
 
 -- it is refused for a clash, or memory ran out
-abbrev pub Refuses : Partition → List Request → Cause → Type 0
-Refuses p requests (Clash name number) = IsClash p requests name number
-Refuses p requests Memory = Unit {0}
-Refuses p requests other = ⊥
+abbrev pub RefusesKept : Partition → List Request → Cause → Type 0
+RefusesKept p requests (Clash name number) = IsClash p requests name number
+RefusesKept p requests Memory = Unit {0}
+RefusesKept p requests other = ⊥

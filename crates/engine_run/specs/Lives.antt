@@ -5,13 +5,13 @@ use Rattle.dura_model.specs.Partition.{Partition}
 use Rattle.dura_value.specs.Items.{Entry}
 use Rattle.engine_run.specs.Ends.{Terms}
 use Rattle.engine_run.specs.Headline.{IsOrderly, Headline}
-use Rattle.engine_run.specs.Job.{Job, Keeps, AreGivenIn}
+use Rattle.engine_run.specs.Job.{Job, FilesKeep, AreGivenIn}
 use Rattle.engine_run.specs.Picks.{rules_with}
 use Rattle.flow_syntax.specs.Syntax.{Flows}
 use Rattle.hub_store.specs.Origin.{Origin}
 use Rattle.hub_store.specs.Trail.{Settled, Said, of_part, settled_at}
 use Rattle.part_files.specs.Placing.{next_life, labels_in}
-use Rattle.part_files.specs.Stands.{Stands}
+use Rattle.part_files.specs.Stands.{FilesStand}
 use Rattle.run_causes.specs.declared.cause.Cause.{Cause}
 use Rattle.run_laws.specs.Leaves.{AllAnswered, IsHalfSaid}
 use Rattle.site_model.specs.History.{Step, content_of, tape, back_to, IsImage}
@@ -27,7 +27,7 @@ asking_nothing flows digest = record { flows = flows; digest = digest; requests 
 pub record KeepsOn (flows : Flows) (digest : ℕ) (entries : List Entry) (files : ℕ → List ℕ) : Type 0 where
   pub more : List Entry
   pub state : Partition
-  pub keeps : Keeps (asking_nothing flows digest) files (entries ++ more) state
+  pub keeps : FilesKeep (asking_nothing flows digest) files (entries ++ more) state
   pub given : AreGivenIn (asking_nothing flows digest) (entries ++ more)
 
 -- whatever a crash leaves of this history keeps them
@@ -104,7 +104,7 @@ pub record IsSettledIn (entries : List Entry) (life : Life) : Type 0 where
 -- critical sections overlap. What each of the lives settled is in it, and what each said is its. The next call may begin on these files.
 pub record AreJoined (flows : Flows) (digest : ℕ) (entries : List Entry) (lives : List Life) (files : ℕ → List ℕ) : Type 0 where
   pub kept : KeepsOn flows digest entries files
-  pub stands : Stands flows digest files (labels_in (entries ++ kept.more))
+  pub stands : FilesStand flows digest files (labels_in (entries ++ kept.more))
   pub orderly : IsOrderly flows (labels_in (entries ++ kept.more))
   pub settled : All (IsSettledIn (entries ++ kept.more)) lives
   pub said : All (IsSaidBy (entries ++ kept.more)) lives

@@ -5,11 +5,11 @@ use Rattle.commit_log.specs.Outcomes.{RestsAs}
 use Rattle.commit_log.specs.Segment.{first_gate}
 use Rattle.dura_model.specs.Partition.{Partition}
 use Rattle.dura_value.specs.Items.{Entry}
-use Rattle.engine_run.specs.Job.{Job, Keeps, AreGivenIn}
+use Rattle.engine_run.specs.Job.{Job, FilesKeep, AreGivenIn}
 use Rattle.part_files.specs.Kept.{nothing, kept_in, first_of, decoded}
 use Rattle.part_files.specs.Logs.{first_log, second_log, logs_in, entries_in}
 use Rattle.part_files.specs.Placing.{labels_in}
-use Rattle.part_files.specs.Stands.{alone_with, Stands}
+use Rattle.part_files.specs.Stands.{alone_with, FilesStand}
 use Rattle.run_laws.specs.Begins.{header_with}
 use Rattle.site_model.specs.History.{Step, changes_of, content_of, tape, Leaves, IsImage}
 use Rattle.site_model.specs.Moments.{Always}
@@ -17,7 +17,7 @@ use Rattle.site_model.specs.Moments.{Always}
 -- The files keep just these entries, and stand for their run.
 pub record StandsBy (job : Job) (entries : List Entry) (files : ℕ → List ℕ) : Type 0 where
   pub kept : entries_in (logs_in (alone_with job.digest) files) ≡ Some entries
-  pub stands : Stands job.flows job.digest files (labels_in entries)
+  pub stands : FilesStand job.flows job.digest files (labels_in entries)
 
 -- Until the logs are opened nothing is said, and a crash leaves what it could have left at the start, or files that stand for the run
 -- at the start, by these entries. Nothing happens to a file that is no log's.
@@ -28,7 +28,7 @@ pub record IsOpening (job : Job) (entries : List Entry) (old steps : List Step) 
 
 -- so it goes from one moment to another, where the files stood for a run
 abbrev pub OpensOnly : Job → (old new : List Step) → Type 0
-OpensOnly job old new = (entries : List Entry) (state : Partition) → Keeps job (λ file. content_of file old) entries state → AreGivenIn job entries → Always (IsOpening job entries old) old new
+OpensOnly job old new = (entries : List Entry) (state : Partition) → FilesKeep job (λ file. content_of file old) entries state → AreGivenIn job entries → Always (IsOpening job entries old) old new
 
 -- The log rests in one of the two files of the one partition, with the entries that the files kept, and the other keeps nothing; all of
 -- it is on the disk.

@@ -1,7 +1,7 @@
 -- What a run begins with.
 use Rattle.std.specs.Prelude.{◌≡◌, ℕ, ◌≤◌, ◌<◌, ◌^◌, List, map}
 use Rattle.dura_value.specs.Items.{Entry}
-use Rattle.engine_run.specs.Job.{Job, Keeps}
+use Rattle.engine_run.specs.Job.{Job, FilesKeep}
 use Rattle.engine_run.specs.Opened.{IsOpened}
 use Rattle.engine_run.specs.declared.prepared.Prepared.{Prepared}
 use Rattle.flow_syntax.specs.Views.{flows_of}
@@ -26,7 +26,7 @@ pub record CanGoOn (p : Prepared) : Type 0 where
 -- What the files held made the state; the life that begins is one later than the last; and the log is opened.
 pub record IsPrepared (files : ℕ → List ℕ) (steps : List Step) (p : Prepared) : Type 0 where
   pub entries : List Entry
-  pub keeps : Keeps (job_of p) files entries (state_of p.state)
+  pub keeps : FilesKeep (job_of p) files entries (state_of p.state)
   pub life_is : p.life ≡ next_life entries
   pub opened : IsOpened p.digest entries steps p.log
 

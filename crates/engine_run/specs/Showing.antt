@@ -2,7 +2,7 @@
 use Rattle.std.specs.Prelude.{◌≡◌, ◌⊎◌, ℕ, List, [], Some, Err}
 use Rattle.dura_model.specs.Partition.{Partition}
 use Rattle.dura_value.specs.Items.{Entry}
-use Rattle.engine_run.specs.Job.{Keeps}
+use Rattle.engine_run.specs.Job.{FilesKeep}
 use Rattle.flow_syntax.specs.Syntax.{Flows}
 use Rattle.recover_core.specs.Recovering.{Recovers, OnlySyncs}
 use Rattle.recover_core.specs.declared.error.RecoverError.{RecoverError}
@@ -20,7 +20,7 @@ pub record IsThere (files : ℕ → List ℕ) (flows : Flows) (state : Partition
   pub digest : ℕ
   pub flows_in_file : HasFlows files flows digest
   pub entries : List Entry
-  pub keeps : Keeps (record { flows = flows; digest = digest; requests = [] }) files entries state
+  pub keeps : FilesKeep (record { flows = flows; digest = digest; requests = [] }) files entries state
 
 -- the logs are refused for this
 abbrev pub RefusesThere : (ℕ → List ℕ) → RecoverError → Type 0

@@ -1,7 +1,7 @@
 //! Whether what was taken before is what is asked for.
 
 ghost use Rattle.std.specs.Prelude.{◌≡◌, map, true, IfOk, IfSome, IfNone, IfErr, OnOk, IsSomeAnd, ◌⊎◌};
-ghost use Rattle.engine_run.specs.Kept.{clashes, IsClash, NoClash, Refuses};
+ghost use Rattle.engine_run.specs.Kept.{clashes, IsClash, NoClash, RefusesKept};
 ghost use Rattle.engine_run.specs.Order.{no_later};
 ghost use Rattle.part_steps.specs.States.{state_of};
 ghost use Rattle.request_reader.specs.Line.{request_of};
@@ -59,7 +59,7 @@ fn first_clash<'a>(
 /// Refuses requests where another was taken under the name and the number of one of them.
 pub(crate) fn refuse_clash(state: &PartState, requests: &[Request]) -> Result<(), Cause>
     ensures ok { OnOk result (NoClash (state_of state.now) (map request_of requests.now)) }
-    ensures err { IfErr result (Refuses (state_of state.now) (map request_of requests.now)) }
+    ensures err { IfErr result (RefusesKept (state_of state.now) (map request_of requests.now)) }
 {
     match first_clash(state, requests) {
         Ok(None) => Ok(()),

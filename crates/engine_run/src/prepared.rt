@@ -1,7 +1,7 @@
 //! What a run begins with.
 
 ghost use Rattle.std.specs.Prelude.{◌≡◌, ◌≤◌, Err, IfOk, IfErr};
-ghost use Rattle.engine_run.specs.Causes.{AsksFor, Answers, AreRefused, Untouched};
+ghost use Rattle.engine_run.specs.Causes.{AsksFor, CauseHolds, AreRefused, Untouched};
 ghost use Rattle.engine_run.specs.Job.{Job};
 ghost use Rattle.engine_run.specs.Kept.{NoClash};
 ghost use Rattle.engine_run.specs.Opened.{OpensOnly};
@@ -48,7 +48,7 @@ pub(crate) fn prepare<V: Site>(alloc: Global, site: &mut V) -> Result<Prepared, 
     ensures prepared { V.tells site.new → IfOk result (IsPrepared (λ file. content_of file (V.history site.old)) (V.history site.new)) }
     ensures no_clash { IfOk result (λ p. NoClash (state_of p.state) (job_of p).requests) }
     ensures can { IfOk result CanGoOn }
-    ensures answers { V.tells site.new → IfErr result (Answers (λ file. content_of file (V.history site.old))) }
+    ensures answers { V.tells site.new → IfErr result (CauseHolds (λ file. content_of file (V.history site.old))) }
     ensures early { IfErr result IsEarlyCause }
     ensures untouched { IfErr result (Untouched (V.history site.old) (V.history site.new)) }
     ensures refused { V.tells site.new → AreRefused (λ file. content_of file (V.history site.old)) → OnlySyncs (V.history site.old) (V.history site.new) }

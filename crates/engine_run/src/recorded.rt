@@ -4,7 +4,7 @@ ghost use Rattle.std.specs.Prelude.{◌≡◌, ◌⊎◌, ◌<◌, ◌≤◌, �
 ghost use Rattle.command_words.specs.Command.{call_in};
 ghost use Rattle.command_words.specs.declared.words.Call.TheVariants as calls;
 ghost use Rattle.command_words.specs.declared.words.RunOptions.{RunOptions as AnyOptions};
-ghost use Rattle.engine_run.specs.Causes.{AsksFor, Answers, AreRefused, LeavesAll, SettlesNothing, Untouched};
+ghost use Rattle.engine_run.specs.Causes.{AsksFor, CauseHolds, AreRefused, LeavesAll, SettlesNothing, Untouched};
 ghost use Rattle.engine_run.specs.Ends.{terms_of};
 ghost use Rattle.engine_run.specs.Headline.{Headline};
 ghost use Rattle.engine_run.specs.Job.{Job};
@@ -56,7 +56,7 @@ pub fn run_recorded<
 
     // Which other causes a run may end with, by what the files held at the start, and that a refusal writes and says nothing. Where the
     // files are to be refused nothing is written, said or settled, whatever the cause.
-    ensures answers { Tells S.unseen (C.events (calls_of result.site)) → (options : AnyOptions) → call_in words.now ≡ Some (calls.Run options) → Answers (files_before S.unseen) result.cause }
+    ensures answers { Tells S.unseen (C.events (calls_of result.site)) → (options : AnyOptions) → call_in words.now ≡ Some (calls.Run options) → CauseHolds (files_before S.unseen) result.cause }
     ensures untouched { (options : AnyOptions) → call_in words.now ≡ Some (calls.Run options) → Untouched (steps_before S.unseen) (steps_after S.unseen (C.events (calls_of result.site))) result.cause }
     ensures refused { Tells S.unseen (C.events (calls_of result.site)) → (options : AnyOptions) → call_in words.now ≡ Some (calls.Run options) → AreRefused (files_before S.unseen) → LeavesAll (steps_before S.unseen) (steps_after S.unseen (C.events (calls_of result.site))) result.trail }
     ensures settles_nothing { SettlesNothing (call_in words.now) result.cause → result.trail ≡ [] }

@@ -16,7 +16,7 @@ ghost use Rattle.hub_store.specs.Sound.{IsSound};
 ghost use Rattle.hub_store.specs.Trail.{of_part};
 ghost use Rattle.part_rounds.specs.Comes.{count_labels};
 ghost use Rattle.part_rounds.specs.InTime.{GoesByClock};
-ghost use Rattle.part_rounds.specs.Rounds.{HasSaid, Stands};
+ghost use Rattle.part_rounds.specs.Rounds.{HasSaid, StateStands};
 ghost use Rattle.part_steps.specs.States.{state_of, count_of, IsSound as IsOwnSound};
 ghost use Rattle.request_reader.specs.Line.{request_of};
 ghost use Rattle.run_causes.specs.Causes.{status_of};
@@ -124,7 +124,7 @@ fn drive_on<V: Site, N: Ruled, C: Clock, A: Activities>(
     requires short { life < 2 ^ 62 }
     requires some { 0 < options.batch }
     requires few { options.batch ≤ 64 }
-    requires stands { Stands N.rules (N.origin.logs 0) (of_part 0 (trail_in store.old)) (state_of state) }
+    requires stands { StateStands N.rules (N.origin.logs 0) (of_part 0 (trail_in store.old)) (state_of state) }
     requires own { IsOwnSound state }
     requires one { count_of state ≡ 1 }
     requires room { (state_of state).position < 2 ^ 63 }
@@ -198,7 +198,7 @@ pub(crate) fn go<V: Site, N: Ruled, C: Clock, A: Activities>(
     requires fits { 0 < options.segment }
     requires short { options.segment ≤ 2 ^ 31 }
     requires rules { N.rules ≡ rules_with (job_of prepared) (state_of prepared.state) prepared.life }
-    requires stands { Stands N.rules (N.origin.logs 0) [] (state_of prepared.state) }
+    requires stands { StateStands N.rules (N.origin.logs 0) [] (state_of prepared.state) }
     requires origin { IsOrigin N.origin }
     requires asked { V.tells site → All IsRequest N.rules.requests }
     requires begun { V.tells site → HasBegun N.origin (V.history site) (prepared.log ∷ []) }
@@ -268,7 +268,7 @@ pub(crate) fn go_named<V: Site, M: Named, C: Clock, A: Activities>(
     requires fits { 0 < options.segment }
     requires short { options.segment ≤ 2 ^ 31 }
     requires rules { M.rules ≡ rules_with (job_of prepared) (state_of prepared.state) prepared.life }
-    requires stands { Stands M.rules M.log [] (state_of prepared.state) }
+    requires stands { StateStands M.rules M.log [] (state_of prepared.state) }
     requires origin { IsOrigin (origin_with M.log M.steps) }
     requires asked { V.tells site → All IsRequest M.rules.requests }
     requires begun { V.tells site → HasBegun (origin_with M.log M.steps) (V.history site) (prepared.log ∷ []) }

@@ -4,7 +4,7 @@ ghost use Rattle.std.specs.Prelude.{◌≡◌, ◌≢◌, ◌⊎◌, ◌≤◌, 
 ghost use Rattle.command_words.specs.Command.{call_in};
 ghost use Rattle.command_words.specs.declared.words.Call.TheVariants as calls;
 ghost use Rattle.command_words.specs.declared.words.RunOptions.{RunOptions as AnyOptions};
-ghost use Rattle.engine_run.specs.Causes.{AsksFor, Answers, AreRefused, IsRefusal, LeavesAll, SettlesNothing, Untouched};
+ghost use Rattle.engine_run.specs.Causes.{AsksFor, CauseHolds, AreRefused, IsRefusal, LeavesAll, SettlesNothing, Untouched};
 ghost use Rattle.engine_run.specs.Ends.{terms_of};
 ghost use Rattle.engine_run.specs.Headline.{Headline};
 ghost use Rattle.engine_run.specs.Job.{Job};
@@ -43,7 +43,7 @@ fn run_requests<V: Site, C: Clock, A: Activities>(
     ensures told { V.tells result.site → V.tells site }
     ensures status { result.status ≡ status_of result.cause }
     ensures no_usage { result.cause ≢ Cause.Usage }
-    ensures answers { V.tells result.site → Answers (λ file. content_of file (V.history site)) result.cause }
+    ensures answers { V.tells result.site → CauseHolds (λ file. content_of file (V.history site)) result.cause }
     ensures untouched { Untouched (V.history site) (V.history result.site) result.cause }
     ensures refused { V.tells result.site → AreRefused (λ file. content_of file (V.history site)) → LeavesAll (V.history site) (V.history result.site) result.trail }
     ensures settles_nothing { IsRefusal result.cause → result.trail ≡ [] }
@@ -80,7 +80,7 @@ pub fn run_alone<V: Site, C: Clock, A: Activities>(
 
     // Which other causes a run may end with, by what the files held at the start, and that a refusal writes and says nothing. Where the
     // files are to be refused nothing is written, said or settled, whatever the cause.
-    ensures answers { V.tells result.site → (options : AnyOptions) → call_in words.now ≡ Some (calls.Run options) → Answers (λ file. content_of file (V.history site)) result.cause }
+    ensures answers { V.tells result.site → (options : AnyOptions) → call_in words.now ≡ Some (calls.Run options) → CauseHolds (λ file. content_of file (V.history site)) result.cause }
     ensures untouched { (options : AnyOptions) → call_in words.now ≡ Some (calls.Run options) → Untouched (V.history site) (V.history result.site) result.cause }
     ensures refused { V.tells result.site → (options : AnyOptions) → call_in words.now ≡ Some (calls.Run options) → AreRefused (λ file. content_of file (V.history site)) → LeavesAll (V.history site) (V.history result.site) result.trail }
     ensures settles_nothing { SettlesNothing (call_in words.now) result.cause → result.trail ≡ [] }
@@ -141,7 +141,7 @@ pub fn run<R: Threads + Wait + Sync, V: Site + Send, C: Clock + Send, A: Activit
 
     // Which other causes a run may end with, by what the files held at the start, and that a refusal writes and says nothing. Where the
     // files are to be refused nothing is written, said or settled, whatever the cause.
-    ensures answers { V.tells result.site → (options : AnyOptions) → call_in words.now ≡ Some (calls.Run options) → Answers (λ file. content_of file (V.history site)) result.cause }
+    ensures answers { V.tells result.site → (options : AnyOptions) → call_in words.now ≡ Some (calls.Run options) → CauseHolds (λ file. content_of file (V.history site)) result.cause }
     ensures untouched { (options : AnyOptions) → call_in words.now ≡ Some (calls.Run options) → Untouched (V.history site) (V.history result.site) result.cause }
     ensures refused { V.tells result.site → (options : AnyOptions) → call_in words.now ≡ Some (calls.Run options) → AreRefused (λ file. content_of file (V.history site)) → LeavesAll (V.history site) (V.history result.site) result.trail }
     ensures settles_nothing { SettlesNothing (call_in words.now) result.cause → result.trail ≡ [] }

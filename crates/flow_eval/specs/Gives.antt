@@ -5,11 +5,11 @@ use Rattle.flow_eval.specs.declared.fault.EvalError.TheVariants.{Thrown, Memory}
 use Rattle.flow_eval.specs.Faults.{fault_text}
 
 -- the fault is the one that was thrown, unless memory ran out
-abbrev pub Fails : {Y : Type 0} → EvalError → Result Y (List ℕ) → Type 0
-Fails Memory given = Unit {0}
-Fails (Thrown fault) given = given ≡ Err (fault_text fault)
+abbrev pub EvalFails : {Y : Type 0} → EvalError → Result Y (List ℕ) → Type 0
+EvalFails Memory given = Unit {0}
+EvalFails (Thrown fault) given = given ≡ Err (fault_text fault)
 
 -- what was answered, seen by a view, is what is given, unless memory ran out
-abbrev pub Gives : {X Y : Type 0} → (X → Y) → Result X EvalError → Result Y (List ℕ) → Type 0
-Gives view (Ok x) given = given ≡ Ok (view x)
-Gives view (Err error) given = Fails error given
+abbrev pub EvalGives : {X Y : Type 0} → (X → Y) → Result X EvalError → Result Y (List ℕ) → Type 0
+EvalGives view (Ok x) given = given ≡ Ok (view x)
+EvalGives view (Err error) given = EvalFails error given

@@ -4,7 +4,7 @@ ghost use Rattle.std.specs.Prelude.{◌≡◌};
 ghost use Rattle.dura_value.specs.Values.{value_eq};
 ghost use Rattle.dura_value.specs.Bytes.{bytes_before};
 ghost use Rattle.flow_syntax.specs.Eval.{is_less};
-ghost use Rattle.flow_eval.specs.Gives.{Gives};
+ghost use Rattle.flow_eval.specs.Gives.{EvalGives};
 
 use crate::fault::{EvalError, Fault};
 use crate::kinds::truth;
@@ -19,7 +19,7 @@ fn comes_before(first: &[u8], second: &[u8]) -> bool
 
 /// Two integers, or two texts by bytes.
 pub(crate) fn is_less(first: &Value, second: &Value) -> Result<Value, EvalError>
-    ensures { Gives (λ value. value) result (is_less first.now second.now) }
+    ensures { EvalGives (λ value. value) result (is_less first.now second.now) }
 {
     match first {
         Value::Int(a) => match second {

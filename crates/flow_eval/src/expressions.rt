@@ -4,7 +4,7 @@ ghost use Rattle.std.specs.Prelude.{◌≡◌};
 ghost use Rattle.flow_syntax.specs.Eval.{eval, eval_parts, to_scalars, value_in};
 ghost use Rattle.flow_syntax.specs.Syntax.{list};
 ghost use Rattle.flow_syntax.specs.Views.{expression_of, parts_of};
-ghost use Rattle.flow_eval.specs.Gives.{Gives};
+ghost use Rattle.flow_eval.specs.Gives.{EvalGives};
 
 use crate::fault::{EvalError, Fault};
 use crate::kinds::{to_scalar, value_of};
@@ -17,7 +17,7 @@ use std::alloc::Global;
 
 /// A copy of a variable's value.
 fn value_in(variables: &Variables, name: &Name) -> Result<Value, EvalError>
-    ensures { Gives (λ value. value) result (value_in variables.now name.now) }
+    ensures { EvalGives (λ value. value) result (value_in variables.now name.now) }
 {
     match variables.get(name) {
         Some(value) => Ok(value.clone()?),
@@ -27,7 +27,7 @@ fn value_in(variables: &Variables, name: &Name) -> Result<Value, EvalError>
 
 /// The scalars that values are.
 pub fn to_scalars(alloc: Global, values: Vec<Value>) -> Result<Vec<Scalar>, EvalError>
-    ensures { Gives (λ scalars. scalars.items) result (to_scalars values.items) }
+    ensures { EvalGives (λ scalars. scalars.items) result (to_scalars values.items) }
 {
     let mut scalars = Vec::with_capacity(alloc, values.len())?;
     for value in values {
@@ -42,7 +42,7 @@ pub fn to_scalars(alloc: Global, values: Vec<Value>) -> Result<Vec<Scalar>, Eval
 /// What an expression gives, or the fault that it throws.
 #[cycle(eval)]
 pub fn eval(alloc: Global, expression: &Expr, variables: &Variables) -> Result<Value, EvalError>
-    ensures { Gives (λ value. value) result (eval variables.now (expression_of expression.now)) }
+    ensures { EvalGives (λ value. value) result (eval variables.now (expression_of expression.now)) }
 {
     match expression {
         Expr::Scalar(scalar) => Ok(value_of(copy_of(scalar)?)),
@@ -68,7 +68,7 @@ pub fn eval(alloc: Global, expression: &Expr, variables: &Variables) -> Result<V
 /// The list of what parts give: first all of them are evaluated, then kinds count, and then limits.
 #[cycle(eval)]
 fn eval_list(alloc: Global, parts: &[Expr], variables: &Variables) -> Result<Value, EvalError>
-    ensures { Gives (λ value. value) result (eval variables.now (list (parts_of parts.now))) }
+    ensures { EvalGives (λ value. value) result (eval variables.now (list (parts_of parts.now))) }
 {
     let values = eval_parts(alloc, parts, variables)?;
     let scalars = to_scalars(alloc, values)?;
@@ -78,7 +78,7 @@ fn eval_list(alloc: Global, parts: &[Expr], variables: &Variables) -> Result<Val
 /// What parts give, from left to right.
 #[cycle(eval)]
 fn eval_parts(alloc: Global, parts: &[Expr], variables: &Variables) -> Result<Vec<Value>, EvalError>
-    ensures { Gives (λ values. values.items) result (eval_parts variables.now (parts_of parts.now)) }
+    ensures { EvalGives (λ values. values.items) result (eval_parts variables.now (parts_of parts.now)) }
 {
     let mut values = Vec::with_capacity(alloc, parts.len())?;
     for part in parts {

@@ -2,13 +2,13 @@
 
 ghost use Rattle.std.specs.Prelude.{◌≡◌, ◌+ℤ◌, ◌-ℤ◌, ◌*ℤ◌, int_div, int_rem};
 ghost use Rattle.flow_syntax.specs.Eval.{integer, divided};
-ghost use Rattle.flow_eval.specs.Gives.{Gives};
+ghost use Rattle.flow_eval.specs.Gives.{EvalGives};
 
 use crate::fault::{EvalError, Fault};
 use dura_value::Value;
 
 pub(crate) fn sum(a: i64, b: i64) -> Result<Value, EvalError>
-    ensures { Gives (λ value. value) result (integer (a +ℤ b)) }
+    ensures { EvalGives (λ value. value) result (integer (a +ℤ b)) }
 {
     match a.checked_add(b) {
         Some(sum) => Ok(Value::Int(sum)),
@@ -17,7 +17,7 @@ pub(crate) fn sum(a: i64, b: i64) -> Result<Value, EvalError>
 }
 
 pub(crate) fn difference(a: i64, b: i64) -> Result<Value, EvalError>
-    ensures { Gives (λ value. value) result (integer (a -ℤ b)) }
+    ensures { EvalGives (λ value. value) result (integer (a -ℤ b)) }
 {
     match a.checked_sub(b) {
         Some(difference) => Ok(Value::Int(difference)),
@@ -26,7 +26,7 @@ pub(crate) fn difference(a: i64, b: i64) -> Result<Value, EvalError>
 }
 
 pub(crate) fn product(a: i64, b: i64) -> Result<Value, EvalError>
-    ensures { Gives (λ value. value) result (integer (a *ℤ b)) }
+    ensures { EvalGives (λ value. value) result (integer (a *ℤ b)) }
 {
     match a.checked_mul(b) {
         Some(product) => Ok(Value::Int(product)),
@@ -35,7 +35,7 @@ pub(crate) fn product(a: i64, b: i64) -> Result<Value, EvalError>
 }
 
 pub(crate) fn quotient(a: i64, b: i64) -> Result<Value, EvalError>
-    ensures { Gives (λ value. value) result (divided int_div a b) }
+    ensures { EvalGives (λ value. value) result (divided int_div a b) }
 {
     if b == 0 {
         return Err(EvalError::Thrown(Fault::DivZero));
@@ -47,7 +47,7 @@ pub(crate) fn quotient(a: i64, b: i64) -> Result<Value, EvalError>
 }
 
 pub(crate) fn remainder(a: i64, b: i64) -> Result<Value, EvalError>
-    ensures { Gives (λ value. value) result (divided int_rem a b) }
+    ensures { EvalGives (λ value. value) result (divided int_rem a b) }
 {
     if b == 0 {
         return Err(EvalError::Thrown(Fault::DivZero));

@@ -3,7 +3,7 @@
 ghost use Rattle.std.specs.Prelude.{◌≡◌};
 ghost use Rattle.dura_value.specs.Values.{value_of};
 ghost use Rattle.flow_syntax.specs.Eval.{to_scalar, to_integer, to_truth, to_text, to_key, to_list, truth};
-ghost use Rattle.flow_eval.specs.Gives.{Gives};
+ghost use Rattle.flow_eval.specs.Gives.{EvalGives};
 
 use crate::fault::{EvalError, Fault};
 use dura_value::{Key, Scalar, Scalars, Text, Value, is_key};
@@ -31,7 +31,7 @@ pub fn truth(is: bool) -> Value
 
 /// The scalar that a value is, unless it is a list.
 pub fn to_scalar(value: Value) -> Result<Scalar, EvalError>
-    ensures { Gives (λ scalar. scalar) result (to_scalar value) }
+    ensures { EvalGives (λ scalar. scalar) result (to_scalar value) }
 {
     match value {
         Value::Null => Ok(Scalar::Null),
@@ -45,14 +45,14 @@ pub fn to_scalar(value: Value) -> Result<Scalar, EvalError>
 
 /// A copy of the scalar that a value is, unless it is a list.
 pub(crate) fn scalar_in(value: &Value) -> Result<Scalar, EvalError>
-    ensures { Gives (λ scalar. scalar) result (to_scalar value.now) }
+    ensures { EvalGives (λ scalar. scalar) result (to_scalar value.now) }
 {
     to_scalar(value.clone()?)
 }
 
 /// The integer that a value is.
 pub fn to_integer(value: &Value) -> Result<i64, EvalError>
-    ensures { Gives (λ n. n) result (to_integer value.now) }
+    ensures { EvalGives (λ n. n) result (to_integer value.now) }
 {
     match value {
         Value::Int(n) => Ok(*n),
@@ -62,7 +62,7 @@ pub fn to_integer(value: &Value) -> Result<i64, EvalError>
 
 /// The truth value that a value is.
 pub fn to_truth(value: &Value) -> Result<bool, EvalError>
-    ensures { Gives (λ is. is) result (to_truth value.now) }
+    ensures { EvalGives (λ is. is) result (to_truth value.now) }
 {
     match value {
         Value::True => Ok(true),
@@ -73,7 +73,7 @@ pub fn to_truth(value: &Value) -> Result<bool, EvalError>
 
 /// The text that a value is.
 pub fn to_text(value: &Value) -> Result<&Text, EvalError>
-    ensures { Gives (λ text. text.now) result (to_text value.now) }
+    ensures { EvalGives (λ text. text.now) result (to_text value.now) }
 {
     match value {
         Value::Text(text) => Ok(text),
@@ -83,7 +83,7 @@ pub fn to_text(value: &Value) -> Result<&Text, EvalError>
 
 /// The list that a value is.
 pub fn to_list(value: &Value) -> Result<&Scalars, EvalError>
-    ensures { Gives (λ parts. parts.now) result (to_list value.now) }
+    ensures { EvalGives (λ parts. parts.now) result (to_list value.now) }
 {
     match value {
         Value::List(parts) => Ok(parts),
@@ -93,7 +93,7 @@ pub fn to_list(value: &Value) -> Result<&Scalars, EvalError>
 
 /// The key that a value is.
 pub fn to_key(alloc: Global, value: &Value) -> Result<Key, EvalError>
-    ensures { Gives (λ key. key) result (to_key value.now) }
+    ensures { EvalGives (λ key. key) result (to_key value.now) }
 {
     match value {
         Value::Text(text) => {

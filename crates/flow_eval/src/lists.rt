@@ -2,7 +2,7 @@
 
 ghost use Rattle.std.specs.Prelude.{◌≡◌, [], ◌∷◌, ◌++◌, IfOk};
 ghost use Rattle.flow_syntax.specs.Eval.{list_of, scalar_at, part_at};
-ghost use Rattle.flow_eval.specs.Gives.{Gives};
+ghost use Rattle.flow_eval.specs.Gives.{EvalGives};
 
 use crate::fault::{EvalError, Fault};
 use crate::kinds::value_of;
@@ -11,7 +11,7 @@ use std::alloc::{AllocError, Global};
 
 /// A list of these, unless it is past a limit.
 pub fn list_of(parts: Vec<Scalar>) -> Result<Value, EvalError>
-    ensures { Gives (λ value. value) result (list_of parts.items) }
+    ensures { EvalGives (λ value. value) result (list_of parts.items) }
 {
     if parts.len() > MOST_SCALARS || !are_short(&parts) {
         return Err(EvalError::Thrown(Fault::Size));
@@ -41,7 +41,7 @@ fn copied(alloc: Global, parts: &[Scalar]) -> Result<Vec<Scalar>, AllocError>
 
 /// The list with one scalar more.
 pub(crate) fn pushed(alloc: Global, parts: &[Scalar], one: Scalar) -> Result<Value, EvalError>
-    ensures { Gives (λ value. value) result (list_of (parts.now ++ one ∷ [])) }
+    ensures { EvalGives (λ value. value) result (list_of (parts.now ++ one ∷ [])) }
 {
     let mut copies = copied(alloc, parts)?;
     copies.push(one)?;
@@ -50,7 +50,7 @@ pub(crate) fn pushed(alloc: Global, parts: &[Scalar], one: Scalar) -> Result<Val
 
 #[tactic(auto, using(crate::proofs::Parts::scalar_there, crate::proofs::Parts::no_scalar))]
 fn scalar_at(parts: &[Scalar], index: usize) -> Result<Value, EvalError>
-    ensures { Gives (λ value. value) result (scalar_at parts.now index) }
+    ensures { EvalGives (λ value. value) result (scalar_at parts.now index) }
 {
     if index < parts.len() {
         Ok(value_of(copy_of(&parts[index])?))
@@ -61,7 +61,7 @@ fn scalar_at(parts: &[Scalar], index: usize) -> Result<Value, EvalError>
 
 /// The scalar at a place.
 pub(crate) fn part_at(parts: &[Scalar], index: i64) -> Result<Value, EvalError>
-    ensures { Gives (λ value. value) result (part_at parts.now index) }
+    ensures { EvalGives (λ value. value) result (part_at parts.now index) }
 {
     match usize::try_from(index) {
         Ok(index) => scalar_at(parts, index),

@@ -3,7 +3,7 @@
 ghost use Rattle.std.specs.Prelude.{◌≡◌};
 ghost use Rattle.flow_syntax.specs.Eval.{apply_unary, apply_binary, length_in, on_truths, bool_and, bool_or};
 ghost use Rattle.flow_syntax.specs.Views.{unary_of, binary_of};
-ghost use Rattle.flow_eval.specs.Gives.{Gives};
+ghost use Rattle.flow_eval.specs.Gives.{EvalGives};
 
 use crate::comparisons::{are_equal, is_less};
 use crate::fault::{EvalError, Fault};
@@ -16,7 +16,7 @@ use flow_syntax::{BinaryOp, UnaryOp};
 use std::alloc::Global;
 
 fn length_in(value: &Value) -> Result<Value, EvalError>
-    ensures { Gives (λ value. value) result (length_in value.now) }
+    ensures { EvalGives (λ value. value) result (length_in value.now) }
 {
     match value {
         Value::Text(text) => Ok(Value::Int(text.as_bytes().len() as i64)),
@@ -26,14 +26,14 @@ fn length_in(value: &Value) -> Result<Value, EvalError>
 }
 
 fn both(first: &Value, second: &Value) -> Result<Value, EvalError>
-    ensures { Gives (λ value. value) result (on_truths bool_and first.now second.now) }
+    ensures { EvalGives (λ value. value) result (on_truths bool_and first.now second.now) }
 {
     let (a, b) = (to_truth(first)?, to_truth(second)?);
     Ok(truth(a && b))
 }
 
 fn either(first: &Value, second: &Value) -> Result<Value, EvalError>
-    ensures { Gives (λ value. value) result (on_truths bool_or first.now second.now) }
+    ensures { EvalGives (λ value. value) result (on_truths bool_or first.now second.now) }
 {
     let (a, b) = (to_truth(first)?, to_truth(second)?);
     Ok(truth(a || b))
@@ -41,7 +41,7 @@ fn either(first: &Value, second: &Value) -> Result<Value, EvalError>
 
 /// What an operation of one part gives.
 pub fn apply_unary(alloc: Global, operation: UnaryOp, part: &Value) -> Result<Value, EvalError>
-    ensures { Gives (λ value. value) result (apply_unary (unary_of operation) part.now) }
+    ensures { EvalGives (λ value. value) result (apply_unary (unary_of operation) part.now) }
 {
     match operation {
         UnaryOp::Not => Ok(truth(!to_truth(part)?)),
@@ -57,7 +57,7 @@ pub fn apply_binary(
     first: &Value,
     second: &Value,
 ) -> Result<Value, EvalError>
-    ensures { Gives (λ value. value) result (apply_binary (binary_of operation) first.now second.now) }
+    ensures { EvalGives (λ value. value) result (apply_binary (binary_of operation) first.now second.now) }
 {
     match operation {
         BinaryOp::Add => sum(to_integer(first)?, to_integer(second)?),

@@ -12,7 +12,7 @@ use Rattle.flow_syntax.specs.Machine.{eval_spots, spot_of}
 use Rattle.flow_eval.specs.declared.fault.EvalError.{EvalError}
 use Rattle.flow_eval.specs.declared.fault.EvalError.TheVariants.{Thrown, Memory}
 use Rattle.flow_eval.specs.Faults.{fault_text}
-use Rattle.flow_eval.specs.Gives.{Fails}
+use Rattle.flow_eval.specs.Gives.{EvalFails}
 use Rattle.flow_machine.specs.Values.{spot_in}
 use Rattle.flow_messages.proofs.AllValues.{behind, regroup}
 
@@ -51,6 +51,6 @@ one_fault variables spots entities i one fault total here is failed so_far =
     sym (rest_at variables spots entities i one total here is so_far) ∙ ap (λ (s : Result Spot (List ℕ)). behind spots (s >>= λ x. rest >>= λ more. Ok (x ∷ more))) failed
 
 pub one_failed : (error : EvalError) (variables : Variables) (spots : List Spot) (entities : List OwnLocked) (i : ℕ) (one : OwnLocked) (total : Result (List Spot) (List ℕ)) → i < length entities → one ≡ get_or entities i one
-    → Fails error (spot_in variables (locked_of one)) → behind spots (eval_spots variables (map locked_of (drop i entities))) ≡ total → Fails error total
+    → EvalFails error (spot_in variables (locked_of one)) → behind spots (eval_spots variables (map locked_of (drop i entities))) ≡ total → EvalFails error total
 one_failed (Thrown fault) variables spots entities i one total here is failed so_far = one_fault variables spots entities i one (fault_text fault) total here is failed so_far
 one_failed Memory variables spots entities i one total here is failed so_far = tt

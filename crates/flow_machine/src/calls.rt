@@ -6,7 +6,7 @@ ghost use Rattle.dura_value.specs.Messages.{at_spot, operate};
 ghost use Rattle.flow_syntax.specs.Eval.{eval};
 ghost use Rattle.flow_syntax.specs.Views.{expression_of};
 ghost use Rattle.flow_syntax.specs.Machine.{an_activity, of_activity, having, by_rule, scheduled, calls, starts, asks, signals, with_task, with_handle, may_start, may_ask, may_signal, says, spot_of as spot_at};
-ghost use Rattle.flow_eval.specs.Gives.{Gives};
+ghost use Rattle.flow_eval.specs.Gives.{EvalGives};
 ghost use Rattle.flow_messages.specs.Views.{asked_of};
 ghost use Rattle.flow_tasks.specs.Views.{kind_of};
 ghost use Rattle.flow_machine.specs.Values.{pair_in};
@@ -128,7 +128,7 @@ impl<'f> Machine<'f> {
 
     /// A key, and then an argument.
     fn pair(&self, alloc: Global, key: &Expr, argument: &Expr) -> Result<(Key, Value), EvalError>
-        ensures { Gives (λ p. (p.0, p.1)) result (pair_in (machine_of self.now).variables (expression_of key.now) (expression_of argument.now)) }
+        ensures { EvalGives (λ p. (p.0, p.1)) result (pair_in (machine_of self.now).variables (expression_of key.now) (expression_of argument.now)) }
     {
         let value = self.value(alloc, key)?;
         let key = to_key(alloc, &value);

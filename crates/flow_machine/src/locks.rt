@@ -6,7 +6,7 @@ ghost use Rattle.dura_value.specs.Views.{spot_of, spots_of};
 ghost use Rattle.flow_machine.specs.Values.{spot_in};
 ghost use Rattle.flow_syntax.specs.Views.{locked_of, block_of};
 ghost use Rattle.flow_syntax.specs.Machine.{having, by_rule, eval_spots, locks, may_lock, locking};
-ghost use Rattle.flow_eval.specs.Gives.{Gives};
+ghost use Rattle.flow_eval.specs.Gives.{EvalGives};
 ghost use Rattle.flow_machine.specs.Views.{machine_of};
 ghost use Rattle.flow_machine.specs.Steps.{Makes, Goes};
 
@@ -21,7 +21,7 @@ use std::alloc::{AllocError, Global};
 impl<'f> Machine<'f> {
     /// An entity that is to be locked.
     fn spot(&self, alloc: Global, one: &Locked) -> Result<Spot, EvalError>
-        ensures { Gives spot_of result (spot_in (machine_of self.now).variables (locked_of one.now)) }
+        ensures { EvalGives spot_of result (spot_in (machine_of self.now).variables (locked_of one.now)) }
     {
         let value = self.value(alloc, &one.key)?;
         let key = to_key(alloc, &value);
@@ -32,7 +32,7 @@ impl<'f> Machine<'f> {
 
     /// The entities that are to be locked, in the order in which they are written.
     fn spots(&self, alloc: Global, entities: &[Locked]) -> Result<Vec<Spot>, EvalError>
-        ensures { Gives (λ v. spots_of v.items) result (eval_spots (machine_of self.now).variables (map locked_of entities.now)) }
+        ensures { EvalGives (λ v. spots_of v.items) result (eval_spots (machine_of self.now).variables (map locked_of entities.now)) }
     {
         let mut spots = Vec::with_capacity(alloc, entities.len())?;
         for one in entities {

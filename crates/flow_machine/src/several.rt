@@ -4,7 +4,7 @@ ghost use Rattle.std.specs.Prelude.{IfOk, OnOk, Some};
 ghost use Rattle.flow_syntax.specs.Views.{expression_of};
 ghost use Rattle.flow_syntax.specs.Syntax.{await_all, await_any};
 ghost use Rattle.flow_syntax.specs.Machine.{statement_step, awaited_all, awaited_any, all_arrived, first_arrived};
-ghost use Rattle.flow_eval.specs.Gives.{Gives};
+ghost use Rattle.flow_eval.specs.Gives.{EvalGives};
 ghost use Rattle.flow_machine.specs.Values.{list_given, handle_in, handles_in};
 ghost use Rattle.flow_machine.specs.Awaits.{NamesTasks, ThrowsAwait};
 ghost use Rattle.flow_machine.specs.Views.{machine_of};
@@ -20,7 +20,7 @@ use std::alloc::{AllocError, Global};
 
 /// The list of values.
 fn list_given(alloc: Global, values: Vec<Value>) -> Result<Value, EvalError>
-    ensures { Gives (λ value. value) result (list_given values.items) }
+    ensures { EvalGives (λ value. value) result (list_given values.items) }
 {
     let scalars = to_scalars(alloc, values)?;
     list_of(scalars)

@@ -6,7 +6,7 @@ ghost use Rattle.flow_machine.specs.Values.{truth_in, text_in};
 ghost use Rattle.flow_syntax.specs.Views.{expression_of, block_of};
 ghost use Rattle.flow_syntax.specs.Syntax.{while, first_then, nothing};
 ghost use Rattle.flow_syntax.specs.Machine.{having, sets, branches, loops, ended, done, throws, todo, end_try};
-ghost use Rattle.flow_eval.specs.Gives.{Gives};
+ghost use Rattle.flow_eval.specs.Gives.{EvalGives};
 ghost use Rattle.flow_machine.specs.Views.{machine_of};
 ghost use Rattle.flow_machine.specs.Steps.{Goes, with_rest};
 
@@ -20,7 +20,7 @@ use std::alloc::{AllocError, Global};
 impl<'f> Machine<'f> {
     /// What an expression gives with the machine's variables.
     pub(crate) fn value(&self, alloc: Global, expression: &Expr) -> Result<Value, EvalError>
-        ensures { Gives (λ value. value) result (eval (machine_of self.now).variables (expression_of expression.now)) }
+        ensures { EvalGives (λ value. value) result (eval (machine_of self.now).variables (expression_of expression.now)) }
     {
         eval(alloc, expression, &self.variables)
     }
@@ -50,7 +50,7 @@ impl<'f> Machine<'f> {
 
     /// Whether a test is true.
     fn test(&self, alloc: Global, test: &Expr) -> Result<bool, EvalError>
-        ensures { Gives (λ b. b) result (truth_in (machine_of self.now).variables (expression_of test.now)) }
+        ensures { EvalGives (λ b. b) result (truth_in (machine_of self.now).variables (expression_of test.now)) }
     {
         let value = self.value(alloc, test)?;
         let truth = to_truth(&value);
@@ -125,7 +125,7 @@ impl<'f> Machine<'f> {
 
     /// A text that an expression gives.
     fn text(&self, alloc: Global, text: &Expr) -> Result<Text, EvalError>
-        ensures { Gives (λ t. t) result (text_in (machine_of self.now).variables (expression_of text.now)) }
+        ensures { EvalGives (λ t. t) result (text_in (machine_of self.now).variables (expression_of text.now)) }
     {
         let value = self.value(alloc, text)?;
         let copy = match to_text(&value) {

@@ -3,7 +3,7 @@
 ghost use Rattle.std.specs.Prelude.{OnOk, ◌<◌, ◌^◌};
 ghost use Rattle.flow_syntax.specs.Views.{expression_of};
 ghost use Rattle.flow_syntax.specs.Machine.{having, sets_timer, is_due_in_time};
-ghost use Rattle.flow_eval.specs.Gives.{Gives};
+ghost use Rattle.flow_eval.specs.Gives.{EvalGives};
 ghost use Rattle.flow_machine.specs.Values.{integer_in};
 ghost use Rattle.flow_machine.specs.Views.{machine_of};
 ghost use Rattle.flow_machine.specs.Steps.{Makes, Goes};
@@ -18,7 +18,7 @@ use std::alloc::{AllocError, Global};
 
 impl<'f> Machine<'f> {
     fn integer(&self, alloc: Global, expression: &Expr) -> Result<i64, EvalError>
-        ensures { Gives (λ n. n) result (integer_in (machine_of self.now).variables (expression_of expression.now)) }
+        ensures { EvalGives (λ n. n) result (integer_in (machine_of self.now).variables (expression_of expression.now)) }
     {
         let value = self.value(alloc, expression)?;
         let integer = to_integer(&value);

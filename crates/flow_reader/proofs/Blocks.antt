@@ -4,7 +4,7 @@ use Rattle.std.proofs.lemmas.List.{drop_all}
 use Rattle.serde_json.specs.Data.{array, Items, item, no_items}
 use Rattle.json_tree.specs.View.{view, items_view}
 use Rattle.json_tree.specs.declared.tree.Tree.{Tree}
-use Rattle.flow_values.specs.Answers.{Fails, IsUnder}
+use Rattle.flow_values.specs.Answers.{PartFails, IsUnder}
 use Rattle.flow_values.specs.Faults.{Path, at, misshapen, to_part, ◌>>=◌}
 use Rattle.flow_values.specs.Expressions.{expression_in}
 use Rattle.flow_values.specs.Values.{name_in}
@@ -51,7 +51,7 @@ pub goes_on : (inside : Bool) (whole : Result Block Path) (done : List Stmt) (vs
 goes_on inside whole done vs i v e lt here before is = sym (with_first done e (statements_from inside (i + 1) (items_view (drop (i + 1) vs)))) ∙ sym (rw (items_from vs i v lt here, is) refl) ∙ before
 
 -- a part is no statement
-pub ends : (inside : Bool) (whole : Result Block Path) (done : List Stmt) (vs : List Tree) (i : ℕ) (v : Tree) (error further : PartError) → i < length vs → v ≡ get_or vs i v → with_rest inside done i (items_view (drop i vs)) ≡ whole → Fails error (statement_in inside (view v)) → IsUnder (to_part i) error further → Fails further whole
+pub ends : (inside : Bool) (whole : Result Block Path) (done : List Stmt) (vs : List Tree) (i : ℕ) (v : Tree) (error further : PartError) → i < length vs → v ≡ get_or vs i v → with_rest inside done i (items_view (drop i vs)) ≡ whole → PartFails error (statement_in inside (view v)) → IsUnder (to_part i) error further → PartFails further whole
 ends inside whole done vs i v (Misshapen path) (Misshapen outer) lt here before is under = sym before ∙ rw (items_from vs i v lt here, is, under) refl
 ends inside whole done vs i v Memory (Misshapen outer) lt here before is under = absurd under
 ends inside whole done vs i v (Misshapen path) Memory lt here before is under = tt
@@ -120,43 +120,43 @@ no_try inside (x0 ∷ x1 ∷ x2 ∷ []) other = refl
 no_try inside (x0 ∷ x1 ∷ x2 ∷ x3 ∷ []) other = absurd (other refl)
 no_try inside (x0 ∷ x1 ∷ x2 ∷ x3 ∷ x4 ∷ vs) other = refl
 
-pub if_ends : (inside : Bool) (vs : List Tree) (a b c : Tree) (error : PartError) → length vs ≡ 4 → a ≡ get_or vs 1 a → b ≡ get_or vs 2 b → c ≡ get_or vs 3 c → Fails error (at (to_part 1) (expression_in (view a))) → Fails error (of_word inside words.If (items_view (drop 1 vs)))
+pub if_ends : (inside : Bool) (vs : List Tree) (a b c : Tree) (error : PartError) → length vs ≡ 4 → a ≡ get_or vs 1 a → b ≡ get_or vs 2 b → c ≡ get_or vs 3 c → PartFails error (at (to_part 1) (expression_in (view a))) → PartFails error (of_word inside words.If (items_view (drop 1 vs)))
 if_ends inside vs a b c error count at1 at2 at3 fails = rw (behind_three vs a b c count at1 at2 at3) (ends_then _ _ error fails)
 
-pub if_ends_yes : (inside : Bool) (vs : List Tree) (a b c : Tree) (test : Expression) (error : PartError) → length vs ≡ 4 → a ≡ get_or vs 1 a → b ≡ get_or vs 2 b → c ≡ get_or vs 3 c → at (to_part 1) (expression_in (view a)) ≡ Ok test → Fails error (at (to_part 2) (body_in inside (view b))) → Fails error (of_word inside words.If (items_view (drop 1 vs)))
+pub if_ends_yes : (inside : Bool) (vs : List Tree) (a b c : Tree) (test : Expression) (error : PartError) → length vs ≡ 4 → a ≡ get_or vs 1 a → b ≡ get_or vs 2 b → c ≡ get_or vs 3 c → at (to_part 1) (expression_in (view a)) ≡ Ok test → PartFails error (at (to_part 2) (body_in inside (view b))) → PartFails error (of_word inside words.If (items_view (drop 1 vs)))
 if_ends_yes inside vs a b c test error count at1 at2 at3 read fails = rw (behind_three vs a b c count at1 at2 at3, read) (ends_then _ _ error fails)
 
-pub while_ends : (inside : Bool) (vs : List Tree) (a b : Tree) (error : PartError) → length vs ≡ 3 → a ≡ get_or vs 1 a → b ≡ get_or vs 2 b → Fails error (at (to_part 1) (expression_in (view a))) → Fails error (of_word inside words.While (items_view (drop 1 vs)))
+pub while_ends : (inside : Bool) (vs : List Tree) (a b : Tree) (error : PartError) → length vs ≡ 3 → a ≡ get_or vs 1 a → b ≡ get_or vs 2 b → PartFails error (at (to_part 1) (expression_in (view a))) → PartFails error (of_word inside words.While (items_view (drop 1 vs)))
 while_ends inside vs a b error count at1 at2 fails = rw (behind_two vs a b count at1 at2) (ends_then _ _ error fails)
 
-pub try_ends : (inside : Bool) (vs : List Tree) (a b c : Tree) (error : PartError) → length vs ≡ 4 → a ≡ get_or vs 1 a → b ≡ get_or vs 2 b → c ≡ get_or vs 3 c → Fails error (at (to_part 1) (body_in inside (view a))) → Fails error (of_word inside words.Try (items_view (drop 1 vs)))
+pub try_ends : (inside : Bool) (vs : List Tree) (a b c : Tree) (error : PartError) → length vs ≡ 4 → a ≡ get_or vs 1 a → b ≡ get_or vs 2 b → c ≡ get_or vs 3 c → PartFails error (at (to_part 1) (body_in inside (view a))) → PartFails error (of_word inside words.Try (items_view (drop 1 vs)))
 try_ends inside vs a b c error count at1 at2 at3 fails = rw (behind_three vs a b c count at1 at2 at3) (ends_then _ _ error fails)
 
-pub try_ends_variable : (inside : Bool) (vs : List Tree) (a b c : Tree) (body : Block) (error : PartError) → length vs ≡ 4 → a ≡ get_or vs 1 a → b ≡ get_or vs 2 b → c ≡ get_or vs 3 c → at (to_part 1) (body_in inside (view a)) ≡ Ok body → Fails error (at (to_part 2) (name_in (view b))) → Fails error (of_word inside words.Try (items_view (drop 1 vs)))
+pub try_ends_variable : (inside : Bool) (vs : List Tree) (a b c : Tree) (body : Block) (error : PartError) → length vs ≡ 4 → a ≡ get_or vs 1 a → b ≡ get_or vs 2 b → c ≡ get_or vs 3 c → at (to_part 1) (body_in inside (view a)) ≡ Ok body → PartFails error (at (to_part 2) (name_in (view b))) → PartFails error (of_word inside words.Try (items_view (drop 1 vs)))
 try_ends_variable inside vs a b c body error count at1 at2 at3 read fails = rw (behind_three vs a b c count at1 at2 at3, read) (ends_then _ _ error fails)
 
-pub if_ends_no : (inside : Bool) (vs : List Tree) (a b c : Tree) (test : Expression) (yes_body : Block) (error : PartError) → length vs ≡ 4 → a ≡ get_or vs 1 a → b ≡ get_or vs 2 b → c ≡ get_or vs 3 c → at (to_part 1) (expression_in (view a)) ≡ Ok test → at (to_part 2) (body_in inside (view b)) ≡ Ok yes_body → Fails error (at (to_part 3) (body_in inside (view c))) → Fails error (of_word inside words.If (items_view (drop 1 vs)))
+pub if_ends_no : (inside : Bool) (vs : List Tree) (a b c : Tree) (test : Expression) (yes_body : Block) (error : PartError) → length vs ≡ 4 → a ≡ get_or vs 1 a → b ≡ get_or vs 2 b → c ≡ get_or vs 3 c → at (to_part 1) (expression_in (view a)) ≡ Ok test → at (to_part 2) (body_in inside (view b)) ≡ Ok yes_body → PartFails error (at (to_part 3) (body_in inside (view c))) → PartFails error (of_word inside words.If (items_view (drop 1 vs)))
 if_ends_no inside vs a b c test yes_body error count at1 at2 at3 read read_yes fails = rw (behind_three vs a b c count at1 at2 at3, read, read_yes) (ends_then _ _ error fails)
 
 pub if_read : (inside : Bool) (vs : List Tree) (a b c : Tree) (test : Expression) (yes_body no_body : Block) → length vs ≡ 4 → a ≡ get_or vs 1 a → b ≡ get_or vs 2 b → c ≡ get_or vs 3 c → at (to_part 1) (expression_in (view a)) ≡ Ok test → at (to_part 2) (body_in inside (view b)) ≡ Ok yes_body → at (to_part 3) (body_in inside (view c)) ≡ Ok no_body → of_word inside words.If (items_view (drop 1 vs)) ≡ Ok (if_then test yes_body no_body)
 if_read inside vs a b c test yes_body no_body count at1 at2 at3 read read_yes read_no = rw (behind_three vs a b c count at1 at2 at3, read, read_yes, read_no) refl
 
-pub lock_ends : (inside : Bool) (vs : List Tree) (a b : Tree) (error : PartError) → length vs ≡ 3 → a ≡ get_or vs 1 a → b ≡ get_or vs 2 b → Fails error (at (to_part 1) (pairs_in (view a))) → Fails error (of_word inside words.Lock (items_view (drop 1 vs)))
+pub lock_ends : (inside : Bool) (vs : List Tree) (a b : Tree) (error : PartError) → length vs ≡ 3 → a ≡ get_or vs 1 a → b ≡ get_or vs 2 b → PartFails error (at (to_part 1) (pairs_in (view a))) → PartFails error (of_word inside words.Lock (items_view (drop 1 vs)))
 lock_ends inside vs a b error count at1 at2 fails = rw (behind_two vs a b count at1 at2) (ends_then _ _ error fails)
 
-pub lock_ends_body : (inside : Bool) (vs : List Tree) (a b : Tree) (pairs : List Locked) (error : PartError) → length vs ≡ 3 → a ≡ get_or vs 1 a → b ≡ get_or vs 2 b → at (to_part 1) (pairs_in (view a)) ≡ Ok pairs → Fails error (at (to_part 2) (body_in inside (view b))) → Fails error (of_word inside words.Lock (items_view (drop 1 vs)))
+pub lock_ends_body : (inside : Bool) (vs : List Tree) (a b : Tree) (pairs : List Locked) (error : PartError) → length vs ≡ 3 → a ≡ get_or vs 1 a → b ≡ get_or vs 2 b → at (to_part 1) (pairs_in (view a)) ≡ Ok pairs → PartFails error (at (to_part 2) (body_in inside (view b))) → PartFails error (of_word inside words.Lock (items_view (drop 1 vs)))
 lock_ends_body inside vs a b pairs error count at1 at2 read fails = rw (behind_two vs a b count at1 at2, read) (ends_then _ _ error fails)
 
 pub lock_read : (inside : Bool) (vs : List Tree) (a b : Tree) (pairs : List Locked) (body : Block) → length vs ≡ 3 → a ≡ get_or vs 1 a → b ≡ get_or vs 2 b → at (to_part 1) (pairs_in (view a)) ≡ Ok pairs → at (to_part 2) (body_in inside (view b)) ≡ Ok body → of_word inside words.Lock (items_view (drop 1 vs)) ≡ Ok (lock_in pairs body)
 lock_read inside vs a b pairs body count at1 at2 read read_body = rw (behind_two vs a b count at1 at2, read, read_body) refl
 
-pub while_ends_body : (inside : Bool) (vs : List Tree) (a b : Tree) (test : Expression) (error : PartError) → length vs ≡ 3 → a ≡ get_or vs 1 a → b ≡ get_or vs 2 b → at (to_part 1) (expression_in (view a)) ≡ Ok test → Fails error (at (to_part 2) (body_in inside (view b))) → Fails error (of_word inside words.While (items_view (drop 1 vs)))
+pub while_ends_body : (inside : Bool) (vs : List Tree) (a b : Tree) (test : Expression) (error : PartError) → length vs ≡ 3 → a ≡ get_or vs 1 a → b ≡ get_or vs 2 b → at (to_part 1) (expression_in (view a)) ≡ Ok test → PartFails error (at (to_part 2) (body_in inside (view b))) → PartFails error (of_word inside words.While (items_view (drop 1 vs)))
 while_ends_body inside vs a b test error count at1 at2 read fails = rw (behind_two vs a b count at1 at2, read) (ends_then _ _ error fails)
 
 pub while_read : (inside : Bool) (vs : List Tree) (a b : Tree) (test : Expression) (body : Block) → length vs ≡ 3 → a ≡ get_or vs 1 a → b ≡ get_or vs 2 b → at (to_part 1) (expression_in (view a)) ≡ Ok test → at (to_part 2) (body_in inside (view b)) ≡ Ok body → of_word inside words.While (items_view (drop 1 vs)) ≡ Ok (while test body)
 while_read inside vs a b test body count at1 at2 read read_body = rw (behind_two vs a b count at1 at2, read, read_body) refl
 
-pub try_ends_handler : (inside : Bool) (vs : List Tree) (a b c : Tree) (body : Block) (variable : List ℕ) (error : PartError) → length vs ≡ 4 → a ≡ get_or vs 1 a → b ≡ get_or vs 2 b → c ≡ get_or vs 3 c → at (to_part 1) (body_in inside (view a)) ≡ Ok body → at (to_part 2) (name_in (view b)) ≡ Ok variable → Fails error (at (to_part 3) (body_in inside (view c))) → Fails error (of_word inside words.Try (items_view (drop 1 vs)))
+pub try_ends_handler : (inside : Bool) (vs : List Tree) (a b c : Tree) (body : Block) (variable : List ℕ) (error : PartError) → length vs ≡ 4 → a ≡ get_or vs 1 a → b ≡ get_or vs 2 b → c ≡ get_or vs 3 c → at (to_part 1) (body_in inside (view a)) ≡ Ok body → at (to_part 2) (name_in (view b)) ≡ Ok variable → PartFails error (at (to_part 3) (body_in inside (view c))) → PartFails error (of_word inside words.Try (items_view (drop 1 vs)))
 try_ends_handler inside vs a b c body variable error count at1 at2 at3 read read_name fails = rw (behind_three vs a b c count at1 at2 at3, read, read_name) (ends_then _ _ error fails)
 
 pub try_read : (inside : Bool) (vs : List Tree) (a b c : Tree) (body : Block) (variable : List ℕ) (handler : Block) → length vs ≡ 4 → a ≡ get_or vs 1 a → b ≡ get_or vs 2 b → c ≡ get_or vs 3 c → at (to_part 1) (body_in inside (view a)) ≡ Ok body → at (to_part 2) (name_in (view b)) ≡ Ok variable → at (to_part 3) (body_in inside (view c)) ≡ Ok handler → of_word inside words.Try (items_view (drop 1 vs)) ≡ Ok (try body variable handler)

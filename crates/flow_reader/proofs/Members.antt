@@ -12,7 +12,7 @@ use Rattle.json_tree.specs.View.{view, members_view}
 use Rattle.json_tree.proofs.Members.{Entry}
 use Rattle.dura_value.specs.Names.{is_name}
 use Rattle.flow_syntax.specs.Syntax.{Named, put_in}
-use Rattle.flow_values.specs.Answers.{Fails}
+use Rattle.flow_values.specs.Answers.{PartFails}
 use Rattle.flow_reader.specs.Classes.{have_names, named_after}
 use Rattle.flow_values.specs.Faults.{Path, at, to_key}
 use Rattle.flow_values.specs.declared.faults.PartError.{PartError}
@@ -63,7 +63,7 @@ put read show whole before new es i e name it lt here named inserted so_far read
     rw (behind, named) (goes_on read whole (named_by show before) es i e (show it) lt here so_far (rw named at read_is))
 
 -- a member has a fault
-pub ends : {X : Type 0} (read : Data → Result X Path) (whole : Result (List (Named X)) Path) (done : List (Named X)) (es : List Entry) (i : ℕ) (e : Entry) (name : List ℕ) (error : PartError) → i < length es → e ≡ get_or es i e → name ≡ e.0.now → named_after read done (members_view (drop i es)) ≡ whole → Fails error (at (to_key name) (read (view e.1))) → Fails error whole
+pub ends : {X : Type 0} (read : Data → Result X Path) (whole : Result (List (Named X)) Path) (done : List (Named X)) (es : List Entry) (i : ℕ) (e : Entry) (name : List ℕ) (error : PartError) → i < length es → e ≡ get_or es i e → name ≡ e.0.now → named_after read done (members_view (drop i es)) ≡ whole → PartFails error (at (to_key name) (read (view e.1))) → PartFails error whole
 ends read whole done es i e name error lt here named before fails =
     let first : named_after read done (members_view (e ∷ drop (i + 1) es)) ≡ whole = rw (from es i e lt here) at before in
     rw (← first) (ends_then _ _ error (rw named at fails))

@@ -4,7 +4,7 @@ use Rattle.std.proofs.lemmas.List.{drop_all, append-nil}
 use Rattle.serde_json.specs.Data.{Data, array, Items, item, no_items}
 use Rattle.json_tree.specs.View.{view, items_view}
 use Rattle.json_tree.specs.declared.tree.Tree.{Tree}
-use Rattle.flow_values.specs.Answers.{Fails, IsUnder}
+use Rattle.flow_values.specs.Answers.{PartFails, IsUnder}
 use Rattle.flow_values.specs.Faults.{Path, at, misshapen, to_part, ◌>>=◌}
 use Rattle.flow_values.specs.Expressions.{expression_in}
 use Rattle.flow_values.specs.Values.{name_in}
@@ -53,7 +53,7 @@ pub goes_on : (whole : Result (List plain.Locked) Path) (done : List Locked) (vs
 goes_on whole done vs i v e lt here before is = sym (with_first done e (pairs_from (i + 1) (items_view (drop (i + 1) vs)))) ∙ sym (rw (items_from vs i v lt here, is) refl) ∙ before
 
 -- a part is no pair
-pub ends : (whole : Result (List plain.Locked) Path) (done : List Locked) (vs : List Tree) (i : ℕ) (v : Tree) (error further : PartError) → i < length vs → v ≡ get_or vs i v → with_rest done i (items_view (drop i vs)) ≡ whole → Fails error (locked_in (view v)) → IsUnder (to_part i) error further → Fails further whole
+pub ends : (whole : Result (List plain.Locked) Path) (done : List Locked) (vs : List Tree) (i : ℕ) (v : Tree) (error further : PartError) → i < length vs → v ≡ get_or vs i v → with_rest done i (items_view (drop i vs)) ≡ whole → PartFails error (locked_in (view v)) → IsUnder (to_part i) error further → PartFails further whole
 ends whole done vs i v (Misshapen path) (Misshapen outer) lt here before is under = sym before ∙ rw (items_from vs i v lt here, is, under) refl
 ends whole done vs i v Memory (Misshapen outer) lt here before is under = absurd under
 ends whole done vs i v (Misshapen path) Memory lt here before is under = tt

@@ -3,7 +3,7 @@
 ghost use Rattle.std.specs.Prelude.{◌≡◌, ◌≤◌, Ok, drop, length, map};
 ghost use Rattle.serde_json.specs.Data.{array};
 ghost use Rattle.json_tree.specs.View.{items_view, view};
-ghost use Rattle.flow_values.specs.Answers.{Gives};
+ghost use Rattle.flow_values.specs.Answers.{PartGives};
 ghost use Rattle.flow_values.specs.Faults.{at, to_part};
 ghost use Rattle.flow_reader.specs.Statements.{body_in, locked_in, of_word, pairs_from, pairs_in, statement_in, statements_from};
 ghost use Rattle.flow_reader.specs.declared.words.Word.TheVariants as words;
@@ -20,7 +20,7 @@ use std::alloc::Global;
 /// A class and what gives a key.
 #[tactic(auto, using(flow_values::proofs::Parts::ends_then, crate::proofs::Pairs::locked_there, crate::proofs::Pairs::locked_not_there))]
 fn pair_in(alloc: Global, parts: &[Tree<'_>]) -> Result<Locked, PartError>
-    ensures { Gives locked_of result (locked_in (array (items_view parts.now))) }
+    ensures { PartGives locked_of result (locked_in (array (items_view parts.now))) }
 {
     match two_parts(parts) {
         Some((class, key)) => {
@@ -35,7 +35,7 @@ fn pair_in(alloc: Global, parts: &[Tree<'_>]) -> Result<Locked, PartError>
 }
 
 fn locked_in(alloc: Global, value: &Tree<'_>) -> Result<Locked, PartError>
-    ensures { Gives locked_of result (locked_in (view value.now)) }
+    ensures { PartGives locked_of result (locked_in (view value.now)) }
 {
     match value {
         Tree::Array(parts) => pair_in(alloc, parts),
@@ -46,7 +46,7 @@ fn locked_in(alloc: Global, value: &Tree<'_>) -> Result<Locked, PartError>
 /// The pairs of an array, from the first on.
 #[tactic(auto, using(crate::proofs::Pairs::goes_on, crate::proofs::Pairs::ends, crate::proofs::Pairs::begins, crate::proofs::Pairs::all))]
 fn pairs_from(alloc: Global, parts: &[Tree<'_>]) -> Result<Vec<Locked>, PartError>
-    ensures { Gives (λ pairs. map locked_of pairs.items) result (pairs_from 0 (items_view parts.now)) }
+    ensures { PartGives (λ pairs. map locked_of pairs.items) result (pairs_from 0 (items_view parts.now)) }
 {
     let mut pairs = Vec::with_capacity(alloc, parts.len())?;
     for (index, part) in parts.iter().enumerate() {
@@ -61,7 +61,7 @@ fn pairs_from(alloc: Global, parts: &[Tree<'_>]) -> Result<Vec<Locked>, PartErro
 /// 1 to 16 pairs.
 #[tactic(auto, using(flow_values::proofs::Scalars::count_of_items))]
 fn few_pairs(alloc: Global, parts: &[Tree<'_>]) -> Result<Vec<Locked>, PartError>
-    ensures { Gives (λ pairs. map locked_of pairs.items) result (pairs_in (array (items_view parts.now))) }
+    ensures { PartGives (λ pairs. map locked_of pairs.items) result (pairs_in (array (items_view parts.now))) }
 {
     if parts.len() >= 1 && parts.len() <= MOST_SPOTS {
         pairs_from(alloc, parts)
@@ -71,7 +71,7 @@ fn few_pairs(alloc: Global, parts: &[Tree<'_>]) -> Result<Vec<Locked>, PartError
 }
 
 fn pairs_in(alloc: Global, value: &Tree<'_>) -> Result<Vec<Locked>, PartError>
-    ensures { Gives (λ pairs. map locked_of pairs.items) result (pairs_in (view value.now)) }
+    ensures { PartGives (λ pairs. map locked_of pairs.items) result (pairs_in (view value.now)) }
 {
     match value {
         Tree::Array(parts) => few_pairs(alloc, parts),
@@ -82,7 +82,7 @@ fn pairs_in(alloc: Global, value: &Tree<'_>) -> Result<Vec<Locked>, PartError>
 /// The pairs at a place of a statement.
 #[tactic(auto, using(flow_values::proofs::Parts::fails_under))]
 fn pairs_at(alloc: Global, value: &Tree<'_>, index: usize) -> Result<Vec<Locked>, PartError>
-    ensures { Gives (λ pairs. map locked_of pairs.items) result (at (to_part index) (pairs_in (view value.now))) }
+    ensures { PartGives (λ pairs. map locked_of pairs.items) result (at (to_part index) (pairs_in (view value.now))) }
 {
     match pairs_in(alloc, value) {
         Ok(pairs) => Ok(pairs),
@@ -93,7 +93,7 @@ fn pairs_at(alloc: Global, value: &Tree<'_>, index: usize) -> Result<Vec<Locked>
 /// A body: an array of statements.
 #[cycle(statements)]
 pub(crate) fn body_in(alloc: Global, inside: bool, value: &Tree<'_>) -> Result<Vec<Stmt>, PartError>
-    ensures { Gives (λ body. block_of body.items) result (body_in inside (view value.now)) }
+    ensures { PartGives (λ body. block_of body.items) result (body_in inside (view value.now)) }
 {
     match value {
         Tree::Array(items) => statements_in(alloc, inside, items),
@@ -105,7 +105,7 @@ pub(crate) fn body_in(alloc: Global, inside: bool, value: &Tree<'_>) -> Result<V
 #[cycle(statements)]
 #[tactic(auto, using(crate::proofs::Blocks::goes_on, crate::proofs::Blocks::ends, crate::proofs::Blocks::begins, crate::proofs::Blocks::all))]
 fn statements_in(alloc: Global, inside: bool, items: &[Tree<'_>]) -> Result<Vec<Stmt>, PartError>
-    ensures { Gives (λ body. block_of body.items) result (statements_from inside 0 (items_view items.now)) }
+    ensures { PartGives (λ body. block_of body.items) result (statements_from inside 0 (items_view items.now)) }
 {
     let mut statements = Vec::with_capacity(alloc, items.len())?;
     for (index, item) in items.iter().enumerate() {
@@ -126,7 +126,7 @@ fn body_at(
     value: &Tree<'_>,
     index: usize,
 ) -> Result<Vec<Stmt>, PartError>
-    ensures { Gives (λ body. block_of body.items) result (at (to_part index) (body_in inside (view value.now))) }
+    ensures { PartGives (λ body. block_of body.items) result (at (to_part index) (body_in inside (view value.now))) }
 {
     match body_in(alloc, inside, value) {
         Ok(body) => Ok(body),
@@ -137,7 +137,7 @@ fn body_at(
 /// A statement: an array of a word and its parts.
 #[cycle(statements)]
 fn statement_in(alloc: Global, inside: bool, value: &Tree<'_>) -> Result<Stmt, PartError>
-    ensures { Gives statement_of result (statement_in inside (view value.now)) }
+    ensures { PartGives statement_of result (statement_in inside (view value.now)) }
 {
     match value {
         Tree::Array(items) => array_in(alloc, inside, items),
@@ -148,7 +148,7 @@ fn statement_in(alloc: Global, inside: bool, value: &Tree<'_>) -> Result<Stmt, P
 #[cycle(statements)]
 #[tactic(auto, using(crate::proofs::Blocks::no_word, crate::proofs::Blocks::unknown_word, crate::proofs::Blocks::known_word))]
 fn array_in(alloc: Global, inside: bool, items: &[Tree<'_>]) -> Result<Stmt, PartError>
-    ensures { Gives statement_of result (statement_in inside (array (items_view items.now))) }
+    ensures { PartGives statement_of result (statement_in inside (array (items_view items.now))) }
 {
     if items.is_empty() {
         return Err(misshapen(alloc));
@@ -172,7 +172,7 @@ fn parts_of<'t, 'a>(items: &'t [Tree<'a>]) -> &'t [Tree<'a>]
 #[tactic(auto, using(crate::proofs::Blocks::no_lock, crate::proofs::Blocks::no_if, crate::proofs::Blocks::no_while, crate::proofs::Blocks::no_try))]
 fn of_word(alloc: Global, inside: bool, word: Word, items: &[Tree<'_>]) -> Result<Stmt, PartError>
     requires { 1 ≤ length items.now }
-    ensures { Gives statement_of result (of_word inside word (items_view (drop 1 items.now))) }
+    ensures { PartGives statement_of result (of_word inside word (items_view (drop 1 items.now))) }
 {
     match word {
         Word::Lock => {
@@ -212,7 +212,7 @@ fn of_word(alloc: Global, inside: bool, word: Word, items: &[Tree<'_>]) -> Resul
 #[tactic(auto, using(flow_values::proofs::Parts::ends_then, crate::proofs::Blocks::behind_two))]
 fn lock_in(alloc: Global, inside: bool, items: &[Tree<'_>]) -> Result<Stmt, PartError>
     requires { length items.now ≡ 3 }
-    ensures { Gives statement_of result (of_word inside words.Lock (items_view (drop 1 items.now))) }
+    ensures { PartGives statement_of result (of_word inside words.Lock (items_view (drop 1 items.now))) }
 {
     let (entities, body) = (&items[1], &items[2]);
     let entities = pairs_at(alloc, entities, 1)?;
@@ -225,7 +225,7 @@ fn lock_in(alloc: Global, inside: bool, items: &[Tree<'_>]) -> Result<Stmt, Part
 #[tactic(auto, using(flow_values::proofs::Parts::ends_then, crate::proofs::Blocks::behind_three, crate::proofs::Blocks::if_ends, crate::proofs::Blocks::if_ends_yes))]
 fn if_in(alloc: Global, inside: bool, items: &[Tree<'_>]) -> Result<Stmt, PartError>
     requires { length items.now ≡ 4 }
-    ensures { Gives statement_of result (of_word inside words.If (items_view (drop 1 items.now))) }
+    ensures { PartGives statement_of result (of_word inside words.If (items_view (drop 1 items.now))) }
 {
     let (test, yes, no) = (&items[1], &items[2], &items[3]);
     let test = expression_at(alloc, test, 1)?;
@@ -239,7 +239,7 @@ fn if_in(alloc: Global, inside: bool, items: &[Tree<'_>]) -> Result<Stmt, PartEr
 #[tactic(auto, using(flow_values::proofs::Parts::ends_then, crate::proofs::Blocks::behind_two, crate::proofs::Blocks::while_ends))]
 fn while_in(alloc: Global, inside: bool, items: &[Tree<'_>]) -> Result<Stmt, PartError>
     requires { length items.now ≡ 3 }
-    ensures { Gives statement_of result (of_word inside words.While (items_view (drop 1 items.now))) }
+    ensures { PartGives statement_of result (of_word inside words.While (items_view (drop 1 items.now))) }
 {
     let (test, body) = (&items[1], &items[2]);
     let test = expression_at(alloc, test, 1)?;
@@ -252,7 +252,7 @@ fn while_in(alloc: Global, inside: bool, items: &[Tree<'_>]) -> Result<Stmt, Par
 #[tactic(auto, using(flow_values::proofs::Parts::ends_then, crate::proofs::Blocks::behind_three, crate::proofs::Blocks::try_ends, crate::proofs::Blocks::try_ends_variable))]
 fn try_in(alloc: Global, inside: bool, items: &[Tree<'_>]) -> Result<Stmt, PartError>
     requires { length items.now ≡ 4 }
-    ensures { Gives statement_of result (of_word inside words.Try (items_view (drop 1 items.now))) }
+    ensures { PartGives statement_of result (of_word inside words.Try (items_view (drop 1 items.now))) }
 {
     let (body, variable, handler) = (&items[1], &items[2], &items[3]);
     let body = body_at(alloc, inside, body, 1)?;

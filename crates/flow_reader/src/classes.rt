@@ -3,7 +3,7 @@
 ghost use Rattle.std.specs.Prelude.{◌≡◌, [], codes, true};
 ghost use Rattle.serde_json.specs.Data.{member, no_members, object};
 ghost use Rattle.json_tree.specs.View.{members_view, view};
-ghost use Rattle.flow_values.specs.Answers.{Gives};
+ghost use Rattle.flow_values.specs.Answers.{PartGives};
 ghost use Rattle.flow_reader.specs.Classes.{class_in, have_names, named_after, named_in};
 ghost use Rattle.flow_values.specs.Faults.{at, to_key};
 ghost use Rattle.flow_reader.specs.Statements.{body_in};
@@ -39,7 +39,7 @@ fn body_under(
     name: &Name,
     value: &Tree<'_>,
 ) -> Result<Vec<Stmt>, PartError>
-    ensures { Gives (λ body. block_of body.items) result (at (to_key name.now) (body_in inside (view value.now))) }
+    ensures { PartGives (λ body. block_of body.items) result (at (to_key name.now) (body_in inside (view value.now))) }
 {
     match body_in(alloc, inside, value) {
         Ok(body) => Ok(body),
@@ -55,7 +55,7 @@ fn bodies_from(
     members: &[Member<'_>],
 ) -> Result<BTreeMap<Name, Vec<Stmt>>, PartError>
     requires { have_names (members_view members.now) ≡ true }
-    ensures { Gives bodies_of result (named_after (body_in inside) [] (members_view members.now)) }
+    ensures { PartGives bodies_of result (named_after (body_in inside) [] (members_view members.now)) }
 {
     let mut bodies = BTreeMap::new(alloc);
     for member in members {
@@ -73,7 +73,7 @@ fn bodies_of_members(
     inside: bool,
     members: &[Member<'_>],
 ) -> Result<BTreeMap<Name, Vec<Stmt>>, PartError>
-    ensures { Gives bodies_of result (named_in (body_in inside) (object (members_view members.now))) }
+    ensures { PartGives bodies_of result (named_in (body_in inside) (object (members_view members.now))) }
 {
     if have_names(members) {
         bodies_from(alloc, inside, members)
@@ -88,7 +88,7 @@ pub(crate) fn bodies_in(
     inside: bool,
     value: &Tree<'_>,
 ) -> Result<BTreeMap<Name, Vec<Stmt>>, PartError>
-    ensures { Gives bodies_of result (named_in (body_in inside) (view value.now)) }
+    ensures { PartGives bodies_of result (named_in (body_in inside) (view value.now)) }
 {
     match value {
         Tree::Object(members) => bodies_of_members(alloc, inside, members),
@@ -98,7 +98,7 @@ pub(crate) fn bodies_in(
 
 #[tactic(auto, using(flow_values::proofs::Parts::fails_under))]
 fn init_at(alloc: Global, value: &Tree<'_>) -> Result<Value, PartError>
-    ensures { Gives (λ v. v) result (at (to_key (codes "init")) (value_in (view value.now))) }
+    ensures { PartGives (λ v. v) result (at (to_key (codes "init")) (value_in (view value.now))) }
 {
     match value_in(alloc, value) {
         Ok(init) => Ok(init),
@@ -108,7 +108,7 @@ fn init_at(alloc: Global, value: &Tree<'_>) -> Result<Value, PartError>
 
 #[tactic(auto, using(flow_values::proofs::Parts::fails_under))]
 fn operations_at(alloc: Global, value: &Tree<'_>) -> Result<BTreeMap<Name, Vec<Stmt>>, PartError>
-    ensures { Gives bodies_of result (at (to_key (codes "ops")) (named_in (body_in true) (view value.now))) }
+    ensures { PartGives bodies_of result (at (to_key (codes "ops")) (named_in (body_in true) (view value.now))) }
 {
     match bodies_in(alloc, true, value) {
         Ok(operations) => Ok(operations),
@@ -125,7 +125,7 @@ fn class_of_two(
     second: &str,
     operations: &Tree<'_>,
 ) -> Result<Class, PartError>
-    ensures { Gives class_of result (class_in (object (member first.now (view init.now) (member second.now (view operations.now) no_members)))) }
+    ensures { PartGives class_of result (class_in (object (member first.now (view init.now) (member second.now (view operations.now) no_members)))) }
 {
     if first == "init" && second == "ops" {
         let init = init_at(alloc, init)?;
@@ -139,7 +139,7 @@ fn class_of_two(
 }
 
 fn class_of_members(alloc: Global, members: &[Member<'_>]) -> Result<Class, PartError>
-    ensures { Gives class_of result (class_in (object (members_view members.now))) }
+    ensures { PartGives class_of result (class_in (object (members_view members.now))) }
 {
     match members {
         [] => Err(misshapen(alloc)),
@@ -151,7 +151,7 @@ fn class_of_members(alloc: Global, members: &[Member<'_>]) -> Result<Class, Part
 
 /// A class: its members are `init` and `ops`, no more and no less.
 fn class_in(alloc: Global, value: &Tree<'_>) -> Result<Class, PartError>
-    ensures { Gives class_of result (class_in (view value.now)) }
+    ensures { PartGives class_of result (class_in (view value.now)) }
 {
     match value {
         Tree::Object(members) => class_of_members(alloc, members),
@@ -162,7 +162,7 @@ fn class_in(alloc: Global, value: &Tree<'_>) -> Result<Class, PartError>
 /// The class under a name.
 #[tactic(auto, using(flow_values::proofs::Parts::fails_under))]
 fn class_under(alloc: Global, name: &Name, value: &Tree<'_>) -> Result<Class, PartError>
-    ensures { Gives class_of result (at (to_key name.now) (class_in (view value.now))) }
+    ensures { PartGives class_of result (at (to_key name.now) (class_in (view value.now))) }
 {
     match class_in(alloc, value) {
         Ok(class) => Ok(class),
@@ -174,7 +174,7 @@ fn class_under(alloc: Global, name: &Name, value: &Tree<'_>) -> Result<Class, Pa
 #[tactic(auto, using(crate::proofs::Members::put, crate::proofs::Members::ends, crate::proofs::Members::all, crate::proofs::Members::first_is_name, crate::proofs::Members::rest_are_names))]
 fn classes_from(alloc: Global, members: &[Member<'_>]) -> Result<BTreeMap<Name, Class>, PartError>
     requires { have_names (members_view members.now) ≡ true }
-    ensures { Gives (λ classes. named_by class_of classes.entries) result (named_after class_in [] (members_view members.now)) }
+    ensures { PartGives (λ classes. named_by class_of classes.entries) result (named_after class_in [] (members_view members.now)) }
 {
     let mut classes = BTreeMap::new(alloc);
     for member in members {
@@ -191,7 +191,7 @@ fn classes_of_members(
     alloc: Global,
     members: &[Member<'_>],
 ) -> Result<BTreeMap<Name, Class>, PartError>
-    ensures { Gives (λ classes. named_by class_of classes.entries) result (named_in class_in (object (members_view members.now))) }
+    ensures { PartGives (λ classes. named_by class_of classes.entries) result (named_in class_in (object (members_view members.now))) }
 {
     if have_names(members) {
         classes_from(alloc, members)
@@ -205,7 +205,7 @@ pub(crate) fn classes_in(
     alloc: Global,
     value: &Tree<'_>,
 ) -> Result<BTreeMap<Name, Class>, PartError>
-    ensures { Gives (λ classes. named_by class_of classes.entries) result (named_in class_in (view value.now)) }
+    ensures { PartGives (λ classes. named_by class_of classes.entries) result (named_in class_in (view value.now)) }
 {
     match value {
         Tree::Object(members) => classes_of_members(alloc, members),

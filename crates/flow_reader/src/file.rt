@@ -2,7 +2,7 @@
 
 ghost use Rattle.serde_json.specs.Data.{member, no_members, object};
 ghost use Rattle.json_tree.specs.View.{members_view, view};
-ghost use Rattle.flow_values.specs.Answers.{Gives};
+ghost use Rattle.flow_values.specs.Answers.{PartGives};
 ghost use Rattle.flow_reader.specs.Files.{bodies_in, classes_in, file_in};
 ghost use Rattle.flow_syntax.specs.Views.{bodies_of, class_of, flows_of, named_by};
 
@@ -16,7 +16,7 @@ use std::collections::BTreeMap;
 
 #[tactic(auto, using(flow_values::proofs::Parts::fails_under))]
 fn classes_at(alloc: Global, value: &Tree<'_>) -> Result<BTreeMap<Name, Class>, PartError>
-    ensures { Gives (λ classes. named_by class_of classes.entries) result (classes_in (view value.now)) }
+    ensures { PartGives (λ classes. named_by class_of classes.entries) result (classes_in (view value.now)) }
 {
     match classes_in(alloc, value) {
         Ok(classes) => Ok(classes),
@@ -26,7 +26,7 @@ fn classes_at(alloc: Global, value: &Tree<'_>) -> Result<BTreeMap<Name, Class>, 
 
 #[tactic(auto, using(flow_values::proofs::Parts::fails_under))]
 fn flows_at(alloc: Global, value: &Tree<'_>) -> Result<BTreeMap<Name, Vec<Stmt>>, PartError>
-    ensures { Gives bodies_of result (bodies_in (view value.now)) }
+    ensures { PartGives bodies_of result (bodies_in (view value.now)) }
 {
     match bodies_in(alloc, false, value) {
         Ok(flows) => Ok(flows),
@@ -37,7 +37,7 @@ fn flows_at(alloc: Global, value: &Tree<'_>) -> Result<BTreeMap<Name, Vec<Stmt>>
 /// A file of one member.
 #[tactic(auto, using(flow_values::proofs::Parts::ends_then))]
 fn of_one(alloc: Global, key: &str, value: &Tree<'_>) -> Result<Flows, PartError>
-    ensures { Gives flows_of result (file_in (object (member key.now (view value.now) no_members))) }
+    ensures { PartGives flows_of result (file_in (object (member key.now (view value.now) no_members))) }
 {
     if key == "classes" {
         match classes_at(alloc, value) {
@@ -69,7 +69,7 @@ fn of_two(
     second: &str,
     flows: &Tree<'_>,
 ) -> Result<Flows, PartError>
-    ensures { Gives flows_of result (file_in (object (member first.now (view classes.now) (member second.now (view flows.now) no_members)))) }
+    ensures { PartGives flows_of result (file_in (object (member first.now (view classes.now) (member second.now (view flows.now) no_members)))) }
 {
     if first == "classes" && second == "flows" {
         let classes = classes_at(alloc, classes)?;
@@ -83,7 +83,7 @@ fn of_two(
 }
 
 fn of_members(alloc: Global, members: &[Member<'_>]) -> Result<Flows, PartError>
-    ensures { Gives flows_of result (file_in (object (members_view members.now))) }
+    ensures { PartGives flows_of result (file_in (object (members_view members.now))) }
 {
     match members {
         [] => Ok(Flows::new(alloc)),
@@ -95,7 +95,7 @@ fn of_members(alloc: Global, members: &[Member<'_>]) -> Result<Flows, PartError>
 
 /// An object with no members but `classes` and `flows`.
 pub(crate) fn file_in(alloc: Global, value: &Tree<'_>) -> Result<Flows, PartError>
-    ensures { Gives flows_of result (file_in (view value.now)) }
+    ensures { PartGives flows_of result (file_in (view value.now)) }
 {
     match value {
         Tree::Object(members) => of_members(alloc, members),

@@ -2,7 +2,7 @@
 
 ghost use Rattle.std.specs.Prelude.{◌≡◌, option_map};
 ghost use Rattle.json_tree.specs.View.{items_view, view};
-ghost use Rattle.flow_values.specs.Answers.{Gives};
+ghost use Rattle.flow_values.specs.Answers.{PartGives};
 ghost use Rattle.flow_reader.specs.Statements.{ask_in, event_in, five_parts, four_parts, one_part, signal_in, simple_in, sub_in, three_parts, two_parts};
 ghost use Rattle.flow_reader.specs.ByWord.{activity_statement, of_activity, of_value, of_variable, value_statement, variable_statement};
 ghost use Rattle.flow_syntax.specs.Views.{expression_of, statement_of};
@@ -97,7 +97,7 @@ fn of_value(word: Word, value: Expr) -> Stmt
 /// The statement of a word whose only part is an expression.
 #[tactic(auto, using(flow_values::proofs::Parts::ends_then))]
 fn value_statement(alloc: Global, word: Word, parts: &[Tree<'_>]) -> Result<Stmt, PartError>
-    ensures { Gives statement_of result (value_statement word (items_view parts.now)) }
+    ensures { PartGives statement_of result (value_statement word (items_view parts.now)) }
 {
     match one_part(parts) {
         Some(value) => match expression_at(alloc, value, 1) {
@@ -124,7 +124,7 @@ fn of_variable(word: Word, variable: Name, value: Expr) -> Stmt
 /// The statement of a word whose parts are a variable and an expression.
 #[tactic(auto, using(flow_values::proofs::Parts::ends_then))]
 fn variable_statement(alloc: Global, word: Word, parts: &[Tree<'_>]) -> Result<Stmt, PartError>
-    ensures { Gives statement_of result (variable_statement word (items_view parts.now)) }
+    ensures { PartGives statement_of result (variable_statement word (items_view parts.now)) }
 {
     match two_parts(parts) {
         Some((variable, value)) => {
@@ -151,7 +151,7 @@ fn of_activity(word: Word, variable: Name, activity: Name, argument: Expr) -> St
 /// The statement of a word whose parts are a variable, an activity and its argument.
 #[tactic(auto, using(flow_values::proofs::Parts::ends_then))]
 fn activity_statement(alloc: Global, word: Word, parts: &[Tree<'_>]) -> Result<Stmt, PartError>
-    ensures { Gives statement_of result (activity_statement word (items_view parts.now)) }
+    ensures { PartGives statement_of result (activity_statement word (items_view parts.now)) }
 {
     match three_parts(parts) {
         Some((variable, activity, argument)) => {
@@ -169,7 +169,7 @@ fn activity_statement(alloc: Global, word: Word, parts: &[Tree<'_>]) -> Result<S
 /// The next event of a name.
 #[tactic(auto, using(flow_values::proofs::Parts::ends_then))]
 fn event_in(alloc: Global, parts: &[Tree<'_>]) -> Result<Stmt, PartError>
-    ensures { Gives statement_of result (event_in (items_view parts.now)) }
+    ensures { PartGives statement_of result (event_in (items_view parts.now)) }
 {
     match two_parts(parts) {
         Some((variable, name)) => {
@@ -186,7 +186,7 @@ fn event_in(alloc: Global, parts: &[Tree<'_>]) -> Result<Stmt, PartError>
 /// The start of an instance.
 #[tactic(auto, using(flow_values::proofs::Parts::ends_then))]
 fn sub_in(alloc: Global, parts: &[Tree<'_>]) -> Result<Stmt, PartError>
-    ensures { Gives statement_of result (sub_in (items_view parts.now)) }
+    ensures { PartGives statement_of result (sub_in (items_view parts.now)) }
 {
     match four_parts(parts) {
         Some((variable, flow, key, argument)) => {
@@ -205,7 +205,7 @@ fn sub_in(alloc: Global, parts: &[Tree<'_>]) -> Result<Stmt, PartError>
 /// A question to an entity.
 #[tactic(auto, using(flow_values::proofs::Parts::ends_then))]
 fn ask_in(alloc: Global, parts: &[Tree<'_>]) -> Result<Stmt, PartError>
-    ensures { Gives statement_of result (ask_in (items_view parts.now)) }
+    ensures { PartGives statement_of result (ask_in (items_view parts.now)) }
 {
     match five_parts(parts) {
         Some((variable, class, key, operation, argument)) => {
@@ -225,7 +225,7 @@ fn ask_in(alloc: Global, parts: &[Tree<'_>]) -> Result<Stmt, PartError>
 /// An operation that nobody waits for.
 #[tactic(auto, using(flow_values::proofs::Parts::ends_then))]
 fn signal_in(alloc: Global, parts: &[Tree<'_>]) -> Result<Stmt, PartError>
-    ensures { Gives statement_of result (signal_in (items_view parts.now)) }
+    ensures { PartGives statement_of result (signal_in (items_view parts.now)) }
 {
     match four_parts(parts) {
         Some((class, key, operation, argument)) => {
@@ -243,7 +243,7 @@ fn signal_in(alloc: Global, parts: &[Tree<'_>]) -> Result<Stmt, PartError>
 
 /// A statement with none in it, of a word and the parts behind it.
 pub(crate) fn simple_in(alloc: Global, word: Word, parts: &[Tree<'_>]) -> Result<Stmt, PartError>
-    ensures { Gives statement_of result (simple_in word (items_view parts.now)) }
+    ensures { PartGives statement_of result (simple_in word (items_view parts.now)) }
 {
     match word {
         Word::Let => variable_statement(alloc, word, parts),

@@ -11,7 +11,7 @@ use Rattle.flow_syntax.specs.declared.syntax.UnaryOp.{UnaryOp}
 use Rattle.flow_syntax.specs.declared.syntax.BinaryOp.{BinaryOp}
 use Rattle.flow_syntax.specs.Syntax.{Expression, Expressions, variable, list, no_parts, part, unary, binary}
 use Rattle.flow_syntax.specs.Views.{expression_of, parts_of, unary_of, binary_of}
-use Rattle.flow_values.specs.Answers.{Fails, IsUnder}
+use Rattle.flow_values.specs.Answers.{PartFails, IsUnder}
 use Rattle.flow_values.specs.Faults.{Path, Step, at, misshapen, to_key, to_part, ◌>>=◌}
 use Rattle.flow_values.specs.Expressions.{expression_in, expressions_from, list_in, operation_in, unary_in, binary_in}
 use Rattle.flow_values.specs.Values.{name_in}
@@ -19,14 +19,14 @@ use Rattle.flow_values.specs.declared.faults.PartError.{PartError}
 use Rattle.flow_values.specs.declared.faults.PartError.TheVariants.{Misshapen, Memory}
 
 -- a fault within a part is one of the whole
-pub fails_under : {X : Type 0} (read : Result X Path) (step : Step) (error further : PartError) → Fails error read → IsUnder step error further → Fails further (at step read)
+pub fails_under : {X : Type 0} (read : Result X Path) (step : Step) (error further : PartError) → PartFails error read → IsUnder step error further → PartFails further (at step read)
 fails_under read step (Misshapen path) (Misshapen outer) fails under = rw (fails, under) refl
 fails_under read step Memory (Misshapen outer) fails under = absurd under
 fails_under read step (Misshapen path) Memory fails under = tt
 fails_under read step Memory Memory fails under = tt
 
 -- and nothing that is read behind it counts
-pub ends_under : {X Y : Type 0} (read : Result X Path) (then : X → Result Y Path) (step : Step) (error further : PartError) → Fails error read → IsUnder step error further → Fails further (at step read >>= then)
+pub ends_under : {X Y : Type 0} (read : Result X Path) (then : X → Result Y Path) (step : Step) (error further : PartError) → PartFails error read → IsUnder step error further → PartFails further (at step read >>= then)
 ends_under read then step (Misshapen path) (Misshapen outer) fails under = rw (fails, under) refl
 ends_under read then step Memory (Misshapen outer) fails under = absurd under
 ends_under read then step (Misshapen path) Memory fails under = tt
@@ -68,7 +68,7 @@ pub goes_on : (whole : Result Expressions Path) (done : List Expr) (vs : List Tr
 goes_on whole done vs i v e lt here before is = sym (with_first done e (expressions_from (i + 1) (items_view (drop (i + 1) vs)))) ∙ sym (rw (items_from vs i v lt here, is) refl) ∙ before
 
 -- a part is no expression
-pub ends : (whole : Result Expressions Path) (done : List Expr) (vs : List Tree) (i : ℕ) (v : Tree) (error further : PartError) → i < length vs → v ≡ get_or vs i v → with_rest done i (items_view (drop i vs)) ≡ whole → Fails error (expression_in (view v)) → IsUnder (to_part i) error further → Fails further whole
+pub ends : (whole : Result Expressions Path) (done : List Expr) (vs : List Tree) (i : ℕ) (v : Tree) (error further : PartError) → i < length vs → v ≡ get_or vs i v → with_rest done i (items_view (drop i vs)) ≡ whole → PartFails error (expression_in (view v)) → IsUnder (to_part i) error further → PartFails further whole
 ends whole done vs i v (Misshapen path) (Misshapen outer) lt here before is under = sym before ∙ rw (items_from vs i v lt here, is, under) refl
 ends whole done vs i v Memory (Misshapen outer) lt here before is under = absurd under
 ends whole done vs i v (Misshapen path) Memory lt here before is under = tt
@@ -100,11 +100,11 @@ no_operation (x ∷ y ∷ []) two three = absurd (two refl)
 no_operation (x ∷ y ∷ z ∷ []) two three = absurd (three refl)
 no_operation (x ∷ y ∷ z ∷ w ∷ vs) two three = refl
 
-pub ends_then : {X Y : Type 0} (read : Result X Path) (then : X → Result Y Path) (error : PartError) → Fails error read → Fails error (read >>= then)
+pub ends_then : {X Y : Type 0} (read : Result X Path) (then : X → Result Y Path) (error : PartError) → PartFails error read → PartFails error (read >>= then)
 ends_then read then (Misshapen path) fails = rw fails refl
 ends_then read then Memory fails = tt
 
-pub unary_ends : (vs : List Tree) (a b : Tree) (operation : UnaryOp) (error : PartError) → length vs ≡ 2 → a ≡ get_or vs 0 a → b ≡ get_or vs 1 b → Some (unary_of operation) ≡ unary_in (view a) → Fails error (at (to_part 1) (expression_in (view b))) → Fails error (operation_in (array (items_view vs)))
+pub unary_ends : (vs : List Tree) (a b : Tree) (operation : UnaryOp) (error : PartError) → length vs ≡ 2 → a ≡ get_or vs 0 a → b ≡ get_or vs 1 b → Some (unary_of operation) ≡ unary_in (view a) → PartFails error (at (to_part 1) (expression_in (view b))) → PartFails error (operation_in (array (items_view vs)))
 unary_ends vs a b operation error count at0 at1 word fails = rw (two_items vs a b count at0 at1, ← word) (ends_then _ _ error fails)
 
 pub unary_read : (vs : List Tree) (a b : Tree) (operation : UnaryOp) (first : Expression) → length vs ≡ 2 → a ≡ get_or vs 0 a → b ≡ get_or vs 1 b → Some (unary_of operation) ≡ unary_in (view a) → at (to_part 1) (expression_in (view b)) ≡ Ok first → operation_in (array (items_view vs)) ≡ Ok (unary (unary_of operation) first)
@@ -116,10 +116,10 @@ unary_unknown vs a b count at0 at1 word = rw (two_items vs a b count at0 at1, �
 pub binary_unknown : (vs : List Tree) (a b c : Tree) → length vs ≡ 3 → a ≡ get_or vs 0 a → b ≡ get_or vs 1 b → c ≡ get_or vs 2 c → None ≡ binary_in (view a) → operation_in (array (items_view vs)) ≡ misshapen
 binary_unknown vs a b c count at0 at1 at2 word = rw (three_items vs a b c count at0 at1 at2, ← word) refl
 
-pub binary_ends : (vs : List Tree) (a b c : Tree) (operation : BinaryOp) (error : PartError) → length vs ≡ 3 → a ≡ get_or vs 0 a → b ≡ get_or vs 1 b → c ≡ get_or vs 2 c → Some (binary_of operation) ≡ binary_in (view a) → Fails error (at (to_part 1) (expression_in (view b))) → Fails error (operation_in (array (items_view vs)))
+pub binary_ends : (vs : List Tree) (a b c : Tree) (operation : BinaryOp) (error : PartError) → length vs ≡ 3 → a ≡ get_or vs 0 a → b ≡ get_or vs 1 b → c ≡ get_or vs 2 c → Some (binary_of operation) ≡ binary_in (view a) → PartFails error (at (to_part 1) (expression_in (view b))) → PartFails error (operation_in (array (items_view vs)))
 binary_ends vs a b c operation error count at0 at1 at2 word fails = rw (three_items vs a b c count at0 at1 at2, ← word) (ends_then _ _ error fails)
 
-pub binary_ends_second : (vs : List Tree) (a b c : Tree) (operation : BinaryOp) (first : Expression) (error : PartError) → length vs ≡ 3 → a ≡ get_or vs 0 a → b ≡ get_or vs 1 b → c ≡ get_or vs 2 c → Some (binary_of operation) ≡ binary_in (view a) → at (to_part 1) (expression_in (view b)) ≡ Ok first → Fails error (at (to_part 2) (expression_in (view c))) → Fails error (operation_in (array (items_view vs)))
+pub binary_ends_second : (vs : List Tree) (a b c : Tree) (operation : BinaryOp) (first : Expression) (error : PartError) → length vs ≡ 3 → a ≡ get_or vs 0 a → b ≡ get_or vs 1 b → c ≡ get_or vs 2 c → Some (binary_of operation) ≡ binary_in (view a) → at (to_part 1) (expression_in (view b)) ≡ Ok first → PartFails error (at (to_part 2) (expression_in (view c))) → PartFails error (operation_in (array (items_view vs)))
 binary_ends_second vs a b c operation first error count at0 at1 at2 word read fails = rw (three_items vs a b c count at0 at1 at2, ← word, read) (ends_then _ _ error fails)
 
 pub binary_read : (vs : List Tree) (a b c : Tree) (operation : BinaryOp) (first second : Expression) → length vs ≡ 3 → a ≡ get_or vs 0 a → b ≡ get_or vs 1 b → c ≡ get_or vs 2 c → Some (binary_of operation) ≡ binary_in (view a) → at (to_part 1) (expression_in (view b)) ≡ Ok first → at (to_part 2) (expression_in (view c)) ≡ Ok second → operation_in (array (items_view vs)) ≡ Ok (binary (binary_of operation) first second)
@@ -127,13 +127,13 @@ binary_read vs a b c operation first second count at0 at1 at2 word read read_sec
 
 -- ---- the only member of an object, by its key
 
-pub variable_ends : (key : List ℕ) (d : Data) (error further : PartError) → bytes_eq key (codes "v") ≡ true → Fails error (name_in d) → IsUnder (to_key (codes "v")) error further → Fails further (expression_in (object (member key d no_members)))
+pub variable_ends : (key : List ℕ) (d : Data) (error further : PartError) → bytes_eq key (codes "v") ≡ true → PartFails error (name_in d) → IsUnder (to_key (codes "v")) error further → PartFails further (expression_in (object (member key d no_members)))
 variable_ends key d error further is fails under = rw is (ends_under (name_in d) (λ name. Ok (variable name)) (to_key (codes "v")) error further fails under)
 
-pub list_ends : (key : List ℕ) (d : Data) (error further : PartError) → bytes_eq key (codes "v") ≡ false → bytes_eq key (codes "list") ≡ true → Fails error (list_in d) → IsUnder (to_key (codes "list")) error further → Fails further (expression_in (object (member key d no_members)))
+pub list_ends : (key : List ℕ) (d : Data) (error further : PartError) → bytes_eq key (codes "v") ≡ false → bytes_eq key (codes "list") ≡ true → PartFails error (list_in d) → IsUnder (to_key (codes "list")) error further → PartFails further (expression_in (object (member key d no_members)))
 list_ends key d error further other is fails under = rw (other, is) (ends_under (list_in d) (λ parts. Ok (list parts)) (to_key (codes "list")) error further fails under)
 
-pub operation_ends : (key : List ℕ) (d : Data) (error further : PartError) → bytes_eq key (codes "v") ≡ false → bytes_eq key (codes "list") ≡ false → bytes_eq key (codes "do") ≡ true → Fails error (operation_in d) → IsUnder (to_key (codes "do")) error further → Fails further (expression_in (object (member key d no_members)))
+pub operation_ends : (key : List ℕ) (d : Data) (error further : PartError) → bytes_eq key (codes "v") ≡ false → bytes_eq key (codes "list") ≡ false → bytes_eq key (codes "do") ≡ true → PartFails error (operation_in d) → IsUnder (to_key (codes "do")) error further → PartFails further (expression_in (object (member key d no_members)))
 operation_ends key d error further other neither is fails under = rw (other, neither, is) (fails_under (operation_in d) (to_key (codes "do")) error further fails under)
 
 pub variable_read : (key : List ℕ) (d : Data) (name : List ℕ) → bytes_eq key (codes "v") ≡ true → name_in d ≡ Ok name → expression_in (object (member key d no_members)) ≡ Ok (variable name)

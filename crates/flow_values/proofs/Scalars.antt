@@ -6,7 +6,7 @@ use Rattle.serde_json.specs.Data.{Items, item}
 use Rattle.json_tree.specs.View.{view, items_view}
 use Rattle.json_tree.specs.declared.tree.Tree.{Tree}
 use Rattle.dura_value.specs.declared.data.Scalar.{Scalar}
-use Rattle.flow_values.specs.Answers.{Fails, IsUnder}
+use Rattle.flow_values.specs.Answers.{PartFails, IsUnder}
 use Rattle.flow_values.specs.Faults.{Path, at, to_part, ◌>>=◌}
 use Rattle.flow_values.specs.Values.{count, scalar_in, scalars_from}
 use Rattle.flow_values.specs.declared.faults.PartError.{PartError}
@@ -43,7 +43,7 @@ pub goes_on : (whole : Result (List Scalar) Path) (done : List Scalar) (vs : Lis
 goes_on whole done vs i v s lt here before is = sym (with_first done s (scalars_from (i + 1) (items_view (drop (i + 1) vs)))) ∙ sym (rw (items_from vs i v lt here, is) refl) ∙ before
 
 -- a part is no scalar
-pub ends : (whole : Result (List Scalar) Path) (done : List Scalar) (vs : List Tree) (i : ℕ) (v : Tree) (error further : PartError) → i < length vs → v ≡ get_or vs i v → with_rest done i (items_view (drop i vs)) ≡ whole → Fails error (scalar_in (view v)) → IsUnder (to_part i) error further → Fails further whole
+pub ends : (whole : Result (List Scalar) Path) (done : List Scalar) (vs : List Tree) (i : ℕ) (v : Tree) (error further : PartError) → i < length vs → v ≡ get_or vs i v → with_rest done i (items_view (drop i vs)) ≡ whole → PartFails error (scalar_in (view v)) → IsUnder (to_part i) error further → PartFails further whole
 ends whole done vs i v (Misshapen path) (Misshapen outer) lt here before is under = sym before ∙ rw (items_from vs i v lt here, is, under) refl
 ends whole done vs i v Memory (Misshapen outer) lt here before is under = absurd under
 ends whole done vs i v (Misshapen path) Memory lt here before is under = tt

@@ -3,7 +3,7 @@
 ghost use Rattle.std.specs.Prelude.{◌≡◌, Ok, length, option_map};
 ghost use Rattle.serde_json.specs.Data.{array, no_members, member, object};
 ghost use Rattle.json_tree.specs.View.{items_view, members_view, view};
-ghost use Rattle.flow_values.specs.Answers.{Gives};
+ghost use Rattle.flow_values.specs.Answers.{PartGives};
 ghost use Rattle.flow_values.specs.Expressions.{binary_in, expression_in, expressions_from, is_word, list_in, operation_in, unary_in};
 ghost use Rattle.flow_values.specs.Faults.{at, to_part, ◌>>=◌ as bind};
 ghost use Rattle.flow_values.specs.Values.{scalar_in};
@@ -77,7 +77,7 @@ fn binary_in(value: &Tree<'_>) -> Option<BinaryOp>
 }
 
 fn scalar_of(alloc: Global, value: &Tree<'_>) -> Result<Expr, PartError>
-    ensures { Gives expression_of result (bind (scalar_in (view value.now)) (λ s. Ok (scalar s))) }
+    ensures { PartGives expression_of result (bind (scalar_in (view value.now)) (λ s. Ok (scalar s))) }
 {
     match scalar_in(alloc, value) {
         Ok(scalar) => Ok(Expr::Scalar(scalar)),
@@ -88,7 +88,7 @@ fn scalar_of(alloc: Global, value: &Tree<'_>) -> Result<Expr, PartError>
 /// An expression: a scalar is itself, and an object with one member is a variable, a list or an operation.
 #[cycle(expressions)]
 pub fn expression_in(alloc: Global, value: &Tree<'_>) -> Result<Expr, PartError>
-    ensures { Gives expression_of result (expression_in (view value.now)) }
+    ensures { PartGives expression_of result (expression_in (view value.now)) }
 {
     match value {
         Tree::Object(members) => object_in(alloc, members),
@@ -103,7 +103,7 @@ pub fn expression_in(alloc: Global, value: &Tree<'_>) -> Result<Expr, PartError>
 /// An object that is an expression.
 #[cycle(expressions)]
 fn object_in(alloc: Global, members: &[Member<'_>]) -> Result<Expr, PartError>
-    ensures { Gives expression_of result (expression_in (object (members_view members.now))) }
+    ensures { PartGives expression_of result (expression_in (object (members_view members.now))) }
 {
     let mut entries = members.iter();
     match entries.next() {
@@ -119,7 +119,7 @@ fn object_in(alloc: Global, members: &[Member<'_>]) -> Result<Expr, PartError>
 #[cycle(expressions)]
 #[tactic(auto, using(crate::proofs::Parts::ends_under))]
 fn member_in(alloc: Global, key: &str, inside: &Tree<'_>) -> Result<Expr, PartError>
-    ensures { Gives expression_of result (expression_in (object (member key.now (view inside.now) no_members))) }
+    ensures { PartGives expression_of result (expression_in (object (member key.now (view inside.now) no_members))) }
 {
     if key == "v" {
         match name_in(alloc, inside) {
@@ -144,7 +144,7 @@ fn member_in(alloc: Global, key: &str, inside: &Tree<'_>) -> Result<Expr, PartEr
 /// An array of expressions.
 #[cycle(expressions)]
 fn list_in(alloc: Global, value: &Tree<'_>) -> Result<Vec<Expr>, PartError>
-    ensures { Gives (λ parts. parts_of parts.items) result (list_in (view value.now)) }
+    ensures { PartGives (λ parts. parts_of parts.items) result (list_in (view value.now)) }
 {
     match value {
         Tree::Array(items) => parts_in(alloc, items),
@@ -160,7 +160,7 @@ fn list_in(alloc: Global, value: &Tree<'_>) -> Result<Vec<Expr>, PartError>
 #[cycle(expressions)]
 #[tactic(auto, using(crate::proofs::Parts::goes_on, crate::proofs::Parts::ends, crate::proofs::Parts::begins, crate::proofs::Parts::all))]
 fn parts_in(alloc: Global, items: &[Tree<'_>]) -> Result<Vec<Expr>, PartError>
-    ensures { Gives (λ parts. parts_of parts.items) result (expressions_from 0 (items_view items.now)) }
+    ensures { PartGives (λ parts. parts_of parts.items) result (expressions_from 0 (items_view items.now)) }
 {
     let mut parts = Vec::with_capacity(alloc, items.len())?;
     for (index, item) in items.iter().enumerate() {
@@ -176,7 +176,7 @@ fn parts_in(alloc: Global, items: &[Tree<'_>]) -> Result<Vec<Expr>, PartError>
 #[cycle(expressions)]
 #[tactic(auto, using(crate::proofs::Parts::no_operation))]
 fn operation_in(alloc: Global, value: &Tree<'_>) -> Result<Expr, PartError>
-    ensures { Gives expression_of result (operation_in (view value.now)) }
+    ensures { PartGives expression_of result (operation_in (view value.now)) }
 {
     match value {
         Tree::Array(items) => {
@@ -200,7 +200,7 @@ fn operation_in(alloc: Global, value: &Tree<'_>) -> Result<Expr, PartError>
 #[cycle(expressions)]
 #[tactic(auto, using(crate::proofs::Parts::fails_under))]
 pub fn expression_at(alloc: Global, item: &Tree<'_>, index: usize) -> Result<Expr, PartError>
-    ensures { Gives expression_of result (at (to_part index) (expression_in (view item.now))) }
+    ensures { PartGives expression_of result (at (to_part index) (expression_in (view item.now))) }
 {
     match expression_in(alloc, item) {
         Ok(part) => Ok(part),
@@ -213,7 +213,7 @@ pub fn expression_at(alloc: Global, item: &Tree<'_>, index: usize) -> Result<Exp
 #[tactic(auto, using(crate::proofs::Parts::unary_unknown, crate::proofs::Parts::unary_ends, crate::proofs::Parts::unary_read))]
 fn unary_of(alloc: Global, items: &[Tree<'_>]) -> Result<Expr, PartError>
     requires { length items.now ≡ 2 }
-    ensures { Gives expression_of result (operation_in (array (items_view items.now))) }
+    ensures { PartGives expression_of result (operation_in (array (items_view items.now))) }
 {
     let (word, only) = (&items[0], &items[1]);
     match unary_in(word) {
@@ -230,7 +230,7 @@ fn unary_of(alloc: Global, items: &[Tree<'_>]) -> Result<Expr, PartError>
 #[tactic(auto, using(crate::proofs::Parts::binary_unknown, crate::proofs::Parts::binary_ends, crate::proofs::Parts::binary_ends_second, crate::proofs::Parts::binary_read))]
 fn binary_of(alloc: Global, items: &[Tree<'_>]) -> Result<Expr, PartError>
     requires { length items.now ≡ 3 }
-    ensures { Gives expression_of result (operation_in (array (items_view items.now))) }
+    ensures { PartGives expression_of result (operation_in (array (items_view items.now))) }
 {
     let (word, first, second) = (&items[0], &items[1], &items[2]);
     match binary_in(word) {

@@ -2,7 +2,7 @@
 
 ghost use Rattle.std.specs.Prelude.{◌≡◌, [], Ok};
 ghost use Rattle.json_tree.specs.View.{view, items_view};
-ghost use Rattle.flow_values.specs.Answers.{Gives};
+ghost use Rattle.flow_values.specs.Answers.{PartGives};
 ghost use Rattle.flow_values.specs.Faults.{at, to_part, where_fits};
 ghost use Rattle.dura_value.specs.Values.{value_of};
 ghost use Rattle.flow_values.specs.Values.{is_text, list_in, name_in, scalar_in, scalars_from, value_in};
@@ -21,7 +21,7 @@ pub fn misshapen(alloc: Global) -> PartError
 
 #[tactic(auto, using(crate::proofs::Texts::text_passes, crate::proofs::Texts::long_fails))]
 fn text_in(alloc: Global, text: &str) -> Result<Text, PartError>
-    ensures { Gives (λ t. t) result (where_fits (is_text text.now) (Ok text.now)) }
+    ensures { PartGives (λ t. t) result (where_fits (is_text text.now) (Ok text.now)) }
 {
     match Text::read(alloc, text.as_bytes()) {
         Ok(text) => Ok(text),
@@ -32,7 +32,7 @@ fn text_in(alloc: Global, text: &str) -> Result<Text, PartError>
 }
 
 pub(crate) fn scalar_in(alloc: Global, value: &Tree<'_>) -> Result<Scalar, PartError>
-    ensures { Gives (λ s. s) result (scalar_in (view value.now)) }
+    ensures { PartGives (λ s. s) result (scalar_in (view value.now)) }
 {
     match value {
         Tree::Null => Ok(Scalar::Null),
@@ -57,7 +57,7 @@ pub(crate) fn scalar_in(alloc: Global, value: &Tree<'_>) -> Result<Scalar, PartE
 }
 
 pub fn name_in(alloc: Global, value: &Tree<'_>) -> Result<Name, PartError>
-    ensures { Gives (λ name. name) result (name_in (view value.now)) }
+    ensures { PartGives (λ name. name) result (name_in (view value.now)) }
 {
     match value {
         Tree::String(text) => {
@@ -78,7 +78,7 @@ pub fn name_in(alloc: Global, value: &Tree<'_>) -> Result<Name, PartError>
 /// The name at a place of an array.
 #[tactic(auto, using(crate::proofs::Parts::fails_under))]
 pub fn name_at(alloc: Global, value: &Tree<'_>, index: usize) -> Result<Name, PartError>
-    ensures { Gives (λ name. name) result (at (to_part index) (name_in (view value.now))) }
+    ensures { PartGives (λ name. name) result (at (to_part index) (name_in (view value.now))) }
 {
     match name_in(alloc, value) {
         Ok(name) => Ok(name),
@@ -89,7 +89,7 @@ pub fn name_at(alloc: Global, value: &Tree<'_>, index: usize) -> Result<Name, Pa
 /// The scalars of an array, from the first on.
 #[tactic(auto, using(crate::proofs::Scalars::goes_on, crate::proofs::Scalars::ends))]
 fn scalars_in(alloc: Global, parts: &[Tree<'_>]) -> Result<Vec<Scalar>, PartError>
-    ensures { Gives (λ scalars. scalars.items) result (scalars_from 0 (items_view parts.now)) }
+    ensures { PartGives (λ scalars. scalars.items) result (scalars_from 0 (items_view parts.now)) }
 {
     let mut scalars = Vec::with_capacity(alloc, parts.len())?;
     for (index, part) in parts.iter().enumerate() {
@@ -103,7 +103,7 @@ fn scalars_in(alloc: Global, parts: &[Tree<'_>]) -> Result<Vec<Scalar>, PartErro
 
 #[tactic(auto, using(crate::proofs::Scalars::count_of_items))]
 fn list_in(alloc: Global, parts: &[Tree<'_>]) -> Result<Scalars, PartError>
-    ensures { Gives (λ scalars. scalars) result (list_in (items_view parts.now)) }
+    ensures { PartGives (λ scalars. scalars) result (list_in (items_view parts.now)) }
 {
     if parts.len() > MOST_SCALARS {
         return Err(misshapen(alloc));
@@ -130,7 +130,7 @@ fn value_of(scalar: Scalar) -> Value
 }
 
 pub fn value_in(alloc: Global, value: &Tree<'_>) -> Result<Value, PartError>
-    ensures { Gives (λ v. v) result (value_in (view value.now)) }
+    ensures { PartGives (λ v. v) result (value_in (view value.now)) }
 {
     match value.as_array() {
         Some(parts) => match list_in(alloc, parts) {

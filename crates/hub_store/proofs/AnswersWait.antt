@@ -3,7 +3,7 @@ use Rattle.std.proofs.Common.{◌≡◌, ℕ, zero, suc, ◌<◌, ◌≤◌, inl
 use Rattle.site_model.specs.History.{back_to}
 use Rattle.dura_value.specs.Items.{Entry}
 use Rattle.hub_store.specs.Trail.{Settled, Said, of_part, settling, settled_at}
-use Rattle.hub_store.specs.Moments.Told.{silent, settles as told_settles, says}
+use Rattle.hub_store.specs.Moments.SaidSoFar.{silent, settles as told_settles, says}
 use Rattle.hub_store.specs.Examples.{frame, settled_in, settled_when, request, answer, speaking, spoken, other_file, IsTold, Stand, StandWith, StandAlways}
 use Rattle.hub_store.proofs.Settling.{of_part-append, no_part}
 

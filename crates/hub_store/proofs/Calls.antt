@@ -2,7 +2,7 @@
 use Rattle.std.proofs.Common.{◌≡◌, ◌⊎◌, inl, inr, ℕ, List, [], ◌∷◌, ◌++◌, Result, Some, None, Ok, refl, sym, ◌∙◌, ap, subst, append_assoc}
 use Rattle.site_model.specs.History.{Change, wrote, synced, Step, on, changes_of, reads}
 use Rattle.site_model.specs.Calls.{Syncs}
-use Rattle.site_model.specs.Moments.{Always, Keeps, LeavesOnly}
+use Rattle.site_model.specs.Moments.{Always, ImageKeeps, LeavesOnly}
 use Rattle.site_model.proofs.Paths.{first, last, weaker, only_here, own_change}
 use Rattle.commit_log.specs.declared.header.Header.{Header}
 use Rattle.commit_log.specs.declared.states.Bodied.{Bodied}
@@ -26,7 +26,7 @@ use Rattle.part_files.specs.Kept.{decoded}
 use Rattle.hub_store.specs.Moments.{before_syncs, WroteGate}
 use Rattle.hub_store.specs.Origin.{Origin}
 use Rattle.hub_store.specs.Trail.{Settled, Said, of_part}
-use Rattle.hub_store.specs.Ways.{LogFits, WayFits, GoesOn, going_in}
+use Rattle.hub_store.specs.Ways.{LogFits, WayFits, WayGoesOn, going_in}
 use Rattle.hub_store.proofs.Payloads.{kept_payloads, decoded_more, synced_reads}
 use Rattle.hub_store.proofs.Standing.{OnLog, one_step}
 
@@ -53,7 +53,7 @@ module _ (MayFollow : List Settled → List Said → ℕ → List Entry → Type
   -- the frames are as they were
   without : (p : ℕ) (trail : List Settled) (told : List Said) (old steps : List Step) (payloads : List (List ℕ)) (gate : ℕ)
       → decoded first_gate (first_of (o.logs p).header) payloads ≡ Ok ((o.logs p).entries ++ of_part p trail)
-      → Keeps (o.logs p).file old (HasFrames (o.logs p).header payloads gate) steps → OnLog MayFollow MaySay o p trail told old steps
+      → ImageKeeps (o.logs p).file old (HasFrames (o.logs p).header payloads gate) steps → OnLog MayFollow MaySay o p trail told old steps
   without p trail told old steps payloads gate kept keeps = record {
     only = keeps.only;
     images = λ image left. inl (gate, kept_payloads (o.logs p).header payloads gate ((o.logs p).entries ++ of_part p trail) image (keeps.images image left) kept);
@@ -64,7 +64,7 @@ module _ (MayFollow : List Settled → List Said → ℕ → List Entry → Type
       → decoded first_gate (first_of (o.logs p).header) payloads ≡ Ok ((o.logs p).entries ++ of_part p trail)
       → decoded first_gate (first_of (o.logs p).header) (payloads ++ spell_frame going ∷ []) ≡ Ok ((o.logs p).entries ++ of_part p trail ++ going)
       → MayFollow trail told p going → WroteGate (o.logs p) (of_part p trail) (changes_of (o.logs p).file steps)
-      → Keeps (o.logs p).file old (HasFramesOrOneMore (o.logs p).header payloads (spell_frame going) gate next) steps → OnLog MayFollow MaySay o p trail told old steps
+      → ImageKeeps (o.logs p).file old (HasFramesOrOneMore (o.logs p).header payloads (spell_frame going) gate next) steps → OnLog MayFollow MaySay o p trail told old steps
   either_frames p trail told going old steps payloads gate next kept more follows written keeps = record {
     only = keeps.only;
     images = λ image left. elim (keeps.images image left) [
@@ -90,7 +90,7 @@ module _ (MayFollow : List Settled → List Said → ℕ → List Entry → Type
   fits_on p trail old new before way fits going stands = record {
     payloads = fits.payloads;
     kept = fits.kept;
-    next = subst (GoesOn (o.logs p).header fits.payloads ((o.logs p).entries ++ of_part p trail)) (sym going) fits.next;
+    next = subst (WayGoesOn (o.logs p).header fits.payloads ((o.logs p).entries ++ of_part p trail)) (sym going) fits.next;
     fits = stands;
   }
 
@@ -127,7 +127,7 @@ module _ (MayFollow : List Settled → List Said → ℕ → List Entry → Type
       let stands : WayFits file h fits.payloads (changes_of file new) way =
       subst (λ (f : ℕ). IsSynced (changes_of f old) h fits.payloads payload log.gate log.next → WayFits f h fits.payloads (changes_of f new) way) fits.fits.0 (after h fits.payloads) fits.fits.1 in
       let write = subst (λ (f : ℕ). (new ≡ on f (wrote log.gate 1 bytes) ∷ old) ⊎ (new ≡ old)) fits.fits.0 step in
-      let here : Keeps file old (HasFrames h fits.payloads log.gate) old = record { only = only_here file old; images = synced_images h fits.payloads payload log.gate log.next (changes_of file old) fits.fits.1 } in (
+      let here : ImageKeeps file old (HasFrames h fits.payloads log.gate) old = record { only = only_here file old; images = synced_images h fits.payloads payload log.gate log.next (changes_of file old) fits.fits.1 } in (
         one_step old new (on file (wrote log.gate 1 bytes)) write
             (without p trail told old old fits.payloads log.gate fits.kept here)
             (λ is. either_frames p trail told (entries_of frame) old new fits.payloads log.gate log.next fits.kept fits.next follows
@@ -211,8 +211,8 @@ module _ (MayFollow : List Settled → List Said → ℕ → List Entry → Type
           payloads = fits.payloads;
           kept = fits.kept;
           next = elim going [
-            | inl none ↦ subst (GoesOn h fits.payloads before) (sym none) tt
-            | inr some ↦ subst (GoesOn h fits.payloads before) (sym some) (decoded_more first_gate (first_of h) fits.payloads before (entries_of frame) (spell_frame (entries_of frame)) fits.kept again)
+            | inl none ↦ subst (WayGoesOn h fits.payloads before) (sym none) tt
+            | inr some ↦ subst (WayGoesOn h fits.payloads before) (sym some) (decoded_more first_gate (first_of h) fits.payloads before (entries_of frame) (spell_frame (entries_of frame)) fits.kept again)
           ];
           fits = stands;
         },

@@ -11,7 +11,7 @@ use Rattle.part_items.specs.Numbered.{place_at, life_at, next_entry_at, next_ent
 use Rattle.part_files.specs.Examples.{empty_log, taking, taking_log}
 use Rattle.part_files.specs.Kept.{entries_from, keeps, kept_in}
 use Rattle.hub_store.specs.Trail.{Settled, Said}
-use Rattle.hub_store.specs.Moments.Told.{silent, settles as told_settles, says}
+use Rattle.hub_store.specs.Moments.SaidSoFar.{silent, settles as told_settles, says}
 use Rattle.hub_store.specs.Examples.{frame, settled_when, request, answer, speaking, one_log, IsTold, Stand, StandWith}
 use Rattle.hub_store.specs.FieldExamples.{wrong_byte, IsNext, TakingFollows, NoneFollows, frame_opened, body_written, other_byte, HasNext, WroteBehind}
 

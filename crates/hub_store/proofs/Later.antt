@@ -1,8 +1,8 @@
 -- What stands where a call may commit less stands where it may commit more.
 use Rattle.std.proofs.Common.{inl, inr, ℕ, List, []}
 use Rattle.dura_value.specs.Items.{Entry}
-use Rattle.hub_store.specs.Moments.{Told, LeavesLog, StandsWith, Stands, AtEveryMoment}
-use Rattle.hub_store.specs.Moments.Told.{silent, settles, says}
+use Rattle.hub_store.specs.Moments.{SaidSoFar, LeavesLog, StandsWith, StoreStands, AtEveryMoment}
+use Rattle.hub_store.specs.Moments.SaidSoFar.{silent, settles, says}
 use Rattle.hub_store.specs.Origin.{Log, Origin}
 use Rattle.hub_store.specs.Runs.{Runs}
 use Rattle.hub_store.specs.Runs.Runs.{starts, steps_on, settles as run_settles}
@@ -14,7 +14,7 @@ use Rattle.std.specs.Prelude.{Bool}
 
 module _ (MayFollow Later : List Settled → List Said → ℕ → List Entry → Type 0) (MaySay : List Settled → List Said → Said → List ℕ → Type 0)
     (may : (trail : List Settled) (told : List Said) (partition : ℕ) (going : List Entry) → MayFollow trail told partition going → Later trail told partition going) where
-  told_later : {trail : List Settled} {told : List Said} {lines : List ℕ} → Told MayFollow MaySay trail told lines → Told Later MaySay trail told lines
+  told_later : {trail : List Settled} {told : List Said} {lines : List ℕ} → SaidSoFar MayFollow MaySay trail told lines → SaidSoFar Later MaySay trail told lines
   told_later silent = silent
   told_later (settles {trail} {told} before partition at going follows) = settles (told_later before) partition at going (may trail told partition going follows)
   told_later (says before one line say) = says (told_later before) one line say
@@ -32,7 +32,7 @@ module _ (MayFollow Later : List Settled → List Said → ℕ → List Entry �
     others = stands.others;
   }
 
-  pub stands_later : (o : Origin) (steps : List Step) (trail : List Settled) → Stands MayFollow MaySay o steps trail → Stands Later MaySay o steps trail
+  pub stands_later : (o : Origin) (steps : List Step) (trail : List Settled) → StoreStands MayFollow MaySay o steps trail → StoreStands Later MaySay o steps trail
   stands_later o steps trail here = record {
     told = here.told;
     part = here.part;
@@ -43,7 +43,7 @@ module _ (MayFollow Later : List Settled → List Said → ℕ → List Entry �
     ];
   }
 
-  runs_later : (o : Origin) {begin now : List Step} {trail : List Settled} → Runs (Stands MayFollow MaySay o) begin now trail → Runs (Stands Later MaySay o) begin now trail
+  runs_later : (o : Origin) {begin now : List Step} {trail : List Settled} → Runs (StoreStands MayFollow MaySay o) begin now trail → Runs (StoreStands Later MaySay o) begin now trail
   runs_later o (starts here) = starts (stands_later o _ _ here)
   runs_later o (steps_on step run here) = steps_on step (runs_later o run) (stands_later o _ _ here)
   runs_later o (run_settles more run at here) = run_settles more (runs_later o run) at (stands_later o _ _ here)

@@ -4,7 +4,7 @@ use Rattle.site_model.specs.History.{Change, wrote, synced, Leaves}
 use Rattle.commit_log.specs.Segment.{header_at, frame_at}
 use Rattle.part_files.specs.Examples.{empty_log}
 use Rattle.part_files.specs.Kept.{entries_from, broken, keeps, kept_in}
-use Rattle.hub_store.specs.Moments.Told.{silent}
+use Rattle.hub_store.specs.Moments.SaidSoFar.{silent}
 use Rattle.hub_store.specs.Examples.{settled_when, log_written, gate_opened, gate_synced, one_log, LogStands, GateWritten}
 
 nothing_kept : kept_in 0 empty_log ≡ keeps (one_log.logs 0).header [] 33

@@ -18,8 +18,8 @@ use Rattle.hub_store.specs.declared.way.Way.TheVariants.{Away}
 use Rattle.hub_store.specs.Origin.{Origin}
 use Rattle.hub_store.specs.Opened.{IsOrigin, HasBegun}
 use Rattle.hub_store.specs.Trail.{Settled, Said, of_part}
-use Rattle.hub_store.specs.Moments.{StandsWith, Stands}
-use Rattle.hub_store.specs.Moments.Told.{silent}
+use Rattle.hub_store.specs.Moments.{StandsWith, StoreStands}
+use Rattle.hub_store.specs.Moments.SaidSoFar.{silent}
 use Rattle.hub_store.specs.Runs.{Runs}
 use Rattle.hub_store.specs.Runs.Runs.{starts as run_starts}
 use Rattle.hub_store.specs.Sound.{IsTold, IsSound}
@@ -65,8 +65,8 @@ module _ (MayFollow : List Settled → List Said → ℕ → List Entry → Type
         others = λ file none. ap (changes_of file) begun.now;
       } in
       record {
-        runs = subst (λ (now : List Step). Runs (Stands MayFollow MaySay o) o.steps now []) (sym begun.now)
-            (run_starts (subst (λ (now : List Step). Stands MayFollow MaySay o now []) begun.now (record { told = []; part = []; stands = stands; speaking = inl refl })));
+        runs = subst (λ (now : List Step). Runs (StoreStands MayFollow MaySay o) o.steps now []) (sym begun.now)
+            (run_starts (subst (λ (now : List Step). StoreStands MayFollow MaySay o now []) begun.now (record { told = []; part = []; stands = stands; speaking = inl refl })));
         logs = fits;
         rests = λ going. stands;
       }

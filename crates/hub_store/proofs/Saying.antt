@@ -10,8 +10,8 @@ use Rattle.dura_value.specs.Items.{Entry}
 use Rattle.hub_store.specs.declared.way.Way.{Way}
 use Rattle.hub_store.specs.Origin.{Log, Origin}
 use Rattle.hub_store.specs.Trail.{Settled, Said, of_part}
-use Rattle.hub_store.specs.Moments.{IsSpeaking, IsFront, LeavesLog, StandsWith, Stands}
-use Rattle.hub_store.specs.Moments.Told.{says}
+use Rattle.hub_store.specs.Moments.{IsSpeaking, IsPrefix, LeavesLog, StandsWith, StoreStands}
+use Rattle.hub_store.specs.Moments.SaidSoFar.{says}
 use Rattle.hub_store.specs.Ways.{LogFits, way_of}
 use Rattle.hub_store.specs.Sound.{IsTold}
 use Rattle.hub_store.proofs.EveryMoment.{runs_along}
@@ -21,7 +21,7 @@ record SaysPart (line : List ℕ) (old steps : List Step) : Type 0 where
   files : (file : ℕ) → changes_of file steps ≡ changes_of file old
   part : List ℕ
   spoken : tape steps ≡ tape old ++ part
-  front : IsFront part line
+  front : IsPrefix part line
   whole : (part ≡ []) ⊎ IsSpeaking steps
 
 always_saying : (bytes rest done line : List ℕ) (old mid : List Step) → line ≡ done ++ (bytes ++ rest) → ((file : ℕ) → changes_of file mid ≡ changes_of file old) → tape mid ≡ tape old ++ done
@@ -51,7 +51,7 @@ behind base lines part = ap (λ (l : List ℕ). l ++ part) (append-nil (base ++ 
 module _ (MayFollow : List Settled → List Said → ℕ → List Entry → Type 0) (MaySay : List Settled → List Said → Said → List ℕ → Type 0) (o : Origin) (still : (trail more : List Settled) (told also : List Said) (partition : ℕ) (going : List Entry) → of_part partition more ≡ [] → MayFollow trail told partition going → MayFollow (trail ++ more) (told ++ also) partition going) where
   -- while the line is being said
   stands_saying : (trail : List Settled) (told : List Said) (one : Said) (line : List ℕ) (old steps : List Step) → MaySay trail told one line → StandsWith MayFollow MaySay o old trail told []
-      → SaysPart line old steps → Stands MayFollow MaySay o steps trail
+      → SaysPart line old steps → StoreStands MayFollow MaySay o steps trail
   stands_saying trail told one line old steps may stood here = record {
     told = told;
     part = here.part;

@@ -24,7 +24,7 @@ use Rattle.part_files.specs.Kept.{decoded}
 use Rattle.hub_store.specs.Origin.{Origin, AreApart}
 use Rattle.hub_store.specs.Trail.{Settled, Said, of_part, settling}
 use Rattle.hub_store.specs.Moments.{WroteGate, LeavesLog, StandsWith}
-use Rattle.hub_store.specs.Moments.Told.{settles as told_settles}
+use Rattle.hub_store.specs.Moments.SaidSoFar.{settles as told_settles}
 use Rattle.hub_store.specs.Runs.Runs.{settles as run_settles}
 use Rattle.hub_store.specs.Ways.{LogFits, way_of}
 use Rattle.hub_store.specs.Sound.{IsTold}

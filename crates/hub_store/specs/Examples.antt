@@ -6,7 +6,7 @@ use Rattle.dura_value.specs.Items.{Entry}
 use Rattle.part_files.specs.Examples.{digest, empty_log}
 use Rattle.hub_store.specs.Origin.{no_entry, Origin}
 use Rattle.hub_store.specs.Trail.{Settled, Said}
-use Rattle.hub_store.specs.Moments.{WroteGate, Told, StandsWith, Stands, AtEveryMoment}
+use Rattle.hub_store.specs.Moments.{WroteGate, SaidSoFar, StandsWith, StoreStands, AtEveryMoment}
 
 abbrev pub nowhere : Origin
 nowhere = record {
@@ -54,10 +54,10 @@ abbrev pub other_file : List Step
 other_file = on 3 synced ∷ []
 
 abbrev pub IsTold : List Settled → List Said → List ℕ → Type 0
-IsTold = Told MayFollow MaySay
+IsTold = SaidSoFar MayFollow MaySay
 
 abbrev pub Stand : List Step → List Settled → Type 0
-Stand = Stands MayFollow MaySay nowhere
+Stand = StoreStands MayFollow MaySay nowhere
 
 abbrev pub StandWith : List Step → List Settled → List Said → List ℕ → Type 0
 StandWith = StandsWith MayFollow MaySay nowhere

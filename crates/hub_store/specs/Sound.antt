@@ -8,7 +8,7 @@ use Rattle.dura_value.specs.Items.{Entry}
 use Rattle.hub_store.specs.Origin.{Origin, AreApart}
 use Rattle.hub_store.specs.Trail.{Settled, Said, of_part}
 use Rattle.hub_store.specs.Plain.{trail_of, told_of}
-use Rattle.hub_store.specs.Moments.{Stands, StandsWith}
+use Rattle.hub_store.specs.Moments.{StoreStands, StandsWith}
 use Rattle.hub_store.specs.Runs.{Runs}
 use Rattle.hub_store.specs.Short.{KeepsShort}
 use Rattle.hub_store.specs.Ways.{way_of, due_in, LogFits}
@@ -20,7 +20,7 @@ use Rattle.hub_store.specs.declared.store.Store.{Store}
 module _ (MayFollow : List Settled → List Said → ℕ → List Entry → Type 0) (MaySay : List Settled → List Said → Said → List ℕ → Type 0) (o : Origin) where
   -- History and trail grew together, and each log stands as its way says. Where no line was cut, whole lines were said.
   pub record IsTold (now : List Step) (ways : List Way) (trail : List Settled) (told : List Said) (cut : Bool) : Type 0 where
-    pub runs : Runs (Stands MayFollow MaySay o) o.steps now trail
+    pub runs : Runs (StoreStands MayFollow MaySay o) o.steps now trail
     pub logs : (partition : ℕ) → partition < o.count → LogFits (o.logs partition) (of_part partition trail) (changes_of (o.logs partition).file now) (way_of ways partition)
     pub rests : cut ≡ false → StandsWith MayFollow MaySay o now trail told []
 

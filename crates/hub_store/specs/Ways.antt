@@ -69,13 +69,13 @@ WayFits file h payloads changes (Broken log frame) = (log.file ≡ file) × IsBr
 WayFits file h payloads changes Away = ⊥
 
 -- with the frame that is under way these payloads keep its entries too
-abbrev pub GoesOn : Header → List (List ℕ) → List Entry → Option (List Entry) → Type 0
-GoesOn h payloads entries None = Unit {0}
-GoesOn h payloads entries (Some going) = decoded first_gate (first_of h) (payloads ++ spell_frame going ∷ []) ≡ Ok (entries ++ going)
+abbrev pub WayGoesOn : Header → List (List ℕ) → List Entry → Option (List Entry) → Type 0
+WayGoesOn h payloads entries None = Unit {0}
+WayGoesOn h payloads entries (Some going) = decoded first_gate (first_of h) (payloads ++ spell_frame going ∷ []) ≡ Ok (entries ++ going)
 
 -- a log, where these entries are settled in this call: its payloads keep what it had and these
 pub record LogFits (log : Log) (entries : List Entry) (changes : List Change) (way : Way) : Type 0 where
   pub payloads : List (List ℕ)
   pub kept : decoded first_gate (first_of log.header) payloads ≡ Ok (log.entries ++ entries)
-  pub next : GoesOn log.header payloads (log.entries ++ entries) (going_in way)
+  pub next : WayGoesOn log.header payloads (log.entries ++ entries) (going_in way)
   pub fits : WayFits log.file log.header payloads changes way

@@ -6,7 +6,7 @@ use Rattle.json.specs.Json.{Parse, parse_map, after_end_array, items}
 use Rattle.json.proofs.Grammar.{items_end, items_fail, items_more}
 use Rattle.serde_json.specs.Data.{Data, Items, no_items, item}
 use Rattle.serde_json.specs.Read.{converted, of_items, of_json}
-use Rattle.json_tree.specs.Answers.{Fails}
+use Rattle.json_tree.specs.Answers.{TreeFails}
 use Rattle.json_tree.specs.Tokens.{data_in, items_in}
 use Rattle.json_tree.specs.View.{items_view, view}
 use Rattle.json_tree.specs.declared.reading.ReadError.{ReadError}
@@ -87,7 +87,7 @@ ends whole levels done ts rest leads over =
     leads.2 ∙ ap (λ o. parse_map (before done) (converted of_items o)) (items_end (json.value levels) leads.0 ts rest leads.1 over) ∙ ap (λ ds. Some (ds, rest)) (before_none done)
 
 -- what comes next is no item
-pub fails : (whole : Option (Items × List Token)) (levels : ℕ) (done : List Tree) (ts : List Token) (error : ReadError) → LeadTo whole levels done ts → after_end_array ts ≡ None → Fails error (data_in levels ts) → Fails error whole
+pub fails : (whole : Option (Items × List Token)) (levels : ℕ) (done : List Tree) (ts : List Token) (error : ReadError) → LeadTo whole levels done ts → after_end_array ts ≡ None → TreeFails error (data_in levels ts) → TreeFails error whole
 unfolding LeadTo
 fails whole levels done ts NotJson leads open_still none = leads.2 ∙ ap (parse_map (before done)) (refused_at (json.value levels) leads.0 ts _ refl open_still none)
 fails whole levels done ts Memory leads open_still none = tt

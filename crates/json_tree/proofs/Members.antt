@@ -9,7 +9,7 @@ use Rattle.json.specs.Json.{Parse, parse_map, read_key, members}
 use Rattle.json.proofs.Grammar.{members_end, members_fail, members_more, members_no_key, read_key-shorter}
 use Rattle.serde_json.specs.Data.{Data, Members, put}
 use Rattle.serde_json.specs.Read.{converted, of_json, of_members}
-use Rattle.json_tree.specs.Answers.{Fails}
+use Rattle.json_tree.specs.Answers.{TreeFails}
 use Rattle.json_tree.specs.Tokens.{data_in, members_in}
 use Rattle.json_tree.specs.View.{members_view, view}
 use Rattle.json_tree.specs.declared.reading.ReadError.{ReadError}
@@ -95,7 +95,7 @@ unfolding LeadTo
 no_key whole levels done ts leads none = leads.2 ∙ ap (converted (λ ms. of_members ms (members_view done))) (members_no_key (json.value levels) leads.0 ts none)
 
 -- what stands under the key is no value
-pub fails : (whole : Option (Members × List Token)) (levels : ℕ) (done : List Entry) (key : List ℕ) (ts behind : List Token) (error : ReadError) → LeadTo whole levels done ts → read_key ts ≡ Some (Some key, behind) → Fails error (data_in levels behind) → Fails error whole
+pub fails : (whole : Option (Members × List Token)) (levels : ℕ) (done : List Entry) (key : List ℕ) (ts behind : List Token) (error : ReadError) → LeadTo whole levels done ts → read_key ts ≡ Some (Some key, behind) → TreeFails error (data_in levels behind) → TreeFails error whole
 unfolding LeadTo
 fails whole levels done key ts behind NotJson leads named none = leads.2 ∙ refused_at (json.value levels) leads.0 (members_view done) key ts behind _ refl named none
 fails whole levels done key ts behind Memory leads named none = tt

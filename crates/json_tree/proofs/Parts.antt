@@ -10,7 +10,7 @@ use Rattle.json.specs.Json.{Parse, parse_map}
 use Rattle.json.proofs.Grammar.{value_is, value-begin_array, value-begin_object}
 use Rattle.serde_json.specs.Data.{array, object, no_members}
 use Rattle.serde_json.specs.Read.{converted, of_items, of_json, of_members}
-use Rattle.json_tree.specs.Answers.{Fails, Finds, Takes}
+use Rattle.json_tree.specs.Answers.{TreeFails, Finds, Takes}
 use Rattle.json_tree.specs.Tokens.{data_in, items_in, leaf, members_in}
 use Rattle.json_tree.specs.View.{items_view, members_view, view}
 use Rattle.json_tree.specs.declared.reading.ReadError.{ReadError}
@@ -111,6 +111,6 @@ pub view_of_object : (v : Bor (List (Bor (List ℕ) × Tree))) → view (Object 
 view_of_object v = search (rules, the_lemmas)
 
 -- a refusal of the inside is one of the whole
-pub fails_around : {A B : Type 0} (f : A → B) (inside : Option (A × List Token)) (whole : Option (B × List Token)) (error : ReadError) → whole ≡ parse_map f inside → Fails error inside → Fails error whole
+pub fails_around : {A B : Type 0} (f : A → B) (inside : Option (A × List Token)) (whole : Option (B × List Token)) (error : ReadError) → whole ≡ parse_map f inside → TreeFails error inside → TreeFails error whole
 fails_around f inside whole NotJson is none = rw (is, none) refl
 fails_around f inside whole Memory is none = tt

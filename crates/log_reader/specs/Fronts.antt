@@ -10,9 +10,9 @@ use Rattle.log_reader.specs.declared.reader.FrameError.TheVariants as unread
 use Rattle.log_reader.specs.Frames.{fresh, damaged, headed, opening_of, closed, wrong, found_at, HasRead}
 
 -- what a step of reading returned, seen by view, is what the definition gives
-abbrev pub Gives : {X Y : Type 0} → (X → Y) → Result X ℕ → Result Y ℕ → Type 0
-Gives view (Ok x) wanted = wanted ≡ Ok (view x)
-Gives view (Err offset) wanted = wanted ≡ Err offset
+abbrev pub FrontGives : {X Y : Type 0} → (X → Y) → Result X ℕ → Result Y ℕ → Type 0
+FrontGives view (Ok x) wanted = wanted ≡ Ok (view x)
+FrontGives view (Err offset) wanted = wanted ≡ Err offset
 
 -- an open gate, this length, and the rest
 pub record BeginsFrame (bytes : List ℕ) (size : ℕ) : Type 0 where

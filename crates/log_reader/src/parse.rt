@@ -3,7 +3,7 @@ ghost use Rattle.std.specs.Prelude.{◌≡◌, ◌+◌, ◌++◌, ◌<◌, ◌^�
 ghost use Rattle.std.specs.Int.{w32, w64, to_be_bytes};
 ghost use Rattle.commit_log.specs.Segment.{header_bytes, constant_at, number_at, FitsHeader};
 ghost use Rattle.log_reader.specs.Frames.{header_for};
-ghost use Rattle.log_reader.specs.Fronts.{Gives, SaysGate, SaysHeader};
+ghost use Rattle.log_reader.specs.Fronts.{FrontGives, SaysGate, SaysHeader};
 
 use crate::reader::{FrameError, OpenError};
 use commit_log::Header;
@@ -21,7 +21,7 @@ const SIGNATURE: [u8; 8] = *b"NETHLOG\x01";
 // missing.
 
 fn u32_at(at: u64, bytes: &[u8]) -> Result<(u32, &[u8]), u64>
-    ensures gives { Gives (λ x. (x.0, x.1.now)) result (number_at w32 at bytes.now) }
+    ensures gives { FrontGives (λ x. (x.0, x.1.now)) result (number_at w32 at bytes.now) }
     ensures spelled { IfOk result (λ x. bytes.now ≡ to_be_bytes w32 x.0 ++ x.1.now) }
     ensures short { OnErr result (length bytes.now < 4) }
 {
@@ -34,7 +34,7 @@ fn u32_at(at: u64, bytes: &[u8]) -> Result<(u32, &[u8]), u64>
 }
 
 fn u64_at(at: u64, bytes: &[u8]) -> Result<(u64, &[u8]), u64>
-    ensures gives { Gives (λ x. (x.0, x.1.now)) result (number_at w64 at bytes.now) }
+    ensures gives { FrontGives (λ x. (x.0, x.1.now)) result (number_at w64 at bytes.now) }
     ensures spelled { IfOk result (λ x. bytes.now ≡ to_be_bytes w64 x.0 ++ x.1.now) }
 {
     if bytes.len() < 8 {
@@ -49,7 +49,7 @@ fn u64_at(at: u64, bytes: &[u8]) -> Result<(u64, &[u8]), u64>
 
 fn read_constant<'a>(wanted: &[u8], at: u64, bytes: &'a [u8]) -> Result<&'a [u8], u64>
     requires { at + length wanted.now < 2 ^ 64 }
-    ensures gives { Gives (λ x. x.now) result (constant_at wanted.now at bytes.now) }
+    ensures gives { FrontGives (λ x. x.now) result (constant_at wanted.now at bytes.now) }
     ensures spelled { IfOk result (λ x. bytes.now ≡ wanted.now ++ x.now) }
 {
     let mut at = at;
@@ -72,7 +72,7 @@ fn read_constant<'a>(wanted: &[u8], at: u64, bytes: &'a [u8]) -> Result<&'a [u8]
 /// The header of this partition's log.
 #[tactic(auto, unfolding(commit_log::specs::Segment::header_at))]
 fn read_header(partition: u32, bytes: &[u8]) -> Result<(Header, &[u8]), u64>
-    ensures gives { Gives (λ x. (x.0, x.1.now)) result (header_for partition bytes.now) }
+    ensures gives { FrontGives (λ x. (x.0, x.1.now)) result (header_for partition bytes.now) }
     ensures spelled { IfOk result (λ x. bytes.now ≡ header_bytes x.0 ++ x.1.now) }
     ensures fits { IfOk result (λ x. FitsHeader x.0) }
 {

@@ -6,13 +6,13 @@ use Rattle.dura_model.specs.Partition.{Partition, fresh}
 use Rattle.dura_model.proofs.Kept.{fresh_shown}
 use Rattle.part_files.specs.Logs.{logs_in, entries_in}
 use Rattle.part_files.specs.Placing.{placed, labels_in, AllGiven}
-use Rattle.part_files.specs.Stands.{alone_with, Stands}
+use Rattle.part_files.specs.Stands.{alone_with, FilesStand}
 use Rattle.part_files.proofs.Alone.{are_shown_alone}
 use Rattle.part_files.proofs.EntriesLead.{entries_lead}
 use Rattle.part_files.proofs.LogsNumbered.{entries_numbered}
 
 pub labels_stand : (flows : Flows) (digest : ℕ) (files : ℕ → List ℕ) (entries : List Entry) (q : Partition) → entries_in (logs_in (alone_with digest) files) ≡ Some entries → placed flows 1 (fresh 0) entries ≡ Ok q
-    → AllGiven flows 1 (fresh 0) entries → Stands flows digest files (labels_in entries)
+    → AllGiven flows 1 (fresh 0) entries → FilesStand flows digest files (labels_in entries)
 labels_stand flows digest files entries q kept all given = record {
   entries = entries;
   kept = kept;

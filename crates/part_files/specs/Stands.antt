@@ -19,7 +19,7 @@ shown_by flows p = shown flows 1 (λ place. p)
 
 -- The files stand for a run: their log has entries, all of them are accepted one after another, and the state that they make
 -- shows the world after that run, which is legal.
-pub record Stands (flows : Flows) (digest : ℕ) (files : ℕ → List ℕ) (run : List Label) : Type 0 where
+pub record FilesStand (flows : Flows) (digest : ℕ) (files : ℕ → List ℕ) (run : List Label) : Type 0 where
   pub entries : List Entry
   pub kept : entries_in (logs_in (alone_with digest) files) ≡ Some entries
   pub state : Partition

@@ -7,7 +7,7 @@ ghost use Rattle.dura_model.specs.Partition.{fresh};
 ghost use Rattle.dura_model.specs.Steps.{Label, take};
 ghost use Rattle.part_files.specs.Examples.{digest, empty_log, two_files, AreLogs, AreAsked, good_logs, damaged_logs, other_logs, request, taking, request_taken, taking_log, frame_logs};
 ghost use Rattle.part_files.specs.Placing.{placed};
-ghost use Rattle.part_files.specs.Stands.{Stands};
+ghost use Rattle.part_files.specs.Stands.{FilesStand};
 
 /// Logs without entries.
 pub fn empty_logs()
@@ -30,7 +30,7 @@ pub fn requests_taken()
 /// A log without entries stands for the run of no label, and one where a request was taken for the run of its label. Files that
 /// are refused stand for none.
 pub fn files_stand()
-    ensures empty { (flows : Flows) → Stands flows digest (two_files empty_log []) [] }
-    ensures taken { (flows : Flows) → Stands flows digest (two_files taking_log []) (take request.from 1 request ∷ []) }
-    ensures refused { (flows : Flows) (run : List Label) → Stands flows digest (two_files (slice_set empty_log 3 0) []) run → ⊥ }
+    ensures empty { (flows : Flows) → FilesStand flows digest (two_files empty_log []) [] }
+    ensures taken { (flows : Flows) → FilesStand flows digest (two_files taking_log []) (take request.from 1 request ∷ []) }
+    ensures refused { (flows : Flows) (run : List Label) → FilesStand flows digest (two_files (slice_set empty_log 3 0) []) run → ⊥ }
 {}

@@ -16,7 +16,7 @@ ghost use Rattle.log_reader.specs.Frames.{closed, frame, wrong, found_at};
 ghost use Rattle.part_files.specs.Kept.{nothing, keeps, in_file, left_from, first_of, kept_in, decoded};
 ghost use Rattle.part_files.specs.Logs.{Asked, logs_in, entries_in};
 ghost use Rattle.part_files.specs.Placing.{state_next, placed, next_life, labels_in, AllGiven};
-ghost use Rattle.part_files.specs.Stands.{alone_with, shown_by, Stands};
+ghost use Rattle.part_files.specs.Stands.{alone_with, shown_by, FilesStand};
 
 /// Entries that are accepted one after another make of the world that the one partition shows what their labels do, where each
 /// outcome is one that its activity may give; and the log goes on behind them.
@@ -75,5 +75,5 @@ pub fn logs_are_numbered()
 /// may give.
 pub fn labels_stand()
     ensures { (flows : Flows) (digest : ℕ) (files : ℕ → List ℕ) (entries : List Entry) (q : Partition) → entries_in (logs_in (alone_with digest) files) ≡ Some entries → placed flows 1 (fresh 0) entries ≡ Ok q
-        → AllGiven flows 1 (fresh 0) entries → Stands flows digest files (labels_in entries) }
+        → AllGiven flows 1 (fresh 0) entries → FilesStand flows digest files (labels_in entries) }
 {}

@@ -5,7 +5,7 @@ use Rattle.std.specs.Int.{w16, w64}
 use Rattle.dura_value.specs.declared.faults.ReadError.{ReadError}
 use Rattle.dura_value.specs.Items.{Entry}
 use Rattle.dura_value.specs.Limits.{number_limit}
-use Rattle.dura_value.specs.Reading.{◌>>=◌, Fails}
+use Rattle.dura_value.specs.Reading.{◌>>=◌, ReadFails}
 use Rattle.dura_codec.specs.declared.fields.FieldError.{FieldError}
 use Rattle.dura_codec.specs.declared.fields.FieldError.TheVariants.{Bad, Memory}
 use Rattle.dura_codec.specs.Fields.{Read, Stops, number_at, count_at, fault_in}
@@ -30,7 +30,7 @@ unfolding next_entries_at
 first_of next left bytes rest after entry h = rw h (in_front bytes entry (next_entries_at (behind entry) left after))
 
 -- where it can't be read there is a fault
-pub first_stops : (next : Next) (left : ℕ) (bytes rest : List ℕ) (e : FieldError) → 0 < left → Stops e (next_entry_at next rest) → Fails (fault_in bytes e) (to_come next left bytes rest)
+pub first_stops : (next : Next) (left : ℕ) (bytes rest : List ℕ) (e : FieldError) → 0 < left → Stops e (next_entry_at next rest) → ReadFails (fault_in bytes e) (to_come next left bytes rest)
 unfolding next_entries_at
 first_stops next zero bytes rest e some h = absurd (omega (arith, some))
 first_stops next (suc left) bytes rest Memory some h = tt
@@ -52,7 +52,7 @@ pub begun : (next : Next) (bytes : List ℕ) (count : ℕ) (rest : List ℕ) →
 unfolding next_frame_at
 begun next bytes count rest h = rw h refl
 
-pub not_begun : (next : Next) (bytes : List ℕ) (e : FieldError) → Stops e (members_at bytes) → Fails (fault_in bytes e) (next_frame_in next bytes)
+pub not_begun : (next : Next) (bytes : List ℕ) (e : FieldError) → Stops e (members_at bytes) → ReadFails (fault_in bytes e) (next_frame_in next bytes)
 unfolding next_frame_at
 not_begun next bytes Memory h = tt
 not_begun next bytes (Bad place) h = rw h refl
@@ -144,5 +144,5 @@ at_end next zero bytes rest (Ok None) none ok err = (none_left next bytes rest o
 at_end next zero bytes rest (Ok (Some entry)) none ok err = absurd (cc ok.0)
 at_end next zero bytes rest (Err error) none ok err =
     let is : error ≡ fault_in bytes (Bad (length rest)) = cc err.1 in
-    (subst (λ (e : ReadError). Fails e (to_come next 0 bytes rest)) (sym is) (some_left next bytes rest err.0), refl)
+    (subst (λ (e : ReadError). ReadFails e (to_come next 0 bytes rest)) (sym is) (some_left next bytes rest err.0), refl)
 at_end next (suc left) bytes rest result none ok err = absurd (cc none)

@@ -3,7 +3,7 @@ use Rattle.std.specs.Prelude.{◌≡◌, ℕ, ◌+◌, ◌≤◌, ◌<◌, List,
 use Rattle.dura_value.specs.declared.faults.ReadError.{ReadError}
 use Rattle.dura_value.specs.Items.{Entry}
 use Rattle.dura_value.specs.Limits.{number_limit}
-use Rattle.dura_value.specs.Reading.{◌>>=◌, Fails}
+use Rattle.dura_value.specs.Reading.{◌>>=◌, ReadFails}
 use Rattle.part_items.specs.declared.frames.Entry as read
 use Rattle.part_items.specs.Grammar.{alone, whole}
 use Rattle.part_items.specs.Numbered.{Next, behind, next_entries_at, next_frame_in}
@@ -23,7 +23,7 @@ to_come next left bytes rest = whole bytes (next_entries_at next left rest >>= �
 -- the entries of a log's next frame are to come, of which there are 64 at most, unless memory ran out
 abbrev pub Begins : Next → List ℕ → Result Coming ReadError → Type 0
 Begins next bytes (Ok coming) = (coming.next ≡ next) × (coming.left ≤ most_members) × (coming.entries ≡ next_frame_in next bytes)
-Begins next bytes (Err error) = Fails error (next_frame_in next bytes)
+Begins next bytes (Err error) = ReadFails error (next_frame_in next bytes)
 
 -- an entry stands where the log goes on, is of no earlier life, and its numbers are below their limit
 abbrev pub IsNext : Next → Entry → Type 0
@@ -40,4 +40,4 @@ pub record IsFirst (old : Coming) (entry : Entry) (new : Coming) : Type 0 where
 abbrev pub ReadsNext : (old new : Coming) → Result (Option read.Entry) ReadError → Type 0
 ReadsNext old new (Ok (Some entry)) = IsFirst old (entry_of entry) new
 ReadsNext old new (Ok None) = (old.entries ≡ Ok []) × (new ≡ old)
-ReadsNext old new (Err error) = Fails error old.entries × (new ≡ old)
+ReadsNext old new (Err error) = ReadFails error old.entries × (new ≡ old)

@@ -1,7 +1,7 @@
 //! Items, entries and frames from bytes.
 
 ghost use Rattle.std.specs.Prelude.{◌≡◌};
-ghost use Rattle.dura_value.specs.Reading.{Gives};
+ghost use Rattle.dura_value.specs.Reading.{ReadGives};
 ghost use Rattle.dura_codec.specs.Fields.{Takes, several_at, fault_in};
 ghost use Rattle.part_items.specs.Plain.{item_of, items_of, entry_of, entries_of};
 ghost use Rattle.part_items.specs.Grammar.{took_at, got_at, ran_at, done_at, fired_at, trim_at, item_at, members_at, entry_items_at, entry_at, alone, frame_at, frame_in};
@@ -204,7 +204,7 @@ pub(crate) fn at_offset(error: FieldError, bytes: &[u8]) -> ReadError
 
 /// The frame that these bytes are, all of them.
 pub fn read_frame(alloc: Global, bytes: &[u8]) -> Result<Frame, ReadError>
-    ensures { Gives entries_of result (frame_in bytes.now) }
+    ensures { ReadGives entries_of result (frame_in bytes.now) }
 {
     match take_frame(alloc, bytes) {
         Ok((frame, _)) => Ok(frame),

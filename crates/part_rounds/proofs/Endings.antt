@@ -22,7 +22,7 @@ use Rattle.part_files.specs.Placing.{all_accepted}
 use Rattle.part_items.specs.Plain.{item_of, items_of}
 use Rattle.part_items.specs.declared.items.Item.{Item as OwnItem}
 use Rattle.part_steps.specs.States.{state_of}
-use Rattle.part_rounds.specs.Fills.{GoesOn, Puts, IsOfPending, CantEnd}
+use Rattle.part_rounds.specs.Fills.{FillsOn, Puts, IsOfPending, CantEnd}
 use Rattle.part_rounds.specs.declared.filling.Filling.{Filling}
 use Rattle.part_rounds.proofs.Puttings.{longer_by, puts_goes_on}
 use Rattle.run_rules.specs.Rules.{Rules, Told, IsAsked, EndsPending}
@@ -108,7 +108,7 @@ makes_first flows from p items empty made =
     let first : Some from ≡ Some p = subst (λ (l : List OwnItem). all_accepted flows 1 from (items_of l) ≡ Some p) empty made in cc first
 
 -- it may come first in an entry
-pub ended_goes_on : (rules : Rules) (told : Told) (flows : Flows) (old new : Filling) (item : OwnItem) → rules.flows ≡ flows → old.items.items ≡ [] → Puts flows old item new → IsOfPending (state_of old.state) (item_of item) → GoesOn rules told old new
+pub ended_goes_on : (rules : Rules) (told : Told) (flows : Flows) (old new : Filling) (item : OwnItem) → rules.flows ≡ flows → old.items.items ≡ [] → Puts flows old item new → IsOfPending (state_of old.state) (item_of item) → FillsOn rules told old new
 ended_goes_on rules told flows old new item same empty puts pending =
     puts_goes_on rules told flows old new item same puts (pending_given (state_of old.state) (item_of item) pending) (pending_asked rules told (state_of old.state) (item_of item) pending)
     (λ from fills. pending_there (state_of old.state) from (item_of item) (makes_first rules.flows from (state_of old.state) old.items.items empty fills.accepted) pending)

@@ -25,7 +25,7 @@ use Rattle.part_items.specs.Numbered.{Next, IsNumbered, behind, behind_all}
 use Rattle.run_rules.specs.Rules.{Rules, Told, IsOurs, EndsPending, Follows}
 use Rattle.part_rounds.specs.Comes.{count_labels}
 use Rattle.part_rounds.specs.Fills.{Fills}
-use Rattle.part_rounds.specs.Rounds.{entry_at, Stands, IsTimely, IsFilled}
+use Rattle.part_rounds.specs.Rounds.{entry_at, StateStands, IsTimely, IsFilled}
 use Rattle.part_rounds.proofs.Moments.{items_by}
 use Rattle.run_rules.proofs.Going.{followed_made, by_later}
 
@@ -71,7 +71,7 @@ module _ (flows : Flows) where
       ap (λ (label : Option Label). length (and_label label (labels_of items))) is.labelled ∙ ap suc rest
 
 -- the state behind one entry more
-module _ (rules : Rules) (log : Log) (settled : List Entry) (p : Partition) (stands : Stands rules log settled p) where
+module _ (rules : Rules) (log : Log) (settled : List Entry) (p : Partition) (stands : StateStands rules log settled p) where
   -- the entry stands where the log goes on
   pub entry_numbered : (items : List Item) → IsNumbered (goes_on log settled) (entry_at rules p items ∷ [])
   entry_numbered items = (sym stands.place, stands.follows, tt)
@@ -91,7 +91,7 @@ module _ (rules : Rules) (log : Log) (settled : List Entry) (p : Partition) (sta
   pub place_behind : (told : Told) (items : List Item) (q : Partition) → Fills rules told (enter rules.life p) items q → q.position ≡ p.position + 1
   place_behind told items q fills = ap (λ (n : Next). n.position) (leads_on told items q fills).1
 
-  pub stands_behind : (told : Told) (items : List Item) (q : Partition) → Fills rules told (enter rules.life p) items q → Stands rules log (settled ++ entry_at rules p items ∷ []) q
+  pub stands_behind : (told : Told) (items : List Item) (q : Partition) → Fills rules told (enter rules.life p) items q → StateStands rules log (settled ++ entry_at rules p items ∷ []) q
   unfolding filled_follows
   stands_behind told items q fills =
       let entry = entry_at rules p items in
@@ -132,8 +132,8 @@ module _ (rules : Rules) (log : Log) (latest : ℕ) (settled : List Entry) (told
       })
       (subst (λ (e : Entry). IsNumbered (goes_on log settled) (e ∷ [])) same_entry (entry_numbered rules log settled filled.before filled.stands items))
 
-  pub stands_after : Stands rules log (settled ++ record { position = position; incarnation = life; items = items } ∷ []) filled.after
-  stands_after = subst (λ (e : Entry). Stands rules log (settled ++ e ∷ []) filled.after) same_entry (stands_behind rules log settled filled.before filled.stands told items filled.after filled.fills)
+  pub stands_after : StateStands rules log (settled ++ record { position = position; incarnation = life; items = items } ∷ []) filled.after
+  stands_after = subst (λ (e : Entry). StateStands rules log (settled ++ e ∷ []) filled.after) same_entry (stands_behind rules log settled filled.before filled.stands told items filled.after filled.fills)
 
   pub place_after : filled.after.position ≡ position + 1
   place_after = place_behind rules log settled filled.before filled.stands told items filled.after filled.fills ∙ ap (λ (n : ℕ). n + 1) (sym filled.position_is)

@@ -8,7 +8,7 @@ use Rattle.hub_store.specs.Origin.{Log}
 use Rattle.hub_store.specs.declared.stop.Stop.{Stop}
 use Rattle.hub_store.specs.declared.stop.Stop.TheVariants.{Memory, Spent}
 use Rattle.part_rounds.specs.Further.{IsPending, GoesFurther}
-use Rattle.part_rounds.specs.Rounds.{IsFilled, Stands}
+use Rattle.part_rounds.specs.Rounds.{IsFilled, StateStands}
 use Rattle.part_rounds.specs.Commits.{IsFull, IsSpent}
 use Rattle.part_files.specs.Placing.{placed}
 use Rattle.part_rounds.specs.Fills.{Fills}
@@ -61,7 +61,7 @@ full_wider rules few limit latest settled told segment way partition length_then
     record { alone = full.alone; entry = full.entry; some = full.some; few = omega (arith, no_more, wider); follows = full.follows; length_is = full.length_is; reaches = full.reaches; further = full.further }
 
 -- what can be filled goes further
-pub fills_further : (rules : Rules) (log : Log) (settled : List Entry) (told : Told) (before after : Partition) (items : List Item) → Stands rules log settled before → Fills rules told (enter rules.life before) items after → 0 < length items → GoesFurther rules settled told
+pub fills_further : (rules : Rules) (log : Log) (settled : List Entry) (told : Told) (before after : Partition) (items : List Item) → StateStands rules log settled before → Fills rules told (enter rules.life before) items after → 0 < length items → GoesFurther rules settled told
 fills_further rules log settled told before after items stands fills some = record {
   before = before;
   made = stands.made;

@@ -15,7 +15,7 @@ use Rattle.part_items.specs.declared.items.Item.{Item as OwnItem}
 use Rattle.part_steps.specs.States.{state_of, count_of, IsSound}
 use Rattle.request_reader.specs.Line.{Request}
 use Rattle.run_rules.specs.Rules.{Rules, Told, count_told, IsDue, IsAsked, EndsPending}
-use Rattle.part_rounds.specs.Fills.{Fills, IsUnderWay, GoesOn, Puts, CantTake}
+use Rattle.part_rounds.specs.Fills.{Fills, IsUnderWay, FillsOn, Puts, CantTake}
 use Rattle.part_rounds.specs.Rounds.{pairs_of, HasSaid}
 use Rattle.part_rounds.specs.declared.filling.Filling.{Filling}
 use Rattle.part_rounds.proofs.Fillings.{fills_more, fills_all, makes_fills, makes_pending}
@@ -42,7 +42,7 @@ accepted_puts flows old new item way made count position sound items = (
 
 -- an item that is given where it is put, and asked for
 pub puts_goes_on : (rules : Rules) (told : Told) (flows : Flows) (old new : Filling) (item : OwnItem) → rules.flows ≡ flows → Puts flows old item new → IsGiven (state_of old.state) (item_of item) → IsAsked rules told (item_of item)
-    → ((from : Partition) → Fills rules told from (items_of old.items.items) (state_of old.state) → EndsPending from (item_of item)) → GoesOn rules told old new
+    → ((from : Partition) → Fills rules told from (items_of old.items.items) (state_of old.state) → EndsPending from (item_of item)) → FillsOn rules told old new
 puts_goes_on rules told flows old new item same puts given asked pending = elim puts.2 [
   | inl put ↦ record {
     way = puts.0;
@@ -118,7 +118,7 @@ put_in_vain flows old new item queues name r puts is due same = elim puts.2 [
 
 -- deliveries and timers behind the others
 pub filled_goes_on : (rules : Rules) (told : Told) (flows : Flows) (old new : Filling) (count now : ℕ) (more : List OwnItem) (made : List Outputs) → rules.flows ≡ flows → count ≡ 1
-    → Makes flows count now (state_of old.state) (items_of more) made (state_of new.state) → new.items.items ≡ old.items.items ++ more → IsUnderWay new → (state_of new.state).position ≡ (state_of old.state).position → GoesOn rules told old new
+    → Makes flows count now (state_of old.state) (items_of more) made (state_of new.state) → new.items.items ≡ old.items.items ++ more → IsUnderWay new → (state_of new.state).position ≡ (state_of old.state).position → FillsOn rules told old new
 filled_goes_on rules told flows old new count now more made same one makes items way position =
     let all : items_of new.items.items ≡ items_of old.items.items ++ items_of more = ap items_of items ∙ map-append item_of old.items.items more in
     let own = subst (λ (f : Flows). Makes f 1 now (state_of old.state) (items_of more) made (state_of new.state)) (sym same) (subst (λ (n : ℕ). Makes flows n now (state_of old.state) (items_of more) made (state_of new.state)) one makes) in
@@ -143,10 +143,10 @@ pub filled_still : (flows : Flows) (count now : ℕ) (p q : Partition) (old more
 filled_still flows count now p q old more all made makes items same = made_nothing makes (ap items_of (nothing_more old more (ap length (sym items) ∙ same)))
 
 -- nothing more came in
-pub goes_on_still : (rules : Rules) (told : Told) (filling : Filling) → IsUnderWay filling → GoesOn rules told filling filling
+pub goes_on_still : (rules : Rules) (told : Told) (filling : Filling) → IsUnderWay filling → FillsOn rules told filling filling
 goes_on_still rules told filling way = record { way = way; position = refl; fills = λ from fills. fills; longer = omega arith }
 
-pub goes_on_both : (rules : Rules) (told : Told) (a b c : Filling) → GoesOn rules told a b → GoesOn rules told b c → GoesOn rules told a c
+pub goes_on_both : (rules : Rules) (told : Told) (a b c : Filling) → FillsOn rules told a b → FillsOn rules told b c → FillsOn rules told a c
 goes_on_both rules told a b c first then = record {
   way = then.way;
   position = then.position ∙ first.position;

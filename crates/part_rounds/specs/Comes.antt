@@ -11,7 +11,7 @@ use Rattle.part_rounds.specs.Fills.{IsUnderWay, Fills, IsIdle}
 use Rattle.part_rounds.specs.Further.{Stirs, GoesFurther}
 use Rattle.hub_store.specs.Origin.{Log}
 use Rattle.part_files.specs.Placing.{labels_in}
-use Rattle.part_rounds.specs.Rounds.{Stands, NoneUnsaid, IsTimely}
+use Rattle.part_rounds.specs.Rounds.{StateStands, NoneUnsaid, IsTimely}
 use Rattle.part_rounds.specs.declared.coming.Coming.{Coming}
 use Rattle.part_rounds.specs.declared.rounds.End.{End}
 use Rattle.part_rounds.specs.declared.rounds.End.TheVariants.{Rest, Long}
@@ -44,7 +44,7 @@ IsByNow p latest (comings.Rest state) = Unit {0}
 -- The state of a call of one partition, in an entry that has begun behind what is settled.
 pub record Entered (rules : Rules) (log : Log) (latest : ℕ) (settled : List Entry) (state : PartState) : Type 0 where
   pub before : Partition
-  pub stands : Stands rules log settled before
+  pub stands : StateStands rules log settled before
   pub entered : state_of state ≡ enter rules.life before
   pub timely : IsTimely rules latest before
   pub sound : IsSound state

@@ -33,7 +33,7 @@ pub record IsUnderWay (filling : Filling) : Type 0 where
   pub begun : 0 < (state_of filling.state).position
 
 -- an entry that is filled so far goes on to be filled so, and its state stays in that entry
-pub record GoesOn (rules : Rules) (told : Told) (old new : Filling) : Type 0 where
+pub record FillsOn (rules : Rules) (told : Told) (old new : Filling) : Type 0 where
   pub way : IsUnderWay new
   pub position : (state_of new.state).position ≡ (state_of old.state).position
   pub fills : (from : Partition) → Fills rules told from (items_of old.items.items) (state_of old.state) → Fills rules told from (items_of new.items.items) (state_of new.state)

@@ -51,7 +51,7 @@ NoneUnsaid p queues clients = All (λ name. next_answer p queues name ≡ None) 
 
 -- Behind these entries of the call the state is this, which shows a world; the log goes on where the state does, and both are of no
 -- later life than the call's.
-pub record Stands (rules : Rules) (log : Log) (settled : List Entry) (p : Partition) : Type 0 where
+pub record StateStands (rules : Rules) (log : Log) (settled : List Entry) (p : Partition) : Type 0 where
   pub made : placed rules.flows 1 rules.begin settled ≡ Ok p
   pub shown : AreShown 1 (λ place. p)
   pub place : (goes_on log settled).position ≡ p.position
@@ -66,7 +66,7 @@ IsTimely rules latest p = p.stamp ≤ max rules.begin.stamp latest
 -- written.
 pub record IsFilled (rules : Rules) (log : Log) (latest : ℕ) (settled : List Entry) (told : Told) (position life : ℕ) (items : List Item) : Type 0 where
   pub before : Partition
-  pub stands : Stands rules log settled before
+  pub stands : StateStands rules log settled before
   pub position_is : position ≡ before.position
   pub life_is : life ≡ rules.life
   pub after : Partition

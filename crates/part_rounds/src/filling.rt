@@ -1,7 +1,7 @@
 //! Filling an entry.
 
 ghost use Rattle.std.specs.Prelude.{◌≡◌, ◌<◌, ◌≤◌, ◌-◌, max, IfOk, length};
-ghost use Rattle.part_rounds.specs.Fills.{IsUnderWay, GoesOn, Puts};
+ghost use Rattle.part_rounds.specs.Fills.{IsUnderWay, FillsOn, Puts};
 ghost use Rattle.part_rounds.specs.InTime.{Giving, GoesOnAt};
 ghost use Rattle.part_steps.specs.Enabled.{NoneEnabled, moment_at};
 ghost use Rattle.part_steps.specs.States.{state_of};
@@ -76,7 +76,7 @@ pub(crate) fn fill<R: Reactions>(
 ) -> Result<Filling, AllocError>
     requires way { IsUnderWay filling }
     requires room { length filling.items.items ≤ limit }
-    ensures goes_on { (rules : Rules) (told : Told) → rules.flows ≡ R.flows reactions.now → IfOk result (λ next. GoesOn rules told filling next) }
+    ensures goes_on { (rules : Rules) (told : Told) → rules.flows ≡ R.flows reactions.now → IfOk result (λ next. FillsOn rules told filling next) }
     ensures under_way { IfOk result (λ next. IsUnderWay next) }
     ensures few { IfOk result (λ next. length next.items.items ≤ limit) }
     ensures moment { IfOk result (λ next. (state_of next.state).stamp ≤ max (state_of filling.state).stamp now) }

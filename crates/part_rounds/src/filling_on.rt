@@ -5,7 +5,7 @@ ghost use Rattle.std.specs.List.{All};
 ghost use Rattle.part_items.specs.ItemFits.{FitsItem};
 ghost use Rattle.hub_store.specs.Trail.{Said};
 ghost use Rattle.part_items.specs.Plain.{items_of};
-ghost use Rattle.part_rounds.specs.Fills.{IsUnderWay, Fills, GoesOn, CantTake, IsIdle};
+ghost use Rattle.part_rounds.specs.Fills.{IsUnderWay, Fills, FillsOn, CantTake, IsIdle};
 ghost use Rattle.part_rounds.specs.InTime.{Giving, GoesOnAt, IsFilledAt};
 ghost use Rattle.part_rounds.specs.Rounds.{pairs_of, HasSaid};
 ghost use Rattle.part_steps.specs.Enabled.{NoneEnabled, moment_at};
@@ -46,7 +46,7 @@ pub(crate) fn fill_on<R: Reactions>(
 ) -> Result<Filling, Stop>
     requires way { IsUnderWay filling }
     requires room { length filling.items.items ≤ limit }
-    ensures goes_on { (rules : Rules) (told : List Said) → rules.flows ≡ R.flows reactions.now → HasSaid rules told port.now.queues → IfOk result (λ next. GoesOn rules (pairs_of told) filling next) }
+    ensures goes_on { (rules : Rules) (told : List Said) → rules.flows ≡ R.flows reactions.now → HasSaid rules told port.now.queues → IfOk result (λ next. FillsOn rules (pairs_of told) filling next) }
     ensures few { IfOk result (λ next. length next.items.items ≤ limit) }
     ensures at { (gives : Giving) → IfOk result (λ next. GoesOnAt (R.flows reactions.now) now gives filling next) }
     ensures less { IfOk result (λ next. length next.items.items < limit → NoneEnabled (R.flows reactions.now) 1 (state_of next.state) (moment_at (state_of next.state) now)) }

@@ -14,7 +14,7 @@ ghost use Rattle.part_items.specs.Numbered.{IsNumbered};
 ghost use Rattle.part_rounds.specs.Comes.{count_labels};
 ghost use Rattle.part_rounds.specs.Fills.{Fills};
 ghost use Rattle.part_rounds.specs.InTime.{GoesByClock, FiresInTime};
-ghost use Rattle.part_rounds.specs.Rounds.{entry_at, Stands, IsTimely};
+ghost use Rattle.part_rounds.specs.Rounds.{entry_at, StateStands, IsTimely};
 ghost use Rattle.run_rules.specs.Rules.{Rules, Told, Follows};
 ghost use Rattle.site_model.specs.Readings.{Reading};
 
@@ -27,10 +27,10 @@ pub fn filled_entries_follow()
 /// Behind an entry that was filled stands the state that it makes, and the entry stands where the log goes on. Each of its items is a
 /// label.
 pub fn filled_entries_stand()
-    ensures numbered { (rules : Rules) (log : Log) (settled : List Entry) (p : Partition) (items : List Item) → Stands rules log settled p → IsNumbered (goes_on log settled) (entry_at rules p items ∷ []) }
-    ensures stands { (rules : Rules) (log : Log) (settled : List Entry) (p q : Partition) (told : Told) (items : List Item) → Stands rules log settled p → Fills rules told (enter rules.life p) items q
-        → Stands rules log (settled ++ entry_at rules p items ∷ []) q }
-    ensures labels { (rules : Rules) (log : Log) (settled : List Entry) (p q : Partition) (told : Told) (items : List Item) → Stands rules log settled p → Fills rules told (enter rules.life p) items q
+    ensures numbered { (rules : Rules) (log : Log) (settled : List Entry) (p : Partition) (items : List Item) → StateStands rules log settled p → IsNumbered (goes_on log settled) (entry_at rules p items ∷ []) }
+    ensures stands { (rules : Rules) (log : Log) (settled : List Entry) (p q : Partition) (told : Told) (items : List Item) → StateStands rules log settled p → Fills rules told (enter rules.life p) items q
+        → StateStands rules log (settled ++ entry_at rules p items ∷ []) q }
+    ensures labels { (rules : Rules) (log : Log) (settled : List Entry) (p q : Partition) (told : Told) (items : List Item) → StateStands rules log settled p → Fills rules told (enter rules.life p) items q
         → count_labels (settled ++ entry_at rules p items ∷ []) ≡ count_labels settled + length items }
 {}
 

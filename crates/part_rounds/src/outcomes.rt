@@ -4,7 +4,7 @@ ghost use Rattle.std.specs.List.{All};
 ghost use Rattle.std.specs.Prelude.{◌≡◌, ◌≤◌, ℕ, [], true, IfOk, IfSome, IfNone, length};
 ghost use Rattle.activity_table.specs.Table.{may};
 ghost use Rattle.part_items.specs.Plain.{item_of, items_of};
-ghost use Rattle.part_rounds.specs.Fills.{IsUnderWay, GoesOn, IsOfPending, CantEnd};
+ghost use Rattle.part_rounds.specs.Fills.{IsUnderWay, FillsOn, IsOfPending, CantEnd};
 ghost use Rattle.part_rounds.specs.InTime.{GoesOnAt, IsRun};
 ghost use Rattle.part_steps.specs.Quiet.{NoActivity};
 ghost use Rattle.part_steps.specs.States.{state_of};
@@ -67,7 +67,7 @@ pub(crate) fn run_pending<R: Reactions, A: Activities>(
 ) -> Result<Filling, AllocError>
     requires way { IsUnderWay filling }
     requires empty { filling.items.items ≡ [] }
-    ensures goes_on { (rules : Rules) (told : Told) → rules.flows ≡ R.flows reactions.now → IfOk result (λ next. GoesOn rules told filling next) }
+    ensures goes_on { (rules : Rules) (told : Told) → rules.flows ≡ R.flows reactions.now → IfOk result (λ next. FillsOn rules told filling next) }
     ensures at { (now : ℕ) → IfOk result (λ next. GoesOnAt (R.flows reactions.now) now (λ name argument. A.gives name argument word) filling next) }
     ensures few { IfOk result (λ next. length next.items.items ≤ 1) }
     ensures moment { IfOk result (λ next. (state_of next.state).stamp ≡ (state_of filling.state).stamp) }

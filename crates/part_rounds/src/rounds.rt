@@ -9,7 +9,7 @@ ghost use Rattle.part_rounds.specs.Comes.{Entered, LeavesRound, Leaves, count_la
 ghost use Rattle.part_rounds.specs.Commits.{IsFull, IsSpent};
 ghost use Rattle.part_rounds.specs.InTime.{GoesByClock};
 ghost use Rattle.part_rounds.specs.Turns.{SettlesThenSays};
-ghost use Rattle.part_rounds.specs.Rounds.{pairs_of, HasSaid, NoneUnsaid, IsFilledTo, Stands};
+ghost use Rattle.part_rounds.specs.Rounds.{pairs_of, HasSaid, NoneUnsaid, IsFilledTo, StateStands};
 ghost use Rattle.part_items.specs.Plain.{items_of};
 ghost use Rattle.part_rounds.specs.Fills.{IsUnderWay};
 ghost use Rattle.part_steps.specs.States.{state_of, count_of, IsSound as IsOwnSound};
@@ -198,7 +198,7 @@ pub fn drive<V: Site, N: Ruled, R: Reactions, A: Activities, C: Clock>(
     requires short { life < 2 ^ 62 }
     requires some { 0 < limit }
     requires few { limit ≤ 64 }
-    requires stands { Stands N.rules (N.origin.logs 0) (of_part 0 (trail_in store.old)) (state_of state) }
+    requires stands { StateStands N.rules (N.origin.logs 0) (of_part 0 (trail_in store.old)) (state_of state) }
     requires new { trail_in store.old ≡ [] }
     requires own { IsOwnSound state }
     requires one { count_of state ≡ 1 }

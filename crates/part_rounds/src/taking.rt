@@ -6,7 +6,7 @@ ghost use Rattle.dura_value.specs.Views.{message_of};
 ghost use Rattle.client_port.specs.Ports.{due_of};
 ghost use Rattle.dura_value.specs.Ids.{client as a_client};
 ghost use Rattle.hub_store.specs.Trail.{Said};
-ghost use Rattle.part_rounds.specs.Fills.{IsUnderWay, GoesOn, CantTake};
+ghost use Rattle.part_rounds.specs.Fills.{IsUnderWay, FillsOn, CantTake};
 ghost use Rattle.part_rounds.specs.InTime.{Giving, GoesOnAt};
 ghost use Rattle.part_rounds.specs.Rounds.{pairs_of, HasSaid};
 ghost use Rattle.part_steps.specs.States.{state_of};
@@ -48,7 +48,7 @@ fn take_of<R: Reactions>(
     client: &Name,
 ) -> Result<Filling, AllocError>
     requires way { IsUnderWay filling }
-    ensures goes_on { (rules : Rules) (told : List Said) → rules.flows ≡ R.flows reactions.now → HasSaid rules told port.now.queues → IfOk result (λ next. GoesOn rules (pairs_of told) filling next) }
+    ensures goes_on { (rules : Rules) (told : List Said) → rules.flows ≡ R.flows reactions.now → HasSaid rules told port.now.queues → IfOk result (λ next. FillsOn rules (pairs_of told) filling next) }
     ensures at { (now : ℕ) (gives : Giving) → IfOk result (λ next. GoesOnAt (R.flows reactions.now) now gives filling next) }
     ensures under_way { IfOk result (λ next. IsUnderWay next) }
     ensures longer { IfOk result (λ next. length filling.items.items ≤ length next.items.items) }
@@ -83,7 +83,7 @@ pub(crate) fn take_due<R: Reactions>(
 ) -> Result<Filling, AllocError>
     requires way { IsUnderWay filling }
     requires room { length filling.items.items ≤ limit }
-    ensures goes_on { (rules : Rules) (told : List Said) → rules.flows ≡ R.flows reactions.now → HasSaid rules told port.now.queues → IfOk result (λ next. GoesOn rules (pairs_of told) filling next) }
+    ensures goes_on { (rules : Rules) (told : List Said) → rules.flows ≡ R.flows reactions.now → HasSaid rules told port.now.queues → IfOk result (λ next. FillsOn rules (pairs_of told) filling next) }
     ensures at { (now : ℕ) (gives : Giving) → IfOk result (λ next. GoesOnAt (R.flows reactions.now) now gives filling next) }
     ensures under_way { IfOk result (λ next. IsUnderWay next) }
     ensures longer { IfOk result (λ next. length filling.items.items ≤ length next.items.items) }

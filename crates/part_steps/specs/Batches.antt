@@ -27,6 +27,6 @@ pub record IsOver (flows : Flows) (now : ℕ) (old new : Batch) : Type 0 where
   pub same : new ≡ old
   pub none : NoneEnabled flows (count_of old.state) (state_of old.state) (moment_at (state_of old.state) now)
 
-abbrev pub GoesOn : Flows → ℕ → Batch → Turn → Type 0
-GoesOn flows now old (turns.More new) = HasMore flows now old new
-GoesOn flows now old (turns.Over new) = IsOver flows now old new
+abbrev pub BatchGoesOn : Flows → ℕ → Batch → Turn → Type 0
+BatchGoesOn flows now old (turns.More new) = HasMore flows now old new
+BatchGoesOn flows now old (turns.Over new) = IsOver flows now old new

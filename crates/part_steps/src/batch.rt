@@ -2,7 +2,7 @@
 
 ghost use Rattle.std.specs.Prelude.{◌≡◌, ◌<◌, ◌≤◌, ◌++◌, ◌∷◌, [], length, map, IfOk, OnOk};
 ghost use Rattle.part_items.specs.Plain.{items_of};
-ghost use Rattle.part_steps.specs.Batches.{GoesOn};
+ghost use Rattle.part_steps.specs.Batches.{BatchGoesOn};
 ghost use Rattle.part_steps.specs.Enabled.{moment_at, NoneEnabled, Makes};
 ghost use Rattle.part_steps.specs.Outputs.{outputs_of};
 ghost use Rattle.part_steps.specs.States.{IsSound, state_of, count_of};
@@ -82,7 +82,7 @@ pub(crate) fn add_next<R: Reactions>(
 ) -> Result<Turn, AllocError>
     requires sound { IsSound batch.state }
     requires begun { 0 < (state_of batch.state).position }
-    ensures { IfOk result (λ turn. GoesOn (R.flows reactions.now) now batch turn) }
+    ensures { IfOk result (λ turn. BatchGoesOn (R.flows reactions.now) now batch turn) }
 {
     let enabled = match batch.state.enabled(now) {
         Ok(enabled) => enabled,

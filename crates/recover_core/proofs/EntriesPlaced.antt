@@ -14,7 +14,7 @@ use Rattle.part_files.proofs.Appending.{placed_both, behind_both}
 use Rattle.recover_core.specs.declared.progress.Placing.{Placing}
 use Rattle.recover_core.specs.declared.progress.Placing.TheVariants.{On, Stuck}
 use Rattle.recover_core.specs.declared.progress.Progress.{Progress}
-use Rattle.recover_core.specs.Progress.{Makes, Shows, IsReadyFor, IsReady, GoesOnAs, GoesOn, IsProgress}
+use Rattle.recover_core.specs.Progress.{Makes, Shows, IsReadyFor, IsReady, GoesOnAs, PlacesOn, IsProgress}
 
 -- ---- items
 
@@ -118,7 +118,7 @@ placed_none : (flows : Flows) (made : Result Partition ℕ) → (made >>= λ p. 
 placed_none flows (Ok p) = refl
 placed_none flows (Err position) = refl
 
-pub none_placed : (flows : Flows) (old : Progress) → IsReady old → GoesOn flows [] old old
+pub none_placed : (flows : Flows) (old : Progress) → IsReady old → PlacesOn flows [] old old
 none_placed flows old ready = record {
   next = refl;
   life = refl;
@@ -127,7 +127,7 @@ none_placed flows old ready = record {
   room = omega arith;
 }
 
-pub more_placed : (flows : Flows) (a b : List Entry) (old mid new : Progress) → GoesOn flows a old mid → GoesOn flows b mid new → GoesOn flows (a ++ b) old new
+pub more_placed : (flows : Flows) (a b : List Entry) (old mid new : Progress) → PlacesOn flows a old mid → PlacesOn flows b mid new → PlacesOn flows (a ++ b) old new
 more_placed flows a b old mid new first second = record {
   next = second.next ∙ ap (λ (n : Next). behind_all n b) first.next ∙ sym (behind_both (next_of old.next) a b);
   life = second.life ∙ ap (λ (n : ℕ). life_behind n b) first.life ∙ sym (life_both old.life a b);
@@ -137,7 +137,7 @@ more_placed flows a b old mid new first second = record {
 }
 
 -- entries behind those that were placed
-pub progress_more : (flows : Flows) (first : Next) (a b : List Entry) (old new : Progress) → IsProgress flows first a old → GoesOn flows b old new → IsProgress flows first (a ++ b) new
+pub progress_more : (flows : Flows) (first : Next) (a b : List Entry) (old new : Progress) → IsProgress flows first a old → PlacesOn flows b old new → IsProgress flows first (a ++ b) new
 progress_more flows first a b old new so_far more = record {
   next = more.next ∙ ap (λ (n : Next). behind_all n b) so_far.next ∙ sym (behind_both first a b);
   life = more.life ∙ ap (λ (n : ℕ). life_behind n b) so_far.life ∙ sym (life_both 0 a b);

@@ -6,12 +6,12 @@ use Rattle.flow_syntax.specs.Syntax.{Flows}
 use Rattle.part_items.specs.Coming.{Coming, IsFirst}
 use Rattle.part_items.specs.Plain.{next_of}
 use Rattle.recover_core.specs.declared.progress.Progress.{Progress}
-use Rattle.recover_core.specs.Progress.{GoesOn, IsReady}
+use Rattle.recover_core.specs.Progress.{PlacesOn, IsReady}
 use Rattle.recover_core.proofs.EntriesPlaced.{none_placed, more_placed}
 
 -- These entries of a frame were placed, the others are to come.
 pub record HasPlaced (flows : Flows) (old new : Progress) (coming : Coming) (wanted : Result (List Entry) ℕ) (front : List Entry) : Type 0 where
-  pub placed : GoesOn flows front old new
+  pub placed : PlacesOn flows front old new
   pub whole : (coming.entries >>= λ more. Ok (front ++ more)) ≡ wanted
   pub next : coming.next ≡ next_of new.next
   pub few : length front + coming.left ≤ 64
@@ -34,7 +34,7 @@ regroup front entry (Ok more) = ap (λ (entries : List Entry). Ok entries) (simp
 regroup front entry (Err offset) = refl
 
 pub one_more : (flows : Flows) (old mid new : Progress) (coming after : Coming) (wanted : Result (List Entry) ℕ) (front : List Entry) (entry : Entry)
-    → HasPlaced flows old mid coming wanted front → IsFirst coming entry after → GoesOn flows (entry ∷ []) mid new → HasPlaced flows old new after wanted (front ++ entry ∷ [])
+    → HasPlaced flows old mid coming wanted front → IsFirst coming entry after → PlacesOn flows (entry ∷ []) mid new → HasPlaced flows old new after wanted (front ++ entry ∷ [])
 one_more flows old mid new coming after wanted front entry so_far first one = record {
   placed = more_placed flows front (entry ∷ []) old mid new so_far.placed one;
   whole = regroup front entry after.entries ∙ ap (λ (r : Result (List Entry) ℕ). r >>= λ more. Ok (front ++ more)) (sym first.entries) ∙ so_far.whole;

@@ -19,7 +19,7 @@ use Rattle.recover_core.specs.declared.progress.Progress.{Progress}
 use Rattle.recover_core.specs.declared.reading.Reading.{Reading}
 use Rattle.recover_core.specs.declared.reading.Turn.{Turn}
 use Rattle.recover_core.specs.Files.{frames_in, PlacesFrame, IsOpened, HasReadTo, ReadsOn, RestsAfter, ReadsAll}
-use Rattle.recover_core.specs.Progress.{GoesOn, IsProgress}
+use Rattle.recover_core.specs.Progress.{PlacesOn, IsProgress}
 use Rattle.recover_core.proofs.EntriesPlaced.{progress_more}
 
 -- a step that went well had something to go on from
@@ -54,7 +54,7 @@ frames_more next (one ∷ payloads) payload entries more is here =
 module _ (flows : Flows) (content : List ℕ) (header : Header) (payloads : List (List ℕ)) (entries : List Entry) (gate : ℕ) (p : Progress) (has : HasReadTo flows content header payloads entries gate p) where
   -- a frame more
   pub more_read : (payload : List ℕ) (further : ℕ) (more : List Entry) (new : Progress) → found_at gate (drop gate content) ≡ frame payload → HasRead content header (payloads ++ payload ∷ []) further → further ≡ gate + 5 + length payload
-      → next_frame_in (next_of p.next) payload ≡ Ok more → GoesOn flows more p new → HasReadTo flows content header (payloads ++ payload ∷ []) (entries ++ more) further new
+      → next_frame_in (next_of p.next) payload ≡ Ok more → PlacesOn flows more p new → HasReadTo flows content header (payloads ++ payload ∷ []) (entries ++ more) further new
   more_read payload further more new found read place is placed = record {
     read = read;
     decoded = frames_more (first_of header) payloads payload entries more has.decoded (subst (λ (n : Next). next_frame_in n payload ≡ Ok more) has.progress.next is);

@@ -27,7 +27,7 @@ use Rattle.recover_core.specs.Chosen.{kept_as, tied_fault, Chooses, Ends}
 use Rattle.recover_core.specs.Files.{frames_in, IsFound, Suits, IsReadyFile}
 use Rattle.recover_core.specs.Progress.{Shows, IsReadyFor}
 use Rattle.recover_core.specs.Recovering.{IsLogOf, RecoversLogs, Recovers, RestsFor}
-use Rattle.recover_core.specs.Refusals.{Refuses}
+use Rattle.recover_core.specs.Refusals.{RefusesFiles}
 use Rattle.recover_core.proofs.FilesFound.{is_one, no_fault}
 
 -- a count of faults that rose later has risen
@@ -41,7 +41,7 @@ ready_chosen first second found one two chosen = elim chosen.1 [ inl is ↦ subs
 
 -- ---- refusals
 
-pub refuses_first : (digest : ℕ) (error : RecoverError) (fault rest : Option Refusal) → Refuses digest error fault → Refuses digest error (or_else fault rest)
+pub refuses_first : (digest : ℕ) (error : RecoverError) (fault rest : Option Refusal) → RefusesFiles digest error fault → RefusesFiles digest error (or_else fault rest)
 refuses_first digest (Damaged file offset) fault rest is = ap (λ (f : Option Refusal). or_else f rest) is
 refuses_first digest (OtherShape found asked) fault rest is = (ap (λ (f : Option Refusal). or_else f rest) is.0, is.1)
 refuses_first digest (OtherFlows found given) fault rest is = (ap (λ (f : Option Refusal). or_else f rest) is.0, is.1)
@@ -52,21 +52,21 @@ refuses_first digest Memory fault rest is = tt
 
 -- the log that one file has can't begin where it does
 module _ (digest : ℕ) (error : RecoverError) (first second : LogFile) (found : Found) (some more : List Entry) where
-  pub first_alone : first ≡ Log found → second ≡ Fresh → Refuses digest error (late_base 16 (kept_as some (Log found))) → Refuses digest error (tied_fault (kept_as some first) (kept_as more second))
+  pub first_alone : first ≡ Log found → second ≡ Fresh → RefusesFiles digest error (late_base 16 (kept_as some (Log found))) → RefusesFiles digest error (tied_fault (kept_as some first) (kept_as more second))
   first_alone one two is =
-      subst (λ (f : LogFile). Refuses digest error (tied_fault (kept_as some f) (kept_as more second))) (sym one)
-      (subst (λ (f : LogFile). Refuses digest error (tied_fault (kept_as some (Log found)) (kept_as more f))) (sym two)
+      subst (λ (f : LogFile). RefusesFiles digest error (tied_fault (kept_as some f) (kept_as more second))) (sym one)
+      (subst (λ (f : LogFile). RefusesFiles digest error (tied_fault (kept_as some (Log found)) (kept_as more f))) (sym two)
       (refuses_first digest error (late_base 16 (kept_as some (Log found))) None is))
 
-  pub second_alone : first ≡ Fresh → second ≡ Log found → Refuses digest error (late_base 17 (kept_as more (Log found))) → Refuses digest error (tied_fault (kept_as some first) (kept_as more second))
+  pub second_alone : first ≡ Fresh → second ≡ Log found → RefusesFiles digest error (late_base 17 (kept_as more (Log found))) → RefusesFiles digest error (tied_fault (kept_as some first) (kept_as more second))
   second_alone one two is =
-      subst (λ (f : LogFile). Refuses digest error (tied_fault (kept_as some f) (kept_as more second))) (sym one)
-      (subst (λ (f : LogFile). Refuses digest error (tied_fault nothing (kept_as more f))) (sym two) is)
+      subst (λ (f : LogFile). RefusesFiles digest error (tied_fault (kept_as some f) (kept_as more second))) (sym one)
+      (subst (λ (f : LogFile). RefusesFiles digest error (tied_fault nothing (kept_as more f))) (sym two) is)
 
-refuses_behind : (digest : ℕ) (error : RecoverError) (fault rest : Option Refusal) → fault ≡ None → Refuses digest error rest → Refuses digest error (or_else fault rest)
-refuses_behind digest error fault rest none is = subst (λ (f : Option Refusal). Refuses digest error (or_else f rest)) (sym none) is
+refuses_behind : (digest : ℕ) (error : RecoverError) (fault rest : Option Refusal) → fault ≡ None → RefusesFiles digest error rest → RefusesFiles digest error (or_else fault rest)
+refuses_behind digest error fault rest none is = subst (λ (f : Option Refusal). RefusesFiles digest error (or_else f rest)) (sym none) is
 
-refused_logs : (flows : Flows) (digest : ℕ) (error : RecoverError) (fault : Option Refusal) (found : Logs) → Refuses digest error fault → RecoversLogs flows digest (unless fault found) (Err error)
+refused_logs : (flows : Flows) (digest : ℕ) (error : RecoverError) (fault : Option Refusal) (found : Logs) → RefusesFiles digest error fault → RecoversLogs flows digest (unless fault found) (Err error)
 refused_logs flows digest (Damaged file offset) fault found is = ap (λ (f : Option Refusal). unless f found) is
 refused_logs flows digest (OtherShape other asked) fault found is = (ap (λ (f : Option Refusal). unless f found) is.0, is.1)
 refused_logs flows digest (OtherFlows other given) fault found is = (ap (λ (f : Option Refusal). unless f found) is.0, is.1)
@@ -152,11 +152,11 @@ module _ (flows : Flows) (digest : ℕ) (old steps : List Step) (first_same : co
       ∙ ap (logs_of (alone_with digest) first) (ap (kept_in 0) (sym second_same) ∙ two)
 
   -- the first file is refused
-  pub first_refused : (error : RecoverError) → Refuses digest error (fault_of (alone_with digest) 16 (kept_in 0 (content_of 16 steps))) → Recovers flows digest (λ file. content_of file old) (Err error)
+  pub first_refused : (error : RecoverError) → RefusesFiles digest error (fault_of (alone_with digest) 16 (kept_in 0 (content_of 16 steps))) → Recovers flows digest (λ file. content_of file old) (Err error)
   first_refused error refuses =
       let k = kept_in 0 (content_of 16 old) in
       let m = kept_in 0 (content_of 17 old) in
-      let here = subst (λ (c : List ℕ). Refuses digest error (fault_of (alone_with digest) 16 (kept_in 0 c))) first_same refuses in
+      let here = subst (λ (c : List ℕ). RefusesFiles digest error (fault_of (alone_with digest) 16 (kept_in 0 c))) first_same refuses in
       refused_logs flows digest error (first_fault (alone_with digest) k m) (the_log 0 k m)
       (refuses_first digest error (fault_of (alone_with digest) 16 k) (or_else (fault_of (alone_with digest) 17 m) (tied_fault k m)) here)
 
@@ -165,11 +165,11 @@ module _ (flows : Flows) (digest : ℕ) (old steps : List Step) (first_same : co
     first_none = subst (λ (c : List ℕ). fault_of (alone_with digest) 16 (kept_in 0 c) ≡ None) first_same (suits_none steps flows digest 16 first suits)
 
     -- the second file is
-    pub second_refused : (error : RecoverError) → Refuses digest error (fault_of (alone_with digest) 17 (kept_in 0 (content_of 17 steps))) → Recovers flows digest (λ file. content_of file old) (Err error)
+    pub second_refused : (error : RecoverError) → RefusesFiles digest error (fault_of (alone_with digest) 17 (kept_in 0 (content_of 17 steps))) → Recovers flows digest (λ file. content_of file old) (Err error)
     second_refused error refuses =
         let k = kept_in 0 (content_of 16 old) in
         let m = kept_in 0 (content_of 17 old) in
-        let here = subst (λ (c : List ℕ). Refuses digest error (fault_of (alone_with digest) 17 (kept_in 0 c))) second_same refuses in
+        let here = subst (λ (c : List ℕ). RefusesFiles digest error (fault_of (alone_with digest) 17 (kept_in 0 c))) second_same refuses in
         refused_logs flows digest error (first_fault (alone_with digest) k m) (the_log 0 k m)
         (refuses_behind digest error (fault_of (alone_with digest) 16 k) (or_else (fault_of (alone_with digest) 17 m) (tied_fault k m)) first_none
         (refuses_first digest error (fault_of (alone_with digest) 17 m) (tied_fault k m) here))
@@ -179,7 +179,7 @@ module _ (flows : Flows) (digest : ℕ) (old steps : List Step) (first_same : co
       second_none = subst (λ (c : List ℕ). fault_of (alone_with digest) 17 (kept_in 0 c) ≡ None) second_same (suits_none steps flows digest 17 second suits_too)
 
       -- both can't stand, or the one that has a log
-      pub both_refused : (error : RecoverError) → ((some more : List Entry) → Refuses digest error (tied_fault (kept_as some first) (kept_as more second))) → Recovers flows digest (λ file. content_of file old) (Err error)
+      pub both_refused : (error : RecoverError) → ((some more : List Entry) → RefusesFiles digest error (tied_fault (kept_as some first) (kept_as more second))) → Recovers flows digest (λ file. content_of file old) (Err error)
       both_refused error refuses =
           let k = kept_in 0 (content_of 16 old) in
           let m = kept_in 0 (content_of 17 old) in
@@ -187,7 +187,7 @@ module _ (flows : Flows) (digest : ℕ) (old steps : List Step) (first_same : co
           let two = entries_suit steps flows digest 17 second suits_too in
           let one_is : kept_as one.0 first ≡ k = sym one.1 ∙ ap (kept_in 0) first_same in
           let two_is : kept_as two.0 second ≡ m = sym two.1 ∙ ap (kept_in 0) second_same in
-          let here : Refuses digest error (tied_fault k m) = subst (λ (x : Kept). Refuses digest error (tied_fault x m)) one_is (subst (λ (x : Kept). Refuses digest error (tied_fault (kept_as one.0 first) x)) two_is (refuses one.0 two.0)) in
+          let here : RefusesFiles digest error (tied_fault k m) = subst (λ (x : Kept). RefusesFiles digest error (tied_fault x m)) one_is (subst (λ (x : Kept). RefusesFiles digest error (tied_fault (kept_as one.0 first) x)) two_is (refuses one.0 two.0)) in
           refused_logs flows digest error (first_fault (alone_with digest) k m) (the_log 0 k m)
           (refuses_behind digest error (fault_of (alone_with digest) 16 k) (or_else (fault_of (alone_with digest) 17 m) (tied_fault k m)) first_none
           (refuses_behind digest error (fault_of (alone_with digest) 17 m) (tied_fault k m) second_none here))

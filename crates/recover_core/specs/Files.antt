@@ -28,8 +28,8 @@ use Rattle.recover_core.specs.declared.progress.Progress.{Progress}
 use Rattle.recover_core.specs.declared.reading.Reading.{Reading}
 use Rattle.recover_core.specs.declared.reading.Turn.{Turn}
 use Rattle.recover_core.specs.declared.reading.Turn.TheVariants.{More, End}
-use Rattle.recover_core.specs.Progress.{Shows, GoesOn, IsProgress, IsReady, IsReadyFor, position_in}
-use Rattle.recover_core.specs.Refusals.{Refuses}
+use Rattle.recover_core.specs.Progress.{Shows, PlacesOn, IsProgress, IsReady, IsReadyFor, position_in}
+use Rattle.recover_core.specs.Refusals.{RefusesFiles}
 
 -- the entries of the payloads of a log that begins here, one frame behind another
 abbrev pub frames_in : Next → List (List ℕ) → Result (List Entry) ℕ
@@ -50,7 +50,7 @@ fault_behind gate Memory = unread.Memory
 
 -- a frame behind the gate at this offset was read and its entries placed, of which there are 64 at most
 abbrev pub PlacesFrame : Flows → (old : Progress) → (gate : ℕ) → Result (List Entry) ℕ → Result Progress FrameError → Type 0
-PlacesFrame flows old gate wanted (Ok new) = (entries : List Entry) × (wanted ≡ Ok entries) × GoesOn flows entries old new × (length entries ≤ 64)
+PlacesFrame flows old gate wanted (Ok new) = (entries : List Entry) × (wanted ≡ Ok entries) × PlacesOn flows entries old new × (length entries ≤ 64)
 PlacesFrame flows old gate wanted (Err (unread.Damaged offset)) = in_file (gate + 5) wanted ≡ Err offset
 PlacesFrame flows old gate wanted (Err unread.SiteFault) = ⊥
 PlacesFrame flows old gate wanted (Err unread.Memory) = Unit {0}
@@ -149,4 +149,4 @@ Suits steps flows digest file (Log found) = IsFound steps flows file found × (f
 -- what was read of a file, if it isn't refused by itself
 abbrev pub SaysFits : List Step → Flows → (digest file : ℕ) → Result LogFile RecoverError → Type 0
 SaysFits steps flows digest file (Ok found) = Suits steps flows digest file found
-SaysFits steps flows digest file (Err error) = Refuses digest error (fault_of (alone_with digest) file (kept_in 0 (content_of file steps)))
+SaysFits steps flows digest file (Err error) = RefusesFiles digest error (fault_of (alone_with digest) file (kept_in 0 (content_of file steps)))

@@ -45,7 +45,7 @@ pub record GoesOnAs (flows : Flows) (entry : Entry) (old new : Placing) : Type 0
   pub room : position_in new ≤ position_in old + 1
 
 -- what entries make of how far those before them came
-pub record GoesOn (flows : Flows) (entries : List Entry) (old new : Progress) : Type 0 where
+pub record PlacesOn (flows : Flows) (entries : List Entry) (old new : Progress) : Type 0 where
   pub next : next_of new.next ≡ behind_all (next_of old.next) entries
   pub life : new.life ≡ life_behind old.life entries
   pub placed : (made : Result Partition ℕ) → Shows old.placing made → Shows new.placing (made >>= λ p. placed flows 1 p entries)

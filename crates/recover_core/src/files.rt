@@ -7,7 +7,7 @@ ghost use Rattle.part_files.specs.Kept.{keeps};
 ghost use Rattle.part_files.specs.Logs.{fault_of};
 ghost use Rattle.part_files.specs.Stands.{alone_with};
 ghost use Rattle.recover_core.specs.Files.{IsReadyFile, SaysFile, SaysFits};
-ghost use Rattle.recover_core.specs.Refusals.{Refuses};
+ghost use Rattle.recover_core.specs.Refusals.{RefusesFiles};
 
 use crate::error::RecoverError;
 use crate::progress::Placing;
@@ -82,7 +82,7 @@ fn read_file<V: Site, R: Reactions>(
 #[tactic(auto, using(crate::proofs::FilesFound::shape_fault, crate::proofs::FilesFound::flows_fault))]
 fn fit(header: Header, digest: u64) -> Result<(), RecoverError>
     ensures fits { OnOk result ((header.partitions ≡ 1) × (header.digest ≡ digest)) }
-    ensures refused { (file : ℕ) (entries : List Entry) (gate : ℕ) → IfErr result (λ error. Refuses digest error (fault_of (alone_with digest) file (keeps header entries gate))) }
+    ensures refused { (file : ℕ) (entries : List Entry) (gate : ℕ) → IfErr result (λ error. RefusesFiles digest error (fault_of (alone_with digest) file (keeps header entries gate))) }
     ensures no_fault { result ≡ Err RecoverError.SiteFault → ⊥ }
 {
     if header.partitions != PARTITIONS {

@@ -4,7 +4,7 @@ ghost use Rattle.part_items.specs.Coming.{IsNext};
 ghost use Rattle.part_items.specs.Plain.{items_of, entry_of, next_of};
 ghost use Rattle.part_steps.specs.States.{IsSound, state_of, count_of};
 ghost use Rattle.part_files.specs.Placing.{all_accepted};
-ghost use Rattle.recover_core.specs.Progress.{Makes, GoesOnAs, GoesOn, IsReady, IsReadyFor, position_in};
+ghost use Rattle.recover_core.specs.Progress.{Makes, GoesOnAs, PlacesOn, IsReady, IsReadyFor, position_in};
 
 use crate::progress::{Placing, Progress};
 use part_items::{Entry, Item, Next};
@@ -71,7 +71,7 @@ pub(crate) fn place_entry<R: Reactions>(
     requires ready { IsReady progress }
     requires room { position_in progress.placing < 2 ^ 62 }
     requires next { IsNext (next_of progress.next) (entry_of entry) }
-    ensures { IfOk result (λ new. GoesOn (R.flows reactions.now) (entry_of entry ∷ []) progress new) }
+    ensures { IfOk result (λ new. PlacesOn (R.flows reactions.now) (entry_of entry ∷ []) progress new) }
 {
     let next = Next {
         position: entry.position + 1,

@@ -7,7 +7,7 @@ use Rattle.serde_json.specs.Data.{Items, item}
 use Rattle.serde_json.specs.View.{view, items_view}
 use Rattle.serde_json.specs.declared.value.Value.{Value as Json}
 use Rattle.dura_value.specs.declared.data.Scalar.{Scalar}
-use Rattle.request_reader.specs.Reading.{Gives, ◌>>=◌}
+use Rattle.request_reader.specs.Reading.{LineGives, ◌>>=◌}
 use Rattle.request_reader.specs.declared.error.ReadError.{ReadError}
 use Rattle.request_reader.specs.declared.error.ReadError.TheVariants.{Refused, Memory}
 use Rattle.request_reader.specs.Values.{scalar_in, scalars_in}
@@ -56,6 +56,6 @@ pub ends : (whole : Option (List Scalar)) (done : List Scalar) (vs : List Json) 
 ends whole done vs i v lt at before none = let is = nothing_added done (scalar_in (view v)) none in sym before ∙ rw (items_from vs i v lt at, is) refl
 
 -- the reading ends there
-pub ends_by : (whole : Option (List Scalar)) (done : List Scalar) (vs : List Json) (i : ℕ) (v : Json) (error : ReadError) → i < length vs → v ≡ get_or vs i v → with_rest done (items_view (drop i vs)) ≡ whole → Gives {X = List Scalar} (λ ss. ss) (Err error) (option_map (λ s. done ++ s ∷ []) (scalar_in (view v))) → Gives {X = List Scalar} (λ ss. ss) (Err error) whole
+pub ends_by : (whole : Option (List Scalar)) (done : List Scalar) (vs : List Json) (i : ℕ) (v : Json) (error : ReadError) → i < length vs → v ≡ get_or vs i v → with_rest done (items_view (drop i vs)) ≡ whole → LineGives {X = List Scalar} (λ ss. ss) (Err error) (option_map (λ s. done ++ s ∷ []) (scalar_in (view v))) → LineGives {X = List Scalar} (λ ss. ss) (Err error) whole
 ends_by whole done vs i v Refused lt at before none = ends whole done vs i v lt at before none
 ends_by whole done vs i v Memory lt at before none = tt

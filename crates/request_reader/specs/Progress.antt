@@ -18,6 +18,6 @@ abbrev pub pair_cmp : List ℕ × ℕ → List ℕ × ℕ → Ordering
 pair_cmp a b = ordering_then (slice_cmp nat_cmp a.0 b.0) (nat_cmp a.1 b.1)
 
 -- The place of each request is kept by its client and number, and the latest number of each client.
-pub record Stands (p : Progress) : Type 0 where
+pub record RequestsStand (p : Progress) : Type 0 where
   pub places : (name : List ℕ) (n : ℕ) → get (λ a b. ordering_then (slice_cmp nat_cmp a.0 b.0) (nat_cmp a.1 b.1)) p.places (name, n) ≡ position_from (is_by name n) 0 (seen p)
   pub numbers : (name : List ℕ) → unwrap_or (get (slice_cmp nat_cmp) p.latest name) 0 ≡ latest name (seen p)

@@ -4,10 +4,10 @@ use Rattle.request_reader.specs.declared.error.ReadError.{ReadError}
 use Rattle.request_reader.specs.declared.error.ReadError.TheVariants as errors
 
 -- what was read, seen by view, is what is wanted; refused is what wants nothing; and memory may run out
-abbrev pub Gives : {X Y : Type 0} → (X → Y) → Result X ReadError → Option Y → Type 0
-Gives view (Ok x) wanted = wanted ≡ Some (view x)
-Gives view (Err errors.Refused) wanted = wanted ≡ None
-Gives view (Err errors.Memory) wanted = Unit {0}
+abbrev pub LineGives : {X Y : Type 0} → (X → Y) → Result X ReadError → Option Y → Type 0
+LineGives view (Ok x) wanted = wanted ≡ Some (view x)
+LineGives view (Err errors.Refused) wanted = wanted ≡ None
+LineGives view (Err errors.Memory) wanted = Unit {0}
 
 infixl 10 ◌>>=◌
 -- then f of it, where there is one

@@ -17,14 +17,14 @@ pub data Fault : Type 0 where
   clash : (client : List ℕ) → (number : ℕ) → Fault
 
 -- what was answered, seen by view, is what is wanted, unless memory ran out
-abbrev pub Fails : {Y : Type 0} → RequestsError → Result Y Fault → Type 0
-Fails (BadLine line) wanted = wanted ≡ Err (bad_line line)
-Fails (Clash client number) wanted = wanted ≡ Err (clash client number)
-Fails Memory wanted = Unit {0}
+abbrev pub RequestsFail : {Y : Type 0} → RequestsError → Result Y Fault → Type 0
+RequestsFail (BadLine line) wanted = wanted ≡ Err (bad_line line)
+RequestsFail (Clash client number) wanted = wanted ≡ Err (clash client number)
+RequestsFail Memory wanted = Unit {0}
 
-abbrev pub Answers : {X Y : Type 0} → (X → Y) → Result X RequestsError → Result Y Fault → Type 0
-Answers view (Ok x) wanted = wanted ≡ Ok (view x)
-Answers view (Err error) wanted = Fails error wanted
+abbrev pub RequestsGive : {X Y : Type 0} → (X → Y) → Result X RequestsError → Result Y Fault → Type 0
+RequestsGive view (Ok x) wanted = wanted ≡ Ok (view x)
+RequestsGive view (Err error) wanted = RequestsFail error wanted
 
 infixl 10 ◌>>=◌
 -- a step goes on with what was read, or ends with the fault

@@ -5,7 +5,7 @@ ghost use Rattle.serde_json.specs.View.{view};
 ghost use Rattle.serde_json.specs.Find.{get};
 ghost use Rattle.dura_value.specs.Views.{id_of};
 ghost use Rattle.request_reader.specs.Json.{data_of, has_members, one_if, text_at, name_at, id_at};
-ghost use Rattle.request_reader.specs.Reading.{Gives};
+ghost use Rattle.request_reader.specs.Reading.{LineGives};
 
 use crate::error::ReadError;
 use dura_value::{Id, Name, is_name};
@@ -15,7 +15,7 @@ use std::alloc::Global;
 /// The JSON that the bytes are.
 #[tactic(auto, using(crate::proofs::Counted::data_some, crate::proofs::Counted::data_none))]
 pub(crate) fn data_of(alloc: Global, bytes: &[u8]) -> Result<Value, ReadError>
-    ensures { Gives view result (data_of bytes.now) }
+    ensures { LineGives view result (data_of bytes.now) }
 {
     match Value::from_slice(alloc, bytes) {
         Ok(value) => Ok(value),
@@ -59,7 +59,7 @@ pub(crate) fn text_at<'v>(value: &'v Value, key: &str) -> Option<&'v str>
 }
 
 pub(crate) fn name_at(alloc: Global, value: &Value, key: &str) -> Result<Name, ReadError>
-    ensures { Gives (λ name. name) result (name_at key.now (view value.now)) }
+    ensures { LineGives (λ name. name) result (name_at key.now (view value.now)) }
 {
     match text_at(value, key) {
         Some(text) => {
@@ -74,7 +74,7 @@ pub(crate) fn name_at(alloc: Global, value: &Value, key: &str) -> Result<Name, R
 }
 
 pub(crate) fn id_at(alloc: Global, value: &Value, key: &str) -> Result<Id, ReadError>
-    ensures { Gives id_of result (id_at key.now (view value.now)) }
+    ensures { LineGives id_of result (id_at key.now (view value.now)) }
 {
     match text_at(value, key) {
         Some(text) => match Id::read(alloc, text.as_bytes()) {

@@ -5,7 +5,7 @@ ghost use Rattle.serde_json.specs.View.{view};
 ghost use Rattle.dura_value.specs.Ids.{client as client_id};
 ghost use Rattle.dura_value.specs.Views.{id_of, body_of, message_of};
 ghost use Rattle.request_reader.specs.Json.{id_at};
-ghost use Rattle.request_reader.specs.Reading.{Gives, where_it, ◌>>=◌ as bind};
+ghost use Rattle.request_reader.specs.Reading.{LineGives, where_it, ◌>>=◌ as bind};
 ghost use Rattle.request_reader.specs.Line.{is_instance, has_state, number_in, start_in, wait_in, raise_in, query_in, sent_in, request_in, request_on, request_of};
 
 use crate::error::ReadError;
@@ -36,7 +36,7 @@ fn has_state(id: &Id) -> bool
 }
 
 fn instance_at(alloc: Global, value: &Value, key: &str) -> Result<Id, ReadError>
-    ensures { Gives id_of result (bind (id_at key.now (view value.now)) (where_it is_instance)) }
+    ensures { LineGives id_of result (bind (id_at key.now (view value.now)) (where_it is_instance)) }
 {
     let id = json::id_at(alloc, value, key)?;
     if is_instance(&id) {
@@ -60,7 +60,7 @@ fn number_in(value: &Value) -> Option<u32>
 }
 
 fn start_in(alloc: Global, number: u32, value: &Value) -> Result<(Id, Body), ReadError>
-    ensures { Gives (λ sent. (id_of sent.0, body_of sent.1)) result (start_in number (view value.now)) }
+    ensures { LineGives (λ sent. (id_of sent.0, body_of sent.1)) result (start_in number (view value.now)) }
 {
     if !json::has_members(value, 3 + json::one_if_at(value, "arg")) {
         return Err(ReadError::Refused);
@@ -73,7 +73,7 @@ fn start_in(alloc: Global, number: u32, value: &Value) -> Result<(Id, Body), Rea
 }
 
 fn wait_in(alloc: Global, number: u32, value: &Value) -> Result<(Id, Body), ReadError>
-    ensures { Gives (λ sent. (id_of sent.0, body_of sent.1)) result (wait_in number (view value.now)) }
+    ensures { LineGives (λ sent. (id_of sent.0, body_of sent.1)) result (wait_in number (view value.now)) }
 {
     if !json::has_members(value, 3) {
         return Err(ReadError::Refused);
@@ -85,7 +85,7 @@ fn wait_in(alloc: Global, number: u32, value: &Value) -> Result<(Id, Body), Read
 }
 
 fn raise_in(alloc: Global, number: u32, value: &Value) -> Result<(Id, Body), ReadError>
-    ensures { Gives (λ sent. (id_of sent.0, body_of sent.1)) result (raise_in number (view value.now)) }
+    ensures { LineGives (λ sent. (id_of sent.0, body_of sent.1)) result (raise_in number (view value.now)) }
 {
     if !json::has_members(value, 4 + json::one_if_at(value, "value")) {
         return Err(ReadError::Refused);
@@ -99,7 +99,7 @@ fn raise_in(alloc: Global, number: u32, value: &Value) -> Result<(Id, Body), Rea
 }
 
 fn query_in(alloc: Global, number: u32, value: &Value) -> Result<(Id, Body), ReadError>
-    ensures { Gives (λ sent. (id_of sent.0, body_of sent.1)) result (query_in number (view value.now)) }
+    ensures { LineGives (λ sent. (id_of sent.0, body_of sent.1)) result (query_in number (view value.now)) }
 {
     if !json::has_members(value, 3) {
         return Err(ReadError::Refused);
@@ -113,7 +113,7 @@ fn query_in(alloc: Global, number: u32, value: &Value) -> Result<(Id, Body), Rea
 }
 
 fn sent_in(alloc: Global, number: u32, value: &Value) -> Result<(Id, Body), ReadError>
-    ensures { Gives (λ sent. (id_of sent.0, body_of sent.1)) result (sent_in number (view value.now)) }
+    ensures { LineGives (λ sent. (id_of sent.0, body_of sent.1)) result (sent_in number (view value.now)) }
 {
     if value.get("start").is_some() {
         start_in(alloc, number, value)
@@ -137,7 +137,7 @@ fn message_by(client: &Name, sent: (Id, Body)) -> Result<Message, AllocError>
 
 /// The request of this client with this number.
 fn request_by(alloc: Global, client: Name, number: u32, value: &Value) -> Result<Request, ReadError>
-    ensures { Gives request_of result (bind (sent_in number (view value.now)) (λ sent.
+    ensures { LineGives request_of result (bind (sent_in number (view value.now)) (λ sent.
         Some (record { client = client; number = number; message = record { from = client_id client; to = sent.0; body = sent.1 } }))) }
 {
     let (sent, client) = with(sent_in(alloc, number, value), client)?;
@@ -152,7 +152,7 @@ fn request_by(alloc: Global, client: Name, number: u32, value: &Value) -> Result
 }
 
 fn request_in(alloc: Global, value: &Value) -> Result<Request, ReadError>
-    ensures { Gives request_of result (request_in (view value.now)) }
+    ensures { LineGives request_of result (request_in (view value.now)) }
 {
     let client = json::name_at(alloc, value, "client")?;
     match number_in(value) {
@@ -166,7 +166,7 @@ fn request_in(alloc: Global, value: &Value) -> Result<Request, ReadError>
 
 /// The request of a line.
 pub(crate) fn request_on(alloc: Global, line: &[u8]) -> Result<Request, ReadError>
-    ensures { Gives request_of result (request_on line.now) }
+    ensures { LineGives request_of result (request_on line.now) }
 {
     let value = json::data_of(alloc, line)?;
     request_in(alloc, &value)

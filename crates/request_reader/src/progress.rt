@@ -6,7 +6,7 @@ ghost use Rattle.std.specs.Cmp.Lexicographic.{slice_cmp};
 ghost use Rattle.std.specs.List.{find};
 ghost use Rattle.std.specs.Ordering.{nat_cmp, is_eq};
 ghost use Rattle.request_reader.specs.Line.{request_of};
-ghost use Rattle.request_reader.specs.Progress.{pair_cmp, seen, Stands};
+ghost use Rattle.request_reader.specs.Progress.{pair_cmp, seen, RequestsStand};
 ghost use Rattle.request_reader.specs.Requests.{is_by, latest};
 
 use dura_value::{Name, Request, with};
@@ -59,7 +59,7 @@ impl Progress {
     /// Nothing was read.
     pub(crate) fn new(alloc: Global) -> Progress
         ensures nothing { seen result ≡ [] }
-        ensures stands { Stands result }
+        ensures stands { RequestsStand result }
     {
         Progress {
             requests: Vec::new(alloc),
@@ -70,7 +70,7 @@ impl Progress {
 
     /// The request of this client and number.
     pub(crate) fn earlier(&self, pair: &(Name, u32)) -> Option<&Request>
-        requires { Stands self.now }
+        requires { RequestsStand self.now }
         ensures { option_map (λ r. request_of r.now) result ≡ find (is_by pair.now.0 pair.now.1) (seen self.now) }
     {
         match self.places.get(pair) {
@@ -81,7 +81,7 @@ impl Progress {
 
     /// The number of the client's latest request, 0 where it has none.
     pub(crate) fn latest_of(&self, client: &Name) -> u32
-        requires { Stands self.now }
+        requires { RequestsStand self.now }
         ensures { result ≡ latest client.now (seen self.now) }
     {
         match self.latest.get(client) {
@@ -92,10 +92,10 @@ impl Progress {
 
     /// The request goes behind the others.
     pub(crate) fn push(&mut self, request: Request) -> Result<(), AllocError>
-        requires stands { Stands self.old }
+        requires stands { RequestsStand self.old }
         requires unused { find (is_by request.client request.number) (seen self.old) ≡ None }
         ensures pushed { OnOk result (seen self.new ≡ seen self.old ++ request_of request ∷ []) }
-        ensures stands { OnOk result (Stands self.new) }
+        ensures stands { OnOk result (RequestsStand self.new) }
     {
         let place = self.requests.as_slice().len();
         let (_, request) = with(note_latest(&mut self.latest, &request), request)?;

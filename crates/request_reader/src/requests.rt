@@ -5,8 +5,8 @@ ghost use Rattle.std.specs.List.{find, position};
 ghost use Rattle.dura_value.specs.Views.{id_of, body_of, message_of};
 ghost use Rattle.dura_value.specs.Ids.{id_eq};
 ghost use Rattle.request_reader.specs.Line.{request_of};
-ghost use Rattle.request_reader.specs.Progress.{seen, Stands};
-ghost use Rattle.request_reader.specs.Requests.{Answers, asks_same, body_eq, request_eq, is_by, with_new, with_request, is_blank, after_line, after_lines, is_line_feed, lines_of, requests_in};
+ghost use Rattle.request_reader.specs.Progress.{seen, RequestsStand};
+ghost use Rattle.request_reader.specs.Requests.{RequestsGive, asks_same, body_eq, request_eq, is_by, with_new, with_request, is_blank, after_line, after_lines, is_line_feed, lines_of, requests_in};
 
 use crate::error::{ReadError, RequestsError};
 use crate::line::request_on;
@@ -63,10 +63,10 @@ fn is_same(a: &Request, b: &Request) -> bool
 
 /// The request of the line with this number, which no earlier line has, comes behind those of the lines before.
 fn with_new(line: u64, progress: &mut Progress, request: Request) -> Result<(), RequestsError>
-    requires stands { Stands progress.old }
+    requires stands { RequestsStand progress.old }
     requires unused { find (is_by request.client request.number) (seen progress.old) ≡ None }
-    ensures read { Answers (λ _. seen progress.new) result (with_new line (seen progress.old) (request_of request)) }
-    ensures stands { OnOk result (Stands progress.new) }
+    ensures read { RequestsGive (λ _. seen progress.new) result (with_new line (seen progress.old) (request_of request)) }
+    ensures stands { OnOk result (RequestsStand progress.new) }
 {
     if progress.latest_of(&request.client) < request.number {
         match progress.push(request) {
@@ -81,7 +81,7 @@ fn with_new(line: u64, progress: &mut Progress, request: Request) -> Result<(), 
 
 /// Whether the request was made by an earlier line, or is another one than that with its number.
 fn is_made(progress: &Progress, request: &Request) -> Result<Option<bool>, AllocError>
-    requires stands { Stands progress.now }
+    requires stands { RequestsStand progress.now }
     ensures { IfOk result (λ made. made ≡ option_map (λ r. request_eq r (request_of request.now)) (find (is_by request.now.client request.now.number) (seen progress.now))) }
 {
     let client = copy_of(&request.client)?;
@@ -96,9 +96,9 @@ fn is_made(progress: &Progress, request: &Request) -> Result<Option<bool>, Alloc
 /// The request of the line with this number comes behind those of the lines before.
 #[tactic(auto, using(crate::proofs::Used::used_same, crate::proofs::Used::used_other, crate::proofs::Used::unused, crate::proofs::Used::unused_new))]
 fn with_request(line: u64, progress: &mut Progress, request: Request) -> Result<(), RequestsError>
-    requires { Stands progress.old }
-    ensures read { Answers (λ _. seen progress.new) result (with_request line (seen progress.old) (request_of request)) }
-    ensures stands { OnOk result (Stands progress.new) }
+    requires { RequestsStand progress.old }
+    ensures read { RequestsGive (λ _. seen progress.new) result (with_request line (seen progress.old) (request_of request)) }
+    ensures stands { OnOk result (RequestsStand progress.new) }
 {
     match is_made(progress, &request) {
         Ok(None) => with_new(line, progress, request),
@@ -133,9 +133,9 @@ fn after_line(
     progress: &mut Progress,
     line: &[u8],
 ) -> Result<(), RequestsError>
-    requires { Stands progress.old }
-    ensures read { Answers (λ _. seen progress.new) result (after_line number (seen progress.old) line.now) }
-    ensures stands { OnOk result (Stands progress.new) }
+    requires { RequestsStand progress.old }
+    ensures read { RequestsGive (λ _. seen progress.new) result (after_line number (seen progress.old) line.now) }
+    ensures stands { OnOk result (RequestsStand progress.new) }
 {
     if is_blank(line) {
         return Ok(());
@@ -167,7 +167,7 @@ fn first_line(bytes: &[u8]) -> (&[u8], Option<&[u8]>)
 
 fn after_lines(alloc: Global, bytes: &[u8]) -> Result<Progress, RequestsError>
     requires { length bytes.now < 2 ^ 63 }
-    ensures { Answers seen result (requests_in bytes.now) }
+    ensures { RequestsGive seen result (requests_in bytes.now) }
 {
     let mut progress = Progress::new(alloc);
     let mut number = 1u64;
@@ -190,7 +190,7 @@ fn after_lines(alloc: Global, bytes: &[u8]) -> Result<Progress, RequestsError>
 /// that its lines can be counted.
 pub fn read_requests(alloc: Global, bytes: &[u8]) -> Result<Vec<Request>, RequestsError>
     requires { length bytes.now < 2 ^ 63 }
-    ensures { Answers (λ requests. map request_of requests.items) result (requests_in bytes.now) }
+    ensures { RequestsGive (λ requests. map request_of requests.items) result (requests_in bytes.now) }
 {
     match after_lines(alloc, bytes) {
         Ok(progress) => Ok(progress.requests),

@@ -3,7 +3,7 @@
 ghost use Rattle.std.specs.Prelude.{◌≡◌, ◌++◌, [], ◌∷◌, length, option_map};
 ghost use Rattle.std.specs.Str.{IsUtf8};
 ghost use Rattle.serde_json.specs.View.{view, items_view};
-ghost use Rattle.request_reader.specs.Reading.{Gives, where_it};
+ghost use Rattle.request_reader.specs.Reading.{LineGives, where_it};
 ghost use Rattle.dura_value.specs.Values.{value_of};
 ghost use Rattle.request_reader.specs.Values.{is_text, scalar_in, scalars_in, list_in, value_in, value_at};
 
@@ -14,7 +14,7 @@ use std::alloc::Global;
 
 #[tactic(auto, using(crate::proofs::Texts::text_passes, crate::proofs::Texts::long_fails, crate::proofs::Texts::invalid_fails))]
 fn text_in(alloc: Global, text: &str) -> Result<Text, ReadError>
-    ensures { Gives (λ t. t) result (where_it is_text text.now) }
+    ensures { LineGives (λ t. t) result (where_it is_text text.now) }
 {
     match Text::read(alloc, text.as_bytes()) {
         Ok(text) => Ok(text),
@@ -25,7 +25,7 @@ fn text_in(alloc: Global, text: &str) -> Result<Text, ReadError>
 }
 
 fn scalar_in(alloc: Global, value: &Json) -> Result<Scalar, ReadError>
-    ensures { Gives (λ s. s) result (scalar_in (view value.now)) }
+    ensures { LineGives (λ s. s) result (scalar_in (view value.now)) }
 {
     match value {
         Json::Null => Ok(Scalar::Null),
@@ -51,7 +51,7 @@ fn scalar_in(alloc: Global, value: &Json) -> Result<Scalar, ReadError>
 
 /// The scalar that a part stands for comes behind the others.
 fn push_scalar(alloc: Global, scalars: &mut Vec<Scalar>, part: &Json) -> Result<(), ReadError>
-    ensures { Gives (λ _. scalars.new.items) result (option_map (λ s. scalars.old.items ++ s ∷ []) (scalar_in (view part.now))) }
+    ensures { LineGives (λ _. scalars.new.items) result (option_map (λ s. scalars.old.items ++ s ∷ []) (scalar_in (view part.now))) }
 {
     match scalar_in(alloc, part) {
         Ok(scalar) => Ok(scalars.push(scalar)?),
@@ -61,7 +61,7 @@ fn push_scalar(alloc: Global, scalars: &mut Vec<Scalar>, part: &Json) -> Result<
 
 #[tactic(auto, using(crate::proofs::Scalars::goes_on, crate::proofs::Scalars::ends))]
 fn scalars_in(alloc: Global, parts: &[Json]) -> Result<Vec<Scalar>, ReadError>
-    ensures { Gives (λ scalars. scalars.items) result (scalars_in (items_view parts.now)) }
+    ensures { LineGives (λ scalars. scalars.items) result (scalars_in (items_view parts.now)) }
 {
     let mut scalars = Vec::new(alloc);
     for part in parts {
@@ -75,7 +75,7 @@ fn scalars_in(alloc: Global, parts: &[Json]) -> Result<Vec<Scalar>, ReadError>
 
 #[tactic(auto, using(crate::proofs::Counted::count_of_items))]
 fn list_in(alloc: Global, parts: &[Json]) -> Result<Scalars, ReadError>
-    ensures { Gives (λ scalars. scalars) result (list_in (items_view parts.now)) }
+    ensures { LineGives (λ scalars. scalars) result (list_in (items_view parts.now)) }
 {
     if parts.len() > MOST_SCALARS {
         return Err(ReadError::Refused);
@@ -102,7 +102,7 @@ fn value_of(scalar: Scalar) -> Value
 }
 
 fn value_in(alloc: Global, value: &Json) -> Result<Value, ReadError>
-    ensures { Gives (λ v. v) result (value_in (view value.now)) }
+    ensures { LineGives (λ v. v) result (value_in (view value.now)) }
 {
     match value.as_array() {
         Some(parts) => match list_in(alloc, parts) {
@@ -118,7 +118,7 @@ fn value_in(alloc: Global, value: &Json) -> Result<Value, ReadError>
 
 /// The value under the key, null where there is none.
 pub(crate) fn value_at(alloc: Global, value: &Json, key: &str) -> Result<Value, ReadError>
-    ensures { Gives (λ v. v) result (value_at key.now (view value.now)) }
+    ensures { LineGives (λ v. v) result (value_at key.now (view value.now)) }
 {
     match value.get(key) {
         Some(value) => value_in(alloc, value),

@@ -7,7 +7,7 @@ use Rattle.dura_value.specs.Items.{Entry}
 use Rattle.flow_syntax.specs.Syntax.{Flows}
 use Rattle.part_files.specs.Logs.{logs_in, entries_in}
 use Rattle.part_files.specs.Placing.{placed, AllGiven}
-use Rattle.part_files.specs.Stands.{alone_with, Stands}
+use Rattle.part_files.specs.Stands.{alone_with, FilesStand}
 use Rattle.part_files.proofs.LogsNumbered.{entries_numbered}
 use Rattle.run_laws.proofs.Founding.{entries_founded}
 use Rattle.run_laws.specs.Leaves.{committed_in}
@@ -15,7 +15,7 @@ use Rattle.run_laws.specs.Leaves.{committed_in}
 same_entries : (one other : List Entry) → ◌≡◌ {A = Option (List Entry)} (Some one) (Some other) → one ≡ other
 same_entries one other is = cc is
 
-pub founded_follows : (flows : Flows) (digest : ℕ) (recovered more : List Entry) (files : ℕ → List ℕ) (run : List Label) → entries_in (logs_in (alone_with digest) files) ≡ Some (recovered ++ more) → Stands flows digest files run
+pub founded_follows : (flows : Flows) (digest : ℕ) (recovered more : List Entry) (files : ℕ → List ℕ) (run : List Label) → entries_in (logs_in (alone_with digest) files) ≡ Some (recovered ++ more) → FilesStand flows digest files run
     → AllGiven flows 1 (fresh 0) (recovered ++ more) → Founded (names_of (committed_in recovered)) (committed_in more)
 founded_follows flows digest recovered more files run kept stands given =
     let same = same_entries stands.entries (recovered ++ more) (sym stands.kept ∙ kept) in

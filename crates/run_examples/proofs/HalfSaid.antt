@@ -14,8 +14,8 @@ use Rattle.dura_model.proofs.Outcomes.{never_twice}
 use Rattle.dura_value.specs.Messages.{Answer, is_unknown}
 use Rattle.engine_run.specs.Headline.{StandsOrderly, RunsOn}
 use Rattle.engine_run.specs.Picks.{rules_with}
-use Rattle.hub_store.specs.Moments.{Keeps, Told, StandsWith, Stands, AtEveryMoment}
-use Rattle.hub_store.specs.Moments.Told.{silent, settles, says}
+use Rattle.hub_store.specs.Moments.{LogKeeps, SaidSoFar, StandsWith, StoreStands, AtEveryMoment}
+use Rattle.hub_store.specs.Moments.SaidSoFar.{silent, settles, says}
 use Rattle.hub_store.specs.Trail.{Said, Settled}
 use Rattle.part_files.specs.Examples.{digest}
 use Rattle.part_files.specs.Kept.{entries_from, kept_in}
@@ -52,7 +52,7 @@ alone = record {
 }
 
 -- all of the log is on the disk
-keeps_all : (image : List ℕ) → image ≡ answering_log → Keeps (answering_origin.logs 0) [] image
+keeps_all : (image : List ℕ) → image ≡ answering_log → LogKeeps (answering_origin.logs 0) [] image
 unfolding is_utf8 chars encode request_number_at several_at run_at word_size_at name_at key_at text_at scalar_at scalars_at value_front value_at id_at reply_at answer_at spot_at spot_count_at lock_at start_at raise_at query_at wait_at result_at operate_at granted_at body_at message_at count_at outcome_at took_at item_at members_at entry_items_at place_at life_at next_entry_at next_entries_at next_frame_at header_at framed_at entries_from
 keeps_all image is = (114, ap (kept_in 0) is)
 
@@ -62,13 +62,13 @@ silently = record { lines = []; rightly = silent; spoken = refl; images = λ par
 with_half : StandsWith (may_follow rules 0) (may_say rules) answering_origin half_said [] [] (97 ∷ [])
 with_half = record { lines = []; rightly = silent; spoken = refl; images = λ partition below image left. inl (keeps_all image left); others = λ file none. refl }
 
-at_first : Stands (may_follow rules 0) (may_say rules) answering_origin answering_written []
+at_first : StoreStands (may_follow rules 0) (may_say rules) answering_origin answering_written []
 at_first = record { told = []; part = []; stands = silently; speaking = inl refl }
 
 may : Answers rules [] [] (codes "a") 1 (line_of (codes "a") 1 is_unknown)
 may = record { state = once_answered; made = refl; answer = is_unknown; has = refl; request = starting; next = refl; number_is = refl; line_is = refl }
 
-at_last : Stands (may_follow rules 0) (may_say rules) answering_origin half_said []
+at_last : StoreStands (may_follow rules 0) (may_say rules) answering_origin half_said []
 at_last = record {
   told = [];
   part = 97 ∷ [];
@@ -81,7 +81,7 @@ both P before behind moment true is low high = let now : 2 ≡ moment = grind (a
 both P before behind moment false is low high = let now : 3 ≡ moment = grind (arith, nat_tests) in subst P now behind
 
 every : AtEveryMoment (may_follow rules 0) (may_say rules) answering_origin half_said []
-every moment low high = both (λ (m : ℕ). Stands (may_follow rules 0) (may_say rules) answering_origin (back_to m half_said) []) at_first at_last moment (moment == 2) refl low high
+every moment low high = both (λ (m : ℕ). StoreStands (may_follow rules 0) (may_say rules) answering_origin (back_to m half_said) []) at_first at_last moment (moment == 2) refl low high
 
 at_each : (moment : ℕ) → 2 ≤ moment → moment ≤ 3 → (image : ℕ → List ℕ) → IsImage (back_to moment half_said) image → StandsOrderly rules 0 digest answering_origin (back_to moment half_said) [] image
 at_each moment low high image is =
@@ -123,7 +123,7 @@ no_byte name number answer =
 
 -- so whole lines are no single byte
 module _ (rules : Rules) (latest : ℕ) where
-  not_one : {trail : List Settled} {told : List Said} {lines : List ℕ} → Told (may_follow rules latest) (may_say rules) trail told lines → length lines ≡ 1 → ⊥
+  not_one : {trail : List Settled} {told : List Said} {lines : List ℕ} → SaidSoFar (may_follow rules latest) (may_say rules) trail told lines → length lines ≡ 1 → ⊥
   not_one silent is = omega (arith, is)
   not_one (settles before partition at going may) is = not_one before is
   not_one (says {lines = lines} before one line may) is =

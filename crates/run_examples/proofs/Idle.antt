@@ -6,8 +6,8 @@ use Rattle.dura_model.proofs.Outcomes.{never_twice}
 use Rattle.engine_run.specs.Headline.{StandsOrderly, RunsOn}
 use Rattle.engine_run.specs.Picks.{rules_with}
 use Rattle.hub_store.specs.Examples.{one_log, log_written}
-use Rattle.hub_store.specs.Moments.{Keeps, StandsWith, Stands, AtEveryMoment}
-use Rattle.hub_store.specs.Moments.Told.{silent}
+use Rattle.hub_store.specs.Moments.{LogKeeps, StandsWith, StoreStands, AtEveryMoment}
+use Rattle.hub_store.specs.Moments.SaidSoFar.{silent}
 use Rattle.part_files.specs.Examples.{digest, empty_log}
 use Rattle.part_files.specs.Kept.{entries_from, kept_in}
 use Rattle.part_files.specs.Logs.{second_log}
@@ -37,7 +37,7 @@ alone = record {
 }
 
 -- all of the log is on the disk, and keeps nothing
-keeps_none : (image : List ℕ) → image ≡ empty_log → Keeps (one_log.logs 0) [] image
+keeps_none : (image : List ℕ) → image ≡ empty_log → LogKeeps (one_log.logs 0) [] image
 unfolding header_at entries_from
 keeps_none image is = (33, ap (kept_in 0) is)
 
@@ -50,13 +50,13 @@ stands_with = record {
   others = λ file none. refl;
 }
 
-stands : Stands (may_follow rules 0) (may_say rules) one_log log_written []
+stands : StoreStands (may_follow rules 0) (may_say rules) one_log log_written []
 stands = record { told = []; part = []; stands = stands_with; speaking = inl refl }
 
 every : AtEveryMoment (may_follow rules 0) (may_say rules) one_log log_written []
 every moment low high =
     let now : 2 ≡ moment = omega (arith, low, high) in
-    subst (λ (m : ℕ). Stands (may_follow rules 0) (may_say rules) one_log (back_to m log_written) []) now stands
+    subst (λ (m : ℕ). StoreStands (may_follow rules 0) (may_say rules) one_log (back_to m log_written) []) now stands
 
 at_each : (moment : ℕ) → 2 ≤ moment → moment ≤ 2 → (image : ℕ → List ℕ) → IsImage (back_to moment log_written) image → StandsOrderly rules 0 digest one_log (back_to moment log_written) [] image
 at_each moment low high image is =

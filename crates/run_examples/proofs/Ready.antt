@@ -4,7 +4,7 @@ use Rattle.std.proofs.lemmas.List.Elements.{All-from_recursion}
 use Rattle.dura_model.specs.Partition.{fresh}
 use Rattle.engine_run.specs.Causes.{AsksFor, AreRefused, IsReady}
 use Rattle.engine_run.specs.Causes.AreRefused.{for_input, for_logs, for_clash}
-use Rattle.engine_run.specs.Job.{Keeps}
+use Rattle.engine_run.specs.Job.{FilesKeep}
 use Rattle.engine_run.specs.Kept.{clashes}
 use Rattle.engine_run.specs.Order.{no_later}
 use Rattle.engine_run.proofs.Refusing.{not_refused}
@@ -22,10 +22,10 @@ use Rattle.run_inputs.proofs.Computed.{flows_of_one, requests_of_one, refusal_go
 pub asks_here : (first : List ℕ) → AsksFor (directory requests_bytes first) one_asked
 asks_here first = record { flows_in_file = flows_of_one; digest_of_file = refl; requests_in_file = requests_of_one; accepted = refusal_good }
 
-pub keeps_fresh : Keeps one_asked good_files [] (fresh 0)
+pub keeps_fresh : FilesKeep one_asked good_files [] (fresh 0)
 keeps_fresh = record { kept = fresh_kept; made = refl }
 
-pub keeps_earlier : Keeps one_asked (directory requests_bytes earlier_log) (taking 0 ∷ []) request_taken
+pub keeps_earlier : FilesKeep one_asked (directory requests_bytes earlier_log) (taking 0 ∷ []) request_taken
 keeps_earlier = record { kept = earlier_kept; made = refl }
 
 pub ready : IsReady good_files

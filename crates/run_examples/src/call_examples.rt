@@ -5,12 +5,12 @@ ghost use Rattle.dura_model.specs.Partition.{Partition, fresh};
 ghost use Rattle.dura_model.specs.World.{empty};
 ghost use Rattle.dura_value.specs.Items.{Entry};
 ghost use Rattle.engine_run.specs.Asked.{IsRequest, IsTaken};
-ghost use Rattle.engine_run.specs.Causes.{AsksFor, Answers, Untouched};
+ghost use Rattle.engine_run.specs.Causes.{AsksFor, CauseHolds, Untouched};
 ghost use Rattle.engine_run.specs.Ends.{AreAllSaid, IsFirstUnsaid, SaysWhole, RunEndsAs};
 ghost use Rattle.run_examples.specs.Calls.{by_steps, terms_by, nothing_asked, one_asked, no_flows, starting, waiting, second, third, unsaid, two_unsaid, all_said, settled_once, ended_twice, rules_for, asking_too, held_back, out_of_turn, answered};
 ghost use Rattle.engine_run.specs.Headline.{IsOrderly, EndsEarly, RunsOn};
 ghost use Rattle.engine_run.specs.Served.{IsServed, IsFirstOpen, Awaits, HasServed};
-ghost use Rattle.engine_run.specs.Job.{Keeps};
+ghost use Rattle.engine_run.specs.Job.{FilesKeep};
 ghost use Rattle.engine_run.specs.Kept.{IsClash, NoClash};
 ghost use Rattle.engine_run.specs.Opened.{IsOpening};
 ghost use Rattle.engine_run.specs.Showing.{ShowsAs, WritesNothing};
@@ -37,10 +37,10 @@ pub fn files_ask()
 
 /// A log without entries keeps none, where nothing happened: not under another digest, not where a byte is another, and no entry more.
 pub fn logs_keep()
-    ensures none { Keeps nothing_asked (two_files empty_log []) [] (fresh 0) }
-    ensures damaged { (entries : List Entry) (state : Partition) → Keeps nothing_asked (two_files (slice_set empty_log 3 0) []) entries state → ⊥ }
-    ensures other_digest { (entries : List Entry) (state : Partition) → Keeps (record nothing_asked { digest = 0 }) (two_files empty_log []) entries state → ⊥ }
-    ensures one_more { (state : Partition) → Keeps nothing_asked (two_files empty_log []) (taking 0 ∷ []) state → ⊥ }
+    ensures none { FilesKeep nothing_asked (two_files empty_log []) [] (fresh 0) }
+    ensures damaged { (entries : List Entry) (state : Partition) → FilesKeep nothing_asked (two_files (slice_set empty_log 3 0) []) entries state → ⊥ }
+    ensures other_digest { (entries : List Entry) (state : Partition) → FilesKeep (record nothing_asked { digest = 0 }) (two_files empty_log []) entries state → ⊥ }
+    ensures one_more { (state : Partition) → FilesKeep nothing_asked (two_files empty_log []) (taking 0 ∷ []) state → ⊥ }
 {}
 
 /// A request clashes where another was taken under its client's name and its number: not where none was, nor where it was itself.
@@ -62,10 +62,10 @@ pub fn refusals_touch_nothing()
 
 /// A call isn't ended by words that were wrong once it reads files, nor by another fault of them than theirs.
 pub fn causes_of_files()
-    ensures theirs { Answers (three_files (codes "{}") [] (codes "{}")) (causes.BadPlan places.Whole) }
-    ensures other { Answers (three_files (codes "{}") [] (codes "{}")) (causes.BadFlows faults.NotJson) → ⊥ }
-    ensures usage { (files : ℕ → List ℕ) → Answers files causes.Usage → ⊥ }
-    ensures waiting { Answers (three_files (codes "{}") [] (codes "{}")) (causes.Waiting (codes "a") 1) → ⊥ }
+    ensures theirs { CauseHolds (three_files (codes "{}") [] (codes "{}")) (causes.BadPlan places.Whole) }
+    ensures other { CauseHolds (three_files (codes "{}") [] (codes "{}")) (causes.BadFlows faults.NotJson) → ⊥ }
+    ensures usage { (files : ℕ → List ℕ) → CauseHolds files causes.Usage → ⊥ }
+    ensures waiting { CauseHolds (three_files (codes "{}") [] (codes "{}")) (causes.Waiting (codes "a") 1) → ⊥ }
 {}
 
 /// Before the logs are opened nothing is said. Where nothing happened nothing was settled.

@@ -20,7 +20,7 @@ ghost use Rattle.hub_store.specs.Trail.{Said, Settled};
 ghost use Rattle.part_files.specs.Examples.{digest, two_files, empty_log, taking, request_taken};
 ghost use Rattle.part_files.specs.Logs.{logs_in, entries_in};
 ghost use Rattle.part_files.specs.Placing.{placed, AllGiven};
-ghost use Rattle.part_files.specs.Stands.{alone_with, Stands as FilesStand};
+ghost use Rattle.part_files.specs.Stands.{alone_with, FilesStand};
 ghost use Rattle.run_causes.specs.declared.cause.Cause.{Cause};
 ghost use Rattle.run_causes.specs.declared.cause.Cause.TheVariants as causes;
 ghost use Rattle.run_examples.specs.Calls.{nothing_asked, one_start, rules_for, settled_once, terms_by};

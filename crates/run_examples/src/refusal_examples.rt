@@ -6,8 +6,8 @@ ghost use Rattle.command_words.specs.declared.words.RunOptions.{RunOptions};
 ghost use Rattle.dura_model.specs.Partition.{fresh};
 ghost use Rattle.dura_model.specs.World.{Activity};
 ghost use Rattle.dura_value.specs.declared.outcome.Outcome.{Outcome};
-ghost use Rattle.engine_run.specs.Causes.{AsksFor, Answers, AreRefused, ClashesWithKept, IsReady, IsRefusal, IsLogRefusal, LeavesAll, RefusesLogs, SettlesNothing, Untouched};
-ghost use Rattle.engine_run.specs.Job.{Keeps, AreGivenIn};
+ghost use Rattle.engine_run.specs.Causes.{AsksFor, CauseHolds, AreRefused, ClashesWithKept, IsReady, IsRefusal, IsLogRefusal, LeavesAll, RefusesLogs, SettlesNothing, Untouched};
+ghost use Rattle.engine_run.specs.Job.{FilesKeep, AreGivenIn};
 ghost use Rattle.engine_run.specs.Kept.{IsClash};
 ghost use Rattle.part_files.specs.Examples.{taking, request_taken, empty_log};
 ghost use Rattle.recover_core.specs.Recovering.{both_synced};
@@ -22,13 +22,13 @@ ghost use Rattle.site_model.specs.History.{on, said, synced, wrote};
 /// What a call is promised for is there: a fresh directory keeps no entry, one of an earlier run keeps that run's, and one that a crash
 /// left keeps what was behind open gates. All outcomes in them may be given.
 pub fn calls_begin()
-    ensures fresh { Keeps one_asked good_files [] (fresh 0) }
+    ensures fresh { FilesKeep one_asked good_files [] (fresh 0) }
     ensures fresh_given { AreGivenIn one_asked [] }
     ensures earlier_asks { AsksFor (directory requests_bytes earlier_log) one_asked }
-    ensures earlier { Keeps one_asked (directory requests_bytes earlier_log) (taking 0 ∷ []) request_taken }
+    ensures earlier { FilesKeep one_asked (directory requests_bytes earlier_log) (taking 0 ∷ []) request_taken }
     ensures earlier_given { AreGivenIn one_asked (taking 0 ∷ []) }
-    ensures torn { Keeps one_asked (directory requests_bytes torn_log) [] (fresh 0) }
-    ensures other_state { Keeps one_asked good_files [] request_taken → ⊥ }
+    ensures torn { FilesKeep one_asked (directory requests_bytes torn_log) [] (fresh 0) }
+    ensures other_state { FilesKeep one_asked good_files [] request_taken → ⊥ }
 {}
 
 /// Which files are accepted, and which are to be refused: for their input, for a log of other flows, or for a request that clashes.
@@ -82,20 +82,20 @@ pub fn refusals_touch_nothing()
 /// No refusal is the answer where files are accepted, and none but the right one where they are refused; what comes of a run that
 /// went on comes only where they are accepted.
 pub fn causes_of_files()
-    ensures flows { Answers good_files (causes.BadFlows faults.NotJson) → ⊥ }
-    ensures requests { Answers good_files (causes.BadRequests 1) → ⊥ }
-    ensures long { Answers good_files (causes.TooLong 0) → ⊥ }
-    ensures clash { Answers good_files (causes.Clash (codes "a") 1) → ⊥ }
-    ensures damaged { Answers good_files (causes.Damaged 16 0) → ⊥ }
-    ensures shape { Answers good_files (causes.OtherShape 2 1) → ⊥ }
-    ensures other_flows { Answers good_files (causes.OtherFlows 1 2) → ⊥ }
-    ensures illegal { Answers good_files (causes.Illegal 0 0) → ⊥ }
-    ensures spent { Answers good_files (causes.Spent 0 0) → ⊥ }
-    ensures unclosed { (files : ℕ → List ℕ) → Answers files (causes.Unclosed 0 0 0 0) → ⊥ }
-    ensures done { Answers (directory requests_bytes empty_log) causes.Done → ⊥ }
-    ensures waiting { Answers (directory requests_bytes empty_log) (causes.Waiting (codes "a") 1) → ⊥ }
-    ensures many { Answers (directory requests_bytes empty_log) (causes.Long 1) → ⊥ }
-    ensures full { Answers (directory requests_bytes empty_log) (causes.Full 0 4096) → ⊥ }
-    ensures say_fault { Answers (directory requests_bytes empty_log) causes.SayFault → ⊥ }
-    ensures clock_fault { Answers (directory requests_bytes empty_log) causes.ClockFault → ⊥ }
+    ensures flows { CauseHolds good_files (causes.BadFlows faults.NotJson) → ⊥ }
+    ensures requests { CauseHolds good_files (causes.BadRequests 1) → ⊥ }
+    ensures long { CauseHolds good_files (causes.TooLong 0) → ⊥ }
+    ensures clash { CauseHolds good_files (causes.Clash (codes "a") 1) → ⊥ }
+    ensures damaged { CauseHolds good_files (causes.Damaged 16 0) → ⊥ }
+    ensures shape { CauseHolds good_files (causes.OtherShape 2 1) → ⊥ }
+    ensures other_flows { CauseHolds good_files (causes.OtherFlows 1 2) → ⊥ }
+    ensures illegal { CauseHolds good_files (causes.Illegal 0 0) → ⊥ }
+    ensures spent { CauseHolds good_files (causes.Spent 0 0) → ⊥ }
+    ensures unclosed { (files : ℕ → List ℕ) → CauseHolds files (causes.Unclosed 0 0 0 0) → ⊥ }
+    ensures done { CauseHolds (directory requests_bytes empty_log) causes.Done → ⊥ }
+    ensures waiting { CauseHolds (directory requests_bytes empty_log) (causes.Waiting (codes "a") 1) → ⊥ }
+    ensures many { CauseHolds (directory requests_bytes empty_log) (causes.Long 1) → ⊥ }
+    ensures full { CauseHolds (directory requests_bytes empty_log) (causes.Full 0 4096) → ⊥ }
+    ensures say_fault { CauseHolds (directory requests_bytes empty_log) causes.SayFault → ⊥ }
+    ensures clock_fault { CauseHolds (directory requests_bytes empty_log) causes.ClockFault → ⊥ }
 {}

@@ -43,15 +43,15 @@ IsInputCause Memory = Unit {0}
 IsInputCause other = ⊥
 
 -- the reason why the files are refused, or a fault of the outside, or want of memory
-abbrev pub Refuses : Option Cause → Cause → Type 0
-Refuses refusal (BadFlows fault) = refusal ≡ Some (BadFlows fault)
-Refuses refusal (BadRequests line) = refusal ≡ Some (BadRequests line)
-Refuses refusal (Clash client number) = refusal ≡ Some (Clash client number)
-Refuses refusal (BadPlan place) = refusal ≡ Some (BadPlan place)
-Refuses refusal (TooLong file) = refusal ≡ Some (TooLong file)
-Refuses refusal SiteFault = Unit {0}
-Refuses refusal Memory = Unit {0}
-Refuses refusal other = ⊥
+abbrev pub RefusesInput : Option Cause → Cause → Type 0
+RefusesInput refusal (BadFlows fault) = refusal ≡ Some (BadFlows fault)
+RefusesInput refusal (BadRequests line) = refusal ≡ Some (BadRequests line)
+RefusesInput refusal (Clash client number) = refusal ≡ Some (Clash client number)
+RefusesInput refusal (BadPlan place) = refusal ≡ Some (BadPlan place)
+RefusesInput refusal (TooLong file) = refusal ≡ Some (TooLong file)
+RefusesInput refusal SiteFault = Unit {0}
+RefusesInput refusal Memory = Unit {0}
+RefusesInput refusal other = ⊥
 
 -- ---- one file
 
@@ -88,12 +88,12 @@ RequestsRead bytes (Err other) = ⊥
 -- the requests of a whole file 1
 abbrev pub ReadsRequestFile : List ℕ → Result (Vec OwnRequest Global) Cause → Type 0
 ReadsRequestFile bytes (Ok requests) = (requests_refused bytes ≡ None) × (requests_in bytes ≡ Ok (map request_of requests.items))
-ReadsRequestFile bytes (Err cause) = Refuses (requests_refused bytes) cause
+ReadsRequestFile bytes (Err cause) = RefusesInput (requests_refused bytes) cause
 
 -- whether file 2 is empty
 abbrev pub ReadsPlan : List ℕ → Result (Unit {0}) Cause → Type 0
 ReadsPlan bytes (Ok done) = plan_refused bytes ≡ None
-ReadsPlan bytes (Err cause) = Refuses (plan_refused bytes) cause
+ReadsPlan bytes (Err cause) = RefusesInput (plan_refused bytes) cause
 
 -- ---- the files
 
@@ -106,12 +106,12 @@ pub record HasFlows (files : ℕ → List ℕ) (flows : Flows) (digest : ℕ) : 
 -- what reading the flows file answers
 abbrev pub ReadsFlowFile : (ℕ → List ℕ) → Result FlowFile Cause → Type 0
 ReadsFlowFile files (Ok file) = HasFlows files (flows_of file.flows) file.digest
-ReadsFlowFile files (Err cause) = Refuses (flows_refusal files) cause
+ReadsFlowFile files (Err cause) = RefusesInput (flows_refusal files) cause
 
 -- the requests of file 1, unless it is refused, or file 2
 abbrev pub ReadsRest : (ℕ → List ℕ) → Result (Vec OwnRequest Global) Cause → Type 0
 ReadsRest files (Ok requests) = (rest_refusal files ≡ None) × (requests_in (files 1) ≡ Ok (map request_of requests.items))
-ReadsRest files (Err cause) = Refuses (rest_refusal files) cause
+ReadsRest files (Err cause) = RefusesInput (rest_refusal files) cause
 
 -- The input files are accepted, and these are their flows, the digest of the flows file, and their requests.
 pub record HasInput (files : ℕ → List ℕ) (flows : Flows) (digest : ℕ) (requests : List Request) : Type 0 where
@@ -123,4 +123,4 @@ pub record HasInput (files : ℕ → List ℕ) (flows : Flows) (digest : ℕ) (r
 -- what reading the input files answers
 abbrev pub ReadsInput : (ℕ → List ℕ) → Result Input Cause → Type 0
 ReadsInput files (Ok input) = HasInput files (flows_of input.file.flows) input.file.digest (map request_of input.requests.items)
-ReadsInput files (Err cause) = Refuses (refusal_of files) cause
+ReadsInput files (Err cause) = RefusesInput (refusal_of files) cause

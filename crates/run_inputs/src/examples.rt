@@ -9,7 +9,7 @@ ghost use Rattle.run_causes.specs.declared.cause.Cause.TheVariants as causes;
 ghost use Rattle.run_causes.specs.declared.cause.FlowsFault.TheVariants as faults;
 ghost use Rattle.run_causes.specs.declared.cause.PlanPlace.TheVariants as places;
 ghost use Rattle.run_inputs.specs.Examples.{three_files, flows_bytes, one_flow, one_request, clashing_bytes, good_files};
-ghost use Rattle.run_inputs.specs.Input.{HasFlows, HasInput, Refuses};
+ghost use Rattle.run_inputs.specs.Input.{HasFlows, HasInput, RefusesInput};
 ghost use Rattle.run_inputs.specs.Refusal.{is_too_long, refusal_of};
 
 /// A flow and a request, and no plan: the files hold these, and nothing else.
@@ -43,9 +43,9 @@ pub fn long_files()
 
 /// A call may end with the reason why the files are refused, a fault of the site or want of memory, and with nothing else.
 pub fn causes_of_a_call()
-    ensures reason { Refuses (Some (causes.TooLong 1)) (causes.TooLong 1) }
-    ensures fault { (refusal : Option AnyCause) → Refuses refusal causes.SiteFault }
-    ensures other_reason { Refuses (Some (causes.TooLong 1)) (causes.TooLong 0) → ⊥ }
-    ensures no_reason { Refuses None (causes.BadPlan places.Whole) → ⊥ }
-    ensures say_fault { (refusal : Option AnyCause) → Refuses refusal causes.SayFault → ⊥ }
+    ensures reason { RefusesInput (Some (causes.TooLong 1)) (causes.TooLong 1) }
+    ensures fault { (refusal : Option AnyCause) → RefusesInput refusal causes.SiteFault }
+    ensures other_reason { RefusesInput (Some (causes.TooLong 1)) (causes.TooLong 0) → ⊥ }
+    ensures no_reason { RefusesInput None (causes.BadPlan places.Whole) → ⊥ }
+    ensures say_fault { (refusal : Option AnyCause) → RefusesInput refusal causes.SayFault → ⊥ }
 {}

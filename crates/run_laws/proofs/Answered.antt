@@ -6,8 +6,8 @@ use Rattle.dura_model.specs.Partition.{fresh}
 use Rattle.dura_model.proofs.Kept.{fresh_shown}
 use Rattle.dura_model.specs.Steps.{Label}
 use Rattle.dura_value.specs.Items.{Entry}
-use Rattle.hub_store.specs.Moments.{Told, SaysNext}
-use Rattle.hub_store.specs.Moments.Told.{silent, settles, says}
+use Rattle.hub_store.specs.Moments.{SaidSoFar, SaysNext}
+use Rattle.hub_store.specs.Moments.SaidSoFar.{silent, settles, says}
 use Rattle.hub_store.specs.Origin.{Origin}
 use Rattle.hub_store.specs.Trail.{Settled, Said, of_part, settling}
 use Rattle.hub_store.proofs.Settling.{of_part-append}
@@ -54,7 +54,7 @@ module _ (o : Origin) (rules : Rules) (latest digest : ℕ) (begins : BeginsAlon
   }
 
   -- all that were said
-  pub all_answered : {trail : List Settled} {told : List Said} {lines : List ℕ} → Told (may_follow rules latest) (may_say rules) trail told lines → (behind : List Entry) → settled ≡ of_part 0 trail ++ behind → AllAnswered rules o settled told lines
+  pub all_answered : {trail : List Settled} {told : List Said} {lines : List ℕ} → SaidSoFar (may_follow rules latest) (may_say rules) trail told lines → (behind : List Entry) → settled ≡ of_part 0 trail ++ behind → AllAnswered rules o settled told lines
   all_answered silent behind front = nothing_said
   all_answered (settles {trail} before partition at going follows) behind front =
       let more = of_part 0 (settling partition at going) in

@@ -13,7 +13,7 @@ use Rattle.flow_syntax.specs.Syntax.{Flows}
 use Rattle.part_files.specs.Examples.{digest, two_files, empty_log, taking_log, taking, request, request_taken}
 use Rattle.part_files.specs.Kept.{entries_from}
 use Rattle.part_files.specs.Logs.{logs_in, entries_in}
-use Rattle.part_files.specs.Stands.{alone_with, Stands}
+use Rattle.part_files.specs.Stands.{alone_with, FilesStand}
 use Rattle.part_files.proofs.Alone.{are_shown_alone}
 use Rattle.part_files.proofs.EntriesLead.{entries_lead}
 use Rattle.part_items.specs.Grammar.{took_at, item_at, members_at, entry_items_at}
@@ -32,7 +32,7 @@ pub twice_kept : entries_in (logs_in (alone_with digest) (two_files twice_log []
 unfolding is_utf8 chars encode request_number_at several_at run_at word_size_at name_at key_at text_at scalar_at scalars_at value_front value_at id_at reply_at answer_at spot_at spot_count_at lock_at start_at raise_at query_at wait_at result_at operate_at granted_at body_at message_at count_at outcome_at took_at item_at members_at entry_items_at place_at life_at next_entry_at next_entries_at next_frame_at header_at framed_at entries_from
 twice_kept = refl
 
-pub once_stands : (flows : Flows) → Stands flows digest (two_files taking_log []) (take request.from 1 request ∷ [])
+pub once_stands : (flows : Flows) → FilesStand flows digest (two_files taking_log []) (take request.from 1 request ∷ [])
 once_stands flows = record {
   entries = taking 0 ∷ [];
   kept = once_kept;

@@ -6,13 +6,13 @@ use Rattle.commit_log.specs.declared.header.Header.{Header}
 use Rattle.dura_model.specs.Partition.{fresh}
 use Rattle.dura_model.specs.Steps.{Label}
 use Rattle.dura_value.specs.Items.{Entry}
-use Rattle.hub_store.specs.Moments.{WroteGate, Keeps, Stands as StandsAt}
+use Rattle.hub_store.specs.Moments.{WroteGate, LogKeeps, StoreStands as StandsAt}
 use Rattle.hub_store.specs.Origin.{Origin, IsNoLog}
 use Rattle.hub_store.specs.Trail.{Settled, of_part}
 use Rattle.part_files.specs.Kept.{Kept, keeps, nothing, kept_in}
 use Rattle.part_files.specs.Logs.{Refusal, other_flows, fault_of, or_else, unless, log_in, logs_of, logs_in, entries_in, first_log, second_log}
 use Rattle.part_files.specs.Placing.{labels_in, state_next}
-use Rattle.part_files.specs.Stands.{alone_with, Stands}
+use Rattle.part_files.specs.Stands.{alone_with, FilesStand}
 use Rattle.part_files.proofs.Appending.{labels_both, numbered_both}
 use Rattle.part_files.proofs.LabelsStand.{labels_stand}
 use Rattle.part_files.proofs.LogsNumbered.{entries_numbered}
@@ -52,7 +52,7 @@ module _ (digest : ℕ) (entries : List Entry) (gate : ℕ) where
 
 module _ (o : Origin) (rules : Rules) (latest digest : ℕ) (begins : BeginsAlone o rules digest) where
   -- the entries of an image of the log, beside one of the other file
-  kept_entries : (files : ℕ → List ℕ) (entries : List Entry) → Keeps (o.logs 0) entries (files (o.logs 0).file) → kept_in 0 (files begins.other) ≡ nothing
+  kept_entries : (files : ℕ → List ℕ) (entries : List Entry) → LogKeeps (o.logs 0) entries (files (o.logs 0).file) → kept_in 0 (files begins.other) ≡ nothing
       → entries_in (logs_in (alone_with digest) files) ≡ Some ((o.logs 0).entries ++ entries)
   kept_entries files entries kept none =
       let here : kept_in 0 (files (o.logs 0).file) ≡ keeps (header_with digest) ((o.logs 0).entries ++ entries) kept.0 =
@@ -60,11 +60,11 @@ module _ (o : Origin) (rules : Rules) (latest digest : ℕ) (begins : BeginsAlon
       entries_alone digest ((o.logs 0).entries ++ entries) kept.0 files (o.logs 0).file begins.other begins.files here none
 
   -- the run that it stands for
-  image_stands : (files : ℕ → List ℕ) (entries : List Entry) → Goes rules latest entries → Keeps (o.logs 0) entries (files (o.logs 0).file) → kept_in 0 (files begins.other) ≡ nothing
-      → Stands rules.flows digest files (labels_in (o.logs 0).entries ++ labels_in entries)
+  image_stands : (files : ℕ → List ℕ) (entries : List Entry) → Goes rules latest entries → LogKeeps (o.logs 0) entries (files (o.logs 0).file) → kept_in 0 (files begins.other) ≡ nothing
+      → FilesStand rules.flows digest files (labels_in (o.logs 0).entries ++ labels_in entries)
   image_stands files entries goes kept none =
       let all = whole o rules latest digest begins entries goes in
-      subst (Stands rules.flows digest files) (labels_both (o.logs 0).entries entries)
+      subst (FilesStand rules.flows digest files) (labels_both (o.logs 0).entries entries)
       (labels_stand rules.flows digest files ((o.logs 0).entries ++ entries) goes.state (kept_entries files entries kept none) all.0 all.1)
 
   labels_split : (before going : List Entry) → labels_in (o.logs 0).entries ++ labels_in (before ++ going) ≡ labels_in (o.logs 0).entries ++ labels_in before ++ labels_in going
@@ -81,12 +81,12 @@ module _ (o : Origin) (rules : Rules) (latest digest : ℕ) (begins : BeginsAlon
       ]
 
   -- what was settled is numbered, since an image keeps it
-  numbered : (files : ℕ → List ℕ) (entries : List Entry) → Keeps (o.logs 0) entries (files (o.logs 0).file) → kept_in 0 (files begins.other) ≡ nothing → IsNumbered (state_next (fresh 0)) ((o.logs 0).entries ++ entries)
+  numbered : (files : ℕ → List ℕ) (entries : List Entry) → LogKeeps (o.logs 0) entries (files (o.logs 0).file) → kept_in 0 (files begins.other) ≡ nothing → IsNumbered (state_next (fresh 0)) ((o.logs 0).entries ++ entries)
   numbered files entries kept none = entries_numbered (alone_with digest) files ((o.logs 0).entries ++ entries) (kept_entries files entries kept none)
 
   -- how things stand at a moment, where the image keeps these entries
   standing : (steps : List Step) (trail : List Settled) (files : ℕ → List ℕ) (going : List Entry) → StandsAt (may_follow rules latest) (may_say rules) o steps trail → Goes rules latest (of_part 0 trail ++ going)
-      → Keeps (o.logs 0) (of_part 0 trail ++ going) (files (o.logs 0).file) → kept_in 0 (files begins.other) ≡ nothing → (going ≡ []) ⊎ WroteGate (o.logs 0) (of_part 0 trail) (changes_of (o.logs 0).file steps) → StandsOn rules latest digest o steps trail files
+      → LogKeeps (o.logs 0) (of_part 0 trail ++ going) (files (o.logs 0).file) → kept_in 0 (files begins.other) ≡ nothing → (going ≡ []) ⊎ WroteGate (o.logs 0) (of_part 0 trail) (changes_of (o.logs 0).file steps) → StandsOn rules latest digest o steps trail files
   standing steps trail files going here goes kept none writing =
       let longer : IsNumbered (state_next (fresh 0)) (((o.logs 0).entries ++ of_part 0 trail) ++ going) =
       subst (IsNumbered (state_next (fresh 0))) (sym (append_assoc (o.logs 0).entries (of_part 0 trail) going)) (numbered files (of_part 0 trail ++ going) kept none) in
@@ -94,7 +94,7 @@ module _ (o : Origin) (rules : Rules) (latest digest : ℕ) (begins : BeginsAlon
       record {
         going = going;
         kept = kept_entries files (of_part 0 trail ++ going) kept none;
-        stands = subst (Stands rules.flows digest files) (labels_split (of_part 0 trail) going) (image_stands files (of_part 0 trail ++ going) goes kept none);
+        stands = subst (FilesStand rules.flows digest files) (labels_split (of_part 0 trail) going) (image_stands files (of_part 0 trail ++ going) goes kept none);
         writing = writing;
         given = (whole o rules latest digest begins (of_part 0 trail ++ going) goes).1;
         ran = goes.ran;
@@ -120,6 +120,6 @@ module _ (o : Origin) (rules : Rules) (latest digest : ℕ) (begins : BeginsAlon
       begins.empty (files begins.other) (subst (λ changes. Leaves changes (files begins.other)) (here.stands.others begins.other no_log) (image.each begins.other)) in
       let all = sym (append-nil (of_part 0 trail)) in
       elim (here.stands.images 0 (omega (arith, begins.one)) (files (o.logs 0).file) (image.each (o.logs 0).file)) [
-        | inl kept ↦ standing steps trail files [] here (subst (Goes rules latest) all goes) (subst (λ (l : List Entry). Keeps (o.logs 0) l (files (o.logs 0).file)) all kept) none (inl refl)
+        | inl kept ↦ standing steps trail files [] here (subst (Goes rules latest) all goes) (subst (λ (l : List Entry). LogKeeps (o.logs 0) l (files (o.logs 0).file)) all kept) none (inl refl)
         | inr next ↦ standing steps trail files next.going here (goes_on rules latest trail here.told next.going goes next.follows) next.keeps none (inr next.gate)
       ]

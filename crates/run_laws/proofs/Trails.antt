@@ -4,8 +4,8 @@ use Rattle.std.specs.List.{All}
 use Rattle.std.proofs.lemmas.List.Elements.{All-append}
 use Rattle.dura_model.specs.Partition.{Partition}
 use Rattle.dura_value.specs.Items.{Entry}
-use Rattle.hub_store.specs.Moments.{Told as StoreTold}
-use Rattle.hub_store.specs.Moments.Told.{silent, settles, says}
+use Rattle.hub_store.specs.Moments.{SaidSoFar as StoreTold}
+use Rattle.hub_store.specs.Moments.SaidSoFar.{silent, settles, says}
 use Rattle.hub_store.specs.Trail.{Settled, Said, of_part, settling}
 use Rattle.hub_store.proofs.Settling.{of_part-append, own_part}
 use Rattle.part_files.specs.Placing.{placed, AllGiven}

@@ -13,10 +13,10 @@ pub record OnlyFile (file : ℕ) (old new : List Step) : Type 0 where
   pub same_tape : tape new ≡ tape old
 
 -- nothing happened but to this file, of which a crash leaves only what has P
-pub record Keeps (file : ℕ) (old : List Step) (P : List ℕ → Type 0) (steps : List Step) : Type 0 where
+pub record ImageKeeps (file : ℕ) (old : List Step) (P : List ℕ → Type 0) (steps : List Step) : Type 0 where
   pub only : OnlyFile file old steps
   pub images : (image : List ℕ) → Leaves (changes_of file steps) image → P image
 
 -- at each moment of a call
 abbrev pub LeavesOnly : ℕ → List Step → List Step → (List ℕ → Type 0) → Type 0
-LeavesOnly file old new P = Always (Keeps file old P) old new
+LeavesOnly file old new P = Always (ImageKeeps file old P) old new

@@ -9,7 +9,7 @@ use Rattle.part_steps.specs.Listing.{instance_standing}
 use Rattle.part_steps.specs.States.{state_of}
 use Rattle.part_steps.specs.declared.state.PartState.{PartState}
 use Rattle.state_lines.specs.Table.{table_lines, has_entity, has_instance, entity_answer, AreAll, IsTable}
-use Rattle.state_lines.specs.Fronts.{IsFront}
+use Rattle.state_lines.specs.Fronts.{AreFirstLines}
 use Rattle.state_lines.proofs.Fronts.{one_list, front_of_all}
 use Rattle.state_lines.proofs.Listed.{all_seen}
 
@@ -27,7 +27,7 @@ has_table flows state =
       record { entities = entities.0; instances = instances.0; all_entities = entities.1; all_instances = instances.1; lines = refl },
     )
 
-pub front_of_table : (flows : Flows) (p : Partition) (lines part table : List ℕ) → IsFront flows p lines part → IsTable flows p table → (rest : List ℕ) × (table ≡ lines ++ part ++ rest)
+pub front_of_table : (flows : Flows) (p : Partition) (lines part table : List ℕ) → AreFirstLines flows p lines part → IsTable flows p table → (rest : List ℕ) × (table ≡ lines ++ part ++ rest)
 front_of_table flows p lines part table (inl first) that =
     let front : (behind : List ℕ) × (table_lines (entity_answer flows p) that.entities ≡ (lines ++ part) ++ behind) = front_of_all (has_entity p) (entity_answer flows p) lines part that.entities first that.all_entities in (
       front.0 ++ table_lines (instance_standing flows p) that.instances,

@@ -33,8 +33,8 @@ pub record AreInInstances (flows : Flows) (p : Partition) (lines part : List ℕ
   pub whole : lines ≡ table_lines (entity_answer flows p) entities ++ more
 
 -- these are the first lines of the table, and this is a part of the next one, or nothing
-abbrev pub IsFront : Flows → Partition → (lines part : List ℕ) → Type 0
-IsFront flows p lines part = AreFirst (has_entity p) (entity_answer flows p) lines part ⊎ AreInInstances flows p lines part
+abbrev pub AreFirstLines : Flows → Partition → (lines part : List ℕ) → Type 0
+AreFirstLines flows p lines part = AreFirst (has_entity p) (entity_answer flows p) lines part ⊎ AreInInstances flows p lines part
 
 -- The tape goes on by the table.
 pub record SaysTable (flows : Flows) (p : Partition) (old new : List ℕ) : Type 0 where
@@ -46,6 +46,6 @@ pub record SaysTable (flows : Flows) (p : Partition) (old new : List ℕ) : Type
 pub record StopsInTable (flows : Flows) (p : Partition) (error : ShowError) (old new : List ℕ) : Type 0 where
   pub lines : List ℕ
   pub part : List ℕ
-  pub front : IsFront flows p lines part
+  pub front : AreFirstLines flows p lines part
   pub said : new ≡ old ++ lines ++ part
   pub whole : error ≡ Memory → part ≡ []

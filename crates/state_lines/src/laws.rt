@@ -8,7 +8,7 @@ ghost use Rattle.flow_syntax.specs.Syntax.{Flows};
 ghost use Rattle.id_maps.specs.Order.{is_before};
 ghost use Rattle.part_steps.specs.States.{state_of};
 ghost use Rattle.part_steps.specs.declared.state.PartState.{PartState as Given};
-ghost use Rattle.state_lines.specs.Fronts.{IsFront};
+ghost use Rattle.state_lines.specs.Fronts.{AreFirstLines};
 ghost use Rattle.state_lines.specs.Table.{AreAll, IsTable};
 
 /// Each state has a table, and no other one.
@@ -29,5 +29,5 @@ pub fn tables_are_whole()
 /// What a call that failed has said of a table is its front.
 #[tactic(auto, using(crate::proofs::Tables::front_of_table))]
 pub fn fronts_begin_tables()
-    ensures { (flows : Flows) (p : Partition) (lines part table : List ℕ) → IsFront flows p lines part → IsTable flows p table → (rest : List ℕ) × (table ≡ lines ++ part ++ rest) }
+    ensures { (flows : Flows) (p : Partition) (lines part table : List ℕ) → AreFirstLines flows p lines part → IsTable flows p table → (rest : List ℕ) × (table ≡ lines ++ part ++ rest) }
 {}

@@ -3,9 +3,9 @@ use Rattle.std.specs.Prelude.{IfSome}
 use Rattle.std.proofs.lemmas.Result.{err_from_is_err_and}
 use Rattle.commit_log.specs.States.{IsFormatting}
 use Rattle.dura_value.specs.declared.messages.Request.{Request as OwnRequest}
-use Rattle.engine_run.specs.Causes.{Answers, Untouched}
-use Rattle.engine_run.specs.Job.{Job, Keeps}
-use Rattle.engine_run.specs.Kept.{NoClash, Refuses}
+use Rattle.engine_run.specs.Causes.{CauseHolds, Untouched}
+use Rattle.engine_run.specs.Job.{Job, FilesKeep}
+use Rattle.engine_run.specs.Kept.{NoClash, RefusesKept}
 use Rattle.engine_run.specs.Opened.{IsOpening, OpensOnly}
 use Rattle.engine_run.specs.Opening.{RecoversAs}
 use Rattle.engine_run.specs.Prepared.{IsEarlyCause}
@@ -69,8 +69,8 @@ returns-in-Err-clause-answers g c tells =
     let job : Job = record { flows = flows_of file.flows; digest = file.digest; requests = map request_of requests } in
     let asks = c.in_ok-file.ensures.reads (c.recover_logs.ensures.told tells) in
     let recovered = subst (λ (s : List Step). RecoversAs (flows_of file.flows) file.digest (λ f. content_of f s) (Ok found)) c.read_input.ensures.unchanged (c.in_ok-state.ensures.recovers tells) in
-    let keeps : Keeps job (λ f. content_of f old) recovered.entries (state_of found.state) = record { kept = recovered.kept; made = recovered.placed } in
-    let clash = subst (λ (rs : List OwnRequest). Refuses (state_of found.state) (map request_of rs) c.in-Err.cause) c.deref.ensures.value c.in-Err.ensures.err in
+    let keeps : FilesKeep job (λ f. content_of f old) recovered.entries (state_of found.state) = record { kept = recovered.kept; made = recovered.placed } in
+    let clash = subst (λ (rs : List OwnRequest). RefusesKept (state_of found.state) (map request_of rs) c.in-Err.cause) c.deref.ensures.value c.in-Err.ensures.err in
     clash_refused (λ f. content_of f old) job recovered.entries (state_of found.state) c.in-Err.cause asks keeps clash
 
 pub returns-in-Err-clause-opens : goal.returns-in-Err-clause-opens
@@ -298,7 +298,7 @@ returns-clause-refused g c = λ tells refused.
 pub returns-in_err-file-clause-answers : goal.returns-in_err-file-clause-answers
 returns-in_err-file-clause-answers g c = λ tells.
     let files : ℕ → List ℕ = λ f. content_of f (g.V.Site.history c.args.site.now) in
-    residual_err (Answers files) c.from_residual.result c.in_err-file.field-0.0 c.from_residual.ensures.1 (input_answers files c.in_err-file.field-0.0 c.in_err-file.ensures.input_cause (c.in_err-file.ensures.reads tells))
+    residual_err (CauseHolds files) c.from_residual.result c.in_err-file.field-0.0 c.from_residual.ensures.1 (input_answers files c.in_err-file.field-0.0 c.in_err-file.ensures.input_cause (c.in_err-file.ensures.reads tells))
 
 pub returns-in_err-file-clause-early : goal.returns-in_err-file-clause-early
 returns-in_err-file-clause-early g c = residual_err IsEarlyCause c.from_residual.result c.in_err-file.field-0.0 c.from_residual.ensures.1 (input_early c.in_err-file.field-0.0 c.in_err-file.ensures.input_cause)
@@ -330,10 +330,10 @@ returns-in-Err-clause-untouched g c =
     clash_untouched (state_of c.in_ok-state.field-0.state) (map request_of c.deref.result.now) old now c.in-Err.cause c.in-Err.ensures.err syncs
 
 pub returns-in-Err-clause-fault : goal.returns-in-Err-clause-fault
-returns-in-Err-clause-fault g c = λ is. absurd (subst (Refuses (state_of c.in_ok-state.field-0.state) (map request_of c.deref.result.now)) (err_same c.in-Err.cause SiteFault is) c.in-Err.ensures.err)
+returns-in-Err-clause-fault g c = λ is. absurd (subst (RefusesKept (state_of c.in_ok-state.field-0.state) (map request_of c.deref.result.now)) (err_same c.in-Err.cause SiteFault is) c.in-Err.ensures.err)
 
 pub returns-in-Err-open_log-clause-answers : goal.returns-in-Err-open_log-clause-answers
-returns-in-Err-open_log-clause-answers g c = λ tells. subst (Answers (λ f. content_of f (g.V.Site.history c.args.site.now))) (sym (err_same c.in-Err-open_log.cause SiteFault c.in-Err-open_log.ensures.stops.1)) tt
+returns-in-Err-open_log-clause-answers g c = λ tells. subst (CauseHolds (λ f. content_of f (g.V.Site.history c.args.site.now))) (sym (err_same c.in-Err-open_log.cause SiteFault c.in-Err-open_log.ensures.stops.1)) tt
 
 pub returns-in-Err-open_log-clause-early : goal.returns-in-Err-open_log-clause-early
 returns-in-Err-open_log-clause-early g c = subst IsEarlyCause (sym (err_same c.in-Err-open_log.cause SiteFault c.in-Err-open_log.ensures.stops.1)) tt

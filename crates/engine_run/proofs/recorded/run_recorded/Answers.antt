@@ -3,7 +3,7 @@ use Rattle.command_words.specs.Command.{call_in}
 use Rattle.command_words.specs.declared.words.Call.TheVariants.{Run}
 use Rattle.command_words.specs.declared.words.RunOptions.{RunOptions}
 use Rattle.engine_run.proofs.recorded.run_recorded.Goals as goal
-use Rattle.engine_run.specs.Causes.{Answers, AreRefused, LeavesAll}
+use Rattle.engine_run.specs.Causes.{CauseHolds, AreRefused, LeavesAll}
 use Rattle.site_calls.specs.Events.{Event, Tells, replay}
 use Rattle.site_calls.specs.Failures.{disk_failures, say_failures}
 use Rattle.site_calls.specs.Site.{calls_of}
@@ -23,7 +23,7 @@ pub returns-clause-answers : goal.returns-clause-answers
 returns-clause-answers g c =
     let unseen = g.S.Start.unseen in
     let end = c.run.result in
-    subst (λ (events : List Event). Tells unseen (g.C.Calls.events (calls_of end.site)) → (options : RunOptions) → call_in c.args.words.now ≡ Some (Run options) → Answers (λ file. content_of file (replay unseen events).steps) end.cause)
+    subst (λ (events : List Event). Tells unseen (g.C.Calls.events (calls_of end.site)) → (options : RunOptions) → call_in c.args.words.now ≡ Some (Run options) → CauseHolds (λ file. content_of file (replay unseen events).steps) end.cause)
     c.requires c.run.ensures.answers
 
 -- a count that rose from none, and is no higher than that of the calls

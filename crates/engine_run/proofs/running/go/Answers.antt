@@ -15,7 +15,7 @@ use Rattle.hub_store.specs.Short.{IsShort}
 use Rattle.hub_store.specs.Trail.{Settled, Said, of_part}
 use Rattle.hub_store.proofs.Later.{with_later, moments_later}
 use Rattle.part_rounds.specs.InTime.{GoesByClock}
-use Rattle.part_rounds.specs.Rounds.{HasSaid, Stands}
+use Rattle.part_rounds.specs.Rounds.{HasSaid, StateStands}
 use Rattle.part_steps.specs.States.{state_of}
 use Rattle.request_reader.specs.Line.{request_of}
 use Rattle.run_causes.specs.declared.cause.Cause.{Cause}
@@ -67,7 +67,7 @@ pub drive_on-cause-requires-clause-few : goal.drive_on-cause-requires-clause-few
 drive_on-cause-requires-clause-few g c = c.requires.few
 
 pub drive_on-cause-requires-clause-stands : goal.drive_on-cause-requires-clause-stands
-drive_on-cause-requires-clause-stands g c = subst (λ (t : List Settled). Stands g.N.Ruled.rules (g.N.Start.origin.logs 0) (of_part 0 t) (state_of c.args.prepared.state)) (sym c.in-Ok-begin.ensures.trail) c.requires.stands
+drive_on-cause-requires-clause-stands g c = subst (λ (t : List Settled). StateStands g.N.Ruled.rules (g.N.Start.origin.logs 0) (of_part 0 t) (state_of c.args.prepared.state)) (sym c.in-Ok-begin.ensures.trail) c.requires.stands
 
 pub drive_on-cause-requires-clause-own : goal.drive_on-cause-requires-clause-own
 drive_on-cause-requires-clause-own g c = c.requires.can.sound

@@ -3,7 +3,7 @@ use Rattle.std.proofs.Math.Nat.{le_of_eq}
 use Rattle.command_words.specs.Command.{call_in}
 use Rattle.command_words.specs.declared.words.Call.TheVariants.{Run, Show}
 use Rattle.command_words.specs.declared.words.RunOptions.{RunOptions}
-use Rattle.engine_run.specs.Causes.{Answers, SettlesNothing, Untouched}
+use Rattle.engine_run.specs.Causes.{CauseHolds, SettlesNothing, Untouched}
 use Rattle.engine_run.specs.Ends.{terms_of}
 use Rattle.engine_run.specs.Headline.{Headline}
 use Rattle.engine_run.specs.Opened.{IsOpening}
@@ -125,7 +125,7 @@ returns-in-Err-Memory g c =
       usage = λ none. inr end.cause;
       only_usage = λ usage. absurd (differ Memory Usage refl (sym end.cause ∙ usage));
       idle = λ none. ap g.V.Site.history end.site;
-      answers = λ tells options asked. subst (Answers (λ file. content_of file old)) (sym end.cause) tt;
+      answers = λ tells options asked. subst (CauseHolds (λ file. content_of file old)) (sym end.cause) tt;
       untouched = λ options asked. subst (Untouched old now) (sym end.cause) tt;
       refused = λ tells options asked refused. record { syncs = inl (ap g.V.Site.history end.site); nothing = end.trail ∙ c.none-in-Err-Memory.ensures };
       settles_nothing = λ settles. end.trail ∙ c.none-in-Err-Memory.ensures;

@@ -3,7 +3,7 @@ use Rattle.std.proofs.Math.Nat.{le_of_eq}
 use Rattle.dura_model.specs.Partition.{Partition}
 use Rattle.dura_model.specs.Placed.{Belongs}
 use Rattle.dura_value.specs.Items.{Entry}
-use Rattle.engine_run.specs.Causes.{Answers, Untouched}
+use Rattle.engine_run.specs.Causes.{CauseHolds, Untouched}
 use Rattle.engine_run.specs.Ends.{IsLateCause, terms_of}
 use Rattle.engine_run.proofs.Ending.{wanting_early}
 use Rattle.engine_run.specs.Headline.{RunsOn, Headline}
@@ -132,7 +132,7 @@ returns-in-Err g c =
       told = λ tells. prepare.told (subst g.V.Site.tells end.site tells);
       status = end.status ∙ ap status_of (sym end.cause);
       no_usage = λ usage. subst IsEarlyCause (sym end.cause ∙ usage) c.in-Err.ensures.early;
-      answers = λ tells. subst (Answers (λ file. content_of file old)) (sym end.cause) (c.in-Err.ensures.answers (subst g.V.Site.tells end.site tells));
+      answers = λ tells. subst (CauseHolds (λ file. content_of file old)) (sym end.cause) (c.in-Err.ensures.answers (subst g.V.Site.tells end.site tells));
       untouched = subst (λ (cause : Cause). Untouched old (g.V.Site.history c.end_with.result.site) cause) (sym end.cause) (subst (λ site. Untouched old (g.V.Site.history site) c.in-Err.cause) (sym end.site) c.in-Err.ensures.untouched);
       refused = λ tells refused.
           let told = subst g.V.Site.tells end.site tells in

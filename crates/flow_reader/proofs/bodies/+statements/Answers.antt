@@ -3,7 +3,7 @@ use Rattle.std.proofs.Common.{◌≡◌, ◌<◌, length, map, Ok, Err, refl, sy
 use Rattle.json_tree.specs.View.{items_view, view}
 use Rattle.flow_syntax.specs.Views.{block_of, expression_of, locked_of}
 use Rattle.flow_syntax.specs.Syntax.{if_then, while}
-use Rattle.flow_values.specs.Answers.{Fails}
+use Rattle.flow_values.specs.Answers.{PartFails}
 use Rattle.flow_values.specs.Faults.{at, to_part}
 use Rattle.flow_reader.specs.Statements.{body_in, statements_from}
 use Rattle.flow_reader.proofs.Blocks.{all, begins, ends, goes_on, if_ends, if_ends_no, if_ends_yes, if_read, known_word, lock_ends, lock_ends_body, lock_read, no_if, no_lock, no_try, no_while, try_ends, try_ends_handler, try_ends_variable, try_read, unknown_word, while_ends, while_ends_body, while_read}
@@ -74,7 +74,7 @@ pub if_in-returns-in_err-yes : goal.if_in-returns-in_err-yes
 if_in-returns-in_err-yes t c =
     let error = c.in_err-yes.field-0.0 in
     let ends : c.from_residual-in_err-yes.result ≡ Err error = search rules in
-    let fails : Fails error (at (to_part 2) (body_in c.args.inside (view c.index-items-2.result))) = rw c.in_err-yes.ensures.err at c.body_at.ensures in
+    let fails : PartFails error (at (to_part 2) (body_in c.args.inside (view c.index-items-2.result))) = rw c.in_err-yes.ensures.err at c.body_at.ensures in
     rw ends (if_ends_yes c.args.inside c.args.items.now c.index-items-1.result c.index-items-2.result c.index-items-3.result (expression_of c.in_ok-test.test) error c.requires c.index-items-1.is c.index-items-2.is c.index-items-3.is c.in_ok-test.ensures fails)
 
 pub if_in-returns-in_err-no : goal.if_in-returns-in_err-no
@@ -82,7 +82,7 @@ if_in-returns-in_err-no t c =
     let error = c.in_err-no.field-0.0 in
     let ends : c.from_residual-in_err-no.result ≡ Err error = search rules in
     let read : at (to_part 2) (body_in c.args.inside (view c.index-items-2.result)) ≡ Ok (block_of c.in_ok-yes.yes.items) = rw c.in_ok-yes.ensures.ok.0 at c.body_at.ensures in
-    let fails : Fails error (at (to_part 3) (body_in c.args.inside (view c.index-items-3.result))) = rw c.in_err-no.ensures.err at c.body_at-2.ensures in
+    let fails : PartFails error (at (to_part 3) (body_in c.args.inside (view c.index-items-3.result))) = rw c.in_err-no.ensures.err at c.body_at-2.ensures in
     rw ends (if_ends_no c.args.inside c.args.items.now c.index-items-1.result c.index-items-2.result c.index-items-3.result (expression_of c.in_ok-test.test) (block_of c.in_ok-yes.yes.items) error c.requires c.index-items-1.is c.index-items-2.is c.index-items-3.is c.in_ok-test.ensures read fails)
 
 pub if_in-returns : goal.if_in-returns
@@ -102,7 +102,7 @@ pub while_in-returns-in_err-body : goal.while_in-returns-in_err-body
 while_in-returns-in_err-body t c =
     let error = c.in_err-body.field-0.0 in
     let ends : c.from_residual-in_err-body.result ≡ Err error = search rules in
-    let fails : Fails error (at (to_part 2) (body_in c.args.inside (view c.index-items-2.result))) = rw c.in_err-body.ensures.err at c.body_at.ensures in
+    let fails : PartFails error (at (to_part 2) (body_in c.args.inside (view c.index-items-2.result))) = rw c.in_err-body.ensures.err at c.body_at.ensures in
     rw ends (while_ends_body c.args.inside c.args.items.now c.index-items-1.result c.index-items-2.result (expression_of c.in_ok-test.test) error c.requires c.index-items-1.is c.index-items-2.is c.in_ok-test.ensures fails)
 
 pub while_in-returns : goal.while_in-returns

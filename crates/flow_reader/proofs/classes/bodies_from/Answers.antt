@@ -5,7 +5,7 @@ use Rattle.json_tree.proofs.Members.{Entry}
 use Rattle.dura_value.specs.Names.{is_name}
 use Rattle.flow_syntax.specs.Views as views
 use Rattle.flow_syntax.specs.Views.{bodies_of}
-use Rattle.flow_values.specs.Answers.{Fails}
+use Rattle.flow_values.specs.Answers.{PartFails}
 use Rattle.flow_values.specs.Faults.{at, to_key}
 use Rattle.flow_reader.specs.Classes.{named_after}
 use Rattle.flow_reader.specs.Statements.{body_in}
@@ -33,7 +33,7 @@ returns-in-Err c =
     let e : Entry = c.member-item.result in
     let i = c.loop-member.member-index in
     let named : c.in_ok-name.name ≡ e.0.now = search rules in
-    let fails : Fails c.in-Err.error (at (to_key c.in_ok-name.name) (body_in c.args.inside (view e.1))) = search rules in
+    let fails : PartFails c.in-Err.error (at (to_key c.in_ok-name.name) (body_in c.args.inside (view e.1))) = search rules in
     ends (body_in c.args.inside) (named_after (body_in c.args.inside) [] (members_view c.args.members.now)) (bodies_of c.loop-member.bodies) c.args.members.now i e c.in_ok-name.name c.in-Err.error c.loop-member-test.true c.member-item.is named c.loop-member.invariant.0 fails
 
 pub returns : goal.returns

@@ -4,7 +4,7 @@ use Rattle.json_tree.specs.View.{view, members_view}
 use Rattle.json_tree.proofs.Members.{Entry}
 use Rattle.dura_value.specs.Names.{is_name}
 use Rattle.flow_syntax.specs.Views.{class_of, named_by}
-use Rattle.flow_values.specs.Answers.{Fails}
+use Rattle.flow_values.specs.Answers.{PartFails}
 use Rattle.flow_values.specs.Faults.{at, to_key}
 use Rattle.flow_reader.specs.Classes.{class_in, named_after}
 use Rattle.flow_reader.proofs.Members.{all, ends, first_is_name, put, rest_are_names}
@@ -31,7 +31,7 @@ returns-in-Err c =
     let e : Entry = c.member-item.result in
     let i = c.loop-member.member-index in
     let named : c.in_ok-name.name ≡ e.0.now = search rules in
-    let fails : Fails c.in-Err.error (at (to_key c.in_ok-name.name) (class_in (view e.1))) = search rules in
+    let fails : PartFails c.in-Err.error (at (to_key c.in_ok-name.name) (class_in (view e.1))) = search rules in
     ends class_in (named_after class_in [] (members_view c.args.members.now)) (named_by class_of c.loop-member.classes.entries) c.args.members.now i e c.in_ok-name.name c.in-Err.error c.loop-member-test.true c.member-item.is named c.loop-member.invariant.0 fails
 
 pub returns : goal.returns

@@ -1,5 +1,5 @@
 use Rattle.hub_store.proofs.FactsLacking.{not_of_nobody}
-use Rattle.hub_store.specs.Moments.Told.{silent}
+use Rattle.hub_store.specs.Moments.SaidSoFar.{silent}
 use Rattle.hub_store.proofs.field_examples.nothing_told.Goals as goal
 
 pub returns-clause-silent : goal.returns-clause-silent

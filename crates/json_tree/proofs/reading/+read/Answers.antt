@@ -3,7 +3,7 @@ use Rattle.std.proofs.Common.{◌≡◌, ◌-◌, ◌∷◌, Err, None, Some, ap
 use Rattle.json.specs.Json.{after_end_array, parse_map, read_key}
 use Rattle.json.specs.Reads.{token_of}
 use Rattle.serde_json.specs.Data.{array, object}
-use Rattle.json_tree.specs.Answers.{Fails}
+use Rattle.json_tree.specs.Answers.{TreeFails}
 use Rattle.json_tree.specs.Tokens.{data_in, items_in, members_in}
 use Rattle.json_tree.proofs.Items as items
 use Rattle.json_tree.proofs.Members as members
@@ -14,7 +14,7 @@ pub items_in-returns-in_err-item-clause-taken : goal.items_in-returns-in_err-ite
 items_in-returns-in_err-item-clause-taken t c =
     let going : (after_end_array c.loop-alloc.reader ≡ None) × (c.take_end_array.new.self ≡ c.loop-alloc.reader) = grind arith in
     let ends : c.from_residual.result ≡ Err c.in_err-item.field-0.0 = search rules in
-    let fails : Fails c.in_err-item.field-0.0 (data_in c.args.levels c.loop-alloc.reader) = rw (← going.1) c.in_err-item.ensures.taken in
+    let fails : TreeFails c.in_err-item.field-0.0 (data_in c.args.levels c.loop-alloc.reader) = rw (← going.1) c.in_err-item.ensures.taken in
     rw ends (items.fails (items_in c.args.levels c.args.reader.now) c.args.levels c.loop-alloc.found.items c.loop-alloc.reader c.in_err-item.field-0.0 c.loop-alloc.invariant.0 going.0 fails)
 
 pub members_in-returns-in_err-member-clause-taken : goal.members_in-returns-in_err-member-clause-taken

@@ -15,14 +15,14 @@ use Rattle.hub_store.specs.Stops.{is_of_tape}
 use Rattle.flow_syntax.specs.Syntax.{Flows}
 use Rattle.hub_store.specs.declared.stop.Stop.TheVariants.{Full, Spent, SiteFault, SayFault, ClockFault, Memory}
 use Rattle.part_rounds.specs.Comes.{LeavesRound, StopsAt, count_labels}
-use Rattle.part_rounds.specs.Rounds.{pairs_of, Stands, NoneUnsaid}
+use Rattle.part_rounds.specs.Rounds.{pairs_of, StateStands, NoneUnsaid}
 use Rattle.part_rounds.proofs.Further.{on_ok, memory_apart, kind_not_spent}
 use Rattle.part_rounds.proofs.Stopped.{leaves_at}
 use Rattle.hub_store.proofs.Stops.{ok_apart, same_stop, residual_is, tape_not_full, tape_not_fault, tape_not_clock, risen_after, residual_on_ok, residual_if_ok}
 use Rattle.part_rounds.proofs.rounds.drive.Goals as goal
 use Rattle.part_steps.specs.States.{state_of}
 
-begins_there : (rules : Rules) (log : Log) (settled : List Entry) (p : Partition) → settled ≡ [] → Stands rules log settled p → rules.begin ≡ p
+begins_there : (rules : Rules) (log : Log) (settled : List Entry) (p : Partition) → settled ≡ [] → StateStands rules log settled p → rules.begin ≡ p
 begins_there rules log settled p none stands = let made : placed rules.flows 1 rules.begin [] ≡ Ok p = subst (λ (l : List Entry). placed rules.flows 1 rules.begin l ≡ Ok p) none stands.made in cc made
 
 pub rounds-init : goal.rounds-init
@@ -41,7 +41,7 @@ rounds-init g c =
       said = c.in-Ok.ensures.said;
       entered = record {
         before = state;
-        stands = subst (λ (t : List Settled). Stands g.N.Ruled.rules log (of_part 0 t) state) (sym c.say_due.ensures.trail) c.requires.stands;
+        stands = subst (λ (t : List Settled). StateStands g.N.Ruled.rules log (of_part 0 t) state) (sym c.say_due.ensures.trail) c.requires.stands;
         timely = let first = ap (λ (p : Partition). p.stamp) begin_is in omega (arith, first);
         entered = c.enter-state.ensures.entered ∙ ap (λ (life : ℕ). enter life state) c.requires.life;
         sound = c.enter-state.ensures.sound;

@@ -10,7 +10,7 @@ use Rattle.part_rounds.proofs.Further.{kind_not_spent}
 use Rattle.part_rounds.specs.Turns.{SaysInTurn}
 use Rattle.hub_store.specs.Stops.{is_of_disk, is_of_tape}
 use Rattle.part_rounds.specs.Comes.{count_labels}
-use Rattle.part_rounds.specs.Rounds.{pairs_of, HasSaid, Stands, NoneUnsaid}
+use Rattle.part_rounds.specs.Rounds.{pairs_of, HasSaid, StateStands, NoneUnsaid}
 use Rattle.part_rounds.proofs.Entries.{stands_after, place_after}
 use Rattle.hub_store.proofs.Stops.{ok_apart, same_stop, disk_not_said, disk_not_clock, tape_not_full, tape_not_fault, tape_not_clock}
 use Rattle.part_steps.specs.States.{state_of}
@@ -21,13 +21,13 @@ pub say_due-requires-clause-made : goal.say_due-requires-clause-made
 say_due-requires-clause-made g c =
     let log = g.N.Start.origin.logs 0 in
     let behind = stands_after g.N.Ruled.rules log c.args.store.now.latest (of_part 0 (trail_in c.args.store.now)) (pairs_of (told_in c.args.store.now)) c.args.position c.args.life (items_of c.args.filling.items.items) c.requires.filled.filled in
-    (subst (λ (l : List Entry). Stands g.N.Ruled.rules log l (state_of c.args.filling.state)) (sym c.in-Ok.ensures.trail) (subst (Stands g.N.Ruled.rules log _) c.requires.filled.after_is behind)).made
+    (subst (λ (l : List Entry). StateStands g.N.Ruled.rules log l (state_of c.args.filling.state)) (sym c.in-Ok.ensures.trail) (subst (StateStands g.N.Ruled.rules log _) c.requires.filled.after_is behind)).made
 
 pub enter-requires-clause-younger : goal.enter-requires-clause-younger
 enter-requires-clause-younger g c =
     let log = g.N.Start.origin.logs 0 in
     let behind = stands_after g.N.Ruled.rules log c.args.store.now.latest (of_part 0 (trail_in c.args.store.now)) (pairs_of (told_in c.args.store.now)) c.args.position c.args.life (items_of c.args.filling.items.items) c.requires.filled.filled in
-    let younger = (subst (Stands g.N.Ruled.rules log _) c.requires.filled.after_is behind).younger in
+    let younger = (subst (StateStands g.N.Ruled.rules log _) c.requires.filled.after_is behind).younger in
     omega (arith, younger, c.requires.filled.filled.life_is)
 
 pub enter-requires-clause-room : goal.enter-requires-clause-room
@@ -94,7 +94,7 @@ pub returns-in-Ok-say_due : goal.returns-in-Ok-say_due
 returns-in-Ok-say_due g c =
     let log = g.N.Start.origin.logs 0 in
     let behind = stands_after g.N.Ruled.rules log c.args.store.now.latest (of_part 0 (trail_in c.args.store.now)) (pairs_of (told_in c.args.store.now)) c.args.position c.args.life (items_of c.args.filling.items.items) c.requires.filled.filled in
-    let stands = subst (λ (l : List Entry). Stands g.N.Ruled.rules log l (state_of c.args.filling.state)) (sym c.in-Ok.ensures.trail) (subst (Stands g.N.Ruled.rules log _) c.requires.filled.after_is behind) in
+    let stands = subst (λ (l : List Entry). StateStands g.N.Ruled.rules log l (state_of c.args.filling.state)) (sym c.in-Ok.ensures.trail) (subst (StateStands g.N.Ruled.rules log _) c.requires.filled.after_is behind) in
     let put = c.say_due.ensures.disk_faults in
     let told = c.commit_items.ensures.say_faults in
     record {
@@ -108,7 +108,7 @@ returns-in-Ok-say_due g c =
       said = c.in-Ok-say_due.ensures.said;
       entered = record {
         before = state_of c.args.filling.state;
-        stands = subst (λ (t : List Settled). Stands g.N.Ruled.rules log (of_part 0 t) (state_of c.args.filling.state)) (sym c.say_due.ensures.trail) stands;
+        stands = subst (λ (t : List Settled). StateStands g.N.Ruled.rules log (of_part 0 t) (state_of c.args.filling.state)) (sym c.say_due.ensures.trail) stands;
         timely =
             let after = ap (λ (p : Partition). p.stamp) c.requires.filled.after_is in
             let timely = c.requires.filled.filled.timely in

@@ -1,7 +1,7 @@
 use Rattle.std.proofs.Common.{◌≡◌, ◌≤◌, ℕ, List, length, take}
 use Rattle.std.specs.List.{All}
 use Rattle.hub_store.specs.Trail.{Said}
-use Rattle.part_rounds.specs.Fills.{IsUnderWay, GoesOn, CantTake}
+use Rattle.part_rounds.specs.Fills.{IsUnderWay, FillsOn, CantTake}
 use Rattle.part_rounds.specs.InTime.{Giving, GoesOnAt}
 use Rattle.part_rounds.specs.Rounds.{pairs_of, HasSaid}
 use Rattle.part_steps.specs.States.{state_of}
@@ -16,7 +16,7 @@ invariant-loop-client g l = record {
   moment : (state_of l.filling.state).stamp ≡ (state_of l.fn.filling.state).stamp;
   at : (now : ℕ) (gives : Giving) → GoesOnAt (g.R.Reactions.flows l.reactions) now gives l.fn.filling l.filling;
   longer : length l.fn.filling.items.items ≤ length l.filling.items.items;
-  goes_on : (rules : Rules) (told : List Said) → rules.flows ≡ g.R.Reactions.flows l.reactions → HasSaid rules told l.port.queues → GoesOn rules (pairs_of told) l.fn.filling l.filling;
+  goes_on : (rules : Rules) (told : List Said) → rules.flows ≡ g.R.Reactions.flows l.reactions → HasSaid rules told l.port.queues → FillsOn rules (pairs_of told) l.fn.filling l.filling;
   still : length l.filling.items.items ≡ length l.fn.filling.items.items → (state_of l.filling.state ≡ state_of l.fn.filling.state)
       × All (λ name. CantTake (g.R.Reactions.flows l.reactions) (state_of l.fn.filling.state) l.port.queues name) (take l.client-index l.clients);
 }

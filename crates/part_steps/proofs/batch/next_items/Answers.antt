@@ -1,7 +1,7 @@
 use Rattle.std.proofs.Common.{refl, subst}
 use Rattle.part_steps.specs.declared.batch.Batch.{Batch}
 use Rattle.part_steps.specs.declared.batch.Turn.{Turn}
-use Rattle.part_steps.specs.Batches.{GoesOn}
+use Rattle.part_steps.specs.Batches.{BatchGoesOn}
 use Rattle.part_steps.proofs.Batching.{filled_first, filled_more}
 use Rattle.part_steps.proofs.batch.next_items.Goals as goal
 
@@ -13,5 +13,5 @@ loop-init g c =
 pub loop-preserved : goal.loop-preserved
 loop-preserved g c =
     let flows = g.R.Reactions.flows c.args.reactions.now in
-    let more = subst (λ (t : Turn). GoesOn flows c.args.now c.loop.batch t) c.in-More.is c.in_ok-next.ensures in
+    let more = subst (λ (t : Turn). BatchGoesOn flows c.args.now c.loop.batch t) c.in-More.is c.in_ok-next.ensures in
     filled_more flows c.args.now c.args.state c.loop.counter c.loop.batch c.in-More.next c.loop.invariant more

@@ -3,7 +3,7 @@ use Rattle.site_model.specs.History.{content_of}
 use Rattle.part_files.specs.Kept.{Kept, kept_in}
 use Rattle.part_files.specs.Logs.{fault_of}
 use Rattle.part_files.specs.Stands.{alone_with}
-use Rattle.recover_core.specs.Refusals.{Refuses}
+use Rattle.recover_core.specs.Refusals.{RefusesFiles}
 use Rattle.recover_core.proofs.FilesFound.{damaged_fault}
 use Rattle.recover_core.proofs.files.open_file.Goals as goal
 
@@ -18,7 +18,7 @@ returns-in-Err-Damaged-clause-says g c tells =
 pub returns-in-Err-clause-says : goal.returns-in-Err-clause-says
 returns-in-Err-clause-says g c tells =
     let found = rw c.in-Ok-Log.field-0-is at (c.in-Ok-Log.ensures.says tells) in
-    subst (λ (k : Kept). Refuses c.args.digest c.in-Err.error (fault_of (alone_with c.args.digest) c.args.file k)) (sym found.kept) (c.in-Err.ensures.refused c.args.file found.entries c.in-Ok-Log.found.log.gate)
+    subst (λ (k : Kept). RefusesFiles c.args.digest c.in-Err.error (fault_of (alone_with c.args.digest) c.args.file k)) (sym found.kept) (c.in-Err.ensures.refused c.args.file found.entries c.in-Ok-Log.found.log.gate)
 
 pub returns-in-Ok-clause-says : goal.returns-in-Ok-clause-says
 returns-in-Ok-clause-says g c tells =

@@ -2,13 +2,13 @@ use Rattle.std.proofs.Common.{◌≡◌, ◌*◌, ℕ, List, [], ◌∷◌, leng
 use Rattle.std.proofs.lemmas.List.{length-append, append-nil}
 use Rattle.run_examples.proofs.call_examples.lines_whole.Goals as goal
 use Rattle.hub_store.specs.Examples.{MayFollow, MaySay}
-use Rattle.hub_store.specs.Moments.{Told}
-use Rattle.hub_store.specs.Moments.Told.{silent, settles, says}
+use Rattle.hub_store.specs.Moments.{SaidSoFar}
+use Rattle.hub_store.specs.Moments.SaidSoFar.{silent, settles, says}
 use Rattle.hub_store.specs.Trail.{Settled, Said}
 use Rattle.hub_store.proofs.AnswersWait.{stands_behind}
 
 -- each line that was said is of two bytes
-by_twos : {trail : List Settled} {told : List Said} {lines : List ℕ} → Told MayFollow MaySay trail told lines → length lines ≡ 2 * length told
+by_twos : {trail : List Settled} {told : List Said} {lines : List ℕ} → SaidSoFar MayFollow MaySay trail told lines → length lines ≡ 2 * length told
 by_twos silent = refl
 by_twos (settles before partition at going follows) = by_twos before
 by_twos (says {trail} {told} {lines} before one line say) =

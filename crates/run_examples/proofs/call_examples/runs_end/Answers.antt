@@ -10,7 +10,7 @@ use Rattle.engine_run.specs.Asked.{IsRequest}
 use Rattle.engine_run.specs.Served.{IsLeftAt}
 use Rattle.engine_run.proofs.Served.{has_served}
 use Rattle.hub_store.specs.Examples.{nowhere}
-use Rattle.hub_store.specs.Moments.Told.{silent}
+use Rattle.hub_store.specs.Moments.SaidSoFar.{silent}
 use Rattle.part_files.specs.Examples.{request}
 use Rattle.part_files.specs.Stands.{shown_by}
 use Rattle.part_files.proofs.Alone.{are_shown_alone}

@@ -1,7 +1,7 @@
 use Rattle.std.proofs.Common.{◌≡◌, ◌∙◌, inl, true, false, [], Some, None, Ok, Err, codes, refl, ap, arith}
 use Rattle.dura_model.specs.Partition.{Partition, fresh, enter}
 use Rattle.dura_value.specs.Messages.{was_started}
-use Rattle.hub_store.specs.Moments.Told.{silent}
+use Rattle.hub_store.specs.Moments.SaidSoFar.{silent}
 use Rattle.part_rounds.specs.Rounds.{next_answer}
 use Rattle.run_examples.specs.Calls.{unsaid}
 use Rattle.run_examples.specs.Ending.{misnumbered, answered_state}

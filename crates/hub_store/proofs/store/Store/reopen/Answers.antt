@@ -12,7 +12,7 @@ use Rattle.hub_store.specs.OpenedAgain.{Reopens}
 use Rattle.hub_store.specs.Plain.{trail_of, told_of}
 use Rattle.hub_store.specs.Trail.{of_part, settling}
 use Rattle.hub_store.specs.Short.{reach_of, KeepsShort}
-use Rattle.hub_store.specs.Ways.{LogFits, GoesOn, stage_of, gate_of, going_in, due_in}
+use Rattle.hub_store.specs.Ways.{LogFits, WayGoesOn, stage_of, gate_of, going_in, due_in}
 use Rattle.hub_store.proofs.Bodies.{way_put, rests_there, true_apart, ok_apart, fault_no_frame, dropped_settled, within, broken_there, less_due, less_room, still_room}
 use Rattle.hub_store.proofs.OpenedAgain.{not_true, not_false, settled_just, dropped_just, reopen_path, rests_with, rests_without, breaks_again}
 use Rattle.hub_store.proofs.Settling.{of_part-append, no_part, told_settled}
@@ -122,7 +122,7 @@ returns-clause-sound g c =
     let opened = subst (Reopens (o.logs p).file (o.logs p).header fits.payloads (spell_frame (entries_of frame)) was before now) c.in-Ok.is again in
     let path = reopen_path (g.N.Start.may_follow old.latest) g.N.Start.may_say o p trail told before now c.reopen_log-answer.result.0 again.syncs again.during ((stood.rests c.requires.whole).images p c.requires.place) in
     let going = c.reopen_log-answer.ensures.going in
-    let reads = subst (GoesOn (o.logs p).header fits.payloads ((o.logs p).entries ++ of_part p trail)) going fits.next in
+    let reads = subst (WayGoesOn (o.logs p).header fits.payloads ((o.logs p).entries ++ of_part p trail)) going fits.next in
     let settled = not_false found.settled c.if-not-found.false in
     let follows = c.requires.follows (entries_of frame) (ap going_in (sym c.take_way-way.ensures.way) ∙ going)
     (λ is. let shut : found.settled ≡ false = opened.closed (inl (ap stage_of c.take_way-way.ensures.way ∙ is)) in true_apart (sym settled ∙ shut))
