@@ -4,7 +4,7 @@ ghost use Rattle.std.specs.Prelude.{◌≡◌};
 ghost use Rattle.activity_table.specs.Chance.{word_of};
 
 use byteorder::{BigEndian, ByteOrder};
-use dura_value::fnv;
+use dura_value::fnv1a_64;
 
 /// The word that a run of an activity is given: the digest of the seed, the node and the number of the run on it.
 pub fn word(seed: u64, node: u64, run: u64) -> u64
@@ -14,5 +14,5 @@ pub fn word(seed: u64, node: u64, run: u64) -> u64
     BigEndian::write_u64(&mut bytes[..8], seed);
     BigEndian::write_u64(&mut bytes[8..16], node);
     BigEndian::write_u64(&mut bytes[16..], run);
-    fnv(&bytes)
+    fnv1a_64(&bytes)
 }

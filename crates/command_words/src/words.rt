@@ -20,19 +20,19 @@ use std::alloc::{AllocError, Global};
 use thiserror::Error;
 
 /// The most partitions.
-const MOST_PARTITIONS: u64 = 1;
+const PARTITIONS_LIMIT: u64 = 1;
 
 /// The most items of an entry.
-const MOST_BATCH: u64 = 64;
+const BATCH_LIMIT: u64 = 64;
 
 /// The most steps of a run.
-const MOST_STEPS: u64 = 1_048_576;
+const STEPS_LIMIT: u64 = 1_048_576;
 
 /// The least limit of a log segment's bytes.
 const LEAST_SEGMENT: u64 = 4096;
 
 /// The greatest limit of a log segment's bytes.
-const MOST_SEGMENT: u64 = 2_147_483_648;
+const SEGMENT_LIMIT: u64 = 2_147_483_648;
 
 /// How a run goes.
 #[derive(Clone, Copy, Drop, PartialEq, Eq)]
@@ -115,7 +115,7 @@ fn number_of(matches: &ArgMatches, name: &str, least: u64, most: u64) -> Option<
 fn partitions_of(matches: &ArgMatches) -> Option<u32>
     ensures { result ≡ partitions_of (rows_of (found_of matches.now)) }
 {
-    match number_of(matches, "partitions", 1, MOST_PARTITIONS) {
+    match number_of(matches, "partitions", 1, PARTITIONS_LIMIT) {
         Some(partitions) => Some(partitions as u32),
         None => None,
     }
@@ -125,9 +125,9 @@ fn run_of(matches: &ArgMatches) -> Option<RunOptions>
     ensures { result ≡ run_of (rows_of (found_of matches.now)) }
 {
     let partitions = partitions_of(matches)?;
-    let batch = number_of(matches, "batch", 1, MOST_BATCH)?;
-    let steps = number_of(matches, "steps", 1, MOST_STEPS)?;
-    let segment = number_of(matches, "segment", LEAST_SEGMENT, MOST_SEGMENT)?;
+    let batch = number_of(matches, "batch", 1, BATCH_LIMIT)?;
+    let steps = number_of(matches, "steps", 1, STEPS_LIMIT)?;
+    let segment = number_of(matches, "segment", LEAST_SEGMENT, SEGMENT_LIMIT)?;
     Some(RunOptions {
         partitions,
         batch: batch as u32,

@@ -17,7 +17,7 @@ pub(crate) const FIRST_GATE: u64 = 33;
 const END: u64 = 1 << 31;
 
 /// The base positions that no header has.
-const BASES: u64 = 1 << 63;
+const BASE_LIMIT: u64 = 1 << 63;
 
 /// Why bytes are no segment.
 #[derive(Drop)]
@@ -110,7 +110,7 @@ fn read_header(bytes: &[u8]) -> Result<(Header, &[u8]), ParseError>
     let (partitions, rest) = u32_at(13, rest)?;
     let (digest, rest) = u64_at(17, rest)?;
     let (base, rest) = u64_at(25, rest)?;
-    if base >= BASES {
+    if base >= BASE_LIMIT {
         return Err(ParseError::At(25));
     }
     let header = Header {

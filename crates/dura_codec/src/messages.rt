@@ -14,7 +14,7 @@ use crate::tags::{
 };
 use crate::values::take_value;
 use crate::words::{take_key, take_name, take_text};
-use dura_value::{Answer, Body, MOST_SPOTS, Message, Outcome, Spot, Spots, with};
+use dura_value::{Answer, Body, SPOTS_LIMIT, Message, Outcome, Spot, Spots, with};
 use std::alloc::Global;
 
 /// An answer that is a word.
@@ -110,7 +110,7 @@ fn take_spot_count(bytes: &[u8]) -> Result<(u8, &[u8]), FieldError>
     ensures { Takes (λ n. n) result (spot_count_at bytes.now) }
 {
     let (count, rest) = take_u8(bytes)?;
-    if count as usize > MOST_SPOTS {
+    if count as usize > SPOTS_LIMIT {
         return Err(FieldError::Bad { left: bytes.len() });
     }
     Ok((count, rest))

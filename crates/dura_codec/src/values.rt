@@ -8,7 +8,7 @@ ghost use Rattle.dura_codec.specs.Grammar.{scalar_at, scalars_at, value_at, valu
 use crate::fields::{FieldError, take_u8, take_u16, take_u64};
 use crate::tags::{FALSE, INT, LIST, NULL, TEXT, TRUE};
 use crate::words::take_text;
-use dura_value::{MOST_SCALARS, MOST_SCALARS_BYTES, Scalar, Scalars, Value};
+use dura_value::{SCALARS_LIMIT, SCALARS_BYTES_LIMIT, Scalar, Scalars, Value};
 use std::alloc::Global;
 
 /// A scalar.
@@ -54,10 +54,10 @@ fn front_of(bytes: &[u8]) -> &[u8]
     ensures front { result.now ≡ value_front bytes.now }
     ensures short { length result.now ≤ length bytes.now }
 {
-    if bytes.len() < MOST_SCALARS_BYTES {
+    if bytes.len() < SCALARS_BYTES_LIMIT {
         bytes
     } else {
-        &bytes[..MOST_SCALARS_BYTES]
+        &bytes[..SCALARS_BYTES_LIMIT]
     }
 }
 
@@ -67,7 +67,7 @@ fn take_scalars(alloc: Global, bytes: &[u8]) -> Result<(Scalars, &[u8]), FieldEr
     ensures { Takes (λ x. x) result (scalars_at bytes.now) }
 {
     let (count, rest) = take_u16(bytes)?;
-    if count as usize > MOST_SCALARS {
+    if count as usize > SCALARS_LIMIT {
         return Err(FieldError::Bad { left: bytes.len() });
     }
     let front = front_of(rest);

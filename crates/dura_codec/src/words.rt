@@ -4,7 +4,7 @@ ghost use Rattle.dura_codec.specs.Fields.{Takes, StaysWithin};
 ghost use Rattle.dura_codec.specs.Grammar.{word_size_at, name_at, key_at, text_at};
 
 use crate::fields::{FieldError, take_u8, take_u16};
-use dura_value::{Key, MOST_TEXT_BYTES, MOST_WORD_BYTES, Name, Text, TextError, is_key, is_name};
+use dura_value::{Key, TEXT_BYTES_LIMIT, WORD_BYTES_LIMIT, Name, Text, TextError, is_key, is_name};
 use std::alloc::Global;
 
 /// The length of a name or key: 1 to 64.
@@ -14,7 +14,7 @@ fn take_word_size(bytes: &[u8]) -> Result<(usize, &[u8]), FieldError>
 {
     let (size, rest) = take_u8(bytes)?;
     let size = size as usize;
-    if size == 0 || size > MOST_WORD_BYTES {
+    if size == 0 || size > WORD_BYTES_LIMIT {
         return Err(FieldError::Bad { left: bytes.len() });
     }
     Ok((size, rest))
@@ -62,7 +62,7 @@ pub fn take_text(alloc: Global, bytes: &[u8]) -> Result<(Text, &[u8]), FieldErro
 {
     let (size, rest) = take_u16(bytes)?;
     let size = size as usize;
-    if size > MOST_TEXT_BYTES {
+    if size > TEXT_BYTES_LIMIT {
         return Err(FieldError::Bad { left: bytes.len() });
     }
     if rest.len() < size {

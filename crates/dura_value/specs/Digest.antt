@@ -11,5 +11,5 @@ fnv_prime = 0x100000001b3
 abbrev pub fnv_byte : ℕ → ℕ → ℕ
 fnv_byte hash byte = bit_xor hash byte * fnv_prime % 2 ^ 64
 
-abbrev pub fnv : List ℕ → ℕ
-fnv bytes = fold fnv_byte fnv_basis bytes
+abbrev pub fnv1a_64 : List ℕ → ℕ
+fnv1a_64 bytes = fold fnv_byte fnv_basis bytes

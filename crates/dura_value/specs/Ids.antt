@@ -1,7 +1,7 @@
 -- Who sends and receives messages, and where each of them lives.
 use Rattle.std.specs.Prelude.{ℕ, ◌%◌, ◌&&◌, List, ◌∷◌, ◌++◌, Bool, false}
 use Rattle.std.specs.Str.{bytes_eq}
-use Rattle.dura_value.specs.Digest.{fnv}
+use Rattle.dura_value.specs.Digest.{fnv1a_64}
 
 -- an instance of a flow, an entity of a class, or a client
 pub data Id : Type 0 where
@@ -17,7 +17,7 @@ written (client name) = 35 ∷ name
 
 -- the partition that an id lives in, of so many
 abbrev pub home : ℕ → Id → ℕ
-home partitions id = fnv (written id) % partitions
+home partitions id = fnv1a_64 (written id) % partitions
 
 -- whether two ids are the same
 abbrev pub id_eq : Id → Id → Bool

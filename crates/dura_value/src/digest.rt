@@ -1,7 +1,7 @@
 //! FNV-1a of 64 bits (Fowler, Noll and Vo).
 
 ghost use Rattle.std.specs.Prelude.{◌≡◌, fold};
-ghost use Rattle.dura_value.specs.Digest.{fnv, fnv_byte};
+ghost use Rattle.dura_value.specs.Digest.{fnv1a_64, fnv_byte};
 
 /// The digest of no byte.
 pub(crate) const BASIS: u64 = 0xcbf2_9ce4_8422_2325;
@@ -20,8 +20,8 @@ pub(crate) fn goes_on(hash: u64, bytes: &[u8]) -> u64
 }
 
 /// The digest of bytes.
-pub fn fnv(bytes: &[u8]) -> u64
-    ensures { result ≡ fnv bytes.now }
+pub fn fnv1a_64(bytes: &[u8]) -> u64
+    ensures { result ≡ fnv1a_64 bytes.now }
 {
     goes_on(BASIS, bytes)
 }

@@ -30,11 +30,11 @@ mod text;
 pub use addresses::{Id, home};
 pub use carrying::with;
 pub use data::{Scalar, Scalars, Value};
-pub use digest::fnv;
+pub use digest::fnv1a_64;
 pub use faults::ReadError;
 pub use limits::{
-    MOST_SCALARS, MOST_SCALARS_BYTES, MOST_SPOTS, MOST_TEXT_BYTES, MOST_VALUE_BYTES,
-    MOST_WORD_BYTES, NUMBER_LIMIT,
+    SCALARS_LIMIT, SCALARS_BYTES_LIMIT, SPOTS_LIMIT, TEXT_BYTES_LIMIT, VALUE_BYTES_LIMIT,
+    WORD_BYTES_LIMIT, NUMBER_LIMIT,
 };
 pub use messages::{Answer, Body, Message, Reply, Request};
 pub use names::{Key, Name, is_key, is_name};

@@ -5,7 +5,7 @@ ghost use Rattle.std.specs.List.{list_all, prefix_len};
 ghost use Rattle.dura_value.specs.Limits.{most_word_bytes};
 ghost use Rattle.dura_value.specs.Names.{is_name, is_key, goes_on_name, stands_in_key};
 
-use crate::limits::MOST_WORD_BYTES;
+use crate::limits::WORD_BYTES_LIMIT;
 use std::alloc::{AllocError, Global};
 use std::marker::Model;
 
@@ -90,7 +90,7 @@ pub(crate) fn count_in_key(bytes: &[u8]) -> usize
 pub fn is_name(bytes: &[u8]) -> bool
     ensures { result ≡ is_name bytes.now }
 {
-    if bytes.len() > MOST_WORD_BYTES {
+    if bytes.len() > WORD_BYTES_LIMIT {
         return false;
     }
     match bytes {
@@ -110,7 +110,7 @@ pub fn is_name(bytes: &[u8]) -> bool
 pub fn is_key(bytes: &[u8]) -> bool
     ensures { result ≡ is_key bytes.now }
 {
-    if bytes.is_empty() || bytes.len() > MOST_WORD_BYTES {
+    if bytes.is_empty() || bytes.len() > WORD_BYTES_LIMIT {
         return false;
     }
     count_in_key(bytes) == bytes.len()

@@ -7,7 +7,7 @@ ghost use Rattle.dura_value.specs.Views.{id_of};
 
 use crate::addresses::{BETWEEN, Id, OF_CLIENT, OF_ENTITY};
 use crate::faults::ReadError;
-use crate::limits::MOST_WORD_BYTES;
+use crate::limits::WORD_BYTES_LIMIT;
 use crate::names::{Key, Name, count_in_key, count_in_name, is_key, is_name};
 use std::alloc::Global;
 
@@ -32,10 +32,10 @@ fn name_front(bytes: &[u8]) -> usize
         [first, rest @ ..] => {
             if first.is_ascii_alphabetic() {
                 let count = count_in_name(rest);
-                if count < MOST_WORD_BYTES {
+                if count < WORD_BYTES_LIMIT {
                     count + 1
                 } else {
-                    MOST_WORD_BYTES
+                    WORD_BYTES_LIMIT
                 }
             } else {
                 0
@@ -49,10 +49,10 @@ fn key_front(bytes: &[u8]) -> usize
     ensures { result ≡ key_front bytes.now }
 {
     let count = count_in_key(bytes);
-    if count < MOST_WORD_BYTES {
+    if count < WORD_BYTES_LIMIT {
         count
     } else {
-        MOST_WORD_BYTES
+        WORD_BYTES_LIMIT
     }
 }
 

@@ -5,7 +5,7 @@ ghost use Rattle.dura_value.specs.Limits.{most_scalars_bytes};
 ghost use Rattle.dura_value.specs.Values.{scalar_size, scalars_size};
 
 use crate::data::Scalar;
-use crate::limits::MOST_SCALARS_BYTES;
+use crate::limits::SCALARS_BYTES_LIMIT;
 
 fn scalar_size(scalar: &Scalar) -> usize
     ensures size { result ≡ scalar_size scalar.now }
@@ -25,7 +25,7 @@ fn scalar_size(scalar: &Scalar) -> usize
 pub fn are_short(scalars: &[Scalar]) -> bool
     ensures { result ≡ nat_le (scalars_size scalars.now) most_scalars_bytes }
 {
-    let mut left = MOST_SCALARS_BYTES;
+    let mut left = SCALARS_BYTES_LIMIT;
     for scalar in scalars {
         let size = scalar_size(scalar);
         if size > left {

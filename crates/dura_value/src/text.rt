@@ -3,7 +3,7 @@
 ghost use Rattle.std.specs.Prelude.{◌≡◌, IfOk, IfErr};
 ghost use Rattle.dura_value.specs.Text.{IsText, Explains};
 
-use crate::limits::MOST_TEXT_BYTES;
+use crate::limits::TEXT_BYTES_LIMIT;
 use std::alloc::Global;
 use std::marker::Model;
 use thiserror::Error;
@@ -47,7 +47,7 @@ impl Text {
         ensures text { IfOk result (λ t. (t ≡ bytes.now) × IsText bytes.now) }
         ensures fault { IfErr result (Explains bytes.now) }
     {
-        if bytes.len() > MOST_TEXT_BYTES {
+        if bytes.len() > TEXT_BYTES_LIMIT {
             return Err(TextError::TooLong {
                 length: bytes.len(),
             });

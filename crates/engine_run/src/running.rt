@@ -44,7 +44,7 @@ use std::alloc::{AllocError, Global};
 const ALONE: u32 = 0;
 
 /// The place that no entry may have: the format's numbers are below it.
-const PLACES: u64 = 1 << 62;
+const POSITION_LIMIT: u64 = 1 << 62;
 
 /// Why a run ends that goes on no more.
 fn cause_of(stop: Stop) -> Cause
@@ -223,7 +223,7 @@ pub(crate) fn go<V: Site, N: Ruled, C: Clock, A: Activities>(
     } = prepared;
     let nothing = Trail::none(alloc);
     let position = state.position();
-    if position >= PLACES {
+    if position >= POSITION_LIMIT {
         state.let_go();
         let spent = Cause::Spent {
             partition: ALONE,

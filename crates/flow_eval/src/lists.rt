@@ -6,14 +6,14 @@ ghost use Rattle.flow_eval.specs.Gives.{EvalGives};
 
 use crate::fault::{EvalError, Fault};
 use crate::kinds::value_of;
-use dura_value::{MOST_SCALARS, Scalar, Scalars, Value, are_short};
+use dura_value::{SCALARS_LIMIT, Scalar, Scalars, Value, are_short};
 use std::alloc::{AllocError, Global};
 
 /// A list of these, unless it is past a limit.
 pub fn list_of(parts: Vec<Scalar>) -> Result<Value, EvalError>
     ensures { EvalGives (λ value. value) result (list_of parts.items) }
 {
-    if parts.len() > MOST_SCALARS || !are_short(&parts) {
+    if parts.len() > SCALARS_LIMIT || !are_short(&parts) {
         return Err(EvalError::Thrown(Fault::Size));
     }
     Ok(Value::List(Scalars::of(parts)))

@@ -7,7 +7,7 @@ ghost use Rattle.flow_syntax.specs.Eval.{text, int_text};
 ghost use Rattle.flow_eval.specs.Gives.{EvalGives};
 
 use crate::fault::{EvalError, Fault};
-use dura_value::{MOST_TEXT_BYTES, Text, TextError, Value};
+use dura_value::{TEXT_BYTES_LIMIT, Text, TextError, Value};
 use std::alloc::Global;
 
 /// A text of these bytes.
@@ -31,7 +31,7 @@ pub(crate) fn joined(alloc: Global, first: &Text, second: &Text) -> Result<Value
 {
     let (first, second) = (first.as_bytes(), second.as_bytes());
     let length = first.len() + second.len();
-    if length > MOST_TEXT_BYTES {
+    if length > TEXT_BYTES_LIMIT {
         return Err(EvalError::Thrown(Fault::Size));
     }
     let mut bytes = Vec::with_capacity(alloc, length)?;

@@ -11,7 +11,7 @@ ghost use Rattle.flow_syntax.specs.Views.{block_of, locked_of, statement_of};
 
 use crate::simple::{simple_in, two_parts};
 use crate::words::{Word, word_in};
-use dura_value::{MOST_SPOTS, with};
+use dura_value::{SPOTS_LIMIT, with};
 use flow_syntax::{Locked, Stmt};
 use flow_values::{PartError, Step, expression_at, misshapen, name_at, under};
 use json_tree::Tree;
@@ -63,7 +63,7 @@ fn pairs_from(alloc: Global, parts: &[Tree<'_>]) -> Result<Vec<Locked>, PartErro
 fn few_pairs(alloc: Global, parts: &[Tree<'_>]) -> Result<Vec<Locked>, PartError>
     ensures { PartGives (λ pairs. map locked_of pairs.items) result (pairs_in (array (items_view parts.now))) }
 {
-    if parts.len() >= 1 && parts.len() <= MOST_SPOTS {
+    if parts.len() >= 1 && parts.len() <= SPOTS_LIMIT {
         pairs_from(alloc, parts)
     } else {
         Err(misshapen(alloc))

@@ -89,7 +89,7 @@ pub(crate) fn go(
 ) -> Result<(), AllocError>
     ensures { OnOk result (Makes made.old made.new machine.new (go most_steps (machine_of machine.old))) }
 {
-    for _ in 0..MOST_STEPS {
+    for _ in 0..STEPS_LIMIT {
         let went = step(machine, alloc, made)?;
         if !went {
             return Ok(());
@@ -99,4 +99,4 @@ pub(crate) fn go(
 }
 
 /// The most steps from one event to the next.
-const MOST_STEPS: u32 = 10_000;
+const STEPS_LIMIT: u32 = 10_000;

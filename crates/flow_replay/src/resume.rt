@@ -23,7 +23,7 @@ use flow_tasks::Section;
 use std::alloc::{AllocError, Global};
 
 /// The most events of one instance.
-const MOST_EVENTS: u32 = 10_000;
+const EVENTS_LIMIT: u32 = 10_000;
 
 /// The result of a task arrives, where the answer is one.
 fn answer(machine: &mut Machine<'_>, task: u32, answer: &Answer) -> Result<(), AllocError>
@@ -87,7 +87,7 @@ fn grant_late(machine: &mut Machine<'_>, made: &mut Made, event: &Event) -> Resu
 fn go_on(machine: &mut Machine<'_>, alloc: Global, made: &mut Made) -> Result<(), AllocError>
     ensures { OnOk result (Makes made.old made.new machine.new (goes_on (machine_of machine.old))) }
 {
-    if machine.events < MOST_EVENTS {
+    if machine.events < EVENTS_LIMIT {
         machine.events += 1;
         go(machine, alloc, made)
     } else {

@@ -9,7 +9,7 @@ ghost use Rattle.flow_syntax.specs.Walk.{walk, keeps, placed_in, verdict_of, in_
 
 use crate::flows::Flows;
 use crate::syntax::{Locked, Stmt};
-use dura_value::{MOST_SPOTS, Name};
+use dura_value::{SPOTS_LIMIT, Name};
 use std::collections::BTreeMap;
 use thiserror::Error;
 
@@ -53,7 +53,7 @@ fn has_count(statement: &Stmt) -> bool
     ensures { result ≡ has_count (statement_of statement.now) }
 {
     match statement {
-        Stmt::Lock(entities, _) => !entities.is_empty() && entities.len() <= MOST_SPOTS,
+        Stmt::Lock(entities, _) => !entities.is_empty() && entities.len() <= SPOTS_LIMIT,
         _ => true,
     }
 }

@@ -8,7 +8,7 @@ ghost use Rattle.dura_value.specs.Values.{value_of};
 ghost use Rattle.flow_values.specs.Values.{is_text, list_in, name_in, scalar_in, scalars_from, value_in};
 
 use crate::faults::{PartError, Path, Step, under};
-use dura_value::{MOST_SCALARS, Name, Scalar, Scalars, Text, TextError, Value, are_short, is_name};
+use dura_value::{SCALARS_LIMIT, Name, Scalar, Scalars, Text, TextError, Value, are_short, is_name};
 use json_tree::Tree;
 use std::alloc::Global;
 
@@ -105,7 +105,7 @@ fn scalars_in(alloc: Global, parts: &[Tree<'_>]) -> Result<Vec<Scalar>, PartErro
 fn list_in(alloc: Global, parts: &[Tree<'_>]) -> Result<Scalars, PartError>
     ensures { PartGives (λ scalars. scalars) result (list_in (items_view parts.now)) }
 {
-    if parts.len() > MOST_SCALARS {
+    if parts.len() > SCALARS_LIMIT {
         return Err(misshapen(alloc));
     }
     let scalars = scalars_in(alloc, parts)?;

@@ -21,7 +21,7 @@ use std::collections::BTreeMap;
 use thiserror::Error;
 
 /// How deep arrays and objects may nest.
-const MOST_LEVELS: usize = 127;
+const LEVELS_LIMIT: usize = 127;
 
 /// Why bytes gave no tree.
 #[derive(Debug, Drop, Error)]
@@ -187,7 +187,7 @@ pub fn read_tree<'a>(alloc: Global, arena: &'a Bump, bytes: &[u8]) -> Result<Tre
     };
     let mut scratch = Scratch::new(alloc);
     let mut reader = Reader::new(text, &mut scratch)?;
-    let tree = tree_in(alloc, arena, &mut reader, MOST_LEVELS)?;
+    let tree = tree_in(alloc, arena, &mut reader, LEVELS_LIMIT)?;
     if reader.next().is_some() {
         return Err(ReadError::NotJson);
     }

@@ -12,7 +12,7 @@ use commit_log::Header;
 const OPEN_GATE: u8 = 0xC3;
 
 /// The base positions that no header has.
-const BASES: u64 = 1 << 63;
+const BASE_LIMIT: u64 = 1 << 63;
 
 /// The name of the format, and its version.
 const SIGNATURE: [u8; 8] = *b"NETHLOG\x01";
@@ -84,7 +84,7 @@ fn read_header(partition: u32, bytes: &[u8]) -> Result<(Header, &[u8]), u64>
     let (partitions, rest) = u32_at(13, rest)?;
     let (digest, rest) = u64_at(17, rest)?;
     let (base, rest) = u64_at(25, rest)?;
-    if base >= BASES {
+    if base >= BASE_LIMIT {
         return Err(25);
     }
     let header = Header {

@@ -8,7 +8,7 @@ ghost use Rattle.part_items.specs.Grammar.{took_at, got_at, ran_at, done_at, fir
 
 use crate::frames::{Entry, Frame, Items};
 use crate::items::Item;
-use crate::tags::{DONE, FIRED, GOT, MOST_MEMBERS, RAN, TOOK, TRIM};
+use crate::tags::{DONE, FIRED, GOT, MEMBERS_LIMIT, RAN, TOOK, TRIM};
 use dura_codec::{
     FieldError, take_count, take_id, take_message, take_outcome, take_u8, take_u16, take_u32,
 };
@@ -111,7 +111,7 @@ pub(crate) fn take_members(bytes: &[u8]) -> Result<(u16, &[u8]), FieldError>
     ensures { Takes (λ n. n) result (members_at bytes.now) }
 {
     let (count, rest) = take_u16(bytes)?;
-    if count == 0 || count > MOST_MEMBERS {
+    if count == 0 || count > MEMBERS_LIMIT {
         return Err(FieldError::Bad { left: bytes.len() });
     }
     Ok((count, rest))

@@ -13,4 +13,4 @@ pub(crate) const FIRED: u8 = 0x24;
 pub(crate) const TRIM: u8 = 0x25;
 
 /// The most items of an entry and entries of a frame.
-pub(crate) const MOST_MEMBERS: u16 = 64;
+pub(crate) const MEMBERS_LIMIT: u16 = 64;

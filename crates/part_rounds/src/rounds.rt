@@ -34,7 +34,7 @@ use std::alloc::Global;
 const ALONE: u32 = 0;
 
 /// The place that no entry may have: the format's numbers are below it.
-const PLACES: u64 = 1 << 62;
+const POSITION_LIMIT: u64 = 1 << 62;
 
 /// What a round came to.
 pub(crate) enum Round {
@@ -159,7 +159,7 @@ fn go_round<V: Site, N: Ruled, R: Reactions, A: Activities, C: Clock>(
         alloc, reactions, acts, clock, state, port, clients, chance, limit,
     )? {
         Coming::Filled(filling, now) => {
-            if position >= PLACES {
+            if position >= POSITION_LIMIT {
                 filling.let_go();
                 return Err(Stop::Spent {
                     partition: ALONE,

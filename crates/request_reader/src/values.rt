@@ -8,7 +8,7 @@ ghost use Rattle.dura_value.specs.Values.{value_of};
 ghost use Rattle.request_reader.specs.Values.{is_text, scalar_in, scalars_in, list_in, value_in, value_at};
 
 use crate::error::ReadError;
-use dura_value::{MOST_SCALARS, Scalar, Scalars, Text, TextError, Value, are_short};
+use dura_value::{SCALARS_LIMIT, Scalar, Scalars, Text, TextError, Value, are_short};
 use serde_json::Value as Json;
 use std::alloc::Global;
 
@@ -77,7 +77,7 @@ fn scalars_in(alloc: Global, parts: &[Json]) -> Result<Vec<Scalar>, ReadError>
 fn list_in(alloc: Global, parts: &[Json]) -> Result<Scalars, ReadError>
     ensures { LineGives (λ scalars. scalars) result (list_in (items_view parts.now)) }
 {
-    if parts.len() > MOST_SCALARS {
+    if parts.len() > SCALARS_LIMIT {
         return Err(ReadError::Refused);
     }
     let scalars = scalars_in(alloc, parts)?;

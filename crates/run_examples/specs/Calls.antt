@@ -5,7 +5,7 @@ use Rattle.command_words.specs.declared.words.RunOptions.{RunOptions}
 use Rattle.dura_model.specs.Partition.{Partition, fresh}
 use Rattle.dura_model.specs.Steps.{Label, finish}
 use Rattle.dura_model.specs.World.{World, empty, at_number}
-use Rattle.dura_value.specs.Digest.{fnv}
+use Rattle.dura_value.specs.Digest.{fnv1a_64}
 use Rattle.dura_value.specs.Ids.{client, orchestration}
 use Rattle.dura_value.specs.Messages.{start, wait, to_request, was_started}
 use Rattle.dura_value.specs.declared.data.Value.TheVariants as values
@@ -28,7 +28,7 @@ nothing_asked = record { flows = no_flows; digest = digest; requests = [] }
 
 -- what files of one flow and one request ask for
 abbrev pub one_asked : Job
-one_asked = record { flows = one_flow; digest = fnv flows_bytes; requests = one_request ∷ [] }
+one_asked = record { flows = one_flow; digest = fnv1a_64 flows_bytes; requests = one_request ∷ [] }
 
 -- client a's request 1: to start Sum/x; and to wait for its end under the same number
 abbrev pub starting : Request

@@ -1,7 +1,7 @@
 -- What reading the input files answers.
 use Rattle.std.specs.Prelude.{◌≡◌, ℕ, List, length, map, false, true, Option, Some, None, Result, Ok, Err, Vec}
 use Rattle.std.specs.declared.alloc.Global.{Global}
-use Rattle.dura_value.specs.Digest.{fnv}
+use Rattle.dura_value.specs.Digest.{fnv1a_64}
 use Rattle.dura_value.specs.declared.messages.Request.{Request as OwnRequest}
 use Rattle.flow_syntax.specs.Syntax.{Flows}
 use Rattle.flow_syntax.specs.Views.{flows_of}
@@ -72,7 +72,7 @@ FileRead content file (Err other) = ⊥
 
 -- the flows that the bytes give, and their digest
 abbrev pub FlowsRead : List ℕ → Result FlowFile Cause → Type 0
-FlowsRead bytes (Ok file) = (flows_in bytes ≡ Ok (flows_of file.flows)) × (file.digest ≡ fnv bytes)
+FlowsRead bytes (Ok file) = (flows_in bytes ≡ Ok (flows_of file.flows)) × (file.digest ≡ fnv1a_64 bytes)
 FlowsRead bytes (Err (BadFlows fault)) = flows_cause (flows_in bytes) ≡ Some (BadFlows fault)
 FlowsRead bytes (Err Memory) = Unit {0}
 FlowsRead bytes (Err other) = ⊥
@@ -101,7 +101,7 @@ ReadsPlan bytes (Err cause) = RefusesInput (plan_refused bytes) cause
 pub record HasFlows (files : ℕ → List ℕ) (flows : Flows) (digest : ℕ) : Type 0 where
   pub accepted : flows_refusal files ≡ None
   pub flows_in_file : flows_in (files 0) ≡ Ok flows
-  pub digest_of_file : digest ≡ fnv (files 0)
+  pub digest_of_file : digest ≡ fnv1a_64 (files 0)
 
 -- what reading the flows file answers
 abbrev pub ReadsFlowFile : (ℕ → List ℕ) → Result FlowFile Cause → Type 0
@@ -118,7 +118,7 @@ pub record HasInput (files : ℕ → List ℕ) (flows : Flows) (digest : ℕ) (r
   pub accepted : refusal_of files ≡ None
   pub flows_in_file : flows_in (files 0) ≡ Ok flows
   pub requests_in_file : requests_in (files 1) ≡ Ok requests
-  pub digest_of_file : digest ≡ fnv (files 0)
+  pub digest_of_file : digest ≡ fnv1a_64 (files 0)
 
 -- what reading the input files answers
 abbrev pub ReadsInput : (ℕ → List ℕ) → Result Input Cause → Type 0

@@ -1,7 +1,7 @@
 //! Examples of input files. They are said of the definitions alone: the functions do nothing.
 
 ghost use Rattle.std.specs.Prelude.{◌≡◌, ℕ, List, [], ◌∷◌, codes, length, false, Option, Some, None};
-ghost use Rattle.dura_value.specs.Digest.{fnv};
+ghost use Rattle.dura_value.specs.Digest.{fnv1a_64};
 ghost use Rattle.flow_syntax.specs.Syntax.{Flows};
 ghost use Rattle.request_reader.specs.Line.{Request};
 ghost use Rattle.run_causes.specs.declared.cause.Cause.{Cause as AnyCause};
@@ -15,10 +15,10 @@ ghost use Rattle.run_inputs.specs.Refusal.{is_too_long, refusal_of};
 /// A flow and a request, and no plan: the files hold these, and nothing else.
 #[tactic(auto, using(crate::proofs::Computed::flows_of_one, crate::proofs::Computed::requests_of_one, crate::proofs::Computed::refusal_good, crate::proofs::Computed::flows_refusal_one, crate::proofs::Computed::refusal_empty))]
 pub fn accepted_files()
-    ensures accepted { HasInput good_files one_flow (fnv flows_bytes) (one_request ∷ []) }
+    ensures accepted { HasInput good_files one_flow (fnv1a_64 flows_bytes) (one_request ∷ []) }
     ensures other_flows { (flows : Flows) (requests : List Request) → HasInput good_files flows 0 requests → ⊥ }
     ensures no_requests { (flows : Flows) (digest : ℕ) → HasInput good_files flows digest [] → ⊥ }
-    ensures flows_alone { HasFlows (three_files flows_bytes (codes "0") (codes "0")) one_flow (fnv flows_bytes) }
+    ensures flows_alone { HasFlows (three_files flows_bytes (codes "0") (codes "0")) one_flow (fnv1a_64 flows_bytes) }
     ensures empty { refusal_of (three_files (codes "{}") [] []) ≡ None }
 {}
 

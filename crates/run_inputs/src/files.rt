@@ -10,7 +10,7 @@ use site_model::{FrontError, Site, read_front};
 use std::alloc::Global;
 
 /// The most bytes of an input file.
-const MOST_INPUT: u64 = 16_777_216;
+const INPUT_LIMIT: u64 = 16_777_216;
 
 /// The length of a file, unless it is too long.
 pub(crate) fn input_length<V: Site>(site: &mut V, file: u32) -> Result<u64, Cause>
@@ -24,7 +24,7 @@ pub(crate) fn input_length<V: Site>(site: &mut V, file: u32) -> Result<u64, Caus
 {
     match site.length(file) {
         Ok(length) => {
-            if length > MOST_INPUT {
+            if length > INPUT_LIMIT {
                 Err(Cause::TooLong { file })
             } else {
                 Ok(length)

@@ -6,7 +6,7 @@ ghost use Rattle.site_model.specs.Calls.{HasRisen};
 ghost use Rattle.site_model.specs.History.{content_of};
 
 use crate::files::read_file;
-use dura_value::fnv;
+use dura_value::fnv1a_64;
 use flow_reader::{FlowsError, read_flows};
 use flow_syntax::Flows;
 use run_causes::{Cause, FlowsFault};
@@ -32,7 +32,7 @@ fn flow_file_of(alloc: Global, bytes: &[u8]) -> Result<FlowFile, Cause>
     let fault = match read_flows(alloc, bytes) {
         Ok(flows) => return Ok(FlowFile {
             flows,
-            digest: fnv(bytes),
+            digest: fnv1a_64(bytes),
         }),
         Err(FlowsError::NotJson) => FlowsFault::NotJson,
         Err(FlowsError::BadShape { path }) => FlowsFault::BadShape { path },

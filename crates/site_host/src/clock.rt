@@ -10,7 +10,7 @@ use std::time::{Duration, SystemTime, UNIX_EPOCH};
 use std::{io, rt, thread};
 
 /// How often a wait reads the clock.
-const MOST_READS: u32 = 1000;
+const READS_LIMIT: u32 = 1000;
 
 /// The machine's clock, in milliseconds since 1970. It may be set back, so a moment may lie before an earlier one.
 #[derive(Drop)]
@@ -86,7 +86,7 @@ fn read_from(rt: &impl rt::Clock, moment: u64) -> io::Result<u64>
     ensures reached { IfOk result (λ t. moment ≤ t) }
     ensures range { IfOk result (λ t. t ≤ LAST_MOMENT) }
 {
-    for _ in 0..MOST_READS {
+    for _ in 0..READS_LIMIT {
         let now = read_clock(rt)?;
         if now >= moment {
             return Ok(now);

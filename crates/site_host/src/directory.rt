@@ -15,7 +15,7 @@ use std::{fs, io};
 const NAME_ROOM: usize = 16;
 
 /// As many files as there are names.
-const MOST_FILES: usize = 131;
+const FILES_LIMIT: usize = 131;
 
 /// A directory, with its lock and those of its files that were found or made.
 #[derive(Drop)]
@@ -58,7 +58,7 @@ impl<R> Directory<R> {
             rt,
             path: String::from_str(alloc, path)?,
             file_path: String::with_capacity(alloc, path.len() + NAME_ROOM)?,
-            files: Vec::with_capacity(alloc, MOST_FILES)?,
+            files: Vec::with_capacity(alloc, FILES_LIMIT)?,
             stand_ins: Vec::with_capacity(alloc, 3)?,
             folder: None,
             names_are_safe: false,

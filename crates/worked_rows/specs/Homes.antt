@@ -4,7 +4,7 @@ use Rattle.std.specs.declared.cmp.Ordering.{Ordering}
 use Rattle.std.specs.declared.cmp.Ordering.TheVariants.{Less}
 use Rattle.dura_value.specs.declared.addresses.Id.{Id as Given}
 use Rattle.dura_value.specs.declared.addresses.Id.TheVariants.{Client, Entity, Flow}
-use Rattle.dura_value.specs.Digest.{fnv}
+use Rattle.dura_value.specs.Digest.{fnv1a_64}
 use Rattle.dura_value.specs.Ids.{written, home}
 use Rattle.dura_value.specs.Reading.{name_at, key_at, id_in}
 use Rattle.dura_value.specs.Views.{id_of}
@@ -52,7 +52,7 @@ fault_rows =
     ∷ []
 
 abbrev pub Digests : Type 0
-Digests = map (λ row. fnv row.0) digest_rows ≡ map (λ row. row.1) digest_rows
+Digests = map (λ row. fnv1a_64 row.0) digest_rows ≡ map (λ row. row.1) digest_rows
 
 abbrev pub AreWritten : Type 0
 AreWritten = map (λ (row : Housed). written (id_of row.id)) home_rows ≡ map (λ (row : Housed). row.text) home_rows

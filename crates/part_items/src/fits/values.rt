@@ -5,7 +5,7 @@ ghost use Rattle.std.specs.Bool.{Decides};
 ghost use Rattle.dura_codec.specs.Spelling.{spell_scalar};
 ghost use Rattle.part_items.specs.Fits.{FitsScalar, FitsList, FitsValue};
 
-use dura_value::{MOST_SCALARS, MOST_SCALARS_BYTES, Scalar, Value};
+use dura_value::{SCALARS_LIMIT, SCALARS_BYTES_LIMIT, Scalar, Value};
 
 /// How many bytes a scalar takes where it is written. No scalar by itself passes a limit.
 fn spelled_size(scalar: &Scalar) -> usize
@@ -27,11 +27,11 @@ fn spelled_size(scalar: &Scalar) -> usize
 fn list_fits(parts: &[Scalar]) -> bool
     ensures { Decides result (FitsList parts.now) }
 {
-    if parts.len() > MOST_SCALARS {
+    if parts.len() > SCALARS_LIMIT {
         return false;
     }
     // counted down, so that no sum wraps
-    let mut left = MOST_SCALARS_BYTES;
+    let mut left = SCALARS_BYTES_LIMIT;
     for part in parts {
         let size = spelled_size(part);
         if size > left {

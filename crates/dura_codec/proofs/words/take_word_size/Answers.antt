@@ -5,7 +5,7 @@ use Rattle.dura_codec.proofs.words.take_word_size.Goals as goal
 
 pub returns : goal.returns
 unfolding word_size_at
-returns c = rw (c.in_ok-size.ensures.takes, between c.in_ok-size.size 64 c.if-size-eq0.false c.if-size-gt-MOST_WORD_BYTES.false) refl
+returns c = rw (c.in_ok-size.ensures.takes, between c.in_ok-size.size 64 c.if-size-eq0.false c.if-size-gt-WORD_BYTES_LIMIT.false) refl
 
 pub returns-in_err-size : goal.returns-in_err-size
 unfolding word_size_at

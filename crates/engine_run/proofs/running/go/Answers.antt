@@ -94,11 +94,11 @@ drive_on-cause-requires-clause-clients g c =
     ∙ clients_named (map request_of c.args.prepared.requests.items)
     ∙ sym (ap clients_of asked)
 
-pub returns-then-position-ge-PLACES : goal.returns-then-position-ge-PLACES
-returns-then-position-ge-PLACES g c =
+pub returns-then-position-ge-POSITION_LIMIT : goal.returns-then-position-ge-POSITION_LIMIT
+returns-then-position-ge-POSITION_LIMIT g c =
     let site_is = c.end_with.ensures.site in
     let wanting = c.end_with.ensures.cause in
-    let reaches = c.if-position-ge-PLACES.true in record {
+    let reaches = c.if-position-ge-POSITION_LIMIT.true in record {
       told = λ tells. subst g.V.Site.tells site_is tells;
       status = c.end_with.ensures.status ∙ ap status_of (sym wanting);
       late = subst IsLateCause (sym wanting) (refl, reaches);
@@ -219,4 +219,4 @@ pub begin-requires-clause-begun : goal.begin-requires-clause-begun
 begin-requires-clause-begun g c tells = subst (HasBegun g.N.Start.origin (g.V.Site.history c.args.site)) (sym c.in-Ok-vec.ensures.items) (c.requires.begun tells)
 
 pub drive_on-cause-requires-clause-room : goal.drive_on-cause-requires-clause-room
-drive_on-cause-requires-clause-room g c = room_left c.position-position.result _ c.position-position.ensures c.if-position-ge-PLACES.false
+drive_on-cause-requires-clause-room g c = room_left c.position-position.result _ c.position-position.ensures c.if-position-ge-POSITION_LIMIT.false

@@ -61,8 +61,8 @@ settle_filling-requires-clause-filled g c =
       after_is = refl;
     }))
 
-pub returns-then-position-ge-PLACES : goal.returns-then-position-ge-PLACES
-returns-then-position-ge-PLACES g c =
+pub returns-then-position-ge-POSITION_LIMIT : goal.returns-then-position-ge-POSITION_LIMIT
+returns-then-position-ge-POSITION_LIMIT g c =
     record {
       tells = λ t. t;
       sound = c.requires.sound;

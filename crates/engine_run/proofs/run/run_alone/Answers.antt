@@ -1,0 +1,149 @@
+use Rattle.std.proofs.Common.{◌≡◌, ◌≤◌, ◌∙◌, inl, inr, Some, refl, sym, ap, subst, arith}
+use Rattle.std.proofs.Math.Nat.{le_of_eq}
+use Rattle.command_words.specs.Command.{call_in}
+use Rattle.command_words.specs.declared.words.Call.TheVariants.{Run, Show}
+use Rattle.command_words.specs.declared.words.RunOptions.{RunOptions}
+use Rattle.engine_run.specs.Causes.{CauseHolds, SettlesNothing, Untouched}
+use Rattle.engine_run.specs.Ends.{terms_of}
+use Rattle.engine_run.specs.Headline.{Headline}
+use Rattle.engine_run.specs.Opened.{IsOpening}
+use Rattle.engine_run.specs.Prepared.{IsEarlyCause}
+use Rattle.engine_run.specs.Showing.{ShowsAs, WritesNothing}
+use Rattle.engine_run.proofs.Early.{differ}
+use Rattle.engine_run.proofs.Ending.{memory_no_site, memory_no_say, memory_no_clock}
+use Rattle.engine_run.proofs.Opens.{opening_first}
+use Rattle.engine_run.proofs.Words.{run_is_within, run_same, run_no_show, none_no_call}
+use Rattle.engine_run.proofs.run.run_alone.Goals as goal
+use Rattle.run_causes.specs.Causes.{status_of}
+use Rattle.run_causes.specs.declared.cause.Cause.{Cause}
+use Rattle.run_causes.specs.declared.cause.Cause.TheVariants.{Usage, SiteFault, SayFault, ClockFault, Memory}
+use Rattle.site_model.specs.Calls.{HasRisen}
+use Rattle.site_model.specs.History.{changes_of, content_of, tape}
+use Rattle.site_model.specs.Moments.{Always}
+
+pub run_requests-requires-clause-some : goal.run_requests-requires-clause-some
+run_requests-requires-clause-some g c = let is = rw c.in-Ok-Run.field-0-is at c.in-Ok-Run.ensures in let w = run_is_within c.args.words.now c.in-Ok-Run.options is in w.some
+
+pub run_requests-requires-clause-few : goal.run_requests-requires-clause-few
+run_requests-requires-clause-few g c = let is = rw c.in-Ok-Run.field-0-is at c.in-Ok-Run.ensures in let w = run_is_within c.args.words.now c.in-Ok-Run.options is in w.few
+
+pub run_requests-requires-clause-fits : goal.run_requests-requires-clause-fits
+run_requests-requires-clause-fits g c = let is = rw c.in-Ok-Run.field-0-is at c.in-Ok-Run.ensures in let w = run_is_within c.args.words.now c.in-Ok-Run.options is in omega (arith, w.long)
+
+pub run_requests-requires-clause-short : goal.run_requests-requires-clause-short
+run_requests-requires-clause-short g c = let is = rw c.in-Ok-Run.field-0-is at c.in-Ok-Run.ensures in let w = run_is_within c.args.words.now c.in-Ok-Run.options is in w.short
+
+pub returns-in-Ok-Run : goal.returns-in-Ok-Run
+returns-in-Ok-Run g c =
+    let is = rw c.in-Ok-Run.field-0-is at c.in-Ok-Run.ensures in
+    let ran = c.run_requests.ensures in
+    let end = c.run_requests.result in
+    let is_run : call_in c.args.words.now ≡ Some (Run c.in-Ok-Run.options) = is in
+    let old = g.V.Site.history c.args.site in record {
+      told = ran.told;
+      status = ran.status;
+      usage = λ none. absurd (none_no_call (call_in c.args.words.now) (Run c.in-Ok-Run.options) none is);
+      only_usage = λ usage. absurd (ran.no_usage usage);
+      idle = λ none. absurd (none_no_call (call_in c.args.words.now) (Run c.in-Ok-Run.options) none is);
+      answers = λ tells options asked. ran.answers tells;
+      untouched = λ options asked. ran.untouched;
+      refused = λ tells options asked refused. ran.refused tells refused;
+      settles_nothing = λ is. ran.settles_nothing (subst (λ call. SettlesNothing call end.cause) is_run is);
+      headline = λ tells options asked job asks. subst (λ (o : RunOptions). Headline job (λ file. content_of file old) old (g.V.Site.history end.site) end.trail (terms_of o g.A.Activities.gives (g.C.Clock.given c.args.clock) (g.C.Clock.given end.clock) (g.C.Clock.latest end.clock)) end.cause) (run_same (call_in c.args.words.now) c.in-Ok-Run.options options is asked) (ran.headline tells job asks);
+      shows = λ tells partitions asked. absurd (run_no_show (call_in c.args.words.now) c.in-Ok-Run.options partitions is asked);
+      writes_nothing = λ partitions asked. absurd (run_no_show (call_in c.args.words.now) c.in-Ok-Run.options partitions is asked);
+      fault = ran.fault;
+      say_fault = ran.say_fault;
+      clock_fault = ran.clock_fault;
+      later = ran.later;
+      say_later = ran.say_later;
+      clock_later = ran.clock_later;
+    }
+
+pub returns-in-Ok-Show : goal.returns-in-Ok-Show
+returns-in-Ok-Show g c =
+    let is = rw c.in-Ok-Show.field-0-is at c.in-Ok-Show.ensures in
+    let shown = c.show-cause.ensures in
+    let end = c.end_with.ensures in
+    let old = g.V.Site.history c.args.site in
+    let now = c.show-cause.new.site in record {
+      told = λ tells. shown.told (subst g.V.Site.tells end.site tells);
+      status = end.status ∙ ap status_of (sym end.cause);
+      usage = λ none. absurd (none_no_call (call_in c.args.words.now) (Show c.in-Ok-Show.field-0-0) none is);
+      only_usage = λ usage. absurd (shown.no_usage (sym end.cause ∙ usage));
+      idle = λ none. absurd (none_no_call (call_in c.args.words.now) (Show c.in-Ok-Show.field-0-0) none is);
+      answers = λ tells options asked. absurd (run_no_show (call_in c.args.words.now) options c.in-Ok-Show.field-0-0 asked is);
+      untouched = λ options asked. absurd (run_no_show (call_in c.args.words.now) options c.in-Ok-Show.field-0-0 asked is);
+      refused = λ tells options asked. absurd (run_no_show (call_in c.args.words.now) options c.in-Ok-Show.field-0-0 asked is);
+      settles_nothing = λ settles. end.trail ∙ c.none.ensures;
+      headline = λ tells options asked. absurd (run_no_show (call_in c.args.words.now) options c.in-Ok-Show.field-0-0 asked is);
+      shows = λ tells partitions asked.
+          subst (λ (cause : Cause). ShowsAs (λ file. content_of file old) (tape old) (tape (g.V.Site.history c.end_with.result.site)) cause) (sym end.cause)
+          (subst (λ site. ShowsAs (λ file. content_of file old) (tape old) (tape (g.V.Site.history site)) c.show-cause.result) (sym end.site) (shown.shows (subst g.V.Site.tells end.site tells)));
+      writes_nothing = λ partitions asked. subst (λ site. WritesNothing old (g.V.Site.history site)) (sym end.site) shown.nothing;
+      fault = λ is. subst (λ site. HasRisen (g.V.Site.disk_faults c.args.site) (g.V.Site.disk_faults site)) (sym end.site) (shown.fault (sym end.cause ∙ is));
+      say_fault = λ is. subst (λ site. HasRisen (g.V.Site.say_faults c.args.site) (g.V.Site.say_faults site)) (sym end.site) (shown.say_fault (sym end.cause ∙ is));
+      clock_fault = λ is. absurd (shown.no_clock (sym end.cause ∙ is));
+      later = subst (λ site. g.V.Site.disk_faults c.args.site ≤ g.V.Site.disk_faults site) (sym end.site) shown.later;
+      say_later = subst (λ site. g.V.Site.say_faults c.args.site ≤ g.V.Site.say_faults site) (sym end.site) shown.say_later;
+      clock_later = le_of_eq (ap g.C.Clock.clock_faults (sym end.clock));
+    }
+
+pub returns-in-Err-Usage : goal.returns-in-Err-Usage
+returns-in-Err-Usage g c =
+    let end = c.end_with-in-Err-Usage.ensures in
+    let old = g.V.Site.history c.args.site in
+    let now = g.V.Site.history c.end_with-in-Err-Usage.result.site in
+    let is = rw c.in-Err-Usage.field-0-is at c.in-Err-Usage.ensures in record {
+      told = λ tells. subst g.V.Site.tells end.site tells;
+      status = end.status ∙ ap status_of (sym end.cause);
+      usage = λ none. inl end.cause;
+      only_usage = λ usage. is;
+      idle = λ none. ap g.V.Site.history end.site;
+      answers = λ tells options asked. absurd (none_no_call (call_in c.args.words.now) (Run options) is asked);
+      untouched = λ options asked. absurd (none_no_call (call_in c.args.words.now) (Run options) is asked);
+      refused = λ tells options asked. absurd (none_no_call (call_in c.args.words.now) (Run options) is asked);
+      settles_nothing = λ settles. end.trail ∙ c.none-in-Err-Usage.ensures;
+      headline = λ tells options asked. absurd (none_no_call (call_in c.args.words.now) (Run options) is asked);
+      shows = λ tells partitions asked. absurd (none_no_call (call_in c.args.words.now) (Show partitions) is asked);
+      writes_nothing = λ partitions asked. absurd (none_no_call (call_in c.args.words.now) (Show partitions) is asked);
+      fault = λ is. absurd (differ Usage SiteFault refl (sym end.cause ∙ is));
+      say_fault = λ is. absurd (differ Usage SayFault refl (sym end.cause ∙ is));
+      clock_fault = λ is. absurd (differ Usage ClockFault refl (sym end.cause ∙ is));
+      later = le_of_eq (ap g.V.Site.disk_faults (sym end.site));
+      say_later = le_of_eq (ap g.V.Site.say_faults (sym end.site));
+      clock_later = le_of_eq (ap g.C.Clock.clock_faults (sym end.clock));
+    }
+
+pub returns-in-Err-Memory : goal.returns-in-Err-Memory
+returns-in-Err-Memory g c =
+    let end = c.end_with-in-Err-Memory.ensures in
+    let old = g.V.Site.history c.args.site in
+    let now = g.V.Site.history c.end_with-in-Err-Memory.result.site in record {
+      told = λ tells. subst g.V.Site.tells end.site tells;
+      status = end.status ∙ ap status_of (sym end.cause);
+      usage = λ none. inr end.cause;
+      only_usage = λ usage. absurd (differ Memory Usage refl (sym end.cause ∙ usage));
+      idle = λ none. ap g.V.Site.history end.site;
+      answers = λ tells options asked. subst (CauseHolds (λ file. content_of file old)) (sym end.cause) tt;
+      untouched = λ options asked. subst (Untouched old now) (sym end.cause) tt;
+      refused = λ tells options asked refused. record { syncs = inl (ap g.V.Site.history end.site); nothing = end.trail ∙ c.none-in-Err-Memory.ensures };
+      settles_nothing = λ settles. end.trail ∙ c.none-in-Err-Memory.ensures;
+      headline = λ tells options is job asks entries begin keeps given.
+          let old = g.V.Site.history c.args.site in
+          let site_is = c.end_with-in-Err-Memory.ensures.site in
+          let told = subst g.V.Site.tells site_is tells in
+          inr (record {
+            early = subst IsEarlyCause (sym c.end_with-in-Err-Memory.ensures.cause) tt;
+            nothing = c.end_with-in-Err-Memory.ensures.trail ∙ c.none-in-Err-Memory.ensures;
+            opening = subst (λ site. Always (IsOpening job entries old) old (g.V.Site.history site)) (sym site_is) (opening_first job entries old (λ f. g.met.V.Site.inside c.args.site f told));
+          });
+      shows = λ tells partitions asked. subst (ShowsAs (λ file. content_of file old) (tape old) (tape now)) (sym end.cause) (inl (ap (λ site. tape (g.V.Site.history site)) end.site));
+      writes_nothing = λ partitions asked. record { mid = g.V.Site.history c.args.site; syncs = inl refl; files = λ file. ap (λ site. changes_of file (g.V.Site.history site)) c.end_with-in-Err-Memory.ensures.site };
+      fault = λ is. absurd (memory_no_site c.end_with-in-Err-Memory.result.cause end.cause is);
+      say_fault = λ is. absurd (memory_no_say c.end_with-in-Err-Memory.result.cause end.cause is);
+      clock_fault = λ is. absurd (memory_no_clock c.end_with-in-Err-Memory.result.cause end.cause is);
+      later = le_of_eq (ap g.V.Site.disk_faults (sym end.site));
+      say_later = le_of_eq (ap g.V.Site.say_faults (sym end.site));
+      clock_later = le_of_eq (ap g.C.Clock.clock_faults (sym end.clock));
+    }

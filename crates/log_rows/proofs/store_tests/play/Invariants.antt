@@ -1,6 +1,0 @@
-use Rattle.log_rows.specs.Stores.{IsAt}
-use Rattle.log_rows.proofs.store_tests.play.Given as goal
-
--- the store is at its place
-abbrev pub invariant-loop-line : goal.invariant-loop-line
-invariant-loop-line g l = IsAt l.store l.place
