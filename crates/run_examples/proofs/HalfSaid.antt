@@ -1,5 +1,5 @@
 -- A run that finds an answer to be said, says the first byte of its line, and no more.
-use Rattle.std.proofs.Common.{◌≡◌, ◌∙◌, ◌≤◌, ◌<◌, ◌==◌, sym, inl, inr, ℕ, Bool, true, false, List, [], ◌∷◌, ◌++◌, drop, length, codes, refl, ap, subst, arith}
+use Rattle.std.proofs.Common.{◌≡◌, ◌∙◌, ◌≤◌, ◌<◌, ◌==◌, sym, inl, inr, ℕ, Bool, true, false, List, [], ◌∷◌, ◌++◌, Option, Some, drop, length, codes, refl, ap, subst, arith}
 use Rattle.std.proofs.lemmas.Bool.Decides.{nat_tests}
 use Rattle.std.proofs.lemmas.List.{length-append, append-nil}
 use Rattle.client_port.specs.Lines.{line_of, answer_text}
@@ -10,29 +10,33 @@ use Rattle.std.specs.Str.{is_utf8, chars}
 use lib.Utf8.{encode}
 use Rattle.dura_codec.specs.Fields.{request_number_at, several_at, run_at, count_at}
 use Rattle.dura_codec.specs.Grammar.{word_size_at, name_at, key_at, text_at, scalar_at, scalars_at, value_front, value_at, id_at, reply_at, answer_at, spot_at, spot_count_at, lock_at, start_at, raise_at, query_at, wait_at, result_at, operate_at, granted_at, body_at, message_at, outcome_at}
+use Rattle.dura_model.specs.Partition.{Partition}
 use Rattle.dura_model.proofs.Outcomes.{never_twice}
 use Rattle.dura_value.specs.Messages.{Answer, is_unknown}
 use Rattle.engine_run.specs.Headline.{StandsOrderly, RunsOn}
 use Rattle.engine_run.specs.Picks.{rules_with}
 use Rattle.hub_store.specs.Moments.{LogKeeps, SaidSoFar, StandsWith, StoreStands, AtEveryMoment}
 use Rattle.hub_store.specs.Moments.SaidSoFar.{silent, settles, says}
-use Rattle.hub_store.specs.Trail.{Said, Settled}
+use Rattle.hub_store.specs.Origin.{Origin}
+use Rattle.hub_store.specs.Trail.{Said, Settled, of_part}
 use Rattle.part_files.specs.Examples.{digest}
 use Rattle.part_files.specs.Kept.{entries_from, kept_in}
 use Rattle.part_files.specs.Logs.{second_log}
+use Rattle.part_files.specs.Placing.{AreGiven, labels_in}
 use Rattle.part_files.specs.Stands.{shown_by}
-use Rattle.part_items.specs.Grammar.{took_at, item_at, members_at, entry_items_at}
+use Rattle.part_items.specs.Grammar.{took_at, ran_at, item_at, members_at, entry_items_at}
 use Rattle.part_items.specs.Numbered.{place_at, life_at, next_entry_at, next_entries_at, next_frame_at}
+use Rattle.part_items.specs.Spelling.{spell_entry, spell_heading}
 use Rattle.part_rounds.specs.InTime.GoesByClock.{begins as clock_begins}
 use Rattle.run_causes.specs.declared.cause.Cause.TheVariants.{SayFault, Memory}
 use Rattle.run_examples.specs.Calls.{one_start, no_flows, starting, terms_by}
-use Rattle.run_examples.specs.Going.{once_answered, answering_log, answering_written, answering_origin, half_said}
+use Rattle.run_examples.specs.Going.{once_answered, answering_written, answering_origin, half_said}
 use Rattle.run_laws.specs.Begins.{BeginsAlone, may_follow, may_say}
 use Rattle.run_laws.specs.Examples.{answering, first_said}
 use Rattle.run_laws.proofs.Images.{moment_stands}
 use Rattle.run_laws.proofs.Ordered.{never_overlaps}
 use Rattle.run_rules.specs.Rules.{Rules, Answers}
-use Rattle.site_model.specs.History.{Step, tape, back_to, IsImage}
+use Rattle.site_model.specs.History.{Step, changes_of, tape, back_to, Leaves, IsImage}
 use Rattle.site_model.specs.Moments.{Always}
 use Rattle.site_model.specs.Moments.Always.{begins, goes_on}
 use Rattle.site_model.proofs.Paths.{last}
@@ -40,21 +44,28 @@ use Rattle.site_model.proofs.Paths.{last}
 abbrev rules : Rules
 rules = rules_with one_start once_answered 1
 
+-- what holds of the state that is accepted
+of_accepted : (P : Partition → Type 0) (p next : Partition) → ◌≡◌ {A = Option Partition} (Some p) (Some next) → P p → P next
+of_accepted P p next is holds = let same : p ≡ next = cc is in subst P same holds
+
+abbrev behind : ℕ → Partition → Type 0
+behind count p = AreGiven no_flows 1 p (drop count answering.items)
+
 alone : BeginsAlone answering_origin rules digest
 alone = record {
   one = refl;
   header = refl;
   made = refl;
-  given = ((tt, λ next is. (tt, λ next is. (tt, λ next is. tt))), λ next is. tt);
+  given = ((tt, λ taken is. of_accepted (behind 1) _ taken is ((λ none. cc none), λ ran is. of_accepted (behind 2) _ ran is ((λ none. cc none), λ next is. tt))), λ next is. tt);
   other = second_log 0;
   files = inl (refl, refl);
   empty = λ image is. ap (kept_in 0) is;
 }
 
 -- all of the log is on the disk
-keeps_all : (image : List ℕ) → image ≡ answering_log → LogKeeps (answering_origin.logs 0) [] image
-unfolding is_utf8 chars encode request_number_at several_at run_at word_size_at name_at key_at text_at scalar_at scalars_at value_front value_at id_at reply_at answer_at spot_at spot_count_at lock_at start_at raise_at query_at wait_at result_at operate_at granted_at body_at message_at count_at outcome_at took_at item_at members_at entry_items_at place_at life_at next_entry_at next_entries_at next_frame_at header_at framed_at entries_from
-keeps_all image is = (114, ap (kept_in 0) is)
+keeps_all : (image : List ℕ) → Leaves (changes_of 16 answering_written) image → LogKeeps (answering_origin.logs 0) [] image
+unfolding is_utf8 chars encode request_number_at several_at run_at word_size_at name_at key_at text_at scalar_at scalars_at value_front value_at id_at reply_at answer_at spot_at spot_count_at lock_at start_at raise_at query_at wait_at result_at operate_at granted_at body_at message_at count_at outcome_at took_at item_at members_at entry_items_at place_at life_at next_entry_at next_entries_at next_frame_at header_at framed_at entries_from spell_entry spell_heading ran_at
+keeps_all image left = (114, ap (kept_in 0) left)
 
 silently : StandsWith (may_follow rules 0) (may_say rules) answering_origin answering_written [] [] []
 silently = record { lines = []; rightly = silent; spoken = refl; images = λ partition below image left. inl (keeps_all image left); others = λ file none. refl }
@@ -88,7 +99,7 @@ at_each moment low high image is =
     let on = moment_stands answering_origin rules 0 digest alone (back_to moment half_said) [] image (every moment low high) is in record {
       on = on;
       orderly = record {
-        once = λ id task. never_twice no_flows _ (shown_by no_flows on.stands.state) on.stands.legal id task;
+        once = λ id task. never_twice no_flows (labels_in (answering ∷ []) ++ labels_in (of_part 0 []) ++ labels_in on.going) (shown_by no_flows on.stands.state) on.stands.legal id task;
         apart = λ front rest world split legal overlap. never_overlaps no_flows front world legal overlap;
       };
     }
@@ -114,12 +125,8 @@ half_runs = record {
 }
 
 -- a line has a space behind the client's name, and a line feed at its end
-no_byte : (name : List ℕ) (number : ℕ) (answer : Answer) → 1 < length (line_of name number answer)
-no_byte name number answer =
-    let all = length-append name (32 ∷ [] ++ decimal number ++ 32 ∷ [] ++ answer_text answer ++ 10 ∷ []) in
-    let rest = length-append (decimal number) (32 ∷ [] ++ answer_text answer ++ 10 ∷ []) in
-    let text = length-append (answer_text answer) (10 ∷ []) in
-    omega (arith, all, rest, text)
+no_byte : (name : List ℕ) (number : ℕ) (answer : Answer) → 1 < length (name ++ 32 ∷ [] ++ decimal number ++ 32 ∷ [] ++ answer_text answer ++ 10 ∷ [])
+no_byte name number answer = simp length-append (omega arith)
 
 -- so whole lines are no single byte
 module _ (rules : Rules) (latest : ℕ) where
@@ -131,9 +138,11 @@ module _ (rules : Rules) (latest : ℕ) where
       let some = subst (λ (l : List ℕ). 1 < length l) (sym may.line_is) (no_byte one.client one.number may.answer) in
       omega (arith, all, some, is)
 
+lines_alone : (before lines all : List ℕ) → all ≡ before ++ lines ++ [] → before ≡ [] → all ≡ lines
+lines_alone before lines all is none = is ∙ ap (λ (l : List ℕ). l ++ lines ++ []) none ∙ append-nil lines
+
+whole_alone : (o : Origin) (told : List Said) → tape o.steps ≡ [] → StandsWith (may_follow rules 0) (may_say rules) o half_said [] told [] → ⊥
+whole_alone o told before whole = not_one rules 0 whole.rightly (ap length (sym (lines_alone (tape o.steps) whole.lines (97 ∷ []) whole.spoken before)))
+
 pub never_half : RunsOn one_start (answering ∷ []) once_answered answering_written half_said [] (terms_by 1 0) Memory → ⊥
-never_half runs =
-    let whole = runs.whole (λ is. cc is) in
-    let before : tape runs.origin.steps ≡ [] = (last runs.opening).silent in
-    let spoken : 97 ∷ [] ≡ whole.lines = whole.spoken ∙ ap (λ (l : List ℕ). l ++ (whole.lines ++ [])) before ∙ append-nil whole.lines in
-    not_one (rules_with one_start once_answered 1) 0 whole.rightly (ap length (sym spoken))
+never_half runs = whole_alone runs.origin runs.told (last runs.opening).silent (runs.whole (λ is. cc is))
