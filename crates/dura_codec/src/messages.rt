@@ -14,7 +14,7 @@ use crate::tags::{
 };
 use crate::values::take_value;
 use crate::words::{take_key, take_name, take_text};
-use dura_value::{Answer, Body, SPOTS_LIMIT, Message, Outcome, Spot, Spots, with};
+use dura_value::{Answer, Body, Message, Outcome, SPOTS_LIMIT, Spot, Spots, with};
 use std::alloc::Global;
 
 /// An answer that is a word.

@@ -8,7 +8,7 @@ ghost use Rattle.dura_codec.specs.Grammar.{scalar_at, scalars_at, value_at, valu
 use crate::fields::{FieldError, take_u8, take_u16, take_u64};
 use crate::tags::{FALSE, INT, LIST, NULL, TEXT, TRUE};
 use crate::words::take_text;
-use dura_value::{SCALARS_LIMIT, SCALARS_BYTES_LIMIT, Scalar, Scalars, Value};
+use dura_value::{SCALARS_BYTES_LIMIT, SCALARS_LIMIT, Scalar, Scalars, Value};
 use std::alloc::Global;
 
 /// A scalar.

@@ -4,7 +4,7 @@ ghost use Rattle.dura_codec.specs.Fields.{Takes, StaysWithin};
 ghost use Rattle.dura_codec.specs.Grammar.{word_size_at, name_at, key_at, text_at};
 
 use crate::fields::{FieldError, take_u8, take_u16};
-use dura_value::{Key, TEXT_BYTES_LIMIT, WORD_BYTES_LIMIT, Name, Text, TextError, is_key, is_name};
+use dura_value::{Key, Name, TEXT_BYTES_LIMIT, Text, TextError, WORD_BYTES_LIMIT, is_key, is_name};
 use std::alloc::Global;
 
 /// The length of a name or key: 1 to 64.

@@ -33,8 +33,8 @@ pub use data::{Scalar, Scalars, Value};
 pub use digest::fnv1a_64;
 pub use faults::ReadError;
 pub use limits::{
-    SCALARS_LIMIT, SCALARS_BYTES_LIMIT, SPOTS_LIMIT, TEXT_BYTES_LIMIT, VALUE_BYTES_LIMIT,
-    WORD_BYTES_LIMIT, NUMBER_LIMIT,
+    NUMBER_LIMIT, SCALARS_BYTES_LIMIT, SCALARS_LIMIT, SPOTS_LIMIT, TEXT_BYTES_LIMIT,
+    VALUE_BYTES_LIMIT, WORD_BYTES_LIMIT,
 };
 pub use messages::{Answer, Body, Message, Reply, Request};
 pub use names::{Key, Name, is_key, is_name};

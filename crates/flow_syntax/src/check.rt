@@ -9,7 +9,7 @@ ghost use Rattle.flow_syntax.specs.Walk.{walk, keeps, placed_in, verdict_of, in_
 
 use crate::flows::Flows;
 use crate::syntax::{Locked, Stmt};
-use dura_value::{SPOTS_LIMIT, Name};
+use dura_value::{Name, SPOTS_LIMIT};
 use std::collections::BTreeMap;
 use thiserror::Error;
 

@@ -8,7 +8,9 @@ ghost use Rattle.dura_value.specs.Values.{value_of};
 ghost use Rattle.flow_values.specs.Values.{is_text, list_in, name_in, scalar_in, scalars_from, value_in};
 
 use crate::faults::{PartError, Path, Step, under};
-use dura_value::{SCALARS_LIMIT, Name, Scalar, Scalars, Text, TextError, Value, are_short, is_name};
+use dura_value::{
+    Name, SCALARS_LIMIT, Scalar, Scalars, Text, TextError, Value, are_short, is_name,
+};
 use json_tree::Tree;
 use std::alloc::Global;
 

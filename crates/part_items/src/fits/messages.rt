@@ -6,7 +6,7 @@ ghost use Rattle.dura_value.specs.Views.{id_of, reply_of, answer_of, spot_of, sp
 ghost use Rattle.part_items.specs.Fits.{FitsId, FitsRequest, FitsReply, FitsAnswer, FitsOutcome, FitsSpot, FitsBody, FitsMessage};
 
 use crate::fits::values::value_fits;
-use dura_value::{Answer, Body, Id, SPOTS_LIMIT, Message, Outcome, Reply, Spot};
+use dura_value::{Answer, Body, Id, Message, Outcome, Reply, SPOTS_LIMIT, Spot};
 
 /// No id passes a limit, since its names and its key don't.
 pub(crate) fn every_id_fits(id: &Id)

@@ -5,7 +5,7 @@ ghost use Rattle.std.specs.Bool.{Decides};
 ghost use Rattle.dura_codec.specs.Spelling.{spell_scalar};
 ghost use Rattle.part_items.specs.Fits.{FitsScalar, FitsList, FitsValue};
 
-use dura_value::{SCALARS_LIMIT, SCALARS_BYTES_LIMIT, Scalar, Value};
+use dura_value::{SCALARS_BYTES_LIMIT, SCALARS_LIMIT, Scalar, Value};
 
 /// How many bytes a scalar takes where it is written. No scalar by itself passes a limit.
 fn spelled_size(scalar: &Scalar) -> usize
