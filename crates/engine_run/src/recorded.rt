@@ -18,7 +18,7 @@ ghost use Rattle.site_model.specs.Calls.{HasRisen};
 ghost use Rattle.site_model.specs.History.{tape};
 
 use crate::ended::Ended;
-use crate::run::run;
+use crate::runs::run;
 use activity_table::Activities;
 use dura_value::Text;
 use run_causes::Cause;
