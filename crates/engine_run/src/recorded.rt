@@ -17,8 +17,8 @@ ghost use Rattle.site_calls.specs.Site.{calls_of, disk_faults_of, say_faults_of}
 ghost use Rattle.site_model.specs.Calls.{HasRisen};
 ghost use Rattle.site_model.specs.History.{tape};
 
+use crate::call::run;
 use crate::ended::Ended;
-use crate::runs::run;
 use activity_table::Activities;
 use dura_value::Text;
 use run_causes::Cause;

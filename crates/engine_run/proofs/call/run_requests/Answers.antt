@@ -17,7 +17,7 @@ use Rattle.engine_run.proofs.Going.{runs_on}
 use Rattle.engine_run.proofs.Picked.{picked}
 use Rattle.engine_run.proofs.Refusing.{late_answers, late_untouched, late_no_refusal, ready, not_refused}
 use Rattle.engine_run.proofs.Standing.{shown_alone, has_begun}
-use Rattle.engine_run.proofs.runs.run_requests.Goals as goal
+use Rattle.engine_run.proofs.call.run_requests.Goals as goal
 use Rattle.part_steps.specs.States.{state_of, count_of}
 use Rattle.recover_core.specs.Recovering.{OnlySyncs}
 use Rattle.recover_core.proofs.LogsFound.{risen_later}

@@ -1,7 +1,7 @@
 -- Where a run goes on: from the log that its file has by now, by the rules of what is asked for.
 use Rattle.engine_run.specs.Picks.{log_in_file, rules_with}
 use Rattle.engine_run.specs.Prepared.{job_of}
-use Rattle.engine_run.proofs.runs.run_requests.Given as goal
+use Rattle.engine_run.proofs.call.run_requests.Given as goal
 use Rattle.part_steps.specs.States.{state_of}
 
 abbrev pub ghosts-go_named : goal.ghosts-go_named
