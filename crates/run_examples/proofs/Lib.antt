@@ -1,3 +1,4 @@
+pub mod AskedOnce
 pub mod Founded
 pub mod HalfSaid
 pub mod Idle

@@ -14,6 +14,7 @@ use Rattle.run_laws.specs.Begins.{header_with}
 use Rattle.run_laws.specs.Examples.{answering}
 use Rattle.run_rules.specs.FieldExamples.{starting, ending_first}
 use Rattle.site_model.specs.History.{Step, on, said, wrote, synced}
+use Rattle.site_model.specs.Readings.{asked}
 
 -- a log with the entry by which client a's request is taken was written and made safe
 abbrev pub taking_written : List Step
@@ -29,6 +30,10 @@ settled_too_late = record { partition = 0; entry = taking 0; at = 5 } ∷ []
 -- a call that may commit nothing, an item at a time
 abbrev pub hurried : Terms
 hurried = record (terms_by 0 0) { options = record { partitions = 1; batch = 1; steps = 0; segment = 4096 } }
+
+-- the clock was asked once, and an entry may have one item
+abbrev pub asked_once : Terms
+asked_once = record (terms_by 1 0) { options = record { partitions = 1; batch = 1; steps = 1; segment = 4096 }; after = asked 0 ∷ [] }
 
 -- Sum/x is started, asks for the sum, and has it, all in one entry
 abbrev pub at_once : Entry

@@ -21,10 +21,11 @@ ghost use Rattle.part_files.specs.Examples.{digest, two_files, empty_log, taking
 ghost use Rattle.part_files.specs.Logs.{logs_in, entries_in};
 ghost use Rattle.part_files.specs.Placing.{placed, AllGiven};
 ghost use Rattle.part_files.specs.Stands.{alone_with, FilesStand};
+ghost use Rattle.request_reader.specs.Line.{Request};
 ghost use Rattle.run_causes.specs.declared.cause.Cause.{Cause};
 ghost use Rattle.run_causes.specs.declared.cause.Cause.TheVariants as causes;
 ghost use Rattle.run_examples.specs.Calls.{nothing_asked, one_start, rules_for, settled_once, terms_by};
-ghost use Rattle.run_examples.specs.Going.{taking_written, settled_at_first, settled_too_late, hurried, at_once, at_once_log, settled_at_once, ok_of, once_answered, answering_written, half_said};
+ghost use Rattle.run_examples.specs.Going.{taking_written, settled_at_first, settled_too_late, hurried, asked_once, at_once, at_once_log, settled_at_once, ok_of, once_answered, answering_written, half_said};
 ghost use Rattle.run_laws.specs.Examples.{answering, empty_origin};
 ghost use Rattle.run_laws.specs.Leaves.{StandsOn, committed_in};
 ghost use Rattle.run_rules.specs.Examples.{rules_with};
@@ -48,8 +49,8 @@ pub fn what_is_served_follows()
 {}
 
 /// A run that finds a log without entries and then does nothing, for want of memory, keeps all that a run promises. It doesn't where it
-/// is said to begin in another state, or with other entries; at a later moment, or to end at an earlier one; where an entry was settled
-/// before the log was opened, or behind the end; where another file was touched; where the clock wasn't read for what was
+/// is said to begin in another state, or with other entries; at a later moment, or to end at an earlier one; where an entry, for which the
+/// clock was asked, was settled before the log was opened, or behind the end; where another file was touched; where the clock wasn't read for what was
 /// settled; and where something was settled and the log reads as one that isn't below the segment's length.
 pub fn runs_go_on()
     ensures nothing { RunsOn nothing_asked [] (fresh 0) log_written log_written [] (terms_by 1 0) causes.Memory }
@@ -57,8 +58,8 @@ pub fn runs_go_on()
     ensures other_entries { RunsOn nothing_asked (taking 0 ∷ []) (fresh 0) log_written log_written [] (terms_by 1 0) causes.Memory → ⊥ }
     ensures later_start { RunsOn nothing_asked [] (fresh 0) (said 97 ∷ log_written) log_written [] (terms_by 1 0) causes.SayFault → ⊥ }
     ensures earlier_end { RunsOn nothing_asked [] (fresh 0) log_written [] [] (terms_by 1 0) causes.SayFault → ⊥ }
-    ensures settled_before { RunsOn one_start [] (fresh 0) taking_written taking_written settled_at_first (terms_by 1 0) causes.SayFault → ⊥ }
-    ensures settled_after { RunsOn nothing_asked [] (fresh 0) log_written log_written settled_too_late (terms_by 1 0) causes.SayFault → ⊥ }
+    ensures settled_before { RunsOn one_start [] (fresh 0) taking_written taking_written settled_at_first asked_once causes.SayFault → ⊥ }
+    ensures settled_after { RunsOn nothing_asked [] (fresh 0) log_written log_written settled_too_late asked_once causes.SayFault → ⊥ }
     ensures other_file { RunsOn nothing_asked [] (fresh 0) log_written (on 3 synced ∷ log_written) [] (terms_by 1 0) causes.SayFault → ⊥ }
     ensures unread { (job : Job) (entries : List Entry) (begin : Partition) (old new : List Step) (latest : ℕ) (cause : Cause) → RunsOn job entries begin old new settled_once (terms_by 1 latest) cause → ⊥ }
     ensures too_long { (job : Job) (entries : List Entry) (begin : Partition) (old new : List Step) (terms : Terms) (cause : Cause) (h : Header) (payloads : List (List ℕ)) (gate : ℕ)
@@ -72,10 +73,13 @@ pub fn lines_are_cut_off_by_faults_alone()
     ensures ended { RunsOn one_start (answering ∷ []) once_answered answering_written half_said [] (terms_by 1 0) causes.Memory → ⊥ }
 {}
 
-/// What goes by the clock: nothing, where it wasn't read; not an entry; no answer where nobody asks; and no entry once there are as many
+/// What goes by the clock: nothing, where it wasn't read; an entry, where it was asked, whenever that is settled; not an entry where it
+/// wasn't; no answer where nobody asks; and no entry once there are as many
 /// labels as there may be.
 pub fn runs_go_in_time()
     ensures nothing { (rules : Rules) → GoesInTime rules (terms_by 1 0) [] [] }
+    ensures asked { (requests : List Request) → GoesInTime (rules_for requests) asked_once settled_at_first [] }
+    ensures asked_late { (requests : List Request) → GoesInTime (rules_for requests) asked_once settled_too_late [] }
     ensures unread { (rules : Rules) (told : List Said) → GoesInTime rules (terms_by 1 0) settled_once told → ⊥ }
     ensures untold { (rules : Rules) → rules.requests ≡ [] → GoesInTime rules (terms_by 1 0) [] (request ∷ []) → ⊥ }
     ensures too_many { (rules : Rules) (told : List Said) → GoesInTime rules hurried settled_once told → ⊥ }
