@@ -16,6 +16,57 @@ trial_script() {
     same 'the status of the script' 2 $?
 }
 
+# first_start WHAT STATUS OUTPUT ERRORS: a first start of the script in a home of its own, whose `rt` is the script of standard input. It
+# ends so, and leaves no process of `rt`.
+first_start() {
+    local home=$work/home came status
+    rm -rf -- "$home"
+    mkdir -p -- "$home/bin" "$home/crates/netherite_cli/src" "$home/crates/low/src"
+    cp -r -- "$script" "$here/../tools" "$home/"
+    printf 'low:\nnetherite_cli: low\n' >"$home/crates.txt"
+    echo '// low' >"$home/crates/low/src/lib.rt"
+    { echo '#!/usr/bin/env bash'; cat; } >"$home/bin/rt"
+    chmod +x -- "$home/bin/rt"
+    came=$(PATH=$home/bin:$PATH timeout 60 "$home/netherite" some words 2>"$work/stderr"; echo "status $?")
+    status=${came##*status }
+    same "$1: status" "$2" "$status"
+    same "$1: stdout" "$3" "${came%status *}"
+    same "$1: stderr" "netherite: building the program; a first build proves everything and takes half an hour or more"$'\n'"$4" "$(cat -- "$work/stderr")"
+    same "$1: processes left" '' "$(pgrep -f "$home/bin/rt")"
+}
+
+# The first start proves all crates and then builds and runs the program; it ends at the first error, or where `rt` does.
+trial_first_start() {
+    first_start 'a first start' 0 $'the program some words\n' 'netherite: built' <<'END'
+case "$*" in
+'all check --jobs '*)
+    printf '== low\n== netherite_cli\n'
+    ;;
+run)
+    mkdir -p out
+    printf '#!/bin/sh\necho the program "$@"\n' >out/netherite_cli
+    chmod +x out/netherite_cli
+    echo 'rt: running out/netherite_cli'
+    ;;
+esac
+END
+    first_start 'an error in the code' 1 '' 'netherite: the build failed in crates/low: /home/crates/low/src/lib.rt:1:1: error: wrong' <<'END'
+echo '/home/crates/low/src/lib.rt:1:1: error: wrong'
+sleep 50
+END
+    first_start 'a crate that is not proved' 1 '' 'netherite: the build failed in crates/low: src/lib.rt:1:1: error: no proof' <<'END'
+printf '== low\nsrc/lib.rt:1:1: error: no proof\n'
+sleep 50
+END
+    first_start 'no program' 1 '' 'netherite: the build failed in crates/netherite_cli: rt ended before the program was built' <<'END'
+printf '== low\n== netherite_cli\n'
+END
+    first_start 'proofs that end with a fault' 1 '' 'netherite: the build failed in crates/low: rt ended before the program was built' <<'END'
+echo '== low'
+exit 1
+END
+}
+
 # An empty word for the directory is this one, and `.` is too.
 trial_here() {
     local came

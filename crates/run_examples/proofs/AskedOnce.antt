@@ -18,11 +18,11 @@ use Rattle.run_examples.specs.Clocks.{gives}
 use Rattle.site_model.specs.Readings.{asked}
 
 -- the request was taken
-abbrev then : Partition
+abbrev pub then : Partition
 then = post 1 (record (enter 0 (fresh 0)) { taken = at_number (fresh 0).taken request.from 1 (Some request) }) request
 
-fills : (requests : List Request) → FillsAt (rules_for requests) gives 1 0 (fresh 0) (taking 0)
-fills requests = record {
+pub taking_fills : (requests : List Request) → FillsAt (rules_for requests) gives 1 0 (fresh 0) (taking 0)
+taking_fills requests = record {
   place = refl;
   life = refl;
   after = then;
@@ -38,4 +38,4 @@ abbrev behind : (requests : List Request) → ReadsBehind (rules_for requests) (
 behind requests = record { before = fresh 0; made = refl; queues = queues_of requests; said = nothing_said (rules_for requests); reads = asks 0 }
 
 pub once_asked : (requests : List Request) → GoesByClock (rules_for requests) gives 1 (clients_of requests) [] [] [] (asked 0 ∷ []) (taking 0 ∷ []) []
-once_asked requests = settles begins (asked 0) [] (taking 0) (behind requests) (fills requests)
+once_asked requests = settles begins (asked 0) [] (taking 0) (behind requests) (taking_fills requests)

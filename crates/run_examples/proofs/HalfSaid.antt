@@ -11,19 +11,17 @@ use lib.Utf8.{encode}
 use Rattle.dura_codec.specs.Fields.{request_number_at, several_at, run_at, count_at}
 use Rattle.dura_codec.specs.Grammar.{word_size_at, name_at, key_at, text_at, scalar_at, scalars_at, value_front, value_at, id_at, reply_at, answer_at, spot_at, spot_count_at, lock_at, start_at, raise_at, query_at, wait_at, result_at, operate_at, granted_at, body_at, message_at, outcome_at}
 use Rattle.dura_model.specs.Partition.{Partition}
-use Rattle.dura_model.proofs.Outcomes.{never_twice}
 use Rattle.dura_value.specs.Messages.{Answer, is_unknown}
-use Rattle.engine_run.specs.Headline.{StandsOrderly, RunsOn}
+use Rattle.engine_run.specs.Headline.{RunsOn}
 use Rattle.engine_run.specs.Picks.{rules_with}
 use Rattle.hub_store.specs.Moments.{LogKeeps, SaidSoFar, StandsWith, StoreStands, AtEveryMoment}
 use Rattle.hub_store.specs.Moments.SaidSoFar.{silent, settles, says}
 use Rattle.hub_store.specs.Origin.{Origin}
-use Rattle.hub_store.specs.Trail.{Said, Settled, of_part}
+use Rattle.hub_store.specs.Trail.{Said, Settled}
 use Rattle.part_files.specs.Examples.{digest}
 use Rattle.part_files.specs.Kept.{entries_from, kept_in}
 use Rattle.part_files.specs.Logs.{second_log}
-use Rattle.part_files.specs.Placing.{AreGiven, labels_in}
-use Rattle.part_files.specs.Stands.{shown_by}
+use Rattle.part_files.specs.Placing.{AreGiven}
 use Rattle.part_items.specs.Grammar.{took_at, ran_at, item_at, members_at, entry_items_at}
 use Rattle.part_items.specs.Numbered.{place_at, life_at, next_entry_at, next_entries_at, next_frame_at}
 use Rattle.part_items.specs.Spelling.{spell_entry, spell_heading}
@@ -33,10 +31,9 @@ use Rattle.run_examples.specs.Calls.{one_start, no_flows, starting, terms_by}
 use Rattle.run_examples.specs.Going.{once_answered, answering_written, answering_origin, half_said}
 use Rattle.run_laws.specs.Begins.{BeginsAlone, may_follow, may_say}
 use Rattle.run_laws.specs.Examples.{answering, first_said}
-use Rattle.run_laws.proofs.Images.{moment_stands}
-use Rattle.run_laws.proofs.Ordered.{never_overlaps}
+use Rattle.run_examples.proofs.InOrder.{each_in_order}
 use Rattle.run_rules.specs.Rules.{Rules, Answers}
-use Rattle.site_model.specs.History.{Step, changes_of, tape, back_to, Leaves, IsImage}
+use Rattle.site_model.specs.History.{Step, changes_of, tape, back_to, Leaves}
 use Rattle.site_model.specs.Moments.{Always}
 use Rattle.site_model.specs.Moments.Always.{begins, goes_on}
 use Rattle.site_model.proofs.Paths.{last}
@@ -94,16 +91,6 @@ both P before behind moment false is low high = let now : 3 ≡ moment = grind (
 every : AtEveryMoment (may_follow rules 0) (may_say rules) answering_origin half_said []
 every moment low high = both (λ (m : ℕ). StoreStands (may_follow rules 0) (may_say rules) answering_origin (back_to m half_said) []) at_first at_last moment (moment == 2) refl low high
 
-at_each : (moment : ℕ) → 2 ≤ moment → moment ≤ 3 → (image : ℕ → List ℕ) → IsImage (back_to moment half_said) image → StandsOrderly rules 0 digest answering_origin (back_to moment half_said) [] image
-at_each moment low high image is =
-    let on = moment_stands answering_origin rules 0 digest alone (back_to moment half_said) [] image (every moment low high) is in record {
-      on = on;
-      orderly = record {
-        once = λ id task. never_twice no_flows (labels_in (answering ∷ []) ++ labels_in (of_part 0 []) ++ labels_in on.going) (shown_by no_flows on.stands.state) on.stands.legal id task;
-        apart = λ front rest world split legal overlap. never_overlaps no_flows front world legal overlap;
-      };
-    }
-
 -- so it ends where saying failed
 pub half_runs : RunsOn one_start (answering ∷ []) once_answered answering_written half_said [] (terms_by 1 0) SayFault
 half_runs = record {
@@ -114,7 +101,7 @@ half_runs = record {
   further = goes_on (begins tt) tt;
   nothing = λ moment low. refl;
   by_the_end = refl;
-  stands = at_each;
+  stands = each_in_order rules digest answering_origin half_said alone every;
   every = every;
   told = [];
   whole = λ other. absurd (other refl);

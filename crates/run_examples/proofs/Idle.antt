@@ -2,8 +2,7 @@
 use Rattle.std.proofs.Common.{◌≡◌, ◌≤◌, inl, ℕ, List, [], refl, ap, subst, arith}
 use Rattle.commit_log.specs.Segment.{header_at}
 use Rattle.dura_model.specs.Partition.{fresh}
-use Rattle.dura_model.proofs.Outcomes.{never_twice}
-use Rattle.engine_run.specs.Headline.{StandsOrderly, RunsOn}
+use Rattle.engine_run.specs.Headline.{RunsOn}
 use Rattle.engine_run.specs.Picks.{rules_with}
 use Rattle.hub_store.specs.Examples.{one_log, log_written}
 use Rattle.hub_store.specs.Moments.{LogKeeps, StandsWith, StoreStands, AtEveryMoment}
@@ -11,15 +10,13 @@ use Rattle.hub_store.specs.Moments.SaidSoFar.{silent}
 use Rattle.part_files.specs.Examples.{digest, empty_log}
 use Rattle.part_files.specs.Kept.{entries_from, kept_in}
 use Rattle.part_files.specs.Logs.{second_log}
-use Rattle.part_files.specs.Stands.{shown_by}
 use Rattle.part_rounds.specs.InTime.GoesByClock.{begins as clock_begins}
 use Rattle.run_causes.specs.declared.cause.Cause.TheVariants.{Memory}
 use Rattle.run_examples.specs.Calls.{nothing_asked, no_flows, terms_by}
 use Rattle.run_laws.specs.Begins.{BeginsAlone, may_follow, may_say}
-use Rattle.run_laws.proofs.Images.{moment_stands}
-use Rattle.run_laws.proofs.Ordered.{never_overlaps}
+use Rattle.run_examples.proofs.InOrder.{each_in_order}
 use Rattle.run_rules.specs.Rules.{Rules}
-use Rattle.site_model.specs.History.{back_to, IsImage}
+use Rattle.site_model.specs.History.{back_to}
 use Rattle.site_model.specs.Moments.Always.{begins}
 
 abbrev rules : Rules
@@ -58,16 +55,6 @@ every moment low high =
     let now : 2 ≡ moment = omega (arith, low, high) in
     subst (λ (m : ℕ). StoreStands (may_follow rules 0) (may_say rules) one_log (back_to m log_written) []) now stands
 
-at_each : (moment : ℕ) → 2 ≤ moment → moment ≤ 2 → (image : ℕ → List ℕ) → IsImage (back_to moment log_written) image → StandsOrderly rules 0 digest one_log (back_to moment log_written) [] image
-at_each moment low high image is =
-    let on = moment_stands one_log rules 0 digest alone (back_to moment log_written) [] image (every moment low high) is in record {
-      on = on;
-      orderly = record {
-        once = λ id task. never_twice no_flows _ (shown_by no_flows on.stands.state) on.stands.legal id task;
-        apart = λ front rest world split legal overlap. never_overlaps no_flows front world legal overlap;
-      };
-    }
-
 pub idle_runs : RunsOn nothing_asked [] (fresh 0) log_written log_written [] (terms_by 1 0) Memory
 idle_runs = record {
   origin = one_log;
@@ -77,7 +64,7 @@ idle_runs = record {
   further = begins tt;
   nothing = λ moment low. refl;
   by_the_end = refl;
-  stands = at_each;
+  stands = each_in_order rules digest one_log log_written alone every;
   every = every;
   told = [];
   whole = λ other. stands_with;

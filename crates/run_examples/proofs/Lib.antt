@@ -2,6 +2,7 @@ pub mod AskedOnce
 pub mod Founded
 pub mod HalfSaid
 pub mod Idle
+pub mod InOrder
 pub mod LogsKept
 pub mod Moves
 pub mod Orders

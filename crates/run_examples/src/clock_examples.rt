@@ -4,10 +4,10 @@ ghost use Rattle.std.specs.Prelude.{List, [], ◌∷◌};
 ghost use Rattle.dura_model.specs.Partition.{fresh};
 ghost use Rattle.part_files.specs.Examples.{taking, request_taken};
 ghost use Rattle.part_rounds.specs.InTime.{FillsAt, Reads, FireDue};
-ghost use Rattle.run_examples.specs.Calls.{no_flows};
+ghost use Rattle.run_examples.specs.Calls.{no_flows, rules_for};
 ghost use Rattle.run_examples.specs.Clocks.{gives, no_items, too_late, napping, fired_at};
 ghost use Rattle.run_examples.specs.States.{begun, asked};
-ghost use Rattle.run_rules.specs.Examples.{rules_with, later_rules, ending};
+ghost use Rattle.run_rules.specs.Examples.{later_rules, ending};
 ghost use Rattle.run_rules.specs.FieldExamples.{asking, asking_rules, no_sum};
 ghost use Rattle.site_model.specs.Readings.{asked as asks, waited};
 
@@ -15,14 +15,14 @@ ghost use Rattle.site_model.specs.Readings.{asked as asks, waited};
 /// isn't accepted, not with nothing, not where there may be none, nor where there may be more; not at a moment that the clock didn't give,
 /// and with no outcome that the activity didn't.
 pub fn entries_filled()
-    ensures taken { FillsAt (rules_with no_flows) gives 1 0 (fresh 0) (taking 0) }
-    ensures other_place { FillsAt (rules_with no_flows) gives 1 0 (fresh 0) (taking 1) → ⊥ }
+    ensures taken { FillsAt (rules_for []) gives 1 0 (fresh 0) (taking 0) }
+    ensures other_place { FillsAt (rules_for []) gives 1 0 (fresh 0) (taking 1) → ⊥ }
     ensures other_life { FillsAt (later_rules no_flows) gives 1 0 (fresh 0) (taking 0) → ⊥ }
-    ensures refused { FillsAt (rules_with no_flows) gives 1 0 request_taken (taking 1) → ⊥ }
-    ensures nothing { FillsAt (rules_with no_flows) gives 1 0 (fresh 0) no_items → ⊥ }
-    ensures too_many { FillsAt (rules_with no_flows) gives 0 0 (fresh 0) (taking 0) → ⊥ }
-    ensures too_few { FillsAt (rules_with no_flows) gives 2 0 (fresh 0) (taking 0) → ⊥ }
-    ensures other_moment { FillsAt (rules_with no_flows) gives 1 0 asked too_late → ⊥ }
+    ensures refused { FillsAt (rules_for []) gives 1 0 request_taken (taking 1) → ⊥ }
+    ensures nothing { FillsAt (rules_for []) gives 1 0 (fresh 0) no_items → ⊥ }
+    ensures too_many { FillsAt (rules_for []) gives 0 0 (fresh 0) (taking 0) → ⊥ }
+    ensures too_few { FillsAt (rules_for []) gives 2 0 (fresh 0) (taking 0) → ⊥ }
+    ensures other_moment { FillsAt (rules_for []) gives 1 0 asked too_late → ⊥ }
     ensures other_outcome { FillsAt (asking_rules no_flows) gives 1 0 asking (ending 0 no_sum) → ⊥ }
 {}
 

@@ -67,8 +67,8 @@ pub fn runs_go_on()
 {}
 
 /// A run that finds an answer to be said and says the first byte of its line keeps all that a run promises where saying failed then, and
-/// doesn't where it ends for want of memory: only where saying fails is a line cut off.
-pub fn lines_are_cut_off_by_faults_alone()
+/// doesn't where it ends for want of memory.
+pub fn half_a_line_said()
     ensures failed { RunsOn one_start (answering ∷ []) once_answered answering_written half_said [] (terms_by 1 0) causes.SayFault }
     ensures ended { RunsOn one_start (answering ∷ []) once_answered answering_written half_said [] (terms_by 1 0) causes.Memory → ⊥ }
 {}

@@ -1,34 +1,16 @@
 use Rattle.std.proofs.Common.{◌≡◌, [], ◌∷◌, Some, None, refl, sym, subst, arith}
-use Rattle.std.proofs.lemmas.List.Elements.{All-from_recursion}
-use Rattle.activity_table.specs.Chance.{word_of}
-use Rattle.dura_model.specs.Partition.{Partition, fresh, enter, post, accepted}
-use Rattle.dura_model.specs.World.{at_number}
-use Rattle.dura_value.specs.Items.{took, ran, ended}
+use Rattle.dura_model.specs.Partition.{Partition, accepted}
+use Rattle.dura_value.specs.Items.{ran, ended}
 use Rattle.part_files.specs.Examples.{request}
-use Rattle.part_rounds.specs.InTime.{IsRun}
 use Rattle.part_steps.specs.Enabled.{moment_at}
+use Rattle.run_examples.proofs.AskedOnce.{then, taking_fills}
 use Rattle.run_examples.specs.Calls.{no_flows}
-use Rattle.run_examples.specs.Clocks.{gives}
 use Rattle.run_rules.specs.Examples.{summing}
 use Rattle.run_rules.specs.FieldExamples.{no_sum}
 use Rattle.run_examples.proofs.clock_examples.entries_filled.Goals as goal
 
--- the request was taken
-abbrev then : Partition
-then = post 1 (record (enter 0 (fresh 0)) { taken = at_number (fresh 0).taken request.from 1 (Some request) }) request
-
 pub returns-clause-taken : goal.returns-clause-taken
-returns-clause-taken c = record {
-  place = refl;
-  life = refl;
-  after = then;
-  accepted = refl;
-  at = (tt, λ q is. tt);
-  runs = All-from_recursion (IsRun (λ name argument. gives name argument (word_of 0 0 0)) (enter 0 (fresh 0))) (took request ∷ []) (tt, tt);
-  some = omega arith;
-  few = omega arith;
-  less = λ fewer. absurd (omega (arith, fewer));
-}
+returns-clause-taken c = taking_fills []
 
 pub returns-clause-other_place : goal.returns-clause-other_place
 returns-clause-other_place c = λ fills. let place = fills.place in omega (arith, place)

@@ -1,5 +1,5 @@
 use Rattle.run_examples.proofs.HalfSaid.{half_runs, never_half}
-use Rattle.run_examples.proofs.going_examples.lines_are_cut_off_by_faults_alone.Goals as goal
+use Rattle.run_examples.proofs.going_examples.half_a_line_said.Goals as goal
 
 pub returns-clause-failed : goal.returns-clause-failed
 returns-clause-failed c = half_runs
