@@ -1,7 +1,9 @@
 pub mod Causes
-pub mod Loops
-pub mod Opens
-pub mod Read
-pub mod Steps
-pub mod Written
 pub mod Formatting
+pub mod Fronts
+pub mod Gates
+pub mod Headers
+pub mod Opens
+pub mod Steps
+pub mod Whole
+pub mod Written

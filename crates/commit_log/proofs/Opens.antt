@@ -1,16 +1,15 @@
 -- Opening a log.
-use Rattle.std.proofs.Common.{◌≡◌, ◌≢◌, ◌==◌, Bool, MatchBool, ℕ, true, false, inl, inr, suc, List, [], ◌∷◌, ◌++◌, length, get_or, take, Result, Ok, Err, sym, ap, subst, ◌∙◌, arith, eqb, cond}
+use Rattle.std.proofs.Common.{◌≡◌, ◌≢◌, ◌==◌, Bool, MatchBool, ℕ, true, false, List, [], ◌∷◌, ◌++◌, get_or, Result, Ok, Err, sym, ap, subst, ◌∙◌, arith}
 use Rattle.std.specs.Prelude.{IfOk}
-use Rattle.std.proofs.lemmas.Bool.{cases_Bool, eqb-true, eqb-false, ne_eqb}
-use Rattle.std.proofs.lemmas.List.{take_all, get_or_at, append_assoc}
-use Rattle.site_model.specs.History.{Change, Step, on, synced, reads, changes_of, content_of, Leaves, IsKept, writes_inside}
+use Rattle.std.proofs.lemmas.Bool.{eqb-true, eqb-false, ne_eqb}
+use Rattle.std.proofs.lemmas.List.{get_or_at, append_assoc}
+use Rattle.site_model.specs.History.{Change, Step, on, synced, reads, changes_of, content_of, Leaves, writes_inside}
 use Rattle.site_model.specs.Calls.{Syncs}
 use Rattle.site_model.specs.Moments.{LeavesOnly}
 use Rattle.site_model.proofs.Images.{reads_is_image}
 use Rattle.commit_log.specs.declared.header.Header.{Header}
-use Rattle.commit_log.specs.Segment.{fresh, segment, told, reading_of, segment_at, segment_bytes, framed, open_gate}
-use Rattle.commit_log.specs.States.{EndsAt, IsResting, IsSegment, IsBroken, IsBeforeOrAfter}
-use Rattle.commit_log.proofs.Read.{IsBytes, segment_begins}
+use Rattle.commit_log.specs.Segment.{segment_bytes, framed, open_gate}
+use Rattle.commit_log.specs.States.{EndsAt, IsResting, IsBroken, IsBeforeOrAfter}
 use Rattle.commit_log.specs.declared.states.Broken.{Broken}
 use Rattle.commit_log.specs.declared.states.Reopened.{Reopened}
 use Rattle.commit_log.specs.Outcomes.{RestsAs, AfterReopen, AfterDrop}
@@ -24,55 +23,6 @@ opening_during file old mid new result syncs same inside =
     subst (λ (steps : List Step). LeavesOnly file old steps (Leaves (changes_of file old))) (sym same)
     (sync_during file old mid (Leaves (changes_of file old)) result syncs (λ image left. left)
     (λ image left. subst (Leaves (changes_of file old)) (sym left) (reads_is_image (changes_of file old) inside)))
-
--- a sync changes nothing that is read
-pub content_synced : (file : ℕ) (old new : List Step) → new ≡ on file synced ∷ old → content_of file new ≡ content_of file old
-content_synced file old new is = ap reads (synced_changes file old new is)
-
--- the bytes that were read are the file
-pub whole_read : (file : ℕ) (old mid : List Step) (count : ℕ) (bytes : List ℕ) → mid ≡ on file synced ∷ old → count ≡ length (content_of file old) → bytes ≡ take count (content_of file mid)
-    → bytes ≡ content_of file old
-whole_read file old mid count bytes is long front =
-    front ∙ ap (λ (l : List ℕ). take count l) (content_synced file old mid is) ∙ take_all count (content_of file old) (omega (arith, long))
-
-segment_is : (found : Result (Header × (List (List ℕ) × ℕ)) ℕ) (h : Header) (payloads : List (List ℕ)) (gate : ℕ) → told found ≡ segment h payloads gate → found ≡ Ok (h, (payloads, gate))
-segment_is (Ok x) h payloads gate is =
-    let a : x.0 ≡ h = cc in
-    let b : x.1.0 ≡ payloads = cc in
-    let c : x.1.1 ≡ gate = cc in
-    ap (λ (y : Header). Ok (y, x.1)) a ∙ ap (λ (ps : List (List ℕ)). Ok (h, (ps, x.1.1))) b ∙ ap (λ (g : ℕ). Ok (h, (payloads, g))) c
-segment_is (Err offset) h payloads gate is = absurd cc
-
--- a file that reads as a segment is one
-pub reads_segment : (bytes : List ℕ) (h : Header) (payloads : List (List ℕ)) (gate : ℕ) → IsBytes bytes → reading_of bytes ≡ segment h payloads gate → IsSegment bytes h payloads gate
-reads_segment [] h payloads gate fits is = absurd cc
-reads_segment (first ∷ []) h payloads gate fits is = absurd cc
-reads_segment (first ∷ second ∷ bytes) h payloads gate fits is = elim (cases_Bool (eqb first open_gate)) [
-  | inl is_open ↦
-      let found : told (segment_at (second ∷ bytes)) ≡ segment h payloads gate = sym (ap (λ b. cond b (told (segment_at (second ∷ bytes))) fresh) is_open) ∙ is in
-      let first_is : first ≡ open_gate = eqb-true _ _ is_open in
-      subst (λ (g : ℕ). IsSegment (g ∷ second ∷ bytes) h payloads gate) (sym first_is)
-      (segment_begins (second ∷ bytes) h payloads gate (λ i. fits (suc i)) (segment_is (segment_at (second ∷ bytes)) h payloads gate found))
-  | inr shut ↦
-      let none : fresh ≡ segment h payloads gate = sym (ap (λ b. cond b (told (segment_at (second ∷ bytes))) fresh) shut) ∙ is in
-      absurd (cc none)
-]
-
--- after the sync such a log rests
-pub opened_rests : (file : ℕ) (old new : List Step) (h : Header) (payloads : List (List ℕ)) (gate : ℕ) → new ≡ on file synced ∷ old → IsSegment (content_of file old) h payloads gate
-    → IsResting (changes_of file new) h payloads gate
-opened_rests file old new h payloads gate is found =
-    subst (λ (changes : List Change). IsResting changes h payloads gate) (sym (synced_changes file old new is)) (record {
-      ends = found.ends;
-      byte = found.byte;
-      rest = found.rest;
-      content = found.split;
-      closed = found.closed;
-      kept = λ image left. left;
-    })
-
-pub synced_kept : (file : ℕ) (old new : List Step) → new ≡ on file synced ∷ old → IsKept (changes_of file new)
-synced_kept file old new is = subst IsKept (sym (synced_changes file old new is)) (λ image left. left)
 
 -- ---- opening again
 

@@ -1,8 +1,8 @@
 -- What was written is read again.
-use Rattle.std.proofs.Common.{◌≡◌, ◌≢◌, ℕ, zero, suc, ◌+◌, ◌^◌, ◌<◌, ◌≤◌, true, false, ltb, eqb, List, [], ◌∷◌, ◌++◌, length, Ok, refl, sym, ap, ◌∙◌, append_assoc, arith}
+use Rattle.std.proofs.Common.{◌≡◌, ◌≢◌, ℕ, zero, suc, ◌+◌, ◌^◌, ◌<◌, ◌≤◌, Bool, true, false, cond, ltb, eqb, ◌&&◌, List, [], ◌∷◌, ◌++◌, length, take, drop, Ok, Err, refl, sym, ap, ◌∙◌, append_assoc, arith}
 use Rattle.std.specs.List.{flat_map}
 use Rattle.std.specs.Int.{Width, w32, w64, byte_len, from_be_bytes, to_be_bytes}
-use Rattle.std.proofs.lemmas.Bool.{le-ltb, lt-ltb, ne_eqb}
+use Rattle.std.proofs.lemmas.Bool.{le-ltb, lt-ltb, ne_eqb, and_from}
 use Rattle.std.proofs.lemmas.List.{append-nil, take_at, drop_at, length-append}
 use Rattle.std.proofs.lemmas.List.Concat.{flat_map-append, flat_map-cons}
 use Rattle.std.proofs.lemmas.Nat.{from_be_bytes-to_be_bytes_4, from_be_bytes-to_be_bytes_8}
@@ -43,15 +43,23 @@ header_again h rest fits =
     ap header_at regrouped
     ∙ rw (number32_again 9 h.partition (b ++ (c ++ (d ++ rest))) fits.partition, number32_again 13 h.partitions (c ++ (d ++ rest)) fits.partitions, number64_again 17 h.digest (d ++ rest) fits.digest, number64_again 25 h.base rest wide, below) refl
 
-pub frame_again : (at : ℕ) (payload rest : List ℕ) → 0 < length rest → at + 5 + length payload < 2 ^ 31 → frame_at at (framed payload ++ rest) ≡ Ok (payload, rest)
+-- the next gate is in the file, and ends no file that is too long
+abbrev pub is_whole : ℕ → ℕ → List ℕ → Bool
+is_whole at size rest = ltb size (length rest) && ltb (at + 5 + size) (2 ^ 31)
+
+-- the frame behind a length, by that test
+pub frame_by_test : (at size : ℕ) (rest : List ℕ) (b : Bool) → size < 2 ^ 32 → is_whole at size rest ≡ b → frame_at at (to_be_bytes w32 size ++ rest) ≡ cond b (Ok (take size rest, drop size rest)) (Err at)
 unfolding frame_at
+frame_by_test at size rest b fits test = rw (number32_again at size rest fits, test) refl
+
+pub fits_whole : (at size : ℕ) (rest : List ℕ) → size < length rest → at + 5 + size < 2 ^ 31 → is_whole at size rest ≡ true
+fits_whole at size rest inside below = and_from _ _ (lt-ltb _ _ inside) (lt-ltb _ _ below)
+
+pub frame_again : (at : ℕ) (payload rest : List ℕ) → 0 < length rest → at + 5 + length payload < 2 ^ 31 → frame_at at (framed payload ++ rest) ≡ Ok (payload, rest)
 frame_again at payload rest more below =
-    let n = length payload in
-    let regrouped : framed payload ++ rest ≡ to_be_bytes w32 n ++ (payload ++ rest) = append_assoc (to_be_bytes w32 n) payload rest in
-    let inside : ltb n (length (payload ++ rest)) ≡ true = lt-ltb _ _ (omega (arith, length-append payload rest)) in
-    let low : ltb (at + 5 + n) (2 ^ 31) ≡ true = lt-ltb _ _ below in
-    ap (frame_at at) regrouped
-    ∙ rw (number32_again at n (payload ++ rest) (omega (arith, below)), inside, low, take_at payload rest n refl, drop_at payload rest n refl) refl
+    let whole = fits_whole at (length payload) (payload ++ rest) (omega (arith, length-append payload rest)) below in
+    ap (frame_at at) (append_assoc (to_be_bytes w32 (length payload)) payload rest) ∙ frame_by_test at (length payload) (payload ++ rest) true (omega arith) whole
+    ∙ rw (take_at payload rest (length payload) refl, drop_at payload rest (length payload) refl) refl
 
 pub frames_again : (payloads : List (List ℕ)) (most at byte : ℕ) (rest : List ℕ) → byte ≢ open_gate → length payloads < most → at + length (flat_map frame_bytes payloads) + 1 < 2 ^ 31
     → frames_from most at (flat_map frame_bytes payloads ++ byte ∷ rest) ≡ Ok (payloads, at + length (flat_map frame_bytes payloads))
@@ -76,7 +84,7 @@ frames_again (payload ∷ payloads) (suc most) at byte rest closed enough below 
 length-header : (h : Header) → length (header_bytes h) ≡ 32
 length-header h = refl
 
-length-flat : (payloads : List (List ℕ)) → length payloads ≤ length (flat_map frame_bytes payloads)
+pub length-flat : (payloads : List (List ℕ)) → length payloads ≤ length (flat_map frame_bytes payloads)
 length-flat [] = omega arith
 length-flat (payload ∷ payloads) = omega (arith, ap length (flat_map-cons frame_bytes payload payloads), length-append (frame_bytes payload) (flat_map frame_bytes payloads), length-flat payloads)
 

@@ -1,3 +1,5 @@
+pub mod Frames
+pub mod Fronts
 pub mod Outcomes
 pub mod Reading
 pub mod Segment

@@ -1,38 +1,47 @@
--- What opening a log answers.
-use Rattle.std.specs.Prelude.{◌≡◌, ℕ, List, Result, Ok, Err}
-use Rattle.site_model.specs.History.{Step, changes_of, content_of, IsKept}
-use Rattle.commit_log.specs.declared.opening.Opened.{Opened}
-use Rattle.commit_log.specs.declared.opening.OpenError.{OpenError}
-use Rattle.commit_log.specs.declared.opening.OpenError.TheVariants.{Fresh, Damaged, SiteFault, Memory}
-use Rattle.commit_log.specs.declared.parse.Parsed.{Parsed}
-use Rattle.commit_log.specs.declared.parse.ParseError.{ParseError}
-use Rattle.commit_log.specs.declared.parse.ParseError.TheVariants as errors
-use Rattle.commit_log.specs.Segment.{fresh, damaged, segment, reading_of}
+-- What each step of reading answers.
+use Rattle.std.specs.Prelude.{◌≡◌, ℕ, ◌+◌, List, [], ◌∷◌, ◌++◌, length, drop, Result, Ok, Err}
+use Rattle.site_model.specs.History.{Step}
+use Rattle.commit_log.specs.declared.header.Header.{Header}
+use Rattle.commit_log.specs.Segment.{first_gate}
+use Rattle.commit_log.specs.States.{IsSegment}
 use Rattle.commit_log.specs.Outcomes.{RestsAs}
+use Rattle.commit_log.specs.declared.reader.LogReader.{LogReader}
+use Rattle.commit_log.specs.declared.reader.Next.{Next}
+use Rattle.commit_log.specs.declared.reader.Next.TheVariants.{Frame, End}
+use Rattle.commit_log.specs.declared.reader.OpenError.{OpenError}
+use Rattle.commit_log.specs.declared.reader.OpenError.TheVariants as unopened
+use Rattle.commit_log.specs.declared.reader.FrameError.{FrameError}
+use Rattle.commit_log.specs.declared.reader.FrameError.TheVariants as unread
+use Rattle.commit_log.specs.Frames.{fresh, damaged, headed, opening_of, closed, frame, wrong, found_at, HasRead}
 
--- What a step of reading returned, seen by view, is what the definition gives, unless memory ran out.
-abbrev pub SegmentFails : {Y : Type 0} → ParseError → Result Y ℕ → Type 0
-SegmentFails errors.Memory wanted = Unit {0}
-SegmentFails (errors.At offset) wanted = wanted ≡ Err offset
+-- what is answered of a partition's log whose file has this content
+abbrev pub Opens : ℕ → List ℕ → Result LogReader OpenError → Type 0
+Opens partition content (Ok reader) =
+    (opening_of partition content ≡ headed reader.header) × HasRead content reader.header [] reader.gate
+    × (reader.gate ≡ first_gate) × (reader.size ≡ length content)
+Opens partition content (Err unopened.Fresh) = opening_of partition content ≡ fresh
+Opens partition content (Err (unopened.Damaged offset)) = opening_of partition content ≡ damaged offset
+Opens partition content (Err unopened.SiteFault) = Unit {0}
 
-abbrev pub SegmentGives : {X Y : Type 0} → (X → Y) → Result X ParseError → Result Y ℕ → Type 0
-SegmentGives view (Ok x) wanted = wanted ≡ Ok (view x)
-SegmentGives view (Err e) wanted = SegmentFails e wanted
+-- what is answered of the next gate, where these payloads stand before it
+abbrev pub Goes : List ℕ → LogReader → List (List ℕ) → Result Next FrameError → Type 0
+Goes content reader payloads (Ok (Frame payload next)) =
+    (found_at reader.gate (drop reader.gate content) ≡ frame payload) × HasRead content reader.header (payloads ++ payload ∷ []) next.gate
+Goes content reader payloads (Ok (End log)) =
+    (found_at reader.gate (drop reader.gate content) ≡ closed) × (log.gate ≡ reader.gate) × IsSegment content reader.header payloads log.gate
+Goes content reader payloads (Err (unread.Damaged offset)) = found_at reader.gate (drop reader.gate content) ≡ wrong offset
+Goes content reader payloads (Err unread.SiteFault) = Unit {0}
+Goes content reader payloads (Err unread.Memory) = Unit {0}
 
--- what the bytes of a whole file were taken for
-abbrev pub ReadsAs : List ℕ → ℕ → Result Parsed OpenError → Type 0
-ReadsAs content file (Ok found) = reading_of content ≡ segment found.header found.payloads.items found.gate
-ReadsAs content file (Err Fresh) = reading_of content ≡ fresh
-ReadsAs content file (Err (Damaged other offset)) = (reading_of content ≡ damaged offset) × (other ≡ file)
-ReadsAs content file (Err SiteFault) = Unit {0}
-ReadsAs content file (Err Memory) = Unit {0}
+-- at a closed gate the log rests
+abbrev pub RestsAtEnd : List Step → Header → List (List ℕ) → Result Next FrameError → Type 0
+RestsAtEnd steps header payloads (Ok (Frame payload next)) = Unit {0}
+RestsAtEnd steps header payloads (Ok (End log)) = RestsAs steps header payloads log
+RestsAtEnd steps header payloads (Err error) = Unit {0}
 
--- what is answered of a file with this content, and how it stands then
-abbrev pub OpensAs : List ℕ → ℕ → List Step → Result Opened OpenError → Type 0
-OpensAs content file steps (Ok found) =
-    (reading_of content ≡ segment found.header found.payloads.items found.log.gate) × (found.log.file ≡ file)
-    × RestsAs steps found.header found.payloads.items found.log
-OpensAs content file steps (Err Fresh) = (reading_of content ≡ fresh) × (content_of file steps ≡ content) × IsKept (changes_of file steps)
-OpensAs content file steps (Err (Damaged other offset)) = (reading_of content ≡ damaged offset) × (other ≡ file)
-OpensAs content file steps (Err SiteFault) = Unit {0}
-OpensAs content file steps (Err Memory) = Unit {0}
+-- the next gate stands behind the frame in the same file, and a closed gate stands where it was looked for
+abbrev pub StaysInFile : LogReader → Result Next FrameError → Type 0
+StaysInFile reader (Ok (Frame payload next)) =
+    (next.file ≡ reader.file) × (next.header ≡ reader.header) × (next.size ≡ reader.size) × (next.gate ≡ reader.gate + 5 + length payload)
+StaysInFile reader (Ok (End log)) = (log.file ≡ reader.file) × (log.gate ≡ reader.gate)
+StaysInFile reader (Err error) = Unit {0}

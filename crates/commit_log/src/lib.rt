@@ -5,23 +5,30 @@
 //! safe. At every moment a crash leaves the frames before, with the new one or without it: before `gate` always
 //! without, after `settle` always with it. A call that fails hands back a `Broken` log, which is only opened again.
 //!
-//! `Resting::format` makes a new segment, and `read_log` opens one. Every opening begins with a sync.
-//! The format is told in `docs/FORMAT.md`, and as a definition in `specs/Segment.antt`.
+//! `Resting::format` makes a new segment, and [`open_log`] opens one: it syncs the file, measures it, and reads its header.
+//! [`LogReader::next`] gives the frame behind the next gate and a reader behind that frame, or, at a closed gate, the log at rest.
+//! So a recovery holds one payload in memory, and never the file.
+//!
+//! The format is told in `docs/FORMAT.md`, and as a definition in `specs/Segment.antt`; what stands at a gate, in
+//! `specs/Frames.antt`.
 #![tactic(auto)]
 
 mod append;
 mod format;
 mod frame;
 mod header;
+mod laws;
 mod opening;
 mod parse;
 mod payload;
+mod reader;
 mod reading;
 mod reopen;
 mod states;
 
 pub use header::Header;
-pub use opening::{OpenError, Opened};
+pub use laws::the_frames_are_the_whole;
+pub use opening::open_log;
 pub use payload::Payload;
-pub use reading::read_log;
+pub use reader::{FrameError, LogReader, Next, OpenError};
 pub use states::{Bodied, BodyError, Broken, Gated, Reopened, Resting, Synced};

@@ -1,46 +1,68 @@
 // Opening a log.
+ghost use Rattle.std.specs.Prelude.{◌≡◌, ◌≤◌, ◌∷◌, ℕ, Err, OnOk, IfOk, ◌⊎◌, length};
+ghost use Rattle.site_model.specs.History.{on, synced, changes_of, content_of, Leaves};
+ghost use Rattle.site_model.specs.Calls.{HasRisen, HasCause, Syncs};
+ghost use Rattle.site_model.specs.Moments.{LeavesOnly};
+ghost use Rattle.commit_log.specs.Fronts.{SaysHeader};
+ghost use Rattle.commit_log.specs.Reading.{Opens};
+
 use crate::header::Header;
-use crate::payload::Payload;
-use crate::states::Resting;
-use std::fmt;
-use thiserror::Error;
+use crate::parse::{FIRST_GATE, parse_front};
+use crate::reader::{LogReader, OpenError};
+use site_model::{Failed, Site};
 
-/// A log that was opened.
-#[derive(Drop)]
-pub struct Opened {
-    /// The segment's header.
-    pub header: Header,
-    /// The payloads behind open gates, the first first.
-    pub payloads: Vec<Payload>,
-    /// The log, at rest behind them.
-    pub log: Resting,
+/// Syncs a file, and says how long it is.
+fn synced_length<V: Site>(site: &mut V, file: u32) -> Result<u64, Failed>
+    ensures told { V.tells site.new → V.tells site.old }
+    ensures either { Syncs file (V.history site.old) (V.history site.new) result }
+    ensures value { V.tells site.new → IfOk result (λ n. n ≡ length (content_of file (V.history site.old))) }
+    ensures cause { HasCause (V.disk_faults site.old) (V.disk_faults site.new) result }
+    ensures say_faults { V.say_faults site.new ≡ V.say_faults site.old }
+{
+    site.sync(file)?;
+    site.length(file)
 }
 
-/// Why no log was opened.
-#[derive(Clone, Copy, Drop, Error)]
-pub enum OpenError {
-    /// The file holds no segment yet.
-    #[error("the log is fresh")]
-    Fresh,
-    /// The file breaks the format first at this offset.
-    #[error("file {file} is damaged at offset {offset}")]
-    Damaged {
-        /// The file's number.
-        file: u32,
-        /// The first byte that is wrong or missing.
-        offset: u64,
-    },
-    /// The disk failed.
-    #[error("the disk failed")]
-    SiteFault,
-    /// Memory ran out.
-    #[error("out of memory")]
-    Memory,
-}
-
-// Each error has a debug form, and the message serves.
-impl fmt::Debug for OpenError {
-    fn fmt<W: fmt::Write>(&self, f: &mut fmt::Formatter<W>) -> fmt::Result {
-        fmt::Display::fmt(self, f)
+/// The header that stands in the front of a file, by one read.
+fn read_front<V: Site>(site: &mut V, file: u32, partition: u32) -> Result<Header, OpenError>
+    ensures told { V.tells site.new → V.tells site.old }
+    ensures says { V.tells site.new → SaysHeader partition (content_of file (V.history site.old)) result }
+    ensures unchanged { V.history site.new ≡ V.history site.old }
+    ensures fault { result ≡ Err OpenError.SiteFault → HasRisen (V.disk_faults site.old) (V.disk_faults site.new) }
+    ensures later { V.disk_faults site.old ≤ V.disk_faults site.new }
+    ensures say_faults { V.say_faults site.new ≡ V.say_faults site.old }
+{
+    let mut front = [0; FIRST_GATE as usize];
+    match site.read(file, 0, &mut front) {
+        Ok(count) => parse_front(partition, &front[..count]),
+        Err(_) => Err(OpenError::SiteFault),
     }
+}
+
+/// Opens the log of this partition: syncs the file, measures it, and reads its header.
+pub fn open_log<V: Site>(site: &mut V, file: u32, partition: u32) -> Result<LogReader, OpenError>
+    ensures told { V.tells site.new → V.tells site.old }
+    // A crash leaves what it could have left before.
+    ensures during { V.tells site.new → LeavesOnly file (V.history site.old) (V.history site.new) (Leaves (changes_of file (V.history site.old))) }
+    ensures opens { V.tells site.new → Opens partition (content_of file (V.history site.old)) result }
+    ensures syncs { (V.history site.new ≡ on file synced ∷ V.history site.old) ⊎ (V.history site.new ≡ V.history site.old) }
+    ensures synced { OnOk result (V.history site.new ≡ on file synced ∷ V.history site.old) }
+    ensures synced_fresh { result ≡ Err OpenError.Fresh → V.history site.new ≡ on file synced ∷ V.history site.old }
+    ensures synced_damaged { (offset : ℕ) → result ≡ Err (OpenError.Damaged offset) → V.history site.new ≡ on file synced ∷ V.history site.old }
+    ensures place { IfOk result (λ reader. reader.file ≡ file) }
+    ensures fault { result ≡ Err OpenError.SiteFault → HasRisen (V.disk_faults site.old) (V.disk_faults site.new) }
+    ensures later { V.disk_faults site.old ≤ V.disk_faults site.new }
+    ensures say_faults { V.say_faults site.new ≡ V.say_faults site.old }
+{
+    let size = match synced_length(site, file) {
+        Ok(size) => size,
+        Err(_) => return Err(OpenError::SiteFault),
+    };
+    let header = read_front(site, file, partition)?;
+    Ok(LogReader {
+        file,
+        header,
+        gate: FIRST_GATE,
+        size,
+    })
 }

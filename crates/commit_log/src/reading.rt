@@ -1,89 +1,115 @@
-// Reading a log from its file.
-ghost use Rattle.std.specs.Prelude.{◌≡◌, ◌≤◌, ◌<◌, ◌+◌, ◌^◌, ◌∷◌, List, ℕ, length, Result, Ok, Err, OnOk, IfOk, ◌⊎◌};
-ghost use Rattle.site_model.specs.History.{Step, on, synced, changes_of, content_of, Leaves};
-ghost use Rattle.site_model.specs.Calls.{HasRisen, HasCause, Syncs};
-ghost use Rattle.site_model.specs.Moments.{LeavesOnly};
-ghost use Rattle.commit_log.specs.Segment.{reading_of, segment_at};
-ghost use Rattle.commit_log.specs.States.{IsSegment, EndsAt};
-ghost use Rattle.commit_log.specs.Reading.{SegmentGives, OpensAs, ReadsAs};
+// Reading a log frame by frame.
+ghost use Rattle.std.specs.Prelude.{◌≡◌, ◌≤◌, ◌<◌, ◌+◌, ◌^◌, ℕ, List, Err, IfOk, length, drop};
+ghost use Rattle.site_model.specs.History.{changes_of, content_of, IsKept};
+ghost use Rattle.site_model.specs.Calls.{HasRisen};
+ghost use Rattle.commit_log.specs.Frames.{HasRead};
+ghost use Rattle.commit_log.specs.Fronts.{SaysGate, SaysPayload};
+ghost use Rattle.commit_log.specs.Reading.{Goes, RestsAtEnd, StaysInFile};
 
-use crate::frame::OPEN_GATE;
-use crate::opening::{OpenError, Opened};
-use crate::parse::{ParseError, Parsed, parse};
+use crate::parse::parse_gate;
+use crate::payload::Payload;
+use crate::reader::{FrameError, LogReader, Next};
 use crate::states::Resting;
-use site_model::{Failed, FrontError, Site, read_front};
+use site_model::Site;
 use std::alloc::Global;
 
-/// What the bytes of a whole file stand for.
-fn parse_file(alloc: Global, file: u32, bytes: &[u8]) -> Result<Parsed, OpenError>
-    ensures reads { ReadsAs bytes.now file result }
-    ensures segment { IfOk result (λ x. IsSegment bytes.now x.header x.payloads.items x.gate) }
-    ensures below { IfOk result (λ x. x.gate + 1 < 2 ^ 31) }
-    ensures no_fault { result ≡ Err OpenError.SiteFault → ⊥ }
-{
-    match bytes {
-        [OPEN_GATE, behind @ ..] => {
-            if behind.is_empty() {
-                return Err(OpenError::Fresh);
-            }
-            match parse(alloc, behind) {
-                Ok(parsed) => Ok(parsed),
-                Err(ParseError::At(offset)) => Err(OpenError::Damaged { file, offset }),
-                Err(ParseError::Memory) => Err(OpenError::Memory),
-            }
-        }
-        _ => Err(OpenError::Fresh),
-    }
-}
+/// The length that no segment reaches.
+const END: u64 = 1 << 31;
 
-/// Syncs a file, and says how long it is.
-pub(crate) fn synced_length<V: Site>(site: &mut V, file: u32) -> Result<u64, Failed>
+/// The length of the payload behind a gate, or None where it is closed, by one read.
+fn read_gate<V: Site>(site: &mut V, file: u32, gate: u64) -> Result<Option<u32>, FrameError>
+    requires { gate + 1 < 2 ^ 31 }
     ensures told { V.tells site.new → V.tells site.old }
-    ensures either { Syncs file (V.history site.old) (V.history site.new) result }
-    ensures value { V.tells site.new → IfOk result (λ n. n ≡ length (content_of file (V.history site.old))) }
-    ensures cause { HasCause (V.disk_faults site.old) (V.disk_faults site.new) result }
-    ensures say_faults { V.say_faults site.new ≡ V.say_faults site.old }
-{
-    match site.sync(file) {
-        Ok(()) => site.length(file),
-        Err(failed) => Err(failed),
-    }
-}
-
-/// Opens a log: syncs the file, and reads it. The log then rests behind its frames.
-pub fn read_log<V: Site>(alloc: Global, site: &mut V, file: u32) -> Result<Opened, OpenError>
-    ensures told { V.tells site.new → V.tells site.old }
-    // A crash leaves what it could have left before.
-    ensures during { V.tells site.new → LeavesOnly file (V.history site.old) (V.history site.new) (Leaves (changes_of file (V.history site.old))) }
-    ensures opens { V.tells site.new → OpensAs (content_of file (V.history site.old)) file (V.history site.new) result }
-    ensures syncs { (V.history site.new ≡ on file synced ∷ V.history site.old) ⊎ (V.history site.new ≡ V.history site.old) }
-    ensures synced { OnOk result (V.history site.new ≡ on file synced ∷ V.history site.old) }
-    ensures synced_fresh { result ≡ Err OpenError.Fresh → V.history site.new ≡ on file synced ∷ V.history site.old }
-    ensures synced_damaged { (other offset : ℕ) → result ≡ Err (OpenError.Damaged other offset) → V.history site.new ≡ on file synced ∷ V.history site.old }
-    ensures place { IfOk result (λ found. found.log.file ≡ file) }
-    ensures ends { IfOk result (λ found. EndsAt found.header found.payloads.items found.log.gate) }
-    ensures fault { result ≡ Err OpenError.SiteFault → HasRisen (V.disk_faults site.old) (V.disk_faults site.new) }
+    ensures says { V.tells site.new → SaysGate gate (drop gate (content_of file (V.history site.old))) result }
+    ensures unchanged { V.history site.new ≡ V.history site.old }
+    ensures fault { result ≡ Err FrameError.SiteFault → HasRisen (V.disk_faults site.old) (V.disk_faults site.new) }
     ensures later { V.disk_faults site.old ≤ V.disk_faults site.new }
     ensures say_faults { V.say_faults site.new ≡ V.say_faults site.old }
 {
-    let length = match synced_length(site, file) {
-        Ok(length) => length,
-        Err(_) => return Err(OpenError::SiteFault),
-    };
-    let bytes = match read_front(alloc, site, file, length) {
+    let mut front = [0; 5];
+    match site.read(file, gate, &mut front) {
+        Ok(count) => parse_gate(gate, &front[..count]),
+        Err(_) => Err(FrameError::SiteFault),
+    }
+}
+
+/// The payload of this length behind an open gate, by one read.
+fn read_payload<V: Site>(
+    alloc: Global,
+    site: &mut V,
+    file: u32,
+    gate: u64,
+    payload_len: u32,
+) -> Result<Payload, FrameError>
+    requires { gate + 1 < 2 ^ 31 }
+    ensures told { V.tells site.new → V.tells site.old }
+    ensures says { V.tells site.new → SaysPayload payload_len (drop (gate + 5) (content_of file (V.history site.old))) result }
+    ensures whole { IfOk result (λ payload. length payload ≡ payload_len) }
+    ensures unchanged { V.history site.new ≡ V.history site.old }
+    ensures fault { result ≡ Err FrameError.SiteFault → HasRisen (V.disk_faults site.old) (V.disk_faults site.new) }
+    ensures later { V.disk_faults site.old ≤ V.disk_faults site.new }
+    ensures say_faults { V.say_faults site.new ≡ V.say_faults site.old }
+{
+    let mut bytes = match vec![in alloc; 0; payload_len as usize] {
         Ok(bytes) => bytes,
-        Err(FrontError::Failed) => return Err(OpenError::SiteFault),
-        Err(FrontError::Memory) => return Err(OpenError::Memory),
+        Err(_) => return Err(FrameError::Memory),
     };
-    let parsed = parse_file(alloc, file, &bytes)?;
-    let Parsed {
-        header,
-        payloads,
-        gate,
-    } = parsed;
-    Ok(Opened {
-        header,
-        payloads,
-        log: Resting { file, gate },
-    })
+    let count = match site.read(file, gate + 5, &mut bytes) {
+        Ok(count) => count,
+        Err(_) => return Err(FrameError::SiteFault),
+    };
+    // The file is shorter than it was.
+    if count < bytes.len() {
+        return Err(FrameError::Damaged { offset: gate + 1 });
+    }
+    match Payload::copy_of(alloc, &bytes) {
+        Ok(payload) => Ok(payload),
+        Err(_) => Err(FrameError::Memory),
+    }
+}
+
+impl LogReader {
+    /// Reads the frame behind the next gate, if that is open, by two reads at most. A length is looked at against the
+    /// file's before memory is taken for it.
+    pub fn next<V: Site>(self, alloc: Global, site: &mut V) -> Result<Next, FrameError>
+        ensures told { V.tells site.new → V.tells site.old }
+        ensures found { V.tells site.new → self.size ≡ length (content_of self.file (V.history site.old))
+            → (payloads : List (List ℕ)) → HasRead (content_of self.file (V.history site.old)) self.header payloads self.gate
+            → Goes (content_of self.file (V.history site.old)) self payloads result }
+        ensures rests { V.tells site.new → (payloads : List (List ℕ)) → HasRead (content_of self.file (V.history site.old)) self.header payloads self.gate
+            → IsKept (changes_of self.file (V.history site.old)) → RestsAtEnd (V.history site.new) self.header payloads result }
+        ensures unchanged { V.history site.new ≡ V.history site.old }
+        ensures place { StaysInFile self result }
+        ensures fault { result ≡ Err FrameError.SiteFault → HasRisen (V.disk_faults site.old) (V.disk_faults site.new) }
+        ensures later { V.disk_faults site.old ≤ V.disk_faults site.new }
+        ensures say_faults { V.say_faults site.new ≡ V.say_faults site.old }
+    {
+        let LogReader {
+            file,
+            header,
+            gate,
+            size,
+        } = self;
+        let payload_len = match read_gate(site, file, gate) {
+            Ok(Some(payload_len)) => payload_len,
+            Ok(None) => return Ok(Next::End(Resting { file, gate })),
+            Err(error) => return Err(error),
+        };
+        let next = gate + 5 + payload_len as u64;
+        if next >= size || next + 1 >= END {
+            return Err(FrameError::Damaged { offset: gate + 1 });
+        }
+        match read_payload(alloc, site, file, gate, payload_len) {
+            Ok(payload) => Ok(Next::Frame(
+                payload,
+                LogReader {
+                    file,
+                    header,
+                    gate: next,
+                    size,
+                },
+            )),
+            Err(error) => Err(error),
+        }
+    }
 }

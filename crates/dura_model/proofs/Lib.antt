@@ -1,6 +1,12 @@
+pub mod Alone
+pub mod Appending
 pub mod Basics
 pub mod Belonging
 pub mod Growing
+pub mod Items
+pub mod Keeping
+pub mod Kept
+pub mod Merged
 pub mod Outcomes
 pub mod Owned
 pub mod Rows
@@ -8,7 +14,3 @@ pub mod Sending
 pub mod Shown
 pub mod Streams
 pub mod Turns
-pub mod Items
-pub mod Keeping
-pub mod Kept
-pub mod Merged

@@ -1,5 +1,6 @@
 pub mod Deliveries
 pub mod Dependencies
+pub mod Entries
 pub mod Legal
 pub mod Partition
 pub mod Placed

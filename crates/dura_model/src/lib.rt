@@ -5,7 +5,7 @@
 //! - `specs/Legal`: legal runs, quiet worlds, tasks that end, sections that overlap.
 //! - `specs/Partition`: the state of one partition, what an item makes of it, and the world that all states show.
 //! - `specs/Placed`: what the states need so that they show a world, and when an item is its label.
-//! - `specs/Requests`: requests, and the lines of their answers.
+//! - `specs/Entries`: what entries make of a state, and the labels that they are.
 //! - `laws` are laws of these.
 #![tactic(auto)]
 

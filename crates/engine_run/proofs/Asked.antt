@@ -4,7 +4,7 @@ use Rattle.dura_model.specs.Partition.{Partition, fresh}
 use Rattle.dura_value.specs.Items.{Entry}
 use Rattle.engine_run.specs.Causes.{AsksFor}
 use Rattle.engine_run.specs.Job.{Job, FilesKeep}
-use Rattle.part_files.specs.Placing.{placed}
+use Rattle.dura_model.specs.Entries.{placed}
 
 pub same_job : (files : ℕ → List ℕ) (a b : Job) → AsksFor files a → AsksFor files b → a ≡ b
 same_job files a b one two =

@@ -3,7 +3,7 @@ use Rattle.std.proofs.Common.{◌≡◌, ◌<◌, ◌≤◌, ◌+◌, ◌&&◌, 
 use Rattle.std.specs.Prelude.{is_some, not, bytes_eq}
 use Rattle.std.specs.List.{AllByRecursion}
 use Rattle.std.proofs.lemmas.Bool.Decides.{nat_tests}
-use Rattle.commit_log.specs.Segment.{◌>>=◌}
+use Rattle.dura_value.specs.Reading.{◌>>=◌}
 use Rattle.client_port.specs.Clients.{requests_of}
 use Rattle.dura_model.specs.Legal.{is_taken, is_answered, may_ask}
 use Rattle.dura_model.specs.Partition.{Partition}
@@ -19,8 +19,8 @@ use Rattle.hub_store.specs.Moments.{SaidSoFar}
 use Rattle.hub_store.specs.Moments.SaidSoFar.{silent, settles, says}
 use Rattle.hub_store.specs.Trail.{Settled, Said, of_part, settling}
 use Rattle.hub_store.proofs.Settling.{of_part-append, own_part}
-use Rattle.part_files.specs.Placing.{placed}
-use Rattle.part_files.proofs.Appending.{placed_both}
+use Rattle.dura_model.specs.Entries.{placed}
+use Rattle.dura_model.proofs.Appending.{placed_both}
 use Rattle.part_rounds.proofs.Queues.{count_on}
 use Rattle.request_reader.specs.Line.{Request}
 use Rattle.run_laws.specs.Begins.{pairs_of, may_follow, may_say}

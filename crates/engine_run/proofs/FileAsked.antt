@@ -19,7 +19,7 @@ use Rattle.engine_run.specs.Asked.{IsRequest, IsTaken}
 use Rattle.engine_run.proofs.LineAsked.{one_of, line_asked}
 use Rattle.flow_syntax.specs.Syntax.{Flows}
 use Rattle.hub_store.specs.Trail.{Said}
-use Rattle.part_files.proofs.Alone.{home_alone}
+use Rattle.dura_model.proofs.Alone.{home_alone}
 use Rattle.part_rounds.specs.Fills.{CantTake}
 use Rattle.part_rounds.specs.Rounds.{HasSaid}
 use Rattle.part_rounds.proofs.Queues.{queue_found}

@@ -15,10 +15,10 @@ use Rattle.engine_run.specs.Picks.{rules_with}
 use Rattle.flow_syntax.specs.Syntax.{Flows}
 use Rattle.hub_store.specs.Origin.{Origin}
 use Rattle.hub_store.specs.Trail.{Settled, Said, of_part, settled_at}
-use Rattle.part_files.specs.Logs.{logs_in, entries_in}
-use Rattle.part_files.specs.Placing.{placed, next_life, labels_in, AllGiven}
-use Rattle.part_files.specs.Stands.{alone_with, FilesStand, shown_by}
-use Rattle.part_files.proofs.LabelsStand.{labels_stand}
+use Rattle.part_items.specs.Logs.{logs_in, entries_in, alone_with}
+use Rattle.dura_model.specs.Entries.{placed, next_life, labels_in, AllGiven, shown_by}
+use Rattle.run_rules.specs.Stands.{FilesStand}
+use Rattle.run_rules.proofs.LabelsStand.{labels_stand}
 use Rattle.run_laws.proofs.Ordered.{never_overlaps}
 use Rattle.run_laws.specs.Leaves.{IsAnswered, AllAnswered, IsHalfSaid, StandsOn}
 use Rattle.run_laws.specs.Leaves.AllAnswered.{nothing_said, one_more as one_line}

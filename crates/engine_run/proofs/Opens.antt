@@ -7,11 +7,10 @@ use Rattle.dura_model.specs.Partition.{fresh}
 use Rattle.dura_value.specs.Items.{Entry}
 use Rattle.engine_run.specs.Job.{Job}
 use Rattle.engine_run.specs.Opened.{StandsBy, IsOpening}
-use Rattle.part_files.specs.Kept.{Kept, nothing, broken, keeps, kept_in}
-use Rattle.part_files.specs.Logs.{Refusal, Logs, log_in, no_log, damaged_at, base_place, or_else, unless, fault_of, same_base, late_base, first_fault, the_log, logs_of, logs_in, entries_in}
-use Rattle.part_files.specs.Stands.{alone_with}
-use Rattle.part_files.proofs.LabelsStand.{labels_stand}
-use Rattle.part_files.proofs.PayloadsKept.{reading_kept, nothing_yet}
+use Rattle.part_items.specs.Kept.{Kept, nothing, broken, keeps, kept_in}
+use Rattle.part_items.specs.Logs.{Refusal, Logs, log_in, no_log, damaged_at, base_place, or_else, unless, fault_of, same_base, late_base, first_fault, the_log, logs_of, logs_in, entries_in, alone_with}
+use Rattle.run_rules.proofs.LabelsStand.{labels_stand}
+use Rattle.part_items.proofs.PayloadsKept.{reading_kept, nothing_yet}
 use Rattle.recover_core.specs.Recovering.{one_synced, both_synced, OnlySyncs}
 use Rattle.run_laws.specs.Begins.{header_with}
 use Rattle.run_laws.proofs.Images.{entries_alone}

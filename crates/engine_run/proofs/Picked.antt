@@ -16,10 +16,11 @@ use Rattle.flow_syntax.specs.Syntax.{Flows}
 use Rattle.hub_store.specs.Frames.{goes_on}
 use Rattle.hub_store.specs.Opened.{IsOrigin}
 use Rattle.hub_store.specs.Origin.{Log}
-use Rattle.part_files.specs.Kept.{first_of, decoded}
-use Rattle.part_files.specs.Placing.{state_next, all_accepted, entry_accepted, placed}
-use Rattle.part_files.proofs.Alone.{are_shown_alone, accepted_is_step}
-use Rattle.part_files.proofs.Appending.{both_placed}
+use Rattle.part_items.specs.Kept.{first_of, decoded}
+use Rattle.run_rules.specs.Stands.{state_next}
+use Rattle.dura_model.specs.Entries.{all_accepted, entry_accepted, placed}
+use Rattle.dura_model.proofs.Alone.{are_shown_alone, accepted_is_step}
+use Rattle.dura_model.proofs.Appending.{both_placed}
 use Rattle.part_items.specs.Numbered.{Next, IsNumbered, behind, behind_all}
 use Rattle.run_laws.specs.Begins.{header_with}
 use Rattle.site_model.specs.History.{Step, changes_of, content_of}

@@ -11,9 +11,8 @@ use Rattle.dura_value.specs.Items.{Entry}
 use Rattle.engine_run.specs.Job.{Job}
 use Rattle.engine_run.specs.Opened.{IsOpening, IsOpened}
 use Rattle.engine_run.proofs.Opens.{other_nothing, both_nothing, opening_both, opening_new, second_kept}
-use Rattle.part_files.specs.Kept.{kept_in, first_of, in_file, decoded}
-use Rattle.part_files.specs.Logs.{Logs, no_log, log_in, logs_in, entries_in}
-use Rattle.part_files.specs.Stands.{alone_with}
+use Rattle.part_items.specs.Kept.{kept_in, first_of, in_file, decoded}
+use Rattle.part_items.specs.Logs.{Logs, no_log, log_in, logs_in, entries_in, alone_with}
 use Rattle.part_items.specs.Numbered.{Next, behind_all, next_frame_in}
 use Rattle.recover_core.specs.Files.{frames_in}
 use Rattle.recover_core.specs.Recovering.{IsLogOf, RestsFor, both_synced}

@@ -14,8 +14,8 @@ use Rattle.dura_value.specs.Ids.{Id, id_eq, home}
 use Rattle.dura_value.specs.Items.{ran}
 use Rattle.dura_value.specs.Messages.{Body, Message}
 use Rattle.flow_syntax.specs.Syntax.{Flows}
-use Rattle.part_files.specs.Stands.{shown_by}
-use Rattle.part_files.proofs.Alone.{home_alone, are_shown_alone}
+use Rattle.dura_model.specs.Entries.{shown_by}
+use Rattle.dura_model.proofs.Alone.{home_alone, are_shown_alone}
 use Rattle.part_rounds.specs.Comes.{IsOver}
 use Rattle.part_rounds.specs.Fills.{CantEnd}
 use Rattle.part_rows.specs.Open.{lets_in, last_at, NoneOpen}

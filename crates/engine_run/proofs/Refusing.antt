@@ -11,9 +11,8 @@ use Rattle.engine_run.specs.Kept.{clashes, IsClash, NoClash, RefusesKept}
 use Rattle.engine_run.specs.Opening.{cause_of_recovery, IsLogCause}
 use Rattle.engine_run.proofs.Asked.{same_job, same_state}
 use Rattle.flow_syntax.specs.Syntax.{Flows}
-use Rattle.part_files.specs.Logs.{logs_in, entries_in}
-use Rattle.part_files.specs.Placing.{placed, next_life}
-use Rattle.part_files.specs.Stands.{alone_with}
+use Rattle.part_items.specs.Logs.{logs_in, entries_in, alone_with}
+use Rattle.dura_model.specs.Entries.{placed, next_life}
 use Rattle.recover_core.specs.Recovering.{Recovers, OnlySyncs}
 use Rattle.recover_core.specs.declared.error.RecoverError.{RecoverError}
 use Rattle.recover_core.specs.declared.error.RecoverError.TheVariants as errors

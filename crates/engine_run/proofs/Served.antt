@@ -24,8 +24,7 @@ use Rattle.engine_run.proofs.Stirred.{stirs}
 use Rattle.hub_store.specs.Moments.{SaidSoFar}
 use Rattle.hub_store.specs.Origin.{Origin}
 use Rattle.hub_store.specs.Trail.{Settled, Said, of_part}
-use Rattle.part_files.specs.Placing.{placed}
-use Rattle.part_files.specs.Stands.{shown_by}
+use Rattle.dura_model.specs.Entries.{placed, shown_by}
 use Rattle.part_rounds.specs.Rounds.{of_client, HasSaid, NoneUnsaid, next_answer}
 use Rattle.part_rounds.proofs.Queues.{due_is, queue_found}
 use Rattle.request_reader.specs.Line.{Request}

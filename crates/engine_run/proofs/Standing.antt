@@ -12,10 +12,11 @@ use Rattle.engine_run.specs.Picks.{log_in_file, origin_with, rules_with}
 use Rattle.engine_run.proofs.Picked.{entries_come, picked_is}
 use Rattle.hub_store.specs.Opened.{HasBegun}
 use Rattle.hub_store.specs.Origin.{Log}
-use Rattle.part_files.specs.Kept.{first_of}
-use Rattle.part_files.specs.Placing.{placed, state_next, AllGiven}
-use Rattle.part_files.proofs.Alone.{are_shown_alone}
-use Rattle.part_files.proofs.PayloadsDecoded.{decoded_numbered}
+use Rattle.part_items.specs.Kept.{first_of}
+use Rattle.dura_model.specs.Entries.{placed, AllGiven}
+use Rattle.run_rules.specs.Stands.{state_next}
+use Rattle.dura_model.proofs.Alone.{are_shown_alone}
+use Rattle.part_items.proofs.PayloadsDecoded.{decoded_numbered}
 use Rattle.part_items.specs.Numbered.{behind_all}
 use Rattle.run_laws.specs.Begins.{BeginsAlone, header_with}
 use Rattle.site_model.specs.History.{Step, changes_of}

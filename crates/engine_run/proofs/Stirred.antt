@@ -25,9 +25,8 @@ use Rattle.engine_run.proofs.FileAsked.{says_whose}
 use Rattle.flow_syntax.specs.Syntax.{Flows}
 use Rattle.hub_store.specs.Moments.{SaidSoFar}
 use Rattle.hub_store.specs.Trail.{Settled, Said, of_part}
-use Rattle.part_files.specs.Placing.{placed, all_accepted}
-use Rattle.part_files.specs.Stands.{shown_by}
-use Rattle.part_files.proofs.Alone.{home_alone, are_shown_alone, accepted_is_step}
+use Rattle.dura_model.specs.Entries.{placed, all_accepted, shown_by}
+use Rattle.dura_model.proofs.Alone.{home_alone, are_shown_alone, accepted_is_step}
 use Rattle.part_rounds.specs.Fills.{Fills}
 use Rattle.part_rounds.specs.Further.{IsPending, Stirs}
 use Rattle.request_reader.specs.Line.{Request}

@@ -7,7 +7,7 @@ use Rattle.dura_value.specs.Items.{Entry}
 use Rattle.engine_run.specs.Job.{Job, FilesKeep}
 use Rattle.engine_run.specs.Kept.{IsClash, NoClash}
 use Rattle.hub_store.specs.Trail.{Settled}
-use Rattle.part_files.specs.Placing.{next_life}
+use Rattle.dura_model.specs.Entries.{next_life}
 use Rattle.recover_core.specs.Recovering.{Recovers, OnlySyncs}
 use Rattle.recover_core.specs.declared.error.RecoverError.{RecoverError}
 use Rattle.recover_core.specs.declared.error.RecoverError.TheVariants as errors

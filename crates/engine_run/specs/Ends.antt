@@ -17,8 +17,7 @@ use Rattle.hub_store.specs.Moments.{StandsWith, AtEveryMoment}
 use Rattle.hub_store.specs.Origin.{Origin}
 use Rattle.hub_store.specs.Short.{IsShort}
 use Rattle.hub_store.specs.Trail.{Settled, Said, of_part, settled_at}
-use Rattle.part_files.specs.Placing.{placed}
-use Rattle.part_files.specs.Stands.{shown_by}
+use Rattle.dura_model.specs.Entries.{placed, shown_by}
 use Rattle.part_items.specs.Spelling.{spell_frame}
 use Rattle.part_rounds.specs.Comes.{IsOver, count_labels}
 use Rattle.part_rounds.specs.Further.{GoesFurther}

@@ -17,7 +17,7 @@ use Rattle.hub_store.specs.Moments.{AtEveryMoment}
 use Rattle.hub_store.specs.Origin.{Origin}
 use Rattle.hub_store.specs.Short.{IsShort}
 use Rattle.hub_store.specs.Trail.{Settled, Said, of_part, settled_at}
-use Rattle.part_files.specs.Placing.{next_life, labels_in}
+use Rattle.dura_model.specs.Entries.{next_life, labels_in}
 use Rattle.run_causes.specs.declared.cause.Cause.{Cause}
 use Rattle.run_laws.specs.Begins.{BeginsAlone, may_follow, may_say}
 use Rattle.run_laws.specs.Leaves.{StandsOn}

@@ -3,9 +3,8 @@ use Rattle.std.specs.Prelude.{◌≡◌, ℕ, List, Some, Ok}
 use Rattle.dura_model.specs.Partition.{Partition, fresh}
 use Rattle.dura_value.specs.Items.{Entry}
 use Rattle.flow_syntax.specs.Syntax.{Flows}
-use Rattle.part_files.specs.Logs.{logs_in, entries_in}
-use Rattle.part_files.specs.Placing.{placed, AllGiven}
-use Rattle.part_files.specs.Stands.{alone_with}
+use Rattle.part_items.specs.Logs.{logs_in, entries_in, alone_with}
+use Rattle.dura_model.specs.Entries.{placed, AllGiven}
 use Rattle.request_reader.specs.Line.{Request}
 
 -- the flows, the digest of their file, and the requests in their order

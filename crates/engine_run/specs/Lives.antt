@@ -10,8 +10,8 @@ use Rattle.engine_run.specs.Picks.{rules_with}
 use Rattle.flow_syntax.specs.Syntax.{Flows}
 use Rattle.hub_store.specs.Origin.{Origin}
 use Rattle.hub_store.specs.Trail.{Settled, Said, of_part, settled_at}
-use Rattle.part_files.specs.Placing.{next_life, labels_in}
-use Rattle.part_files.specs.Stands.{FilesStand}
+use Rattle.dura_model.specs.Entries.{next_life, labels_in}
+use Rattle.run_rules.specs.Stands.{FilesStand}
 use Rattle.run_causes.specs.declared.cause.Cause.{Cause}
 use Rattle.run_laws.specs.Leaves.{AllAnswered, IsHalfSaid}
 use Rattle.site_model.specs.History.{Step, content_of, tape, back_to, IsImage}

@@ -6,10 +6,10 @@ use Rattle.commit_log.specs.Segment.{first_gate}
 use Rattle.dura_model.specs.Partition.{Partition}
 use Rattle.dura_value.specs.Items.{Entry}
 use Rattle.engine_run.specs.Job.{Job, FilesKeep, AreGivenIn}
-use Rattle.part_files.specs.Kept.{nothing, kept_in, first_of, decoded}
-use Rattle.part_files.specs.Logs.{first_log, second_log, logs_in, entries_in}
-use Rattle.part_files.specs.Placing.{labels_in}
-use Rattle.part_files.specs.Stands.{alone_with, FilesStand}
+use Rattle.part_items.specs.Kept.{nothing, kept_in, first_of, decoded}
+use Rattle.part_items.specs.Logs.{first_log, second_log, logs_in, entries_in, alone_with}
+use Rattle.dura_model.specs.Entries.{labels_in}
+use Rattle.run_rules.specs.Stands.{FilesStand}
 use Rattle.run_laws.specs.Begins.{header_with}
 use Rattle.site_model.specs.History.{Step, changes_of, content_of, tape, Leaves, IsImage}
 use Rattle.site_model.specs.Moments.{Always}

@@ -6,7 +6,7 @@ use Rattle.dura_value.specs.Items.{Entry}
 use Rattle.engine_run.specs.Job.{Job}
 use Rattle.hub_store.specs.Frames.{goes_on}
 use Rattle.hub_store.specs.Origin.{Log, Origin}
-use Rattle.part_files.specs.Kept.{first_of, decoded}
+use Rattle.part_items.specs.Kept.{first_of, decoded}
 use Rattle.run_laws.specs.Begins.{header_with}
 use Rattle.run_rules.specs.Rules.{Rules}
 use Rattle.site_model.specs.History.{Step, content_of}

@@ -5,7 +5,7 @@ use Rattle.engine_run.specs.Job.{Job, FilesKeep}
 use Rattle.engine_run.specs.Opened.{IsOpened}
 use Rattle.engine_run.specs.declared.prepared.Prepared.{Prepared}
 use Rattle.flow_syntax.specs.Views.{flows_of}
-use Rattle.part_files.specs.Placing.{next_life}
+use Rattle.dura_model.specs.Entries.{next_life}
 use Rattle.part_steps.specs.States.{state_of, count_of, IsSound}
 use Rattle.request_reader.specs.Line.{request_of}
 use Rattle.run_causes.specs.declared.cause.Cause.{Cause}

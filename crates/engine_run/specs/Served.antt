@@ -8,8 +8,7 @@ use Rattle.dura_model.specs.World.{World}
 use Rattle.dura_value.specs.Ids.{client}
 use Rattle.engine_run.specs.Order.{no_later}
 use Rattle.hub_store.specs.Trail.{Settled, of_part}
-use Rattle.part_files.specs.Placing.{placed}
-use Rattle.part_files.specs.Stands.{shown_by}
+use Rattle.dura_model.specs.Entries.{placed, shown_by}
 use Rattle.request_reader.specs.Line.{Request}
 use Rattle.run_causes.specs.declared.cause.Cause.{Cause}
 use Rattle.run_causes.specs.declared.cause.Cause.TheVariants.{Done, Waiting, Long, Full}

@@ -19,10 +19,9 @@ use Rattle.part_items.specs.declared.frames.Entry as rows
 use Rattle.part_items.specs.Plain.{entries_of}
 use Rattle.part_items.specs.Numbered.{behind_all, next_frame_in}
 use Rattle.part_items.specs.Spelling.{spell_frame}
-use Rattle.part_files.specs.Kept.{first_of}
+use Rattle.part_items.specs.Kept.{first_of, decoded}
 use Rattle.hub_store.specs.declared.way.Way.{Way}
 use Rattle.hub_store.specs.declared.way.Way.TheVariants as ways
-use Rattle.part_files.specs.Kept.{decoded}
 use Rattle.hub_store.specs.Moments.{before_syncs, WroteGate}
 use Rattle.hub_store.specs.Origin.{Origin}
 use Rattle.hub_store.specs.Trail.{Settled, Said, of_part}

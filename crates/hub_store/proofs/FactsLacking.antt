@@ -8,8 +8,8 @@ use Rattle.dura_codec.specs.Fields.{request_number_at, several_at, run_at, count
 use Rattle.dura_codec.specs.Grammar.{word_size_at, name_at, key_at, text_at, scalar_at, scalars_at, value_front, value_at, id_at, reply_at, answer_at, spot_at, spot_count_at, lock_at, start_at, raise_at, query_at, wait_at, result_at, operate_at, granted_at, body_at, message_at, outcome_at}
 use Rattle.part_items.specs.Grammar.{took_at, item_at, members_at, entry_items_at}
 use Rattle.part_items.specs.Numbered.{place_at, life_at, next_entry_at, next_entries_at, next_frame_at}
-use Rattle.part_files.specs.Examples.{empty_log, taking, taking_log}
-use Rattle.part_files.specs.Kept.{entries_from, keeps, kept_in}
+use Rattle.part_items.specs.Examples.{empty_log, taking, taking_log}
+use Rattle.part_items.specs.Kept.{entries_from, keeps, kept_in}
 use Rattle.hub_store.specs.Trail.{Settled, Said}
 use Rattle.hub_store.specs.Moments.SaidSoFar.{silent, settles as told_settles, says}
 use Rattle.hub_store.specs.Examples.{frame, settled_when, request, answer, speaking, one_log, IsTold, Stand, StandWith}

@@ -2,8 +2,8 @@
 use Rattle.std.proofs.Common.{◌≡◌, ℕ, inl, inr, List, [], ◌∷◌, slice_set, refl, sym, subst, ◌∙◌, arith}
 use Rattle.site_model.specs.History.{Change, wrote, synced, Leaves}
 use Rattle.commit_log.specs.Segment.{header_at, frame_at}
-use Rattle.part_files.specs.Examples.{empty_log}
-use Rattle.part_files.specs.Kept.{entries_from, broken, keeps, kept_in}
+use Rattle.part_items.specs.Examples.{empty_log}
+use Rattle.part_items.specs.Kept.{entries_from, broken, keeps, kept_in}
 use Rattle.hub_store.specs.Moments.SaidSoFar.{silent}
 use Rattle.hub_store.specs.Examples.{settled_when, log_written, gate_opened, gate_synced, one_log, LogStands, GateWritten}
 

@@ -8,9 +8,8 @@ use Rattle.commit_log.specs.States.{IsSynced}
 use Rattle.commit_log.proofs.Written.{reads_closed}
 use Rattle.dura_value.specs.Items.{Entry}
 use Rattle.part_items.specs.Numbered.{Next, behind, behind_all, next_frame_in}
-use Rattle.part_files.proofs.PayloadsKept.{reading_kept}
-use Rattle.part_files.specs.Kept.{in_file, first_of, keeps, kept_in}
-use Rattle.part_files.specs.Kept.{decoded}
+use Rattle.part_items.proofs.PayloadsKept.{reading_kept}
+use Rattle.part_items.specs.Kept.{in_file, first_of, keeps, kept_in, decoded}
 
 -- an image with these payloads keeps their entries
 pub kept_payloads : (h : Header) (payloads : List (List ℕ)) (gate : ℕ) (entries : List Entry) (image : List ℕ) → reading_of image ≡ segment h payloads gate

@@ -15,12 +15,11 @@ use Rattle.commit_log.proofs.Steps.{resting_images}
 use Rattle.commit_log.specs.declared.states.Resting.{Resting}
 use Rattle.dura_value.specs.Items.{Entry}
 use Rattle.part_items.specs.Spelling.{spell_frame}
-use Rattle.part_files.specs.Kept as kept
-use Rattle.part_files.specs.Kept.{first_of}
+use Rattle.part_items.specs.Kept as kept
+use Rattle.part_items.specs.Kept.{first_of, decoded}
 use Rattle.hub_store.specs.declared.way.Way.{Way}
 use Rattle.hub_store.specs.declared.way.Way.TheVariants as places
 use Rattle.hub_store.specs.declared.way.Way.TheVariants.{Away}
-use Rattle.part_files.specs.Kept.{decoded}
 use Rattle.hub_store.specs.Origin.{Origin, AreApart}
 use Rattle.hub_store.specs.Trail.{Settled, Said, of_part, settling}
 use Rattle.hub_store.specs.Moments.{WroteGate, LeavesLog, StandsWith}

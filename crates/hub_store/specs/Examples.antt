@@ -3,7 +3,7 @@
 use Rattle.std.specs.Prelude.{◌≡◌, ◌<◌, ℕ, List, [], ◌∷◌, length, codes}
 use Rattle.site_model.specs.History.{Step, on, said, synced, wrote, changes_of}
 use Rattle.dura_value.specs.Items.{Entry}
-use Rattle.part_files.specs.Examples.{digest, empty_log}
+use Rattle.part_items.specs.Examples.{digest, empty_log}
 use Rattle.hub_store.specs.Origin.{no_entry, Origin}
 use Rattle.hub_store.specs.Trail.{Settled, Said}
 use Rattle.hub_store.specs.Moments.{WroteGate, SaidSoFar, StandsWith, StoreStands, AtEveryMoment}

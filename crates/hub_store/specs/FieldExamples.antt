@@ -2,7 +2,7 @@
 use Rattle.std.specs.Prelude.{◌≡◌, ℕ, List, [], ◌∷◌, ◌++◌}
 use Rattle.site_model.specs.History.{Change, Step, said, synced, wrote}
 use Rattle.dura_value.specs.Items.{Entry}
-use Rattle.part_files.specs.Examples.{empty_log, taking, taking_frame}
+use Rattle.part_items.specs.Examples.{empty_log, taking, taking_frame}
 use Rattle.hub_store.specs.Trail.{Settled, Said}
 use Rattle.hub_store.specs.Moments.{SaysNext, KeepsNext, WroteGate}
 use Rattle.hub_store.specs.Examples.{MayFollow, MaySay, one_log}

@@ -3,7 +3,7 @@ use Rattle.std.specs.Prelude.{◌≡◌, ℕ, ◌+◌, List, ◌++◌, length, O
 use Rattle.dura_value.specs.Items.{Entry}
 use Rattle.part_items.specs.Numbered.{Next, behind_all, next_frame_in}
 use Rattle.part_items.specs.Spelling.{spell_frame, CanSpellFrame}
-use Rattle.part_files.specs.Kept.{first_of}
+use Rattle.part_items.specs.Kept.{first_of}
 use Rattle.hub_store.specs.Origin.{Log}
 use Rattle.hub_store.specs.declared.way.Way.{Way}
 use Rattle.hub_store.specs.declared.way.Way.TheVariants.{Resting}

@@ -2,7 +2,7 @@
 use Rattle.std.specs.Prelude.{◌≡◌, ◌⊎◌, ℕ, ◌<◌, ◌≤◌, List, [], ◌∷◌, ◌++◌, length}
 use Rattle.site_model.specs.History.{Change, wrote, synced, Step, said, changes_of, reads, tape, back_to, Leaves}
 use Rattle.dura_value.specs.Items.{Entry}
-use Rattle.part_files.specs.Kept.{keeps, kept_in}
+use Rattle.part_items.specs.Kept.{keeps, kept_in}
 use Rattle.hub_store.specs.Origin.{Log, Origin, IsNoLog}
 use Rattle.hub_store.specs.Trail.{Settled, Said, of_part, settled_at, settling}
 

@@ -4,8 +4,7 @@ use Rattle.site_model.specs.History.{Step, changes_of}
 use Rattle.commit_log.specs.declared.states.Resting.{Resting}
 use Rattle.commit_log.specs.Segment.{first_gate}
 use Rattle.commit_log.specs.States.{IsResting}
-use Rattle.part_files.specs.Kept.{first_of}
-use Rattle.part_files.specs.Kept.{decoded}
+use Rattle.part_items.specs.Kept.{first_of, decoded}
 use Rattle.hub_store.specs.Origin.{Origin, AreApart}
 
 -- each partition has a log of its own, whose payloads keep its entries

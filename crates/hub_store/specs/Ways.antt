@@ -7,12 +7,11 @@ use Rattle.commit_log.specs.States.{IsResting, IsBodied, IsSynced, IsGated, IsBr
 use Rattle.dura_value.specs.Items.{Entry}
 use Rattle.part_items.specs.Plain.{entries_of}
 use Rattle.part_items.specs.Spelling.{spell_frame}
-use Rattle.part_files.specs.Kept.{first_of}
+use Rattle.part_items.specs.Kept.{first_of, decoded}
 use Rattle.hub_store.specs.declared.way.Way.{Way}
 use Rattle.hub_store.specs.declared.way.Way.TheVariants.{Resting, Bodied, Synced, Gated, Broken, Away}
 use Rattle.hub_store.specs.declared.way.Stage.{Stage}
 use Rattle.hub_store.specs.declared.way.Stage.TheVariants as stages
-use Rattle.part_files.specs.Kept.{decoded}
 use Rattle.hub_store.specs.Origin.{Log}
 
 -- the call that the frame has come to

@@ -2,7 +2,7 @@
 //! do nothing.
 
 ghost use Rattle.std.specs.Prelude.{[], ◌∷◌};
-ghost use Rattle.part_files.specs.Examples.{empty_log, taking, taking_log};
+ghost use Rattle.part_items.specs.Examples.{empty_log, taking, taking_log};
 ghost use Rattle.hub_store.specs.Examples.{settled_when, request, answer, speaking, IsTold, Stand, StandWith};
 ghost use Rattle.hub_store.specs.Short.{IsShort};
 ghost use Rattle.hub_store.specs.FieldExamples.{wrong_byte, IsNext, TakingFollows, NoneFollows, frame_opened, body_written, other_byte, HasNext, WroteBehind};

@@ -5,7 +5,7 @@ use Rattle.std.proofs.lemmas.List.Elements.{All-from_recursion}
 use Rattle.dura_value.specs.Items.{Entry}
 use Rattle.part_items.specs.Numbered.{Next, behind_all}
 use Rattle.part_items.specs.ItemFits.{FitsItem, FitsEntry, FitsFrame}
-use Rattle.part_files.specs.Kept.{first_of}
+use Rattle.part_items.specs.Kept.{first_of}
 use Rattle.hub_store.specs.Origin.{Log}
 use Rattle.hub_store.specs.Trail.{Settled, of_part, settling}
 use Rattle.site_model.specs.declared.site.Site as sites

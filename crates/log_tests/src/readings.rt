@@ -1,6 +1,6 @@
 // Segments, and what they are read as.
 use commit_log::{Header, OpenError as WholeError, Payload, read_log};
-use log_reader::{FrameError, LogReader, Next, OpenError, open_log};
+use commit_log::{FrameError, LogReader, Next, OpenError, open_log};
 use site_memory::{Kind, MemorySite};
 use std::alloc::Global;
 use std::process::Abort;

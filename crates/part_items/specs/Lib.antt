@@ -1,7 +1,10 @@
 pub mod Coming
+pub mod Examples
 pub mod Fits
 pub mod Grammar
 pub mod ItemFits
+pub mod Kept
+pub mod Logs
 pub mod Numbered
 pub mod Plain
 pub mod Spelling

@@ -8,6 +8,8 @@
 //! - `again` says that values, ids, messages and their parts are read again, `apart` that their spellings stand apart, and
 //!   `frames_again` says both of items and frames; `only` says that nothing else is read, `may_write` that what is within the
 //!   limits may be written, and `next_frames` says of a log's next frame what its numbers add.
+//! - `specs/Kept` is what one log file keeps, and `specs/Logs` which log a partition has in its two files, and why they are refused;
+//!   `kept` are laws of these, and `kept_examples` what they say of single files (`specs/Examples`).
 #![tactic(auto)]
 
 mod again;
@@ -16,6 +18,8 @@ mod fits;
 mod frames;
 mod frames_again;
 mod items;
+mod kept;
+mod kept_examples;
 mod may_write;
 mod next_frames;
 mod numbered;

@@ -18,7 +18,7 @@ use Rattle.dura_value.specs.declared.outcome.Outcome.{Outcome}
 use Rattle.flow_syntax.specs.Syntax.{Flows}
 use Rattle.activity_table.specs.Table.{may}
 use Rattle.dura_model.specs.Placed.{IsGiven}
-use Rattle.part_files.specs.Placing.{all_accepted}
+use Rattle.dura_model.specs.Entries.{all_accepted}
 use Rattle.part_items.specs.Plain.{item_of, items_of}
 use Rattle.part_items.specs.declared.items.Item.{Item as OwnItem}
 use Rattle.part_steps.specs.States.{state_of}

@@ -5,7 +5,7 @@ use Rattle.std.proofs.lemmas.List.Elements.{All-cons}
 use Rattle.std.specs.List.{All}
 use Rattle.std.specs.Option.{option_and_then}
 use Rattle.std.specs.Prelude.{max}
-use Rattle.commit_log.specs.Segment.{◌>>=◌}
+use Rattle.dura_value.specs.Reading.{◌>>=◌}
 use Rattle.dura_model.specs.Partition.{Partition, enter, accepted, with_part}
 use Rattle.dura_model.specs.Placed.{AreShown}
 use Rattle.dura_model.specs.Steps.{Label}
@@ -16,11 +16,13 @@ use Rattle.part_items.specs.ItemFits.{FitsEntry}
 use Rattle.hub_store.specs.Frames.{goes_on, GoesBehind}
 use Rattle.hub_store.proofs.FramesGo.{frame_goes}
 use Rattle.hub_store.specs.Origin.{Log}
-use Rattle.part_files.specs.Kept.{first_of}
-use Rattle.part_files.specs.Placing.{placed, or_place, state_next, all_accepted, and_label, labels_of, labels_in}
-use Rattle.part_files.proofs.Alone.{are_shown_alone, accepted_is_step}
-use Rattle.part_files.proofs.Appending.{behind_both, labels_both}
-use Rattle.part_files.proofs.EntriesLead.{entries_lead}
+use Rattle.part_items.specs.Kept.{first_of}
+use Rattle.dura_model.specs.Entries.{placed, or_place, all_accepted, and_label, labels_of, labels_in}
+use Rattle.run_rules.specs.Stands.{state_next}
+use Rattle.dura_model.proofs.Alone.{are_shown_alone, accepted_is_step}
+use Rattle.part_items.proofs.Behind.{behind_both}
+use Rattle.dura_model.proofs.Appending.{labels_both}
+use Rattle.run_rules.proofs.EntriesLead.{entries_lead}
 use Rattle.part_items.specs.Numbered.{Next, IsNumbered, behind, behind_all}
 use Rattle.run_rules.specs.Rules.{Rules, Told, IsOurs, EndsPending, Follows}
 use Rattle.part_rounds.specs.Comes.{count_labels}

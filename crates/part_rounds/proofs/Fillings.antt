@@ -8,7 +8,7 @@ use Rattle.dura_model.specs.Placed.{IsGiven}
 use Rattle.dura_value.specs.Items.{Item, took, got, ran, ended, fired, trim}
 use Rattle.dura_value.specs.Messages.{Body}
 use Rattle.flow_syntax.specs.Syntax.{Flows}
-use Rattle.part_files.specs.Placing.{all_accepted, AreGiven}
+use Rattle.dura_model.specs.Entries.{all_accepted, AreGiven}
 use Rattle.part_steps.specs.Enabled.{Makes, is_at}
 use Rattle.part_steps.specs.Enabled.Makes.{nothing, one_more}
 use Rattle.part_steps.specs.Outputs.{Outputs}

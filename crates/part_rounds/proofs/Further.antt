@@ -10,7 +10,7 @@ use Rattle.hub_store.specs.declared.stop.Stop.TheVariants.{Memory, Spent}
 use Rattle.part_rounds.specs.Further.{IsPending, GoesFurther}
 use Rattle.part_rounds.specs.Rounds.{IsFilled, StateStands}
 use Rattle.part_rounds.specs.Commits.{IsFull, IsSpent}
-use Rattle.part_files.specs.Placing.{placed}
+use Rattle.dura_model.specs.Entries.{placed}
 use Rattle.part_rounds.specs.Fills.{Fills}
 use Rattle.hub_store.specs.declared.way.Way.{Way}
 use Rattle.part_rows.specs.Timers.{IsNext}

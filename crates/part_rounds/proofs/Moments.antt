@@ -17,7 +17,7 @@ use Rattle.flow_syntax.specs.Entity.{Entity, Delivered, takes, deliver as delive
 use Rattle.flow_syntax.specs.Machine.{Event, Asked, an_activity, a_timer, resulted}
 use Rattle.flow_syntax.specs.Machine.{fired as timer_fired}
 use Rattle.flow_syntax.specs.Syntax.{Flows}
-use Rattle.part_files.specs.Placing.{all_accepted}
+use Rattle.dura_model.specs.Entries.{all_accepted}
 use Rattle.part_steps.specs.Enabled.{Makes, is_at, moment_at}
 use Rattle.part_steps.specs.Enabled.Makes.{nothing, one_more}
 use Rattle.part_items.specs.Plain.{item_of}

@@ -4,7 +4,7 @@ use Rattle.std.proofs.lemmas.Bool.{leb-true}
 use Rattle.std.proofs.lemmas.List.Elements.{All-append, All-cons}
 use Rattle.std.specs.List.{All}
 use Rattle.std.specs.Prelude.{cond, max, nat_le, ◌&&◌}
-use Rattle.commit_log.specs.Segment.{◌>>=◌}
+use Rattle.dura_value.specs.Reading.{◌>>=◌}
 use Rattle.dura_model.specs.Partition.{Partition, accepted, enter, fired_in, instance_at}
 use Rattle.dura_model.specs.World.{Orchestration}
 use Rattle.dura_value.specs.Ids.{Id}
@@ -13,8 +13,8 @@ use Rattle.dura_value.specs.declared.data.Value.{Value}
 use Rattle.dura_value.specs.declared.outcome.Outcome.{Outcome}
 use Rattle.flow_syntax.specs.Syntax.{Flows}
 use Rattle.hub_store.specs.Trail.{Said}
-use Rattle.part_files.specs.Placing.{placed, or_place, all_accepted}
-use Rattle.part_files.proofs.Appending.{placed_both}
+use Rattle.dura_model.specs.Entries.{placed, or_place, all_accepted}
+use Rattle.dura_model.proofs.Appending.{placed_both}
 use Rattle.part_rounds.specs.InTime.{IsAt, AreAt, FillsAt, GoesByClock, FiresDue, FireDue, latest_of, FiresInTime}
 use Rattle.part_rounds.specs.InTime.GoesByClock.{begins, reads, settles, says}
 use Rattle.part_rounds.proofs.Moments.{moment_of as item_moment, raised_max, stamp_after, both_some, items_by}

@@ -10,7 +10,7 @@ use Rattle.part_items.specs.Plain.{items_of}
 use Rattle.part_rounds.specs.Fills.{IsUnderWay, Fills, IsIdle}
 use Rattle.part_rounds.specs.Further.{Stirs, GoesFurther}
 use Rattle.hub_store.specs.Origin.{Log}
-use Rattle.part_files.specs.Placing.{labels_in}
+use Rattle.dura_model.specs.Entries.{labels_in}
 use Rattle.part_rounds.specs.Rounds.{StateStands, NoneUnsaid, IsTimely}
 use Rattle.part_rounds.specs.declared.coming.Coming.{Coming}
 use Rattle.part_rounds.specs.declared.rounds.End.{End}

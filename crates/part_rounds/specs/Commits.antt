@@ -4,7 +4,7 @@ use Rattle.dura_model.specs.Partition.{Partition}
 use Rattle.dura_value.specs.Items.{Entry}
 use Rattle.hub_store.specs.Frames.{length_with}
 use Rattle.hub_store.specs.declared.way.Way.{Way}
-use Rattle.part_files.specs.Placing.{placed}
+use Rattle.dura_model.specs.Entries.{placed}
 use Rattle.part_rounds.specs.Further.{GoesFurther}
 use Rattle.run_rules.specs.Rules.{Rules, Told, Follows}
 

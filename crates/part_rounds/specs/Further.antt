@@ -4,7 +4,7 @@ use Rattle.dura_model.specs.Partition.{Partition, enter}
 use Rattle.dura_model.specs.Placed.{AreShown}
 use Rattle.dura_value.specs.Ids.{Id}
 use Rattle.dura_value.specs.Items.{Item, Entry}
-use Rattle.part_files.specs.Placing.{placed}
+use Rattle.dura_model.specs.Entries.{placed}
 use Rattle.part_rounds.specs.Fills.{Fills}
 use Rattle.run_rules.specs.Rules.{Rules, Told}
 

@@ -12,7 +12,7 @@ use Rattle.dura_value.specs.Messages.{Answer}
 use Rattle.hub_store.specs.Frames.{goes_on}
 use Rattle.hub_store.specs.Origin.{Log}
 use Rattle.hub_store.specs.Trail.{Said}
-use Rattle.part_files.specs.Placing.{placed}
+use Rattle.dura_model.specs.Entries.{placed}
 use Rattle.part_items.specs.Fits.{FitsCount}
 use Rattle.part_items.specs.ItemFits.{FitsItem}
 use Rattle.part_items.specs.Tags.{most_members}

@@ -9,7 +9,7 @@ ghost use Rattle.dura_value.specs.declared.outcome.Outcome.{Outcome};
 ghost use Rattle.hub_store.specs.Frames.{goes_on};
 ghost use Rattle.hub_store.specs.Origin.{Log};
 ghost use Rattle.hub_store.specs.Trail.{Said};
-ghost use Rattle.part_files.specs.Placing.{placed};
+ghost use Rattle.dura_model.specs.Entries.{placed};
 ghost use Rattle.part_items.specs.Numbered.{IsNumbered};
 ghost use Rattle.part_rounds.specs.Comes.{count_labels};
 ghost use Rattle.part_rounds.specs.Fills.{Fills};

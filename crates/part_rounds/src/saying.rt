@@ -6,7 +6,7 @@ ghost use Rattle.client_port.specs.Clients.{requests_of};
 ghost use Rattle.hub_store.specs.Changes.{trail_in, told_in};
 ghost use Rattle.hub_store.specs.Sound.{IsSound};
 ghost use Rattle.hub_store.specs.Trail.{of_part};
-ghost use Rattle.part_files.specs.Placing.{placed};
+ghost use Rattle.dura_model.specs.Entries.{placed};
 ghost use Rattle.hub_store.specs.Stops.{is_of_tape};
 ghost use Rattle.part_rounds.specs.Rounds.{pairs_of, HasSaid, KeepsDue, next_answer};
 ghost use Rattle.part_rounds.specs.Turns.{SaysOwn, SaysInTurn};

@@ -1,7 +1,7 @@
 -- Entries are placed one after another.
 use Rattle.std.proofs.Common.{◌≡◌, ◌∙◌, ℕ, ◌+◌, ◌≤◌, List, [], ◌∷◌, ◌++◌, Option, Some, None, Result, Ok, Err, refl, sym, ap, subst, length-append, arith}
 use Rattle.std.specs.Option.{option_and_then}
-use Rattle.commit_log.specs.Segment.{◌>>=◌}
+use Rattle.dura_value.specs.Reading.{◌>>=◌}
 use Rattle.dura_value.specs.Items.{Item, Entry}
 use Rattle.flow_syntax.specs.Syntax.{Flows}
 use Rattle.dura_model.specs.Partition.{Partition, fresh, enter, accepted}
@@ -9,8 +9,9 @@ use Rattle.part_items.specs.Numbered.{Next, behind_all}
 use Rattle.part_items.specs.Plain.{next_of}
 use Rattle.part_steps.specs.declared.state.PartState.{PartState}
 use Rattle.part_steps.specs.States.{IsSound, state_of, count_of}
-use Rattle.part_files.specs.Placing.{all_accepted, entry_accepted, or_place, placed, life_behind}
-use Rattle.part_files.proofs.Appending.{placed_both, behind_both}
+use Rattle.dura_model.specs.Entries.{all_accepted, entry_accepted, or_place, placed, life_behind}
+use Rattle.dura_model.proofs.Appending.{placed_both}
+use Rattle.part_items.proofs.Behind.{behind_both}
 use Rattle.recover_core.specs.declared.progress.Placing.{Placing}
 use Rattle.recover_core.specs.declared.progress.Placing.TheVariants.{On, Stuck}
 use Rattle.recover_core.specs.declared.progress.Progress.{Progress}

@@ -7,16 +7,15 @@ use Rattle.site_model.proofs.Paths.{own_change}
 use Rattle.commit_log.specs.declared.header.Header.{Header}
 use Rattle.commit_log.specs.declared.states.Resting.{Resting}
 use Rattle.commit_log.specs.Segment.{first_gate}
-use Rattle.log_reader.specs.declared.reader.LogReader.{LogReader}
-use Rattle.log_reader.specs.declared.reader.FrameError.{FrameError}
-use Rattle.log_reader.specs.declared.reader.FrameError.TheVariants as unread
-use Rattle.log_reader.specs.Frames.{fresh, damaged, opening_of, HasRead}
-use Rattle.log_reader.specs.Outcomes.{Opens}
+use Rattle.commit_log.specs.declared.reader.LogReader.{LogReader}
+use Rattle.commit_log.specs.declared.reader.FrameError.{FrameError}
+use Rattle.commit_log.specs.declared.reader.FrameError.TheVariants as unread
+use Rattle.commit_log.specs.Frames.{fresh, damaged, opening_of, HasRead}
+use Rattle.commit_log.specs.Reading.{Opens}
 use Rattle.dura_value.specs.Items.{Entry}
 use Rattle.flow_syntax.specs.Syntax.{Flows}
-use Rattle.part_files.specs.Kept.{Kept, nothing, broken, keeps, kept_under, kept_from, left_from, first_of, kept_in}
-use Rattle.part_files.specs.Logs.{damaged_at, other_shape, other_flows, fault_of}
-use Rattle.part_files.specs.Stands.{alone_with}
+use Rattle.part_items.specs.Kept.{Kept, nothing, broken, keeps, kept_under, kept_from, left_from, first_of, kept_in}
+use Rattle.part_items.specs.Logs.{damaged_at, other_shape, other_flows, fault_of, alone_with}
 use Rattle.recover_core.specs.declared.progress.Progress.{Progress}
 use Rattle.recover_core.specs.Files.{IsOpened, ReadsAll, IsFound, SaysFile}
 use Rattle.recover_core.proofs.HeadersRead.{own_partition}

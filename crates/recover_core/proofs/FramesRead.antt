@@ -3,18 +3,18 @@ use Rattle.std.proofs.Common.{◌≡◌, ◌∙◌, ℕ, ◌+◌, List, [], ◌�
 use Rattle.site_model.specs.History.{Step, changes_of, content_of, IsKept}
 use Rattle.commit_log.specs.declared.header.Header.{Header}
 use Rattle.commit_log.specs.Segment.{◌>>=◌, first_gate}
-use Rattle.log_reader.specs.declared.reader.FrameError.{FrameError}
-use Rattle.log_reader.specs.declared.reader.FrameError.TheVariants as unread
-use Rattle.log_reader.specs.declared.reader.LogReader.{LogReader}
-use Rattle.log_reader.specs.Frames.{closed, frame, wrong, found_at, HasRead}
-use Rattle.log_reader.specs.Outcomes.{Goes}
+use Rattle.commit_log.specs.declared.reader.FrameError.{FrameError}
+use Rattle.commit_log.specs.declared.reader.FrameError.TheVariants as unread
+use Rattle.commit_log.specs.declared.reader.LogReader.{LogReader}
+use Rattle.commit_log.specs.Frames.{closed, frame, wrong, found_at, HasRead}
+use Rattle.commit_log.specs.Reading.{Goes}
 use Rattle.dura_value.specs.Items.{Entry}
 use Rattle.flow_syntax.specs.Syntax.{Flows}
 use Rattle.part_items.specs.Numbered.{Next, behind_all, next_frame_in}
 use Rattle.part_items.specs.Plain.{next_of}
-use Rattle.part_files.specs.Kept.{in_file, left_from, first_of}
-use Rattle.part_files.proofs.Appending.{behind_both}
-use Rattle.part_files.proofs.FrameByFrame.{left_frame, left_closed, left_wrong}
+use Rattle.part_items.specs.Kept.{in_file, left_from, first_of}
+use Rattle.part_items.proofs.Behind.{behind_both}
+use Rattle.part_items.proofs.FrameByFrame.{left_frame, left_closed, left_wrong}
 use Rattle.recover_core.specs.declared.progress.Progress.{Progress}
 use Rattle.recover_core.specs.declared.reading.Reading.{Reading}
 use Rattle.recover_core.specs.declared.reading.Turn.{Turn}

@@ -3,7 +3,7 @@ use Rattle.std.proofs.Common.{◌≡◌, ◌∙◌, ℕ, ◌^◌, List, [], ◌�
 use Rattle.std.specs.Int.{w32, w64}
 use Rattle.commit_log.specs.declared.header.Header.{Header}
 use Rattle.commit_log.specs.Segment.{◌>>=◌, open_gate, signature, constant_at, number_at, header_at}
-use Rattle.log_reader.specs.Frames.{fresh, headed, header_for, opening_from, opening_of}
+use Rattle.commit_log.specs.Frames.{fresh, headed, header_for, opening_from, opening_of}
 
 -- a step that went well had something to go on from
 step : {A B : Type 0} (r : Result A ℕ) (f : A → Result B ℕ) (b : B) → (r >>= f) ≡ Ok b → (a : A) × (r ≡ Ok a) × (f a ≡ Ok b)

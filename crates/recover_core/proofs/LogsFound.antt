@@ -13,10 +13,9 @@ use Rattle.flow_syntax.specs.Syntax.{Flows}
 use Rattle.dura_model.specs.Partition.{Partition, fresh}
 use Rattle.part_steps.specs.declared.state.PartState.{PartState}
 use Rattle.part_steps.specs.States.{IsSound, state_of, count_of}
-use Rattle.part_files.specs.Kept.{Kept, nothing, keeps, first_of, kept_in}
-use Rattle.part_files.specs.Logs.{Refusal, Logs, no_log, log_in, fault_of, late_base, or_else, first_fault, the_log, unless, logs_of, logs_in, entries_in}
-use Rattle.part_files.specs.Placing.{placed, next_life}
-use Rattle.part_files.specs.Stands.{alone_with}
+use Rattle.part_items.specs.Kept.{Kept, nothing, keeps, first_of, kept_in}
+use Rattle.part_items.specs.Logs.{Refusal, Logs, no_log, log_in, fault_of, late_base, or_else, first_fault, the_log, unless, logs_of, logs_in, entries_in, alone_with}
+use Rattle.dura_model.specs.Entries.{placed, next_life}
 use Rattle.recover_core.specs.declared.error.RecoverError.{RecoverError}
 use Rattle.recover_core.specs.declared.error.RecoverError.TheVariants.{Damaged, OtherShape, OtherFlows, Illegal, Spent, SiteFault, Memory}
 use Rattle.recover_core.specs.declared.files.Found.{Found}

@@ -6,9 +6,9 @@ use Rattle.dura_model.specs.Legal.{Legal}
 use Rattle.dura_model.specs.Partition.{Partition, fresh}
 use Rattle.dura_model.specs.Steps.{Label}
 use Rattle.part_steps.specs.States.{state_of}
-use Rattle.part_files.specs.Logs.{Logs, Refusal, refused, entries_in, logs_in}
-use Rattle.part_files.specs.Placing.{placed}
-use Rattle.part_files.specs.Stands.{FilesStand, alone_with, shown_by}
+use Rattle.part_items.specs.Logs.{Logs, Refusal, refused, entries_in, logs_in, alone_with}
+use Rattle.dura_model.specs.Entries.{placed, shown_by}
+use Rattle.run_rules.specs.Stands.{FilesStand}
 use Rattle.recover_core.specs.declared.error.RecoverError.{RecoverError}
 use Rattle.recover_core.specs.declared.error.RecoverError.TheVariants.{Damaged, OtherShape, OtherFlows, Illegal, Spent, SiteFault, Memory}
 use Rattle.recover_core.specs.declared.recovery.Recovered.{Recovered}

@@ -2,8 +2,8 @@
 use Rattle.std.proofs.Common.{◌≡◌, ◌≢◌, ◌∙◌, ℕ, List, Some, refl, sym}
 use Rattle.commit_log.specs.declared.header.Header.{Header}
 use Rattle.dura_value.specs.Items.{Entry}
-use Rattle.part_files.specs.Kept.{keeps}
-use Rattle.part_files.specs.Logs.{damaged_at, late_base}
+use Rattle.part_items.specs.Kept.{keeps}
+use Rattle.part_items.specs.Logs.{damaged_at, late_base}
 use Rattle.recover_core.specs.Chosen.{tied_fault}
 use Rattle.recover_core.proofs.FilesFound.{is_one, is_other}
 

@@ -4,9 +4,9 @@ use Rattle.dura_value.specs.Items.{Entry}
 use Rattle.flow_syntax.specs.Syntax.{Flows}
 use Rattle.dura_model.specs.Partition.{Partition, fresh}
 use Rattle.part_steps.specs.States.{IsSound, state_of, count_of}
-use Rattle.part_files.specs.Kept.{Kept, nothing, keeps}
-use Rattle.part_files.specs.Logs.{Refusal, same_base, late_base, or_else}
-use Rattle.part_files.specs.Placing.{placed, next_life}
+use Rattle.part_items.specs.Kept.{Kept, nothing, keeps}
+use Rattle.part_items.specs.Logs.{Refusal, same_base, late_base, or_else}
+use Rattle.dura_model.specs.Entries.{placed, next_life}
 use Rattle.recover_core.specs.declared.error.RecoverError.{RecoverError}
 use Rattle.recover_core.specs.declared.error.RecoverError.TheVariants.{Illegal, Spent}
 use Rattle.recover_core.specs.declared.files.LogFile.{LogFile}

@@ -5,10 +5,10 @@ use Rattle.commit_log.specs.declared.header.Header.{Header}
 use Rattle.commit_log.specs.Segment.{◌>>=◌, first_gate}
 use Rattle.commit_log.specs.Outcomes.{RestsAs}
 use Rattle.commit_log.specs.declared.states.Resting.{Resting}
-use Rattle.log_reader.specs.Frames.{HasRead}
-use Rattle.log_reader.specs.declared.reader.FrameError.{FrameError}
-use Rattle.log_reader.specs.declared.reader.LogReader.{LogReader}
-use Rattle.log_reader.specs.declared.reader.FrameError.TheVariants as unread
+use Rattle.commit_log.specs.Frames.{HasRead}
+use Rattle.commit_log.specs.declared.reader.FrameError.{FrameError}
+use Rattle.commit_log.specs.declared.reader.LogReader.{LogReader}
+use Rattle.commit_log.specs.declared.reader.FrameError.TheVariants as unread
 use Rattle.dura_value.specs.declared.faults.ReadError.{ReadError}
 use Rattle.dura_value.specs.declared.faults.ReadError.TheVariants.{Bad, Memory}
 use Rattle.dura_value.specs.Items.{Entry}
@@ -16,10 +16,9 @@ use Rattle.flow_syntax.specs.Syntax.{Flows}
 use Rattle.dura_model.specs.Partition.{fresh}
 use Rattle.part_items.specs.Numbered.{Next, behind_all, next_frame_in}
 use Rattle.part_items.specs.Plain.{next_of}
-use Rattle.part_files.specs.Kept.{nothing, broken, keeps, in_file, left_from, first_of, kept_in}
-use Rattle.part_files.specs.Logs.{fault_of}
-use Rattle.part_files.specs.Placing.{placed, next_life}
-use Rattle.part_files.specs.Stands.{alone_with}
+use Rattle.part_items.specs.Kept.{nothing, broken, keeps, in_file, left_from, first_of, kept_in}
+use Rattle.part_items.specs.Logs.{fault_of, alone_with}
+use Rattle.dura_model.specs.Entries.{placed, next_life}
 use Rattle.recover_core.specs.declared.error.RecoverError.{RecoverError}
 use Rattle.recover_core.specs.declared.files.LogFile.{LogFile}
 use Rattle.recover_core.specs.declared.files.LogFile.TheVariants.{Fresh, Log}

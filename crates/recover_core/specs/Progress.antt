@@ -1,6 +1,6 @@
 -- How far the entries of a log were placed.
 use Rattle.std.specs.Prelude.{◌≡◌, ℕ, ◌+◌, ◌≤◌, List, [], ◌∷◌, length, Option, Some, None, Result, Ok, Err}
-use Rattle.commit_log.specs.Segment.{◌>>=◌}
+use Rattle.dura_value.specs.Reading.{◌>>=◌}
 use Rattle.dura_value.specs.Items.{Entry}
 use Rattle.flow_syntax.specs.Syntax.{Flows}
 use Rattle.dura_model.specs.Partition.{Partition, fresh}
@@ -8,7 +8,7 @@ use Rattle.part_items.specs.Numbered.{Next, behind_all}
 use Rattle.part_items.specs.Plain.{next_of}
 use Rattle.part_steps.specs.declared.state.PartState.{PartState}
 use Rattle.part_steps.specs.States.{IsSound, state_of, count_of}
-use Rattle.part_files.specs.Placing.{placed, life_behind, next_life}
+use Rattle.dura_model.specs.Entries.{placed, life_behind, next_life}
 use Rattle.recover_core.specs.declared.progress.Placing.{Placing}
 use Rattle.recover_core.specs.declared.progress.Placing.TheVariants.{On, Stuck}
 use Rattle.recover_core.specs.declared.progress.Progress.{Progress}

@@ -10,10 +10,9 @@ use Rattle.dura_model.specs.Partition.{Partition, fresh}
 use Rattle.dura_model.specs.Legal.{Legal}
 use Rattle.dura_model.specs.Steps.{Label}
 use Rattle.part_steps.specs.States.{IsSound, state_of, count_of}
-use Rattle.part_files.specs.Kept.{first_of}
-use Rattle.part_files.specs.Logs.{Logs, refused, no_log, log_in, damaged_at, other_shape, other_flows, logs_in, entries_in}
-use Rattle.part_files.specs.Placing.{placed, next_life}
-use Rattle.part_files.specs.Stands.{alone_with, shown_by}
+use Rattle.part_items.specs.Kept.{first_of}
+use Rattle.part_items.specs.Logs.{Logs, refused, no_log, log_in, damaged_at, other_shape, other_flows, logs_in, entries_in, alone_with}
+use Rattle.dura_model.specs.Entries.{placed, next_life, shown_by}
 use Rattle.recover_core.specs.declared.error.RecoverError.{RecoverError}
 use Rattle.recover_core.specs.declared.error.RecoverError.TheVariants.{Damaged, OtherShape, OtherFlows, Illegal, Spent, SiteFault, Memory}
 use Rattle.recover_core.specs.declared.recovery.Recovered.{Recovered}

@@ -1,6 +1,6 @@
 -- Why log files are refused, as an error says it.
 use Rattle.std.specs.Prelude.{◌≡◌, ℕ, Option, Some}
-use Rattle.part_files.specs.Logs.{Refusal, damaged_at, other_shape, other_flows}
+use Rattle.part_items.specs.Logs.{Refusal, damaged_at, other_shape, other_flows}
 use Rattle.recover_core.specs.declared.error.RecoverError.{RecoverError}
 use Rattle.recover_core.specs.declared.error.RecoverError.TheVariants.{Damaged, OtherShape, OtherFlows, Illegal, Spent, SiteFault, Memory}
 

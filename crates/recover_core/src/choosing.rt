@@ -1,7 +1,7 @@
 // Which of the two files has the log.
 ghost use Rattle.std.specs.Prelude.{◌≡◌, ℕ, List, Err, IfOk, IfErr};
 ghost use Rattle.dura_value.specs.Items.{Entry};
-ghost use Rattle.part_files.specs.Logs.{late_base};
+ghost use Rattle.part_items.specs.Logs.{late_base};
 ghost use Rattle.recover_core.specs.Chosen.{kept_as, tied_fault, Chooses};
 ghost use Rattle.recover_core.specs.Refusals.{RefusesFiles};
 

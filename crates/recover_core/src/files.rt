@@ -3,9 +3,8 @@ ghost use Rattle.std.specs.Prelude.{◌≡◌, ◌⊎◌, ◌≤◌, ◌∷◌, 
 ghost use Rattle.site_model.specs.History.{on, synced};
 ghost use Rattle.site_model.specs.Calls.{HasRisen};
 ghost use Rattle.dura_value.specs.Items.{Entry};
-ghost use Rattle.part_files.specs.Kept.{keeps};
-ghost use Rattle.part_files.specs.Logs.{fault_of};
-ghost use Rattle.part_files.specs.Stands.{alone_with};
+ghost use Rattle.part_items.specs.Kept.{keeps};
+ghost use Rattle.part_items.specs.Logs.{fault_of, alone_with};
 ghost use Rattle.recover_core.specs.Files.{IsReadyFile, SaysFile, SaysFits};
 ghost use Rattle.recover_core.specs.Refusals.{RefusesFiles};
 
@@ -13,7 +12,7 @@ use crate::error::RecoverError;
 use crate::progress::Placing;
 use crate::reading::read_on;
 use commit_log::{Header, Resting};
-use log_reader::{FrameError, OpenError, open_log};
+use commit_log::{FrameError, OpenError, open_log};
 use part_rows::Reactions;
 use site_model::Site;
 use std::alloc::Global;

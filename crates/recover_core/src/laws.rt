@@ -3,7 +3,7 @@
 ghost use Rattle.std.specs.Prelude.{ℕ, List, Result};
 ghost use Rattle.flow_syntax.specs.Syntax.{Flows};
 ghost use Rattle.dura_model.specs.Steps.{Label};
-ghost use Rattle.part_files.specs.Stands.{FilesStand};
+ghost use Rattle.run_rules.specs.Stands.{FilesStand};
 ghost use Rattle.recover_core.specs.declared.error.RecoverError.{RecoverError};
 ghost use Rattle.recover_core.specs.declared.recovery.Recovered.{Recovered};
 ghost use Rattle.recover_core.specs.Recovering.{Recovers, IsNotRefused, ShowsRun};

@@ -3,7 +3,7 @@ ghost use Rattle.std.specs.Prelude.{◌<◌, ◌^◌, [], ◌∷◌, IfOk};
 ghost use Rattle.part_items.specs.Coming.{IsNext};
 ghost use Rattle.part_items.specs.Plain.{items_of, entry_of, next_of};
 ghost use Rattle.part_steps.specs.States.{IsSound, state_of, count_of};
-ghost use Rattle.part_files.specs.Placing.{all_accepted};
+ghost use Rattle.dura_model.specs.Entries.{all_accepted};
 ghost use Rattle.recover_core.specs.Progress.{Makes, GoesOnAs, PlacesOn, IsReady, IsReadyFor, position_in};
 
 use crate::progress::{Placing, Progress};

@@ -3,7 +3,7 @@ ghost use Rattle.std.specs.Prelude.{◌≡◌, ◌≤◌, ◌<◌, ◌+◌, ◌*
 ghost use Rattle.site_model.specs.History.{changes_of, content_of, IsKept};
 ghost use Rattle.site_model.specs.Calls.{HasRisen};
 ghost use Rattle.dura_value.specs.Items.{Entry};
-ghost use Rattle.log_reader.specs.Frames.{HasRead};
+ghost use Rattle.commit_log.specs.Frames.{HasRead};
 ghost use Rattle.part_items.specs.Numbered.{next_frame_in};
 ghost use Rattle.part_items.specs.Plain.{next_of};
 ghost use Rattle.recover_core.specs.Files.{IsInside, fault_behind, PlacesFrame, IsOpened, HasReadTo, CanGoOn, ReadsOn, RestsAfter, StaysThere, ReadsAll};
@@ -13,7 +13,7 @@ use crate::placing::place_entry;
 use crate::progress::{Placing, Progress};
 use commit_log::Resting;
 use dura_value::ReadError;
-use log_reader::{FrameError, LogReader, Next};
+use commit_log::{FrameError, LogReader, Next};
 use part_items::FrameReader;
 use part_rows::Reactions;
 use site_model::Site;

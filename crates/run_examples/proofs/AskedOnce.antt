@@ -8,7 +8,7 @@ use Rattle.dura_model.specs.Partition.{Partition, fresh, enter, post}
 use Rattle.dura_model.specs.World.{at_number}
 use Rattle.dura_value.specs.Items.{Entry, took}
 use Rattle.engine_run.proofs.Queues.{nothing_said}
-use Rattle.part_files.specs.Examples.{request, taking}
+use Rattle.part_items.specs.Examples.{request, taking}
 use Rattle.part_rounds.specs.InTime.{IsRun, FillsAt, GoesByClock, ReadsBehind}
 use Rattle.part_rounds.specs.InTime.GoesByClock.{begins, settles}
 use Rattle.part_rounds.specs.InTime.Reads.{asks}

@@ -5,10 +5,10 @@ use Rattle.dura_model.specs.Partition.{fresh}
 use Rattle.dura_model.specs.Steps.{Label}
 use Rattle.dura_value.specs.Items.{Entry}
 use Rattle.flow_syntax.specs.Syntax.{Flows}
-use Rattle.part_files.specs.Logs.{logs_in, entries_in}
-use Rattle.part_files.specs.Placing.{placed, AllGiven}
-use Rattle.part_files.specs.Stands.{alone_with, FilesStand}
-use Rattle.part_files.proofs.LogsNumbered.{entries_numbered}
+use Rattle.part_items.specs.Logs.{logs_in, entries_in, alone_with}
+use Rattle.dura_model.specs.Entries.{placed, AllGiven}
+use Rattle.run_rules.specs.Stands.{FilesStand}
+use Rattle.part_items.proofs.LogsNumbered.{entries_numbered}
 use Rattle.run_laws.proofs.Founding.{entries_founded}
 use Rattle.run_laws.specs.Leaves.{committed_in}
 

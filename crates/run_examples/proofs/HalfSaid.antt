@@ -18,10 +18,10 @@ use Rattle.hub_store.specs.Moments.{LogKeeps, SaidSoFar, StandsWith, StoreStands
 use Rattle.hub_store.specs.Moments.SaidSoFar.{silent, settles, says}
 use Rattle.hub_store.specs.Origin.{Origin}
 use Rattle.hub_store.specs.Trail.{Said, Settled}
-use Rattle.part_files.specs.Examples.{digest}
-use Rattle.part_files.specs.Kept.{entries_from, kept_in}
-use Rattle.part_files.specs.Logs.{second_log}
-use Rattle.part_files.specs.Placing.{AreGiven}
+use Rattle.part_items.specs.Examples.{digest}
+use Rattle.part_items.specs.Kept.{entries_from, kept_in}
+use Rattle.part_items.specs.Logs.{second_log}
+use Rattle.dura_model.specs.Entries.{AreGiven}
 use Rattle.part_items.specs.Grammar.{took_at, ran_at, item_at, members_at, entry_items_at}
 use Rattle.part_items.specs.Numbered.{place_at, life_at, next_entry_at, next_entries_at, next_frame_at}
 use Rattle.part_items.specs.Spelling.{spell_entry, spell_heading}

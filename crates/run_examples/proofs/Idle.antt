@@ -7,9 +7,9 @@ use Rattle.engine_run.specs.Picks.{rules_with}
 use Rattle.hub_store.specs.Examples.{one_log, log_written}
 use Rattle.hub_store.specs.Moments.{LogKeeps, StandsWith, StoreStands, AtEveryMoment}
 use Rattle.hub_store.specs.Moments.SaidSoFar.{silent}
-use Rattle.part_files.specs.Examples.{digest, empty_log}
-use Rattle.part_files.specs.Kept.{entries_from, kept_in}
-use Rattle.part_files.specs.Logs.{second_log}
+use Rattle.part_items.specs.Examples.{digest, empty_log}
+use Rattle.part_items.specs.Kept.{entries_from, kept_in}
+use Rattle.part_items.specs.Logs.{second_log}
 use Rattle.part_rounds.specs.InTime.GoesByClock.{begins as clock_begins}
 use Rattle.run_causes.specs.declared.cause.Cause.TheVariants.{Memory}
 use Rattle.run_examples.specs.Calls.{nothing_asked, no_flows, terms_by}

@@ -7,10 +7,9 @@ use Rattle.commit_log.specs.Segment.{frame_at as framed_at}
 use Rattle.dura_codec.specs.Fields.{request_number_at, several_at, run_at, count_at}
 use Rattle.dura_codec.specs.Grammar.{word_size_at, name_at, key_at, text_at, scalar_at, scalars_at, value_front, value_at, id_at, reply_at, answer_at, spot_at, spot_count_at, lock_at, start_at, raise_at, query_at, wait_at, result_at, operate_at, granted_at, body_at, message_at, outcome_at}
 use Rattle.dura_value.specs.Digest.{fnv1a_64}
-use Rattle.part_files.specs.Examples.{digest, empty_log, taking}
-use Rattle.part_files.specs.Kept.{entries_from}
-use Rattle.part_files.specs.Logs.{refused, other_flows, logs_in, entries_in}
-use Rattle.part_files.specs.Stands.{alone_with}
+use Rattle.part_items.specs.Examples.{digest, empty_log, taking}
+use Rattle.part_items.specs.Kept.{entries_from}
+use Rattle.part_items.specs.Logs.{refused, other_flows, logs_in, entries_in, alone_with}
 use Rattle.part_items.specs.Grammar.{took_at, item_at, members_at, entry_items_at}
 use Rattle.part_items.specs.Numbered.{place_at, life_at, next_entry_at, next_entries_at, next_frame_at}
 use Rattle.run_examples.specs.Directories.{directory, earlier_log, torn_log}

@@ -3,7 +3,7 @@ use Rattle.std.proofs.Common.{◌≡◌, List, [], ◌∷◌, ◌++◌, refl}
 use Rattle.dura_model.specs.Legal.{Quiet}
 use Rattle.dura_model.specs.Partition.{fresh}
 use Rattle.dura_value.specs.Messages.{Message}
-use Rattle.part_files.specs.Stands.{shown_by}
+use Rattle.dura_model.specs.Entries.{shown_by}
 use Rattle.run_examples.specs.Calls.{no_flows}
 
 nobody_asks : (before : List Message) (r : Message) (behind : List Message) → [] ≡ before ++ r ∷ behind → ⊥

@@ -8,7 +8,8 @@ use Rattle.engine_run.specs.Job.{FilesKeep}
 use Rattle.engine_run.specs.Kept.{clashes}
 use Rattle.engine_run.specs.Order.{no_later}
 use Rattle.engine_run.proofs.Refusing.{not_refused}
-use Rattle.part_files.specs.Examples.{digest, empty_log, taking, request_taken}
+use Rattle.part_items.specs.Examples.{digest, empty_log, taking}
+use Rattle.run_rules.specs.Examples.{request_taken}
 use Rattle.recover_core.specs.declared.error.RecoverError.TheVariants as errors
 use Rattle.request_reader.specs.Line.{Request}
 use Rattle.run_causes.specs.declared.cause.Cause.TheVariants as causes

@@ -7,9 +7,8 @@ use Rattle.engine_run.specs.Causes.{IsLogRefusal}
 use Rattle.engine_run.specs.Causes.AreRefused.{for_logs}
 use Rattle.engine_run.specs.Showing.{IsThere, RefusesThere}
 use Rattle.flow_syntax.specs.Syntax.{Flows}
-use Rattle.part_files.specs.Logs.{logs_in, entries_in}
-use Rattle.part_files.specs.Placing.{placed}
-use Rattle.part_files.specs.Stands.{alone_with}
+use Rattle.part_items.specs.Logs.{logs_in, entries_in, alone_with}
+use Rattle.dura_model.specs.Entries.{placed}
 use Rattle.recover_core.specs.declared.error.RecoverError.{RecoverError}
 use Rattle.run_causes.specs.declared.cause.Cause.TheVariants.{BadFlows}
 use Rattle.run_causes.specs.declared.cause.FlowsFault.TheVariants.{NotJson}

@@ -14,7 +14,7 @@ use Rattle.engine_run.specs.Ends.{Terms, terms_of}
 use Rattle.engine_run.specs.Job.{Job}
 use Rattle.flow_syntax.specs.Syntax.{Flows}
 use Rattle.hub_store.specs.Trail.{Settled}
-use Rattle.part_files.specs.Examples.{digest, request, taking}
+use Rattle.part_items.specs.Examples.{digest, request, taking}
 use Rattle.request_reader.specs.Line.{Request}
 use Rattle.run_inputs.specs.Examples.{flows_bytes, one_flow, one_request}
 use Rattle.run_rules.specs.Rules.{Rules}

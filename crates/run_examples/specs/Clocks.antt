@@ -6,7 +6,7 @@ use Rattle.dura_value.specs.Items.{Item, Entry, ran, fired}
 use Rattle.dura_value.specs.declared.data.Value.{Value}
 use Rattle.dura_value.specs.declared.outcome.Outcome.{Outcome}
 use Rattle.dura_value.specs.declared.outcome.Outcome.TheVariants as outcomes
-use Rattle.part_files.specs.Examples.{taking}
+use Rattle.part_items.specs.Examples.{taking}
 use Rattle.run_examples.specs.States.{begun, asker, sum}
 
 -- each activity gives its argument

@@ -1,6 +1,6 @@
 -- Directories to look at: what their files hold.
 use Rattle.std.specs.Prelude.{ℕ, List, [], ◌∷◌, ◌++◌, take, drop, slice_set, codes, ◌==◌, if◌then◌else◌}
-use Rattle.part_files.specs.Examples.{empty_log, taking_frame}
+use Rattle.part_items.specs.Examples.{empty_log, taking_frame}
 use Rattle.run_inputs.specs.Examples.{three_files, flows_bytes}
 
 -- one flow, these requests, and this first log

@@ -6,7 +6,7 @@ use Rattle.dura_model.specs.World.{at_number}
 use Rattle.dura_value.specs.Ids.{client}
 use Rattle.dura_value.specs.Messages.{was_started}
 use Rattle.hub_store.specs.Trail.{Settled}
-use Rattle.part_files.specs.Examples.{request, taking}
+use Rattle.part_items.specs.Examples.{request, taking}
 use Rattle.request_reader.specs.Line.{Request}
 use Rattle.run_examples.specs.Calls.{by_steps, rules_for, starting}
 use Rattle.run_rules.specs.Rules.{Rules}

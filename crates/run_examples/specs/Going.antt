@@ -6,8 +6,8 @@ use Rattle.dura_value.specs.Items.{Entry}
 use Rattle.engine_run.specs.Ends.{Terms}
 use Rattle.hub_store.specs.Origin.{Origin}
 use Rattle.hub_store.specs.Trail.{Settled}
-use Rattle.part_files.specs.Examples.{digest, taking, taking_log}
-use Rattle.part_files.specs.Placing.{placed}
+use Rattle.part_items.specs.Examples.{digest, taking, taking_log}
+use Rattle.dura_model.specs.Entries.{placed}
 use Rattle.part_items.specs.Spelling.{spell_frame}
 use Rattle.run_examples.specs.Calls.{no_flows, terms_by}
 use Rattle.run_laws.specs.Begins.{header_with}

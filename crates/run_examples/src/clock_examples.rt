@@ -2,12 +2,12 @@
 
 ghost use Rattle.std.specs.Prelude.{List, [], ◌∷◌};
 ghost use Rattle.dura_model.specs.Partition.{fresh};
-ghost use Rattle.part_files.specs.Examples.{taking, request_taken};
+ghost use Rattle.part_items.specs.Examples.{taking};
+ghost use Rattle.run_rules.specs.Examples.{request_taken, later_rules, ending};
 ghost use Rattle.part_rounds.specs.InTime.{FillsAt, Reads, FireDue};
 ghost use Rattle.run_examples.specs.Calls.{no_flows, rules_for};
 ghost use Rattle.run_examples.specs.Clocks.{gives, no_items, too_late, napping, fired_at};
 ghost use Rattle.run_examples.specs.States.{begun, asked};
-ghost use Rattle.run_rules.specs.Examples.{later_rules, ending};
 ghost use Rattle.run_rules.specs.FieldExamples.{asking, asking_rules, no_sum};
 ghost use Rattle.site_model.specs.Readings.{asked as asks, waited};
 

@@ -4,7 +4,7 @@ ghost use Rattle.std.specs.Prelude.{[], ◌∷◌};
 ghost use Rattle.dura_model.specs.Partition.{fresh};
 ghost use Rattle.engine_run.specs.Lives.{KeepsOn, BeginsOn, IsLife, Lives, AreJoined};
 ghost use Rattle.hub_store.specs.Examples.{log_written};
-ghost use Rattle.part_files.specs.Examples.{digest, two_files, empty_log, taking};
+ghost use Rattle.part_items.specs.Examples.{digest, two_files, empty_log, taking};
 ghost use Rattle.run_examples.specs.Calls.{no_flows};
 ghost use Rattle.run_examples.specs.LivesSeen.{idle_life, done_life, settled_life, spoken_life};
 ghost use Rattle.run_inputs.specs.Examples.{one_flow};

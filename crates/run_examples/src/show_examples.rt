@@ -3,7 +3,8 @@
 ghost use Rattle.std.specs.Prelude.{ℕ, List, [], ◌∷◌, codes};
 ghost use Rattle.dura_model.specs.Partition.{fresh};
 ghost use Rattle.engine_run.specs.Showing.{IsThere, RefusesThere, ShowsAs};
-ghost use Rattle.part_files.specs.Examples.{digest, empty_log, request_taken};
+ghost use Rattle.part_items.specs.Examples.{digest, empty_log};
+ghost use Rattle.run_rules.specs.Examples.{request_taken};
 ghost use Rattle.recover_core.specs.declared.error.RecoverError.TheVariants as errors;
 ghost use Rattle.run_causes.specs.declared.cause.Cause.TheVariants as causes;
 ghost use Rattle.run_causes.specs.declared.cause.FlowsFault.TheVariants as faults;

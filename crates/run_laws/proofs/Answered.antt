@@ -11,11 +11,12 @@ use Rattle.hub_store.specs.Moments.SaidSoFar.{silent, settles, says}
 use Rattle.hub_store.specs.Origin.{Origin}
 use Rattle.hub_store.specs.Trail.{Settled, Said, of_part, settling}
 use Rattle.hub_store.proofs.Settling.{of_part-append}
-use Rattle.part_files.specs.Placing.{labels_in, state_next}
-use Rattle.part_files.specs.Stands.{shown_by}
-use Rattle.part_files.proofs.Alone.{are_shown_alone}
-use Rattle.part_files.proofs.Appending.{labels_both, numbered_both}
-use Rattle.part_files.proofs.EntriesLead.{entries_lead}
+use Rattle.dura_model.specs.Entries.{labels_in, shown_by}
+use Rattle.run_rules.specs.Stands.{state_next}
+use Rattle.dura_model.proofs.Alone.{are_shown_alone}
+use Rattle.dura_model.proofs.Appending.{labels_both}
+use Rattle.part_items.proofs.Behind.{numbered_both}
+use Rattle.run_rules.proofs.EntriesLead.{entries_lead}
 use Rattle.part_items.specs.Numbered.{IsNumbered}
 use Rattle.run_rules.specs.Rules.{Rules}
 use Rattle.run_laws.specs.Begins.{BeginsAlone, may_follow, may_say}

@@ -10,12 +10,13 @@ use Rattle.dura_model.specs.Partition.{fresh}
 use Rattle.dura_model.proofs.Kept.{fresh_shown}
 use Rattle.dura_model.specs.Steps.{take}
 use Rattle.flow_syntax.specs.Syntax.{Flows}
-use Rattle.part_files.specs.Examples.{digest, two_files, empty_log, taking_log, taking, request, request_taken}
-use Rattle.part_files.specs.Kept.{entries_from}
-use Rattle.part_files.specs.Logs.{logs_in, entries_in}
-use Rattle.part_files.specs.Stands.{alone_with, FilesStand}
-use Rattle.part_files.proofs.Alone.{are_shown_alone}
-use Rattle.part_files.proofs.EntriesLead.{entries_lead}
+use Rattle.part_items.specs.Examples.{digest, two_files, empty_log, taking_log, taking, request}
+use Rattle.run_rules.specs.Examples.{request_taken}
+use Rattle.part_items.specs.Kept.{entries_from}
+use Rattle.part_items.specs.Logs.{logs_in, entries_in, alone_with}
+use Rattle.run_rules.specs.Stands.{FilesStand}
+use Rattle.dura_model.proofs.Alone.{are_shown_alone}
+use Rattle.run_rules.proofs.EntriesLead.{entries_lead}
 use Rattle.part_items.specs.Grammar.{took_at, item_at, members_at, entry_items_at}
 use Rattle.part_items.specs.Numbered.{place_at, life_at, next_entry_at, next_entries_at, next_frame_at}
 use Rattle.run_laws.specs.Examples.{twice_log}

@@ -4,7 +4,7 @@ use Rattle.std.specs.List.{All, Contains}
 use Rattle.std.specs.Option.{option_and_then}
 use Rattle.std.specs.Prelude.{MatchOption}
 use Rattle.std.proofs.lemmas.List.{append-nil, map-append}
-use Rattle.commit_log.specs.Segment.{◌>>=◌}
+use Rattle.dura_value.specs.Reading.{◌>>=◌}
 use Rattle.dura_model.specs.Dependencies.{Committed, names_of, named_by, newest_of, or_later, IsRightBefore, FollowsIn, Founded}
 use Rattle.dura_model.specs.Dependencies.Founded.{none, one_more}
 use Rattle.dura_model.specs.Partition.{Partition, fresh, enter, accepted, label_in, with_part}
@@ -13,10 +13,11 @@ use Rattle.dura_model.specs.Steps.{Label}
 use Rattle.dura_model.proofs.Kept.{fresh_shown, item_keeps, item_stands, enter_keeps}
 use Rattle.dura_value.specs.Items.{Identity, Item, took, got, ran, ended, fired, trim, Entry}
 use Rattle.flow_syntax.specs.Syntax.{Flows}
-use Rattle.part_files.specs.Placing.{state_next, or_place, all_accepted, entry_accepted, placed, AllGiven}
-use Rattle.part_files.proofs.Alone.{are_shown_alone, accepted_is_step}
-use Rattle.part_files.proofs.Appending.{both_placed}
-use Rattle.part_files.proofs.EntriesLead.{entries_lead}
+use Rattle.run_rules.specs.Stands.{state_next}
+use Rattle.dura_model.specs.Entries.{or_place, all_accepted, entry_accepted, placed, AllGiven}
+use Rattle.dura_model.proofs.Alone.{are_shown_alone, accepted_is_step}
+use Rattle.dura_model.proofs.Appending.{both_placed}
+use Rattle.run_rules.proofs.EntriesLead.{entries_lead}
 use Rattle.part_items.specs.Numbered.{Next, behind, IsNumbered}
 use Rattle.run_laws.specs.Leaves.{committed, committed_in}
 

@@ -9,13 +9,14 @@ use Rattle.dura_value.specs.Items.{Entry}
 use Rattle.hub_store.specs.Moments.{WroteGate, LogKeeps, StoreStands as StandsAt}
 use Rattle.hub_store.specs.Origin.{Origin, IsNoLog}
 use Rattle.hub_store.specs.Trail.{Settled, of_part}
-use Rattle.part_files.specs.Kept.{Kept, keeps, nothing, kept_in}
-use Rattle.part_files.specs.Logs.{Refusal, other_flows, fault_of, or_else, unless, log_in, logs_of, logs_in, entries_in, first_log, second_log}
-use Rattle.part_files.specs.Placing.{labels_in, state_next}
-use Rattle.part_files.specs.Stands.{alone_with, FilesStand}
-use Rattle.part_files.proofs.Appending.{labels_both, numbered_both}
-use Rattle.part_files.proofs.LabelsStand.{labels_stand}
-use Rattle.part_files.proofs.LogsNumbered.{entries_numbered}
+use Rattle.part_items.specs.Kept.{Kept, keeps, nothing, kept_in}
+use Rattle.part_items.specs.Logs.{Refusal, other_flows, fault_of, or_else, unless, log_in, logs_of, logs_in, entries_in, first_log, second_log, alone_with}
+use Rattle.dura_model.specs.Entries.{labels_in}
+use Rattle.run_rules.specs.Stands.{state_next, FilesStand}
+use Rattle.dura_model.proofs.Appending.{labels_both}
+use Rattle.part_items.proofs.Behind.{numbered_both}
+use Rattle.run_rules.proofs.LabelsStand.{labels_stand}
+use Rattle.part_items.proofs.LogsNumbered.{entries_numbered}
 use Rattle.part_items.specs.Numbered.{IsNumbered}
 use Rattle.run_rules.specs.Rules.{Rules}
 use Rattle.run_laws.specs.Begins.{BeginsAlone, header_with, may_follow, may_say}

@@ -6,7 +6,7 @@ use Rattle.dura_value.specs.Ids.{client}
 use Rattle.dura_value.specs.Items.{Entry}
 use Rattle.hub_store.specs.Origin.{Origin}
 use Rattle.hub_store.specs.Trail.{Said}
-use Rattle.part_files.specs.Placing.{labels_in}
+use Rattle.dura_model.specs.Entries.{labels_in}
 use Rattle.run_laws.specs.Leaves.{IsAnswered, AllAnswered}
 use Rattle.run_laws.specs.Leaves.AllAnswered.{nothing_said, one_more}
 use Rattle.run_rules.specs.Rules.{Rules}

@@ -2,7 +2,7 @@
 use Rattle.std.proofs.Common.{◌≡◌, ◌==◌, ◌&&◌, ◌+◌, length, ℕ, Bool, true, false, cond, List, [], ◌∷◌, ◌++◌, Option, Some, None, Ok, refl, sym, ap, subst, ◌∙◌, eqb-true}
 use Rattle.std.specs.Prelude.{option_map, nat_le, nat_lt, not, is_some}
 use Rattle.std.specs.Option.{option_and_then}
-use Rattle.commit_log.specs.Segment.{◌>>=◌}
+use Rattle.dura_value.specs.Reading.{◌>>=◌}
 use Rattle.dura_value.specs.declared.outcome.Outcome.{Outcome}
 use Rattle.dura_value.specs.Ids.{Id, orchestration, entity, client, id_eq, home}
 use Rattle.dura_value.specs.Items.{Item, took, got, ran, ended, fired, trim, Entry}
@@ -17,7 +17,7 @@ use Rattle.dura_model.specs.Deliveries.{Effect, goes_on_from, to_instance}
 use Rattle.dura_model.specs.Steps.{is_request, number_in, entity_of, answer_of}
 use Rattle.dura_model.specs.Partition.{Partition, fresh, instance_at, event_of, row_after, raised_to, first_in, without_first, last_in, answered_in, client_received, entity_after, received_in, delivered_in, taken_in, ended_in, fired_in, entry_of, enter, with_inbox, with_first, with_posted, post, post_all, asked_in, given_up_in, stands_in, accepted}
 use Rattle.dura_model.proofs.Basics.{some_same, passes, passed}
-use Rattle.part_files.specs.Placing.{all_accepted, entry_accepted, or_place, placed}
+use Rattle.dura_model.specs.Entries.{all_accepted, entry_accepted, or_place, placed}
 use Rattle.run_laws.specs.Requests.{KeepsRequests, AnswersTaken}
 
 -- from one state to another requests stay, and only what was taken is answered

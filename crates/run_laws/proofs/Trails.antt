@@ -8,7 +8,7 @@ use Rattle.hub_store.specs.Moments.{SaidSoFar as StoreTold}
 use Rattle.hub_store.specs.Moments.SaidSoFar.{silent, settles, says}
 use Rattle.hub_store.specs.Trail.{Settled, Said, of_part, settling}
 use Rattle.hub_store.proofs.Settling.{of_part-append, own_part}
-use Rattle.part_files.specs.Placing.{placed, AllGiven}
+use Rattle.dura_model.specs.Entries.{placed, AllGiven}
 use Rattle.run_rules.specs.Rules.{Rules, Told, IsOurs}
 use Rattle.run_rules.proofs.Going.{followed_made, followed_given}
 use Rattle.run_laws.specs.Begins.{pairs_of, may_follow, may_say}

@@ -1,11 +1,11 @@
 -- The entries at the start, and those that came.
 use Rattle.std.proofs.Common.{◌≡◌, ℕ, List, ◌++◌, Ok, ◌∙◌, ap, subst}
-use Rattle.commit_log.specs.Segment.{◌>>=◌}
+use Rattle.dura_value.specs.Reading.{◌>>=◌}
 use Rattle.dura_model.specs.Partition.{Partition, fresh}
 use Rattle.dura_value.specs.Items.{Entry}
 use Rattle.hub_store.specs.Origin.{Origin}
-use Rattle.part_files.specs.Placing.{placed, AllGiven}
-use Rattle.part_files.proofs.Appending.{placed_both, given_both}
+use Rattle.dura_model.specs.Entries.{placed, AllGiven}
+use Rattle.dura_model.proofs.Appending.{placed_both, given_both}
 use Rattle.run_rules.specs.Rules.{Rules}
 use Rattle.run_laws.specs.Begins.{BeginsAlone}
 use Rattle.run_laws.proofs.Trails.{Goes}

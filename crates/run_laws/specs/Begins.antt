@@ -5,9 +5,9 @@ use Rattle.dura_model.specs.Partition.{fresh}
 use Rattle.dura_value.specs.Items.{Entry}
 use Rattle.hub_store.specs.Origin.{Origin}
 use Rattle.hub_store.specs.Trail.{Settled, Said, of_part}
-use Rattle.part_files.specs.Kept.{nothing, kept_in}
-use Rattle.part_files.specs.Logs.{first_log, second_log}
-use Rattle.part_files.specs.Placing.{placed, AllGiven}
+use Rattle.part_items.specs.Kept.{nothing, kept_in}
+use Rattle.part_items.specs.Logs.{first_log, second_log}
+use Rattle.dura_model.specs.Entries.{placed, AllGiven}
 use Rattle.run_rules.specs.Rules.{Rules, Told, Follows, Answers}
 use Rattle.site_model.specs.History.{changes_of, Leaves}
 

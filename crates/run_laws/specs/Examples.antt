@@ -7,9 +7,9 @@ use Rattle.dura_value.specs.Items.{Entry, took, ran}
 use Rattle.flow_syntax.specs.Syntax.{Flows}
 use Rattle.hub_store.specs.Origin.{Log, Origin}
 use Rattle.hub_store.specs.Trail.{Settled, Said}
-use Rattle.part_files.specs.Examples.{digest, request, taking, taking_frame, taking_log}
-use Rattle.part_files.specs.Logs.{first_log}
-use Rattle.part_files.specs.Placing.{labels_in}
+use Rattle.part_items.specs.Examples.{digest, request, taking, taking_frame, taking_log}
+use Rattle.part_items.specs.Logs.{first_log}
+use Rattle.dura_model.specs.Entries.{labels_in}
 use Rattle.run_laws.specs.Begins.{header_with}
 use Rattle.run_rules.specs.Examples.{rules_with}
 use Rattle.run_rules.specs.Rules.{Rules}

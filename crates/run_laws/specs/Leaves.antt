@@ -12,9 +12,9 @@ use Rattle.dura_value.specs.Messages.{Answer}
 use Rattle.hub_store.specs.Moments.{WroteGate, IsPrefix, IsSpeaking}
 use Rattle.hub_store.specs.Origin.{Origin}
 use Rattle.hub_store.specs.Trail.{Settled, Said, of_part}
-use Rattle.part_files.specs.Logs.{logs_in, entries_in}
-use Rattle.part_files.specs.Placing.{labels_in, placed, AllGiven}
-use Rattle.part_files.specs.Stands.{alone_with, FilesStand}
+use Rattle.part_items.specs.Logs.{logs_in, entries_in, alone_with}
+use Rattle.dura_model.specs.Entries.{labels_in, placed, AllGiven}
+use Rattle.run_rules.specs.Stands.{FilesStand}
 use Rattle.request_reader.specs.Line.{Request}
 use Rattle.run_laws.specs.Begins.{pairs_of}
 use Rattle.run_rules.specs.Rules.{Rules, count_told, request_at, IsBy, EndPending}

@@ -7,7 +7,7 @@ ghost use Rattle.dura_value.specs.Messages.{is_unknown};
 ghost use Rattle.dura_value.specs.declared.outcome.Outcome.{Outcome};
 ghost use Rattle.flow_syntax.specs.Syntax.{Flows};
 ghost use Rattle.hub_store.specs.Trail.{Said};
-ghost use Rattle.part_files.specs.Examples.{digest, two_files, empty_log as empty_bytes, taking_log};
+ghost use Rattle.part_items.specs.Examples.{digest, two_files, empty_log as empty_bytes, taking_log};
 ghost use Rattle.run_laws.specs.Begins.{BeginsAlone};
 ghost use Rattle.run_laws.specs.Examples.{empty_origin, odd_origin, taken_once, taken_twice, twice_log, rules, answering, first_said};
 ghost use Rattle.run_laws.specs.Leaves.{IsAnswered, AllAnswered, IsHalfSaid, AllRan, StandsOn};

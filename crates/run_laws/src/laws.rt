@@ -8,7 +8,7 @@ ghost use Rattle.hub_store.specs.Moments.{AtEveryMoment};
 ghost use Rattle.hub_store.specs.Origin.{Origin};
 ghost use Rattle.hub_store.specs.Trail.{Settled, settled_at};
 ghost use Rattle.run_laws.specs.Begins.{BeginsAlone, may_follow, may_say};
-ghost use Rattle.part_files.specs.Placing.{placed};
+ghost use Rattle.dura_model.specs.Entries.{placed};
 ghost use Rattle.run_laws.specs.Leaves.{StandsOn};
 ghost use Rattle.run_laws.specs.Requests.{KeepsRequests, AnswersTaken};
 ghost use Rattle.run_rules.specs.Rules.{Rules};

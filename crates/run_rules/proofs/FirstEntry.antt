@@ -4,9 +4,9 @@ use Rattle.std.proofs.lemmas.List.Elements.{All-from_recursion}
 use Rattle.std.specs.List.{All}
 use Rattle.dura_model.specs.Partition.{fresh}
 use Rattle.dura_value.specs.Items.{Entry, took}
-use Rattle.part_files.specs.Examples.{request, taking, request_taken}
+use Rattle.part_items.specs.Examples.{request, taking}
+use Rattle.run_rules.specs.Examples.{request_taken, first_asked, rules_with}
 use Rattle.flow_syntax.specs.Syntax.{Flows}
-use Rattle.run_rules.specs.Examples.{first_asked, rules_with}
 use Rattle.run_rules.specs.Rules.{IsAsked, IsBy, IsOurs, EndsPending, Follows}
 
 pub first_follows : (flows : Flows) → Follows (rules_with flows) 0 [] [] (taking 0 ∷ [])

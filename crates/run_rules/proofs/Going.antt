@@ -4,12 +4,12 @@ use Rattle.std.specs.List.{filter}
 use Rattle.std.specs.Prelude.{bytes_eq}
 use Rattle.std.proofs.lemmas.List.{length-append}
 use Rattle.std.proofs.lemmas.List.Elements.{filter-append}
-use Rattle.commit_log.specs.Segment.{◌>>=◌}
+use Rattle.dura_value.specs.Reading.{◌>>=◌}
 use Rattle.dura_model.specs.Partition.{Partition}
 use Rattle.dura_value.specs.Items.{Item, Entry, took, got, ran, ended, fired, trim}
 use Rattle.dura_value.specs.Messages.{Message}
-use Rattle.part_files.specs.Placing.{placed, AllGiven}
-use Rattle.part_files.proofs.Appending.{placed_both, given_both}
+use Rattle.dura_model.specs.Entries.{placed, AllGiven}
+use Rattle.dura_model.proofs.Appending.{placed_both, given_both}
 use Rattle.run_rules.specs.Rules.{Rules, Told, count_told, IsDue, IsAsked, IsBy, IsOurs, Follows}
 
 count_more : (told more : Told) (name : List ℕ) → count_told told name ≤ count_told (told ++ more) name

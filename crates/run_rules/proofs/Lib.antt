@@ -1,3 +1,5 @@
 pub mod AskedSum
+pub mod EntriesLead
 pub mod FirstEntry
 pub mod Going
+pub mod LabelsStand

@@ -8,9 +8,13 @@ use Rattle.dura_value.specs.Messages.{Message, wait, was_started}
 use Rattle.dura_value.specs.declared.data.Value.TheVariants as values
 use Rattle.dura_value.specs.declared.outcome.Outcome.{Outcome}
 use Rattle.flow_syntax.specs.Syntax.{Flows}
-use Rattle.part_files.specs.Examples.{request}
+use Rattle.part_items.specs.Examples.{request}
 use Rattle.request_reader.specs.Line.{Request}
 use Rattle.run_rules.specs.Rules.{Rules, Told}
+
+-- the request was taken, and is under way
+abbrev pub request_taken : Partition
+request_taken = record (fresh 0) { position = 1; taken = at_number (fresh 0).taken request.from 1 (Some request); queue = request ∷ [] }
 
 -- client a asks to start Sum/x, and then waits for its end
 abbrev pub waiting : Message

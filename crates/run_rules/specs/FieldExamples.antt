@@ -13,7 +13,7 @@ use Rattle.flow_syntax.specs.Syntax.{Flows}
 use Rattle.flow_syntax.specs.Syntax.Block.{nothing, first_then}
 use Rattle.flow_syntax.specs.Syntax.Statement.{call, return}
 use Rattle.flow_syntax.specs.Syntax.Expression.{scalar}
-use Rattle.part_files.specs.Examples.{request}
+use Rattle.part_items.specs.Examples.{request}
 use Rattle.run_rules.specs.Rules.{Rules}
 use Rattle.run_rules.specs.Examples.{rules_with, started, summing, adding}
 

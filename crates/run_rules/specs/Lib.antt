@@ -1,3 +1,4 @@
 pub mod Examples
 pub mod FieldExamples
 pub mod Rules
+pub mod Stands

@@ -9,7 +9,7 @@ use Rattle.dura_value.specs.Ids.{client}
 use Rattle.dura_value.specs.Items.{Item, Entry, took, got, ran, ended, fired, trim}
 use Rattle.dura_value.specs.Messages.{Answer, Message}
 use Rattle.flow_syntax.specs.Syntax.{Flows}
-use Rattle.part_files.specs.Placing.{placed, AllGiven}
+use Rattle.dura_model.specs.Entries.{placed, AllGiven}
 use Rattle.request_reader.specs.Line.{Request}
 
 -- What is fixed when a call begins: the flows, the state that the entries of the log made, the life of the entries that come, and

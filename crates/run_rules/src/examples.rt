@@ -8,7 +8,7 @@ ghost use Rattle.dura_value.specs.Messages.{was_started};
 ghost use Rattle.dura_value.specs.declared.outcome.Outcome.{Outcome};
 ghost use Rattle.dura_model.specs.Partition.{fresh};
 ghost use Rattle.flow_syntax.specs.Syntax.{Flows};
-ghost use Rattle.part_files.specs.Examples.{request, taking};
+ghost use Rattle.part_items.specs.Examples.{request, taking};
 ghost use Rattle.run_rules.specs.Examples.{waiting, rules_with, later_rules, silent_rules, told_once, answering_rules, summing, adding, ending};
 ghost use Rattle.run_rules.specs.Rules.{Told, IsDue, IsBy, EndsPending, EndPending, Follows, Answers};
 

@@ -5,7 +5,7 @@ ghost use Rattle.std.specs.Prelude.{ℕ, List, [], ◌∷◌, codes};
 ghost use Rattle.dura_value.specs.declared.data.Value.TheVariants as values;
 ghost use Rattle.dura_value.specs.declared.outcome.Outcome.TheVariants as outcomes;
 ghost use Rattle.flow_syntax.specs.Syntax.{Flows};
-ghost use Rattle.part_files.specs.Examples.{request, taking};
+ghost use Rattle.part_items.specs.Examples.{request, taking};
 ghost use Rattle.run_rules.specs.Examples.{rules_with, later_rules, silent_rules, answering_rules, ending};
 ghost use Rattle.run_rules.specs.FieldExamples.{other_start, firing, asking_rules, no_sum, sum_flows, starting, ending_first, answered_rules};
 ghost use Rattle.run_rules.specs.Rules.{IsDue, IsOurs, Follows, Answers};

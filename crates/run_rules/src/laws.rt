@@ -2,7 +2,7 @@
 
 ghost use Rattle.std.specs.Prelude.{◌≡◌, ◌≤◌, ℕ, List, ◌++◌, Ok};
 ghost use Rattle.dura_value.specs.Items.{Entry};
-ghost use Rattle.part_files.specs.Placing.{placed, AllGiven};
+ghost use Rattle.dura_model.specs.Entries.{placed, AllGiven};
 ghost use Rattle.run_rules.specs.Rules.{Rules, Told, Follows};
 
 /// What may follow may follow still once more was said.

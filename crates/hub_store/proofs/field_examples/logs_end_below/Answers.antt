@@ -1,7 +1,7 @@
 use Rattle.std.proofs.Common.{◌≡◌, [], refl, arith}
 use Rattle.commit_log.specs.Segment.{header_at, frames_from, segment, reading_of}
 use Rattle.commit_log.specs.declared.header.Header.{Header}
-use Rattle.part_files.specs.Examples.{digest, empty_log}
+use Rattle.part_items.specs.Examples.{digest, empty_log}
 use Rattle.hub_store.proofs.field_examples.logs_end_below.Goals as goal
 
 -- its gate is the first

@@ -1,7 +1,7 @@
 use Rattle.std.proofs.Common.{◌≡◌, ◌∙◌, ℕ, List, [], Some, length, refl, sym, ap, subst, arith}
 use Rattle.std.specs.List.{All}
 use Rattle.dura_model.specs.Partition.{Partition, fresh}
-use Rattle.part_files.specs.Placing.{all_accepted}
+use Rattle.dura_model.specs.Entries.{all_accepted}
 use Rattle.part_items.specs.Plain.{items_of}
 use Rattle.part_items.specs.declared.items.Item.{Item}
 use Rattle.part_rounds.specs.Fills.{Fills, CantTake}

@@ -5,7 +5,7 @@ use Rattle.dura_value.specs.Items.{Entry}
 use Rattle.hub_store.specs.Changes.{trail_in, told_in}
 use Rattle.hub_store.specs.Origin.{Log}
 use Rattle.hub_store.specs.Trail.{Settled, of_part}
-use Rattle.part_files.specs.Placing.{placed}
+use Rattle.dura_model.specs.Entries.{placed}
 use Rattle.run_rules.specs.Rules.{Rules}
 use Rattle.hub_store.specs.Ways.{stage_of, way_of}
 use Rattle.part_rounds.proofs.Counts.{low_self, low_same, low_both, same_below_first, latest_both, few_more, few_round, some_above, same_less, none_less}

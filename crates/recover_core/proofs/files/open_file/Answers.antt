@@ -1,8 +1,7 @@
 use Rattle.std.proofs.Common.{sym, subst}
 use Rattle.site_model.specs.History.{content_of}
-use Rattle.part_files.specs.Kept.{Kept, kept_in}
-use Rattle.part_files.specs.Logs.{fault_of}
-use Rattle.part_files.specs.Stands.{alone_with}
+use Rattle.part_items.specs.Kept.{Kept, kept_in}
+use Rattle.part_items.specs.Logs.{fault_of, alone_with}
 use Rattle.recover_core.specs.Refusals.{RefusesFiles}
 use Rattle.recover_core.proofs.FilesFound.{damaged_fault}
 use Rattle.recover_core.proofs.files.open_file.Goals as goal

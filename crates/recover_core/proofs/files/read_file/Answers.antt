@@ -1,9 +1,9 @@
 use Rattle.std.proofs.Common.{◌≡◌, ◌∙◌, inl, Err, sym, subst, rules, List}
 use Rattle.std.proofs.lemmas.Result.{err_from_is_err_and}
 use Rattle.site_model.specs.History.{Step, content_of}
-use Rattle.log_reader.specs.declared.reader.OpenError.{OpenError}
-use Rattle.log_reader.specs.declared.reader.OpenError.TheVariants as unopened
-use Rattle.log_reader.specs.Outcomes.{Opens}
+use Rattle.commit_log.specs.declared.reader.OpenError.{OpenError}
+use Rattle.commit_log.specs.declared.reader.OpenError.TheVariants as unopened
+use Rattle.commit_log.specs.Reading.{Opens}
 use Rattle.recover_core.specs.Files.{IsFound, SaysFile}
 use Rattle.recover_core.proofs.EntriesPlaced.{ready_later}
 use Rattle.recover_core.proofs.FilesFound.{fresh_file, damaged_front, is_opened, is_found, file_refused}

@@ -3,7 +3,7 @@ use Rattle.dura_model.specs.Partition.{Partition}
 use Rattle.part_items.specs.Plain.{items_of, entry_of}
 use Rattle.part_steps.specs.declared.state.PartState.{PartState}
 use Rattle.part_steps.specs.States.{state_of, count_of}
-use Rattle.part_files.specs.Placing.{all_accepted}
+use Rattle.dura_model.specs.Entries.{all_accepted}
 use Rattle.recover_core.specs.declared.progress.Placing.{Placing}
 use Rattle.recover_core.specs.declared.progress.Placing.TheVariants.{On, Stuck}
 use Rattle.recover_core.specs.Progress.{Makes, IsReadyFor, GoesOnAs, position_in}

@@ -2,7 +2,7 @@ use Rattle.std.proofs.Common.{subst, refl, arith}
 use Rattle.recover_core.specs.declared.progress.Placing.{Placing}
 use Rattle.recover_core.specs.Progress.{Shows, IsReadyFor}
 use Rattle.dura_model.specs.Partition.{fresh}
-use Rattle.part_files.specs.Placing.{placed}
+use Rattle.dura_model.specs.Entries.{placed}
 use Rattle.recover_core.proofs.recovery.end.Goals as goal
 
 pub returns-in-Stuck-clause-ends : goal.returns-in-Stuck-clause-ends

@@ -3,8 +3,7 @@ use Rattle.std.proofs.lemmas.Result.{err_from_is_err_and}
 use Rattle.dura_model.specs.Partition.{Partition}
 use Rattle.part_steps.specs.States.{state_of}
 use Rattle.site_model.specs.History.{content_of}
-use Rattle.part_files.specs.Logs.{logs_in}
-use Rattle.part_files.specs.Stands.{alone_with}
+use Rattle.part_items.specs.Logs.{logs_in, alone_with}
 use Rattle.recover_core.specs.Chosen.{Chooses}
 use Rattle.recover_core.proofs.BothSynced.{first_content, second_untouched, only_first, first_changes, first_still, second_content, only_both}
 use Rattle.recover_core.proofs.LogsFound.{ready_chosen, suits_moved, first_refused, second_refused, both_refused, none_recovered, one_found, end_recovered, end_rests}

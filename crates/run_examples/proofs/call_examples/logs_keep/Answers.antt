@@ -1,7 +1,7 @@
 use Rattle.std.proofs.Common.{refl}
 use Rattle.commit_log.specs.Segment.{header_at}
 use Rattle.run_examples.proofs.call_examples.logs_keep.Goals as goal
-use Rattle.part_files.specs.Kept.{entries_from}
+use Rattle.part_items.specs.Kept.{entries_from}
 
 pub returns-clause-none : goal.returns-clause-none
 unfolding header_at entries_from

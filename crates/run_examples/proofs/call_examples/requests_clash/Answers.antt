@@ -5,7 +5,7 @@ use Rattle.run_examples.specs.Calls.{starting, waiting}
 use Rattle.engine_run.specs.Kept.{clashes}
 use Rattle.engine_run.specs.Order.{no_later}
 use Rattle.run_examples.proofs.call_examples.requests_clash.Goals as goal
-use Rattle.part_files.specs.Examples.{request_taken}
+use Rattle.run_rules.specs.Examples.{request_taken}
 use Rattle.request_reader.specs.Line.{Request}
 
 pub returns-clause-other : goal.returns-clause-other

@@ -6,8 +6,8 @@ use Rattle.dura_model.specs.World.{World, empty}
 use Rattle.dura_value.specs.Messages.{Message}
 use Rattle.engine_run.specs.Order.{no_later}
 use Rattle.engine_run.specs.Served.{has_answer, first_open, IsServed, IsFirstOpen}
-use Rattle.part_files.specs.Examples.{request}
-use Rattle.part_files.specs.Stands.{shown_by}
+use Rattle.part_items.specs.Examples.{request}
+use Rattle.dura_model.specs.Entries.{shown_by}
 use Rattle.request_reader.specs.Line.{Request}
 use Rattle.run_examples.specs.Calls.{no_flows, starting, rules_for, answered}
 use Rattle.run_examples.proofs.call_examples.requests_served.Goals as goal

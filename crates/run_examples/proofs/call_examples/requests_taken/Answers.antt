@@ -3,7 +3,7 @@ use Rattle.std.specs.Prelude.{is_some}
 use Rattle.dura_value.specs.Ids.{client}
 use Rattle.run_examples.specs.Calls.{starting}
 use Rattle.run_examples.proofs.call_examples.requests_taken.Goals as goal
-use Rattle.part_files.specs.Examples.{request_taken}
+use Rattle.run_rules.specs.Examples.{request_taken}
 use Rattle.request_reader.specs.Line.{Request}
 
 pub returns-clause-request : goal.returns-clause-request

@@ -11,9 +11,9 @@ use Rattle.engine_run.specs.Served.{IsLeftAt}
 use Rattle.engine_run.proofs.Served.{has_served}
 use Rattle.hub_store.specs.Examples.{nowhere}
 use Rattle.hub_store.specs.Moments.SaidSoFar.{silent}
-use Rattle.part_files.specs.Examples.{request}
-use Rattle.part_files.specs.Stands.{shown_by}
-use Rattle.part_files.proofs.Alone.{are_shown_alone}
+use Rattle.part_items.specs.Examples.{request}
+use Rattle.dura_model.specs.Entries.{shown_by}
+use Rattle.dura_model.proofs.Alone.{are_shown_alone}
 use Rattle.part_rounds.specs.Fills.{Fills}
 use Rattle.part_rounds.specs.Further.{GoesFurther}
 use Rattle.run_causes.specs.declared.cause.Cause.TheVariants as causes

@@ -6,8 +6,8 @@ use Rattle.dura_model.specs.World.{World}
 use Rattle.dura_value.specs.Messages.{Message}
 use Rattle.engine_run.specs.Order.{no_later}
 use Rattle.engine_run.specs.Served.{first_open, IsFirstOpen}
-use Rattle.part_files.specs.Examples.{request}
-use Rattle.part_files.specs.Stands.{shown_by}
+use Rattle.part_items.specs.Examples.{request}
+use Rattle.dura_model.specs.Entries.{shown_by}
 use Rattle.request_reader.specs.Line.{Request}
 use Rattle.run_examples.specs.Calls.{no_flows, starting, second, third, rules_for, held_back, out_of_turn}
 use Rattle.run_examples.proofs.call_examples.runs_wait.Goals as goal

@@ -1,7 +1,7 @@
 use Rattle.std.proofs.Common.{◌≡◌, [], ◌∷◌, Some, None, refl, sym, subst, arith}
 use Rattle.dura_model.specs.Partition.{Partition, accepted}
 use Rattle.dura_value.specs.Items.{ran, ended}
-use Rattle.part_files.specs.Examples.{request}
+use Rattle.part_items.specs.Examples.{request}
 use Rattle.part_steps.specs.Enabled.{moment_at}
 use Rattle.run_examples.proofs.AskedOnce.{then, taking_fills}
 use Rattle.run_examples.specs.Calls.{no_flows}

@@ -1,7 +1,7 @@
 use Rattle.std.proofs.Common.{◌≡◌, [], Ok, Err, refl, arith}
 use Rattle.commit_log.specs.Segment.{header_at, frames_from, segment, reading_of}
 use Rattle.commit_log.specs.declared.header.Header.{Header}
-use Rattle.part_files.specs.Examples.{digest, empty_log, taking}
+use Rattle.part_items.specs.Examples.{digest, empty_log, taking}
 use Rattle.part_items.specs.Spelling.{spell_entry, spell_heading}
 use Rattle.run_rules.proofs.FirstEntry.{first_follows}
 use Rattle.run_examples.specs.Calls.{no_flows}

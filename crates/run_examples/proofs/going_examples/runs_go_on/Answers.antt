@@ -1,8 +1,9 @@
 use Rattle.std.proofs.Common.{◌≡◌, ◌∙◌, inl, inr, ℕ, List, [], ◌∷◌, Ok, ap, subst, arith}
 use Rattle.dura_model.specs.Partition.{Partition, fresh}
 use Rattle.dura_value.specs.Items.{Entry}
-use Rattle.part_files.specs.Examples.{taking, request_taken}
-use Rattle.part_files.specs.Placing.{placed}
+use Rattle.part_items.specs.Examples.{taking}
+use Rattle.run_rules.specs.Examples.{request_taken}
+use Rattle.dura_model.specs.Entries.{placed}
 use Rattle.run_examples.specs.Calls.{no_flows}
 use Rattle.run_examples.proofs.Idle.{idle_runs}
 use Rattle.run_examples.proofs.Unread.{nothing_unread}

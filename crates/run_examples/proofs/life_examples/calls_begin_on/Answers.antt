@@ -1,5 +1,5 @@
 use Rattle.std.proofs.Common.{◌≡◌, ◌==◌, ℕ, Bool, true, false, cond, [], ◌∷◌, refl, sym, subst, arith}
-use Rattle.part_files.specs.Examples.{empty_log}
+use Rattle.part_items.specs.Examples.{empty_log}
 use Rattle.site_model.specs.History.{on, wrote, changes_of, Leaves, IsImage}
 use Rattle.run_examples.proofs.life_examples.calls_begin_on.Goals as goal
 

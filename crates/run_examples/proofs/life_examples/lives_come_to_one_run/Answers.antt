@@ -5,10 +5,9 @@ use Rattle.dura_model.proofs.Outcomes.{never_twice}
 use Rattle.dura_value.specs.Items.{Entry}
 use Rattle.engine_run.specs.Lives.{KeepsOn, IsSaidBy, IsSettledIn}
 use Rattle.engine_run.specs.Picks.{rules_with}
-use Rattle.part_files.specs.Examples.{digest, two_files, empty_log, taking}
-use Rattle.part_files.specs.Placing.{next_life}
-use Rattle.part_files.specs.Stands.{shown_by}
-use Rattle.part_files.proofs.LabelsStand.{labels_stand}
+use Rattle.part_items.specs.Examples.{digest, two_files, empty_log, taking}
+use Rattle.dura_model.specs.Entries.{next_life, shown_by}
+use Rattle.run_rules.proofs.LabelsStand.{labels_stand}
 use Rattle.run_examples.specs.Calls.{no_flows, nothing_asked}
 use Rattle.run_examples.specs.LivesSeen.{idle_life, settled_life, spoken_life}
 use Rattle.run_laws.specs.Leaves.{IsAnswered, AllAnswered}

@@ -3,7 +3,7 @@ use Rattle.commit_log.specs.Segment.{header_at}
 use Rattle.dura_model.specs.Partition.{fresh}
 use Rattle.engine_run.specs.Lives.{IsLife, no_life, one_more}
 use Rattle.flow_syntax.specs.Syntax.{Flows}
-use Rattle.part_files.specs.Examples.{digest}
+use Rattle.part_items.specs.Examples.{digest}
 use Rattle.run_examples.specs.Calls.{no_flows}
 use Rattle.run_examples.specs.LivesSeen.{idle_life}
 use Rattle.site_model.specs.Moments.Always.{begins}

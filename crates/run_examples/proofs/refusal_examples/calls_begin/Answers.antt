@@ -1,6 +1,6 @@
 use Rattle.std.proofs.Common.{◌≡◌, refl, ap, arith}
 use Rattle.dura_model.specs.Partition.{Partition, fresh}
-use Rattle.part_files.specs.Examples.{request_taken}
+use Rattle.run_rules.specs.Examples.{request_taken}
 use Rattle.run_examples.proofs.LogsKept.{torn_kept}
 use Rattle.run_examples.proofs.Ready.{asks_here, keeps_fresh, keeps_earlier}
 use Rattle.run_examples.specs.Directories.{earlier_log}

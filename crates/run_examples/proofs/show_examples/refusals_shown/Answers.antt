@@ -1,5 +1,5 @@
 use Rattle.std.proofs.Common.{◌∙◌, refl, sym}
-use Rattle.part_files.specs.Examples.{digest}
+use Rattle.part_items.specs.Examples.{digest}
 use Rattle.recover_core.specs.declared.error.RecoverError.TheVariants as errors
 use Rattle.run_examples.specs.Calls.{one_asked}
 use Rattle.run_examples.proofs.LogsKept.{other_kept}

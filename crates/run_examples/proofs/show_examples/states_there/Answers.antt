@@ -1,9 +1,9 @@
 use Rattle.std.proofs.Common.{◌≡◌, ℕ, ap, subst, refl, arith}
 use Rattle.dura_model.specs.Partition.{Partition}
 use Rattle.flow_syntax.specs.Syntax.{Flows}
-use Rattle.part_files.specs.Examples.{digest, empty_log, request_taken}
-use Rattle.part_files.specs.Logs.{refused, other_flows, logs_in}
-use Rattle.part_files.specs.Stands.{alone_with}
+use Rattle.part_items.specs.Examples.{digest, empty_log}
+use Rattle.run_rules.specs.Examples.{request_taken}
+use Rattle.part_items.specs.Logs.{refused, other_flows, logs_in, alone_with}
 use Rattle.recover_core.specs.declared.error.RecoverError.TheVariants as errors
 use Rattle.run_examples.specs.Calls.{one_asked, no_flows}
 use Rattle.run_examples.specs.Directories.{directory}

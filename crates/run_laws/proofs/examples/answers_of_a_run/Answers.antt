@@ -6,7 +6,7 @@ use Rattle.dura_value.specs.Ids.{client}
 use Rattle.dura_value.specs.Items.{Entry}
 use Rattle.dura_value.specs.Messages.{is_unknown}
 use Rattle.hub_store.specs.Trail.{Said}
-use Rattle.part_files.specs.Placing.{labels_in}
+use Rattle.dura_model.specs.Entries.{labels_in}
 use Rattle.request_reader.specs.Line.{Request}
 use Rattle.run_rules.specs.Examples.{first_asked, then_asked}
 use Rattle.run_laws.specs.Examples.{empty_origin, no_flows, rules, answering, answered_world, first_said}

@@ -3,9 +3,9 @@ use Rattle.commit_log.specs.declared.header.Header.{Header}
 use Rattle.dura_model.specs.Partition.{Partition, fresh}
 use Rattle.dura_value.specs.Ids.{client}
 use Rattle.dura_value.specs.Messages.{was_started}
-use Rattle.part_files.specs.Examples.{digest}
-use Rattle.part_files.specs.Kept.{kept_in}
-use Rattle.part_files.specs.Logs.{second_log}
+use Rattle.part_items.specs.Examples.{digest}
+use Rattle.part_items.specs.Kept.{kept_in}
+use Rattle.part_items.specs.Logs.{second_log}
 use Rattle.run_rules.specs.Examples.{started}
 use Rattle.run_laws.proofs.examples.calls_begin.Goals as goal
 

@@ -2,7 +2,7 @@ use Rattle.std.proofs.Common.{inl, [], refl, arith}
 use Rattle.commit_log.specs.Segment.{header_at}
 use Rattle.dura_model.specs.Dependencies.Founded.{none}
 use Rattle.dura_model.specs.Partition.{fresh}
-use Rattle.part_files.specs.Kept.{entries_from}
+use Rattle.part_items.specs.Kept.{entries_from}
 use Rattle.run_laws.specs.Leaves.AllAnswered.{nothing_said}
 use Rattle.run_laws.specs.Leaves.AllRan.{nothing_ran}
 use Rattle.run_laws.proofs.examples.crashes_leave.Goals as goal

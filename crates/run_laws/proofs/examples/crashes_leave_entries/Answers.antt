@@ -4,8 +4,8 @@ use Rattle.std.proofs.lemmas.List.Elements.{All-from_recursion}
 use Rattle.dura_model.specs.Dependencies.Founded.{none, one_more}
 use Rattle.dura_model.specs.Partition.{fresh}
 use Rattle.dura_value.specs.Items.{Entry}
-use Rattle.part_files.specs.Examples.{taking}
-use Rattle.part_files.specs.Placing.{placed}
+use Rattle.part_items.specs.Examples.{taking}
+use Rattle.dura_model.specs.Entries.{placed}
 use Rattle.run_laws.specs.Examples.{empty_origin}
 use Rattle.run_laws.specs.Leaves.{IsOfCall, committed}
 use Rattle.run_laws.specs.Leaves.AllAnswered.{nothing_said}

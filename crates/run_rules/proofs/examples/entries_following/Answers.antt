@@ -1,8 +1,9 @@
 use Rattle.std.proofs.Common.{◌≡◌, [], ◌∷◌, Ok, subst, arith}
 use Rattle.dura_model.specs.Partition.{Partition}
 use Rattle.dura_value.specs.Items.{took}
-use Rattle.part_files.specs.Examples.{request, taking, request_taken}
-use Rattle.part_files.specs.Placing.{placed}
+use Rattle.part_items.specs.Examples.{request, taking}
+use Rattle.run_rules.specs.Examples.{request_taken}
+use Rattle.dura_model.specs.Entries.{placed}
 use Rattle.run_rules.proofs.FirstEntry.{first_follows}
 use Rattle.run_rules.proofs.examples.entries_following.Goals as goal
 

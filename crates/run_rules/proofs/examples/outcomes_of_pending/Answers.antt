@@ -3,7 +3,7 @@ use Rattle.std.specs.List.{All}
 use Rattle.std.proofs.lemmas.List.Elements.{All-from_recursion}
 use Rattle.dura_model.specs.Partition.{fresh}
 use Rattle.dura_value.specs.Items.{Entry, took, ended}
-use Rattle.part_files.specs.Examples.{request, taking}
+use Rattle.part_items.specs.Examples.{request, taking}
 use Rattle.run_rules.specs.Examples.{summing, adding, ending}
 use Rattle.run_rules.specs.Rules.{EndsPending}
 use Rattle.run_rules.proofs.examples.outcomes_of_pending.Goals as goal

@@ -1,7 +1,8 @@
 use Rattle.std.proofs.Common.{◌≡◌, [], ◌∷◌, Ok, subst}
 use Rattle.dura_model.specs.Partition.{Partition}
-use Rattle.part_files.specs.Examples.{taking, request_taken}
-use Rattle.part_files.specs.Placing.{placed}
+use Rattle.part_items.specs.Examples.{taking}
+use Rattle.run_rules.specs.Examples.{request_taken}
+use Rattle.dura_model.specs.Entries.{placed}
 use Rattle.run_rules.proofs.FirstEntry.{first_follows}
 use Rattle.run_rules.proofs.field_examples.entries_accepted.Goals as goal
 

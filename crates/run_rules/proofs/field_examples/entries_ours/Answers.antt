@@ -1,7 +1,7 @@
 use Rattle.std.proofs.Common.{◌≡◌, [], ◌∷◌, refl, arith}
 use Rattle.std.proofs.lemmas.List.Elements.{All-from_recursion}
 use Rattle.dura_value.specs.Items.{took, fired}
-use Rattle.part_files.specs.Examples.{request}
+use Rattle.part_items.specs.Examples.{request}
 use Rattle.run_rules.specs.Examples.{rules_with, summing}
 use Rattle.run_rules.specs.Rules.{IsAsked, IsBy}
 use Rattle.run_rules.proofs.field_examples.entries_ours.Goals as goal

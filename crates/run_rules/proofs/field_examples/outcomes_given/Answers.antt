@@ -5,7 +5,7 @@ use Rattle.dura_model.specs.Partition.{Partition}
 use Rattle.dura_value.specs.Items.{Entry, ended}
 use Rattle.dura_value.specs.declared.data.Value.TheVariants as values
 use Rattle.dura_value.specs.declared.outcome.Outcome.TheVariants as outcomes
-use Rattle.part_files.specs.Placing.{AllGiven}
+use Rattle.dura_model.specs.Entries.{AllGiven}
 use Rattle.run_rules.specs.Examples.{summing, ending}
 use Rattle.run_rules.specs.FieldExamples.{asking, asking_rules, no_sum}
 use Rattle.run_rules.specs.Rules.{IsAsked, IsBy, IsOurs, EndsPending}

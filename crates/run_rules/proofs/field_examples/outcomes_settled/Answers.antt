@@ -5,7 +5,7 @@ use Rattle.dura_model.specs.Partition.{Partition, fresh}
 use Rattle.dura_model.specs.Placed.{IsGiven}
 use Rattle.dura_value.specs.Items.{Entry, ended}
 use Rattle.flow_syntax.specs.Machine as machine
-use Rattle.part_files.specs.Placing.{placed}
+use Rattle.dura_model.specs.Entries.{placed}
 use Rattle.run_rules.specs.Examples.{summing, rules_with}
 use Rattle.run_rules.specs.FieldExamples.{sum_flows, starting, ending_first, no_sum}
 use Rattle.run_rules.specs.Rules.{IsAsked, IsBy, IsOurs, EndsPending, EndPending}

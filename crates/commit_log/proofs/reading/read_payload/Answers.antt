@@ -1,0 +1,32 @@
+use Rattle.std.proofs.Common.{◌≡◌, ℕ, Result, Ok, Err, refl}
+use Rattle.commit_log.specs.declared.reader.FrameError.{FrameError}
+use Rattle.commit_log.specs.declared.reader.FrameError.TheVariants.{Damaged, SiteFault, Memory}
+use Rattle.commit_log.proofs.reading.read_payload.Goals as goal
+
+-- answers that differ
+ok_apart : {T E : Type 0} (value : T) (error : E) → Ok value ≡ Err error → ⊥
+ok_apart value error is = cc
+
+damaged_fault : {T : Type 0} (result : Result T FrameError) (offset : ℕ) → result ≡ Err (Damaged offset) → result ≡ Err SiteFault → ⊥
+damaged_fault result offset damaged fault = cc
+
+memory_fault : {T : Type 0} (result : Result T FrameError) → result ≡ Err Memory → result ≡ Err SiteFault → ⊥
+memory_fault result memory fault = cc
+
+pub returns-in-Err-clause-fault : goal.returns-in-Err-clause-fault
+returns-in-Err-clause-fault g c is = absurd (memory_fault _ refl is)
+
+pub returns-in-Err-read-clause-says : goal.returns-in-Err-read-clause-says
+returns-in-Err-read-clause-says g c tells = tt
+
+pub returns-in-Err-read-clause-fault : goal.returns-in-Err-read-clause-fault
+returns-in-Err-read-clause-fault g c is = c.in-Err-read.ensures.cause.risen
+
+pub returns-then-count-len-clause-fault : goal.returns-then-count-len-clause-fault
+returns-then-count-len-clause-fault g c is = absurd (damaged_fault _ _ refl is)
+
+pub returns-in-Ok-copy_of-clause-fault : goal.returns-in-Ok-copy_of-clause-fault
+returns-in-Ok-copy_of-clause-fault g c is = absurd (ok_apart _ _ is)
+
+pub returns-clause-fault : goal.returns-clause-fault
+returns-clause-fault g c is = absurd (memory_fault _ refl is)

@@ -1,6 +1,0 @@
-use Rattle.log_reader.proofs.Fronts.{read_is}
-use Rattle.log_reader.proofs.Header.{header_front}
-use Rattle.log_reader.proofs.opening.read_front.Goals as goal
-
-pub returns-in-Ok-clause-says : goal.returns-in-Ok-clause-says
-returns-in-Ok-clause-says g c tells = header_front c.args.partition _ _ _ (read_is _ 0 c.in-Ok.count _ _ (c.in-Ok.ensures.value tells)) c.parse_front.ensures.says

@@ -1,3 +1,0 @@
-pub mod Frames
-pub mod Fronts
-pub mod Outcomes

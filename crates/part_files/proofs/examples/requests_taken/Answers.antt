@@ -1,8 +1,0 @@
-use Rattle.std.proofs.Common.{refl}
-use Rattle.part_files.proofs.examples.requests_taken.Goals as goal
-
-pub returns-clause-once : goal.returns-clause-once
-returns-clause-once c = λ flows. refl
-
-pub returns-clause-twice : goal.returns-clause-twice
-returns-clause-twice c = λ flows. refl

@@ -1,5 +1,0 @@
-pub mod Examples
-pub mod Kept
-pub mod Logs
-pub mod Placing
-pub mod Stands
