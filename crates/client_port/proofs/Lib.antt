@@ -3,5 +3,4 @@ pub mod Clients
 pub mod Dues
 pub mod Floats
 pub mod Parts
-pub mod Said
 pub mod Stays

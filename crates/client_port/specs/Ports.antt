@@ -1,9 +1,7 @@
--- What clients have asked, what may be sent next, and what was said.
-use Rattle.std.specs.Prelude.{ℕ, ◌+◌, List, [], ◌∷◌, ◌++◌, fold, length, nat_lt, Bool, if◌then◌else◌, Option, Some, None}
+-- What clients have asked, and what may be sent next.
+use Rattle.std.specs.Prelude.{ℕ, ◌+◌, List, [], ◌∷◌, ◌++◌, fold, length, nat_lt, Bool, if◌then◌else◌, Option, None}
 use Rattle.std.specs.List.{filter_map, list_any, slice_get}
 use Rattle.std.specs.Str.{bytes_eq}
-use Rattle.client_port.specs.Lines.{line_of}
-use Rattle.dura_value.specs.Messages.{Answer}
 use Rattle.request_reader.specs.Line.{Request}
 
 -- the requests of a client in their order, the first of which were said
@@ -11,11 +9,6 @@ pub record Queue : Type 0 where
   pub client : List ℕ
   pub requests : List Request
   pub said : ℕ
-
--- each client's queue, in the order of their first requests, and the lines that were said
-pub record Ports : Type 0 where
-  pub queues : List Queue
-  pub lines : List (List ℕ)
 
 -- whether it is this client's
 abbrev pub is_of : List ℕ → Queue → Bool
@@ -53,16 +46,3 @@ due_of name (q ∷ qs) = if is_of name q then first_due q else due_of name qs
 -- one more was said, where there is one
 abbrev pub with_said : Queue → Queue
 with_said q = if nat_lt q.said (length q.requests) then record q { said = q.said + 1 } else q
-
--- the line of an answer to a request, where there is an answer
-abbrev pub lines_for : Option Request → Option Answer → List (List ℕ)
-lines_for (Some r) (Some answer) = line_of r.client r.number answer ∷ []
-lines_for (Some r) None = []
-lines_for None answer = []
-
--- The client's next request was answered, or counts as said with no answer. With no next request nothing changes.
-abbrev pub after_said : List ℕ → Option Answer → Ports → Ports
-after_said name answer p = record {
-  queues = at_client with_said name p.queues;
-  lines = p.lines ++ lines_for (due_of name p.queues) answer;
-}

@@ -1,8 +1,8 @@
-//! What clients may send next, and what was said to them: a line for each answer.
+//! What clients may send next, and the line of an answer to them.
 //!
 //! - `queues` has each client's requests, and `laws` says that a queue has just these.
-//! - `port` is what is due and what was said.
-//! - `lines` makes the line of an answer, and `json` the JSON of the values in it.
+//! - `port` is what is due, and moves a client on by one. It keeps no line: who says an answer has it.
+//! - `lines` makes the line of an answer, the one place where this is done, and `json` the JSON of the values in it.
 #![tactic(auto)]
 
 mod json;

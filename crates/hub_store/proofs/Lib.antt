@@ -10,10 +10,10 @@ pub mod LogsStand
 pub mod OpenedAgain
 pub mod Openings
 pub mod Payloads
+pub mod Refusals
 pub mod Saying
 pub mod Settling
 pub mod Shortness
 pub mod Standing
-pub mod Stops
 pub mod Stores
 pub mod Trails

@@ -10,6 +10,5 @@ pub mod Plain
 pub mod Runs
 pub mod Short
 pub mod Sound
-pub mod Stops
 pub mod Trail
 pub mod Ways

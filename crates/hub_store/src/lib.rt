@@ -2,7 +2,7 @@
 //!
 //! It owns the site, what was settled, how far the frame of each partition has come, which requests' answers were said, and
 //! whether a device call failed. Each method makes one device call, and `reopen`, which goes on after one that failed, two. `commit`
-//! makes all of a commit's, one after another, and `stop` is why a call ends before all is done.
+//! makes all of a commit's, one after another. A refusal tells what the store knows of: its log, its disk, its tape, its memory.
 #![tactic(auto)]
 
 mod begin;
@@ -19,7 +19,6 @@ mod reopen;
 mod say;
 mod settle;
 mod start;
-mod stop;
 mod store;
 mod sync;
 mod trail;
@@ -30,7 +29,6 @@ pub use end::Ended;
 pub use refusal::{BodyRefusal, Refusal, SayError};
 pub use reopen::Reopening;
 pub use start::Start;
-pub use stop::Stop;
 pub use store::Store;
 pub use trail::{Said, Settled, Trail};
 pub use way::Stage;

@@ -1,0 +1,83 @@
+-- Why no frame was written, and why a commit stops.
+use Rattle.std.proofs.Common.{◌≡◌, inl, inr, ℕ, ◌<◌, ◌≤◌, List, Result, Ok, Err, ap, subst, arith}
+use Rattle.std.specs.Prelude.{◌⊎◌, IsErrAnd, OnOk, OnErr}
+use Rattle.std.proofs.lemmas.Bool.{cases_lt}
+use Rattle.dura_value.specs.Items.{Entry}
+use Rattle.hub_store.specs.Frames.{length_with}
+use Rattle.hub_store.specs.declared.refusal.BodyRefusal.{BodyRefusal}
+use Rattle.hub_store.specs.declared.refusal.BodyRefusal.TheVariants.{Full, SiteFault, Memory}
+use Rattle.hub_store.specs.declared.way.Way.{Way}
+use Rattle.site_model.specs.Calls.{HasRisen}
+
+-- ---- answers
+
+-- answers that differ
+pub ok_apart : {T E : Type 0} (value : T) (error : E) → Ok value ≡ Err error → ⊥
+ok_apart value error is = cc is
+
+-- what follows on an answer
+pub on_ok : {T E A B : Type 0} (r : Result T E) → (A → B) → OnOk r A → OnOk r B
+on_ok (Ok x) then has = then has
+on_ok (Err e) then has = tt
+
+pub on_err : {T E A B : Type 0} (r : Result T E) → (A → B) → OnErr r A → OnErr r B
+on_err (Ok x) then has = tt
+on_err (Err e) then has = then has
+
+pub of_err : {T E A : Type 0} (r : Result T E) (e : E) → OnErr r A → r ≡ Err e → A
+of_err (Ok x) e has is = absurd (ok_apart x e is)
+of_err (Err x) e has is = has
+
+-- ---- the answer of a `?`
+
+pub residual_is : {T E : Type 0} (r : Result T E) (error : E) → IsErrAnd r (λ y. y ≡ error) → r ≡ Err error
+residual_is (Ok x) error has = absurd has
+residual_is {E = E} (Err y) error has = ap (λ (e : E). Err e) has
+
+pub residual_on_ok : {T E : Type 0} (A : Type 0) (r : Result T E) (error : E) → IsErrAnd r (λ y. y ≡ error) → OnOk r A
+residual_on_ok A (Ok x) error has = absurd has
+residual_on_ok A (Err y) error has = tt
+
+pub residual_on_err : {T E : Type 0} (A : Type 0) (r : Result T E) → A → OnErr r A
+residual_on_err A (Ok x) has = tt
+residual_on_err A (Err y) has = has
+
+-- ---- a refusal
+
+pub fault_not_full : {T : Type 0} (r : Result T BodyRefusal) (of n : ℕ) → r ≡ Err SiteFault → r ≡ Err (Full of n) → ⊥
+fault_not_full r of n fault full = cc (fault, full)
+
+pub memory_not_full : {T : Type 0} (r : Result T BodyRefusal) (of n : ℕ) → r ≡ Err Memory → r ≡ Err (Full of n) → ⊥
+memory_not_full r of n memory full = cc (memory, full)
+
+pub memory_not_fault : {T : Type 0} (r : Result T BodyRefusal) → r ≡ Err Memory → r ≡ Err SiteFault → ⊥
+memory_not_fault r memory fault = cc (memory, fault)
+
+-- the same refusal of another answer
+pub same_refusal : {S T : Type 0} (r : Result S BodyRefusal) (s : Result T BodyRefusal) (a b : BodyRefusal) → r ≡ Err a → s ≡ Err a → s ≡ Err b → r ≡ Err b
+same_refusal r s a b here there is = cc (here, there, is)
+
+pub same_either : {S T : Type 0} (r : Result S BodyRefusal) (s : Result T BodyRefusal) (a : BodyRefusal) (part n : ℕ) → r ≡ Err a → s ≡ Err a
+    → (s ≡ Err Memory) ⊎ (s ≡ Err (Full part n)) → (r ≡ Err Memory) ⊎ (r ≡ Err (Full part n))
+same_either r s a part n here there either = elim either [
+  | inl memory ↦ inl (same_refusal r s a Memory here there memory)
+  | inr full ↦ inr (same_refusal r s a (Full part n) here there full)
+]
+
+pub ok_no_refusal : {T : Type 0} (value : T) (part n : ℕ) → (Ok value ≡ Err Memory) ⊎ (Ok value ≡ Err (Full part n)) → ⊥
+ok_no_refusal value part n either = elim either [
+  | inl memory ↦ cc memory
+  | inr full ↦ cc full
+]
+
+-- a log that is full, of the same frame
+pub full_as : {T : Type 0} (r : Result T BodyRefusal) (segment part : ℕ) (way : Way) (a b : List Entry) → a ≡ b
+    → (segment ≤ length_with way a → (r ≡ Err Memory) ⊎ (r ≡ Err (Full part (length_with way a)))) → segment ≤ length_with way b → (r ≡ Err Memory) ⊎ (r ≡ Err (Full part (length_with way b)))
+full_as r segment part way a b same full = subst (λ (f : List Entry). segment ≤ length_with way f → (r ≡ Err Memory) ⊎ (r ≡ Err (Full part (length_with way f)))) same full
+
+-- ---- counts
+
+-- a count that rose later rose
+pub risen_after : (before mid now : ℕ) → before ≤ mid → mid ≤ now → HasRisen mid now → HasRisen before now
+risen_after before mid now first second (inl rose) = inl (omega arith)
+risen_after before mid now first second (inr full) = elim (cases_lt before mid) [ inl rose ↦ inl (omega arith) | inr same ↦ inr (omega arith) ]
