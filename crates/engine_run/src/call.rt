@@ -1,17 +1,14 @@
 //! The top call.
 
-ghost use Rattle.std.specs.Prelude.{◌≡◌, ◌≢◌, ◌⊎◌, ◌≤◌, ◌<◌, ◌^◌, ℕ, [], None, Some};
+ghost use Rattle.std.specs.Prelude.{◌≡◌, ◌≢◌, ◌⊎◌, ◌≤◌, ◌<◌, ◌^◌, [], None};
 ghost use Rattle.command_words.specs.Command.{call_in};
-ghost use Rattle.command_words.specs.declared.words.Call.TheVariants as calls;
-ghost use Rattle.command_words.specs.declared.words.RunOptions.{RunOptions as AnyOptions};
-ghost use Rattle.engine_run.specs.Causes.{AsksFor, CauseHolds, AreRefused, IsRefusal, LeavesAll, SettlesNothing, Untouched};
+ghost use Rattle.engine_run.specs.Causes.{AsksFor, CauseHolds, AreRefused, IsRefusal, LeavesAll, Untouched};
 ghost use Rattle.engine_run.specs.Ends.{terms_of};
 ghost use Rattle.engine_run.specs.Headline.{Headline};
 ghost use Rattle.engine_run.specs.Job.{Job};
-ghost use Rattle.engine_run.specs.Showing.{ShowsAs, WritesNothing};
+ghost use Rattle.engine_run.specs.Promises.{faults_of, FaultsRise, Promises};
 ghost use Rattle.run_causes.specs.Causes.{status_of};
-ghost use Rattle.site_model.specs.Calls.{HasRisen};
-ghost use Rattle.site_model.specs.History.{content_of, tape};
+ghost use Rattle.site_model.specs.History.{content_of};
 
 use crate::ended::{Ended, end_with};
 use crate::prepared::prepare;
@@ -49,12 +46,7 @@ fn run_requests<V: Site, C: Clock, A: Activities>(
     ensures settles_nothing { IsRefusal result.cause → result.trail ≡ [] }
     ensures headline { V.tells result.site → (job : Job) → AsksFor (λ file. content_of file (V.history site)) job
         → Headline job (λ file. content_of file (V.history site)) (V.history site) (V.history result.site) result.trail (terms_of options A.gives (C.given clock) (C.given result.clock) (C.latest result.clock)) result.cause }
-    ensures fault { result.cause ≡ Cause.SiteFault → HasRisen (V.disk_faults site) (V.disk_faults result.site) }
-    ensures say_fault { result.cause ≡ Cause.SayFault → HasRisen (V.say_faults site) (V.say_faults result.site) }
-    ensures clock_fault { result.cause ≡ Cause.ClockFault → HasRisen (C.clock_faults clock) (C.clock_faults result.clock) }
-    ensures later { V.disk_faults site ≤ V.disk_faults result.site }
-    ensures say_later { V.say_faults site ≤ V.say_faults result.site }
-    ensures clock_later { C.clock_faults clock ≤ C.clock_faults result.clock }
+    ensures faults { FaultsRise result.cause (faults_of (V.disk_faults site) (V.say_faults site) (C.clock_faults clock)) (faults_of (V.disk_faults result.site) (V.say_faults result.site) (C.clock_faults result.clock)) }
 {
     match prepare(alloc, &mut site) {
         Ok(prepared) => go_named::<V, Brand, C, A>(alloc, site, clock, acts, prepared, options),
@@ -76,32 +68,13 @@ pub fn run_alone<V: Site, C: Clock, A: Activities>(
     // The words alone decide on a usage fault, and then nothing happens.
     ensures usage { call_in words.now ≡ None → (result.cause ≡ Cause.Usage) ⊎ (result.cause ≡ Cause.Memory) }
     ensures only_usage { result.cause ≡ Cause.Usage → call_in words.now ≡ None }
-    ensures idle { call_in words.now ≡ None → V.history result.site ≡ V.history site }
 
-    // Which other causes a run may end with, by what the files held at the start, and that a refusal writes and says nothing. Where the
-    // files are to be refused nothing is written, said or settled, whatever the cause.
-    ensures answers { V.tells result.site → (options : AnyOptions) → call_in words.now ≡ Some (calls.Run options) → CauseHolds (λ file. content_of file (V.history site)) result.cause }
-    ensures untouched { (options : AnyOptions) → call_in words.now ≡ Some (calls.Run options) → Untouched (V.history site) (V.history result.site) result.cause }
-    ensures refused { V.tells result.site → (options : AnyOptions) → call_in words.now ≡ Some (calls.Run options) → AreRefused (λ file. content_of file (V.history site)) → LeavesAll (V.history site) (V.history result.site) result.trail }
-    ensures settles_nothing { SettlesNothing (call_in words.now) result.cause → result.trail ≡ [] }
-
-    // At every moment of a run, inside each call of the site too, a crash leaves files that stand for a legal run of the
-    // failure-free machine: the one at the start, then what is settled by then, then at most the one frame whose gate is being
-    // written; and what was said by then answers requests as that run does. And why it ends.
-    ensures headline { V.tells result.site → (options : AnyOptions) → call_in words.now ≡ Some (calls.Run options) → (job : Job) → AsksFor (λ file. content_of file (V.history site)) job
-        → Headline job (λ file. content_of file (V.history site)) (V.history site) (V.history result.site) result.trail (terms_of options A.gives (C.given clock) (C.given result.clock) (C.latest result.clock)) result.cause }
-
-    // What is shown, and that nothing is written then.
-    ensures shows { V.tells result.site → (partitions : ℕ) → call_in words.now ≡ Some (calls.Show partitions) → ShowsAs (λ file. content_of file (V.history site)) (tape (V.history site)) (tape (V.history result.site)) result.cause }
-    ensures writes_nothing { (partitions : ℕ) → call_in words.now ≡ Some (calls.Show partitions) → WritesNothing (V.history site) (V.history result.site) }
+    // All else, by what the words ask for: what every crash of a run leaves, what it answers and said, and what refusals leave.
+    ensures promises { Promises words.now (V.tells result.site) (V.history site) (V.history result.site)
+        (λ options. terms_of options A.gives (C.given clock) (C.given result.clock) (C.latest result.clock)) result.trail result.cause }
 
     // A fault has its cause.
-    ensures fault { result.cause ≡ Cause.SiteFault → HasRisen (V.disk_faults site) (V.disk_faults result.site) }
-    ensures say_fault { result.cause ≡ Cause.SayFault → HasRisen (V.say_faults site) (V.say_faults result.site) }
-    ensures clock_fault { result.cause ≡ Cause.ClockFault → HasRisen (C.clock_faults clock) (C.clock_faults result.clock) }
-    ensures later { V.disk_faults site ≤ V.disk_faults result.site }
-    ensures say_later { V.say_faults site ≤ V.say_faults result.site }
-    ensures clock_later { C.clock_faults clock ≤ C.clock_faults result.clock }
+    ensures faults { FaultsRise result.cause (faults_of (V.disk_faults site) (V.say_faults site) (C.clock_faults clock)) (faults_of (V.disk_faults result.site) (V.say_faults result.site) (C.clock_faults result.clock)) }
 {
     match read_words(alloc, words) {
         Ok(Call::Run(options)) => run_requests(alloc, site, clock, acts, options),
@@ -137,32 +110,13 @@ pub fn run<R: Threads + Wait + Sync, V: Site + Send, C: Clock + Send, A: Activit
     // The words alone decide on a usage fault, and then nothing happens.
     ensures usage { call_in words.now ≡ None → (result.cause ≡ Cause.Usage) ⊎ (result.cause ≡ Cause.Memory) }
     ensures only_usage { result.cause ≡ Cause.Usage → call_in words.now ≡ None }
-    ensures idle { call_in words.now ≡ None → V.history result.site ≡ V.history site }
 
-    // Which other causes a run may end with, by what the files held at the start, and that a refusal writes and says nothing. Where the
-    // files are to be refused nothing is written, said or settled, whatever the cause.
-    ensures answers { V.tells result.site → (options : AnyOptions) → call_in words.now ≡ Some (calls.Run options) → CauseHolds (λ file. content_of file (V.history site)) result.cause }
-    ensures untouched { (options : AnyOptions) → call_in words.now ≡ Some (calls.Run options) → Untouched (V.history site) (V.history result.site) result.cause }
-    ensures refused { V.tells result.site → (options : AnyOptions) → call_in words.now ≡ Some (calls.Run options) → AreRefused (λ file. content_of file (V.history site)) → LeavesAll (V.history site) (V.history result.site) result.trail }
-    ensures settles_nothing { SettlesNothing (call_in words.now) result.cause → result.trail ≡ [] }
-
-    // At every moment of a run, inside each call of the site too, a crash leaves files that stand for a legal run of the
-    // failure-free machine: the one at the start, then what is settled by then, then at most the one frame whose gate is being
-    // written; and what was said by then answers requests as that run does. And why it ends.
-    ensures headline { V.tells result.site → (options : AnyOptions) → call_in words.now ≡ Some (calls.Run options) → (job : Job) → AsksFor (λ file. content_of file (V.history site)) job
-        → Headline job (λ file. content_of file (V.history site)) (V.history site) (V.history result.site) result.trail (terms_of options A.gives (C.given clock) (C.given result.clock) (C.latest result.clock)) result.cause }
-
-    // What is shown, and that nothing is written then.
-    ensures shows { V.tells result.site → (partitions : ℕ) → call_in words.now ≡ Some (calls.Show partitions) → ShowsAs (λ file. content_of file (V.history site)) (tape (V.history site)) (tape (V.history result.site)) result.cause }
-    ensures writes_nothing { (partitions : ℕ) → call_in words.now ≡ Some (calls.Show partitions) → WritesNothing (V.history site) (V.history result.site) }
+    // All else, by what the words ask for: what every crash of a run leaves, what it answers and said, and what refusals leave.
+    ensures promises { Promises words.now (V.tells result.site) (V.history site) (V.history result.site)
+        (λ options. terms_of options A.gives (C.given clock) (C.given result.clock) (C.latest result.clock)) result.trail result.cause }
 
     // A fault has its cause.
-    ensures fault { result.cause ≡ Cause.SiteFault → HasRisen (V.disk_faults site) (V.disk_faults result.site) }
-    ensures say_fault { result.cause ≡ Cause.SayFault → HasRisen (V.say_faults site) (V.say_faults result.site) }
-    ensures clock_fault { result.cause ≡ Cause.ClockFault → HasRisen (C.clock_faults clock) (C.clock_faults result.clock) }
-    ensures later { V.disk_faults site ≤ V.disk_faults result.site }
-    ensures say_later { V.say_faults site ≤ V.say_faults result.site }
-    ensures clock_later { C.clock_faults clock ≤ C.clock_faults result.clock }
+    ensures faults { FaultsRise result.cause (faults_of (V.disk_faults site) (V.say_faults site) (C.clock_faults clock)) (faults_of (V.disk_faults result.site) (V.say_faults result.site) (C.clock_faults result.clock)) }
 {
     let _ = rt;
     run_alone(alloc, words, site, clock, acts)

@@ -8,6 +8,7 @@ ghost use Rattle.engine_run.specs.Asked.{IsRequest};
 ghost use Rattle.engine_run.specs.Ends.{AreAllSaid, IsFirstUnsaid, EndsAs, GoesOn, Stays, IsLateCause, IsRestCause, cause_of_stop, terms_of};
 ghost use Rattle.engine_run.specs.Order.{no_later};
 ghost use Rattle.engine_run.specs.Picks.{origin_with, rules_with};
+ghost use Rattle.engine_run.specs.Promises.{faults_of, FaultsRise};
 ghost use Rattle.engine_run.specs.Prepared.{job_of, CanGoOn};
 ghost use Rattle.flow_syntax.specs.Views.{flows_of};
 ghost use Rattle.hub_store.specs.Changes.{stage_at, trail_in, told_in};
@@ -21,7 +22,6 @@ ghost use Rattle.part_steps.specs.States.{state_of, count_of, IsSound as IsOwnSo
 ghost use Rattle.request_reader.specs.Line.{request_of};
 ghost use Rattle.run_causes.specs.Causes.{status_of};
 ghost use Rattle.run_laws.specs.Begins.{may_follow, may_say};
-ghost use Rattle.site_model.specs.Calls.{HasRisen};
 
 use crate::ended::{Ended, end_with};
 use crate::named::{Going, Named};
@@ -140,12 +140,7 @@ fn drive_on<V: Site, N: Ruled, C: Clock, A: Activities>(
     ensures goes { GoesByClock N.rules A.gives options.batch (clients_of N.rules.requests) (C.given clock.old) (of_part 0 (trail_in store.old)) (told_in store.old) (C.given clock.new) (of_part 0 (trail_in store.new)) (told_in store.new) }
     ensures no_more { count_labels (of_part 0 (trail_in store.new)) < options.steps + options.batch }
     ensures late { IsLateCause result }
-    ensures fault { result ≡ Cause.SiteFault → HasRisen (V.disk_faults store.old.site) (V.disk_faults store.new.site) }
-    ensures say_fault { result ≡ Cause.SayFault → HasRisen (V.say_faults store.old.site) (V.say_faults store.new.site) }
-    ensures clock_fault { result ≡ Cause.ClockFault → HasRisen (C.clock_faults clock.old) (C.clock_faults clock.new) }
-    ensures later { V.disk_faults store.old.site ≤ V.disk_faults store.new.site }
-    ensures say_later { V.say_faults store.old.site ≤ V.say_faults store.new.site }
-    ensures clock_later { C.clock_faults clock.old ≤ C.clock_faults clock.new }
+    ensures faults { FaultsRise result (faults_of (V.disk_faults store.old.site) (V.say_faults store.old.site) (C.clock_faults clock.old)) (faults_of (V.disk_faults store.new.site) (V.say_faults store.new.site) (C.clock_faults clock.new)) }
 {
     let machines = Machines::of(flows);
     match drive(
@@ -206,12 +201,7 @@ pub(crate) fn go<V: Site, N: Ruled, C: Clock, A: Activities>(
     ensures status { result.status ≡ status_of result.cause }
     ensures late { IsLateCause result.cause }
     ensures goes { V.tells result.site → GoesOn (N.may_follow (C.latest result.clock)) N.may_say N.rules (C.latest result.clock) N.origin (V.history result.site) result.trail (terms_of options A.gives (C.given clock) (C.given result.clock) (C.latest result.clock)) result.cause ⊎ Stays (V.history site) (V.history result.site) result.trail (state_of prepared.state).position result.cause }
-    ensures fault { result.cause ≡ Cause.SiteFault → HasRisen (V.disk_faults site) (V.disk_faults result.site) }
-    ensures say_fault { result.cause ≡ Cause.SayFault → HasRisen (V.say_faults site) (V.say_faults result.site) }
-    ensures clock_fault { result.cause ≡ Cause.ClockFault → HasRisen (C.clock_faults clock) (C.clock_faults result.clock) }
-    ensures later { V.disk_faults site ≤ V.disk_faults result.site }
-    ensures say_later { V.say_faults site ≤ V.say_faults result.site }
-    ensures clock_later { C.clock_faults clock ≤ C.clock_faults result.clock }
+    ensures faults { FaultsRise result.cause (faults_of (V.disk_faults site) (V.say_faults site) (C.clock_faults clock)) (faults_of (V.disk_faults result.site) (V.say_faults result.site) (C.clock_faults result.clock)) }
 {
     let Prepared {
         flows,
@@ -276,12 +266,7 @@ pub(crate) fn go_named<V: Site, M: Named, C: Clock, A: Activities>(
     ensures status { result.status ≡ status_of result.cause }
     ensures late { IsLateCause result.cause }
     ensures goes { V.tells result.site → GoesOn (may_follow M.rules (C.latest result.clock)) (may_say M.rules) M.rules (C.latest result.clock) (origin_with M.log M.steps) (V.history result.site) result.trail (terms_of options A.gives (C.given clock) (C.given result.clock) (C.latest result.clock)) result.cause ⊎ Stays (V.history site) (V.history result.site) result.trail (state_of prepared.state).position result.cause }
-    ensures fault { result.cause ≡ Cause.SiteFault → HasRisen (V.disk_faults site) (V.disk_faults result.site) }
-    ensures say_fault { result.cause ≡ Cause.SayFault → HasRisen (V.say_faults site) (V.say_faults result.site) }
-    ensures clock_fault { result.cause ≡ Cause.ClockFault → HasRisen (C.clock_faults clock) (C.clock_faults result.clock) }
-    ensures later { V.disk_faults site ≤ V.disk_faults result.site }
-    ensures say_later { V.say_faults site ≤ V.say_faults result.site }
-    ensures clock_later { C.clock_faults clock ≤ C.clock_faults result.clock }
+    ensures faults { FaultsRise result.cause (faults_of (V.disk_faults site) (V.say_faults site) (C.clock_faults clock)) (faults_of (V.disk_faults result.site) (V.say_faults result.site) (C.clock_faults result.clock)) }
 {
     go::<V, Going<M>, C, A>(alloc, site, clock, acts, prepared, options)
 }

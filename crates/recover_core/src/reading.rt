@@ -11,9 +11,8 @@ ghost use Rattle.recover_core.specs.Progress.{IsReady, position_in};
 
 use crate::placing::place_entry;
 use crate::progress::{Placing, Progress};
-use commit_log::Resting;
+use commit_log::{FrameError, LogReader, Next, Resting};
 use dura_value::ReadError;
-use commit_log::{FrameError, LogReader, Next};
 use part_items::FrameReader;
 use part_rows::Reactions;
 use site_model::Site;

@@ -44,20 +44,17 @@ returns-in-Ok-Run g c =
       status = ran.status;
       usage = λ none. absurd (none_no_call (call_in c.args.words.now) (Run c.in-Ok-Run.options) none is);
       only_usage = λ usage. absurd (ran.no_usage usage);
-      idle = λ none. absurd (none_no_call (call_in c.args.words.now) (Run c.in-Ok-Run.options) none is);
-      answers = λ tells options asked. ran.answers tells;
-      untouched = λ options asked. ran.untouched;
-      refused = λ tells options asked refused. ran.refused tells refused;
-      settles_nothing = λ is. ran.settles_nothing (subst (λ call. SettlesNothing call end.cause) is_run is);
-      headline = λ tells options asked job asks. subst (λ (o : RunOptions). Headline job (λ file. content_of file old) old (g.V.Site.history end.site) end.trail (terms_of o g.A.Activities.gives (g.C.Clock.given c.args.clock) (g.C.Clock.given end.clock) (g.C.Clock.latest end.clock)) end.cause) (run_same (call_in c.args.words.now) c.in-Ok-Run.options options is asked) (ran.headline tells job asks);
-      shows = λ tells partitions asked. absurd (run_no_show (call_in c.args.words.now) c.in-Ok-Run.options partitions is asked);
-      writes_nothing = λ partitions asked. absurd (run_no_show (call_in c.args.words.now) c.in-Ok-Run.options partitions is asked);
-      fault = ran.fault;
-      say_fault = ran.say_fault;
-      clock_fault = ran.clock_fault;
-      later = ran.later;
-      say_later = ran.say_later;
-      clock_later = ran.clock_later;
+      promises = record {
+        idle = λ none. absurd (none_no_call (call_in c.args.words.now) (Run c.in-Ok-Run.options) none is);
+        answers = λ tells options asked. ran.answers tells;
+        untouched = λ options asked. ran.untouched;
+        refused = λ tells options asked refused. ran.refused tells refused;
+        settles_nothing = λ is. ran.settles_nothing (subst (λ call. SettlesNothing call end.cause) is_run is);
+        headline = λ tells options asked job asks. subst (λ (o : RunOptions). Headline job (λ file. content_of file old) old (g.V.Site.history end.site) end.trail (terms_of o g.A.Activities.gives (g.C.Clock.given c.args.clock) (g.C.Clock.given end.clock) (g.C.Clock.latest end.clock)) end.cause) (run_same (call_in c.args.words.now) c.in-Ok-Run.options options is asked) (ran.headline tells job asks);
+        shows = λ tells partitions asked. absurd (run_no_show (call_in c.args.words.now) c.in-Ok-Run.options partitions is asked);
+        writes_nothing = λ partitions asked. absurd (run_no_show (call_in c.args.words.now) c.in-Ok-Run.options partitions is asked);
+      };
+      faults = ran.faults;
     }
 
 pub returns-in-Ok-Show : goal.returns-in-Ok-Show
@@ -71,22 +68,26 @@ returns-in-Ok-Show g c =
       status = end.status ∙ ap status_of (sym end.cause);
       usage = λ none. absurd (none_no_call (call_in c.args.words.now) (Show c.in-Ok-Show.field-0-0) none is);
       only_usage = λ usage. absurd (shown.no_usage (sym end.cause ∙ usage));
-      idle = λ none. absurd (none_no_call (call_in c.args.words.now) (Show c.in-Ok-Show.field-0-0) none is);
-      answers = λ tells options asked. absurd (run_no_show (call_in c.args.words.now) options c.in-Ok-Show.field-0-0 asked is);
-      untouched = λ options asked. absurd (run_no_show (call_in c.args.words.now) options c.in-Ok-Show.field-0-0 asked is);
-      refused = λ tells options asked. absurd (run_no_show (call_in c.args.words.now) options c.in-Ok-Show.field-0-0 asked is);
-      settles_nothing = λ settles. end.trail ∙ c.none.ensures;
-      headline = λ tells options asked. absurd (run_no_show (call_in c.args.words.now) options c.in-Ok-Show.field-0-0 asked is);
-      shows = λ tells partitions asked.
-          subst (λ (cause : Cause). ShowsAs (λ file. content_of file old) (tape old) (tape (g.V.Site.history c.end_with.result.site)) cause) (sym end.cause)
-          (subst (λ site. ShowsAs (λ file. content_of file old) (tape old) (tape (g.V.Site.history site)) c.show-cause.result) (sym end.site) (shown.shows (subst g.V.Site.tells end.site tells)));
-      writes_nothing = λ partitions asked. subst (λ site. WritesNothing old (g.V.Site.history site)) (sym end.site) shown.nothing;
-      fault = λ is. subst (λ site. HasRisen (g.V.Site.disk_faults c.args.site) (g.V.Site.disk_faults site)) (sym end.site) (shown.fault (sym end.cause ∙ is));
-      say_fault = λ is. subst (λ site. HasRisen (g.V.Site.say_faults c.args.site) (g.V.Site.say_faults site)) (sym end.site) (shown.say_fault (sym end.cause ∙ is));
-      clock_fault = λ is. absurd (shown.no_clock (sym end.cause ∙ is));
-      later = subst (λ site. g.V.Site.disk_faults c.args.site ≤ g.V.Site.disk_faults site) (sym end.site) shown.later;
-      say_later = subst (λ site. g.V.Site.say_faults c.args.site ≤ g.V.Site.say_faults site) (sym end.site) shown.say_later;
-      clock_later = le_of_eq (ap g.C.Clock.clock_faults (sym end.clock));
+      promises = record {
+        idle = λ none. absurd (none_no_call (call_in c.args.words.now) (Show c.in-Ok-Show.field-0-0) none is);
+        answers = λ tells options asked. absurd (run_no_show (call_in c.args.words.now) options c.in-Ok-Show.field-0-0 asked is);
+        untouched = λ options asked. absurd (run_no_show (call_in c.args.words.now) options c.in-Ok-Show.field-0-0 asked is);
+        refused = λ tells options asked. absurd (run_no_show (call_in c.args.words.now) options c.in-Ok-Show.field-0-0 asked is);
+        settles_nothing = λ settles. end.trail ∙ c.none.ensures;
+        headline = λ tells options asked. absurd (run_no_show (call_in c.args.words.now) options c.in-Ok-Show.field-0-0 asked is);
+        shows = λ tells partitions asked.
+            subst (λ (cause : Cause). ShowsAs (λ file. content_of file old) (tape old) (tape (g.V.Site.history c.end_with.result.site)) cause) (sym end.cause)
+            (subst (λ site. ShowsAs (λ file. content_of file old) (tape old) (tape (g.V.Site.history site)) c.show-cause.result) (sym end.site) (shown.shows (subst g.V.Site.tells end.site tells)));
+        writes_nothing = λ partitions asked. subst (λ site. WritesNothing old (g.V.Site.history site)) (sym end.site) shown.nothing;
+      };
+      faults = record {
+        of_disk = λ is. subst (λ site. HasRisen (g.V.Site.disk_faults c.args.site) (g.V.Site.disk_faults site)) (sym end.site) (shown.fault (sym end.cause ∙ is));
+        of_tape = λ is. subst (λ site. HasRisen (g.V.Site.say_faults c.args.site) (g.V.Site.say_faults site)) (sym end.site) (shown.say_fault (sym end.cause ∙ is));
+        of_clock = λ is. absurd (shown.no_clock (sym end.cause ∙ is));
+        disk = subst (λ site. g.V.Site.disk_faults c.args.site ≤ g.V.Site.disk_faults site) (sym end.site) shown.later;
+        tape = subst (λ site. g.V.Site.say_faults c.args.site ≤ g.V.Site.say_faults site) (sym end.site) shown.say_later;
+        clock = le_of_eq (ap g.C.Clock.clock_faults (sym end.clock));
+      };
     }
 
 pub returns-in-Err-Usage : goal.returns-in-Err-Usage
@@ -99,20 +100,24 @@ returns-in-Err-Usage g c =
       status = end.status ∙ ap status_of (sym end.cause);
       usage = λ none. inl end.cause;
       only_usage = λ usage. is;
-      idle = λ none. ap g.V.Site.history end.site;
-      answers = λ tells options asked. absurd (none_no_call (call_in c.args.words.now) (Run options) is asked);
-      untouched = λ options asked. absurd (none_no_call (call_in c.args.words.now) (Run options) is asked);
-      refused = λ tells options asked. absurd (none_no_call (call_in c.args.words.now) (Run options) is asked);
-      settles_nothing = λ settles. end.trail ∙ c.none-in-Err-Usage.ensures;
-      headline = λ tells options asked. absurd (none_no_call (call_in c.args.words.now) (Run options) is asked);
-      shows = λ tells partitions asked. absurd (none_no_call (call_in c.args.words.now) (Show partitions) is asked);
-      writes_nothing = λ partitions asked. absurd (none_no_call (call_in c.args.words.now) (Show partitions) is asked);
-      fault = λ is. absurd (differ Usage SiteFault refl (sym end.cause ∙ is));
-      say_fault = λ is. absurd (differ Usage SayFault refl (sym end.cause ∙ is));
-      clock_fault = λ is. absurd (differ Usage ClockFault refl (sym end.cause ∙ is));
-      later = le_of_eq (ap g.V.Site.disk_faults (sym end.site));
-      say_later = le_of_eq (ap g.V.Site.say_faults (sym end.site));
-      clock_later = le_of_eq (ap g.C.Clock.clock_faults (sym end.clock));
+      promises = record {
+        idle = λ none. ap g.V.Site.history end.site;
+        answers = λ tells options asked. absurd (none_no_call (call_in c.args.words.now) (Run options) is asked);
+        untouched = λ options asked. absurd (none_no_call (call_in c.args.words.now) (Run options) is asked);
+        refused = λ tells options asked. absurd (none_no_call (call_in c.args.words.now) (Run options) is asked);
+        settles_nothing = λ settles. end.trail ∙ c.none-in-Err-Usage.ensures;
+        headline = λ tells options asked. absurd (none_no_call (call_in c.args.words.now) (Run options) is asked);
+        shows = λ tells partitions asked. absurd (none_no_call (call_in c.args.words.now) (Show partitions) is asked);
+        writes_nothing = λ partitions asked. absurd (none_no_call (call_in c.args.words.now) (Show partitions) is asked);
+      };
+      faults = record {
+        of_disk = λ is. absurd (differ Usage SiteFault refl (sym end.cause ∙ is));
+        of_tape = λ is. absurd (differ Usage SayFault refl (sym end.cause ∙ is));
+        of_clock = λ is. absurd (differ Usage ClockFault refl (sym end.cause ∙ is));
+        disk = le_of_eq (ap g.V.Site.disk_faults (sym end.site));
+        tape = le_of_eq (ap g.V.Site.say_faults (sym end.site));
+        clock = le_of_eq (ap g.C.Clock.clock_faults (sym end.clock));
+      };
     }
 
 pub returns-in-Err-Memory : goal.returns-in-Err-Memory
@@ -124,26 +129,30 @@ returns-in-Err-Memory g c =
       status = end.status ∙ ap status_of (sym end.cause);
       usage = λ none. inr end.cause;
       only_usage = λ usage. absurd (differ Memory Usage refl (sym end.cause ∙ usage));
-      idle = λ none. ap g.V.Site.history end.site;
-      answers = λ tells options asked. subst (CauseHolds (λ file. content_of file old)) (sym end.cause) tt;
-      untouched = λ options asked. subst (Untouched old now) (sym end.cause) tt;
-      refused = λ tells options asked refused. record { syncs = inl (ap g.V.Site.history end.site); nothing = end.trail ∙ c.none-in-Err-Memory.ensures };
-      settles_nothing = λ settles. end.trail ∙ c.none-in-Err-Memory.ensures;
-      headline = λ tells options is job asks entries begin keeps given.
-          let old = g.V.Site.history c.args.site in
-          let site_is = c.end_with-in-Err-Memory.ensures.site in
-          let told = subst g.V.Site.tells site_is tells in
-          inr (record {
-            early = subst IsEarlyCause (sym c.end_with-in-Err-Memory.ensures.cause) tt;
-            nothing = c.end_with-in-Err-Memory.ensures.trail ∙ c.none-in-Err-Memory.ensures;
-            opening = subst (λ site. Always (IsOpening job entries old) old (g.V.Site.history site)) (sym site_is) (opening_first job entries old (λ f. g.met.V.Site.inside c.args.site f told));
-          });
-      shows = λ tells partitions asked. subst (ShowsAs (λ file. content_of file old) (tape old) (tape now)) (sym end.cause) (inl (ap (λ site. tape (g.V.Site.history site)) end.site));
-      writes_nothing = λ partitions asked. record { mid = g.V.Site.history c.args.site; syncs = inl refl; files = λ file. ap (λ site. changes_of file (g.V.Site.history site)) c.end_with-in-Err-Memory.ensures.site };
-      fault = λ is. absurd (memory_no_site c.end_with-in-Err-Memory.result.cause end.cause is);
-      say_fault = λ is. absurd (memory_no_say c.end_with-in-Err-Memory.result.cause end.cause is);
-      clock_fault = λ is. absurd (memory_no_clock c.end_with-in-Err-Memory.result.cause end.cause is);
-      later = le_of_eq (ap g.V.Site.disk_faults (sym end.site));
-      say_later = le_of_eq (ap g.V.Site.say_faults (sym end.site));
-      clock_later = le_of_eq (ap g.C.Clock.clock_faults (sym end.clock));
+      promises = record {
+        idle = λ none. ap g.V.Site.history end.site;
+        answers = λ tells options asked. subst (CauseHolds (λ file. content_of file old)) (sym end.cause) tt;
+        untouched = λ options asked. subst (Untouched old now) (sym end.cause) tt;
+        refused = λ tells options asked refused. record { syncs = inl (ap g.V.Site.history end.site); nothing = end.trail ∙ c.none-in-Err-Memory.ensures };
+        settles_nothing = λ settles. end.trail ∙ c.none-in-Err-Memory.ensures;
+        headline = λ tells options is job asks entries begin keeps given.
+            let old = g.V.Site.history c.args.site in
+            let site_is = c.end_with-in-Err-Memory.ensures.site in
+            let told = subst g.V.Site.tells site_is tells in
+            inr (record {
+              early = subst IsEarlyCause (sym c.end_with-in-Err-Memory.ensures.cause) tt;
+              nothing = c.end_with-in-Err-Memory.ensures.trail ∙ c.none-in-Err-Memory.ensures;
+              opening = subst (λ site. Always (IsOpening job entries old) old (g.V.Site.history site)) (sym site_is) (opening_first job entries old (λ f. g.met.V.Site.inside c.args.site f told));
+            });
+        shows = λ tells partitions asked. subst (ShowsAs (λ file. content_of file old) (tape old) (tape now)) (sym end.cause) (inl (ap (λ site. tape (g.V.Site.history site)) end.site));
+        writes_nothing = λ partitions asked. record { mid = g.V.Site.history c.args.site; syncs = inl refl; files = λ file. ap (λ site. changes_of file (g.V.Site.history site)) c.end_with-in-Err-Memory.ensures.site };
+      };
+      faults = record {
+        of_disk = λ is. absurd (memory_no_site c.end_with-in-Err-Memory.result.cause end.cause is);
+        of_tape = λ is. absurd (memory_no_say c.end_with-in-Err-Memory.result.cause end.cause is);
+        of_clock = λ is. absurd (memory_no_clock c.end_with-in-Err-Memory.result.cause end.cause is);
+        disk = le_of_eq (ap g.V.Site.disk_faults (sym end.site));
+        tape = le_of_eq (ap g.V.Site.say_faults (sym end.site));
+        clock = le_of_eq (ap g.C.Clock.clock_faults (sym end.clock));
+      };
     }

@@ -116,12 +116,14 @@ returns-in-Ok g c =
             | inr stays ↦ inr (record { early = wanting_early (state_of p.state).position end.cause stays.wanting; nothing = stays.nothing; opening = subst (Always (IsOpening own entries old) old) (sym stays.same) (opens entries begin keeps given) })
           ] in
           subst (λ (j : Job). Headline j (λ file. content_of file old) old new end.trail terms end.cause) (same_job (λ file. content_of file old) own job asked asks) core;
-      fault = λ is. risen_later _ _ _ prepare.later gone.later (gone.fault is);
-      say_fault = λ is. subst (λ (n : ℕ). HasRisen n (g.V.Site.say_faults c.go_named.result.site)) prepare.say_faults (gone.say_fault is);
-      clock_fault = gone.clock_fault;
-      later = le_trans prepare.later gone.later;
-      say_later = subst (λ (n : ℕ). n ≤ g.V.Site.say_faults c.go_named.result.site) prepare.say_faults gone.say_later;
-      clock_later = gone.clock_later;
+      faults = record {
+        of_disk = λ is. risen_later _ _ _ prepare.later gone.faults.disk (gone.faults.of_disk is);
+        of_tape = λ is. subst (λ (n : ℕ). HasRisen n (g.V.Site.say_faults c.go_named.result.site)) prepare.say_faults (gone.faults.of_tape is);
+        of_clock = gone.faults.of_clock;
+        disk = le_trans prepare.later gone.faults.disk;
+        tape = subst (λ (n : ℕ). n ≤ g.V.Site.say_faults c.go_named.result.site) prepare.say_faults gone.faults.tape;
+        clock = gone.faults.clock;
+      };
     }
 
 pub returns-in-Err : goal.returns-in-Err
@@ -150,10 +152,12 @@ returns-in-Err g c =
             nothing = c.end_with.ensures.trail ∙ c.none.ensures;
             opening = subst (λ site. Always (IsOpening job entries old) old (g.V.Site.history site)) (sym site_is) (c.in-Err.ensures.opens told job asks entries begin keeps given);
           });
-      fault = λ is. subst (λ site. HasRisen (g.V.Site.disk_faults c.args.site) (g.V.Site.disk_faults site)) (sym end.site) (c.in-Err.ensures.fault (ap (λ (cause : Cause). Err cause) (sym end.cause ∙ is)));
-      say_fault = λ is. absurd (subst IsEarlyCause (sym end.cause ∙ is) c.in-Err.ensures.early);
-      clock_fault = λ is. absurd (subst IsEarlyCause (sym end.cause ∙ is) c.in-Err.ensures.early);
-      later = subst (λ site. g.V.Site.disk_faults c.args.site ≤ g.V.Site.disk_faults site) (sym end.site) prepare.later;
-      say_later = le_of_eq (sym (ap g.V.Site.say_faults end.site ∙ prepare.say_faults));
-      clock_later = le_of_eq (ap g.C.Clock.clock_faults (sym end.clock));
+      faults = record {
+        of_disk = λ is. subst (λ site. HasRisen (g.V.Site.disk_faults c.args.site) (g.V.Site.disk_faults site)) (sym end.site) (c.in-Err.ensures.fault (ap (λ (cause : Cause). Err cause) (sym end.cause ∙ is)));
+        of_tape = λ is. absurd (subst IsEarlyCause (sym end.cause ∙ is) c.in-Err.ensures.early);
+        of_clock = λ is. absurd (subst IsEarlyCause (sym end.cause ∙ is) c.in-Err.ensures.early);
+        disk = subst (λ site. g.V.Site.disk_faults c.args.site ≤ g.V.Site.disk_faults site) (sym end.site) prepare.later;
+        tape = le_of_eq (sym (ap g.V.Site.say_faults end.site ∙ prepare.say_faults));
+        clock = le_of_eq (ap g.C.Clock.clock_faults (sym end.clock));
+      };
     }

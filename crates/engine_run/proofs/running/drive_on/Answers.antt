@@ -87,12 +87,14 @@ returns-in-Ok g c = record {
   goes = subst (λ (l : List (List ℕ)). GoesByClock g.N.Ruled.rules g.A.Activities.gives c.args.options.batch l (g.C.Clock.given c.args.clock.now) (of_part 0 (trail_in c.args.store.now)) (told_in c.args.store.now) (g.C.Clock.given c.drive.new.clock) (of_part 0 (trail_in c.drive.new.store)) (told_in c.drive.new.store)) c.requires.clients c.drive.ensures.goes;
   no_more = c.drive.ensures.no_more;
   late = rest_late c.drive.new.port.queues c.args.clients.now c.in-Ok.cause c.in-Ok.ensures;
-  fault = λ is. absurd (subst (IsRestCause c.drive.new.port.queues c.args.clients.now) is c.in-Ok.ensures);
-  say_fault = λ is. absurd (subst (IsRestCause c.drive.new.port.queues c.args.clients.now) is c.in-Ok.ensures);
-  clock_fault = λ is. absurd (subst (IsRestCause c.drive.new.port.queues c.args.clients.now) is c.in-Ok.ensures);
-  later = c.drive.ensures.later;
-  say_later = c.drive.ensures.say_later;
-  clock_later = c.drive.ensures.clock_later;
+  faults = record {
+    of_disk = λ is. absurd (subst (IsRestCause c.drive.new.port.queues c.args.clients.now) is c.in-Ok.ensures);
+    of_tape = λ is. absurd (subst (IsRestCause c.drive.new.port.queues c.args.clients.now) is c.in-Ok.ensures);
+    of_clock = λ is. absurd (subst (IsRestCause c.drive.new.port.queues c.args.clients.now) is c.in-Ok.ensures);
+    disk = c.drive.ensures.later;
+    tape = c.drive.ensures.say_later;
+    clock = c.drive.ensures.clock_later;
+  };
 }
 
 pub returns-in-Err-rest_cause : goal.returns-in-Err-rest_cause
@@ -106,12 +108,14 @@ returns-in-Err-rest_cause g c = record {
   goes = subst (λ (l : List (List ℕ)). GoesByClock g.N.Ruled.rules g.A.Activities.gives c.args.options.batch l (g.C.Clock.given c.args.clock.now) (of_part 0 (trail_in c.args.store.now)) (told_in c.args.store.now) (g.C.Clock.given c.drive.new.clock) (of_part 0 (trail_in c.drive.new.store)) (told_in c.drive.new.store)) c.requires.clients c.drive.ensures.goes;
   no_more = c.drive.ensures.no_more;
   late = tt;
-  fault = λ is. absurd (memory_no_site Memory refl is);
-  say_fault = λ is. absurd (memory_no_say Memory refl is);
-  clock_fault = λ is. absurd (memory_no_clock Memory refl is);
-  later = c.drive.ensures.later;
-  say_later = c.drive.ensures.say_later;
-  clock_later = c.drive.ensures.clock_later;
+  faults = record {
+    of_disk = λ is. absurd (memory_no_site Memory refl is);
+    of_tape = λ is. absurd (memory_no_say Memory refl is);
+    of_clock = λ is. absurd (memory_no_clock Memory refl is);
+    disk = c.drive.ensures.later;
+    tape = c.drive.ensures.say_later;
+    clock = c.drive.ensures.clock_later;
+  };
 }
 
 pub returns-in-Ok-Long : goal.returns-in-Ok-Long
@@ -144,12 +148,14 @@ returns-in-Ok-Long g c = record {
   goes = subst (λ (l : List (List ℕ)). GoesByClock g.N.Ruled.rules g.A.Activities.gives c.args.options.batch l (g.C.Clock.given c.args.clock.now) (of_part 0 (trail_in c.args.store.now)) (told_in c.args.store.now) (g.C.Clock.given c.drive.new.clock) (of_part 0 (trail_in c.drive.new.store)) (told_in c.drive.new.store)) c.requires.clients c.drive.ensures.goes;
   no_more = c.drive.ensures.no_more;
   late = tt;
-  fault = λ is. absurd (differ (Long c.in-Ok-Long.labels) SiteFault refl is);
-  say_fault = λ is. absurd (differ (Long c.in-Ok-Long.labels) SayFault refl is);
-  clock_fault = λ is. absurd (differ (Long c.in-Ok-Long.labels) ClockFault refl is);
-  later = c.drive.ensures.later;
-  say_later = c.drive.ensures.say_later;
-  clock_later = c.drive.ensures.clock_later;
+  faults = record {
+    of_disk = λ is. absurd (differ (Long c.in-Ok-Long.labels) SiteFault refl is);
+    of_tape = λ is. absurd (differ (Long c.in-Ok-Long.labels) SayFault refl is);
+    of_clock = λ is. absurd (differ (Long c.in-Ok-Long.labels) ClockFault refl is);
+    disk = c.drive.ensures.later;
+    tape = c.drive.ensures.say_later;
+    clock = c.drive.ensures.clock_later;
+  };
 }
 
 pub returns-in-Err : goal.returns-in-Err
@@ -183,10 +189,12 @@ returns-in-Err g c = record {
   goes = subst (λ (l : List (List ℕ)). GoesByClock g.N.Ruled.rules g.A.Activities.gives c.args.options.batch l (g.C.Clock.given c.args.clock.now) (of_part 0 (trail_in c.args.store.now)) (told_in c.args.store.now) (g.C.Clock.given c.drive.new.clock) (of_part 0 (trail_in c.drive.new.store)) (told_in c.drive.new.store)) c.requires.clients c.drive.ensures.goes;
   no_more = c.drive.ensures.no_more;
   late = subst IsLateCause (sym c.cause_of.ensures) (stop_late c.in-Err.stop (λ partition number is. let spent = c.in-Err.ensures.spent partition number (ap (λ (stop : Stop). Err stop) is) in (spent.alone, spent.reaches)));
-  fault = λ is. c.in-Err.ensures.fault (ap (λ (stop : Stop). Err stop) (site_stop c.in-Err.stop (sym c.cause_of.ensures ∙ is)));
-  say_fault = λ is. c.in-Err.ensures.say_fault (ap (λ (stop : Stop). Err stop) (say_stop c.in-Err.stop (sym c.cause_of.ensures ∙ is)));
-  clock_fault = λ is. c.in-Err.ensures.clock_fault (ap (λ (stop : Stop). Err stop) (clock_stop c.in-Err.stop (sym c.cause_of.ensures ∙ is)));
-  later = c.drive.ensures.later;
-  say_later = c.drive.ensures.say_later;
-  clock_later = c.drive.ensures.clock_later;
+  faults = record {
+    of_disk = λ is. c.in-Err.ensures.fault (ap (λ (stop : Stop). Err stop) (site_stop c.in-Err.stop (sym c.cause_of.ensures ∙ is)));
+    of_tape = λ is. c.in-Err.ensures.say_fault (ap (λ (stop : Stop). Err stop) (say_stop c.in-Err.stop (sym c.cause_of.ensures ∙ is)));
+    of_clock = λ is. c.in-Err.ensures.clock_fault (ap (λ (stop : Stop). Err stop) (clock_stop c.in-Err.stop (sym c.cause_of.ensures ∙ is)));
+    disk = c.drive.ensures.later;
+    tape = c.drive.ensures.say_later;
+    clock = c.drive.ensures.clock_later;
+  };
 }

@@ -103,12 +103,14 @@ returns-then-position-ge-POSITION_LIMIT g c =
       status = c.end_with.ensures.status ∙ ap status_of (sym wanting);
       late = subst IsLateCause (sym wanting) (refl, reaches);
       goes = λ tells. inr (record { same = ap g.V.Site.history site_is; nothing = c.end_with.ensures.trail ∙ c.none-nothing.ensures; wanting = subst (IsWanting (state_of c.args.prepared.state).position) (sym wanting) (refl, c.position-position.ensures, reaches) });
-      fault = λ is. absurd (spent_no_site 0 c.position-position.result c.end_with.result.cause wanting is);
-      say_fault = λ is. absurd (spent_no_say 0 c.position-position.result c.end_with.result.cause wanting is);
-      clock_fault = λ is. absurd (spent_no_clock 0 c.position-position.result c.end_with.result.cause wanting is);
-      later = le_of_eq (ap g.V.Site.disk_faults (sym site_is));
-      say_later = le_of_eq (ap g.V.Site.say_faults (sym site_is));
-      clock_later = le_of_eq (ap g.C.Clock.clock_faults (sym c.end_with.ensures.clock));
+      faults = record {
+        of_disk = λ is. absurd (spent_no_site 0 c.position-position.result c.end_with.result.cause wanting is);
+        of_tape = λ is. absurd (spent_no_say 0 c.position-position.result c.end_with.result.cause wanting is);
+        of_clock = λ is. absurd (spent_no_clock 0 c.position-position.result c.end_with.result.cause wanting is);
+        disk = le_of_eq (ap g.V.Site.disk_faults (sym site_is));
+        tape = le_of_eq (ap g.V.Site.say_faults (sym site_is));
+        clock = le_of_eq (ap g.C.Clock.clock_faults (sym c.end_with.ensures.clock));
+      };
     }
 
 pub returns-in_default : goal.returns-in_default
@@ -119,12 +121,14 @@ returns-in_default g c =
       status = c.end_with-in_default.ensures.status ∙ ap status_of (sym wanting);
       late = subst IsLateCause (sym wanting) tt;
       goes = λ tells. inr (record { same = ap g.V.Site.history site_is; nothing = c.end_with-in_default.ensures.trail ∙ c.none-nothing.ensures; wanting = subst (IsWanting (state_of c.args.prepared.state).position) (sym wanting) tt });
-      fault = λ is. absurd (memory_no_site c.end_with-in_default.result.cause wanting is);
-      say_fault = λ is. absurd (memory_no_say c.end_with-in_default.result.cause wanting is);
-      clock_fault = λ is. absurd (memory_no_clock c.end_with-in_default.result.cause wanting is);
-      later = le_of_eq (ap g.V.Site.disk_faults (sym site_is));
-      say_later = le_of_eq (ap g.V.Site.say_faults (sym site_is));
-      clock_later = le_of_eq (ap g.C.Clock.clock_faults (sym c.end_with-in_default.ensures.clock));
+      faults = record {
+        of_disk = λ is. absurd (memory_no_site c.end_with-in_default.result.cause wanting is);
+        of_tape = λ is. absurd (memory_no_say c.end_with-in_default.result.cause wanting is);
+        of_clock = λ is. absurd (memory_no_clock c.end_with-in_default.result.cause wanting is);
+        disk = le_of_eq (ap g.V.Site.disk_faults (sym site_is));
+        tape = le_of_eq (ap g.V.Site.say_faults (sym site_is));
+        clock = le_of_eq (ap g.C.Clock.clock_faults (sym c.end_with-in_default.ensures.clock));
+      };
     }
 
 pub returns-in_default-vec : goal.returns-in_default-vec
@@ -135,12 +139,14 @@ returns-in_default-vec g c =
       status = c.end_with-in_default-vec.ensures.status ∙ ap status_of (sym wanting);
       late = subst IsLateCause (sym wanting) tt;
       goes = λ tells. inr (record { same = ap g.V.Site.history site_is; nothing = c.end_with-in_default-vec.ensures.trail ∙ c.none-nothing.ensures; wanting = subst (IsWanting (state_of c.args.prepared.state).position) (sym wanting) tt });
-      fault = λ is. absurd (memory_no_site c.end_with-in_default-vec.result.cause wanting is);
-      say_fault = λ is. absurd (memory_no_say c.end_with-in_default-vec.result.cause wanting is);
-      clock_fault = λ is. absurd (memory_no_clock c.end_with-in_default-vec.result.cause wanting is);
-      later = le_of_eq (ap g.V.Site.disk_faults (sym site_is));
-      say_later = le_of_eq (ap g.V.Site.say_faults (sym site_is));
-      clock_later = le_of_eq (ap g.C.Clock.clock_faults (sym c.end_with-in_default-vec.ensures.clock));
+      faults = record {
+        of_disk = λ is. absurd (memory_no_site c.end_with-in_default-vec.result.cause wanting is);
+        of_tape = λ is. absurd (memory_no_say c.end_with-in_default-vec.result.cause wanting is);
+        of_clock = λ is. absurd (memory_no_clock c.end_with-in_default-vec.result.cause wanting is);
+        disk = le_of_eq (ap g.V.Site.disk_faults (sym site_is));
+        tape = le_of_eq (ap g.V.Site.say_faults (sym site_is));
+        clock = le_of_eq (ap g.C.Clock.clock_faults (sym c.end_with-in_default-vec.ensures.clock));
+      };
     }
 
 pub returns-in-Err : goal.returns-in-Err
@@ -151,12 +157,14 @@ returns-in-Err g c =
       status = c.end_with-in-Err.ensures.status ∙ ap status_of (sym wanting);
       late = subst IsLateCause (sym wanting) tt;
       goes = λ tells. inr (record { same = ap g.V.Site.history site_is; nothing = c.end_with-in-Err.ensures.trail ∙ c.none-nothing.ensures; wanting = subst (IsWanting (state_of c.args.prepared.state).position) (sym wanting) tt });
-      fault = λ is. absurd (memory_no_site c.end_with-in-Err.result.cause wanting is);
-      say_fault = λ is. absurd (memory_no_say c.end_with-in-Err.result.cause wanting is);
-      clock_fault = λ is. absurd (memory_no_clock c.end_with-in-Err.result.cause wanting is);
-      later = le_of_eq (ap g.V.Site.disk_faults (sym site_is));
-      say_later = le_of_eq (ap g.V.Site.say_faults (sym site_is));
-      clock_later = le_of_eq (ap g.C.Clock.clock_faults (sym c.end_with-in-Err.ensures.clock));
+      faults = record {
+        of_disk = λ is. absurd (memory_no_site c.end_with-in-Err.result.cause wanting is);
+        of_tape = λ is. absurd (memory_no_say c.end_with-in-Err.result.cause wanting is);
+        of_clock = λ is. absurd (memory_no_clock c.end_with-in-Err.result.cause wanting is);
+        disk = le_of_eq (ap g.V.Site.disk_faults (sym site_is));
+        tape = le_of_eq (ap g.V.Site.say_faults (sym site_is));
+        clock = le_of_eq (ap g.C.Clock.clock_faults (sym c.end_with-in-Err.ensures.clock));
+      };
     }
 
 pub returns : goal.returns
@@ -204,12 +212,14 @@ returns g c =
           (inl (subst (λ (cause : Cause). GoesOn (g.N.Start.may_follow latest) g.N.Start.may_say g.N.Ruled.rules latest g.N.Start.origin (g.V.Site.history end.result.site) end.result.trail terms cause) (sym end.ensures.cause)
           (subst (λ (t : List Settled). GoesOn (g.N.Start.may_follow latest) g.N.Start.may_say g.N.Ruled.rules latest g.N.Start.origin (g.V.Site.history end.result.site) t terms c.drive_on-cause.result) (sym trail_is)
           (subst (λ site. GoesOn (g.N.Start.may_follow latest) g.N.Start.may_say g.N.Ruled.rules latest g.N.Start.origin (g.V.Site.history site) (trail_in store) terms c.drive_on-cause.result) (sym site_is) goes))));
-      fault = λ is. subst (λ site. HasRisen (g.V.Site.disk_faults c.args.site) (g.V.Site.disk_faults site)) (sym site_is) (subst (λ site. HasRisen (g.V.Site.disk_faults site) (g.V.Site.disk_faults now)) begun_is (driven.fault (sym end.cause ∙ is)));
-      say_fault = λ is. subst (λ site. HasRisen (g.V.Site.say_faults c.args.site) (g.V.Site.say_faults site)) (sym site_is) (subst (λ site. HasRisen (g.V.Site.say_faults site) (g.V.Site.say_faults now)) begun_is (driven.say_fault (sym end.cause ∙ is)));
-      clock_fault = λ is. subst (λ clock. HasRisen (g.C.Clock.clock_faults c.args.clock) (g.C.Clock.clock_faults clock)) (sym end.clock) (driven.clock_fault (sym end.cause ∙ is));
-      later = subst (λ site. g.V.Site.disk_faults c.args.site ≤ g.V.Site.disk_faults site) (sym site_is) (subst (λ site. g.V.Site.disk_faults site ≤ g.V.Site.disk_faults now) begun_is driven.later);
-      say_later = subst (λ site. g.V.Site.say_faults c.args.site ≤ g.V.Site.say_faults site) (sym site_is) (subst (λ site. g.V.Site.say_faults site ≤ g.V.Site.say_faults now) begun_is driven.say_later);
-      clock_later = subst (λ clock. g.C.Clock.clock_faults c.args.clock ≤ g.C.Clock.clock_faults clock) (sym end.clock) driven.clock_later;
+      faults = record {
+        of_disk = λ is. subst (λ site. HasRisen (g.V.Site.disk_faults c.args.site) (g.V.Site.disk_faults site)) (sym site_is) (subst (λ site. HasRisen (g.V.Site.disk_faults site) (g.V.Site.disk_faults now)) begun_is (driven.faults.of_disk (sym end.cause ∙ is)));
+        of_tape = λ is. subst (λ site. HasRisen (g.V.Site.say_faults c.args.site) (g.V.Site.say_faults site)) (sym site_is) (subst (λ site. HasRisen (g.V.Site.say_faults site) (g.V.Site.say_faults now)) begun_is (driven.faults.of_tape (sym end.cause ∙ is)));
+        of_clock = λ is. subst (λ clock. HasRisen (g.C.Clock.clock_faults c.args.clock) (g.C.Clock.clock_faults clock)) (sym end.clock) (driven.faults.of_clock (sym end.cause ∙ is));
+        disk = subst (λ site. g.V.Site.disk_faults c.args.site ≤ g.V.Site.disk_faults site) (sym site_is) (subst (λ site. g.V.Site.disk_faults site ≤ g.V.Site.disk_faults now) begun_is driven.faults.disk);
+        tape = subst (λ site. g.V.Site.say_faults c.args.site ≤ g.V.Site.say_faults site) (sym site_is) (subst (λ site. g.V.Site.say_faults site ≤ g.V.Site.say_faults now) begun_is driven.faults.tape);
+        clock = subst (λ clock. g.C.Clock.clock_faults c.args.clock ≤ g.C.Clock.clock_faults clock) (sym end.clock) driven.faults.clock;
+      };
     }
 
 pub begin-requires-clause-count : goal.begin-requires-clause-count
