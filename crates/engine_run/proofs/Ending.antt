@@ -22,8 +22,8 @@ use Rattle.hub_store.specs.declared.way.Way.TheVariants.{Resting, Bodied, Synced
 use Rattle.part_rounds.specs.Comes.{Entered, IsOver}
 use Rattle.part_rounds.specs.Commits.{IsFull, IsSpent}
 use Rattle.part_rounds.specs.Rounds.{pairs_of, HasSaid}
-use Rattle.hub_store.specs.declared.stop.Stop.{Stop}
-use Rattle.hub_store.specs.declared.stop.Stop.TheVariants as stops
+use Rattle.part_rounds.specs.declared.stop.Stop.{Stop}
+use Rattle.part_rounds.specs.declared.stop.Stop.TheVariants as stops
 use Rattle.part_steps.specs.declared.state.PartState.{PartState}
 use Rattle.part_steps.specs.States.{state_of}
 use Rattle.run_causes.specs.declared.cause.Cause.{Cause}

@@ -23,8 +23,8 @@ use Rattle.part_rounds.specs.Comes.{IsOver, count_labels}
 use Rattle.part_rounds.specs.Further.{GoesFurther}
 use Rattle.part_rounds.specs.InTime.{GoesByClock}
 use Rattle.part_rounds.specs.Rounds.{pairs_of, HasSaid}
-use Rattle.hub_store.specs.declared.stop.Stop.{Stop}
-use Rattle.hub_store.specs.declared.stop.Stop.TheVariants as stops
+use Rattle.part_rounds.specs.declared.stop.Stop.{Stop}
+use Rattle.part_rounds.specs.declared.stop.Stop.TheVariants as stops
 use Rattle.request_reader.specs.Line.{Request}
 use Rattle.run_causes.specs.declared.cause.Cause.{Cause}
 use Rattle.run_causes.specs.declared.cause.Cause.TheVariants.{Done, Waiting, Long, SiteFault, SayFault, ClockFault, Memory, Full, Spent}

@@ -33,8 +33,8 @@ use command_words::RunOptions;
 use dura_value::{Name, Request};
 use flow_steps::Machines;
 use flow_syntax::Flows;
-use hub_store::{Ended as Settled, Stage, Stop, Store, Trail};
-use part_rounds::{End, Ruled, drive};
+use hub_store::{Ended as Settled, Stage, Store, Trail};
+use part_rounds::{End, Ruled, Stop, drive};
 use part_steps::PartState;
 use run_causes::Cause;
 use site_model::{Clock, Site};
@@ -74,8 +74,8 @@ fn earlier<'a>(first: Option<(&'a Name, u32)>, client: &'a Name, number: u32) ->
 
 /// The first request whose answer wasn't said, by its client's name: the client, and its number.
 fn first_unsaid<'a>(port: &Port, clients: &'a [Name]) -> Option<(&'a Name, u32)>
-    ensures none { IfNone result (AreAllSaid port.now.queues clients.now) }
-    ensures some { IfSome result (λ one. IsFirstUnsaid port.now.queues clients.now one.0.now one.1) }
+    ensures none { IfNone result (AreAllSaid port.now clients.now) }
+    ensures some { IfSome result (λ one. IsFirstUnsaid port.now clients.now one.0.now one.1) }
 {
     let mut first: Option<(&Name, u32)> = None;
     for client in clients {
@@ -88,7 +88,7 @@ fn first_unsaid<'a>(port: &Port, clients: &'a [Name]) -> Option<(&'a Name, u32)>
 
 /// Why a run ends where nothing is possible any more.
 fn rest_cause(port: &Port, clients: &[Name]) -> Result<Cause, AllocError>
-    ensures { IfOk result (IsRestCause port.now.queues clients.now) }
+    ensures { IfOk result (IsRestCause port.now clients.now) }
 {
     match first_unsaid(port, clients) {
         Some((client, number)) => Ok(Cause::Waiting {
@@ -128,7 +128,7 @@ fn drive_on<V: Site, N: Ruled, C: Clock, A: Activities>(
     requires own { IsOwnSound state }
     requires one { count_of state ≡ 1 }
     requires room { (state_of state).position < 2 ^ 63 }
-    requires said { HasSaid N.rules (told_in store.old) port.old.queues }
+    requires said { HasSaid N.rules (told_in store.old) port.old }
     requires clients { clients.now ≡ clients_of N.rules.requests }
     requires asked { V.tells store.old.site → All IsRequest N.rules.requests }
     ensures tells { V.tells store.new.site → V.tells store.old.site }
@@ -170,8 +170,8 @@ fn drive_on<V: Site, N: Ruled, C: Clock, A: Activities>(
 
 /// What clients ask, client by client, and the clients.
 fn ports_of(alloc: Global, requests: Vec<Request>) -> Result<(Port, Vec<Name>), AllocError>
-    ensures queues { IfOk result (λ both. both.0.queues ≡ queues_of (map request_of requests.items)) }
-    ensures clients { IfOk result (λ both. both.1.items ≡ map (λ q. q.client) both.0.queues) }
+    ensures queues { IfOk result (λ both. both.0 ≡ queues_of (map request_of requests.items)) }
+    ensures clients { IfOk result (λ both. both.1.items ≡ map (λ q. q.client) both.0) }
 {
     let port = Port::new(alloc, requests)?;
     let clients = port.clients(alloc)?;

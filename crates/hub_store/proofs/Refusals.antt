@@ -1,5 +1,5 @@
 -- Why no frame was written, and why a commit stops.
-use Rattle.std.proofs.Common.{◌≡◌, inl, inr, ℕ, ◌<◌, ◌≤◌, List, Result, Ok, Err, ap, subst, arith}
+use Rattle.std.proofs.Common.{◌≡◌, inl, inr, ℕ, ◌≤◌, List, Result, Ok, Err, ap, subst, arith}
 use Rattle.std.specs.Prelude.{◌⊎◌, IsErrAnd, OnOk, OnErr}
 use Rattle.std.proofs.lemmas.Bool.{cases_lt}
 use Rattle.dura_value.specs.Items.{Entry}

@@ -1,12 +1,12 @@
 -- What is possible still, and where rounds stop.
 use Rattle.std.proofs.Common.{◌≡◌, ◌∙◌, inl, inr, ℕ, Bool, true, false, ◌<◌, ◌≤◌, ◌^◌, List, length, Result, Ok, Err, sym, ap, subst, arith}
-use Rattle.std.specs.Prelude.{IsSome, IfErr, OnOk, OnErr, is_some}
+use Rattle.std.specs.Prelude.{IsSome, IfErr, OnOk, is_some}
 use Rattle.dura_model.specs.Partition.{Partition, enter}
 use Rattle.dura_value.specs.Ids.{Id}
 use Rattle.dura_value.specs.Items.{Item, Entry}
 use Rattle.hub_store.specs.Origin.{Log}
-use Rattle.hub_store.specs.declared.stop.Stop.{Stop}
-use Rattle.hub_store.specs.declared.stop.Stop.TheVariants.{Memory, Spent}
+use Rattle.part_rounds.specs.declared.stop.Stop.{Stop}
+use Rattle.part_rounds.specs.declared.stop.Stop.TheVariants.{Memory, Spent}
 use Rattle.part_rounds.specs.Further.{IsPending, GoesFurther}
 use Rattle.part_rounds.specs.Rounds.{IsFilled, StateStands}
 use Rattle.part_rounds.specs.Commits.{IsFull, IsSpent}
@@ -37,10 +37,6 @@ filled_further rules log latest settled told position life items filled = record
 pub on_ok : {X : Type 0} (P : Type 0) (r : Result X Stop) → P → OnOk r P
 on_ok P (Ok x) is = is
 on_ok P (Err stop) is = tt
-
-pub on_err : {X E : Type 0} (P : Type 0) (r : Result X E) (error : E) → OnErr r P → r ≡ Err error → P
-on_err P (Ok x) error is same = absurd (cc same)
-on_err P (Err other) error is same = is
 
 -- want of memory is no other stop
 pub memory_apart : {X : Type 0} (r : Result X Stop) (stop : Stop) → IfErr r (λ s. s ≡ Memory) → r ≡ Err stop → stop ≡ Memory

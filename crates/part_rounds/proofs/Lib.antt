@@ -12,3 +12,4 @@ pub mod TimersInTime
 pub mod Turns
 pub mod Walks
 pub mod Stopped
+pub mod Stops

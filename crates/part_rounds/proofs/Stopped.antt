@@ -5,7 +5,7 @@ use Rattle.client_port.specs.Ports.{Queue}
 use Rattle.dura_model.specs.Partition.{Partition}
 use Rattle.dura_value.specs.Items.{Entry}
 use Rattle.hub_store.specs.Origin.{Log}
-use Rattle.hub_store.specs.declared.stop.Stop.{Stop}
+use Rattle.part_rounds.specs.declared.stop.Stop.{Stop}
 use Rattle.part_rounds.specs.Comes.{Entered, StopsAt, StirsAt, Leaves, count_labels}
 use Rattle.part_rounds.specs.Further.{Stirs}
 use Rattle.part_rounds.specs.Fills.{IsIdle}

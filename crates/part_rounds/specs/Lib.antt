@@ -4,4 +4,5 @@ pub mod Fills
 pub mod Further
 pub mod InTime
 pub mod Rounds
+pub mod Stops
 pub mod Turns

@@ -2,14 +2,21 @@
 use Rattle.std.specs.Prelude.{Bool, true, false}
 use Rattle.hub_store.specs.declared.refusal.BodyRefusal.{BodyRefusal}
 use Rattle.hub_store.specs.declared.refusal.BodyRefusal.TheVariants as refusals
-use Rattle.hub_store.specs.declared.stop.Stop.{Stop}
-use Rattle.hub_store.specs.declared.stop.Stop.TheVariants.{Full, Spent, SiteFault, SayFault, ClockFault, Memory}
+use Rattle.hub_store.specs.declared.refusal.SayError.{SayError}
+use Rattle.hub_store.specs.declared.refusal.SayError.TheVariants as says
+use Rattle.part_rounds.specs.declared.stop.Stop.{Stop}
+use Rattle.part_rounds.specs.declared.stop.Stop.TheVariants.{Full, Spent, SiteFault, SayFault, ClockFault, Memory}
 
 -- why a frame was not written
 abbrev pub stop_of_body : BodyRefusal → Stop
 stop_of_body (refusals.Full partition length) = Full partition length
 stop_of_body refusals.SiteFault = SiteFault
 stop_of_body refusals.Memory = Memory
+
+-- why an answer was not said
+abbrev pub stop_of_say : SayError → Stop
+stop_of_say says.SayFault = SayFault
+stop_of_say says.Memory = Memory
 
 -- whether the log or the disk is why, or want of memory
 abbrev pub is_of_disk : Stop → Bool

@@ -4,7 +4,7 @@ ghost use Rattle.std.specs.Prelude.{◌≡◌, ◌<◌, ◌≤◌, List, true, E
 ghost use Rattle.hub_store.specs.Trail.{Said};
 ghost use Rattle.part_rounds.specs.Comes.{Comes, FillsNext, IsByNow};
 ghost use Rattle.part_rounds.specs.InTime.{ComesAt, HasRead};
-ghost use Rattle.hub_store.specs.Stops.{is_of_clock};
+ghost use Rattle.part_rounds.specs.Stops.{is_of_clock};
 ghost use Rattle.part_rounds.specs.Rounds.{pairs_of, HasSaid};
 ghost use Rattle.part_steps.specs.States.{state_of, count_of, IsSound};
 ghost use Rattle.run_rules.specs.Rules.{Rules};
@@ -12,10 +12,10 @@ ghost use Rattle.site_model.specs.Calls.{HasRisen};
 
 use crate::filling::Filling;
 use crate::filling_on::{Chance, gather};
+use crate::stop::Stop;
 use activity_table::Activities;
 use client_port::Port;
 use dura_value::Name;
-use hub_store::Stop;
 use part_rows::Reactions;
 use part_steps::PartState;
 use site_model::{Clock, LAST_MOMENT};
@@ -46,10 +46,10 @@ pub(crate) fn take_next<R: Reactions, A: Activities, C: Clock>(
     requires one { count_of state ≡ 1 }
     requires begun { 0 < (state_of state).position }
     requires some { 0 < limit }
-    ensures fills { (rules : Rules) (told : List Said) → rules.flows ≡ R.flows reactions.now → HasSaid rules told port.now.queues → IfOk result (λ next. FillsNext rules (pairs_of told) (state_of state) next) }
-    ensures comes { IfOk result (λ next. Comes (R.flows reactions.now) (state_of state) port.now.queues clients.now limit next) }
-    ensures at { IfOk result (λ next. ComesAt (R.flows reactions.now) (λ name argument. A.gives name argument word) (state_of state) port.now.queues clients.now (C.given clock.old) (C.given clock.new) next) }
-    ensures reads { HasRead (R.flows reactions.now) (state_of state) port.now.queues clients.now (C.given clock.old) (C.given clock.new) }
+    ensures fills { (rules : Rules) (told : List Said) → rules.flows ≡ R.flows reactions.now → HasSaid rules told port.now → IfOk result (λ next. FillsNext rules (pairs_of told) (state_of state) next) }
+    ensures comes { IfOk result (λ next. Comes (R.flows reactions.now) (state_of state) port.now clients.now limit next) }
+    ensures at { IfOk result (λ next. ComesAt (R.flows reactions.now) (λ name argument. A.gives name argument word) (state_of state) port.now clients.now (C.given clock.old) (C.given clock.new) next) }
+    ensures reads { HasRead (R.flows reactions.now) (state_of state) port.now clients.now (C.given clock.old) (C.given clock.new) }
     ensures moment { IfOk result (λ next. IsByNow (state_of state) (C.latest clock.new) next) }
     ensures latest { C.latest clock.old ≤ C.latest clock.new }
     ensures stops { IfErr result (λ stop. is_of_clock stop ≡ true) }

@@ -9,15 +9,19 @@ ghost use Rattle.hub_store.specs.Sound.{IsSound};
 ghost use Rattle.hub_store.specs.Trail.{of_part};
 ghost use Rattle.hub_store.specs.Ways.{way_of};
 ghost use Rattle.part_rounds.specs.Comes.{count_labels};
-ghost use Rattle.hub_store.specs.Stops.{is_of_disk};
+ghost use Rattle.part_rounds.specs.Stops.{is_of_disk};
 ghost use Rattle.part_rounds.specs.Commits.{IsFull};
 ghost use Rattle.part_rounds.specs.Rounds.{pairs_of, IsFilled};
 
 use crate::ruled::Ruled;
-use hub_store::{Stage, Stop, Store, commit};
+use crate::stop::Stop;
+use hub_store::{Stage, Store, commit};
 use part_items::{Entry, Item, Items};
 use site_model::Site;
 use std::alloc::Global;
+
+/// The one partition.
+pub(crate) const ALONE: u32 = 0;
 
 /// Commits what an entry was filled with, at this place and in this life.
 pub(crate) fn commit_items<V: Site, N: Ruled>(
@@ -53,8 +57,6 @@ pub(crate) fn commit_items<V: Site, N: Ruled>(
         incarnation: life,
         items: Items::of(items),
     };
-    match commit(alloc, store, entry) {
-        Ok(()) => Ok(()),
-        Err(stop) => Err(stop),
-    }
+    commit(alloc, store, ALONE, entry)?;
+    Ok(())
 }

@@ -15,11 +15,11 @@ ghost use Rattle.run_rules.specs.Rules.{Rules};
 use crate::filling::{Filling, fill};
 use crate::gathering::all_fit;
 use crate::outcomes::run_pending;
+use crate::stop::Stop;
 use crate::taking::take_due;
 use activity_table::Activities;
 use client_port::Port;
 use dura_value::Name;
-use hub_store::Stop;
 use part_rows::Reactions;
 use part_steps::PartState;
 use std::alloc::Global;
@@ -46,7 +46,7 @@ pub(crate) fn fill_on<R: Reactions>(
 ) -> Result<Filling, Stop>
     requires way { IsUnderWay filling }
     requires room { length filling.items.items ≤ limit }
-    ensures goes_on { (rules : Rules) (told : List Said) → rules.flows ≡ R.flows reactions.now → HasSaid rules told port.now.queues → IfOk result (λ next. FillsOn rules (pairs_of told) filling next) }
+    ensures goes_on { (rules : Rules) (told : List Said) → rules.flows ≡ R.flows reactions.now → HasSaid rules told port.now → IfOk result (λ next. FillsOn rules (pairs_of told) filling next) }
     ensures few { IfOk result (λ next. length next.items.items ≤ limit) }
     ensures at { (gives : Giving) → IfOk result (λ next. GoesOnAt (R.flows reactions.now) now gives filling next) }
     ensures less { IfOk result (λ next. length next.items.items < limit → NoneEnabled (R.flows reactions.now) 1 (state_of next.state) (moment_at (state_of next.state) now)) }
@@ -55,7 +55,7 @@ pub(crate) fn fill_on<R: Reactions>(
     ensures under_way { IfOk result (λ next. IsUnderWay next) }
     ensures longer { IfOk result (λ next. length filling.items.items ≤ length next.items.items) }
     ensures none { length filling.items.items < limit → IfOk result (λ next. length next.items.items ≡ length filling.items.items → (state_of next.state ≡ state_of filling.state)
-        × All (λ name. CantTake (R.flows reactions.now) (state_of filling.state) port.now.queues name) clients.now × NoneEnabled (R.flows reactions.now) 1 (state_of filling.state) (moment_at (state_of filling.state) now)) }
+        × All (λ name. CantTake (R.flows reactions.now) (state_of filling.state) port.now name) clients.now × NoneEnabled (R.flows reactions.now) 1 (state_of filling.state) (moment_at (state_of filling.state) now)) }
     ensures stops { IfErr result (λ stop. stop ≡ Stop.Memory) }
 {
     let taken = take_due(alloc, reactions, filling, port, clients, limit)?;
@@ -83,7 +83,7 @@ pub(crate) fn gather<R: Reactions, A: Activities>(
     requires one { count_of state ≡ 1 }
     requires begun { 0 < (state_of state).position }
     requires some { 0 < limit }
-    ensures fills { (rules : Rules) (told : List Said) → rules.flows ≡ R.flows reactions.now → HasSaid rules told port.now.queues → IfOk result (λ next. Fills rules (pairs_of told) (state_of state) (items_of next.items.items) (state_of next.state)) }
+    ensures fills { (rules : Rules) (told : List Said) → rules.flows ≡ R.flows reactions.now → HasSaid rules told port.now → IfOk result (λ next. Fills rules (pairs_of told) (state_of state) (items_of next.items.items) (state_of next.state)) }
     ensures under_way { IfOk result (λ next. IsUnderWay next) }
     ensures few { IfOk result (λ next. length next.items.items ≤ limit) }
     ensures at { IfOk result (λ next. IsFilledAt (R.flows reactions.now) chance.now (λ name argument. A.gives name argument chance.word) (state_of state) next) }
@@ -91,7 +91,7 @@ pub(crate) fn gather<R: Reactions, A: Activities>(
     ensures moment { IfOk result (λ next. (state_of next.state).stamp ≤ max (state_of state).stamp chance.now) }
     ensures fit { IfOk result (λ next. All FitsItem (items_of next.items.items)) }
     ensures none { IfOk result (λ next. next.items.items ≡ [] → (state_of next.state ≡ state_of state)
-        × IsIdle (R.flows reactions.now) (state_of state) port.now.queues clients.now chance.now) }
+        × IsIdle (R.flows reactions.now) (state_of state) port.now clients.now chance.now) }
     ensures stops { IfErr result (λ stop. stop ≡ Stop.Memory) }
 {
     let begun = Filling {

@@ -5,6 +5,7 @@
 //!   all of it together, and `gathering` tells whether it can be written.
 //! - `committing` takes an entry to the log, and `laws` says of an entry that was filled that it may follow.
 //! - `saying` says what is answered, and `stopping` tells whether something is possible still where there may be no more labels.
+//! - `stop` is why a call ends before all is done: what the store refuses, and what the rounds meet besides.
 #![tactic(auto)]
 
 mod coming;
@@ -17,8 +18,10 @@ mod outcomes;
 mod rounds;
 mod ruled;
 mod saying;
+mod stop;
 mod stopping;
 mod taking;
 
 pub use rounds::{End, drive};
 pub use ruled::Ruled;
+pub use stop::Stop;

@@ -16,22 +16,20 @@ ghost use Rattle.part_steps.specs.States.{state_of, count_of, IsSound as IsOwnSo
 ghost use Rattle.site_model.specs.Calls.{HasRisen};
 
 use crate::coming::{Coming, take_next};
-use crate::committing::commit_items;
+use crate::committing::{ALONE, commit_items};
 use crate::filling::Filling;
 use crate::ruled::Ruled;
 use crate::saying::say_due;
+use crate::stop::Stop;
 use crate::stopping::stop_at;
 use activity_table::{Activities, word};
 use client_port::Port;
 use dura_value::Name;
-use hub_store::{Stage, Stop, Store};
+use hub_store::{Stage, Store};
 use part_rows::Reactions;
 use part_steps::PartState;
 use site_model::{Clock, Site};
 use std::alloc::Global;
-
-/// The one partition.
-const ALONE: u32 = 0;
 
 /// The place that no entry may have: the format's numbers are below it.
 const POSITION_LIMIT: u64 = 1 << 62;
@@ -68,7 +66,7 @@ fn settle_filling<V: Site, N: Ruled>(
     requires room { position < 2 ^ 62 }
     requires filled { IsFilledTo N.rules (N.origin.logs 0) store.old.latest (of_part 0 (trail_in store.old)) (pairs_of (told_in store.old)) position life (items_of filling.items.items) (state_of filling.state) }
     requires way { IsUnderWay filling }
-    requires said { HasSaid N.rules (told_in store.old) port.old.queues }
+    requires said { HasSaid N.rules (told_in store.old) port.old }
     ensures tells { V.tells store.new.site → V.tells store.old.site }
     ensures sound { IsSound store.new }
     ensures segment { store.new.segment ≡ store.old.segment }
@@ -76,9 +74,9 @@ fn settle_filling<V: Site, N: Ruled>(
     ensures whole { result ≢ Err Stop.SayFault → store.new.cut ≡ false }
     ensures stage { OnOk result (stage_at store.new 0 ≡ Stage.Resting) }
     ensures still { OnOk result (store.new.halted ≡ false) }
-    ensures said { OnOk result (HasSaid N.rules (told_in store.new) port.new.queues) }
+    ensures said { OnOk result (HasSaid N.rules (told_in store.new) port.new) }
     ensures entered { IfOk result (λ state. Entered N.rules (N.origin.logs 0) store.new.latest (of_part 0 (trail_in store.new)) state) }
-    ensures unsaid { IfOk result (λ state. NoneUnsaid (state_of state) port.new.queues clients.now) }
+    ensures unsaid { IfOk result (λ state. NoneUnsaid (state_of state) port.new clients.now) }
     ensures labels { OnOk result (count_labels (of_part 0 (trail_in store.new)) ≡ count_labels (of_part 0 (trail_in store.old)) + length filling.items.items) }
     ensures settles { SettlesThenSays clients.now (record { position = position; incarnation = life; items = items_of filling.items.items }) (of_part 0 (trail_in store.old)) (told_in store.old) (of_part 0 (trail_in store.new)) (told_in store.new) }
     ensures no_more { count_labels (of_part 0 (trail_in store.new)) ≤ count_labels (of_part 0 (trail_in store.old)) + length filling.items.items }
@@ -130,8 +128,8 @@ fn go_round<V: Site, N: Ruled, R: Reactions, A: Activities, C: Clock>(
     requires some { 0 < limit }
     requires few { limit ≤ 64 }
     requires entered { Entered N.rules (N.origin.logs 0) store.old.latest (of_part 0 (trail_in store.old)) state }
-    requires unsaid { NoneUnsaid (state_of state) port.old.queues clients.now }
-    requires said { HasSaid N.rules (told_in store.old) port.old.queues }
+    requires unsaid { NoneUnsaid (state_of state) port.old clients.now }
+    requires said { HasSaid N.rules (told_in store.old) port.old }
     ensures tells { V.tells store.new.site → V.tells store.old.site }
     ensures sound { IsSound store.new }
     ensures segment { store.new.segment ≡ store.old.segment }
@@ -140,8 +138,8 @@ fn go_round<V: Site, N: Ruled, R: Reactions, A: Activities, C: Clock>(
     ensures moments { C.latest clock.old ≤ C.latest clock.new }
     ensures stage { OnOk result (stage_at store.new 0 ≡ Stage.Resting) }
     ensures still { OnOk result (store.new.halted ≡ false) }
-    ensures said { OnOk result (HasSaid N.rules (told_in store.new) port.new.queues) }
-    ensures leaves { IfOk result (λ round. LeavesRound N.rules (N.origin.logs 0) store.new.latest (of_part 0 (trail_in store.old)) (of_part 0 (trail_in store.new)) port.new.queues clients.now round) }
+    ensures said { OnOk result (HasSaid N.rules (told_in store.new) port.new) }
+    ensures leaves { IfOk result (λ round. LeavesRound N.rules (N.origin.logs 0) store.new.latest (of_part 0 (trail_in store.old)) (of_part 0 (trail_in store.new)) port.new clients.now round) }
     ensures goes { GoesByClock N.rules A.gives limit clients.now (C.given clock.old) (of_part 0 (trail_in store.old)) (told_in store.old) (C.given clock.new) (of_part 0 (trail_in store.new)) (told_in store.new) }
     ensures no_more { count_labels (of_part 0 (trail_in store.new)) ≤ count_labels (of_part 0 (trail_in store.old)) + limit }
     ensures spent { (of n : ℕ) → result ≡ Err (Stop.Spent of n) → IsSpent N.rules (of_part 0 (trail_in store.new)) (pairs_of (told_in store.new)) of n }
@@ -203,7 +201,7 @@ pub fn drive<V: Site, N: Ruled, R: Reactions, A: Activities, C: Clock>(
     requires own { IsOwnSound state }
     requires one { count_of state ≡ 1 }
     requires room { (state_of state).position < 2 ^ 63 }
-    requires said { HasSaid N.rules (told_in store.old) port.old.queues }
+    requires said { HasSaid N.rules (told_in store.old) port.old }
     ensures tells { V.tells store.new.site → V.tells store.old.site }
     ensures sound { IsSound store.new }
     ensures segment { store.new.segment ≡ store.old.segment }
@@ -212,8 +210,8 @@ pub fn drive<V: Site, N: Ruled, R: Reactions, A: Activities, C: Clock>(
     ensures moments { C.latest clock.old ≤ C.latest clock.new }
     ensures stage { OnOk result (stage_at store.new 0 ≡ Stage.Resting) }
     ensures still { OnOk result (store.new.halted ≡ false) }
-    ensures said { OnOk result (HasSaid N.rules (told_in store.new) port.new.queues) }
-    ensures leaves { IfOk result (λ end. Leaves N.rules (N.origin.logs 0) store.new.latest (of_part 0 (trail_in store.new)) (pairs_of (told_in store.new)) port.new.queues clients.now steps end) }
+    ensures said { OnOk result (HasSaid N.rules (told_in store.new) port.new) }
+    ensures leaves { IfOk result (λ end. Leaves N.rules (N.origin.logs 0) store.new.latest (of_part 0 (trail_in store.new)) (pairs_of (told_in store.new)) port.new clients.now steps end) }
     ensures goes { GoesByClock N.rules A.gives limit clients.now (C.given clock.old) (of_part 0 (trail_in store.old)) (told_in store.old) (C.given clock.new) (of_part 0 (trail_in store.new)) (told_in store.new) }
     ensures no_more { count_labels (of_part 0 (trail_in store.new)) < steps + limit }
     ensures spent { (of n : ℕ) → result ≡ Err (Stop.Spent of n) → IsSpent N.rules (of_part 0 (trail_in store.new)) (pairs_of (told_in store.new)) of n }

@@ -7,7 +7,7 @@ ghost use Rattle.hub_store.specs.Changes.{trail_in, told_in};
 ghost use Rattle.hub_store.specs.Sound.{IsSound};
 ghost use Rattle.hub_store.specs.Trail.{of_part};
 ghost use Rattle.dura_model.specs.Entries.{placed};
-ghost use Rattle.hub_store.specs.Stops.{is_of_tape};
+ghost use Rattle.part_rounds.specs.Stops.{is_of_tape};
 ghost use Rattle.part_rounds.specs.Rounds.{pairs_of, HasSaid, KeepsDue, next_answer};
 ghost use Rattle.part_rounds.specs.Turns.{SaysOwn, SaysInTurn};
 ghost use Rattle.part_steps.specs.States.{state_of};
@@ -15,9 +15,10 @@ ghost use Rattle.run_rules.specs.Rules.{count_told};
 ghost use Rattle.site_model.specs.Calls.{HasRisen};
 
 use crate::ruled::Ruled;
+use crate::stop::Stop;
 use client_port::{Port, answer_line};
 use dura_value::{Id, Name};
-use hub_store::{SayError, Stop, Store};
+use hub_store::Store;
 use part_steps::PartState;
 use site_model::Site;
 use std::alloc::{AllocError, Global};
@@ -43,7 +44,7 @@ pub(crate) fn say_next<V: Site, N: Ruled>(
     requires sound { IsSound store.old }
     requires going { store.old.halted ≡ false }
     requires made { placed N.rules.flows 1 N.rules.begin (of_part 0 (trail_in store.old)) ≡ Ok (state_of state.now) }
-    requires said { HasSaid N.rules (told_in store.old) port.old.queues }
+    requires said { HasSaid N.rules (told_in store.old) port.old }
     ensures tells { V.tells store.new.site → V.tells store.old.site }
     ensures sound { IsSound store.new }
     ensures trail { trail_in store.new ≡ trail_in store.old }
@@ -53,15 +54,15 @@ pub(crate) fn say_next<V: Site, N: Ruled>(
     ensures latest { store.new.latest ≡ store.old.latest }
     ensures whole { result ≢ Err Stop.SayFault → store.new.cut ≡ false }
     ensures still { OnOk result (store.new.halted ≡ false) }
-    ensures said { OnOk result (HasSaid N.rules (told_in store.new) port.new.queues) }
+    ensures said { OnOk result (HasSaid N.rules (told_in store.new) port.new) }
     ensures more { result ≡ Ok true → (count_told (pairs_of (told_in store.old)) client.now < length (requests_of client.now N.rules.requests))
         × (count_told (pairs_of (told_in store.new)) client.now ≡ count_told (pairs_of (told_in store.old)) client.now + 1) }
-    ensures none { result ≡ Ok false → (next_answer (state_of state.now) port.old.queues client.now ≡ None) × (port.new ≡ port.old) }
+    ensures none { result ≡ Ok false → (next_answer (state_of state.now) port.old client.now ≡ None) × (port.new ≡ port.old) }
     ensures stops { IfErr result (λ stop. is_of_tape stop ≡ true) }
     ensures fault { result ≡ Err Stop.SayFault → HasRisen (V.say_faults store.old.site) (V.say_faults store.new.site) }
     ensures later { V.say_faults store.old.site ≤ V.say_faults store.new.site }
     ensures disk_faults { V.disk_faults store.new.site ≡ V.disk_faults store.old.site }
-    ensures others { OnOk result (KeepsDue client.now port.old.queues port.new.queues) }
+    ensures others { OnOk result (KeepsDue client.now port.old port.new) }
 {
     let Some(request) = port.next_of(client) else {
         return Ok(false);
@@ -76,12 +77,8 @@ pub(crate) fn say_next<V: Site, N: Ruled>(
     let line = answer_line(alloc, client, number, answer)?;
     let told = store.say(client, number, &line);
     drop(line);
-    match told {
-        Ok(()) => {}
-        Err(SayError::SayFault) => return Err(Stop::SayFault),
-        Err(SayError::Memory) => return Err(Stop::Memory),
-    }
-    port.said(alloc, client, Some(answer))?;
+    told?;
+    port.said(client);
     Ok(true)
 }
 
@@ -96,7 +93,7 @@ fn say_all<V: Site, N: Ruled>(
     requires sound { IsSound store.old }
     requires going { store.old.halted ≡ false }
     requires made { placed N.rules.flows 1 N.rules.begin (of_part 0 (trail_in store.old)) ≡ Ok (state_of state.now) }
-    requires said { HasSaid N.rules (told_in store.old) port.old.queues }
+    requires said { HasSaid N.rules (told_in store.old) port.old }
     ensures tells { V.tells store.new.site → V.tells store.old.site }
     ensures sound { IsSound store.new }
     ensures trail { trail_in store.new ≡ trail_in store.old }
@@ -106,9 +103,9 @@ fn say_all<V: Site, N: Ruled>(
     ensures latest { store.new.latest ≡ store.old.latest }
     ensures whole { result ≢ Err Stop.SayFault → store.new.cut ≡ false }
     ensures still { OnOk result (store.new.halted ≡ false) }
-    ensures said { OnOk result (HasSaid N.rules (told_in store.new) port.new.queues) }
-    ensures none { OnOk result (next_answer (state_of state.now) port.new.queues client.now ≡ None) }
-    ensures others { OnOk result (KeepsDue client.now port.old.queues port.new.queues) }
+    ensures said { OnOk result (HasSaid N.rules (told_in store.new) port.new) }
+    ensures none { OnOk result (next_answer (state_of state.now) port.new client.now ≡ None) }
+    ensures others { OnOk result (KeepsDue client.now port.old port.new) }
     ensures stops { IfErr result (λ stop. is_of_tape stop ≡ true) }
     ensures fault { result ≡ Err Stop.SayFault → HasRisen (V.say_faults store.old.site) (V.say_faults store.new.site) }
     ensures later { V.say_faults store.old.site ≤ V.say_faults store.new.site }
@@ -129,7 +126,7 @@ pub(crate) fn say_due<V: Site, N: Ruled>(
     requires sound { IsSound store.old }
     requires going { store.old.halted ≡ false }
     requires made { placed N.rules.flows 1 N.rules.begin (of_part 0 (trail_in store.old)) ≡ Ok (state_of state.now) }
-    requires said { HasSaid N.rules (told_in store.old) port.old.queues }
+    requires said { HasSaid N.rules (told_in store.old) port.old }
     ensures tells { V.tells store.new.site → V.tells store.old.site }
     ensures sound { IsSound store.new }
     ensures trail { trail_in store.new ≡ trail_in store.old }
@@ -139,8 +136,8 @@ pub(crate) fn say_due<V: Site, N: Ruled>(
     ensures latest { store.new.latest ≡ store.old.latest }
     ensures whole { result ≢ Err Stop.SayFault → store.new.cut ≡ false }
     ensures still { OnOk result (store.new.halted ≡ false) }
-    ensures said { OnOk result (HasSaid N.rules (told_in store.new) port.new.queues) }
-    ensures none { OnOk result (All (λ name. next_answer (state_of state.now) port.new.queues name ≡ None) clients.now) }
+    ensures said { OnOk result (HasSaid N.rules (told_in store.new) port.new) }
+    ensures none { OnOk result (All (λ name. next_answer (state_of state.now) port.new name ≡ None) clients.now) }
     ensures stops { IfErr result (λ stop. is_of_tape stop ≡ true) }
     ensures fault { result ≡ Err Stop.SayFault → HasRisen (V.say_faults store.old.site) (V.say_faults store.new.site) }
     ensures later { V.say_faults store.old.site ≤ V.say_faults store.new.site }

@@ -1,10 +1,10 @@
 //! Why a call ends before all is done.
 
 ghost use Rattle.std.specs.Prelude.{◌≡◌};
-ghost use Rattle.hub_store.specs.Stops.{stop_of_body};
-ghost use Rattle.hub_store.specs.declared.stop.Stop.TheVariants.{Memory};
+ghost use Rattle.part_rounds.specs.Stops.{stop_of_body, stop_of_say};
+ghost use Rattle.part_rounds.specs.declared.stop.Stop.TheVariants.{Memory};
 
-use crate::refusal::BodyRefusal;
+use hub_store::{BodyRefusal, SayError};
 use std::alloc::AllocError;
 
 /// Why a call ends before all is done.
@@ -42,13 +42,25 @@ impl From<AllocError> for Stop {
     }
 }
 
-/// Why a frame was not written.
-pub(crate) fn of_body(refusal: BodyRefusal) -> Stop
-    ensures { result ≡ stop_of_body refusal }
-{
-    match refusal {
-        BodyRefusal::Full { partition, length } => Stop::Full { partition, length },
-        BodyRefusal::SiteFault => Stop::SiteFault,
-        BodyRefusal::Memory => Stop::Memory,
+impl From<BodyRefusal> for Stop {
+    ghost from_gives = { λ refusal stop. stop ≡ stop_of_body refusal };
+
+    fn from(refusal: BodyRefusal) -> Stop {
+        match refusal {
+            BodyRefusal::Full { partition, length } => Stop::Full { partition, length },
+            BodyRefusal::SiteFault => Stop::SiteFault,
+            BodyRefusal::Memory => Stop::Memory,
+        }
+    }
+}
+
+impl From<SayError> for Stop {
+    ghost from_gives = { λ error stop. stop ≡ stop_of_say error };
+
+    fn from(error: SayError) -> Stop {
+        match error {
+            SayError::SayFault => Stop::SayFault,
+            SayError::Memory => Stop::Memory,
+        }
     }
 }

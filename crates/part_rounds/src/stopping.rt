@@ -13,9 +13,9 @@ ghost use Rattle.run_rules.specs.Rules.{Rules};
 use crate::filling::Filling;
 use crate::filling_on::fill_on;
 use crate::rounds::End;
+use crate::stop::Stop;
 use client_port::Port;
 use dura_value::Name;
-use hub_store::Stop;
 use part_rows::Reactions;
 use part_steps::PartState;
 use std::alloc::Global;
@@ -49,8 +49,8 @@ pub(crate) fn stop_at<R: Reactions>(
     requires sound { IsSound state }
     requires one { count_of state ≡ 1 }
     requires begun { 0 < (state_of state).position }
-    ensures comes { IfOk result (λ end. StopsAt (R.flows reactions.now) (state_of state) port.now.queues clients.now labels end) }
-    ensures stirs { (rules : Rules) (told : List Said) → rules.flows ≡ R.flows reactions.now → HasSaid rules told port.now.queues → IfOk result (λ end. StirsAt rules (pairs_of told) (state_of state) end) }
+    ensures comes { IfOk result (λ end. StopsAt (R.flows reactions.now) (state_of state) port.now clients.now labels end) }
+    ensures stirs { (rules : Rules) (told : List Said) → rules.flows ≡ R.flows reactions.now → HasSaid rules told port.now → IfOk result (λ end. StirsAt rules (pairs_of told) (state_of state) end) }
     ensures stops { IfErr result (λ stop. stop ≡ Stop.Memory) }
 {
     if is_pending(&state) {

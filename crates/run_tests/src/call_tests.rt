@@ -1,7 +1,7 @@
 //! Public calls that the program does without, where memory is ample: a call that always answered that there is none would meet
 //! its contract too.
 
-use client_port::Port;
+use client_port::{Port, answer_line};
 use dura_value::{Answer, Key, Name, Value};
 use flow_syntax::{Class, Flows};
 use request_reader::read_requests;
@@ -14,7 +14,7 @@ fn name(rt: &impl Abort, alloc: Global, text: &str) -> Name {
     Name::read(alloc, text.as_bytes()).expect(rt, "a name")
 }
 
-/// A client's first request is due, and what it is told is a line.
+/// A client's first request is due, and what it is told is a line. Then nothing is due.
 #[test]
 fn ports(rt: HostRuntime) {
     let alloc = rt.alloc();
@@ -25,12 +25,15 @@ fn ports(rt: HostRuntime) {
     drop(due);
     let client = name(&rt, alloc, "a");
     let answer = Answer::None;
-    port.said(alloc, &client, Some(&answer))
-        .expect(&rt, "memory");
+    let line = answer_line(alloc, &client, 1, &answer).expect(&rt, "memory");
+    assert!(rt; line.as_slice() == b"a 1 none\n".as_slice());
+    drop(line);
     drop(answer);
+    port.said(&client);
     drop(client);
-    let lines = port.lines();
-    assert!(rt; lines.len() == 1 && lines[0].as_slice() == b"a 1 none\n".as_slice());
+    let due = port.due(alloc).expect(&rt, "memory");
+    assert!(rt; due.is_empty());
+    drop(due);
     drop(port);
 }
 

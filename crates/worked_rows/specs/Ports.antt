@@ -1,6 +1,7 @@
 -- What is due of two clients' requests, and the lines of what was said.
-use Rattle.std.specs.Prelude.{◌≡◌, ℕ, List, [], ◌∷◌, map, option_map, codes, Option, Some, None, pos}
-use Rattle.client_port.specs.Ports.{Ports, queues_of, all_due, due_of, after_said}
+use Rattle.std.specs.Prelude.{◌≡◌, ℕ, List, [], ◌∷◌, ◌++◌, map, option_map, option_to_list, codes, Option, Some, None, pos}
+use Rattle.client_port.specs.Lines.{line_of}
+use Rattle.client_port.specs.Ports.{Queue, queues_of, all_due, at_client, due_of, with_said}
 use Rattle.dura_value.specs.declared.data.Value.TheVariants as values
 use Rattle.dura_value.specs.Ids.{orchestration, client}
 use Rattle.dura_value.specs.Messages.{Answer, was_started, is_done, Body, start, query, wait, to_request}
@@ -21,25 +22,33 @@ requests =
     ∷ asked (codes "a") 2 (wait 2)
     ∷ []
 
-abbrev pub at_first : Ports
-at_first = record { queues = queues_of requests; lines = [] }
+abbrev pub at_first : List Queue
+at_first = queues_of requests
 
--- client a's next request is answered so
-abbrev a_is_told : Answer → Ports → Ports
-a_is_told answer p = after_said (codes "a") (Some answer) p
+-- client a's next request is answered
+abbrev a_is_told : List Queue → List Queue
+a_is_told queues = at_client with_said (codes "a") queues
 
-abbrev pub started : Ports
-started = a_is_told was_started at_first
+abbrev pub started : List Queue
+started = a_is_told at_first
 
 -- its last answer, and one to a request that isn't there
-abbrev pub told : Ports
-told = a_is_told was_started (a_is_told (is_done (values.Int (pos 5))) started)
+abbrev pub told : List Queue
+told = a_is_told (a_is_told started)
 
-abbrev numbers_due : Ports → List ℕ
-numbers_due p = map (λ (r : Request). r.number) (all_due p.queues)
+-- the line of an answer to what is due of client a, where something is
+abbrev line_of_a : List Queue → Answer → List (List ℕ)
+line_of_a queues answer = option_to_list (option_map (λ (r : Request). line_of r.client r.number answer) (due_of (codes "a") queues))
 
-abbrev next_number : List ℕ → Ports → Option ℕ
-next_number name p = option_map (λ (r : Request). r.number) (due_of name p.queues)
+-- the lines of these answers
+abbrev pub lines_told : List (List ℕ)
+lines_told = line_of_a at_first was_started ++ line_of_a started (is_done (values.Int (pos 5))) ++ line_of_a (a_is_told started) was_started
+
+abbrev numbers_due : List Queue → List ℕ
+numbers_due queues = map (λ (r : Request). r.number) (all_due queues)
+
+abbrev next_number : List ℕ → List Queue → Option ℕ
+next_number name queues = option_map (λ (r : Request). r.number) (due_of name queues)
 
 abbrev pub BeginsSo : Type 0
 BeginsSo = numbers_due at_first ≡ 1 ∷ 4 ∷ []
@@ -54,4 +63,4 @@ GoesOnSo =
 abbrev pub EndsSo : Type 0
 EndsSo =
     (numbers_due told ≡ 4 ∷ [])
-    × (told.lines ≡ codes "a 1 started\n" ∷ codes "a 2 done 5\n" ∷ [])
+    × (lines_told ≡ codes "a 1 started\n" ∷ codes "a 2 done 5\n" ∷ [])

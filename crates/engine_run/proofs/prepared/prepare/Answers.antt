@@ -17,7 +17,7 @@ use Rattle.engine_run.proofs.Preparing.{opened_from, opens_from}
 use Rattle.engine_run.proofs.Refusing.{logs_refused, clash_refused, logs_untouched, ready, not_refused}
 use Rattle.engine_run.proofs.prepared.prepare.Goals as goal
 use Rattle.flow_syntax.specs.Views.{flows_of}
-use Rattle.hub_store.proofs.Stops.{ok_apart}
+use Rattle.hub_store.proofs.Refusals.{ok_apart}
 use Rattle.part_items.specs.Logs.{Logs, logs_in, alone_with}
 use Rattle.part_steps.specs.States.{state_of}
 use Rattle.recover_core.specs.Recovering.{IsLogOf, RestsFor, OnlySyncs, both_synced}

@@ -12,8 +12,8 @@ use Rattle.part_rounds.specs.Comes.{Leaves}
 use Rattle.part_rounds.specs.Commits.{IsFull}
 use Rattle.part_rounds.specs.InTime.{GoesByClock}
 use Rattle.part_rounds.specs.Rounds.{pairs_of}
-use Rattle.hub_store.specs.declared.stop.Stop.{Stop}
-use Rattle.hub_store.specs.declared.stop.Stop.TheVariants as stops
+use Rattle.part_rounds.specs.declared.stop.Stop.{Stop}
+use Rattle.part_rounds.specs.declared.stop.Stop.TheVariants as stops
 use Rattle.run_causes.specs.declared.cause.Cause.{Cause}
 use Rattle.run_causes.specs.declared.cause.Cause.TheVariants.{Long, SiteFault, SayFault, ClockFault, Memory}
 
@@ -73,7 +73,7 @@ returns-in-Ok g c = record {
       let steps = g.V.Site.history new.site in
       let told = c.drive.ensures.sound.told tells in
       let latest = g.C.Clock.latest c.drive.new.clock in
-      let queues = c.drive.new.port.queues in
+      let queues = c.drive.new.port in
       let clients = c.args.clients.now in
       let raised = c.drive.ensures.latest in
       let later = c.drive.ensures.moments in
@@ -86,11 +86,11 @@ returns-in-Ok g c = record {
       rest_ends (g.N.Start.may_follow latest) g.N.Start.may_say rules latest o steps (trail_in new) (told_in new) queues clients c.args.options c.in-Ok.cause rest c.requires.clients c.in-Ok.ensures;
   goes = subst (λ (l : List (List ℕ)). GoesByClock g.N.Ruled.rules g.A.Activities.gives c.args.options.batch l (g.C.Clock.given c.args.clock.now) (of_part 0 (trail_in c.args.store.now)) (told_in c.args.store.now) (g.C.Clock.given c.drive.new.clock) (of_part 0 (trail_in c.drive.new.store)) (told_in c.drive.new.store)) c.requires.clients c.drive.ensures.goes;
   no_more = c.drive.ensures.no_more;
-  late = rest_late c.drive.new.port.queues c.args.clients.now c.in-Ok.cause c.in-Ok.ensures;
+  late = rest_late c.drive.new.port c.args.clients.now c.in-Ok.cause c.in-Ok.ensures;
   faults = record {
-    of_disk = λ is. absurd (subst (IsRestCause c.drive.new.port.queues c.args.clients.now) is c.in-Ok.ensures);
-    of_tape = λ is. absurd (subst (IsRestCause c.drive.new.port.queues c.args.clients.now) is c.in-Ok.ensures);
-    of_clock = λ is. absurd (subst (IsRestCause c.drive.new.port.queues c.args.clients.now) is c.in-Ok.ensures);
+    of_disk = λ is. absurd (subst (IsRestCause c.drive.new.port c.args.clients.now) is c.in-Ok.ensures);
+    of_tape = λ is. absurd (subst (IsRestCause c.drive.new.port c.args.clients.now) is c.in-Ok.ensures);
+    of_clock = λ is. absurd (subst (IsRestCause c.drive.new.port c.args.clients.now) is c.in-Ok.ensures);
     disk = c.drive.ensures.later;
     tape = c.drive.ensures.say_later;
     clock = c.drive.ensures.clock_later;
@@ -135,7 +135,7 @@ returns-in-Ok-Long g c = record {
       let may : (trail : List Settled) (told : List Said) (partition : ℕ) (going : List Entry) → g.N.Start.may_follow new.latest trail told partition going → g.N.Start.may_follow latest trail told partition going =
       λ trail told partition going follows. g.N.Start.later_follows new.latest latest trail told partition going above follows in
       let told = c.drive.ensures.sound.told tells in
-      let leaves = subst (Leaves g.N.Ruled.rules (o.logs 0) new.latest (of_part 0 (trail_in new)) (pairs_of (told_in new)) c.drive.new.port.queues c.args.clients.now c.args.options.steps) c.in-Ok-Long.field-0-is c.in-Ok-Long.ensures.leaves in (
+      let leaves = subst (Leaves g.N.Ruled.rules (o.logs 0) new.latest (of_part 0 (trail_in new)) (pairs_of (told_in new)) c.drive.new.port c.args.clients.now c.args.options.steps) c.in-Ok-Long.field-0-is c.in-Ok-Long.ensures.leaves in (
         leaves.0,
         leaves.1,
         record {

@@ -13,7 +13,7 @@ use Rattle.request_reader.specs.Line.{Request, request_of}
 
 pub loop-client-preserved : goal.loop-client-preserved
 loop-client-preserved c =
-    let queues = c.args.port.now.queues in
+    let queues = c.args.port.now in
     let clients = c.args.clients.now in
     let place = c.loop-client.client-index in
     let name = c.client-item.result in
@@ -50,12 +50,12 @@ loop-client-preserved c =
 
 pub returns-clause-none : goal.returns-clause-none
 returns-clause-none c =
-    if_none c.loop-client.first (AreAllSaid c.args.port.now.queues c.args.clients.now)
-    (λ is. all_whole (λ (n : List ℕ). due_of n c.args.port.now.queues ≡ None) c.args.clients.now c.loop-client.client-index c.loop-client-test.false (c.loop-client.invariant.none is))
+    if_none c.loop-client.first (AreAllSaid c.args.port.now c.args.clients.now)
+    (λ is. all_whole (λ (n : List ℕ). due_of n c.args.port.now ≡ None) c.args.clients.now c.loop-client.client-index c.loop-client-test.false (c.loop-client.invariant.none is))
 
 pub returns-clause-some : goal.returns-clause-some
 returns-clause-some c =
-    let queues = c.args.port.now.queues in
+    let queues = c.args.port.now in
     let clients = c.args.clients.now in
     if_both c.loop-client.first (λ one. IsUnsaid queues one.0.now one.1) (λ one. All (DueLater queues (one.0.now, one.1)) (take c.loop-client.client-index clients)) (λ one. IsFirstUnsaid queues clients one.0.now one.1)
     (λ one unsaid first. record { unsaid = unsaid; first = all_whole (DueLater queues (one.0.now, one.1)) clients c.loop-client.client-index c.loop-client-test.false first }) c.loop-client.invariant.some c.loop-client.invariant.first

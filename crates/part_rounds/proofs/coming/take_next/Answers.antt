@@ -11,7 +11,8 @@ use Rattle.part_rounds.specs.InTime.Reads.{fails, asks, waits}
 use Rattle.part_rounds.specs.Rounds.{pairs_of}
 use Rattle.part_rounds.proofs.Puttings.{no_items}
 use Rattle.part_steps.specs.States.{state_of}
-use Rattle.hub_store.proofs.Stops.{ok_apart, risen_after, residual_not_clock, residual_of_clock, residual_if_ok}
+use Rattle.hub_store.proofs.Refusals.{ok_apart, risen_after}
+use Rattle.part_rounds.proofs.Stops.{residual_not_clock, residual_of_clock, residual_if_ok}
 use Rattle.part_rounds.proofs.coming.take_next.Goals as goal
 use Rattle.site_model.specs.Readings.{Reading, asked, waited}
 

@@ -1,4 +1,4 @@
-use Rattle.std.proofs.Common.{◌≡◌, ℕ, ◌+◌, ◌<◌, ◌≤◌, List, [], ◌∷◌, ◌++◌, length, sym, ◌∙◌, ap, subst, arith}
+use Rattle.std.proofs.Common.{◌≡◌, ℕ, ◌+◌, ◌<◌, ◌≤◌, List, [], ◌∷◌, ◌++◌, length, refl, sym, ◌∙◌, ap, subst, arith}
 use Rattle.std.proofs.lemmas.List.{length-map}
 use Rattle.dura_value.specs.Items.{Entry}
 use Rattle.hub_store.specs.Changes.{trail_in, told_in}
@@ -12,12 +12,13 @@ use Rattle.part_rounds.specs.Rounds.{pairs_of}
 use Rattle.part_rounds.proofs.Entries.{entry_follows, entry_goes, labels_after}
 use Rattle.part_rounds.proofs.Further.{filled_further}
 use Rattle.part_rounds.specs.Further.{GoesFurther}
-use Rattle.hub_store.proofs.Stops.{ok_apart}
+use Rattle.hub_store.proofs.Refusals.{ok_apart, residual_is}
+use Rattle.part_rounds.proofs.Stops.{body_fault, body_room, residual_of_disk}
 use Rattle.part_rounds.proofs.committing.commit_items.Goals as goal
 use Rattle.run_rules.specs.Rules.{Follows}
 
-pub commit-requires-clause-one : goal.commit-requires-clause-one
-commit-requires-clause-one g c = omega (arith, g.met.N.Ruled.one)
+pub commit-requires-clause-part : goal.commit-requires-clause-part
+commit-requires-clause-part g c = omega (arith, g.met.N.Ruled.one)
 
 pub commit-requires-clause-behind : goal.commit-requires-clause-behind
 commit-requires-clause-behind g c =
@@ -30,23 +31,23 @@ commit-requires-clause-follows g c =
     (g.met.N.Ruled.follows c.args.store.now.latest (trail_in c.args.store.now) (told_in c.args.store.now) _
     (entry_follows g.N.Ruled.rules (g.N.Start.origin.logs 0) c.args.store.now.latest (of_part 0 (trail_in c.args.store.now)) (pairs_of (told_in c.args.store.now)) c.args.position c.args.life (items_of c.args.items.items) c.requires.filled))
 
-pub returns-in-Ok-clause-labels : goal.returns-in-Ok-clause-labels
-returns-in-Ok-clause-labels g c =
+pub returns-clause-labels : goal.returns-clause-labels
+returns-clause-labels g c =
     let before = of_part 0 (trail_in c.args.store.now) in
     let all = labels_after g.N.Ruled.rules (g.N.Start.origin.logs 0) c.args.store.now.latest before (pairs_of (told_in c.args.store.now)) c.args.position c.args.life (items_of c.args.items.items) c.requires.filled in
     let count = ap (λ (n : ℕ). count_labels before + n) (length-map c.args.items.items item_of) in
-    ap count_labels c.in-Ok.ensures.trail
+    ap count_labels c.in_ok-commit.ensures.trail
     ∙ subst (λ (items : List Item). count_labels (before ++ record { position = c.args.position; incarnation = c.args.life; items = items_of items } ∷ []) ≡ count_labels before + length c.args.items.items) (sym c.of.ensures) (all ∙ count)
 
-pub returns-in-Err-clause-full : goal.returns-in-Err-clause-full
-returns-in-Err-clause-full g c of n is =
+pub returns-in_err-commit-clause-full : goal.returns-in_err-commit-clause-full
+returns-in_err-commit-clause-full g c of n is =
     let rules = g.N.Ruled.rules in
     let old = c.args.store.now in
     let entry : Entry = record { position = c.args.position; incarnation = c.args.life; items = items_of c.of.result } in
-    let room = c.commit.ensures.room of n (c.in-Err.is ∙ is) in
+    let room = c.in_err-commit.ensures.room of n (body_room _ _ _ of n refl (residual_is _ _ c.from_residual.ensures.1) is) in
     let asked = entry_follows rules (g.N.Start.origin.logs 0) old.latest (of_part 0 (trail_in old)) (pairs_of (told_in old)) c.args.position c.args.life (items_of c.args.items.items) c.requires.filled in
     let there = subst (λ (items : List Item). Follows rules old.latest (of_part 0 (trail_in old)) (pairs_of (told_in old)) (record { position = c.args.position; incarnation = c.args.life; items = items_of items } ∷ [])) (sym c.of.ensures) asked in
-    let then = subst (λ (t : List Settled). Follows rules old.latest (of_part 0 t) (pairs_of (told_in old)) (entry ∷ [])) (sym c.in-Err.ensures.no_trail) there in
+    let then = subst (λ (t : List Settled). Follows rules old.latest (of_part 0 t) (pairs_of (told_in old)) (entry ∷ [])) (sym c.in_err-commit.ensures.no_trail) there in
     let told = subst (λ (t : List Said). Follows rules old.latest (of_part 0 (trail_in c.commit.new.store)) (pairs_of t) (entry ∷ [])) (sym c.commit.ensures.said) then in
     record {
       alone = room.0;
@@ -57,16 +58,19 @@ returns-in-Err-clause-full g c of n is =
       length_is = room.2 ∙ ap (λ (way : Way). length_with way (entry ∷ [])) (sym room.4);
       reaches = let reaches = room.1 in omega (arith, reaches, c.commit.ensures.segment);
       further =
-          subst (λ (t : List Settled). GoesFurther rules (of_part 0 t) (pairs_of (told_in c.commit.new.store))) (sym c.in-Err.ensures.no_trail)
+          subst (λ (t : List Settled). GoesFurther rules (of_part 0 t) (pairs_of (told_in c.commit.new.store))) (sym c.in_err-commit.ensures.no_trail)
           (subst (λ (t : List Said). GoesFurther rules (of_part 0 (trail_in old)) (pairs_of t)) (sym c.commit.ensures.said)
           (filled_further rules (g.N.Start.origin.logs 0) old.latest (of_part 0 (trail_in old)) (pairs_of (told_in old)) c.args.position c.args.life (items_of c.args.items.items) c.requires.filled));
     }
 
-pub returns-in-Err-clause-fault : goal.returns-in-Err-clause-fault
-returns-in-Err-clause-fault g c = c.in-Err.ensures.fault
+pub returns-in_err-commit-clause-fault : goal.returns-in_err-commit-clause-fault
+returns-in_err-commit-clause-fault g c is = c.in_err-commit.ensures.fault (body_fault _ _ _ refl (residual_is _ _ c.from_residual.ensures.1) is)
 
-pub returns-in-Ok-clause-full : goal.returns-in-Ok-clause-full
-returns-in-Ok-clause-full g c of n is = absurd (ok_apart _ _ is)
+pub returns-in_err-commit-clause-stops : goal.returns-in_err-commit-clause-stops
+returns-in_err-commit-clause-stops g c = residual_of_disk _ _ c.from_residual.ensures.1
 
-pub returns-in-Ok-clause-fault : goal.returns-in-Ok-clause-fault
-returns-in-Ok-clause-fault g c is = absurd (ok_apart _ _ is)
+pub returns-clause-full : goal.returns-clause-full
+returns-clause-full g c of n is = absurd (ok_apart _ _ is)
+
+pub returns-clause-fault : goal.returns-clause-fault
+returns-clause-fault g c is = absurd (ok_apart _ _ is)

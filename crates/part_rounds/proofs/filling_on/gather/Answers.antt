@@ -31,7 +31,7 @@ returns-clause-none g c = λ empty.
       filled.0 ∙ ended,
       record {
         outcomes = c.in_ok-ended.ensures.idle before;
-        requests = subst (λ (p : Partition). All (λ (name : List ℕ). CantTake (g.R.Reactions.flows c.args.reactions.now) p c.args.port.now.queues name) c.args.clients.now) ended filled.1;
+        requests = subst (λ (p : Partition). All (λ (name : List ℕ). CantTake (g.R.Reactions.flows c.args.reactions.now) p c.args.port.now name) c.args.clients.now) ended filled.1;
         steps = subst (λ (p : Partition). NoneEnabled (g.R.Reactions.flows c.args.reactions.now) 1 p (moment_at p c.args.chance.now)) ended filled.2;
       },
     )

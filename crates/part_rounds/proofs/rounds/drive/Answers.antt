@@ -11,14 +11,15 @@ use Rattle.hub_store.specs.Ways.{stage_of, way_of}
 use Rattle.part_rounds.proofs.Counts.{low_self, low_same, low_both, same_below_first, latest_both, few_more, few_round, some_above, same_less, none_less}
 use Rattle.part_rounds.proofs.Course.{goes_both, then_says}
 use Rattle.part_rounds.specs.InTime.GoesByClock.{begins}
-use Rattle.hub_store.specs.Stops.{is_of_tape}
+use Rattle.part_rounds.specs.Stops.{is_of_tape}
 use Rattle.flow_syntax.specs.Syntax.{Flows}
-use Rattle.hub_store.specs.declared.stop.Stop.TheVariants.{Full, Spent, SiteFault, SayFault, ClockFault, Memory}
+use Rattle.part_rounds.specs.declared.stop.Stop.TheVariants.{Full, Spent, SiteFault, SayFault, ClockFault, Memory}
 use Rattle.part_rounds.specs.Comes.{LeavesRound, StopsAt, count_labels}
 use Rattle.part_rounds.specs.Rounds.{pairs_of, StateStands, NoneUnsaid}
 use Rattle.part_rounds.proofs.Further.{on_ok, memory_apart, kind_not_spent}
 use Rattle.part_rounds.proofs.Stopped.{leaves_at}
-use Rattle.hub_store.proofs.Stops.{ok_apart, same_stop, residual_is, tape_not_full, tape_not_fault, tape_not_clock, risen_after, residual_on_ok, residual_if_ok}
+use Rattle.hub_store.proofs.Refusals.{ok_apart, residual_is, risen_after, residual_on_ok}
+use Rattle.part_rounds.proofs.Stops.{same_stop, tape_not_full, tape_not_fault, tape_not_clock, residual_if_ok}
 use Rattle.part_rounds.proofs.rounds.drive.Goals as goal
 use Rattle.part_steps.specs.States.{state_of}
 
@@ -47,7 +48,7 @@ rounds-init g c =
         sound = c.enter-state.ensures.sound;
         one = c.enter-state.ensures.partitions ∙ c.requires.one;
       };
-      unsaid = subst (λ (p : Partition). NoneUnsaid p c.say_due.new.port.queues c.args.clients.now) (sym c.enter-state.ensures.entered) c.in-Ok.ensures.none;
+      unsaid = subst (λ (p : Partition). NoneUnsaid p c.say_due.new.port c.args.clients.now) (sym c.enter-state.ensures.entered) c.in-Ok.ensures.none;
       count = sym (ap (λ (t : List Settled). count_labels (of_part 0 t)) (c.say_due.ensures.trail ∙ c.requires.new));
       few = some_above _ _ c.requires.some;
       goes = then_says g.N.Ruled.rules g.A.Activities.gives c.args.limit c.args.clients.now (g.C.Clock.given c.args.clock.now) (g.C.Clock.given c.args.clock.now) (of_part 0 (trail_in c.args.store.now)) (of_part 0 (trail_in c.args.store.now)) (of_part 0 (trail_in c.say_due.new.store)) (told_in c.args.store.now) (told_in c.args.store.now) (told_in c.say_due.new.store) begins (ap (of_part 0) c.say_due.ensures.trail) c.say_due.ensures.in_turn;
@@ -58,7 +59,7 @@ rounds-init g c =
 
 pub rounds-preserved : goal.rounds-preserved
 rounds-preserved g c =
-    let leaves = subst (LeavesRound g.N.Ruled.rules (g.N.Start.origin.logs 0) c.go_round.new.store.latest (of_part 0 (trail_in c.rounds.store)) (of_part 0 (trail_in c.go_round.new.store)) c.go_round.new.port.queues c.args.clients.now) c.in-On.is c.in_ok-next.ensures.leaves in
+    let leaves = subst (LeavesRound g.N.Ruled.rules (g.N.Start.origin.logs 0) c.go_round.new.store.latest (of_part 0 (trail_in c.rounds.store)) (of_part 0 (trail_in c.go_round.new.store)) c.go_round.new.port c.args.clients.now) c.in-On.is c.in_ok-next.ensures.leaves in
     let latest = c.go_round.ensures.latest in
     let latest_before = c.rounds.invariant.latest in
     let moments = c.go_round.ensures.moments in
@@ -111,7 +112,7 @@ returns-in_err-next g c =
 
 pub returns-in-Over : goal.returns-in-Over
 returns-in-Over g c =
-    let leaves = subst (LeavesRound g.N.Ruled.rules (g.N.Start.origin.logs 0) c.go_round.new.store.latest (of_part 0 (trail_in c.rounds.store)) (of_part 0 (trail_in c.go_round.new.store)) c.go_round.new.port.queues c.args.clients.now) c.in-Over.is c.in_ok-next.ensures.leaves in
+    let leaves = subst (LeavesRound g.N.Ruled.rules (g.N.Start.origin.logs 0) c.go_round.new.store.latest (of_part 0 (trail_in c.rounds.store)) (of_part 0 (trail_in c.go_round.new.store)) c.go_round.new.port c.args.clients.now) c.in-Over.is c.in_ok-next.ensures.leaves in
     let latest = c.go_round.ensures.latest in
     let latest_before = c.rounds.invariant.latest in
     let moments = c.go_round.ensures.moments in
@@ -146,7 +147,7 @@ returns g c =
     let rules = g.N.Ruled.rules in
     let log = g.N.Start.origin.logs 0 in
     let told = told_in c.rounds.store in
-    let queues = c.rounds.port.queues in
+    let queues = c.rounds.port in
     let clients = c.args.clients.now in
     let flows = c.requires.flows in
     let comes = subst (λ (f : Flows). IfOk c.stop_at.result (λ end. StopsAt f (state_of c.rounds.state) queues clients c.rounds.labels end)) (sym flows) c.stop_at.ensures.comes in

@@ -20,9 +20,9 @@ invariant-rounds g l = record {
   moments : g.C.Clock.latest l.fn.clock ≤ g.C.Clock.latest l.clock;
   stage : stage_at l.store 0 ≡ Resting;
   still : l.store.halted ≡ false;
-  said : HasSaid g.N.Ruled.rules (told_in l.store) l.port.queues;
+  said : HasSaid g.N.Ruled.rules (told_in l.store) l.port;
   entered : Entered g.N.Ruled.rules (g.N.Start.origin.logs 0) l.store.latest (of_part 0 (trail_in l.store)) l.state;
-  unsaid : NoneUnsaid (state_of l.state) l.port.queues l.clients;
+  unsaid : NoneUnsaid (state_of l.state) l.port l.clients;
   count : l.labels ≡ count_labels (of_part 0 (trail_in l.store));
   few : l.labels < l.steps + l.limit;
   goes : GoesByClock g.N.Ruled.rules g.A.Activities.gives l.limit l.clients (g.C.Clock.given l.fn.clock) (of_part 0 (trail_in l.fn.store)) (told_in l.fn.store) (g.C.Clock.given l.clock) (of_part 0 (trail_in l.store)) (told_in l.store);

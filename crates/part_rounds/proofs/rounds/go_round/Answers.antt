@@ -12,12 +12,13 @@ use Rattle.part_rounds.proofs.Further.{kind_not_spent, full_wider, fills_further
 use Rattle.part_rounds.specs.InTime.{ComesAt}
 use Rattle.part_rounds.specs.Turns.{SettlesThenSays}
 use Rattle.dura_value.specs.Items.{Entry}
-use Rattle.hub_store.specs.Stops.{is_of_clock}
+use Rattle.part_rounds.specs.Stops.{is_of_clock}
 use Rattle.part_rounds.specs.Comes.{Comes, FillsNext, IsByNow, count_labels}
 use Rattle.part_rounds.specs.Fills.{Fills, IsIdle}
 use Rattle.hub_store.specs.Ways.{stage_of, way_of}
 use Rattle.part_rounds.specs.Rounds.{pairs_of, HasSaid, NoneUnsaid, IsFilledTo}
-use Rattle.hub_store.proofs.Stops.{ok_apart, same_stop, residual_is, clock_not_full, clock_not_fault, clock_not_said, residual_on_ok, residual_if_ok}
+use Rattle.hub_store.proofs.Refusals.{ok_apart, residual_is, residual_on_ok}
+use Rattle.part_rounds.proofs.Stops.{same_stop, clock_not_full, clock_not_fault, clock_not_said, residual_if_ok}
 use Rattle.part_rounds.proofs.rounds.go_round.Goals as goal
 use Rattle.part_steps.specs.States.{state_of}
 use Rattle.site_model.specs.Calls.{HasRisen}
@@ -29,7 +30,7 @@ settle_filling-requires-clause-filled g c =
     let told = told_in c.args.store.now in
     let filling = c.in-Filled.filling in
     let entered = c.requires.entered in
-    let comes = subst (Comes (g.R.Reactions.flows c.args.reactions.now) (state_of c.args.state) c.args.port.now.queues c.args.clients.now c.args.limit) c.in-Filled.is c.in_ok-filling.ensures.comes in
+    let comes = subst (Comes (g.R.Reactions.flows c.args.reactions.now) (state_of c.args.state) c.args.port.now c.args.clients.now c.args.limit) c.in-Filled.is c.in_ok-filling.ensures.comes in
     let fills = subst (FillsNext rules (pairs_of told) (state_of c.args.state)) c.in-Filled.is (c.in_ok-filling.ensures.fills rules told c.requires.flows c.requires.said) in
     let place = ap (λ (p : Partition). p.position) entered.entered in
     let many = length-map filling.items.items item_of in
@@ -74,14 +75,14 @@ returns-then-position-ge-POSITION_LIMIT g c =
       still = tt;
       said = tt;
       leaves = tt;
-      goes = only_reads g.N.Ruled.rules g.A.Activities.gives c.args.limit c.args.clients.now (g.C.Clock.given c.args.clock.now) (of_part 0 (trail_in c.args.store.now)) (told_in c.args.store.now) c.requires.entered.before (state_of c.args.state) c.requires.entered.stands.made c.requires.entered.entered (g.R.Reactions.flows c.args.reactions.now) c.requires.flows c.args.port.now.queues c.requires.said (g.C.Clock.given c.take_next.new.clock) c.take_next.ensures.reads;
+      goes = only_reads g.N.Ruled.rules g.A.Activities.gives c.args.limit c.args.clients.now (g.C.Clock.given c.args.clock.now) (of_part 0 (trail_in c.args.store.now)) (told_in c.args.store.now) c.requires.entered.before (state_of c.args.state) c.requires.entered.stands.made c.requires.entered.entered (g.R.Reactions.flows c.args.reactions.now) c.requires.flows c.args.port.now c.requires.said (g.C.Clock.given c.take_next.new.clock) c.take_next.ensures.reads;
       no_more = low_add _ _ _ refl;
       spent = λ of n is.
           let rules = g.N.Ruled.rules in
           let told = told_in c.args.store.now in
           let items = c.in-Filled.filling.items.items in
           let entered = c.requires.entered in
-          let comes = subst (Comes (g.R.Reactions.flows c.args.reactions.now) (state_of c.args.state) c.args.port.now.queues c.args.clients.now c.args.limit) c.in-Filled.is c.in_ok-filling.ensures.comes in
+          let comes = subst (Comes (g.R.Reactions.flows c.args.reactions.now) (state_of c.args.state) c.args.port.now c.args.clients.now c.args.limit) c.in-Filled.is c.in_ok-filling.ensures.comes in
           let fills = subst (FillsNext rules (pairs_of told) (state_of c.args.state)) c.in-Filled.is (c.in_ok-filling.ensures.fills rules told c.requires.flows c.requires.said) in
           let place = ap (λ (p : Partition). p.position) entered.entered in
           let many = length-map items item_of in
@@ -111,7 +112,7 @@ returns-in_err-filling g c =
       still = residual_on_ok _ c.from_residual.result _ c.from_residual.ensures.1;
       said = residual_on_ok _ c.from_residual.result _ c.from_residual.ensures.1;
       leaves = residual_if_ok _ c.from_residual.result _ c.from_residual.ensures.1;
-      goes = only_reads g.N.Ruled.rules g.A.Activities.gives c.args.limit c.args.clients.now (g.C.Clock.given c.args.clock.now) (of_part 0 (trail_in c.args.store.now)) (told_in c.args.store.now) c.requires.entered.before (state_of c.args.state) c.requires.entered.stands.made c.requires.entered.entered (g.R.Reactions.flows c.args.reactions.now) c.requires.flows c.args.port.now.queues c.requires.said (g.C.Clock.given c.take_next.new.clock) c.take_next.ensures.reads;
+      goes = only_reads g.N.Ruled.rules g.A.Activities.gives c.args.limit c.args.clients.now (g.C.Clock.given c.args.clock.now) (of_part 0 (trail_in c.args.store.now)) (told_in c.args.store.now) c.requires.entered.before (state_of c.args.state) c.requires.entered.stands.made c.requires.entered.entered (g.R.Reactions.flows c.args.reactions.now) c.requires.flows c.args.port.now c.requires.said (g.C.Clock.given c.take_next.new.clock) c.take_next.ensures.reads;
       no_more = low_add _ _ _ refl;
       spent = λ of n is. absurd (kind_not_spent is_of_clock _ _ of n refl c.in_err-filling.ensures.stops (residual_is _ _ c.from_residual.ensures.1) is);
       full = λ of n is. absurd (clock_not_full _ _ of n c.in_err-filling.ensures.stops (residual_is _ _ c.from_residual.ensures.1) is);
@@ -134,7 +135,7 @@ returns-in_err-state-in-Filled g c =
     let tape = c.settle_filling.ensures.say_later in
     let disk_site = ap g.V.Site.disk_faults site in
     let tape_site = ap g.V.Site.say_faults site in
-    let comes = subst (Comes (g.R.Reactions.flows c.args.reactions.now) (state_of c.args.state) c.args.port.now.queues c.args.clients.now c.args.limit) c.in-Filled.is c.in_ok-filling.ensures.comes in
+    let comes = subst (Comes (g.R.Reactions.flows c.args.reactions.now) (state_of c.args.state) c.args.port.now c.args.clients.now c.args.limit) c.in-Filled.is c.in_ok-filling.ensures.comes in
     record {
       tells = λ t. subst g.V.Site.tells site (c.settle_filling.ensures.tells t);
       sound = c.settle_filling.ensures.sound;
@@ -152,11 +153,11 @@ returns-in_err-state-in-Filled g c =
           let place = ap (λ (p : Partition). p.position) c.requires.entered.entered in
           let at_place : c.position-position.result - 1 ≡ c.requires.entered.before.position = omega (arith, c.position-position.ensures, place) in
           let word_is = c.word-chance.ensures ∙ ap (λ (n : ℕ). word_of n 0 (c.position-position.result - 1)) c.requires.life ∙ ap (word_of g.N.Ruled.rules.life 0) at_place in
-          let at = subst (ComesAt (g.R.Reactions.flows c.args.reactions.now) (λ name argument. g.A.Activities.gives name argument c.word-chance.result) (state_of c.args.state) c.args.port.now.queues c.args.clients.now (g.C.Clock.given c.args.clock.now) (g.C.Clock.given c.take_next.new.clock)) c.in-Filled.is c.in_ok-filling.ensures.at in
+          let at = subst (ComesAt (g.R.Reactions.flows c.args.reactions.now) (λ name argument. g.A.Activities.gives name argument c.word-chance.result) (state_of c.args.state) c.args.port.now c.args.clients.now (g.C.Clock.given c.args.clock.now) (g.C.Clock.given c.take_next.new.clock)) c.in-Filled.is c.in_ok-filling.ensures.at in
           let then =
           subst (λ (t : List Settled). SettlesThenSays c.args.clients.now entry (of_part 0 t) (told_in c.args.store.now) (of_part 0 (trail_in new)) (told_in new)) c.raise.ensures.trail
           (subst (λ (t : List Said). SettlesThenSays c.args.clients.now entry (of_part 0 (trail_in c.raise.new.self)) t (of_part 0 (trail_in new)) (told_in new)) c.raise.ensures.told c.settle_filling.ensures.settles) in
-          filled_goes g.N.Ruled.rules g.A.Activities.gives c.args.limit c.args.clients.now (g.C.Clock.given c.args.clock.now) (of_part 0 (trail_in c.args.store.now)) (told_in c.args.store.now) c.requires.entered.before (state_of c.args.state) c.requires.entered.stands.made c.requires.entered.entered (g.R.Reactions.flows c.args.reactions.now) c.requires.flows c.args.port.now.queues c.requires.said c.word-chance.result c.args.life (c.position-position.result - 1) c.in-Filled.now c.in-Filled.filling (g.C.Clock.given c.take_next.new.clock) (of_part 0 (trail_in new)) (told_in new) word_is at_place c.requires.life at comes then;
+          filled_goes g.N.Ruled.rules g.A.Activities.gives c.args.limit c.args.clients.now (g.C.Clock.given c.args.clock.now) (of_part 0 (trail_in c.args.store.now)) (told_in c.args.store.now) c.requires.entered.before (state_of c.args.state) c.requires.entered.stands.made c.requires.entered.entered (g.R.Reactions.flows c.args.reactions.now) c.requires.flows c.args.port.now c.requires.said c.word-chance.result c.args.life (c.position-position.result - 1) c.in-Filled.now c.in-Filled.filling (g.C.Clock.given c.take_next.new.clock) (of_part 0 (trail_in new)) (told_in new) word_is at_place c.requires.life at comes then;
       no_more = low_more _ _ _ _ (subst (λ (t : List Settled). count_labels (of_part 0 (trail_in c.settle_filling.new.store)) ≤ count_labels (of_part 0 t) + length c.in-Filled.filling.items.items) c.raise.ensures.trail c.settle_filling.ensures.no_more) comes.2;
       spent = λ of n is. absurd (c.in_err-state-in-Filled.ensures.no_spent of n (same_stop _ _ _ _ refl (residual_is _ _ c.from_residual-in_err-state-in-Filled.ensures.1) is));
       full = λ of n is. full_wider _ _ _ _ _ _ _ _ _ _ comes.2 (c.in_err-state-in-Filled.ensures.full of n (same_stop _ _ _ _ refl (residual_is _ _ c.from_residual-in_err-state-in-Filled.ensures.1) is));
@@ -179,7 +180,7 @@ returns-in_ok-state-in-Filled g c =
     let tape = c.settle_filling.ensures.say_later in
     let disk_site = ap g.V.Site.disk_faults site in
     let tape_site = ap g.V.Site.say_faults site in
-    let comes = subst (Comes (g.R.Reactions.flows c.args.reactions.now) (state_of c.args.state) c.args.port.now.queues c.args.clients.now c.args.limit) c.in-Filled.is c.in_ok-filling.ensures.comes in
+    let comes = subst (Comes (g.R.Reactions.flows c.args.reactions.now) (state_of c.args.state) c.args.port.now c.args.clients.now c.args.limit) c.in-Filled.is c.in_ok-filling.ensures.comes in
     let some = comes.1 in
     let many = comes.2 in
     let labels = c.in_ok-state-in-Filled.ensures.labels in
@@ -201,11 +202,11 @@ returns-in_ok-state-in-Filled g c =
           let place = ap (λ (p : Partition). p.position) c.requires.entered.entered in
           let at_place : c.position-position.result - 1 ≡ c.requires.entered.before.position = omega (arith, c.position-position.ensures, place) in
           let word_is = c.word-chance.ensures ∙ ap (λ (n : ℕ). word_of n 0 (c.position-position.result - 1)) c.requires.life ∙ ap (word_of g.N.Ruled.rules.life 0) at_place in
-          let at = subst (ComesAt (g.R.Reactions.flows c.args.reactions.now) (λ name argument. g.A.Activities.gives name argument c.word-chance.result) (state_of c.args.state) c.args.port.now.queues c.args.clients.now (g.C.Clock.given c.args.clock.now) (g.C.Clock.given c.take_next.new.clock)) c.in-Filled.is c.in_ok-filling.ensures.at in
+          let at = subst (ComesAt (g.R.Reactions.flows c.args.reactions.now) (λ name argument. g.A.Activities.gives name argument c.word-chance.result) (state_of c.args.state) c.args.port.now c.args.clients.now (g.C.Clock.given c.args.clock.now) (g.C.Clock.given c.take_next.new.clock)) c.in-Filled.is c.in_ok-filling.ensures.at in
           let then =
           subst (λ (t : List Settled). SettlesThenSays c.args.clients.now entry (of_part 0 t) (told_in c.args.store.now) (of_part 0 (trail_in new)) (told_in new)) c.raise.ensures.trail
           (subst (λ (t : List Said). SettlesThenSays c.args.clients.now entry (of_part 0 (trail_in c.raise.new.self)) t (of_part 0 (trail_in new)) (told_in new)) c.raise.ensures.told c.settle_filling.ensures.settles) in
-          filled_goes g.N.Ruled.rules g.A.Activities.gives c.args.limit c.args.clients.now (g.C.Clock.given c.args.clock.now) (of_part 0 (trail_in c.args.store.now)) (told_in c.args.store.now) c.requires.entered.before (state_of c.args.state) c.requires.entered.stands.made c.requires.entered.entered (g.R.Reactions.flows c.args.reactions.now) c.requires.flows c.args.port.now.queues c.requires.said c.word-chance.result c.args.life (c.position-position.result - 1) c.in-Filled.now c.in-Filled.filling (g.C.Clock.given c.take_next.new.clock) (of_part 0 (trail_in new)) (told_in new) word_is at_place c.requires.life at comes then;
+          filled_goes g.N.Ruled.rules g.A.Activities.gives c.args.limit c.args.clients.now (g.C.Clock.given c.args.clock.now) (of_part 0 (trail_in c.args.store.now)) (told_in c.args.store.now) c.requires.entered.before (state_of c.args.state) c.requires.entered.stands.made c.requires.entered.entered (g.R.Reactions.flows c.args.reactions.now) c.requires.flows c.args.port.now c.requires.said c.word-chance.result c.args.life (c.position-position.result - 1) c.in-Filled.now c.in-Filled.filling (g.C.Clock.given c.take_next.new.clock) (of_part 0 (trail_in new)) (told_in new) word_is at_place c.requires.life at comes then;
       no_more = low_more _ _ _ _ (subst (λ (t : List Settled). count_labels (of_part 0 (trail_in c.settle_filling.new.store)) ≤ count_labels (of_part 0 t) + length c.in-Filled.filling.items.items) c.raise.ensures.trail c.settle_filling.ensures.no_more) comes.2;
       spent = λ of n is. absurd (ok_apart _ _ is);
       full = λ of n is. absurd (ok_apart _ _ is);
@@ -220,7 +221,7 @@ returns-in_ok-state-in-Filled g c =
 pub returns-in-Rest : goal.returns-in-Rest
 returns-in-Rest g c =
     let entered = c.requires.entered in
-    let queues = c.args.port.now.queues in
+    let queues = c.args.port.now in
     let comes = subst (Comes (g.R.Reactions.flows c.args.reactions.now) (state_of c.args.state) queues c.args.clients.now c.args.limit) c.in-Rest.is c.in_ok-filling.ensures.comes in
     record {
       tells = λ t. t;
@@ -242,7 +243,7 @@ returns-in-Rest g c =
           said = subst (λ (p : Partition). NoneUnsaid p queues c.args.clients.now) (sym comes.2) c.requires.unsaid;
         },
       );
-      goes = only_reads g.N.Ruled.rules g.A.Activities.gives c.args.limit c.args.clients.now (g.C.Clock.given c.args.clock.now) (of_part 0 (trail_in c.args.store.now)) (told_in c.args.store.now) c.requires.entered.before (state_of c.args.state) c.requires.entered.stands.made c.requires.entered.entered (g.R.Reactions.flows c.args.reactions.now) c.requires.flows c.args.port.now.queues c.requires.said (g.C.Clock.given c.take_next.new.clock) c.take_next.ensures.reads;
+      goes = only_reads g.N.Ruled.rules g.A.Activities.gives c.args.limit c.args.clients.now (g.C.Clock.given c.args.clock.now) (of_part 0 (trail_in c.args.store.now)) (told_in c.args.store.now) c.requires.entered.before (state_of c.args.state) c.requires.entered.stands.made c.requires.entered.entered (g.R.Reactions.flows c.args.reactions.now) c.requires.flows c.args.port.now c.requires.said (g.C.Clock.given c.take_next.new.clock) c.take_next.ensures.reads;
       no_more = low_add _ _ _ refl;
       spent = λ of n is. absurd (ok_apart _ _ is);
       full = λ of n is. absurd (ok_apart _ _ is);
@@ -277,7 +278,7 @@ settle_filling-requires-clause-rests g c = ap (λ ways. stage_of (way_of ways.it
 
 pub settle_filling-requires-clause-way : goal.settle_filling-requires-clause-way
 settle_filling-requires-clause-way g c =
-    (subst (Comes (g.R.Reactions.flows c.args.reactions.now) (state_of c.args.state) c.args.port.now.queues c.args.clients.now c.args.limit) c.in-Filled.is c.in_ok-filling.ensures.comes).0
+    (subst (Comes (g.R.Reactions.flows c.args.reactions.now) (state_of c.args.state) c.args.port.now c.args.clients.now c.args.limit) c.in-Filled.is c.in_ok-filling.ensures.comes).0
 
 pub settle_filling-requires-clause-said : goal.settle_filling-requires-clause-said
-settle_filling-requires-clause-said g c = subst (λ (t : List Said). HasSaid g.N.Ruled.rules t c.args.port.now.queues) (sym c.raise.ensures.told) c.requires.said
+settle_filling-requires-clause-said g c = subst (λ (t : List Said). HasSaid g.N.Ruled.rules t c.args.port.now) (sym c.raise.ensures.told) c.requires.said

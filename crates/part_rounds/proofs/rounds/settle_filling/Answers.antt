@@ -8,11 +8,12 @@ use Rattle.part_items.specs.Plain.{items_of}
 use Rattle.part_rounds.proofs.Counts.{low_same, low_from, low_to, low_is, low_add}
 use Rattle.part_rounds.proofs.Further.{kind_not_spent}
 use Rattle.part_rounds.specs.Turns.{SaysInTurn}
-use Rattle.hub_store.specs.Stops.{is_of_disk, is_of_tape}
+use Rattle.part_rounds.specs.Stops.{is_of_disk, is_of_tape}
 use Rattle.part_rounds.specs.Comes.{count_labels}
 use Rattle.part_rounds.specs.Rounds.{pairs_of, HasSaid, StateStands, NoneUnsaid}
 use Rattle.part_rounds.proofs.Entries.{stands_after, place_after}
-use Rattle.hub_store.proofs.Stops.{ok_apart, same_stop, disk_not_said, disk_not_clock, tape_not_full, tape_not_fault, tape_not_clock}
+use Rattle.hub_store.proofs.Refusals.{ok_apart}
+use Rattle.part_rounds.proofs.Stops.{same_stop, disk_not_said, disk_not_clock, tape_not_full, tape_not_fault, tape_not_clock}
 use Rattle.part_steps.specs.States.{state_of}
 use Rattle.site_model.specs.Calls.{HasRisen}
 use Rattle.part_rounds.proofs.rounds.settle_filling.Goals as goal
@@ -119,7 +120,7 @@ returns-in-Ok-say_due g c =
         sound = c.enter.ensures.sound;
         one = c.enter.ensures.partitions ∙ c.requires.way.one;
       };
-      unsaid = let entered = c.enter.ensures.entered in subst (λ (p : Partition). NoneUnsaid p c.say_due.new.port.queues c.args.clients.now) (sym entered) c.in-Ok-say_due.ensures.none;
+      unsaid = let entered = c.enter.ensures.entered in subst (λ (p : Partition). NoneUnsaid p c.say_due.new.port c.args.clients.now) (sym entered) c.in-Ok-say_due.ensures.none;
       labels = ap (λ (t : List Settled). count_labels (of_part 0 t)) c.say_due.ensures.trail ∙ c.in-Ok.ensures.labels;
       settles = inr (ap (of_part 0) c.say_due.ensures.trail ∙ c.in-Ok.ensures.trail, subst (λ (t : List Said). SaysInTurn c.args.clients.now t (told_in c.say_due.new.store)) c.commit_items.ensures.said c.say_due.ensures.in_turn);
       no_more = low_is _ _ (ap (λ (t : List Settled). count_labels (of_part 0 t)) c.say_due.ensures.trail ∙ c.in-Ok.ensures.labels);
@@ -151,7 +152,7 @@ pub say_due-requires-clause-going : goal.say_due-requires-clause-going
 say_due-requires-clause-going g c = c.in-Ok.ensures.still
 
 pub say_due-requires-clause-said : goal.say_due-requires-clause-said
-say_due-requires-clause-said g c = subst (λ (t : List Said). HasSaid g.N.Ruled.rules t c.args.port.now.queues) (sym c.commit_items.ensures.said) c.requires.said
+say_due-requires-clause-said g c = subst (λ (t : List Said). HasSaid g.N.Ruled.rules t c.args.port.now) (sym c.commit_items.ensures.said) c.requires.said
 
 pub enter-requires-clause-sound : goal.enter-requires-clause-sound
 enter-requires-clause-sound g c = c.requires.way.sound

@@ -1,9 +1,10 @@
-use Rattle.std.proofs.Common.{◌≡◌, ◌∙◌, Bool, Ok, None, refl, sym, ap, subst}
-use Rattle.client_port.specs.Ports.{Ports}
+use Rattle.std.proofs.Common.{◌≡◌, ◌∙◌, Bool, List, Ok, None, refl, sym, ap, subst}
+use Rattle.client_port.specs.Ports.{Queue}
 use Rattle.part_rounds.proofs.Counts.{low_both}
 use Rattle.part_rounds.proofs.Turns.{own_both}
 use Rattle.part_rounds.specs.Rounds.{next_answer}
-use Rattle.hub_store.proofs.Stops.{ok_apart, same_stop, residual_is, residual_of_stop, residual_on_ok, risen_after}
+use Rattle.hub_store.proofs.Refusals.{ok_apart, residual_is, residual_on_ok, risen_after}
+use Rattle.part_rounds.proofs.Stops.{same_stop, residual_of_stop}
 use Rattle.part_steps.specs.States.{state_of}
 use Rattle.part_rounds.proofs.saying.say_all.Goals as goal
 
@@ -58,7 +59,7 @@ returns g c =
       whole = λ apart. c.say_next.ensures.sound.uncut c.in_ok-say_next.ensures.still;
       still = c.in_ok-say_next.ensures.still;
       said = c.in_ok-say_next.ensures.said;
-      none = subst (λ (port : Ports). next_answer (state_of c.args.state.now) port.queues c.args.client.now ≡ None) (sym none.1) none.0;
+      none = subst (λ (queues : List Queue). next_answer (state_of c.args.state.now) queues c.args.client.now ≡ None) (sym none.1) none.0;
       others = λ other apart. c.in_ok-say_next.ensures.others other apart ∙ c.answers.invariant.others other apart;
       stops = tt;
       fault = λ is. absurd (ok_apart _ _ is);

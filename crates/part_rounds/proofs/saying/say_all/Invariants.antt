@@ -17,8 +17,8 @@ invariant-answers g l = record {
   segment : l.store.segment ≡ l.fn.store.segment;
   latest : l.store.latest ≡ l.fn.store.latest;
   still : l.store.halted ≡ false;
-  said : HasSaid g.N.Ruled.rules (told_in l.store) l.port.queues;
-  others : KeepsDue l.client l.fn.port.queues l.port.queues;
+  said : HasSaid g.N.Ruled.rules (told_in l.store) l.port;
+  others : KeepsDue l.client l.fn.port l.port;
   later : g.V.Site.say_faults l.fn.store.site ≤ g.V.Site.say_faults l.store.site;
   disk_faults : g.V.Site.disk_faults l.store.site ≡ g.V.Site.disk_faults l.fn.store.site;
 }

@@ -3,7 +3,8 @@ use Rattle.part_steps.specs.States.{state_of}
 use Rattle.part_rounds.proofs.Counts.{low_both}
 use Rattle.part_rounds.specs.Rounds.{next_answer}
 use Rattle.part_rounds.proofs.Queues.{still_none}
-use Rattle.hub_store.proofs.Stops.{ok_apart, same_stop, residual_is, residual_of_stop, residual_on_ok, risen_after}
+use Rattle.hub_store.proofs.Refusals.{ok_apart, residual_is, residual_on_ok, risen_after}
+use Rattle.part_rounds.proofs.Stops.{same_stop, residual_of_stop}
 use Rattle.part_rounds.proofs.Turns.{turn_next, turn_whole}
 use Rattle.part_rounds.proofs.Walks.{all_next, all_whole}
 use Rattle.part_rounds.proofs.saying.say_due.Goals as goal
@@ -14,8 +15,8 @@ loop-client-preserved g c =
     let clients = c.args.clients.now in
     let place = c.loop-client.client-index in
     let name = c.client-item.result in
-    let before = c.loop-client.port.queues in
-    let after = c.say_all.new.port.queues in
+    let before = c.loop-client.port in
+    let after = c.say_all.new.port in
     record {
       tells = λ t. c.loop-client.invariant.tells (c.say_all.ensures.tells t);
       sound = c.say_all.ensures.sound;
@@ -66,7 +67,7 @@ returns g c =
       whole = λ apart. c.loop-client.invariant.sound.uncut c.loop-client.invariant.still;
       still = c.loop-client.invariant.still;
       said = c.loop-client.invariant.said;
-      none = all_whole (λ (n : List ℕ). next_answer (state_of c.args.state.now) c.loop-client.port.queues n ≡ None) c.args.clients.now c.loop-client.client-index c.loop-client-test.false c.loop-client.invariant.none;
+      none = all_whole (λ (n : List ℕ). next_answer (state_of c.args.state.now) c.loop-client.port n ≡ None) c.args.clients.now c.loop-client.client-index c.loop-client-test.false c.loop-client.invariant.none;
       stops = tt;
       fault = λ is. absurd (ok_apart _ _ is);
       later = c.loop-client.invariant.later;

@@ -18,8 +18,8 @@ invariant-loop-client g l = record {
   segment : l.store.segment ≡ l.fn.store.segment;
   latest : l.store.latest ≡ l.fn.store.latest;
   still : l.store.halted ≡ false;
-  said : HasSaid g.N.Ruled.rules (told_in l.store) l.port.queues;
-  none : All (λ name. next_answer (state_of l.state) l.port.queues name ≡ None) (take l.client-index l.clients);
+  said : HasSaid g.N.Ruled.rules (told_in l.store) l.port;
+  none : All (λ name. next_answer (state_of l.state) l.port name ≡ None) (take l.client-index l.clients);
   later : g.V.Site.say_faults l.fn.store.site ≤ g.V.Site.say_faults l.store.site;
   disk_faults : g.V.Site.disk_faults l.store.site ≡ g.V.Site.disk_faults l.fn.store.site;
 }

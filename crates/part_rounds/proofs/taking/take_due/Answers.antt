@@ -10,7 +10,7 @@ use Rattle.part_rounds.proofs.taking.take_due.Goals as goal
 pub loop-client-preserved : goal.loop-client-preserved
 loop-client-preserved g c =
     let flows = g.R.Reactions.flows c.args.reactions.now in
-    let queues = c.args.port.now.queues in
+    let queues = c.args.port.now in
     let first = state_of c.args.filling.state in
     record {
       way = c.in_ok-filling.ensures.under_way;
@@ -32,4 +32,4 @@ loop-client-preserved g c =
 pub returns-clause-none : goal.returns-clause-none
 returns-clause-none g c = λ less same.
     let before = c.loop-client.invariant.still same in
-    (before.0, all_whole (λ (name : List ℕ). CantTake (g.R.Reactions.flows c.args.reactions.now) (state_of c.args.filling.state) c.args.port.now.queues name) c.args.clients.now c.loop-client.client-index c.loop-client-test.false before.1)
+    (before.0, all_whole (λ (name : List ℕ). CantTake (g.R.Reactions.flows c.args.reactions.now) (state_of c.args.filling.state) c.args.port.now name) c.args.clients.now c.loop-client.client-index c.loop-client-test.false before.1)

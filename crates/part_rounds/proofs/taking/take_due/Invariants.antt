@@ -16,7 +16,7 @@ invariant-loop-client g l = record {
   moment : (state_of l.filling.state).stamp ≡ (state_of l.fn.filling.state).stamp;
   at : (now : ℕ) (gives : Giving) → GoesOnAt (g.R.Reactions.flows l.reactions) now gives l.fn.filling l.filling;
   longer : length l.fn.filling.items.items ≤ length l.filling.items.items;
-  goes_on : (rules : Rules) (told : List Said) → rules.flows ≡ g.R.Reactions.flows l.reactions → HasSaid rules told l.port.queues → FillsOn rules (pairs_of told) l.fn.filling l.filling;
+  goes_on : (rules : Rules) (told : List Said) → rules.flows ≡ g.R.Reactions.flows l.reactions → HasSaid rules told l.port → FillsOn rules (pairs_of told) l.fn.filling l.filling;
   still : length l.filling.items.items ≡ length l.fn.filling.items.items → (state_of l.filling.state ≡ state_of l.fn.filling.state)
-      × All (λ name. CantTake (g.R.Reactions.flows l.reactions) (state_of l.fn.filling.state) l.port.queues name) (take l.client-index l.clients);
+      × All (λ name. CantTake (g.R.Reactions.flows l.reactions) (state_of l.fn.filling.state) l.port name) (take l.client-index l.clients);
 }

@@ -12,14 +12,14 @@ use Rattle.part_rounds.proofs.taking.take_of.Goals as goal
 
 pub returns-in_ok-next-in-Some-clause-goes_on : goal.returns-in_ok-next-in-Some-clause-goes_on
 returns-in_ok-next-in-Some-clause-goes_on g c = λ rules told same said.
-    let due = subst (λ o. IfSome o (λ one. (r : Request) × (due_of c.args.client.now c.args.port.now.queues ≡ Some r) × (message_of one ≡ r.message))) c.in-Some.is c.in-Ok.ensures.some in
+    let due = subst (λ o. IfSome o (λ one. (r : Request) × (due_of c.args.client.now c.args.port.now ≡ Some r) × (message_of one ≡ r.message))) c.in-Some.is c.in-Ok.ensures.some in
     puts_goes_on rules (pairs_of told) (g.R.Reactions.flows c.args.reactions.now) c.args.filling c.in_ok-next-in-Some.next (Took c.in-Some.message) same c.in_ok-next-in-Some.ensures.puts tt
-    (due_asked rules told c.args.port.now.queues c.args.client.now due.0 _ said due.1 due.2) (λ from fills. tt)
+    (due_asked rules told c.args.port.now c.args.client.now due.0 _ said due.1 due.2) (λ from fills. tt)
 
 pub returns-in_ok-next-in-Some-clause-none : goal.returns-in_ok-next-in-Some-clause-none
 returns-in_ok-next-in-Some-clause-none g c = λ same.
-    let due = subst (λ o. IfSome o (λ one. (r : Request) × (due_of c.args.client.now c.args.port.now.queues ≡ Some r) × (message_of one ≡ r.message))) c.in-Some.is c.in-Ok.ensures.some in
-    put_in_vain (g.R.Reactions.flows c.args.reactions.now) c.args.filling c.in_ok-next-in-Some.next (Took c.in-Some.message) c.args.port.now.queues c.args.client.now due.0 c.in_ok-next-in-Some.ensures.puts (ap took due.2) due.1 same
+    let due = subst (λ o. IfSome o (λ one. (r : Request) × (due_of c.args.client.now c.args.port.now ≡ Some r) × (message_of one ≡ r.message))) c.in-Some.is c.in-Ok.ensures.some in
+    put_in_vain (g.R.Reactions.flows c.args.reactions.now) c.args.filling c.in_ok-next-in-Some.next (Took c.in-Some.message) c.args.port.now c.args.client.now due.0 c.in_ok-next-in-Some.ensures.puts (ap took due.2) due.1 same
 
 pub returns-in_ok-next-in-Some-clause-moment : goal.returns-in_ok-next-in-Some-clause-moment
 returns-in_ok-next-in-Some-clause-moment g c =
