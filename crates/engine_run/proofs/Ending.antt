@@ -8,7 +8,8 @@ use Rattle.commit_log.specs.Segment.{reading_of}
 use Rattle.commit_log.proofs.Written.{reads_closed}
 use Rattle.dura_model.specs.Partition.{Partition, enter}
 use Rattle.dura_value.specs.Items.{Entry}
-use Rattle.engine_run.specs.Ends.{AreAllSaid, IsFirstUnsaid, IsAtRest, WouldFill, EndsAs, IsRestCause, IsLateCause, IsWanting, cause_of_stop}
+use Rattle.engine_run.specs.Ends.{WouldFill}
+use Rattle.engine_run.specs.Rounds.{AreAllSaid, IsFirstUnsaid, IsAtRest, RoundsEnd, IsRestCause, IsLateCause, IsWanting, cause_of_stop}
 use Rattle.engine_run.specs.Asked.{IsRequest}
 use Rattle.engine_run.specs.Prepared.{IsEarlyCause}
 use Rattle.engine_run.proofs.FileAsked.{due_taken}
@@ -55,7 +56,7 @@ module _ (MayFollow : List Settled → List Said → ℕ → List Entry → Type
 
   -- rounds that end where nothing is possible
   pub rest_ends : (queues : List Queue) (clients : List (List ℕ)) (options : RunOptions) (cause : Cause) → IsAtRest MayFollow MaySay rules latest o steps trail queues → clients ≡ clients_of rules.requests → IsRestCause queues clients cause
-      → EndsAs MayFollow MaySay rules latest o steps trail options cause
+      → RoundsEnd MayFollow MaySay rules latest o steps trail options cause
   rest_ends queues clients options Done rest names is = (queues, rest, subst (AreAllSaid queues) names is)
   rest_ends queues clients options (Waiting client number) rest names is = (queues, rest, subst (λ (l : List (List ℕ)). IsFirstUnsaid queues l client number) names is)
   rest_ends queues clients options (Long labels) rest names is = absurd is
@@ -103,7 +104,7 @@ module _ (MayFollow : List Settled → List Said → ℕ → List Entry → Type
       → ((partition length_then : ℕ) → stop ≡ stops.Full partition length_then → IsFull rules options.batch was (of_part 0 trail) (pairs_of told) options.segment way partition length_then)
       → ((partition number : ℕ) → stop ≡ stops.Spent partition number → IsSpent rules (of_part 0 trail) (pairs_of told) partition number)
       → LogFits (o.logs 0) (of_part 0 trail) (changes_of (o.logs 0).file steps) way → (stop ≢ stops.SayFault → StandsWith MayFollow MaySay o steps trail told []) → All IsRequest rules.requests
-      → EndsAs MayFollow MaySay rules latest o steps trail options (cause_of_stop stop)
+      → RoundsEnd MayFollow MaySay rules latest o steps trail options (cause_of_stop stop)
   stop_ends was above options way (stops.Full partition length_then) some full spent fits stands asked =
       let is = full partition length_then refl in
       (is.alone, (record { told = told; stands = stands (λ same. cc same); further = is.further; asked = asked }, would_fill was above options way partition length_then some is fits))

@@ -3,13 +3,14 @@ use Rattle.std.proofs.Common.{◌≡◌, ◌≤◌, ℕ, List, ◌++◌, subst}
 use Rattle.dura_model.specs.Partition.{Partition}
 use Rattle.dura_model.proofs.Outcomes.{never_twice}
 use Rattle.dura_value.specs.Items.{Entry}
-use Rattle.engine_run.specs.Ends.{Terms, GoesInTime, SaysWhole, GoesOn, RunEndsAs}
+use Rattle.engine_run.specs.Ends.{Terms, GoesInTime, SaysWhole, RunEndsAs}
+use Rattle.engine_run.specs.Rounds.{GoesOn}
 use Rattle.engine_run.specs.Headline.{StandsOrderly, RunsOn}
 use Rattle.engine_run.specs.Job.{Job, FilesKeep, AreGivenIn}
 use Rattle.engine_run.specs.Opened.{IsOpened, OpensOnly}
 use Rattle.engine_run.specs.Picks.{log_in_file, origin_with, rules_with}
 use Rattle.engine_run.specs.Served.{HasServed}
-use Rattle.engine_run.proofs.Served.{has_served}
+use Rattle.engine_run.proofs.Served.{has_served, ends_told}
 use Rattle.engine_run.proofs.Standing.{begins_alone, picked_entries}
 use Rattle.commit_log.specs.declared.states.Resting.{Resting}
 use Rattle.hub_store.specs.Moments.{AtEveryMoment}
@@ -62,7 +63,8 @@ module _ (job : Job) (old steps new : List Step) (entries : List Entry) (state :
         whole = subst (λ (n : ℕ). SaysWhole (may_follow (rules_with job state n) terms.latest) (may_say (rules_with job state n)) (origin_with log_is steps) new trail goes.told cause) life_is goes.whole;
         short = goes.short;
         in_time = subst (λ (n : ℕ). GoesInTime (rules_with job state n) terms trail goes.told) life_is goes.in_time;
-        ends = subst (λ (n : ℕ). RunEndsAs (rules_with job state n) terms.latest (origin_with log_is steps) new trail terms.options cause) life_is goes.ends;
+        ends = subst (λ (n : ℕ). RunEndsAs (rules_with job state n) terms.latest (origin_with log_is steps) new trail terms.options cause) life_is
+            (ends_told (rules_with job state life) terms.latest (origin_with log_is steps) new trail terms.options cause goes.ends);
         served = subst (λ (n : ℕ). HasServed (rules_with job state n) trail cause) life_is
             (has_served (rules_with job state life) terms.latest (origin_with log_is steps) new trail terms.options cause (answers_taken job.flows 1 0 state entries keeps.made) goes.ends);
       }

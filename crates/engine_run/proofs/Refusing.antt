@@ -5,7 +5,7 @@ use Rattle.dura_model.specs.Partition.{Partition, fresh}
 use Rattle.dura_value.specs.Items.{Entry}
 use Rattle.engine_run.specs.Causes.{AsksFor, IsReady, CauseHolds, IsRefusal, IsLogRefusal, AreRefused, Untouched}
 use Rattle.engine_run.specs.Causes.AreRefused.{for_input, for_logs, for_clash}
-use Rattle.engine_run.specs.Ends.{IsLateCause}
+use Rattle.engine_run.specs.Rounds.{IsLateCause}
 use Rattle.engine_run.specs.Job.{Job, FilesKeep}
 use Rattle.engine_run.specs.Kept.{clashes, IsClash, NoClash, RefusesKept}
 use Rattle.engine_run.specs.Opening.{cause_of_recovery, IsLogCause}

@@ -16,7 +16,8 @@ use Rattle.dura_value.specs.Ids.{Id, client}
 use Rattle.dura_value.specs.Messages.{Message}
 use Rattle.dura_value.proofs.Ids.{same_bytes, bytes_self}
 use Rattle.engine_run.specs.Asked.{IsRequest, IsTaken}
-use Rattle.engine_run.specs.Ends.{AreAllSaid, IsFirstUnsaid, IsUnfinished, RunEndsAs}
+use Rattle.engine_run.specs.Ends.{next_untold, AreAllTold, IsFirstUntold, IsToldOut, RunEndsAs}
+use Rattle.engine_run.specs.Rounds.{AreAllSaid, IsFirstUnsaid, IsAtRest, IsUnfinished, RoundsEnd}
 use Rattle.engine_run.specs.Served.{has_answer, IsServed, first_open, IsFirstOpen, Awaits, IsLeftAt, HasServed}
 use Rattle.engine_run.proofs.Asking.{told_answered, get_front, get_here, get_within, front_all, and_false, asks_in_vain}
 use Rattle.engine_run.proofs.FileAsked.{says_whose}
@@ -191,6 +192,32 @@ module _ (rules : Rules) (latest : ℕ) (trail : List Settled) (told : List Said
   all_queues : All (λ name. is_some (of_client name queues) ≡ true) (clients_of rules.requests)
   all_queues = subst (All (λ name. is_some (of_client name queues) ≡ true)) said.clients (All-from_recursion (λ name. is_some (of_client name queues) ≡ true) (map (λ (q : Queue). q.client) queues) (queue_there queues))
 
+  -- ---- by what was said
+
+  next_due : All (λ name. due_of name queues ≡ next_untold rules (pairs_of told) name) (clients_of rules.requests)
+  next_due k d inside =
+      let name = get_or (clients_of rules.requests) k d in
+      let q = some_is (of_client name queues) (all_queues k d inside) in due_at name q.0 q.1
+
+  pub all_told : AreAllSaid queues (clients_of rules.requests) → AreAllTold rules (pairs_of told)
+  all_told all k d inside = sym (next_due k d inside) ∙ all k d inside
+
+  pub first_untold : (name : List ℕ) (number : ℕ) → IsFirstUnsaid queues (clients_of rules.requests) name number → IsFirstUntold rules (pairs_of told) name number
+  first_untold name number unsaid =
+      let found = queue_found name queues unsaid.unsaid.request unsaid.unsaid.due in
+      record {
+        request = unsaid.unsaid.request;
+        next = sym (due_at name found.0 found.1) ∙ unsaid.unsaid.due;
+        number_is = unsaid.unsaid.number_is;
+        first = λ k d inside r next. unsaid.first k d inside r (next_due k d inside ∙ next);
+      }
+
+  pub none_waits : NoneUnsaid state queues (clients_of rules.requests)
+      → All (λ name. (r : Request) → next_untold rules (pairs_of told) name ≡ Some r → state.answers (client name) r.number ≡ None) (clients_of rules.requests)
+  none_waits none k d inside r next =
+      let name = get_or (clients_of rules.requests) k d in
+      sym (ap (option_and_then (λ (x : Request). state.answers (client name) x.number)) (next_due k d inside ∙ next)) ∙ none k d inside
+
   -- ---- where all was said
 
   answered_at : AreAllSaid queues (clients_of rules.requests) → (k : ℕ) (r : Request) → slice_get rules.requests k ≡ Some r → has_answer world r.client r ≡ true
@@ -326,7 +353,7 @@ module _ (rules : Rules) (latest : ℕ) (o : Origin) (steps : List Step) (trail 
         λ quiet. stirs rules latest left.stands.rightly further.before further.made further.shown further.younger (answers_taken_on rules.flows 1 rules.begin further.before (of_part 0 trail) begun further.made) left.asked quiet further.stirs,
       )
 
-  pub has_served : (cause : Cause) → AnswersTaken rules.begin → RunEndsAs rules latest o steps trail options cause → HasServed rules trail cause
+  pub has_served : (cause : Cause) → AnswersTaken rules.begin → RoundsEnd (may_follow rules latest) (may_say rules) rules latest o steps trail options cause → HasServed rules trail cause
   has_served Done begun ends =
       let rest = ends.1 in (
         rest.state,
@@ -358,4 +385,39 @@ module _ (rules : Rules) (latest : ℕ) (o : Origin) (steps : List Step) (trail 
   has_served (OtherFlows found given) begun ends = tt
   has_served Memory begun ends = tt
   has_served (Full partition length_then) begun ends = busy begun ends.1.0
-  has_served (Spent partition number) begun ends = tt
+  has_served (Spent partition number) begun ends = busy begun ends.2
+
+  told_out : (queues : List Queue) (rest : IsAtRest (may_follow rules latest) (may_say rules) rules latest o steps trail queues) → IsToldOut (may_follow rules latest) (may_say rules) rules latest o steps trail rest.told
+  told_out queues rest = record {
+    stands = rest.stands;
+    state = rest.state;
+    made = rest.made;
+    none_waits = none_waits rules latest trail rest.told rest.stands.lines rest.stands.rightly queues rest.said rest.state rest.made rest.over.said;
+  }
+
+  -- what rounds end for, by what was settled and said
+  pub ends_told : (cause : Cause) → RoundsEnd (may_follow rules latest) (may_say rules) rules latest o steps trail options cause → RunEndsAs rules latest o steps trail options cause
+  ends_told Done ends =
+      let rest = ends.1 in
+      (rest.told, told_out ends.0 rest, all_told rules latest trail rest.told rest.stands.lines rest.stands.rightly ends.0 rest.said rest.state rest.made ends.2)
+  ends_told (Waiting name number) ends =
+      let rest = ends.1 in
+      (rest.told, told_out ends.0 rest, first_untold rules latest trail rest.told rest.stands.lines rest.stands.rightly ends.0 rest.said rest.state rest.made name number ends.2)
+  ends_told (Long labels) ends = (ends.0, ends.1, (ends.2.told, ends.2.stands))
+  ends_told (Full partition length_then) ends = (ends.0, (ends.1.0.told, ends.1.0.stands, ends.1.1))
+  ends_told (Spent partition number) ends = (ends.0, ends.1, (ends.2.told, ends.2.stands))
+  ends_told SiteFault ends = tt
+  ends_told SayFault ends = tt
+  ends_told ClockFault ends = tt
+  ends_told Memory ends = tt
+  ends_told Usage ends = absurd ends
+  ends_told (BadFlows fault) ends = absurd ends
+  ends_told (BadRequests line) ends = absurd ends
+  ends_told (Clash name number) ends = absurd ends
+  ends_told (BadPlan place) ends = absurd ends
+  ends_told (TooLong file) ends = absurd ends
+  ends_told (Damaged file offset) ends = absurd ends
+  ends_told (Illegal partition position) ends = absurd ends
+  ends_told (Unclosed partition position src seq) ends = absurd ends
+  ends_told (OtherShape found asked) ends = absurd ends
+  ends_told (OtherFlows found given) ends = absurd ends

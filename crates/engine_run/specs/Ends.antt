@@ -1,53 +1,45 @@
--- Why a run ends that went on from what was recovered.
-use Rattle.std.specs.Prelude.{◌≡◌, ◌≢◌, ◌≤◌, ◌<◌, ◌^◌, ℕ, true, ◌+◌, List, [], ◌∷◌, length, Some, None, Ok}
+-- Why a run ends that went on from what was recovered, by what was settled and said.
+use Rattle.std.specs.Prelude.{◌≡◌, ◌≢◌, ◌≤◌, ◌<◌, ◌^◌, ℕ, true, ◌+◌, List, [], ◌∷◌, length, Option, Some, None, Ok}
 use Rattle.std.specs.List.{All}
 use Rattle.client_port.specs.Clients.{clients_of}
-use Rattle.client_port.specs.Ports.{Queue, due_of}
 use Rattle.command_words.specs.declared.words.RunOptions.{RunOptions}
 use Rattle.commit_log.specs.declared.header.Header.{Header}
 use Rattle.commit_log.specs.Segment.{segment, reading_of}
-use Rattle.dura_model.specs.Legal.{Quiet}
-use Rattle.dura_model.specs.Partition.{Partition, enter}
+use Rattle.dura_model.specs.Entries.{placed}
+use Rattle.dura_model.specs.Partition.{Partition}
+use Rattle.dura_value.specs.Ids.{client}
 use Rattle.dura_value.specs.Items.{Entry}
 use Rattle.dura_value.specs.declared.data.Value.{Value}
 use Rattle.dura_value.specs.declared.outcome.Outcome.{Outcome}
-use Rattle.engine_run.specs.Asked.{IsRequest, IsTaken}
 use Rattle.engine_run.specs.Order.{no_later}
-use Rattle.hub_store.specs.Moments.{StandsWith, AtEveryMoment}
+use Rattle.hub_store.specs.Moments.{StandsWith}
 use Rattle.hub_store.specs.Origin.{Origin}
-use Rattle.hub_store.specs.Short.{IsShort}
-use Rattle.hub_store.specs.Trail.{Settled, Said, of_part, settled_at}
-use Rattle.dura_model.specs.Entries.{placed, shown_by}
+use Rattle.hub_store.specs.Trail.{Settled, Said, of_part}
 use Rattle.part_items.specs.Spelling.{spell_frame}
-use Rattle.part_rounds.specs.Comes.{IsOver, count_labels}
-use Rattle.part_rounds.specs.Further.{GoesFurther}
+use Rattle.part_rounds.specs.Comes.{count_labels}
 use Rattle.part_rounds.specs.InTime.{GoesByClock}
-use Rattle.part_rounds.specs.Rounds.{pairs_of, HasSaid}
-use Rattle.part_rounds.specs.declared.stop.Stop.{Stop}
-use Rattle.part_rounds.specs.declared.stop.Stop.TheVariants as stops
 use Rattle.request_reader.specs.Line.{Request}
 use Rattle.run_causes.specs.declared.cause.Cause.{Cause}
 use Rattle.run_causes.specs.declared.cause.Cause.TheVariants.{Done, Waiting, Long, SiteFault, SayFault, ClockFault, Memory, Full, Spent}
-use Rattle.run_laws.specs.Begins.{may_follow, may_say}
-use Rattle.run_rules.specs.Rules.{Rules, Follows}
+use Rattle.run_laws.specs.Begins.{pairs_of, may_follow, may_say}
+use Rattle.run_rules.specs.Rules.{Rules, Told, count_told, request_at, Follows}
 use Rattle.site_model.specs.History.{Step, content_of}
-use Rattle.site_model.specs.Moments.{Always}
 use Rattle.site_model.specs.Readings.{Reading}
 
+-- a client's next request, once these were answered and the answers said
+abbrev pub next_untold : Rules → Told → (name : List ℕ) → Option Request
+next_untold rules told name = request_at rules name (count_told told name)
+
 -- each client's requests were answered, and the answers said
-abbrev pub AreAllSaid : List Queue → (clients : List (List ℕ)) → Type 0
-AreAllSaid queues clients = All (λ name. due_of name queues ≡ None) clients
+abbrev pub AreAllTold : Rules → Told → Type 0
+AreAllTold rules told = All (λ name. next_untold rules told name ≡ None) (clients_of rules.requests)
 
--- this is the number of the client's next request, whose answer wasn't said
-pub record IsUnsaid (queues : List Queue) (client : List ℕ) (number : ℕ) : Type 0 where
+-- This is the number of the client's next request; and of all clients' next ones it comes first.
+pub record IsFirstUntold (rules : Rules) (told : Told) (name : List ℕ) (number : ℕ) : Type 0 where
   pub request : Request
-  pub due : due_of client queues ≡ Some request
+  pub next : next_untold rules told name ≡ Some request
   pub number_is : number ≡ request.number
-
--- and of these clients' next requests it comes first
-pub record IsFirstUnsaid (queues : List Queue) (clients : List (List ℕ)) (client : List ℕ) (number : ℕ) : Type 0 where
-  pub unsaid : IsUnsaid queues client number
-  pub first : All (λ name. (r : Request) → due_of name queues ≡ Some r → no_later (client, number) (name, r.number) ≡ true) clients
+  pub first : All (λ other. (r : Request) → next_untold rules told other ≡ Some r → no_later (name, number) (other, r.number) ≡ true) (clients_of rules.requests)
 
 -- What a call goes by: its options; what activities give; and of the clock the moments that it had given before and by the end, and the
 -- greatest of them.
@@ -93,91 +85,26 @@ module _ (MayFollow : List Settled → List Said → ℕ → List Entry → Type
   SaysWhole steps trail told cause = cause ≢ SayFault → StandsWith MayFollow MaySay o steps trail told []
 
 module _ (MayFollow : List Settled → List Said → ℕ → List Entry → Type 0) (MaySay : List Settled → List Said → Said → List ℕ → Type 0) (rules : Rules) (latest : ℕ) (o : Origin) where
-  -- Once this was settled the world is quiet but for requests, what is due of each client was taken, and nothing is possible any more;
-  -- whole lines were said, and no answer waits to be said. Each request is one that its client sends.
-  pub record IsAtRest (steps : List Step) (trail : List Settled) (queues : List Queue) : Type 0 where
-    pub told : List Said
+  -- Whole lines were said, and no answer waits to be said: no client's next request has one in the state that was settled.
+  pub record IsToldOut (steps : List Step) (trail : List Settled) (told : List Said) : Type 0 where
     pub stands : StandsWith MayFollow MaySay o steps trail told []
-    pub said : HasSaid rules told queues
     pub state : Partition
     pub made : placed rules.flows 1 rules.begin (of_part 0 trail) ≡ Ok state
-    pub quiet : Quiet rules.flows [] (shown_by rules.flows state)
-    pub taken : All (IsTaken state queues) (clients_of rules.requests)
-    pub over : IsOver rules (enter rules.life state) queues (clients_of rules.requests)
-    pub asked : All IsRequest rules.requests
-
-  -- Whole lines were said, and once this was settled something is possible still. Each request is one that its client sends.
-  pub record IsUnfinished (steps : List Step) (trail : List Settled) : Type 0 where
-    pub told : List Said
-    pub stands : StandsWith MayFollow MaySay o steps trail told []
-    pub further : GoesFurther rules (of_part 0 trail) (pairs_of told)
-    pub asked : All IsRequest rules.requests
+    pub none_waits : All (λ name. (r : Request) → next_untold rules (pairs_of told) name ≡ Some r → state.answers (client name) r.number ≡ None) (clients_of rules.requests)
 
   -- why it ends
   abbrev pub EndsAs : List Step → List Settled → RunOptions → Cause → Type 0
-  EndsAs steps trail options Done = (queues : List Queue) × IsAtRest steps trail queues × AreAllSaid queues (clients_of rules.requests)
-  EndsAs steps trail options (Waiting client number) = (queues : List Queue) × IsAtRest steps trail queues × IsFirstUnsaid queues (clients_of rules.requests) client number
-  EndsAs steps trail options (Long labels) = (labels ≡ count_labels (of_part 0 trail)) × (options.steps ≤ labels) × IsUnfinished steps trail
-  EndsAs steps trail options (Full partition length_then) = (partition ≡ 0) × ((left : IsUnfinished steps trail) × WouldFill rules latest o steps trail left.told options length_then)
-  EndsAs steps trail options (Spent partition number) = (partition ≡ 0) × IsPlaceSpent rules trail number × IsUnfinished steps trail
+  EndsAs steps trail options Done = (told : List Said) × IsToldOut steps trail told × AreAllTold rules (pairs_of told)
+  EndsAs steps trail options (Waiting name number) = (told : List Said) × IsToldOut steps trail told × IsFirstUntold rules (pairs_of told) name number
+  EndsAs steps trail options (Long labels) = (labels ≡ count_labels (of_part 0 trail)) × (options.steps ≤ labels) × ((told : List Said) × StandsWith MayFollow MaySay o steps trail told [])
+  EndsAs steps trail options (Full partition length_then) =
+      (partition ≡ 0) × ((told : List Said) × StandsWith MayFollow MaySay o steps trail told [] × WouldFill rules latest o steps trail told options length_then)
+  EndsAs steps trail options (Spent partition number) = (partition ≡ 0) × IsPlaceSpent rules trail number × ((told : List Said) × StandsWith MayFollow MaySay o steps trail told [])
   EndsAs steps trail options SiteFault = Unit {0}
   EndsAs steps trail options SayFault = Unit {0}
   EndsAs steps trail options ClockFault = Unit {0}
   EndsAs steps trail options Memory = Unit {0}
   EndsAs steps trail options other = ⊥
-
-  -- From where it began on it stood at every moment as it may, nothing was settled before and all of it by the end, whole lines were
-  -- said unless saying failed, it went by its clock, its log stayed below the segment's length, and it ended for its cause.
-  pub record GoesOn (new : List Step) (trail : List Settled) (terms : Terms) (cause : Cause) : Type 0 where
-    pub every : AtEveryMoment MayFollow MaySay o new trail
-    pub further : Always (λ steps. Unit {0}) o.steps new
-    pub nothing : (moment : ℕ) → moment < length o.steps → settled_at moment trail ≡ []
-    pub by_the_end : settled_at (length new) trail ≡ trail
-    pub told : List Said
-    pub whole : SaysWhole MayFollow MaySay o new trail told cause
-    pub in_time : GoesInTime rules terms trail told
-    pub short : IsShort terms.options.segment (of_part 0 trail) (content_of (o.logs 0).file new)
-    pub ends : EndsAs new trail terms.options cause
-
--- why a run doesn't go on at all: for want of memory, or of a number for an entry at this place
-abbrev pub IsWanting : (place : ℕ) → Cause → Type 0
-IsWanting place Memory = Unit {0}
-IsWanting place (Spent partition number) = (partition ≡ 0) × (number ≡ place) × (2 ^ 62 ≤ number)
-IsWanting place other = ⊥
-
--- nothing happened
-pub record Stays (old new : List Step) (trail : List Settled) (place : ℕ) (cause : Cause) : Type 0 where
-  pub same : new ≡ old
-  pub nothing : trail ≡ []
-  pub wanting : IsWanting place cause
-
--- why rounds stop
-abbrev pub cause_of_stop : Stop → Cause
-cause_of_stop (stops.Full partition length) = Full partition length
-cause_of_stop (stops.Spent partition number) = Spent partition number
-cause_of_stop stops.SiteFault = SiteFault
-cause_of_stop stops.SayFault = SayFault
-cause_of_stop stops.ClockFault = ClockFault
-cause_of_stop stops.Memory = Memory
-
--- why a run may end where nothing is possible any more
-abbrev pub IsRestCause : List Queue → (clients : List (List ℕ)) → Cause → Type 0
-IsRestCause queues clients Done = AreAllSaid queues clients
-IsRestCause queues clients (Waiting client number) = IsFirstUnsaid queues clients client number
-IsRestCause queues clients other = ⊥
-
--- why a run may end that goes on
-abbrev pub IsLateCause : Cause → Type 0
-IsLateCause Done = Unit {0}
-IsLateCause (Waiting client number) = Unit {0}
-IsLateCause (Long labels) = Unit {0}
-IsLateCause (Full partition length) = Unit {0}
-IsLateCause (Spent partition number) = (partition ≡ 0) × (2 ^ 62 ≤ number)
-IsLateCause SiteFault = Unit {0}
-IsLateCause SayFault = Unit {0}
-IsLateCause ClockFault = Unit {0}
-IsLateCause Memory = Unit {0}
-IsLateCause other = ⊥
 
 -- why a run ends that commits and says what its rules let it
 abbrev pub RunEndsAs : Rules → (latest : ℕ) → Origin → List Step → List Settled → RunOptions → Cause → Type 0

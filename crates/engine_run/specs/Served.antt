@@ -11,7 +11,7 @@ use Rattle.hub_store.specs.Trail.{Settled, of_part}
 use Rattle.dura_model.specs.Entries.{placed, shown_by}
 use Rattle.request_reader.specs.Line.{Request}
 use Rattle.run_causes.specs.declared.cause.Cause.{Cause}
-use Rattle.run_causes.specs.declared.cause.Cause.TheVariants.{Done, Waiting, Long, Full}
+use Rattle.run_causes.specs.declared.cause.Cause.TheVariants.{Done, Waiting, Long, Full, Spent}
 use Rattle.run_rules.specs.Rules.{Rules}
 
 -- whether a client's request has its answer
@@ -51,4 +51,5 @@ HasServed rules trail Done = (state : Partition) × (placed rules.flows 1 rules.
 HasServed rules trail (Waiting name number) = (state : Partition) × (placed rules.flows 1 rules.begin (of_part 0 trail) ≡ Ok state) × Awaits rules (shown_by rules.flows state) name number
 HasServed rules trail (Long labels) = IsLeftAt rules trail
 HasServed rules trail (Full partition length_then) = IsLeftAt rules trail
+HasServed rules trail (Spent partition number) = IsLeftAt rules trail
 HasServed rules trail other = Unit {0}

@@ -5,7 +5,8 @@ ghost use Rattle.std.specs.List.{All};
 ghost use Rattle.client_port.specs.Clients.{clients_of};
 ghost use Rattle.client_port.specs.Ports.{queues_of};
 ghost use Rattle.engine_run.specs.Asked.{IsRequest};
-ghost use Rattle.engine_run.specs.Ends.{AreAllSaid, IsFirstUnsaid, EndsAs, GoesOn, Stays, IsLateCause, IsRestCause, cause_of_stop, terms_of};
+ghost use Rattle.engine_run.specs.Ends.{terms_of};
+ghost use Rattle.engine_run.specs.Rounds.{AreAllSaid, IsFirstUnsaid, RoundsEnd, GoesOn, Stays, IsLateCause, IsRestCause, cause_of_stop};
 ghost use Rattle.engine_run.specs.Order.{no_later};
 ghost use Rattle.engine_run.specs.Picks.{origin_with, rules_with};
 ghost use Rattle.engine_run.specs.Promises.{faults_of, FaultsRise};
@@ -136,7 +137,7 @@ fn drive_on<V: Site, N: Ruled, C: Clock, A: Activities>(
     ensures moment { store.new.latest ≤ C.latest clock.new }
     ensures segment { store.new.segment ≡ store.old.segment }
     ensures whole { result ≢ Cause.SayFault → store.new.cut ≡ false }
-    ensures ends { V.tells store.new.site → EndsAs (N.may_follow (C.latest clock.new)) N.may_say N.rules (C.latest clock.new) N.origin (V.history store.new.site) (trail_in store.new) options result }
+    ensures ends { V.tells store.new.site → RoundsEnd (N.may_follow (C.latest clock.new)) N.may_say N.rules (C.latest clock.new) N.origin (V.history store.new.site) (trail_in store.new) options result }
     ensures goes { GoesByClock N.rules A.gives options.batch (clients_of N.rules.requests) (C.given clock.old) (of_part 0 (trail_in store.old)) (told_in store.old) (C.given clock.new) (of_part 0 (trail_in store.new)) (told_in store.new) }
     ensures no_more { count_labels (of_part 0 (trail_in store.new)) < options.steps + options.batch }
     ensures late { IsLateCause result }

@@ -55,10 +55,6 @@ unsaid = record { client = codes "a"; requests = starting ∷ []; said = 0 } ∷
 abbrev pub all_said : List Queue
 all_said = record { client = codes "a"; requests = starting ∷ []; said = 1 } ∷ []
 
--- client b waits too
-abbrev pub two_unsaid : List Queue
-two_unsaid = unsaid ++ record { client = codes "b"; requests = record starting { client = codes "b" } ∷ []; said = 0 } ∷ []
-
 -- the entry by which it is taken was settled at the first moment
 abbrev pub settled_once : List Settled
 settled_once = record { partition = 0; entry = taking 0; at = 1 } ∷ []

@@ -7,13 +7,8 @@ use Rattle.dura_value.specs.Ids.{client}
 use Rattle.dura_value.specs.Messages.{was_started}
 use Rattle.hub_store.specs.Trail.{Settled}
 use Rattle.part_items.specs.Examples.{request, taking}
-use Rattle.request_reader.specs.Line.{Request}
 use Rattle.run_examples.specs.Calls.{by_steps, rules_for, starting}
 use Rattle.run_rules.specs.Rules.{Rules}
-
--- client a's request, under a number that its message hasn't
-abbrev pub misnumbered : Request
-misnumbered = record starting { number = 2 }
 
 -- the request was taken and answered before the call
 abbrev pub answered_state : Partition

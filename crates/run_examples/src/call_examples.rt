@@ -6,8 +6,8 @@ ghost use Rattle.dura_model.specs.World.{empty};
 ghost use Rattle.dura_value.specs.Items.{Entry};
 ghost use Rattle.engine_run.specs.Asked.{IsRequest, IsTaken};
 ghost use Rattle.engine_run.specs.Causes.{AsksFor, CauseHolds, Untouched};
-ghost use Rattle.engine_run.specs.Ends.{AreAllSaid, IsFirstUnsaid, SaysWhole, RunEndsAs};
-ghost use Rattle.run_examples.specs.Calls.{by_steps, terms_by, nothing_asked, one_asked, no_flows, starting, waiting, second, third, unsaid, two_unsaid, all_said, settled_once, ended_twice, rules_for, asking_too, held_back, out_of_turn, answered};
+ghost use Rattle.engine_run.specs.Ends.{AreAllTold, IsFirstUntold, SaysWhole, RunEndsAs};
+ghost use Rattle.run_examples.specs.Calls.{by_steps, terms_by, nothing_asked, one_asked, no_flows, starting, waiting, second, third, unsaid, all_said, settled_once, ended_twice, rules_for, asking_too, held_back, out_of_turn, answered};
 ghost use Rattle.engine_run.specs.Headline.{IsOrderly, EndsEarly, RunsOn};
 ghost use Rattle.engine_run.specs.Served.{IsServed, IsFirstOpen, Awaits, HasServed};
 ghost use Rattle.engine_run.specs.Job.{FilesKeep};
@@ -19,7 +19,7 @@ ghost use Rattle.hub_store.specs.Examples.{request as asking, MayFollow, MaySay,
 ghost use Rattle.hub_store.specs.Origin.{Origin};
 ghost use Rattle.hub_store.specs.Trail.{Settled, Said};
 ghost use Rattle.part_items.specs.Examples.{two_files, empty_log, taking};
-ghost use Rattle.run_rules.specs.Examples.{request_taken};
+ghost use Rattle.run_rules.specs.Examples.{request_taken, told_once};
 ghost use Rattle.dura_model.specs.Entries.{shown_by};
 ghost use Rattle.run_causes.specs.declared.cause.Cause.TheVariants as causes;
 ghost use Rattle.run_causes.specs.declared.cause.FlowsFault.TheVariants as faults;
@@ -81,23 +81,23 @@ pub fn calls_open()
     ensures spoken_early { EndsEarly nothing_asked [] [] (said 97 ∷ []) [] causes.Memory → ⊥ }
 {}
 
-/// Whether a client waits for an answer, and for which.
-pub fn answers_unsaid()
-    ensures all { AreAllSaid all_said (codes "a" ∷ []) }
-    ensures one { IsFirstUnsaid unsaid (codes "a" ∷ []) (codes "a") 1 }
-    ensures not_all { AreAllSaid unsaid (codes "a" ∷ []) → ⊥ }
-    ensures other_number { IsFirstUnsaid unsaid (codes "a" ∷ []) (codes "a") 2 → ⊥ }
-    ensures another_before { IsFirstUnsaid two_unsaid (codes "a" ∷ codes "b" ∷ []) (codes "b") 1 → ⊥ }
-    ensures none { (number : ℕ) → IsFirstUnsaid all_said (codes "a" ∷ []) (codes "a") number → ⊥ }
+/// Whether an answer wasn't said yet, and which comes first.
+pub fn answers_untold()
+    ensures all { AreAllTold (rules_for (starting ∷ [])) told_once }
+    ensures one { IsFirstUntold (rules_for (starting ∷ [])) [] (codes "a") 1 }
+    ensures not_all { AreAllTold (rules_for (starting ∷ [])) [] → ⊥ }
+    ensures other_number { IsFirstUntold (rules_for (starting ∷ [])) [] (codes "a") 2 → ⊥ }
+    ensures another_before { IsFirstUntold (rules_for (starting ∷ asking_too ∷ [])) [] (codes "b") 1 → ⊥ }
+    ensures none { (number : ℕ) → IsFirstUntold (rules_for (starting ∷ [])) told_once (codes "a") number → ⊥ }
 {}
 
-/// A run ends with as many labels as may be, and as were settled: with no other number, with no fewer, not where nothing is left to do,
-/// and by no cause of its input.
+/// A run ends with as many labels as may be, and as were settled: with no other number, with no fewer, and by no cause of its input. Where
+/// it ends so, or for want of room in the log or of a number, something is left to do.
 pub fn runs_end()
     ensures labels { (latest : ℕ) → RunEndsAs (rules_for (starting ∷ [])) latest nowhere [] [] (by_steps 0) (causes.Long 0) }
-    ensures at_rest { (latest : ℕ) → RunEndsAs (rules_for []) latest nowhere [] [] (by_steps 0) (causes.Long 0) → ⊥ }
     ensures left { HasServed (rules_for (starting ∷ [])) [] (causes.Long 0) }
     ensures none_left { HasServed (rules_for []) [] (causes.Full 0 100) → ⊥ }
+    ensures spent { (number : ℕ) → HasServed (rules_for []) [] (causes.Spent 0 number) → ⊥ }
     ensures other_number { (rules : Rules) (latest : ℕ) (o : Origin) (steps : List Step) → RunEndsAs rules latest o steps [] (by_steps 0) (causes.Long 3) → ⊥ }
     ensures too_few { (rules : Rules) (latest : ℕ) (o : Origin) (steps : List Step) → RunEndsAs rules latest o steps [] (by_steps 1) (causes.Long 0) → ⊥ }
     ensures input { (begin : Partition) (steps : List Step) (trail : List Settled) (latest : ℕ) → RunsOn nothing_asked [] begin [] steps trail (terms_by 1 latest) causes.Usage → ⊥ }

@@ -1,31 +1,28 @@
 //! Examples of why a run ends that went on: in each all facts hold, or all but one.
 
 ghost use Rattle.std.specs.Prelude.{ℕ, List, [], ◌∷◌, ◌^◌, ◌+◌};
-ghost use Rattle.client_port.specs.Ports.{Queue};
-ghost use Rattle.engine_run.specs.Ends.{EndsAs, IsAtRest, IsUnfinished, IsPlaceSpent, WouldFill};
+ghost use Rattle.engine_run.specs.Ends.{EndsAs, IsToldOut, IsPlaceSpent, WouldFill};
 ghost use Rattle.hub_store.specs.Examples.{MayFollow, MaySay, nowhere, one_log, log_written};
-ghost use Rattle.hub_store.specs.Trail.{Settled};
+ghost use Rattle.hub_store.specs.Trail.{Said};
 ghost use Rattle.run_causes.specs.declared.cause.Cause.TheVariants as causes;
-ghost use Rattle.run_examples.specs.Calls.{by_steps, no_flows, rules_for, starting, unsaid};
-ghost use Rattle.run_examples.specs.Ending.{misnumbered, answered_before, taken_twice, by_segment, by_batch, at_last_place};
+ghost use Rattle.run_examples.specs.Calls.{by_steps, no_flows, rules_for};
+ghost use Rattle.run_examples.specs.Ending.{answered_before, taken_twice, by_segment, by_batch, at_last_place};
 ghost use Rattle.run_rules.specs.Examples.{rules_with};
 ghost use Rattle.site_model.specs.History.{on, synced};
 
-/// A run that nobody asks for anything is done where nothing happened. It doesn't rest where another file was touched; where its clients
-/// are others; where what was settled makes no state; where an answer waits to be said; or where a request isn't its client's.
+/// A run that nobody asks for anything is done where nothing happened. It isn't told out where another file was touched; where what was
+/// settled makes no state; or where an answer waits to be said.
 pub fn runs_rest()
     ensures done { EndsAs MayFollow MaySay (rules_for []) 0 nowhere [] [] (by_steps 1) causes.Done }
-    ensures other_file { (queues : List Queue) → IsAtRest MayFollow MaySay (rules_for []) 0 nowhere (on 3 synced ∷ []) [] queues → ⊥ }
-    ensures other_clients { IsAtRest MayFollow MaySay (rules_for []) 0 nowhere [] [] unsaid → ⊥ }
-    ensures no_state { (queues : List Queue) → IsAtRest MayFollow MaySay (rules_for []) 0 nowhere [] taken_twice queues → ⊥ }
-    ensures unsaid { IsAtRest MayFollow MaySay answered_before 0 nowhere [] [] unsaid → ⊥ }
-    ensures not_sent { (queues : List Queue) → IsAtRest MayFollow MaySay (rules_for (misnumbered ∷ [])) 0 nowhere [] [] queues → ⊥ }
+    ensures other_file { (told : List Said) → IsToldOut MayFollow MaySay (rules_for []) 0 nowhere (on 3 synced ∷ []) [] told → ⊥ }
+    ensures no_state { (told : List Said) → IsToldOut MayFollow MaySay (rules_for []) 0 nowhere [] taken_twice told → ⊥ }
+    ensures waits { IsToldOut MayFollow MaySay answered_before 0 nowhere [] [] [] → ⊥ }
 {}
 
-/// A run has something left to do only where it stands as it may, and where each request is its client's.
+/// A run that may commit nothing more ends so only where it stands as it may.
 pub fn runs_unfinished()
-    ensures other_file { IsUnfinished MayFollow MaySay (rules_for (starting ∷ [])) 0 nowhere (on 3 synced ∷ []) [] → ⊥ }
-    ensures not_sent { IsUnfinished MayFollow MaySay (rules_for (misnumbered ∷ [])) 0 nowhere [] [] → ⊥ }
+    ensures long { EndsAs MayFollow MaySay (rules_for []) 0 nowhere [] [] (by_steps 0) (causes.Long 0) }
+    ensures other_file { EndsAs MayFollow MaySay (rules_for []) 0 nowhere (on 3 synced ∷ []) [] (by_steps 0) (causes.Long 0) → ⊥ }
 {}
 
 /// A log of 34 bytes would come to 77 by the entry that takes the client's request. It isn't full below that; nor by an entry of no item, or

@@ -1,7 +1,6 @@
 //! Examples of runs that go on from what their log keeps.
 
 ghost use Rattle.std.specs.Prelude.{◌≡◌, ◌≤◌, ◌+◌, ℕ, slice_set, IsSome, Some, Ok, List, [], ◌∷◌, ◌++◌};
-ghost use Rattle.command_words.specs.declared.words.RunOptions.{RunOptions};
 ghost use Rattle.commit_log.specs.Segment.{segment, reading_of};
 ghost use Rattle.commit_log.specs.declared.header.Header.{Header};
 ghost use Rattle.dura_model.specs.Dependencies.{Founded, names_of};
@@ -12,10 +11,8 @@ ghost use Rattle.engine_run.specs.Ends.{GoesInTime, RunEndsAs, Terms};
 ghost use Rattle.engine_run.specs.Headline.{RunsOn, StandsOrderly};
 ghost use Rattle.engine_run.specs.Job.{Job};
 ghost use Rattle.engine_run.specs.Picks.{rules_with as job_rules};
-ghost use Rattle.engine_run.specs.Served.{HasServed};
 ghost use Rattle.flow_syntax.specs.Syntax.{Flows};
 ghost use Rattle.hub_store.specs.Examples.{request, one_log, log_written};
-ghost use Rattle.hub_store.specs.Origin.{Origin};
 ghost use Rattle.hub_store.specs.Trail.{Said, Settled};
 ghost use Rattle.part_items.specs.Examples.{digest, two_files, empty_log, taking};
 ghost use Rattle.run_rules.specs.Examples.{request_taken, rules_with};
@@ -25,7 +22,7 @@ ghost use Rattle.run_rules.specs.Stands.{FilesStand};
 ghost use Rattle.request_reader.specs.Line.{Request};
 ghost use Rattle.run_causes.specs.declared.cause.Cause.{Cause};
 ghost use Rattle.run_causes.specs.declared.cause.Cause.TheVariants as causes;
-ghost use Rattle.run_examples.specs.Calls.{nothing_asked, one_start, rules_for, settled_once, terms_by};
+ghost use Rattle.run_examples.specs.Calls.{by_steps, nothing_asked, one_start, rules_for, settled_once, terms_by};
 ghost use Rattle.run_examples.specs.Going.{taking_written, settled_at_first, settled_too_late, hurried, asked_once, at_once, at_once_log, settled_at_once, ok_of, once_answered, answering_written, half_said};
 ghost use Rattle.run_laws.specs.Examples.{answering, empty_origin};
 ghost use Rattle.run_laws.specs.Leaves.{StandsOn, committed_in};
@@ -40,12 +37,12 @@ pub fn what_stands_is_founded()
         → AllGiven flows 1 (fresh 0) (recovered ++ more) → Founded (names_of (committed_in recovered)) (committed_in more) }
 {}
 
-/// What a run has served follows from why it ended: where its log's entries made the state at which it began, whoever rests with all said
-/// has served all, whoever rests otherwise awaits the first without an answer, and where something is possible still something is left.
-/// So no run lacks just that.
-pub fn what_is_served_follows()
-    ensures { (job : Job) (entries : List Entry) (begin : Partition) (life latest : ℕ) (o : Origin) (steps : List Step) (trail : List Settled) (options : RunOptions) (cause : Cause)
-        → placed job.flows 1 (fresh 0) entries ≡ Ok begin → RunEndsAs (job_rules job begin life) latest o steps trail options cause → HasServed (job_rules job begin life) trail cause }
+/// A run that finds a log without entries and may commit nothing ends so where a client's request is due, and doesn't where nobody asks:
+/// though all else is as it was, nothing is left to do then.
+pub fn runs_leave_something()
+    ensures due { RunsOn one_start [] (fresh 0) log_written log_written [] (terms_by 0 0) (causes.Long 0) }
+    ensures ends { RunEndsAs (job_rules nothing_asked (fresh 0) 0) 0 one_log log_written [] (by_steps 0) (causes.Long 0) }
+    ensures nobody { RunsOn nothing_asked [] (fresh 0) log_written log_written [] (terms_by 0 0) (causes.Long 0) → ⊥ }
 {}
 
 /// A run that finds a log without entries and then does nothing, for want of memory, keeps all that a run promises. It doesn't where it

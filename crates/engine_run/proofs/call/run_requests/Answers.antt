@@ -4,7 +4,8 @@ use Rattle.dura_model.specs.Partition.{Partition}
 use Rattle.dura_model.specs.Placed.{Belongs}
 use Rattle.dura_value.specs.Items.{Entry}
 use Rattle.engine_run.specs.Causes.{CauseHolds, Untouched}
-use Rattle.engine_run.specs.Ends.{IsLateCause, terms_of}
+use Rattle.engine_run.specs.Ends.{terms_of}
+use Rattle.engine_run.specs.Rounds.{IsLateCause}
 use Rattle.engine_run.proofs.Ending.{wanting_early}
 use Rattle.engine_run.specs.Headline.{RunsOn, Headline}
 use Rattle.engine_run.specs.Job.{Job, AreGivenIn}

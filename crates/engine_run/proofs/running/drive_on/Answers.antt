@@ -1,5 +1,5 @@
 use Rattle.std.proofs.Common.{◌≢◌, ◌∙◌, ◌≤◌, ℕ, List, [], Err, refl, sym, ap, subst}
-use Rattle.engine_run.specs.Ends.{EndsAs, IsLateCause, IsRestCause}
+use Rattle.engine_run.specs.Rounds.{RoundsEnd, IsLateCause, IsRestCause}
 use Rattle.engine_run.proofs.Early.{differ, one_some, same_err}
 use Rattle.engine_run.proofs.Ending.{at_rest, rest_ends, rest_late, stop_ends, stop_late, other_stop, site_stop, say_stop, clock_stop, memory_no_site, memory_no_say, memory_no_clock, moment_above}
 use Rattle.engine_run.proofs.running.drive_on.Goals as goal
@@ -178,7 +178,7 @@ returns-in-Err g c = record {
       let may : (trail : List Settled) (told : List Said) (partition : ℕ) (going : List Entry) → g.N.Start.may_follow new.latest trail told partition going → g.N.Start.may_follow latest trail told partition going =
       λ trail told partition going follows. g.N.Start.later_follows new.latest latest trail told partition going above follows in
       let segment = c.drive.ensures.segment ∙ c.requires.segment in
-      subst (λ (cause : Cause). EndsAs (g.N.Start.may_follow latest) g.N.Start.may_say rules latest g.N.Start.origin steps (trail_in new) c.args.options cause) (sym c.cause_of.ensures)
+      subst (λ (cause : Cause). RoundsEnd (g.N.Start.may_follow latest) g.N.Start.may_say rules latest g.N.Start.origin steps (trail_in new) c.args.options cause) (sym c.cause_of.ensures)
       (stop_ends (g.N.Start.may_follow latest) g.N.Start.may_say rules latest g.N.Start.origin steps (trail_in new) (told_in new) new.latest above c.args.options (way_of new.ways.items 0) c.in-Err.stop c.requires.fits
       (λ partition length_then is. subst (λ (n : ℕ). IsFull rules c.args.options.batch new.latest (of_part 0 (trail_in new)) (pairs_of (told_in new)) n (way_of new.ways.items 0) partition length_then) segment
       (c.in-Err.ensures.full partition length_then (ap (λ (stop : Stop). Err stop) is)))

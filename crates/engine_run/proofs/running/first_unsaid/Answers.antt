@@ -2,7 +2,7 @@ use Rattle.std.proofs.Common.{◌≡◌, ◌∙◌, ◌+◌, inl, inr, ℕ, List
 use Rattle.std.specs.Prelude.{IfSome}
 use Rattle.std.specs.List.{All}
 use Rattle.client_port.specs.Ports.{due_of}
-use Rattle.engine_run.specs.Ends.{AreAllSaid, IsUnsaid, IsFirstUnsaid}
+use Rattle.engine_run.specs.Rounds.{AreAllSaid, IsUnsaid, IsFirstUnsaid}
 use Rattle.engine_run.specs.Order.{no_later}
 use Rattle.engine_run.proofs.Found.{found_both, if_none, if_both, some_with}
 use Rattle.engine_run.proofs.Ordered.{DueLater, due_still}

@@ -2,7 +2,7 @@ use Rattle.std.proofs.Common.{◌≡◌, None, take}
 use Rattle.std.specs.List.{All}
 use Rattle.std.specs.Prelude.{IfSome}
 use Rattle.client_port.specs.Ports.{due_of}
-use Rattle.engine_run.specs.Ends.{IsUnsaid}
+use Rattle.engine_run.specs.Rounds.{IsUnsaid}
 use Rattle.engine_run.proofs.Ordered.{DueLater}
 use Rattle.engine_run.proofs.running.first_unsaid.Given as goal
 

@@ -3,7 +3,8 @@ use Rattle.std.proofs.Math.Nat.{le_of_eq}
 use Rattle.client_port.specs.Clients.{clients_of}
 use Rattle.client_port.specs.Ports.{Queue, queues_of}
 use Rattle.dura_value.specs.Items.{Entry}
-use Rattle.engine_run.specs.Ends.{GoesOn, Stays, IsLateCause, IsWanting, terms_of}
+use Rattle.engine_run.specs.Ends.{terms_of}
+use Rattle.engine_run.specs.Rounds.{GoesOn, Stays, IsLateCause, IsWanting}
 use Rattle.engine_run.proofs.Early.{one_some, room_left}
 use Rattle.engine_run.proofs.Ending.{memory_no_site, memory_no_say, memory_no_clock, spent_no_site, spent_no_say, spent_no_clock}
 use Rattle.engine_run.proofs.Queues.{clients_named, nothing_said}
