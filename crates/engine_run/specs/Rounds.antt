@@ -24,6 +24,7 @@ use Rattle.part_rounds.specs.declared.stop.Stop.TheVariants as stops
 use Rattle.request_reader.specs.Line.{Request}
 use Rattle.run_causes.specs.declared.cause.Cause.{Cause}
 use Rattle.run_causes.specs.declared.cause.Cause.TheVariants.{Done, Waiting, Long, SiteFault, SayFault, ClockFault, Memory, Full, Spent}
+use Rattle.run_rules.specs.Rules.{Rules}
 use Rattle.site_model.specs.History.{Step, content_of}
 use Rattle.site_model.specs.Moments.{Always}
 
