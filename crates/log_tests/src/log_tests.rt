@@ -1,9 +1,9 @@
 //! What calls of a log give, and what a crash leaves of them.
 //!
-//! A run has two lines. The first says what file 1 holds, the site's room where it isn't ample, the device call that fails, counted from 0,
-//! what is done, and what that gives. The second has the images that crashes leave: for each moment from 2 on four letters, of the stable
-//! bytes, of all that was written, and of what is torn to 17 and to C3. `-` is a fresh file, `0` a segment with no frame, `1` one with the
-//! example's, and `2` one with that of `NEXT` behind it.
+//! A run has two lines. The first says what file 1 holds, the site's room where it isn't ample or the device call that fails, counted from 0,
+//! what is done, and what that gives. The second has the images that crashes leave of file 1: for each moment from 2 on, since two steps make
+//! it, four letters, with the stable bytes, with all that was written, and with what is torn to bytes 17 and to bytes C3. `-` is a fresh file,
+//! `0` a segment with no frame, `1` one with the example's, and `2` one with that of `NEXT` behind it.
 
 ghost use Rattle.std.specs.Prelude.{◌≡◌, ◌∷◌, OnOk};
 ghost use Rattle.site_model.specs.History.{changes_of, on, synced};
@@ -85,13 +85,7 @@ fn image_of(rt: &impl Abort, alloc: Global, site: &MemorySite, moment: u64, pick
 }
 
 /// Adds the letters of this moment.
-fn add_images(
-    rt: &impl Abort,
-    alloc: Global,
-    site: &MemorySite,
-    moment: u64,
-    images: &mut String,
-) {
+fn add_images(rt: &impl Abort, alloc: Global, site: &MemorySite, moment: u64, images: &mut String) {
     for pick in PICKS {
         let letter = image_of(rt, alloc, site, moment, pick);
         images.push(letter).expect(rt, "memory");
@@ -295,7 +289,7 @@ fn run(rt: &impl Abort, alloc: Global, site: &mut MemorySite, what: &str) -> Tol
     }
 }
 
-/// The length, a write and a sync close the first byte of a file with no bytes. The header and the open byte take a write and a sync each.
+/// The calls are a length, and then a write and a sync each for the closed first byte, for the header, and for the open first byte.
 const FORMAT_OF_AN_EMPTY_FILE: &str = "an empty file, fault at call 0; format: fault
 ----
 
@@ -320,7 +314,8 @@ an empty file, fault at call 6; format: fault
 an empty file, fault at call 7; format: gate at 33
 ---- ---- ---- ---- ---- -0-0 0000";
 
-/// A first byte that is read closed isn't written: a length, a read and a sync come first.
+/// A first byte that is closed is read and not written. The calls are a length, a read and a sync, and then a write and a sync each for
+/// the header and for the open first byte.
 const FORMAT_OF_A_CLOSED_FILE: &str = "a closed file, fault at call 0; format: fault
 ----
 
@@ -345,7 +340,7 @@ a closed file, fault at call 6; format: fault
 a closed file, fault at call 7; format: gate at 33
 ---- ---- ---- ---- -0-0 0000";
 
-/// One that is read open is closed: a length, a read, a write and a sync come first.
+/// One that is open is read and written. The calls are a length and a read, and then those of an empty file behind its length.
 const FORMAT_OF_THE_EXAMPLE: &str = "the example, fault at call 0; format: fault
 1111
 

@@ -1,9 +1,7 @@
 //! What files are read as, by a line for each offset or range of offsets, and for each change of the example.
 
 use crate::left::numbered;
-use crate::readings::{
-    NEVER, ONE_FRAME, THREE_FRAMES, changed, read_as, same, site_of, text_of,
-};
+use crate::readings::{NEVER, ONE_FRAME, THREE_FRAMES, changed, read_as, same, site_of, text_of};
 use site_memory::{Kind, MemorySite};
 use std::alloc::Global;
 use std::process::Abort;
@@ -68,7 +66,7 @@ const FRONTS: &str = "0 to 1: fresh
 77 to 84: damaged at 77
 85 to 89: damaged at 85";
 
-/// What they are read as where the byte at this offset is turned over. No other bytes of the partition are its own.
+/// What they are read as where the byte at this offset is turned over. Those from 9 to 12 are the partition, which is another's then.
 const FLIPS: &str = "0: fresh
 1: damaged at 1
 2: damaged at 2
@@ -126,19 +124,19 @@ fn each_byte_of_one_frame(rt: HostRuntime) {
     for offset in 0..77usize {
         let mut bytes = ONE_FRAME;
         bytes[offset] = !bytes[offset];
-        check_offset(&rt, rt.alloc(), "byte of one at", offset, &bytes, FLIPS_OF_ONE);
+        check_offset(
+            &rt,
+            rt.alloc(),
+            "byte of one at",
+            offset,
+            &bytes,
+            FLIPS_OF_ONE,
+        );
     }
 }
 
-/// What these bytes are read as, where this device call fails, and the syncs and reads that it takes.
-fn check_calls(
-    rt: &impl Abort,
-    alloc: Global,
-    case: &str,
-    bytes: &[u8],
-    call: u64,
-    wanted: &str,
-) {
+/// These bytes are read so where this device call fails, with so many syncs and reads.
+fn check_calls(rt: &impl Abort, alloc: Global, case: &str, bytes: &[u8], call: u64, wanted: &str) {
     let mut site = site_with(rt, alloc, bytes, call);
     let reading = text_of(rt, alloc, read_as(alloc, &mut site, 1, bytes));
     let syncs = site.calls(Kind::Sync);
@@ -147,8 +145,9 @@ fn check_calls(
     same(rt, case, &found, wanted);
 }
 
-/// The example with four other bytes at an offset. A length that doesn't fit into the file is refused by its gate's read, and nothing is
-/// read behind it. Calls are counted from 0: a sync, a length and a read open the log, and then come the reads of a gate and a payload.
+/// The example with four other bytes at an offset, what it is read as, and the syncs and reads that this takes. A sync, a length and a read
+/// open a log, and then come a read for each gate and one for each payload. A length that doesn't fit into the file is refused when its gate
+/// is read, and nothing is read behind it. Calls are counted from 0.
 const READINGS: &str = "C34E4554 at 0: 1 frame, gate at 76; syncs 1, reads 4
 004E4554 at 0: fresh; syncs 1, reads 1
 174E4554 at 0: fresh; syncs 1, reads 1
