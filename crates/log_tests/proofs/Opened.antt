@@ -1,5 +1,5 @@
 -- A log that is opened and read frame by frame rests at its end.
-use Rattle.std.proofs.Common.{◌≡◌, ◌∙◌, ℕ, ◌+◌, List, [], ◌∷◌, ◌++◌, length, Ok, refl, sym, ap, subst}
+use Rattle.std.proofs.Common.{◌≡◌, ◌∙◌, ℕ, List, [], ◌∷◌, ◌++◌, length, Ok, sym, ap, subst}
 use Rattle.site_model.specs.History.{Step, on, synced, reads, changes_of, content_of, IsKept}
 use Rattle.site_model.proofs.Paths.{own_change}
 use Rattle.commit_log.specs.declared.states.Resting.{Resting}
