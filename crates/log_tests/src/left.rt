@@ -1,6 +1,7 @@
 //! What the calls of a transcript leave.
 
 use crate::stores::{FILE, HEADER, LINE};
+use crate::texts::numbered;
 use commit_log::{Next, open_log};
 use hub_store::{Ended, Settled};
 use site_memory::MemorySite;
@@ -61,7 +62,7 @@ fn frames_in(rt: &impl Abort, alloc: Global, site: &MemorySite) -> u64 {
 /// How many frames are read back, which are of the entries from position 0 on.
 fn frames_read(rt: &impl Abort, alloc: Global, site: &mut MemorySite) -> u64 {
     let mut reader = open_log(site, FILE, 0).expect(rt, "a log");
-    assert!(rt; reader.header == HEADER);
+    let header = reader.header;
     for position in 0..9u8 {
         match reader.next(alloc, site).expect(rt, "a frame") {
             Next::Frame(payload, behind) => {
@@ -69,7 +70,7 @@ fn frames_read(rt: &impl Abort, alloc: Global, site: &mut MemorySite) -> u64 {
                 reader = behind;
             }
             Next::End(log) => {
-                assert!(rt; log.gate == 33 + 54 * u64::from(position));
+                assert!(rt; header == HEADER && log.gate == 33 + 54 * u64::from(position));
                 return u64::from(position);
             }
         }
@@ -94,12 +95,6 @@ fn settled_at(rt: &impl Abort, rows: &[Settled], position: usize) -> u64 {
             && row.items.as_slice().len() == 1
     );
     row.at
-}
-
-/// A word and the number behind it.
-pub(crate) fn numbered<'a>(rt: &impl Abort, text: &'a str) -> (&'a str, u64) {
-    let (word, number) = text.rsplit_once(' ').expect(rt, "a number");
-    (word, number.parse().expect(rt, "a number"))
 }
 
 /// The number that a line with this word is to have.

@@ -3,6 +3,7 @@
 //!
 //! - `reader_tests` tries how `commit_log` reads files, `log_tests` how it writes them and what crashes leave, both by `readings`.
 //! - `store_tests` tries `hub_store`, by `stores` and `left`.
+//! - `texts` says what is found in the words of a transcript, and compares it.
 #![tactic(auto)]
 
 #[cfg(test)]
@@ -17,3 +18,5 @@ mod readings;
 mod store_tests;
 #[cfg(test)]
 mod stores;
+#[cfg(test)]
+mod texts;

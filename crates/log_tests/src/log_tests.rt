@@ -11,11 +11,11 @@ ghost use Rattle.site_model.specs.Moments.{OnlyFile};
 ghost use Rattle.site_memory.specs.Memory.{memory_history};
 ghost use Rattle.commit_log.specs.States.{Rests};
 
-use crate::left::numbered;
 use crate::readings::{
-    NEVER, NEXT, ONE_FRAME, PAYLOAD, Told, changed, read_as, same, site_of, text_of,
+    NEXT, NO_TROUBLE, ONE_FRAME, PAYLOAD, Trouble, changed, read_as, site_of, trouble_of,
 };
 use crate::stores::HEADER;
+use crate::texts::{Told, same, text_of};
 use commit_log::{BodyError, Broken, Next, Reopened, Resting, open_log};
 use site_memory::{Kept, MemorySite, Pick};
 use site_model::Site;
@@ -35,9 +35,6 @@ const EMPTY: [u8; 34] = [
 ];
 
 const LIMIT: u64 = 1 << 20;
-
-/// Ample room.
-const ROOM: u64 = 1000;
 
 /// Whether a file holds these bytes.
 fn holds(rt: &impl Abort, alloc: Global, site: &MemorySite, file: u32, bytes: &[u8]) -> bool {
@@ -144,16 +141,6 @@ fn commit(
     Ok(Reopened { log, settled: true })
 }
 
-/// Where the log goes on, behind the frame or before it.
-fn gate_of(found: Reopened) -> Told {
-    let words = if found.settled {
-        "settled, gate at"
-    } else {
-        "dropped, gate at"
-    };
-    (words, Some(found.log.gate))
-}
-
 /// What is done after a fault.
 const AGAIN: &str = "commit and open again behind a fault";
 
@@ -186,7 +173,8 @@ fn committed(
         };
     }
     match found {
-        Ok(found) => gate_of(found),
+        Ok(found) if found.settled => ("settled, gate at", Some(found.log.gate)),
+        Ok(found) => ("dropped, gate at", Some(found.log.gate)),
         Err(_) => ("fault", None),
     }
 }
@@ -289,8 +277,11 @@ fn run(rt: &impl Abort, alloc: Global, site: &mut MemorySite, what: &str) -> Tol
     }
 }
 
-/// The calls are a length, and then a write and a sync each for the closed first byte, for the header, and for the open first byte.
-const FORMAT_OF_AN_EMPTY_FILE: &str = "an empty file, fault at call 0; format: fault
+/// To format a file takes a length; a read, where it holds more than one byte; a write, unless that byte is closed, and a sync; a write and a
+/// sync for the header, and a write and a sync for the open first byte. To open the example takes a sync, a length and four reads: of its
+/// header, of the gate and the payload of its frame, and of the gate behind. A commit takes a write, a sync, a write and a sync. A write that
+/// fails stands, but not where it fails for want of room.
+const RUNS: &str = "an empty file, fault at call 0; format: fault
 ----
 
 an empty file, fault at call 1; format: fault
@@ -312,11 +303,9 @@ an empty file, fault at call 6; format: fault
 ---- ---- ---- ---- ---- -0-0
 
 an empty file, fault at call 7; format: gate at 33
----- ---- ---- ---- ---- -0-0 0000";
+---- ---- ---- ---- ---- -0-0 0000
 
-/// A first byte that is closed is read and not written. The calls are a length, a read and a sync, and then a write and a sync each for
-/// the header and for the open first byte.
-const FORMAT_OF_A_CLOSED_FILE: &str = "a closed file, fault at call 0; format: fault
+a closed file, fault at call 0; format: fault
 ----
 
 a closed file, fault at call 1; format: fault
@@ -338,10 +327,9 @@ a closed file, fault at call 6; format: fault
 ---- ---- ---- ---- -0-0
 
 a closed file, fault at call 7; format: gate at 33
----- ---- ---- ---- -0-0 0000";
+---- ---- ---- ---- -0-0 0000
 
-/// One that is open is read and written. The calls are a length and a read, and then those of an empty file behind its length.
-const FORMAT_OF_THE_EXAMPLE: &str = "the example, fault at call 0; format: fault
+the example, fault at call 0; format: fault
 1111
 
 the example, fault at call 1; format: fault
@@ -366,11 +354,9 @@ the example, fault at call 7; format: fault
 1111 1--1 ---- ---- ---- -0-0
 
 the example, fault at call 8; format: gate at 33
-1111 1--1 ---- ---- ---- -0-0 0000";
+1111 1--1 ---- ---- ---- -0-0 0000
 
-/// Opening it takes a sync, a length and four reads: of the header, of the gate and the payload of the frame, and of the gate behind it.
-/// Of these the sync is a step. Then a commit has a write, a sync, a write and a sync.
-const COMMITS: &str = "the example, fault at call 6; commit: fault
+the example, fault at call 6; commit: fault
 1111 1111 1111
 
 the example, fault at call 7; commit: fault
@@ -383,11 +369,9 @@ the example, fault at call 9; commit: fault
 1111 1111 1111 1111 1212
 
 the example; commit: settled, gate at 84
-1111 1111 1111 1111 1212 2222";
+1111 1111 1111 1111 1212 2222
 
-/// The log is opened again, which is a step. The gate's write failed and stands, or failed for want of room, or the body's write failed and
-/// stands.
-const OPENED_AGAIN: &str = "the example; commit and open again behind the body: dropped, gate at 76
+the example; commit and open again behind the body: dropped, gate at 76
 1111 1111 1111 1111
 
 the example; commit and open again behind the sync: dropped, gate at 76
@@ -403,10 +387,9 @@ the example, room for 85; commit and open again behind a fault: dropped, gate at
 1111 1111 1111 1111 1111
 
 the example, fault at call 6; commit and open again behind a fault: dropped, gate at 76
-1111 1111 1111 1111";
+1111 1111 1111 1111
 
-/// The two examples of the format, a limit, and a second file.
-const OTHERS: &str = "no file; format and commit: settled, gate at 76
+no file; format and commit: settled, gate at 76
 ---- ---- ---- -0-0 0000 0000 0000 0000 0101 1111 1111
 
 an empty segment; commit at two limits: full at 77, then next gate at 76
@@ -415,39 +398,28 @@ an empty segment; commit at two limits: full at 77, then next gate at 76
 an empty segment; commit to two files: gates at 76 and 41
 0000 0000 0000 0000 0000 0000 0000 0101 1111 1111 1111 1111 1111 1111";
 
-/// The room of a site, and the call of it that fails.
-fn trouble_of(rt: &impl Abort, words: &str) -> (u64, u64) {
-    match numbered(rt, words) {
-        ("room for", room) => (room, NEVER),
-        ("fault at call", call) => (ROOM, call),
-        _ => panic!(rt; "no such trouble"),
-    }
-}
-
 /// A site with this trouble, and what file 1 holds at first.
-fn site_at(rt: &impl Abort, alloc: Global, start: &str, (room, call): (u64, u64)) -> MemorySite {
-    let mut site = site_of(rt, alloc, room, call);
+fn site_at(rt: &impl Abort, alloc: Global, start: &str, trouble: Trouble) -> MemorySite {
     let closed = changed(0, 0x174E_4554);
-    let bytes: &[u8] = match start {
-        "no file" => return site,
-        "an empty file" => &[],
-        "a closed file" => &closed,
-        "an empty segment" => &EMPTY,
-        "the example" => &ONE_FRAME,
+    let bytes: Option<&[u8]> = match start {
+        "no file" => None,
+        "an empty file" => Some(&[]),
+        "a closed file" => Some(&closed),
+        "an empty segment" => Some(&EMPTY),
+        "the example" => Some(&ONE_FRAME),
         _ => panic!(rt; "no such file"),
     };
-    site.prepare(1, 0, bytes).expect(rt, "room");
-    site
+    site_of(rt, alloc, trouble, bytes)
 }
 
-/// Does what a line says, and checks the images.
-fn check_run(rt: &impl Abort, alloc: Global, run_lines: &str) {
-    let (line, images) = run_lines.split_once('\n').expect(rt, "images");
+/// Makes a run, and checks its images.
+fn check_run(rt: &impl Abort, alloc: Global, text: &str) {
+    let (line, images) = text.split_once('\n').expect(rt, "images");
     let (done, wanted) = line.split_once(": ").expect(rt, "an answer");
     let (before, what) = done.split_once("; ").expect(rt, "a run");
     let (start, trouble) = match before.split_once(", ") {
         Some((start, trouble)) => (start, trouble_of(rt, trouble)),
-        None => (before, (ROOM, NEVER)),
+        None => (before, NO_TROUBLE),
     };
     let mut site = site_at(rt, alloc, start, trouble);
     let told = text_of(rt, alloc, run(rt, alloc, &mut site, what));
@@ -455,20 +427,9 @@ fn check_run(rt: &impl Abort, alloc: Global, run_lines: &str) {
     same(rt, line, &images_of(rt, alloc, &site), images);
 }
 
-/// Makes the runs, with an empty line between each two.
-fn check(rt: &impl Abort, alloc: Global, runs: &str) {
-    for run_lines in runs.split("\n\n") {
-        check_run(rt, alloc, run_lines);
-    }
-}
-
 #[test]
 fn runs(rt: HostRuntime) {
-    let alloc = rt.alloc();
-    check(&rt, alloc, FORMAT_OF_AN_EMPTY_FILE);
-    check(&rt, alloc, FORMAT_OF_A_CLOSED_FILE);
-    check(&rt, alloc, FORMAT_OF_THE_EXAMPLE);
-    check(&rt, alloc, COMMITS);
-    check(&rt, alloc, OPENED_AGAIN);
-    check(&rt, alloc, OTHERS);
+    for text in RUNS.split("\n\n") {
+        check_run(&rt, rt.alloc(), text);
+    }
 }

@@ -1,24 +1,21 @@
 //! What files are read as, by a line for each offset or range of offsets, and for each change of the example.
 
-use crate::left::numbered;
-use crate::readings::{NEVER, ONE_FRAME, THREE_FRAMES, changed, read_as, same, site_of, text_of};
-use site_memory::{Kind, MemorySite};
+use crate::readings::{
+    NO_TROUBLE, ONE_FRAME, THREE_FRAMES, Trouble, changed, read_as, site_of, trouble_of,
+};
+use crate::texts::{numbered, same, text_of};
+use site_memory::Kind;
 use std::alloc::Global;
 use std::process::Abort;
 
-/// A site whose file 1 holds these bytes, and where the device call with this number fails.
-fn site_with(rt: &impl Abort, alloc: Global, bytes: &[u8], call: u64) -> MemorySite {
-    let mut site = site_of(rt, alloc, 1000, call);
-    site.prepare(1, 0, bytes).expect(rt, "room");
-    site
-}
-
-/// Whether an offset is in a range, which is one offset or goes from one to another.
+/// Whether an offset is in a range, which is of one, as `byte 33`, or goes from one to another, as `bytes 34 to 37`.
 fn is_in(rt: &impl Abort, offset: u64, range: &str) -> bool {
-    let (from, to) = range.split_once(" to ").unwrap_or((range, range));
-    let from: u64 = from.parse().expect(rt, "an offset");
-    let to: u64 = to.parse().expect(rt, "an offset");
-    from <= offset && offset <= to
+    let (words, last) = numbered(rt, range);
+    let first = match words.strip_suffix(" to") {
+        Some(front) => numbered(rt, front).1,
+        None => last,
+    };
+    first <= offset && offset <= last
 }
 
 /// What the line of the range that has this offset says.
@@ -43,79 +40,79 @@ fn check_offset(
 ) {
     let offset = offset as u64;
     let case = text_of(rt, alloc, (what, Some(offset)));
-    let mut site = site_with(rt, alloc, bytes, NEVER);
+    let mut site = site_of(rt, alloc, NO_TROUBLE, Some(bytes));
     let found = text_of(rt, alloc, read_as(alloc, &mut site, 1, bytes));
     same(rt, &case, &found, line_at(rt, lines, offset));
 }
 
-/// What three frames are read as where the file ends before this offset.
-const FRONTS: &str = "0 to 1: fresh
-2: damaged at 2
-3: damaged at 3
-4: damaged at 4
-5: damaged at 5
-6: damaged at 6
-7: damaged at 7
-8: damaged at 8
-9 to 12: damaged at 9
-13 to 16: damaged at 13
-17 to 24: damaged at 17
-25 to 32: damaged at 25
-33: damaged at 33
-34 to 76: damaged at 34
-77 to 84: damaged at 77
-85 to 89: damaged at 85";
+/// What three frames are read as where the file has this length.
+const FRONTS: &str = "lengths 0 to 1: fresh
+length 2: damaged at 2
+length 3: damaged at 3
+length 4: damaged at 4
+length 5: damaged at 5
+length 6: damaged at 6
+length 7: damaged at 7
+length 8: damaged at 8
+lengths 9 to 12: damaged at 9
+lengths 13 to 16: damaged at 13
+lengths 17 to 24: damaged at 17
+lengths 25 to 32: damaged at 25
+length 33: damaged at 33
+lengths 34 to 76: damaged at 34
+lengths 77 to 84: damaged at 77
+lengths 85 to 89: damaged at 85";
 
 /// What they are read as where the byte at this offset is turned over. Those from 9 to 12 are the partition, which is another's then.
-const FLIPS: &str = "0: fresh
-1: damaged at 1
-2: damaged at 2
-3: damaged at 3
-4: damaged at 4
-5: damaged at 5
-6: damaged at 6
-7: damaged at 7
-8: damaged at 8
-9 to 12: damaged at 9
-13 to 24: 3 frames, gate at 89
-25: damaged at 25
-26 to 32: 3 frames, gate at 89
-33: no frame, gate at 33
-34 to 37: damaged at 34
-38 to 75: 3 frames, gate at 89
-76: 1 frame, gate at 76
-77 to 80: damaged at 77
-81 to 83: 3 frames, gate at 89
-84: 2 frames, gate at 84
-85 to 88: damaged at 85
-89: 3 frames, gate at 89";
+const FLIPS: &str = "byte 0: fresh
+byte 1: damaged at 1
+byte 2: damaged at 2
+byte 3: damaged at 3
+byte 4: damaged at 4
+byte 5: damaged at 5
+byte 6: damaged at 6
+byte 7: damaged at 7
+byte 8: damaged at 8
+bytes 9 to 12: damaged at 9
+bytes 13 to 24: 3 frames, gate at 89
+byte 25: damaged at 25
+bytes 26 to 32: 3 frames, gate at 89
+byte 33: no frame, gate at 33
+bytes 34 to 37: damaged at 34
+bytes 38 to 75: 3 frames, gate at 89
+byte 76: 1 frame, gate at 76
+bytes 77 to 80: damaged at 77
+bytes 81 to 83: 3 frames, gate at 89
+byte 84: 2 frames, gate at 84
+bytes 85 to 88: damaged at 85
+byte 89: 3 frames, gate at 89";
 
 /// What the example's one frame is read as then.
-const FLIPS_OF_ONE: &str = "0: fresh
-1: damaged at 1
-2: damaged at 2
-3: damaged at 3
-4: damaged at 4
-5: damaged at 5
-6: damaged at 6
-7: damaged at 7
-8: damaged at 8
-9 to 12: damaged at 9
-13 to 24: 1 frame, gate at 76
-25: damaged at 25
-26 to 32: 1 frame, gate at 76
-33: no frame, gate at 33
-34 to 37: damaged at 34
-38 to 76: 1 frame, gate at 76";
+const FLIPS_OF_ONE: &str = "byte 0: fresh
+byte 1: damaged at 1
+byte 2: damaged at 2
+byte 3: damaged at 3
+byte 4: damaged at 4
+byte 5: damaged at 5
+byte 6: damaged at 6
+byte 7: damaged at 7
+byte 8: damaged at 8
+bytes 9 to 12: damaged at 9
+bytes 13 to 24: 1 frame, gate at 76
+byte 25: damaged at 25
+bytes 26 to 32: 1 frame, gate at 76
+byte 33: no frame, gate at 33
+bytes 34 to 37: damaged at 34
+bytes 38 to 76: 1 frame, gate at 76";
 
 #[test]
 fn each_prefix_and_each_byte(rt: HostRuntime) {
     let alloc = rt.alloc();
     for offset in 0..90usize {
         let mut bytes = THREE_FRAMES;
-        check_offset(&rt, alloc, "front up to", offset, &bytes[..offset], FRONTS);
+        check_offset(&rt, alloc, "length", offset, &bytes[..offset], FRONTS);
         bytes[offset] = !bytes[offset];
-        check_offset(&rt, alloc, "byte at", offset, &bytes, FLIPS);
+        check_offset(&rt, alloc, "byte", offset, &bytes, FLIPS);
     }
 }
 
@@ -127,7 +124,7 @@ fn each_byte_of_one_frame(rt: HostRuntime) {
         check_offset(
             &rt,
             rt.alloc(),
-            "byte of one at",
+            "byte of one frame",
             offset,
             &bytes,
             FLIPS_OF_ONE,
@@ -136,8 +133,15 @@ fn each_byte_of_one_frame(rt: HostRuntime) {
 }
 
 /// These bytes are read so where this device call fails, with so many syncs and reads.
-fn check_calls(rt: &impl Abort, alloc: Global, case: &str, bytes: &[u8], call: u64, wanted: &str) {
-    let mut site = site_with(rt, alloc, bytes, call);
+fn check_calls(
+    rt: &impl Abort,
+    alloc: Global,
+    case: &str,
+    bytes: &[u8],
+    trouble: Trouble,
+    wanted: &str,
+) {
+    let mut site = site_of(rt, alloc, trouble, Some(bytes));
     let reading = text_of(rt, alloc, read_as(alloc, &mut site, 1, bytes));
     let syncs = site.calls(Kind::Sync);
     let reads = site.calls(Kind::Read);
@@ -147,7 +151,7 @@ fn check_calls(rt: &impl Abort, alloc: Global, case: &str, bytes: &[u8], call: u
 
 /// The example with four other bytes at an offset, what it is read as, and the syncs and reads that this takes. A sync, a length and a read
 /// open a log, and then come a read for each gate and one for each payload. A length that doesn't fit into the file is refused when its gate
-/// is read, and nothing is read behind it. Calls are counted from 0.
+/// is read, and nothing is read behind it.
 const READINGS: &str = "C34E4554 at 0: 1 frame, gate at 76; syncs 1, reads 4
 004E4554 at 0: fresh; syncs 1, reads 1
 174E4554 at 0: fresh; syncs 1, reads 1
@@ -170,21 +174,21 @@ C34E4554 at 0, fault at call 5: fault behind 1 frame; syncs 1, reads 4";
 /// Plays a line of changed bytes.
 fn check_reading(rt: &impl Abort, alloc: Global, line: &str) {
     let (case, wanted) = line.split_once(": ").expect(rt, "a reading");
-    let (change, call) = match case.split_once(", ") {
-        Some((change, fault)) => (change, numbered(rt, fault).1),
-        None => (case, NEVER),
+    let (change, trouble) = match case.split_once(", ") {
+        Some((change, trouble)) => (change, trouble_of(rt, trouble)),
+        None => (case, NO_TROUBLE),
     };
     let (put, at) = numbered(rt, change);
     let put = put.strip_suffix(" at").expect(rt, "bytes");
     let put = u32::from_str_radix(put, 16).expect(rt, "bytes");
-    check_calls(rt, alloc, case, &changed(at, put), call, wanted);
+    check_calls(rt, alloc, case, &changed(at, put), trouble, wanted);
 }
 
 #[test]
 fn readings(rt: HostRuntime) {
     let alloc = rt.alloc();
     let three = "3 frames, gate at 89; syncs 1, reads 8";
-    check_calls(&rt, alloc, "three frames", &THREE_FRAMES, NEVER, three);
+    check_calls(&rt, alloc, "three frames", &THREE_FRAMES, NO_TROUBLE, three);
     for line in READINGS.lines() {
         check_reading(&rt, alloc, line);
     }

@@ -1,10 +1,12 @@
-// Segments, and what they are read as.
+//! Segments, and what they are read as.
+
+use crate::texts::{Told, numbered};
 use commit_log::{FrameError, Header, LogReader, Next, OpenError, open_log};
 use site_memory::{Kind, MemorySite};
 use std::alloc::Global;
 use std::process::Abort;
 
-// The segment with the example's frame, which is client a's request 1: it starts Sum/x with null.
+/// The segment with the example's frame, which is client a's request 1: it starts Sum/x with null.
 pub(crate) const ONE_FRAME: [u8; 77] = [
     0xC3, // the format's gate
     0x4E, 0x45, 0x54, 0x48, 0x4C, 0x4F, 0x47, // NETHLOG
@@ -27,7 +29,7 @@ pub(crate) const ONE_FRAME: [u8; 77] = [
     0x00, // the next gate
 ];
 
-// The example with four other bytes at this offset.
+/// The example with four other bytes at this offset.
 pub(crate) fn changed(at: u64, put: u32) -> [u8; 77] {
     let mut bytes = ONE_FRAME;
     let at = at.min(73) as usize;
@@ -35,7 +37,7 @@ pub(crate) fn changed(at: u64, put: u32) -> [u8; 77] {
     bytes
 }
 
-// The segment with the example's frame, with `NEXT`, and with an empty payload.
+/// The segment with the example's frame, with `NEXT`, and with an empty payload.
 pub(crate) const THREE_FRAMES: [u8; 90] = [
     0xC3, 0x4E, 0x45, 0x54, 0x48, 0x4C, 0x4F, 0x47, 0x01, 0x00, 0x00, 0x00, 0x00, 0x00, 0x00, 0x00,
     0x01, 0x08, 0xF4, 0x4B, 0x07, 0xB5, 0x90, 0x1A, 0x25, 0x00, 0x00, 0x00, 0x00, 0x00, 0x00, 0x00,
@@ -48,46 +50,57 @@ pub(crate) const THREE_FRAMES: [u8; 90] = [
     0x00, // the last gate
 ];
 
-// The payload of the example's frame.
+/// The payload of the example's frame.
 pub(crate) const PAYLOAD: [u8; 38] = [
     0x00, 0x01, 0x00, 0x00, 0x00, 0x00, 0x00, 0x00, 0x00, 0x00, 0x00, 0x00, 0x00, 0x00, 0x00, 0x00,
     0x00, 0x00, 0x00, 0x01, 0x20, 0x03, 0x01, 0x61, 0x01, 0x03, 0x53, 0x75, 0x6D, 0x01, 0x78, 0x10,
     0x00, 0x02, 0x00, 0x00, 0x00, 0x01,
 ];
 
-// The payload of a second frame.
+/// The payload of a second frame.
 pub(crate) const NEXT: [u8; 3] = [0xC3, 0x00, 0xC3];
 
-// The number of no device call.
-pub(crate) const NEVER: u64 = 1000;
+/// The room of a site, and the device call that fails, counted from 0.
+pub(crate) type Trouble = (u64, u64);
 
-// What something comes to: words, and the number behind them where they have one.
-pub(crate) type Told = (&'static str, Option<u64>);
+/// Ample room.
+const ROOM: u64 = 1000;
 
-// An answer that doesn't belong here, and a header or a frame that doesn't stand so in the file.
-pub(crate) const OTHER: Told = ("something else", None);
+/// The number of no device call.
+const NEVER: u64 = 1000;
 
-// What is told, in one text.
-pub(crate) fn text_of(rt: &impl Abort, alloc: Global, told: Told) -> String {
-    let text = match told {
-        (words, Some(number)) => format!(in alloc; "{words} {number}"),
-        (words, None) => String::from_str(alloc, words),
-    };
-    text.expect(rt, "memory")
+pub(crate) const NO_TROUBLE: Trouble = (ROOM, NEVER);
+
+/// What trouble these words tell of.
+pub(crate) fn trouble_of(rt: &impl Abort, words: &str) -> Trouble {
+    let (kind, number) = numbered(rt, words);
+    match kind {
+        "room for" => (number, NEVER),
+        "fault at call" => (ROOM, number),
+        _ => panic!(rt; "no such trouble"),
+    }
 }
 
-// What this case gives is what it is to give. All checks come here, since each assertion has a proof of its own.
-pub(crate) fn same(rt: &impl Abort, case: &str, found: &str, wanted: &str) {
-    assert!(rt; found == wanted, "case {case}: {found}");
-}
+/// An answer that doesn't belong here, and a header or a frame that doesn't stand so in the file.
+const OTHER: Told = ("something else", None);
 
-// A site with this much room, where the device call with this number fails.
-pub(crate) fn site_of(rt: &impl Abort, alloc: Global, room: u64, call: u64) -> MemorySite {
+/// A site with this trouble, whose file 1 holds these bytes if it is made.
+pub(crate) fn site_of(
+    rt: &impl Abort,
+    alloc: Global,
+    trouble: Trouble,
+    bytes: Option<&[u8]>,
+) -> MemorySite {
+    let (room, call) = trouble;
     let fails = vec![in alloc; (Kind::Device, call)].expect(rt, "memory");
-    MemorySite::new(alloc, room, 40, fails).expect(rt, "memory")
+    let mut site = MemorySite::new(alloc, room, 40, fails).expect(rt, "memory");
+    if let Some(bytes) = bytes {
+        site.prepare(1, 0, bytes).expect(rt, "room");
+    }
+    site
 }
 
-// The number that these bytes spell.
+/// The number that these bytes spell.
 fn number(bytes: &[u8]) -> u64 {
     let mut number = 0u64;
     for byte in bytes {
@@ -96,7 +109,7 @@ fn number(bytes: &[u8]) -> u64 {
     number
 }
 
-// Whether these bytes begin with the header.
+/// Whether these bytes begin with the header.
 fn has_header(bytes: &[u8], header: Header) -> bool {
     bytes.len() >= 33
         && bytes.starts_with(b"\xC3NETHLOG\x01")
@@ -105,7 +118,7 @@ fn has_header(bytes: &[u8], header: Header) -> bool {
         && number(&bytes[25..33]) == header.base
 }
 
-// Whether an open gate stands here, and behind it a frame with this payload.
+/// Whether an open gate stands here, and behind it a frame with this payload.
 fn has_frame(bytes: &[u8], gate: u64, payload: &[u8]) -> bool {
     let rest = bytes.get(gate as usize..).unwrap_or(&[]);
     rest.len() >= 5
@@ -113,7 +126,7 @@ fn has_frame(bytes: &[u8], gate: u64, payload: &[u8]) -> bool {
         && rest[5..].starts_with(payload)
 }
 
-// What a log with so many frames is read as, in front of where its closed gate stands.
+/// What a log with so many frames is read as, in front of where its closed gate stands.
 fn log_of(frames: u64) -> &'static str {
     match frames {
         0 => "no frame, gate at",
@@ -124,7 +137,7 @@ fn log_of(frames: u64) -> &'static str {
     }
 }
 
-// What is read where a device call fails behind so many frames.
+/// What is read where a device call fails behind so many frames.
 fn fault_behind(frames: u64) -> &'static str {
     match frames {
         0 => "fault behind no frame",
@@ -133,7 +146,7 @@ fn fault_behind(frames: u64) -> &'static str {
     }
 }
 
-// The reader behind the next frame, or what the file of these bytes is read as, where so many frames stand before.
+/// The reader behind the next frame, or what the file of these bytes is read as, where so many frames stand before.
 fn step(
     alloc: Global,
     site: &mut MemorySite,
@@ -164,7 +177,7 @@ fn step(
     }
 }
 
-// What this file, of these bytes, is read as by partition 0.
+/// What this file, of these bytes, is read as by partition 0.
 pub(crate) fn read_as(alloc: Global, site: &mut MemorySite, file: u32, bytes: &[u8]) -> Told {
     let mut reader = match open_log(site, file, 0) {
         Ok(reader) => reader,
