@@ -1,7 +1,8 @@
 //! What the calls of a transcript leave.
 
 use crate::stores::{FILE, HEADER, LINE};
-use commit_log::{Opened, read_log};
+use crate::texts::numbered;
+use commit_log::{Next, open_log};
 use hub_store::{Ended, Settled};
 use site_memory::MemorySite;
 use site_model::Site;
@@ -58,21 +59,23 @@ fn frames_in(rt: &impl Abort, alloc: Global, site: &MemorySite) -> u64 {
     frames as u64
 }
 
-/// How many frames are read back, with the log that goes on behind them.
-fn frames_of(rt: &impl Abort, found: &Opened) -> u64 {
-    assert!(rt; found.header == HEADER && found.log.gate == 141 && found.payloads.len() == 2);
-    for position in 0..2u8 {
-        let frame = frame_of(position);
-        assert!(rt; found.payloads[usize::from(position)].as_bytes() == &frame[5..]);
-    }
-    found.payloads.len() as u64
-}
-
+/// How many frames are read back, which are of the entries from position 0 on.
 fn frames_read(rt: &impl Abort, alloc: Global, site: &mut MemorySite) -> u64 {
-    let found = read_log(alloc, site, FILE).expect(rt, "a log");
-    let frames = frames_of(rt, &found);
-    drop(found);
-    frames
+    let mut reader = open_log(site, FILE, 0).expect(rt, "a log");
+    let header = reader.header;
+    for position in 0..9u8 {
+        match reader.next(alloc, site).expect(rt, "a frame") {
+            Next::Frame(payload, behind) => {
+                assert!(rt; payload.as_bytes() == &frame_of(position)[5..]);
+                reader = behind;
+            }
+            Next::End(log) => {
+                assert!(rt; header == HEADER && log.gate == 33 + 54 * u64::from(position));
+                return u64::from(position);
+            }
+        }
+    }
+    panic!(rt; "more frames")
 }
 
 /// How many lines were said: the one that can be.
@@ -92,12 +95,6 @@ fn settled_at(rt: &impl Abort, rows: &[Settled], position: usize) -> u64 {
             && row.items.as_slice().len() == 1
     );
     row.at
-}
-
-/// A word and the number behind it.
-pub(crate) fn numbered<'a>(rt: &impl Abort, text: &'a str) -> (&'a str, u64) {
-    let (word, number) = text.rsplit_once(' ').expect(rt, "a number");
-    (word, number.parse().expect(rt, "a number"))
 }
 
 /// The number that a line with this word is to have.

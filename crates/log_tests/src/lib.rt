@@ -1,9 +1,9 @@
-//! Tests of logs and of the store over them, on sites in memory: tables of runs and files, with what each comes to as a number, and
-//! transcripts of the store's calls. A failed row is told by its number, or by an offset, and a line of a transcript by its text. A row
-//! of a table and a line of a text cost no proof.
+//! Tests of logs and of the store over them, on sites in memory, as transcripts: texts with a line for each file, run or call, and what it
+//! gives. A line that fails is told by its text. A text costs no proof.
 //!
-//! - `log_tests`, `reader_tests` and `readings` try `commit_log` and `log_reader`.
+//! - `reader_tests` tries how `commit_log` reads files, `log_tests` how it writes them and what crashes leave, both by `readings`.
 //! - `store_tests` tries `hub_store`, by `stores` and `left`.
+//! - `texts` says what is found in the words of a transcript, and compares it.
 #![tactic(auto)]
 
 #[cfg(test)]
@@ -18,3 +18,5 @@ mod readings;
 mod store_tests;
 #[cfg(test)]
 mod stores;
+#[cfg(test)]
+mod texts;

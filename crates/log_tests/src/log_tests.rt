@@ -1,4 +1,10 @@
-// What calls of a log give, and what a crash leaves of them.
+//! What calls of a log give, and what a crash leaves of them.
+//!
+//! A run has two lines. The first says what file 1 holds, the site's room where it isn't ample or the device call that fails, counted from 0,
+//! what is done, and what that gives. The second has the images that crashes leave of file 1: for each moment from 2 on, since two steps make
+//! it, four letters, with the stable bytes, with all that was written, and with what is torn to bytes 17 and to bytes C3. `-` is a fresh file,
+//! `0` a segment with no frame, `1` one with the example's, and `2` one with that of `NEXT` behind it.
+
 ghost use Rattle.std.specs.Prelude.{◌≡◌, ◌∷◌, OnOk};
 ghost use Rattle.site_model.specs.History.{changes_of, on, synced};
 ghost use Rattle.site_model.specs.Moments.{OnlyFile};
@@ -6,22 +12,17 @@ ghost use Rattle.site_memory.specs.Memory.{memory_history};
 ghost use Rattle.commit_log.specs.States.{Rests};
 
 use crate::readings::{
-    ABSENT, FRESH, NEVER, NEXT, ONE_FRAME, OTHER, PAYLOAD, changed, same, site_of, whole,
+    NEXT, NO_TROUBLE, ONE_FRAME, PAYLOAD, Trouble, changed, read_as, site_of, trouble_of,
 };
-use commit_log::{BodyError, Broken, Header, Reopened, Resting, read_log};
+use crate::stores::HEADER;
+use crate::texts::{Told, same, text_of};
+use commit_log::{BodyError, Broken, Next, Reopened, Resting, open_log};
 use site_memory::{Kept, MemorySite, Pick};
 use site_model::Site;
-use std::alloc::{AllocError, Global};
+use std::alloc::Global;
 use std::process::Abort;
 
-// An empty segment of partition 0 of 1, whose flows file holds `{}`.
-const HEADER: Header = Header {
-    partition: 0,
-    partitions: 1,
-    digest: 0x08F4_4B07_B590_1A25,
-    base: 0,
-};
-
+/// An empty segment of partition 0 of 1, whose flows file holds `{}`.
 const EMPTY: [u8; 34] = [
     0xC3, // the format's gate
     0x4E, 0x45, 0x54, 0x48, 0x4C, 0x4F, 0x47, // NETHLOG
@@ -33,76 +34,82 @@ const EMPTY: [u8; 34] = [
     0x00, // the first gate
 ];
 
-// What a segment with no frame is read as, with the example's, and with `NEXT` behind that.
-const NO_FRAME: u64 = 10_033;
-
-const ONE: u64 = 11_076;
-
-const TWO: u64 = 12_084;
-
 const LIMIT: u64 = 1 << 20;
 
-// 1 if a file holds these bytes, or else 0.
-fn holds(alloc: Global, site: &MemorySite, file: u32, bytes: &[u8]) -> u64 {
-    match site.content(alloc, file) {
-        Ok(content) => (content.as_slice() == bytes) as u64,
-        Err(_) => 0,
-    }
+/// Whether a file holds these bytes.
+fn holds(rt: &impl Abort, alloc: Global, site: &MemorySite, file: u32, bytes: &[u8]) -> bool {
+    let content = site.content(alloc, file).expect(rt, "memory");
+    content.as_slice() == bytes
 }
 
-// Opens this file, whose log rests then.
+/// Opens this file and reads all its frames. The log rests then.
 fn opened(rt: &impl Abort, alloc: Global, site: &mut MemorySite, file: u32) -> Resting
     ensures rests { Rests (changes_of file (memory_history site.new)) result.gate }
     ensures file { result.file ≡ file }
     ensures synced { memory_history site.new ≡ on file synced ∷ memory_history site.old }
 {
-    read_log(alloc, site, file).expect(rt, "a log").log
+    let mut reader = open_log(site, file, 0).expect(rt, "a log");
+    for _ in 0..9u64 {
+        match reader.next(alloc, site).expect(rt, "a frame") {
+            Next::Frame(payload, behind) => {
+                drop(payload);
+                reader = behind;
+            }
+            Next::End(log) => return log,
+        }
+    }
+    panic!(rt; "more frames")
+}
+
+/// The letter of what a file is read as.
+fn letter_of(told: Told) -> char {
+    match told {
+        ("fresh", None) => '-',
+        ("no frame, gate at", Some(33)) => '0',
+        ("1 frame, gate at", Some(76)) => '1',
+        ("2 frames, gate at", Some(84)) => '2',
+        _ => '?',
+    }
 }
 
 const PICKS: [Pick; 4] = [Pick::Stable, Pick::All, Pick::Torn(0x17), Pick::Torn(0xC3)];
 
-// What a letter of a text of images stands for.
-fn reading_of(letter: u8) -> u64 {
-    match letter {
-        b'-' => FRESH,
-        b'0' => NO_FRAME,
-        b'1' => ONE,
-        _ => TWO,
+/// The letter of what a crash at this moment leaves of file 1.
+fn image_of(rt: &impl Abort, alloc: Global, site: &MemorySite, moment: u64, pick: Pick) -> char {
+    let mut image = site.image(alloc, moment, pick).expect(rt, "memory");
+    let content = image.content(alloc, 1).expect(rt, "memory");
+    letter_of(read_as(alloc, &mut image, 1, &content))
+}
+
+/// Adds the letters of this moment.
+fn add_images(rt: &impl Abort, alloc: Global, site: &MemorySite, moment: u64, images: &mut String) {
+    for pick in PICKS {
+        let letter = image_of(rt, alloc, site, moment, pick);
+        images.push(letter).expect(rt, "memory");
     }
 }
 
-// What a crash at this moment leaves of file 1.
-fn image_of(alloc: Global, site: &MemorySite, moment: u64, pick: Pick) -> Result<u64, AllocError> {
-    let mut image = site.image(alloc, moment, pick)?;
-    let content = image.content(alloc, 1)?;
-    Ok(whole(alloc, &mut image, 1, &content))
-}
-
-// What crashes leave in this case: for each moment from 2 on a letter for each pick, and a blank behind them.
-fn check_images(rt: &impl Abort, alloc: Global, site: &MemorySite, case: u64, images: &str) {
-    same(
-        rt,
-        case,
-        site.moment().wrapping_mul(5),
-        images.len() as u64 + 6,
-    );
-    for (i, letter) in images.as_bytes().iter().enumerate() {
-        if *letter != b' ' {
-            let found = image_of(alloc, site, 2 + i as u64 / 5, PICKS[i % 5 % 4]);
-            same(rt, case, found.unwrap_or(OTHER), reading_of(*letter));
+/// The letters of each moment from 2 on, with a blank between two moments.
+fn images_of(rt: &impl Abort, alloc: Global, site: &MemorySite) -> String {
+    let mut images = String::new(alloc);
+    for moment in 2..=site.moment() {
+        if moment > 2 {
+            images.push(' ').expect(rt, "memory");
         }
+        add_images(rt, alloc, site, moment, &mut images);
     }
+    images
 }
 
-// Formats file 1, and says where the gate stands, or 0 after a fault.
-fn format(site: &mut MemorySite) -> u64 {
+/// Formats file 1.
+fn format(site: &mut MemorySite) -> Told {
     match Resting::format(site, 1, HEADER) {
-        Ok(log) => log.gate,
-        Err(_) => 0,
+        Ok(log) => ("gate at", Some(log.gate)),
+        Err(_) => ("fault", None),
     }
 }
 
-// A commit, which stops after so many calls where the log is opened again, or goes to its end.
+/// A commit, which stops after so many calls where the log is opened again, or goes to its end.
 fn commit(
     rt: &impl Abort,
     alloc: Global,
@@ -134,50 +141,60 @@ fn commit(
     Ok(Reopened { log, settled: true })
 }
 
-// Where the log goes on, and a thousand more where the frame is settled.
-fn gate_of(found: Reopened) -> u64 {
-    found.log.gate + if found.settled { 1000 } else { 0 }
+/// What is done after a fault.
+const AGAIN: &str = "commit and open again behind a fault";
+
+/// After how many calls a commit's log is opened again. There are four, and a commit that goes to its end is behind them.
+fn calls_before(rt: &impl Abort, what: &str) -> u64 {
+    match what {
+        "commit and open again behind the body" => 1,
+        "commit and open again behind the sync" => 2,
+        "commit and open again behind the gate" => 3,
+        "commit" => 4,
+        AGAIN => 4,
+        _ => panic!(rt; "no such run"),
+    }
 }
 
-// Opens file 1 and commits. Where the log doesn't go on it is 0.
+/// Opens file 1 and commits.
 fn committed(
     rt: &impl Abort,
     alloc: Global,
     site: &mut MemorySite,
     payload: &[u8],
-    stop: u64,
-) -> u64 {
+    what: &str,
+) -> Told {
     let log = opened(rt, alloc, site, 1);
-    match commit(rt, alloc, site, log, payload, stop) {
-        Ok(found) => gate_of(found),
-        Err(broken) => {
-            if stop != FAULT {
-                return 0;
-            }
-            match broken.reopen(site) {
-                Ok(found) => gate_of(found),
-                Err(_) => 0,
-            }
-        }
+    let mut found = commit(rt, alloc, site, log, payload, calls_before(rt, what));
+    if what == AGAIN {
+        found = match found {
+            Ok(_) => panic!(rt; "no fault"),
+            Err(broken) => broken.reopen(site),
+        };
+    }
+    match found {
+        Ok(found) if found.settled => ("settled, gate at", Some(found.log.gate)),
+        Ok(found) => ("dropped, gate at", Some(found.log.gate)),
+        Err(_) => ("fault", None),
     }
 }
 
-// The file stays as it was where the limit is 77, to which it would come. Where it is 78, the log goes on, up to a gate.
-fn limited(rt: &impl Abort, alloc: Global, site: &mut MemorySite, payload: &[u8]) -> u64 {
+/// The file stays as it was where the limit is 77, to which it would come. Where it is 78, the log goes on, up to a gate.
+fn limited(rt: &impl Abort, alloc: Global, site: &mut MemorySite) -> Told {
     let log = opened(rt, alloc, site, 1);
-    let Err(BodyError::Full { length: 77, log }) = log.body(alloc, site, payload, 77) else {
-        return 0;
+    let Err(BodyError::Full { length: 77, log }) = log.body(alloc, site, &PAYLOAD, 77) else {
+        return ("not full at 77", None);
     };
-    if log.gate != 33 || holds(alloc, site, 1, &EMPTY) == 0 {
-        return 0;
+    if log.gate != 33 || !holds(rt, alloc, site, 1, &EMPTY) {
+        return ("changed by what is refused", None);
     }
-    match log.body(alloc, site, payload, 78) {
-        Ok(log) => log.next,
-        Err(_) => 0,
+    match log.body(alloc, site, &PAYLOAD, 78) {
+        Ok(log) => ("full at 77, then next gate at", Some(log.next)),
+        Err(_) => ("full at 78", None),
     }
 }
 
-// The first byte is closed, and made safe, before the header is written behind it.
+/// The first byte is closed, and made safe, before the header is written behind it.
 fn is_in_order(record: &[Kept]) -> bool {
     record.starts_with(&[
         Kept::Wrote {
@@ -196,26 +213,25 @@ fn is_in_order(record: &[Kept]) -> bool {
     ])
 }
 
-// Formats the file and commits. Opening it takes a step, and a commit four. Gives where the log goes on, or a small number
-// that tells what isn't so.
-fn examples(rt: &impl Abort, alloc: Global, site: &mut MemorySite) -> u64 {
-    if format(site) != 33 || site.moment() != 6 {
-        return 1;
+/// Formats the file and commits. Opening it takes a step, and a commit four.
+fn formatted(rt: &impl Abort, alloc: Global, site: &mut MemorySite) -> Told {
+    let ("gate at", Some(33)) = format(site) else {
+        return ("not formatted", None);
+    };
+    if site.moment() != 6 || !holds(rt, alloc, site, 1, &EMPTY) || !is_in_order(site.record()) {
+        return ("formatted otherwise", None);
     }
-    if holds(alloc, site, 1, &EMPTY) == 0 || !is_in_order(site.record()) {
-        return 2;
+    let told = committed(rt, alloc, site, &PAYLOAD, "commit");
+    if site.moment() != 11 || !holds(rt, alloc, site, 1, &ONE_FRAME) {
+        return ("committed otherwise", None);
     }
-    let gate = committed(rt, alloc, site, &PAYLOAD, END);
-    if site.moment() != 11 || holds(alloc, site, 1, &ONE_FRAME) == 0 {
-        return 3;
+    if letter_of(read_as(alloc, site, 1, &ONE_FRAME)) != '1' {
+        return ("read otherwise", None);
     }
-    if whole(alloc, site, 1, &ONE_FRAME) != ONE {
-        return 4;
-    }
-    gate
+    told
 }
 
-// `NEXT` behind an empty segment.
+/// `NEXT` behind an empty segment.
 const SECOND: [u8; 42] = [
     0xC3, 0x4E, 0x45, 0x54, 0x48, 0x4C, 0x4F, 0x47, 0x01, 0x00, 0x00, 0x00, 0x00, 0x00, 0x00, 0x00,
     0x01, 0x08, 0xF4, 0x4B, 0x07, 0xB5, 0x90, 0x1A, 0x25, 0x00, 0x00, 0x00, 0x00, 0x00, 0x00, 0x00,
@@ -224,182 +240,196 @@ const SECOND: [u8; 42] = [
     0x00, // the last gate
 ];
 
-// Opens file 1 and another such file, and then commits on each. Where the gates stand, that of the first in thousands.
-fn both_committed(rt: &impl Abort, alloc: Global, site: &mut MemorySite) -> u64 {
+/// Opens file 1 and another such file, and then commits on each. The first log goes on behind the example.
+fn both_committed(rt: &impl Abort, alloc: Global, site: &mut MemorySite) -> Told {
     let one = opened(rt, alloc, site, 1);
     let two = opened(rt, alloc, site, 2);
-    match commit(rt, alloc, site, one, &PAYLOAD, END) {
-        Ok(one) => match commit(rt, alloc, site, two, &NEXT, END) {
-            Ok(two) => 1000 * one.log.gate + two.log.gate,
-            Err(_) => 0,
-        },
-        Err(_) => 0,
+    match commit(rt, alloc, site, one, &PAYLOAD, 4) {
+        Ok(one) if one.log.gate == 76 => {}
+        _ => return ("fault", None),
+    }
+    match commit(rt, alloc, site, two, &NEXT, 4) {
+        Ok(two) => ("gates at 76 and", Some(two.log.gate)),
+        Err(_) => ("fault", None),
     }
 }
 
-// The same, with what both files hold then. A small number tells what isn't so.
-fn two_files(rt: &impl Abort, alloc: Global, site: &mut MemorySite) -> u64 {
-    if site.prepare(2, 0, &EMPTY).is_err() {
-        return 1;
+/// The same, with what both files hold then.
+fn two_files(rt: &impl Abort, alloc: Global, site: &mut MemorySite) -> Told {
+    site.prepare(2, 0, &EMPTY).expect(rt, "room");
+    let told = both_committed(rt, alloc, site);
+    if !holds(rt, alloc, site, 1, &ONE_FRAME) || !holds(rt, alloc, site, 2, &SECOND) {
+        return ("committed otherwise", None);
     }
-    let gates = both_committed(rt, alloc, site);
-    if holds(alloc, site, 1, &ONE_FRAME) == 0 || holds(alloc, site, 2, &SECOND) == 0 {
-        return 2;
+    match read_as(alloc, site, 2, &SECOND) {
+        ("1 frame, gate at", Some(41)) => told,
+        _ => ("read otherwise", None),
     }
-    if whole(alloc, site, 2, &SECOND) != 11_041 {
-        return 3;
-    }
-    gates
 }
 
-// What file 1 holds at first: nothing, or the example with or without its frame, or with another first byte.
-const NOTHING: u64 = 0;
-
-const CLOSED: u64 = 1;
-
-const ONE_SEGMENT: u64 = 2;
-
-const NO_SEGMENT: u64 = 3;
-
-// What a run does. A number below is the calls after which the log of a commit is opened again. A commit goes to its end,
-// or its log is opened again after a call that failed. The others do something else.
-const END: u64 = 0;
-
-const FAULT: u64 = 4;
-
-const FORMAT: u64 = 5;
-
-const EXAMPLES: u64 = 6;
-
-const LIMITS: u64 = 7;
-
-const TWO_FILES: u64 = 8;
-
-fn run(rt: &impl Abort, alloc: Global, site: &mut MemorySite, what: u64) -> u64 {
+fn run(rt: &impl Abort, alloc: Global, site: &mut MemorySite, what: &str) -> Told {
     match what {
-        FORMAT => format(site),
-        EXAMPLES => examples(rt, alloc, site),
-        LIMITS => limited(rt, alloc, site, &PAYLOAD),
-        TWO_FILES => two_files(rt, alloc, site),
-        stop => committed(rt, alloc, site, &NEXT, stop),
+        "format" => format(site),
+        "format and commit" => formatted(rt, alloc, site),
+        "commit at two limits" => limited(rt, alloc, site),
+        "commit to two files" => two_files(rt, alloc, site),
+        _ => committed(rt, alloc, site, &NEXT, what),
     }
 }
 
-// Runs by number: what file 1 holds, the site's room, the device call that fails, what is done, and the gate that it gives.
-const RUNS: [[u64; 6]; 39] = [
-    // Two steps made the file. Then: length, write, sync, write, sync, write, sync.
-    [100, NOTHING, 1000, 0, FORMAT, 0],
-    [101, NOTHING, 1000, 1, FORMAT, 0],
-    [102, NOTHING, 1000, 2, FORMAT, 0],
-    [103, NOTHING, 1000, 3, FORMAT, 0],
-    [104, NOTHING, 1000, 4, FORMAT, 0],
-    [105, NOTHING, 1000, 5, FORMAT, 0],
-    [106, NOTHING, 1000, 6, FORMAT, 0],
-    [107, NOTHING, 1000, 7, FORMAT, 33],
-    // length, read, sync, write, sync, write, sync
-    [200, CLOSED, 1000, 0, FORMAT, 0],
-    [201, CLOSED, 1000, 1, FORMAT, 0],
-    [202, CLOSED, 1000, 2, FORMAT, 0],
-    [203, CLOSED, 1000, 3, FORMAT, 0],
-    [204, CLOSED, 1000, 4, FORMAT, 0],
-    [205, CLOSED, 1000, 5, FORMAT, 0],
-    [206, CLOSED, 1000, 6, FORMAT, 0],
-    [207, CLOSED, 1000, 7, FORMAT, 33],
-    // length, read, write, sync, write, sync, write, sync
-    [300, ONE_SEGMENT, 1000, 0, FORMAT, 0],
-    [301, ONE_SEGMENT, 1000, 1, FORMAT, 0],
-    [302, ONE_SEGMENT, 1000, 2, FORMAT, 0],
-    [303, ONE_SEGMENT, 1000, 3, FORMAT, 0],
-    [304, ONE_SEGMENT, 1000, 4, FORMAT, 0],
-    [305, ONE_SEGMENT, 1000, 5, FORMAT, 0],
-    [306, ONE_SEGMENT, 1000, 6, FORMAT, 0],
-    [307, ONE_SEGMENT, 1000, 7, FORMAT, 0],
-    [308, ONE_SEGMENT, 1000, 8, FORMAT, 33],
-    // Opening it took three calls and a step. Then: write, sync, write, sync.
-    [400, ONE_SEGMENT, 1000, 3, END, 0],
-    [401, ONE_SEGMENT, 1000, 4, END, 0],
-    [402, ONE_SEGMENT, 1000, 5, END, 0],
-    [403, ONE_SEGMENT, 1000, 6, END, 0],
-    [404, ONE_SEGMENT, 1000, NEVER, END, 1_084],
-    // The log is opened again, which is a step: after the body, the sync, and the gate.
-    [405, ONE_SEGMENT, 1000, NEVER, 1, 76],
-    [406, ONE_SEGMENT, 1000, NEVER, 2, 76],
-    [407, ONE_SEGMENT, 1000, NEVER, 3, 1_084],
-    // The gate's write failed and stands, or failed for want of room. The body's write failed and stands.
-    [408, ONE_SEGMENT, 1000, 5, FAULT, 1_084],
-    [409, ONE_SEGMENT, 85, NEVER, FAULT, 76],
-    [410, ONE_SEGMENT, 1000, 3, FAULT, 76],
-    // The two examples, the limits, and two files.
-    [500, NOTHING, 1000, ABSENT, EXAMPLES, 1_076],
-    [501, NO_SEGMENT, 1000, NEVER, LIMITS, 76],
-    [502, NO_SEGMENT, 1000, NEVER, TWO_FILES, 76_041],
-];
+/// To format a file takes a length; a read, where it holds more than one byte; a write, unless that byte is closed, and a sync; a write and a
+/// sync for the header, and a write and a sync for the open first byte. To open the example takes a sync, a length and four reads: of its
+/// header, of the gate and the payload of its frame, and of the gate behind. A commit takes a write, a sync, a write and a sync. A write that
+/// fails stands, but not where it fails for want of room.
+const RUNS: &str = "an empty file, fault at call 0; format: fault
+----
 
-// What crashes leave of each run, row by row.
-const IMAGES: [&str; 39] = [
-    // from 100 on
-    "----",
-    "---- ----",
-    "---- ----",
-    "---- ---- ---- ----",
-    "---- ---- ---- ----",
-    "---- ---- ---- ---- ---- -0-0",
-    "---- ---- ---- ---- ---- -0-0",
-    "---- ---- ---- ---- ---- -0-0 0000",
-    // from 200 on
-    "----",
-    "----",
-    "----",
-    "---- ---- ----",
-    "---- ---- ----",
-    "---- ---- ---- ---- -0-0",
-    "---- ---- ---- ---- -0-0",
-    "---- ---- ---- ---- -0-0 0000",
-    // from 300 on
-    "1111",
-    "1111",
-    "1111 1--1",
-    "1111 1--1",
-    "1111 1--1 ---- ----",
-    "1111 1--1 ---- ----",
-    "1111 1--1 ---- ---- ---- -0-0",
-    "1111 1--1 ---- ---- ---- -0-0",
-    "1111 1--1 ---- ---- ---- -0-0 0000",
-    // from 400 on
-    "1111 1111 1111",
-    "1111 1111 1111",
-    "1111 1111 1111 1111 1212",
-    "1111 1111 1111 1111 1212",
-    "1111 1111 1111 1111 1212 2222",
-    "1111 1111 1111 1111",
-    "1111 1111 1111 1111 1111",
-    "1111 1111 1111 1111 1212 2222",
-    "1111 1111 1111 1111 1212 2222",
-    "1111 1111 1111 1111 1111",
-    "1111 1111 1111 1111",
-    // from 500 on
-    "---- ---- ---- -0-0 0000 0000 0000 0000 0101 1111 1111",
-    "0000 0000 0000",
-    "0000 0000 0000 0000 0000 0000 0000 0101 1111 1111 1111 1111 1111 1111",
-];
+an empty file, fault at call 1; format: fault
+---- ----
 
-fn check_run(rt: &impl Abort, alloc: Global, row: &[u64; 6], images: &str) {
-    let [case, start, room, call, what, gate] = *row;
+an empty file, fault at call 2; format: fault
+---- ----
+
+an empty file, fault at call 3; format: fault
+---- ---- ---- ----
+
+an empty file, fault at call 4; format: fault
+---- ---- ---- ----
+
+an empty file, fault at call 5; format: fault
+---- ---- ---- ---- ---- -0-0
+
+an empty file, fault at call 6; format: fault
+---- ---- ---- ---- ---- -0-0
+
+an empty file, fault at call 7; format: gate at 33
+---- ---- ---- ---- ---- -0-0 0000
+
+a closed file, fault at call 0; format: fault
+----
+
+a closed file, fault at call 1; format: fault
+----
+
+a closed file, fault at call 2; format: fault
+----
+
+a closed file, fault at call 3; format: fault
+---- ---- ----
+
+a closed file, fault at call 4; format: fault
+---- ---- ----
+
+a closed file, fault at call 5; format: fault
+---- ---- ---- ---- -0-0
+
+a closed file, fault at call 6; format: fault
+---- ---- ---- ---- -0-0
+
+a closed file, fault at call 7; format: gate at 33
+---- ---- ---- ---- -0-0 0000
+
+the example, fault at call 0; format: fault
+1111
+
+the example, fault at call 1; format: fault
+1111
+
+the example, fault at call 2; format: fault
+1111 1--1
+
+the example, fault at call 3; format: fault
+1111 1--1
+
+the example, fault at call 4; format: fault
+1111 1--1 ---- ----
+
+the example, fault at call 5; format: fault
+1111 1--1 ---- ----
+
+the example, fault at call 6; format: fault
+1111 1--1 ---- ---- ---- -0-0
+
+the example, fault at call 7; format: fault
+1111 1--1 ---- ---- ---- -0-0
+
+the example, fault at call 8; format: gate at 33
+1111 1--1 ---- ---- ---- -0-0 0000
+
+the example, fault at call 6; commit: fault
+1111 1111 1111
+
+the example, fault at call 7; commit: fault
+1111 1111 1111
+
+the example, fault at call 8; commit: fault
+1111 1111 1111 1111 1212
+
+the example, fault at call 9; commit: fault
+1111 1111 1111 1111 1212
+
+the example; commit: settled, gate at 84
+1111 1111 1111 1111 1212 2222
+
+the example; commit and open again behind the body: dropped, gate at 76
+1111 1111 1111 1111
+
+the example; commit and open again behind the sync: dropped, gate at 76
+1111 1111 1111 1111 1111
+
+the example; commit and open again behind the gate: settled, gate at 84
+1111 1111 1111 1111 1212 2222
+
+the example, fault at call 8; commit and open again behind a fault: settled, gate at 84
+1111 1111 1111 1111 1212 2222
+
+the example, room for 85; commit and open again behind a fault: dropped, gate at 76
+1111 1111 1111 1111 1111
+
+the example, fault at call 6; commit and open again behind a fault: dropped, gate at 76
+1111 1111 1111 1111
+
+no file; format and commit: settled, gate at 76
+---- ---- ---- -0-0 0000 0000 0000 0000 0101 1111 1111
+
+an empty segment; commit at two limits: full at 77, then next gate at 76
+0000 0000 0000
+
+an empty segment; commit to two files: gates at 76 and 41
+0000 0000 0000 0000 0000 0000 0000 0101 1111 1111 1111 1111 1111 1111";
+
+/// A site with this trouble, and what file 1 holds at first.
+fn site_at(rt: &impl Abort, alloc: Global, start: &str, trouble: Trouble) -> MemorySite {
     let closed = changed(0, 0x174E_4554);
-    let bytes: &[u8] = match start {
-        NOTHING => &[],
-        CLOSED => &closed,
-        NO_SEGMENT => &EMPTY,
-        _ => &ONE_FRAME,
+    let bytes: Option<&[u8]> = match start {
+        "no file" => None,
+        "an empty file" => Some(&[]),
+        "a closed file" => Some(&closed),
+        "an empty segment" => Some(&EMPTY),
+        "the example" => Some(&ONE_FRAME),
+        _ => panic!(rt; "no such file"),
     };
-    let mut site = site_of(rt, alloc, room, bytes, call);
-    same(rt, case, run(rt, alloc, &mut site, what), gate);
-    check_images(rt, alloc, &site, case, images);
+    site_of(rt, alloc, trouble, bytes)
+}
+
+/// Makes a run, and checks its images.
+fn check_run(rt: &impl Abort, alloc: Global, text: &str) {
+    let (line, images) = text.split_once('\n').expect(rt, "images");
+    let (done, wanted) = line.split_once(": ").expect(rt, "an answer");
+    let (before, what) = done.split_once("; ").expect(rt, "a run");
+    let (start, trouble) = match before.split_once(", ") {
+        Some((start, trouble)) => (start, trouble_of(rt, trouble)),
+        None => (before, NO_TROUBLE),
+    };
+    let mut site = site_at(rt, alloc, start, trouble);
+    let told = text_of(rt, alloc, run(rt, alloc, &mut site, what));
+    same(rt, line, &told, wanted);
+    same(rt, line, &images_of(rt, alloc, &site), images);
 }
 
 #[test]
 fn runs(rt: HostRuntime) {
-    for i in 0..39usize {
-        check_run(&rt, rt.alloc(), &RUNS[i], IMAGES[i]);
+    for text in RUNS.split("\n\n") {
+        check_run(&rt, rt.alloc(), text);
     }
 }

@@ -1,67 +1,119 @@
-// What files are read as, whole and frame by frame.
+//! What files are read as, by a line for each offset or range of offsets, and for each change of the example.
+
 use crate::readings::{
-    ALONE, FRESH, NEVER, NOT_OPENED, ONE_FRAME, STOPS, THREE_FRAMES, by_frames, changed, same,
-    site_of, whole,
+    NO_TROUBLE, ONE_FRAME, THREE_FRAMES, Trouble, changed, read_as, site_of, trouble_of,
 };
+use crate::texts::{numbered, same, text_of};
 use site_memory::Kind;
 use std::alloc::Global;
 use std::process::Abort;
 
-// Reads these bytes frame by frame, and then whole if no device call is to fail. Frame by frame alone their partition is
-// looked at, and is wrong where one of its bytes is turned over. Gives ten for each sync, and one for each read.
-fn check(rt: &impl Abort, alloc: Global, bytes: &[u8], at: usize, call: u64, wanted: u64) -> u64 {
-    let mut site = site_of(rt, alloc, 1000, bytes, call);
-    let by_frame = if 9 <= at && at <= 12 { 9 } else { wanted };
-    same(rt, at as u64, by_frames(alloc, &mut site, bytes), by_frame);
-    if call == NEVER {
-        same(rt, at as u64, whole(alloc, &mut site, 1, bytes), wanted);
-    }
-    site.calls(Kind::Sync)
-        .wrapping_mul(10)
-        .wrapping_add(site.calls(Kind::Read))
+/// Whether an offset is in a range, which is of one, as `byte 33`, or goes from one to another, as `bytes 34 to 37`.
+fn is_in(rt: &impl Abort, offset: u64, range: &str) -> bool {
+    let (words, last) = numbered(rt, range);
+    let first = match words.strip_suffix(" to") {
+        Some(front) => numbered(rt, front).1,
+        None => last,
+    };
+    first <= offset && offset <= last
 }
 
-// What the front of three frames up to each offset is read as.
-const FRONTS: [u64; 90] = [
-    0, 0, 2, 3, 4, 5, 6, 7, 8, 9, 9, 9, 9, 13, 13, 13, 13, 17, 17, 17, 17, 17, 17, 17, 17, 25, 25,
-    25, 25, 25, 25, 25, 25, 33, 34, 34, 34, 34, 34, 34, 34, 34, 34, 34, 34, 34, 34, 34, 34, 34, 34,
-    34, 34, 34, 34, 34, 34, 34, 34, 34, 34, 34, 34, 34, 34, 34, 34, 34, 34, 34, 34, 34, 34, 34, 34,
-    34, 34, 77, 77, 77, 77, 77, 77, 77, 77, 85, 85, 85, 85, 85,
-];
+/// What the line of the range that has this offset says.
+fn line_at<'a>(rt: &impl Abort, lines: &'a str, offset: u64) -> &'a str {
+    for line in lines.lines() {
+        let (range, wanted) = line.split_once(": ").expect(rt, "a range");
+        if is_in(rt, offset, range) {
+            return wanted;
+        }
+    }
+    panic!(rt; "no line has {offset}")
+}
 
-// What three frames are read as where the byte at each offset is turned over.
-const FLIPS: [u64; 90] = [
-    0, 1, 2, 3, 4, 5, 6, 7, 8, 13_089, 13_089, 13_089, 13_089, 13_089, 13_089, 13_089, 13_089,
-    13_089, 13_089, 13_089, 13_089, 13_089, 13_089, 13_089, 13_089, 25, 13_089, 13_089, 13_089,
-    13_089, 13_089, 13_089, 13_089, 10_033, 34, 34, 34, 34, 13_089, 13_089, 13_089, 13_089, 13_089,
-    13_089, 13_089, 13_089, 13_089, 13_089, 13_089, 13_089, 13_089, 13_089, 13_089, 13_089, 13_089,
-    13_089, 13_089, 13_089, 13_089, 13_089, 13_089, 13_089, 13_089, 13_089, 13_089, 13_089, 13_089,
-    13_089, 13_089, 13_089, 13_089, 13_089, 13_089, 13_089, 13_089, 13_089, 11_076, 77, 77, 77, 77,
-    13_089, 13_089, 13_089, 12_084, 85, 85, 85, 85, 13_089,
-];
+/// These bytes are read as the line of this offset says.
+fn check_offset(
+    rt: &impl Abort,
+    alloc: Global,
+    what: &'static str,
+    offset: usize,
+    bytes: &[u8],
+    lines: &str,
+) {
+    let offset = offset as u64;
+    let case = text_of(rt, alloc, (what, Some(offset)));
+    let mut site = site_of(rt, alloc, NO_TROUBLE, Some(bytes));
+    let found = text_of(rt, alloc, read_as(alloc, &mut site, 1, bytes));
+    same(rt, &case, &found, line_at(rt, lines, offset));
+}
 
-// What one frame is read as then.
-const FLIPS_OF_ONE: [u64; 77] = [
-    0, 1, 2, 3, 4, 5, 6, 7, 8, 11_076, 11_076, 11_076, 11_076, 11_076, 11_076, 11_076, 11_076,
-    11_076, 11_076, 11_076, 11_076, 11_076, 11_076, 11_076, 11_076, 25, 11_076, 11_076, 11_076,
-    11_076, 11_076, 11_076, 11_076, 10_033, 34, 34, 34, 34, 11_076, 11_076, 11_076, 11_076, 11_076,
-    11_076, 11_076, 11_076, 11_076, 11_076, 11_076, 11_076, 11_076, 11_076, 11_076, 11_076, 11_076,
-    11_076, 11_076, 11_076, 11_076, 11_076, 11_076, 11_076, 11_076, 11_076, 11_076, 11_076, 11_076,
-    11_076, 11_076, 11_076, 11_076, 11_076, 11_076, 11_076, 11_076, 11_076, 11_076,
-];
+/// What three frames are read as where the file has this length.
+const FRONTS: &str = "lengths 0 to 1: fresh
+length 2: damaged at 2
+length 3: damaged at 3
+length 4: damaged at 4
+length 5: damaged at 5
+length 6: damaged at 6
+length 7: damaged at 7
+length 8: damaged at 8
+lengths 9 to 12: damaged at 9
+lengths 13 to 16: damaged at 13
+lengths 17 to 24: damaged at 17
+lengths 25 to 32: damaged at 25
+length 33: damaged at 33
+lengths 34 to 76: damaged at 34
+lengths 77 to 84: damaged at 77
+lengths 85 to 89: damaged at 85";
 
-// The whole is a read. Frame by frame one read opens the log, two give a frame, and one the end.
+/// What they are read as where the byte at this offset is turned over. Those from 9 to 12 are the partition, which is another's then.
+const FLIPS: &str = "byte 0: fresh
+byte 1: damaged at 1
+byte 2: damaged at 2
+byte 3: damaged at 3
+byte 4: damaged at 4
+byte 5: damaged at 5
+byte 6: damaged at 6
+byte 7: damaged at 7
+byte 8: damaged at 8
+bytes 9 to 12: damaged at 9
+bytes 13 to 24: 3 frames, gate at 89
+byte 25: damaged at 25
+bytes 26 to 32: 3 frames, gate at 89
+byte 33: no frame, gate at 33
+bytes 34 to 37: damaged at 34
+bytes 38 to 75: 3 frames, gate at 89
+byte 76: 1 frame, gate at 76
+bytes 77 to 80: damaged at 77
+bytes 81 to 83: 3 frames, gate at 89
+byte 84: 2 frames, gate at 84
+bytes 85 to 88: damaged at 85
+byte 89: 3 frames, gate at 89";
+
+/// What the example's one frame is read as then.
+const FLIPS_OF_ONE: &str = "byte 0: fresh
+byte 1: damaged at 1
+byte 2: damaged at 2
+byte 3: damaged at 3
+byte 4: damaged at 4
+byte 5: damaged at 5
+byte 6: damaged at 6
+byte 7: damaged at 7
+byte 8: damaged at 8
+bytes 9 to 12: damaged at 9
+bytes 13 to 24: 1 frame, gate at 76
+byte 25: damaged at 25
+bytes 26 to 32: 1 frame, gate at 76
+byte 33: no frame, gate at 33
+bytes 34 to 37: damaged at 34
+bytes 38 to 76: 1 frame, gate at 76";
+
 #[test]
 fn each_prefix_and_each_byte(rt: HostRuntime) {
     let alloc = rt.alloc();
     for offset in 0..90usize {
         let mut bytes = THREE_FRAMES;
-        check(&rt, alloc, &bytes[..offset], offset, NEVER, FRONTS[offset]);
+        check_offset(&rt, alloc, "length", offset, &bytes[..offset], FRONTS);
         bytes[offset] = !bytes[offset];
-        check(&rt, alloc, &bytes, offset, NEVER, FLIPS[offset]);
+        check_offset(&rt, alloc, "byte", offset, &bytes, FLIPS);
     }
-    let calls = check(&rt, alloc, &THREE_FRAMES, 90, NEVER, 13_089);
-    same(&rt, 90, calls, 29);
 }
 
 #[test]
@@ -69,47 +121,75 @@ fn each_byte_of_one_frame(rt: HostRuntime) {
     for offset in 0..77usize {
         let mut bytes = ONE_FRAME;
         bytes[offset] = !bytes[offset];
-        check(&rt, rt.alloc(), &bytes, offset, NEVER, FLIPS_OF_ONE[offset]);
+        check_offset(
+            &rt,
+            rt.alloc(),
+            "byte of one frame",
+            offset,
+            &bytes,
+            FLIPS_OF_ONE,
+        );
     }
 }
 
-// The example with four other bytes at this offset: the device call that fails, what it is read as, and the calls.
-const READINGS: [[u64; 5]; 22] = [
-    [0, 0xC34E_4554, NEVER, 11_076, 25],
-    // A gate that is closed or opened. What follows a closed first byte isn't read but for the first gate's front.
-    [0, 0x004E_4554, NEVER, FRESH, 22],
-    [0, 0x174E_4554, NEVER, FRESH, 22],
-    [33, 0x0000_0000, NEVER, 10_033, 23],
-    [73, 0x0000_01C3, NEVER, 77, 25],
-    // A base position past the last one.
-    [25, 0x8000_0000, NEVER, 25, 22],
-    // A length. One that doesn't fit into the file is refused by its gate's read, and nothing is read behind it.
-    [34, 0x0000_0025, NEVER, 11_075, 25],
-    [34, 0x0000_0027, NEVER, 34, 23],
-    [34, 0x0000_0000, NEVER, 11_038, 25],
-    [34, 0x7F00_0026, NEVER, 34, 23],
-    [34, 0x7FFF_FFFF, NEVER, 34, 23],
-    [34, 0xFFFF_FFFF, NEVER, 34, 23],
-    // No read of the whole counts here.
-    [0, 0x174E_4554, ALONE, FRESH, 11],
-    [34, 0x7FFF_FFFF, ALONE, 34, 12],
-    [34, 0xFFFF_FFFF, ALONE, 34, 12],
-    [34, 0x0000_0027, ALONE, 34, 12],
-    // A sync, a length and a read open a log.
-    [0, 0xC34E_4554, 0, NOT_OPENED, 10],
-    [0, 0xC34E_4554, 1, NOT_OPENED, 10],
-    [0, 0xC34E_4554, 2, NOT_OPENED, 11],
-    [0, 0xC34E_4554, 3, STOPS, 12],
-    [0, 0xC34E_4554, 4, STOPS, 13],
-    [0, 0xC34E_4554, 5, STOPS + 1000, 14],
-];
+/// These bytes are read so where this device call fails, with so many syncs and reads.
+fn check_calls(
+    rt: &impl Abort,
+    alloc: Global,
+    case: &str,
+    bytes: &[u8],
+    trouble: Trouble,
+    wanted: &str,
+) {
+    let mut site = site_of(rt, alloc, trouble, Some(bytes));
+    let reading = text_of(rt, alloc, read_as(alloc, &mut site, 1, bytes));
+    let syncs = site.calls(Kind::Sync);
+    let reads = site.calls(Kind::Read);
+    let found = format!(in alloc; "{reading}; syncs {syncs}, reads {reads}").expect(rt, "memory");
+    same(rt, case, &found, wanted);
+}
 
-// A row is told by its place, from 100 on.
+/// The example with four other bytes at an offset, what it is read as, and the syncs and reads that this takes. A sync, a length and a read
+/// open a log, and then come a read for each gate and one for each payload. A length that doesn't fit into the file is refused when its gate
+/// is read, and nothing is read behind it.
+const READINGS: &str = "C34E4554 at 0: 1 frame, gate at 76; syncs 1, reads 4
+004E4554 at 0: fresh; syncs 1, reads 1
+174E4554 at 0: fresh; syncs 1, reads 1
+00000000 at 33: no frame, gate at 33; syncs 1, reads 2
+000001C3 at 73: damaged at 77; syncs 1, reads 4
+80000000 at 25: damaged at 25; syncs 1, reads 1
+00000025 at 34: 1 frame, gate at 75; syncs 1, reads 4
+00000027 at 34: damaged at 34; syncs 1, reads 2
+00000000 at 34: 1 frame, gate at 38; syncs 1, reads 4
+7F000026 at 34: damaged at 34; syncs 1, reads 2
+7FFFFFFF at 34: damaged at 34; syncs 1, reads 2
+FFFFFFFF at 34: damaged at 34; syncs 1, reads 2
+C34E4554 at 0, fault at call 0: not opened; syncs 1, reads 0
+C34E4554 at 0, fault at call 1: not opened; syncs 1, reads 0
+C34E4554 at 0, fault at call 2: not opened; syncs 1, reads 1
+C34E4554 at 0, fault at call 3: fault behind no frame; syncs 1, reads 2
+C34E4554 at 0, fault at call 4: fault behind no frame; syncs 1, reads 3
+C34E4554 at 0, fault at call 5: fault behind 1 frame; syncs 1, reads 4";
+
+/// Plays a line of changed bytes.
+fn check_reading(rt: &impl Abort, alloc: Global, line: &str) {
+    let (case, wanted) = line.split_once(": ").expect(rt, "a reading");
+    let (change, trouble) = match case.split_once(", ") {
+        Some((change, trouble)) => (change, trouble_of(rt, trouble)),
+        None => (case, NO_TROUBLE),
+    };
+    let (put, at) = numbered(rt, change);
+    let put = put.strip_suffix(" at").expect(rt, "bytes");
+    let put = u32::from_str_radix(put, 16).expect(rt, "bytes");
+    check_calls(rt, alloc, case, &changed(at, put), trouble, wanted);
+}
+
 #[test]
 fn readings(rt: HostRuntime) {
     let alloc = rt.alloc();
-    for (row, [at, put, call, wanted, calls]) in READINGS.iter().enumerate() {
-        let found = check(&rt, alloc, &changed(*at, *put), 100 + row, *call, *wanted);
-        same(&rt, 100 + row as u64, found, *calls);
+    let three = "3 frames, gate at 89; syncs 1, reads 8";
+    check_calls(&rt, alloc, "three frames", &THREE_FRAMES, NO_TROUBLE, three);
+    for line in READINGS.lines() {
+        check_reading(&rt, alloc, line);
     }
 }

@@ -1,11 +1,12 @@
-// Segments, and what they are read as.
-use commit_log::{Header, OpenError as WholeError, Payload, read_log};
-use commit_log::{FrameError, LogReader, Next, OpenError, open_log};
+//! Segments, and what they are read as.
+
+use crate::texts::{Told, numbered};
+use commit_log::{FrameError, Header, LogReader, Next, OpenError, open_log};
 use site_memory::{Kind, MemorySite};
 use std::alloc::Global;
 use std::process::Abort;
 
-// The segment with the example's frame, which is client a's request 1: it starts Sum/x with null.
+/// The segment with the example's frame, which is client a's request 1: it starts Sum/x with null.
 pub(crate) const ONE_FRAME: [u8; 77] = [
     0xC3, // the format's gate
     0x4E, 0x45, 0x54, 0x48, 0x4C, 0x4F, 0x47, // NETHLOG
@@ -28,15 +29,15 @@ pub(crate) const ONE_FRAME: [u8; 77] = [
     0x00, // the next gate
 ];
 
-// The example with four other bytes at this offset.
-pub(crate) fn changed(at: u64, put: u64) -> [u8; 77] {
+/// The example with four other bytes at this offset.
+pub(crate) fn changed(at: u64, put: u32) -> [u8; 77] {
     let mut bytes = ONE_FRAME;
     let at = at.min(73) as usize;
-    bytes[at..at + 4].copy_from_slice(&put.to_be_bytes()[4..]);
+    bytes[at..at + 4].copy_from_slice(&put.to_be_bytes());
     bytes
 }
 
-// The segment with the example's frame, with `NEXT`, and with an empty payload.
+/// The segment with the example's frame, with `NEXT`, and with an empty payload.
 pub(crate) const THREE_FRAMES: [u8; 90] = [
     0xC3, 0x4E, 0x45, 0x54, 0x48, 0x4C, 0x4F, 0x47, 0x01, 0x00, 0x00, 0x00, 0x00, 0x00, 0x00, 0x00,
     0x01, 0x08, 0xF4, 0x4B, 0x07, 0xB5, 0x90, 0x1A, 0x25, 0x00, 0x00, 0x00, 0x00, 0x00, 0x00, 0x00,
@@ -49,62 +50,57 @@ pub(crate) const THREE_FRAMES: [u8; 90] = [
     0x00, // the last gate
 ];
 
-// The payload of the example's frame.
+/// The payload of the example's frame.
 pub(crate) const PAYLOAD: [u8; 38] = [
     0x00, 0x01, 0x00, 0x00, 0x00, 0x00, 0x00, 0x00, 0x00, 0x00, 0x00, 0x00, 0x00, 0x00, 0x00, 0x00,
     0x00, 0x00, 0x00, 0x01, 0x20, 0x03, 0x01, 0x61, 0x01, 0x03, 0x53, 0x75, 0x6D, 0x01, 0x78, 0x10,
     0x00, 0x02, 0x00, 0x00, 0x00, 0x01,
 ];
 
-// The payload of a second frame.
+/// The payload of a second frame.
 pub(crate) const NEXT: [u8; 3] = [0xC3, 0x00, 0xC3];
 
-// The number of no device call.
-pub(crate) const NEVER: u64 = 1000;
+/// The room of a site, and the device call that fails, counted from 0.
+pub(crate) type Trouble = (u64, u64);
 
-// That of none, where a file isn't read whole.
-pub(crate) const ALONE: u64 = 999;
+/// Ample room.
+const ROOM: u64 = 1000;
 
-// That of none, where file 1 isn't made.
-pub(crate) const ABSENT: u64 = 1001;
+/// The number of no device call.
+const NEVER: u64 = 1000;
 
-// What a file is read as is a number: `FRESH`, or else the offset at which it is damaged.
-pub(crate) const FRESH: u64 = 0;
+pub(crate) const NO_TROUBLE: Trouble = (ROOM, NEVER);
 
-// A log adds where its closed gate stands, and a thousand for each frame.
-pub(crate) const LOG: u64 = 10_000;
-
-// A device call fails as the log is opened.
-pub(crate) const NOT_OPENED: u64 = 20_000;
-
-// One fails behind it. Each frame before that adds a thousand.
-pub(crate) const STOPS: u64 = 30_000;
-
-// Any other answer, and a header or a frame that doesn't stand so in the file.
-pub(crate) const OTHER: u64 = 99_999;
-
-// What the case with this number gives. All checks come here, since each assertion has a proof of its own.
-pub(crate) fn same(rt: &impl Abort, case: u64, found: u64, wanted: u64) {
-    assert!(rt; found == wanted, "case {case}: {found}");
+/// What trouble these words tell of.
+pub(crate) fn trouble_of(rt: &impl Abort, words: &str) -> Trouble {
+    let (kind, number) = numbered(rt, words);
+    match kind {
+        "room for" => (number, NEVER),
+        "fault at call" => (ROOM, number),
+        _ => panic!(rt; "no such trouble"),
+    }
 }
 
-// A site with this much room whose file 1 holds these bytes, and where the device call with this number fails.
+/// An answer that doesn't belong here, and a header or a frame that doesn't stand so in the file.
+const OTHER: Told = ("something else", None);
+
+/// A site with this trouble, whose file 1 holds these bytes if it is made.
 pub(crate) fn site_of(
     rt: &impl Abort,
     alloc: Global,
-    room: u64,
-    bytes: &[u8],
-    call: u64,
+    trouble: Trouble,
+    bytes: Option<&[u8]>,
 ) -> MemorySite {
+    let (room, call) = trouble;
     let fails = vec![in alloc; (Kind::Device, call)].expect(rt, "memory");
     let mut site = MemorySite::new(alloc, room, 40, fails).expect(rt, "memory");
-    if call != ABSENT {
+    if let Some(bytes) = bytes {
         site.prepare(1, 0, bytes).expect(rt, "room");
     }
     site
 }
 
-// The number that these bytes spell.
+/// The number that these bytes spell.
 fn number(bytes: &[u8]) -> u64 {
     let mut number = 0u64;
     for byte in bytes {
@@ -113,7 +109,7 @@ fn number(bytes: &[u8]) -> u64 {
     number
 }
 
-// Whether these bytes begin with the header.
+/// Whether these bytes begin with the header.
 fn has_header(bytes: &[u8], header: Header) -> bool {
     bytes.len() >= 33
         && bytes.starts_with(b"\xC3NETHLOG\x01")
@@ -122,7 +118,7 @@ fn has_header(bytes: &[u8], header: Header) -> bool {
         && number(&bytes[25..33]) == header.base
 }
 
-// Whether an open gate stands here, and behind it a frame with this payload.
+/// Whether an open gate stands here, and behind it a frame with this payload.
 fn has_frame(bytes: &[u8], gate: u64, payload: &[u8]) -> bool {
     let rest = bytes.get(gate as usize..).unwrap_or(&[]);
     rest.len() >= 5
@@ -130,42 +126,35 @@ fn has_frame(bytes: &[u8], gate: u64, payload: &[u8]) -> bool {
         && rest[5..].starts_with(payload)
 }
 
-// Where the gate behind these frames stands, or 0 if they don't stand behind the header.
-fn behind_frames(bytes: &[u8], payloads: &[Payload]) -> u64 {
-    let mut gate = 33u64;
-    for payload in payloads {
-        let payload = payload.as_bytes();
-        if !has_frame(bytes, gate, payload) {
-            return 0;
-        }
-        gate = gate.wrapping_add(5 + payload.len() as u64);
-    }
-    gate
-}
-
-// What this file, of these bytes, is read as.
-pub(crate) fn whole(alloc: Global, site: &mut MemorySite, file: u32, bytes: &[u8]) -> u64 {
-    match read_log(alloc, site, file) {
-        Ok(opened) => {
-            let gate = opened.log.gate;
-            if gate != behind_frames(bytes, &opened.payloads) || !has_header(bytes, opened.header) {
-                return OTHER;
-            }
-            LOG + 1000 * (opened.payloads.len() as u64).min(9) + gate
-        }
-        Err(WholeError::Fresh) => FRESH,
-        Err(WholeError::Damaged { file: at, offset }) if at == file => offset,
-        Err(_) => OTHER,
+/// What a log with so many frames is read as, in front of where its closed gate stands.
+fn log_of(frames: u64) -> &'static str {
+    match frames {
+        0 => "no frame, gate at",
+        1 => "1 frame, gate at",
+        2 => "2 frames, gate at",
+        3 => "3 frames, gate at",
+        _ => "more frames, gate at",
     }
 }
 
-// The reader behind the next frame, or what the reading comes to. It is of file 1.
+/// What is read where a device call fails behind so many frames.
+fn fault_behind(frames: u64) -> &'static str {
+    match frames {
+        0 => "fault behind no frame",
+        1 => "fault behind 1 frame",
+        _ => "fault behind more frames",
+    }
+}
+
+/// The reader behind the next frame, or what the file of these bytes is read as, where so many frames stand before.
 fn step(
     alloc: Global,
     site: &mut MemorySite,
     reader: LogReader,
     bytes: &[u8],
-) -> Result<LogReader, u64> {
+    frames: u64,
+) -> Result<LogReader, Told> {
+    let file = reader.file;
     let gate = reader.gate;
     match reader.next(alloc, site) {
         Ok(Next::Frame(payload, next)) => {
@@ -175,29 +164,34 @@ fn step(
                 Err(OTHER)
             }
         }
-        Ok(Next::End(log)) => Err(LOG * log.file as u64 + log.gate),
-        Err(FrameError::Damaged { offset }) => Err(offset),
-        Err(FrameError::SiteFault) => Err(STOPS),
+        Ok(Next::End(log)) => {
+            if log.file == file {
+                Err((log_of(frames), Some(log.gate)))
+            } else {
+                Err(OTHER)
+            }
+        }
+        Err(FrameError::Damaged { offset }) => Err(("damaged at", Some(offset))),
+        Err(FrameError::SiteFault) => Err((fault_behind(frames), None)),
         Err(FrameError::Memory) => Err(OTHER),
     }
 }
 
-// What file 1, of these bytes, is read as, frame by frame.
-pub(crate) fn by_frames(alloc: Global, site: &mut MemorySite, bytes: &[u8]) -> u64 {
-    let mut reader = match open_log(site, 1, 0) {
+/// What this file, of these bytes, is read as by partition 0.
+pub(crate) fn read_as(alloc: Global, site: &mut MemorySite, file: u32, bytes: &[u8]) -> Told {
+    let mut reader = match open_log(site, file, 0) {
         Ok(reader) => reader,
-        Err(OpenError::Fresh) => return FRESH,
-        Err(OpenError::Damaged { offset }) => return offset,
-        Err(OpenError::SiteFault) => return NOT_OPENED,
+        Err(OpenError::Fresh) => return ("fresh", None),
+        Err(OpenError::Damaged { offset }) => return ("damaged at", Some(offset)),
+        Err(OpenError::SiteFault) => return ("not opened", None),
     };
-    if !has_header(bytes, reader.header) {
+    if reader.file != file || !has_header(bytes, reader.header) {
         return OTHER;
     }
-    for count in 0..9u64 {
-        match step(alloc, site, reader, bytes) {
+    for frames in 0..9u64 {
+        match step(alloc, site, reader, bytes, frames) {
             Ok(next) => reader = next,
-            Err(end) if end < LOG => return end,
-            Err(end) => return end.wrapping_add(1000 * count),
+            Err(told) => return told,
         }
     }
     OTHER

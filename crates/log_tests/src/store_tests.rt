@@ -9,8 +9,9 @@ ghost use Rattle.hub_store.specs.Sound.{IsSound};
 ghost use Rattle.hub_store.specs.Trail.{Settled, Said};
 ghost use Rattle.log_tests.specs.Stores.{header, IsGoing};
 
-use crate::left::{check_left, numbered};
+use crate::left::check_left;
 use crate::stores::{begun, call, formatted};
+use crate::texts::numbered;
 use commit_log::Resting;
 use hub_store::{Start, Store};
 use site_memory::{Kind, MemorySite};
