@@ -2,7 +2,8 @@
 //!
 //! It owns the site, what was settled, how far the frame of each partition has come, which requests' answers were said, and
 //! whether a device call failed. Each method makes one device call, and `reopen`, which goes on after one that failed, two. `commit`
-//! makes all of a commit's, one after another. A refusal tells what the store knows of: its log, its disk, its tape, its memory.
+//! makes all of a commit's, one after another. What is refused is refused for a full log, the disk, the tape or want of memory: the
+//! store knows no clock.
 #![tactic(auto)]
 
 mod begin;

@@ -1,7 +1,6 @@
 //! Why a call did nothing, or failed.
 
 ghost use Rattle.std.specs.Prelude.{◌≡◌};
-ghost use Rattle.hub_store.specs.declared.refusal.BodyRefusal.TheVariants.{Memory};
 
 use std::alloc::AllocError;
 
@@ -23,6 +22,16 @@ pub enum SayError {
     Memory,
 }
 
+impl From<AllocError> for SayError {
+    ghost use Rattle.hub_store.specs.declared.refusal.SayError.TheVariants.{Memory};
+
+    ghost from_gives = { λ _ error. error ≡ Memory };
+
+    fn from(_error: AllocError) -> SayError {
+        SayError::Memory
+    }
+}
+
 /// Why no frame was written.
 #[derive(Clone, Copy, Debug, PartialEq, Eq)]
 pub enum BodyRefusal {
@@ -40,6 +49,8 @@ pub enum BodyRefusal {
 }
 
 impl From<AllocError> for BodyRefusal {
+    ghost use Rattle.hub_store.specs.declared.refusal.BodyRefusal.TheVariants.{Memory};
+
     ghost from_gives = { λ _ refusal. refusal ≡ Memory };
 
     fn from(_error: AllocError) -> BodyRefusal {

@@ -41,13 +41,8 @@ impl<V: Site, N: Start> Store<V, N> {
         ensures halted { HasHalted (V.say_faults self.old.site) (V.say_faults self.new.site) self.new.halted }
         ensures disk_faults { V.disk_faults self.new.site ≡ V.disk_faults self.old.site }
     {
-        let client = match copy_of(client) {
-            Ok(client) => client,
-            Err(_) => return Err(SayError::Memory),
-        };
-        if self.told.reserve(1).is_err() {
-            return Err(SayError::Memory);
-        }
+        let client = copy_of(client)?;
+        self.told.reserve(1)?;
         match self.site.say(line) {
             Ok(()) => {
                 self.told.push_reserved(Said { client, number });

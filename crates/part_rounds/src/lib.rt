@@ -5,7 +5,7 @@
 //!   all of it together, and `gathering` tells whether it can be written.
 //! - `committing` takes an entry to the log, and `laws` says of an entry that was filled that it may follow.
 //! - `saying` says what is answered, and `stopping` tells whether something is possible still where there may be no more labels.
-//! - `stop` is why a call ends before all is done: what the store refuses, and what the rounds meet besides.
+//! - `stop` is why a call ends before all is done: a refusal of the store, a fault of the clock, or no number for another entry.
 #![tactic(auto)]
 
 mod coming;
