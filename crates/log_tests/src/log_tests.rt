@@ -1,9 +1,9 @@
 //! What calls of a log give, and what a crash leaves of them.
 //!
-//! A run has two lines. The first says what file 1 holds, the site's room where it isn't ample or the device call that fails, counted from 0,
-//! what is done, and what that gives. The second has the images that crashes leave of file 1: for each moment from 2 on, since two steps make
-//! it, four letters, with the stable bytes, with all that was written, and with what is torn to bytes 17 and to bytes C3. `-` is a fresh file,
-//! `0` a segment with no frame, `1` one with the example's, and `2` one with that of `NEXT` behind it.
+//! A run has two lines. The first says what file 1 holds, the site's room where it isn't ample or the device call that fails, counted
+//! from 0, what is done, and what that gives. The second has the images that crashes leave of file 1: for each moment from 2 on, since two
+//! steps make it, four letters, with the stable bytes, with all that was written, and with what is torn to bytes 17 and to bytes C3. `-` is
+//! a fresh file, `0` a segment with no frame, `1` one with the example's, and `2` one with that of `NEXT` behind it.
 
 ghost use Rattle.std.specs.Prelude.{◌≡◌, ◌∷◌, OnOk};
 ghost use Rattle.site_model.specs.History.{changes_of, on, synced};
@@ -141,17 +141,20 @@ fn commit(
     Ok(Reopened { log, settled: true })
 }
 
-/// What is done after a fault.
+/// The run in which the log is opened again after a fault.
 const AGAIN: &str = "commit and open again behind a fault";
 
-/// After how many calls a commit's log is opened again. There are four, and a commit that goes to its end is behind them.
+/// The calls of a commit.
+const ALL: u64 = 4;
+
+/// After how many calls of a commit its log is opened again, or all where it isn't.
 fn calls_before(rt: &impl Abort, what: &str) -> u64 {
     match what {
         "commit and open again behind the body" => 1,
         "commit and open again behind the sync" => 2,
         "commit and open again behind the gate" => 3,
-        "commit" => 4,
-        AGAIN => 4,
+        "commit" => ALL,
+        AGAIN => ALL,
         _ => panic!(rt; "no such run"),
     }
 }
@@ -244,11 +247,11 @@ const SECOND: [u8; 42] = [
 fn both_committed(rt: &impl Abort, alloc: Global, site: &mut MemorySite) -> Told {
     let one = opened(rt, alloc, site, 1);
     let two = opened(rt, alloc, site, 2);
-    match commit(rt, alloc, site, one, &PAYLOAD, 4) {
+    match commit(rt, alloc, site, one, &PAYLOAD, ALL) {
         Ok(one) if one.log.gate == 76 => {}
         _ => return ("fault", None),
     }
-    match commit(rt, alloc, site, two, &NEXT, 4) {
+    match commit(rt, alloc, site, two, &NEXT, ALL) {
         Ok(two) => ("gates at 76 and", Some(two.log.gate)),
         Err(_) => ("fault", None),
     }
@@ -277,10 +280,10 @@ fn run(rt: &impl Abort, alloc: Global, site: &mut MemorySite, what: &str) -> Tol
     }
 }
 
-/// To format a file takes a length; a read, where it holds more than one byte; a write, unless that byte is closed, and a sync; a write and a
-/// sync for the header, and a write and a sync for the open first byte. To open the example takes a sync, a length and four reads: of its
-/// header, of the gate and the payload of its frame, and of the gate behind. A commit takes a write, a sync, a write and a sync. A write that
-/// fails stands, but not where it fails for want of room.
+/// To format a file takes a length; a read of its first byte, where there are more; a write that closes it, unless it was read closed,
+/// and a sync; a write and a sync for the header; and a write and a sync for the open first byte. To open the example takes a sync, a
+/// length and four reads: of the header, of the gate and the payload of the frame, and of the gate behind it. A commit takes a write, a
+/// sync, a write and a sync. A write that fails stands, but not where it fails for want of room.
 const RUNS: &str = "an empty file, fault at call 0; format: fault
 ----
 

@@ -149,9 +149,9 @@ fn check_calls(
     same(rt, case, &found, wanted);
 }
 
-/// The example with four other bytes at an offset, what it is read as, and the syncs and reads that this takes. A sync, a length and a read
-/// open a log, and then come a read for each gate and one for each payload. A length that doesn't fit into the file is refused when its gate
-/// is read, and nothing is read behind it.
+/// The example with four other bytes at an offset, what it is read as, and the syncs and reads that this takes. A sync, a length and a
+/// read open a log, and then come a read for each gate and one for each payload. A length that doesn't fit into the file is refused when
+/// its gate is read, and nothing is read behind it.
 const READINGS: &str = "C34E4554 at 0: 1 frame, gate at 76; syncs 1, reads 4
 004E4554 at 0: fresh; syncs 1, reads 1
 174E4554 at 0: fresh; syncs 1, reads 1
