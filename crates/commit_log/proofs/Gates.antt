@@ -1,17 +1,11 @@
 -- What stands at a gate.
-use Rattle.std.proofs.Common.{◌≡◌, ◌≢◌, ◌⊎◌, inl, inr, ℕ, ◌+◌, ◌<◌, ◌≤◌, ◌^◌, Bool, true, false, cond, ltb, eqb, List, [], ◌∷◌, ◌++◌, length, take, drop, Result, Ok, Err, refl, sym, ap, subst, ◌∙◌, append_assoc, arith}
-use Rattle.std.specs.List.{flat_map}
+use Rattle.std.proofs.Common.{◌≡◌, ◌≢◌, ◌⊎◌, inl, inr, ℕ, ◌+◌, ◌<◌, ◌≤◌, ◌^◌, Bool, true, false, cond, ltb, eqb, List, [], ◌∷◌, ◌++◌, length, take, drop, Result, Ok, Err, refl, sym, ap, ◌∙◌, append_assoc, arith}
 use Rattle.std.specs.Int.{w32, to_be_bytes}
 use Rattle.std.proofs.lemmas.Bool.{cases_Bool, eqb-false, le-ltb, and_left, and_right}
-use Rattle.std.proofs.lemmas.List.{append-nil, take-append-drop, take_at, drop_at, length-append, length-take}
-use Rattle.std.proofs.lemmas.List.Concat.{flat_map-append}
-use Rattle.site_model.specs.History.{Step, Change, synced, reads, changes_of, Leaves, IsKept, writes_inside}
-use Rattle.site_model.specs.Calls.{Syncs}
-use Rattle.site_model.specs.Moments.{LeavesOnly}
-use Rattle.site_model.proofs.Images.{reads_is_image}
-use Rattle.site_model.proofs.Paths.{one_call}
+use Rattle.std.proofs.lemmas.List.{take-append-drop, take_at, drop_at, length-append, length-take}
+use Rattle.site_model.specs.History.{Change, reads, IsKept}
 use Rattle.commit_log.specs.declared.header.Header.{Header}
-use Rattle.commit_log.specs.Segment.{frame_at, framed, frame_bytes, segment_bytes, header_bytes, open_gate}
+use Rattle.commit_log.specs.Segment.{frame_at, framed, frame_bytes, segment_bytes, open_gate}
 use Rattle.commit_log.specs.States.{IsSegment, IsResting}
 use Rattle.commit_log.specs.Frames.{closed, frame, wrong, found_from, found_at, HasRead}
 use Rattle.commit_log.specs.Fronts.{BeginsFrame}

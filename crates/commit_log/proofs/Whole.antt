@@ -6,7 +6,7 @@ use Rattle.std.proofs.lemmas.List.{take-append-drop, length-append, length-take,
 use Rattle.std.proofs.lemmas.List.Concat.{flat_map-cons}
 use Rattle.std.specs.Int.{w32, to_be_bytes}
 use Rattle.commit_log.specs.declared.header.Header.{Header}
-use Rattle.commit_log.specs.Segment.{◌>>=◌, Reading, segment, told, reading_of, open_gate, header_bytes, framed, frame_bytes, segment_bytes, header_at, frame_at, frames_from, segment_at, first_gate}
+use Rattle.commit_log.specs.Segment.{◌>>=◌, Reading, segment, told, reading_of, open_gate, header_bytes, framed, frame_bytes, frame_at, frames_from, segment_at, first_gate}
 use Rattle.commit_log.specs.Segment as whole
 use Rattle.commit_log.specs.Frames.{closed, wrong, found_from, found_at, HasRead}
 use Rattle.commit_log.proofs.Written.{header_again, frame_again, length-flat}

@@ -1,6 +1,6 @@
 // Appending a payload, call by call.
 ghost use Rattle.std.specs.Prelude.{◌≡◌, ◌+◌, ◌≤◌, ◌<◌, ◌^◌, ◌++◌, [], ◌∷◌, ℕ, List, length, OnOk, IfOk, IfErr, Err};
-ghost use Rattle.site_model.specs.History.{Step, on, wrote, synced, changes_of, content_of};
+ghost use Rattle.site_model.specs.History.{on, wrote, synced, changes_of};
 ghost use Rattle.site_model.specs.Calls.{HasRisen, HasCause, Writes, Syncs};
 ghost use Rattle.site_model.specs.Moments.{LeavesOnly};
 ghost use Rattle.commit_log.specs.declared.header.Header.{Header};

@@ -1,5 +1,5 @@
 // Making a new segment.
-ghost use Rattle.std.specs.Prelude.{◌≡◌, ◌⊎◌, ◌≤◌, ◌<◌, ◌^◌, ◌++◌, [], ◌∷◌, ℕ, List, length, OnOk, IfOk};
+ghost use Rattle.std.specs.Prelude.{◌≡◌, ◌⊎◌, ◌≤◌, ◌<◌, ◌^◌, ◌++◌, [], ◌∷◌, ℕ, length, OnOk, IfOk};
 ghost use Rattle.site_model.specs.History.{changes_of, content_of, IsKept};
 ghost use Rattle.site_model.specs.Calls.{HasCause};
 ghost use Rattle.site_model.specs.Moments.{LeavesOnly};

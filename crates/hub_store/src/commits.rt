@@ -1,6 +1,6 @@
 //! A whole commit: from Ok on each crash leaves the entry.
 
-ghost use Rattle.std.specs.Prelude.{◌≡◌, ◌⊎◌, ◌≤◌, ◌<◌, ℕ, List, [], ◌∷◌, ◌++◌, true, false, Some, Err, IfOk, OnOk, OnErr, length};
+ghost use Rattle.std.specs.Prelude.{◌≡◌, ◌⊎◌, ◌≤◌, ◌<◌, ℕ, List, [], ◌∷◌, ◌++◌, false, Some, Err, IfOk, OnOk, OnErr, length};
 ghost use Rattle.dura_value.specs.Items.{Entry as PlainEntry};
 ghost use Rattle.site_model.specs.Calls.{HasRisen};
 ghost use Rattle.part_items.specs.Plain.{entry_of, entries_of};

@@ -6,7 +6,7 @@ use Rattle.std.proofs.lemmas.Bool.{ltb-true, and_parts}
 use Rattle.std.proofs.lemmas.List.{length-take, drop-drop}
 use Rattle.commit_log.specs.declared.header.Header.{Header}
 use Rattle.commit_log.specs.Segment.{◌>>=◌, open_gate, signature, constant_at, number_at, header_at, frame_at, segment_at, told, fresh, reading_of}
-use Rattle.commit_log.specs.Frames.{Opening, header_for, opening_from, opening_of}
+use Rattle.commit_log.specs.Frames.{header_for, opening_from, opening_of}
 use Rattle.commit_log.specs.Frames as logs
 
 -- both steps of two were made

@@ -2,7 +2,7 @@
 use Rattle.std.proofs.Common.{◌≡◌, ◌==◌, ℕ, Bool, true, false, cond, List, [], Option, Some, None, refl, subst, eqb-true}
 use Rattle.commit_log.specs.declared.header.Header.{Header}
 use Rattle.dura_value.specs.Items.{Entry}
-use Rattle.part_items.specs.Numbered.{Next, IsNumbered}
+use Rattle.part_items.specs.Numbered.{IsNumbered}
 use Rattle.part_items.specs.Kept.{Kept, nothing, broken, keeps, first_of, kept_in}
 use Rattle.part_items.specs.Logs.{Asked, first_next, Refusal, first_log, second_log, base_place, damaged_at, fault_of, same_base, late_base, or_else, the_log, unless, logs_of, logs_in, entries_in}
 use Rattle.part_items.proofs.PayloadsKept.{kept_only}

@@ -4,7 +4,7 @@ use Rattle.std.specs.Prelude.{◌↔◌}
 use Rattle.std.proofs.lemmas.List.{length-drop, drop-drop}
 use Rattle.commit_log.specs.declared.header.Header.{Header}
 use Rattle.commit_log.specs.Segment.{◌>>=◌, open_gate, header_at, frame_at, frames_from, first_gate, segment_at, told, segment, fresh, reading_of}
-use Rattle.commit_log.specs.Frames.{Opening, headed, closed, found_from, header_for, opening_from, opening_of}
+use Rattle.commit_log.specs.Frames.{closed, found_from, header_for, opening_from}
 use Rattle.commit_log.specs.Frames as logs
 use Rattle.dura_value.specs.Items.{Entry}
 use Rattle.part_items.specs.Numbered.{Next, behind_all, next_frame_in}

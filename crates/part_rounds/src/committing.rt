@@ -1,7 +1,6 @@
 //! Committing an entry.
 
 ghost use Rattle.std.specs.Prelude.{◌≡◌, ◌≤◌, ◌+◌, ℕ, [], ◌∷◌, ◌++◌, true, false, Err, IfErr, OnOk, OnErr, length};
-ghost use Rattle.dura_value.specs.Items.{Entry as PlainEntry};
 ghost use Rattle.site_model.specs.Calls.{HasRisen};
 ghost use Rattle.part_items.specs.Plain.{items_of};
 ghost use Rattle.hub_store.specs.Changes.{stage_at, trail_in, told_in};

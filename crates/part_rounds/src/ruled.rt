@@ -1,6 +1,6 @@
 //! The rules that a call goes by.
 
-ghost use Rattle.std.specs.Prelude.{◌≡◌, ℕ, List, map};
+ghost use Rattle.std.specs.Prelude.{◌≡◌, ℕ, List};
 ghost use Rattle.dura_value.specs.Items.{Entry};
 ghost use Rattle.hub_store.specs.Trail.{Settled, Said, of_part};
 ghost use Rattle.part_rounds.specs.Rounds.{pairs_of};

@@ -1,6 +1,5 @@
 // How far the entries of a log were placed.
 ghost use Rattle.std.specs.Prelude.{◌≡◌, []};
-ghost use Rattle.dura_model.specs.Partition.{fresh};
 ghost use Rattle.flow_syntax.specs.Syntax.{Flows};
 ghost use Rattle.recover_core.specs.Progress.{IsReady, IsProgress, position_in};
 

@@ -33,8 +33,7 @@ use Rattle.run_laws.specs.Begins.{BeginsAlone, may_follow, may_say}
 use Rattle.run_laws.specs.Examples.{answering, first_said}
 use Rattle.run_examples.proofs.InOrder.{each_in_order}
 use Rattle.run_rules.specs.Rules.{Rules, Answers}
-use Rattle.site_model.specs.History.{Step, changes_of, tape, back_to, Leaves}
-use Rattle.site_model.specs.Moments.{Always}
+use Rattle.site_model.specs.History.{changes_of, tape, back_to, Leaves}
 use Rattle.site_model.specs.Moments.Always.{begins, goes_on}
 use Rattle.site_model.proofs.Paths.{last}
 

@@ -1,6 +1,6 @@
 //! Examples of how a call goes by its clock: in each all facts hold, or all but one.
 
-ghost use Rattle.std.specs.Prelude.{List, [], ◌∷◌};
+ghost use Rattle.std.specs.Prelude.{[], ◌∷◌};
 ghost use Rattle.dura_model.specs.Partition.{fresh};
 ghost use Rattle.part_items.specs.Examples.{taking};
 ghost use Rattle.run_rules.specs.Examples.{request_taken, later_rules, ending};

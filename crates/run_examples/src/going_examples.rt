@@ -1,6 +1,6 @@
 //! Examples of runs that go on from what their log keeps.
 
-ghost use Rattle.std.specs.Prelude.{◌≡◌, ◌≤◌, ◌+◌, ℕ, slice_set, IsSome, Some, Ok, List, [], ◌∷◌, ◌++◌};
+ghost use Rattle.std.specs.Prelude.{◌≡◌, ◌≤◌, ◌+◌, ℕ, slice_set, IsSome, Some, List, [], ◌∷◌, ◌++◌};
 ghost use Rattle.commit_log.specs.Segment.{segment, reading_of};
 ghost use Rattle.commit_log.specs.declared.header.Header.{Header};
 ghost use Rattle.dura_model.specs.Dependencies.{Founded, names_of};
@@ -13,7 +13,7 @@ ghost use Rattle.engine_run.specs.Job.{Job};
 ghost use Rattle.engine_run.specs.Picks.{rules_with as job_rules};
 ghost use Rattle.flow_syntax.specs.Syntax.{Flows};
 ghost use Rattle.hub_store.specs.Examples.{request, one_log, log_written};
-ghost use Rattle.hub_store.specs.Trail.{Said, Settled};
+ghost use Rattle.hub_store.specs.Trail.{Said};
 ghost use Rattle.part_items.specs.Examples.{digest, two_files, empty_log, taking};
 ghost use Rattle.run_rules.specs.Examples.{request_taken, rules_with};
 ghost use Rattle.part_items.specs.Logs.{logs_in, entries_in, alone_with};

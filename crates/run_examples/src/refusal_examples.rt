@@ -4,9 +4,7 @@ ghost use Rattle.std.specs.Prelude.{◌≡◌, ℕ, List, [], ◌∷◌, None, S
 ghost use Rattle.command_words.specs.declared.words.Call.TheVariants as calls;
 ghost use Rattle.command_words.specs.declared.words.RunOptions.{RunOptions};
 ghost use Rattle.dura_model.specs.Partition.{fresh};
-ghost use Rattle.dura_model.specs.World.{Activity};
-ghost use Rattle.dura_value.specs.declared.outcome.Outcome.{Outcome};
-ghost use Rattle.engine_run.specs.Causes.{AsksFor, CauseHolds, AreRefused, ClashesWithKept, IsReady, IsRefusal, IsLogRefusal, LeavesAll, RefusesLogs, SettlesNothing, Untouched};
+ghost use Rattle.engine_run.specs.Causes.{AsksFor, CauseHolds, AreRefused, IsReady, IsRefusal, IsLogRefusal, LeavesAll, SettlesNothing, Untouched};
 ghost use Rattle.engine_run.specs.Job.{FilesKeep, AreGivenIn};
 ghost use Rattle.engine_run.specs.Kept.{IsClash};
 ghost use Rattle.part_items.specs.Examples.{taking, empty_log};

@@ -1,11 +1,7 @@
-use Rattle.std.proofs.Common.{◌≡◌, true, false, [], ◌∷◌, refl, subst, arith}
-use Rattle.dura_model.specs.Entries.{shown_by}
-use Rattle.dura_model.specs.Legal.{Quiet}
-use Rattle.dura_model.specs.Partition.{Partition, fresh}
-use Rattle.engine_run.specs.Served.{IsLeftAt}
+use Rattle.std.proofs.Common.{◌≡◌, true, false, [], ◌∷◌, refl, arith}
+use Rattle.dura_model.specs.Partition.{fresh}
 use Rattle.hub_store.specs.Moments.SaidSoFar.{silent}
 use Rattle.part_items.specs.Examples.{request}
-use Rattle.run_examples.specs.Calls.{no_flows, rules_for}
 use Rattle.run_examples.proofs.Quiescent.{nothing_left}
 use Rattle.run_examples.proofs.call_examples.runs_end.Goals as goal
 

@@ -1,4 +1,4 @@
-use Rattle.std.proofs.Common.{◌≡◌, true, false, [], ◌∷◌, refl, arith}
+use Rattle.std.proofs.Common.{◌≡◌, true, false, [], ◌∷◌, refl}
 use Rattle.dura_model.specs.Partition.{fresh}
 use Rattle.part_items.specs.Examples.{request}
 use Rattle.run_causes.specs.declared.cause.Cause.TheVariants.{Long}
