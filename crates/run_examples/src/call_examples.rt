@@ -19,7 +19,7 @@ ghost use Rattle.hub_store.specs.Examples.{request as asking, MayFollow, MaySay,
 ghost use Rattle.hub_store.specs.Origin.{Origin};
 ghost use Rattle.hub_store.specs.Trail.{Settled, Said};
 ghost use Rattle.part_items.specs.Examples.{two_files, empty_log, taking};
-ghost use Rattle.run_rules.specs.Examples.{request_taken, told_once};
+ghost use Rattle.run_rules.specs.Examples.{request_taken, told_once, adding};
 ghost use Rattle.dura_model.specs.Entries.{shown_by};
 ghost use Rattle.run_causes.specs.declared.cause.Cause.TheVariants as causes;
 ghost use Rattle.run_causes.specs.declared.cause.FlowsFault.TheVariants as faults;
@@ -136,12 +136,13 @@ pub fn lines_whole()
     ensures failed { SaysWhole MayFollow MaySay nowhere speaking (settled_when 0) [] causes.SayFault }
 {}
 
-/// Where nobody asks all is served, and where who asked was answered; else the first request without an answer is waited for, under its
-/// number, unless another one comes before it.
+/// Where nobody asks all is served, and where who asked was answered, unless an activity is pending; else the first request without an
+/// answer is waited for, under its number, unless another one comes before it.
 pub fn requests_served()
     ensures nobody { IsServed (rules_for []) empty }
     ensures answered { IsServed (rules_for (starting ∷ [])) answered }
     ensures not_answered { IsServed (rules_for (starting ∷ [])) empty → ⊥ }
+    ensures pending { IsServed (rules_for []) (shown_by no_flows adding) → ⊥ }
     ensures waits { IsFirstOpen (rules_for (starting ∷ [])) empty (codes "a") 1 }
     ensures other_number { IsFirstOpen (rules_for (starting ∷ [])) empty (codes "a") 2 → ⊥ }
     ensures another_before { IsFirstOpen (rules_for (starting ∷ asking_too ∷ [])) empty (codes "b") 1 → ⊥ }

@@ -13,6 +13,7 @@ ghost use Rattle.recover_core.specs.Recovering.{both_synced};
 ghost use Rattle.recover_core.specs.declared.error.RecoverError.TheVariants as errors;
 ghost use Rattle.run_causes.specs.declared.cause.Cause.TheVariants as causes;
 ghost use Rattle.run_causes.specs.declared.cause.FlowsFault.TheVariants as faults;
+ghost use Rattle.run_causes.specs.declared.cause.PlanPlace.TheVariants as places;
 ghost use Rattle.run_examples.specs.Calls.{one_asked, waiting, waiting_too, both_taken, settled_once};
 ghost use Rattle.run_examples.specs.Directories.{directory, earlier_log, torn_log};
 ghost use Rattle.run_inputs.specs.Examples.{three_files, good_files, requests_bytes};
@@ -83,6 +84,7 @@ pub fn refusals_touch_nothing()
 pub fn causes_of_files()
     ensures flows { CauseHolds good_files (causes.BadFlows faults.NotJson) → ⊥ }
     ensures requests { CauseHolds good_files (causes.BadRequests 1) → ⊥ }
+    ensures plan { CauseHolds good_files (causes.BadPlan places.Whole) → ⊥ }
     ensures long { CauseHolds good_files (causes.TooLong 0) → ⊥ }
     ensures clash { CauseHolds good_files (causes.Clash (codes "a") 1) → ⊥ }
     ensures damaged { CauseHolds good_files (causes.Damaged 16 0) → ⊥ }

@@ -1,4 +1,4 @@
-use Rattle.std.proofs.Common.{◌≡◌, true, false, [], ◌∷◌, ◌++◌, List, Some, codes, refl, sym, ◌∙◌, ap, subst, arith}
+use Rattle.std.proofs.Common.{◌≡◌, true, false, [], ◌∷◌, ◌++◌, List, Some, None, codes, refl, sym, ◌∙◌, ap, subst, arith}
 use Rattle.std.proofs.lemmas.List.Elements.{All-from_recursion}
 use Rattle.dura_model.specs.Legal.{Quiet, is_due}
 use Rattle.dura_model.specs.Partition.{fresh}
@@ -10,6 +10,7 @@ use Rattle.part_items.specs.Examples.{request}
 use Rattle.dura_model.specs.Entries.{shown_by}
 use Rattle.request_reader.specs.Line.{Request}
 use Rattle.run_examples.specs.Calls.{no_flows, starting, rules_for, answered}
+use Rattle.run_rules.specs.Examples.{summing}
 use Rattle.run_examples.proofs.call_examples.requests_served.Goals as goal
 
 nobody_asks : (before : List Message) (r : Message) (behind : List Message) → [] ≡ before ++ r ∷ behind → ⊥
@@ -57,6 +58,9 @@ returns-clause-not_answered c = λ served. let wrong : false ≡ true = served.a
 
 pub returns-clause-waits : goal.returns-clause-waits
 returns-clause-waits c = waits_for_one
+
+pub returns-clause-pending : goal.returns-clause-pending
+returns-clause-pending c = λ served. let wrong : Some _ ≡ None = served.quiet.finished summing 3 in cc wrong
 
 pub returns-clause-other_number : goal.returns-clause-other_number
 returns-clause-other_number c = λ waits.

@@ -3,6 +3,7 @@ use Rattle.engine_run.specs.Causes.AreRefused.{for_input, for_logs, for_clash}
 use Rattle.recover_core.specs.declared.error.RecoverError.TheVariants as errors
 use Rattle.run_causes.specs.declared.cause.Cause.TheVariants as causes
 use Rattle.run_causes.specs.declared.cause.FlowsFault.TheVariants as faults
+use Rattle.run_causes.specs.declared.cause.PlanPlace.TheVariants as places
 use Rattle.run_examples.proofs.Ready.{ready, refused_logs, not_ready}
 use Rattle.run_examples.proofs.refusal_examples.causes_of_files.Goals as goal
 
@@ -11,6 +12,9 @@ returns-clause-flows c = λ is. not_ready _ (for_input (causes.BadFlows faults.N
 
 pub returns-clause-requests : goal.returns-clause-requests
 returns-clause-requests c = λ is. not_ready _ (for_input (causes.BadRequests 1) is) ready
+
+pub returns-clause-plan : goal.returns-clause-plan
+returns-clause-plan c = λ is. not_ready _ (for_input (causes.BadPlan places.Whole) is) ready
 
 pub returns-clause-long : goal.returns-clause-long
 returns-clause-long c = λ is. not_ready _ (for_input (causes.TooLong 0) is) ready
