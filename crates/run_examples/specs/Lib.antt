@@ -4,4 +4,5 @@ pub mod Directories
 pub mod Ending
 pub mod Going
 pub mod LivesSeen
+pub mod Promised
 pub mod States

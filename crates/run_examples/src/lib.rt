@@ -4,7 +4,8 @@
 //! - `state_examples`: definitions of a partition's state (`part_steps`).
 //! - `call_examples`: those of the call (`engine_run`); `refusal_examples`: what its files held, and why they are refused;
 //!   `going_examples`: runs that go on,
-//!   `clock_examples`: by their clock, and `ending_examples`: to their end; `life_examples`: calls one after another; `show_examples`: what a call shows.
+//!   `clock_examples`: by their clock, and `ending_examples`: to their end; `life_examples`: calls one after another; `show_examples`: what a call shows;
+//!   `promise_examples`: the list of all that it promises.
 #![tactic(auto)]
 
 mod call_examples;
@@ -12,6 +13,7 @@ mod clock_examples;
 mod ending_examples;
 mod going_examples;
 mod life_examples;
+mod promise_examples;
 mod refusal_examples;
 mod show_examples;
 mod state_examples;

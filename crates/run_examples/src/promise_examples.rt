@@ -1,0 +1,43 @@
+//! Examples of what a call promises: in each all facts hold, or all but one.
+
+ghost use Rattle.std.specs.Prelude.{◌≡◌, ℕ, List, [], ◌∷◌, codes, None, Some};
+ghost use Rattle.command_words.specs.Command.{call_in};
+ghost use Rattle.command_words.specs.declared.words.Call.TheVariants as calls;
+ghost use Rattle.command_words.specs.declared.words.RunOptions.{RunOptions};
+ghost use Rattle.dura_model.specs.Partition.{Partition};
+ghost use Rattle.dura_value.specs.Items.{Entry};
+ghost use Rattle.engine_run.specs.Causes.{AsksFor, AreRefused};
+ghost use Rattle.engine_run.specs.Job.{Job, FilesKeep, AreGivenIn};
+ghost use Rattle.engine_run.specs.Promises.{faults_of, FaultsRise};
+ghost use Rattle.run_causes.specs.declared.cause.Cause.TheVariants as causes;
+ghost use Rattle.run_causes.specs.declared.cause.PlanPlace.TheVariants as places;
+ghost use Rattle.run_examples.specs.Calls.{settled_once};
+ghost use Rattle.run_examples.specs.Promised.{Keeps, KeepsUntold};
+ghost use Rattle.site_model.specs.History.{Step, on, synced, wrote, content_of};
+
+/// A call whose words ask for nothing, and that does nothing, keeps all. One doesn't that does something then, or settles something; a run
+/// that ends with a fault of the words, that syncs where the plan is refused, that settles something where the files are refused, or settles
+/// something where they keep entries and the clock was never read; and a `show` that waits for an answer, or that writes.
+pub fn promises_kept()
+    ensures nothing { (words : List (List ℕ)) → call_in words ≡ None → Keeps words [] [] [] causes.Usage }
+    ensures busy { (words : List (List ℕ)) → call_in words ≡ None → Keeps words [] (on 16 synced ∷ []) [] causes.Usage → ⊥ }
+    ensures settled { (words : List (List ℕ)) → call_in words ≡ None → Keeps words [] [] settled_once causes.Usage → ⊥ }
+    ensures usage { (words : List (List ℕ)) (options : RunOptions) → call_in words ≡ Some (calls.Run options) → Keeps words [] [] [] causes.Usage → ⊥ }
+    ensures touched { (words : List (List ℕ)) (options : RunOptions) → call_in words ≡ Some (calls.Run options) → KeepsUntold words [] (on 16 synced ∷ []) [] (causes.BadPlan places.Whole) → ⊥ }
+    ensures refused { (words : List (List ℕ)) (options : RunOptions) (old : List Step) → call_in words ≡ Some (calls.Run options) → AreRefused (λ file. content_of file old) → Keeps words old old settled_once causes.Memory → ⊥ }
+    ensures unread { (words : List (List ℕ)) (options : RunOptions) (old : List Step) (job : Job) (entries : List Entry) (begin : Partition) → call_in words ≡ Some (calls.Run options)
+        → AsksFor (λ file. content_of file old) job → FilesKeep job (λ file. content_of file old) entries begin → AreGivenIn job entries → Keeps words old old settled_once causes.Memory → ⊥ }
+    ensures waiting { (words : List (List ℕ)) (partitions : ℕ) → call_in words ≡ Some (calls.Show partitions) → Keeps words [] [] [] (causes.Waiting (codes "a") 1) → ⊥ }
+    ensures written { (words : List (List ℕ)) (partitions : ℕ) → call_in words ≡ Some (calls.Show partitions) → KeepsUntold words [] (on 16 (wrote 0 1 (0 ∷ [])) ∷ []) [] causes.Memory → ⊥ }
+{}
+
+/// A fault comes where its count rose, and no count falls.
+pub fn faults_risen()
+    ensures risen { FaultsRise causes.SiteFault (faults_of 0 0 0) (faults_of 1 0 0) }
+    ensures disk { FaultsRise causes.SiteFault (faults_of 0 0 0) (faults_of 0 0 0) → ⊥ }
+    ensures tape { FaultsRise causes.SayFault (faults_of 0 0 0) (faults_of 0 0 0) → ⊥ }
+    ensures clock { FaultsRise causes.ClockFault (faults_of 0 0 0) (faults_of 0 0 0) → ⊥ }
+    ensures disk_fell { FaultsRise causes.Done (faults_of 1 0 0) (faults_of 0 0 0) → ⊥ }
+    ensures tape_fell { FaultsRise causes.Done (faults_of 0 1 0) (faults_of 0 0 0) → ⊥ }
+    ensures clock_fell { FaultsRise causes.Done (faults_of 0 0 1) (faults_of 0 0 0) → ⊥ }
+{}
