@@ -25,7 +25,7 @@ impl Resting {
         requires limit { limit ≤ 2 ^ 31 }
         requires rests { V.tells site.old → Rests (changes_of self.file (V.history site.old)) self.gate }
 
-        ensures told { V.tells site.new → V.tells site.old }
+        ensures tells { V.tells site.new → V.tells site.old }
         ensures during { (h : Header) (payloads : List (List ℕ)) → IsResting (changes_of self.file (V.history site.old)) h payloads self.gate
             → LeavesOnly self.file (V.history site.old) (V.history site.new) (HasFrames h payloads self.gate) }
         ensures after { (h : Header) (payloads : List (List ℕ)) → IsResting (changes_of self.file (V.history site.old)) h payloads self.gate
@@ -62,7 +62,7 @@ impl Resting {
 impl Bodied {
     /// Makes the frame safe on the disk.
     pub fn sync_body<V: Site>(self, site: &mut V) -> Result<Synced, Broken>
-        ensures told { V.tells site.new → V.tells site.old }
+        ensures tells { V.tells site.new → V.tells site.old }
         ensures during { (h : Header) (payloads : List (List ℕ)) (payload : List ℕ) → IsBodied (changes_of self.file (V.history site.old)) h payloads payload self.gate self.next
             → LeavesOnly self.file (V.history site.old) (V.history site.new) (HasFrames h payloads self.gate) }
         ensures after { (h : Header) (payloads : List (List ℕ)) (payload : List ℕ) → IsBodied (changes_of self.file (V.history site.old)) h payloads payload self.gate self.next
@@ -86,7 +86,7 @@ impl Synced {
     pub fn gate<V: Site>(self, site: &mut V) -> Result<Gated, Broken>
         requires { V.tells site.old → IsSyncedThere (changes_of self.file (V.history site.old)) self.gate self.next }
 
-        ensures told { V.tells site.new → V.tells site.old }
+        ensures tells { V.tells site.new → V.tells site.old }
         ensures during { (h : Header) (payloads : List (List ℕ)) (payload : List ℕ) → IsSynced (changes_of self.file (V.history site.old)) h payloads payload self.gate self.next
             → LeavesOnly self.file (V.history site.old) (V.history site.new) (HasFramesOrOneMore h payloads payload self.gate self.next) }
         ensures after { (h : Header) (payloads : List (List ℕ)) (payload : List ℕ) → IsSynced (changes_of self.file (V.history site.old)) h payloads payload self.gate self.next
@@ -109,7 +109,7 @@ impl Synced {
 impl Gated {
     /// Makes the open gate safe on the disk. From then on each crash leaves the frame.
     pub fn settle<V: Site>(self, site: &mut V) -> Result<Resting, Broken>
-        ensures told { V.tells site.new → V.tells site.old }
+        ensures tells { V.tells site.new → V.tells site.old }
         ensures during { (h : Header) (payloads : List (List ℕ)) (payload : List ℕ) → IsGated (changes_of self.file (V.history site.old)) h payloads payload self.gate self.next
             → LeavesOnly self.file (V.history site.old) (V.history site.new) (HasFramesOrOneMore h payloads payload self.gate self.next) }
         ensures after { (h : Header) (payloads : List (List ℕ)) (payload : List ℕ) → IsGated (changes_of self.file (V.history site.old)) h payloads payload self.gate self.next

@@ -13,7 +13,7 @@ use site_model::{Failed, Site};
 
 /// Syncs a file, and says how long it is.
 fn synced_length<V: Site>(site: &mut V, file: u32) -> Result<u64, Failed>
-    ensures told { V.tells site.new → V.tells site.old }
+    ensures tells { V.tells site.new → V.tells site.old }
     ensures either { Syncs file (V.history site.old) (V.history site.new) result }
     ensures value { V.tells site.new → IfOk result (λ n. n ≡ length (content_of file (V.history site.old))) }
     ensures cause { HasCause (V.disk_faults site.old) (V.disk_faults site.new) result }
@@ -25,7 +25,7 @@ fn synced_length<V: Site>(site: &mut V, file: u32) -> Result<u64, Failed>
 
 /// The header that stands in the front of a file, by one read.
 fn read_front<V: Site>(site: &mut V, file: u32, partition: u32) -> Result<Header, OpenError>
-    ensures told { V.tells site.new → V.tells site.old }
+    ensures tells { V.tells site.new → V.tells site.old }
     ensures says { V.tells site.new → SaysHeader partition (content_of file (V.history site.old)) result }
     ensures unchanged { V.history site.new ≡ V.history site.old }
     ensures fault { result ≡ Err OpenError.SiteFault → HasRisen (V.disk_faults site.old) (V.disk_faults site.new) }
@@ -41,7 +41,7 @@ fn read_front<V: Site>(site: &mut V, file: u32, partition: u32) -> Result<Header
 
 /// Opens the log of this partition: syncs the file, measures it, and reads its header.
 pub fn open_log<V: Site>(site: &mut V, file: u32, partition: u32) -> Result<LogReader, OpenError>
-    ensures told { V.tells site.new → V.tells site.old }
+    ensures tells { V.tells site.new → V.tells site.old }
     // A crash leaves what it could have left before.
     ensures during { V.tells site.new → LeavesOnly file (V.history site.old) (V.history site.new) (Leaves (changes_of file (V.history site.old))) }
     ensures opens { V.tells site.new → Opens partition (content_of file (V.history site.old)) result }

@@ -19,7 +19,7 @@ const END: u64 = 1 << 31;
 /// The length of the payload behind a gate, or None where it is closed, by one read.
 fn read_gate<V: Site>(site: &mut V, file: u32, gate: u64) -> Result<Option<u32>, FrameError>
     requires { gate + 1 < 2 ^ 31 }
-    ensures told { V.tells site.new → V.tells site.old }
+    ensures tells { V.tells site.new → V.tells site.old }
     ensures says { V.tells site.new → SaysGate gate (drop gate (content_of file (V.history site.old))) result }
     ensures unchanged { V.history site.new ≡ V.history site.old }
     ensures fault { result ≡ Err FrameError.SiteFault → HasRisen (V.disk_faults site.old) (V.disk_faults site.new) }
@@ -42,7 +42,7 @@ fn read_payload<V: Site>(
     payload_len: u32,
 ) -> Result<Payload, FrameError>
     requires { gate + 1 < 2 ^ 31 }
-    ensures told { V.tells site.new → V.tells site.old }
+    ensures tells { V.tells site.new → V.tells site.old }
     ensures says { V.tells site.new → SaysPayload payload_len (drop (gate + 5) (content_of file (V.history site.old))) result }
     ensures whole { IfOk result (λ payload. length payload ≡ payload_len) }
     ensures unchanged { V.history site.new ≡ V.history site.old }
@@ -72,7 +72,7 @@ impl LogReader {
     /// Reads the frame behind the next gate, if that is open, by two reads at most. A length is looked at against the
     /// file's before memory is taken for it.
     pub fn next<V: Site>(self, alloc: Global, site: &mut V) -> Result<Next, FrameError>
-        ensures told { V.tells site.new → V.tells site.old }
+        ensures tells { V.tells site.new → V.tells site.old }
         ensures found { V.tells site.new → self.size ≡ length (content_of self.file (V.history site.old))
             → (payloads : List (List ℕ)) → HasRead (content_of self.file (V.history site.old)) self.header payloads self.gate
             → Goes (content_of self.file (V.history site.old)) self payloads result }

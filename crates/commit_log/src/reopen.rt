@@ -14,7 +14,7 @@ use site_model::{Failed, Site};
 
 /// Syncs a file, and says whether a gate in it reads open.
 fn synced_gate<V: Site>(site: &mut V, file: u32, gate: u64) -> Result<bool, Failed>
-    ensures told { V.tells site.new → V.tells site.old }
+    ensures tells { V.tells site.new → V.tells site.old }
     ensures either { Syncs file (V.history site.old) (V.history site.new) result }
     ensures opened { V.tells site.new → IfOk result (λ is_open. is_open ≡ (slice_index (content_of file (V.history site.old)) gate == open_gate)) }
     ensures cause { HasCause (V.disk_faults site.old) (V.disk_faults site.new) result }
@@ -33,7 +33,7 @@ fn synced_gate<V: Site>(site: &mut V, file: u32, gate: u64) -> Result<bool, Fail
 impl Broken {
     /// Syncs the file and reads the gate. Where it reads open, the log rests behind the frame, else before it.
     pub fn reopen<V: Site>(self, site: &mut V) -> Result<Reopened, Broken>
-        ensures told { V.tells site.new → V.tells site.old }
+        ensures tells { V.tells site.new → V.tells site.old }
         // A crash leaves what it could have left before.
         ensures during { V.tells site.new → LeavesOnly self.file (V.history site.old) (V.history site.new) (Leaves (changes_of self.file (V.history site.old))) }
         ensures after { V.tells site.new → (h : Header) (payloads : List (List ℕ)) (payload : List ℕ) → IsBroken (changes_of self.file (V.history site.old)) h payloads payload self.gate self.next
@@ -63,7 +63,7 @@ impl Broken {
 impl Bodied {
     /// Opens the log again before its frame was synced. The frame is dropped.
     pub fn reopen<V: Site>(self, site: &mut V) -> Result<Reopened, Broken>
-        ensures told { V.tells site.new → V.tells site.old }
+        ensures tells { V.tells site.new → V.tells site.old }
         ensures during { V.tells site.new → LeavesOnly self.file (V.history site.old) (V.history site.new) (Leaves (changes_of self.file (V.history site.old))) }
         ensures dropped { V.tells site.new → (h : Header) (payloads : List (List ℕ)) (payload : List ℕ) → IsBodied (changes_of self.file (V.history site.old)) h payloads payload self.gate self.next
             → AfterDrop (V.history site.new) h payloads payload result }
@@ -82,7 +82,7 @@ impl Bodied {
 impl Synced {
     /// Opens the log again before its gate was opened. The frame is dropped.
     pub fn reopen<V: Site>(self, site: &mut V) -> Result<Reopened, Broken>
-        ensures told { V.tells site.new → V.tells site.old }
+        ensures tells { V.tells site.new → V.tells site.old }
         ensures during { V.tells site.new → LeavesOnly self.file (V.history site.old) (V.history site.new) (Leaves (changes_of self.file (V.history site.old))) }
         ensures dropped { V.tells site.new → (h : Header) (payloads : List (List ℕ)) (payload : List ℕ) → IsSynced (changes_of self.file (V.history site.old)) h payloads payload self.gate self.next
             → AfterDrop (V.history site.new) h payloads payload result }
@@ -101,7 +101,7 @@ impl Synced {
 impl Gated {
     /// Opens the log again before its gate was synced. Where the gate reads open the frame is settled, else dropped.
     pub fn reopen<V: Site>(self, site: &mut V) -> Result<Reopened, Broken>
-        ensures told { V.tells site.new → V.tells site.old }
+        ensures tells { V.tells site.new → V.tells site.old }
         ensures during { V.tells site.new → LeavesOnly self.file (V.history site.old) (V.history site.new) (Leaves (changes_of self.file (V.history site.old))) }
         ensures after { V.tells site.new → (h : Header) (payloads : List (List ℕ)) (payload : List ℕ) → IsGated (changes_of self.file (V.history site.old)) h payloads payload self.gate self.next
             → AfterReopen (V.history site.new) h payloads payload result }

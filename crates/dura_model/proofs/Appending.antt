@@ -6,7 +6,7 @@ use Rattle.dura_value.specs.Reading.{◌>>=◌}
 use Rattle.flow_syntax.specs.Syntax.{Flows}
 use Rattle.dura_model.specs.Partition.{Partition}
 use Rattle.dura_model.specs.Steps.{Label}
-use Rattle.dura_model.specs.Entries.{entry_accepted, or_place, placed, life_behind, next_life, labels_of, labels_in, AllGiven}
+use Rattle.dura_model.specs.Entries.{entry_accepted, or_place, placed, incarnation_behind, next_incarnation, labels_of, labels_in, AllGiven}
 
 -- a state was made, and another one of it
 pub both_placed : {X Y : Type 0} (position : ℕ) (o : Option X) (f : X → Result Y ℕ) (y : Y) → (or_place position o >>= f) ≡ Ok y → (x : X) × (o ≡ Some x) × (f x ≡ Ok y)
@@ -45,9 +45,9 @@ pub labels_both : (a b : List Entry) → labels_in (a ++ b) ≡ labels_in a ++ l
 labels_both [] b = refl
 labels_both (entry ∷ a) b = ap (λ (labels : List Label). labels_of entry.items ++ labels) (labels_both a b) ∙ sym (append_assoc (labels_of entry.items) (labels_in a) (labels_in b))
 
-life_last : (life : ℕ) (entries : List Entry) (last : Entry) → life_behind life (entries ++ last ∷ []) ≡ last.incarnation + 1
-life_last life [] last = refl
-life_last life (entry ∷ entries) last = life_last (entry.incarnation + 1) entries last
+incarnation_last : (incarnation : ℕ) (entries : List Entry) (last : Entry) → incarnation_behind incarnation (entries ++ last ∷ []) ≡ last.incarnation + 1
+incarnation_last incarnation [] last = refl
+incarnation_last incarnation (entry ∷ entries) last = incarnation_last (entry.incarnation + 1) entries last
 
-pub next_life_last : (entries : List Entry) (last : Entry) → next_life (entries ++ last ∷ []) ≡ last.incarnation + 1
-next_life_last = life_last 0
+pub next_incarnation_last : (entries : List Entry) (last : Entry) → next_incarnation (entries ++ last ∷ []) ≡ last.incarnation + 1
+next_incarnation_last = incarnation_last 0

@@ -66,7 +66,7 @@ module _ (count p : ℕ) where
         queue = queued_lives count p q.queue message b.queue (eqb-true (home count message.to) q.number three.1 ∙ b.number);
         outboxes = b.outboxes;
         inboxes = record { others = λ other. others other (source.partition == other) refl; earlier = λ other. earlier other (source.partition == other) };
-        moments = b.moments;
+        stamps = b.stamps;
       }
 
   -- a stream was let go of
@@ -127,11 +127,11 @@ module _ (count p : ℕ) where
           earlier = λ other posted of_it. b.outboxes.earlier other posted (left other posted (target == other) of_it);
         };
         inboxes = b.inboxes;
-        moments = b.moments;
+        stamps = b.stamps;
       }
 
-  entered_behind : (was now life new : ℕ) (entry : Identity) → was ≤ now → life ≤ new → IsBehind p was life entry → IsBehind p now new entry
-  entered_behind was now life new entry later younger is = record { here = is.here; before = omega (arith, later, is.before); alive = omega (arith, younger, is.alive) }
+  entered_behind : (was now incarnation new : ℕ) (entry : Identity) → was ≤ now → incarnation ≤ new → IsBehind p was incarnation entry → IsBehind p now new entry
+  entered_behind was now incarnation new entry later younger is = record { here = is.here; before = omega (arith, later, is.before); alive = omega (arith, younger, is.alive) }
 
   -- an entry begins
   pub enter_belongs : (q : Partition) (incarnation : ℕ) → Belongs count p q → q.incarnation ≤ incarnation → Belongs count p (enter incarnation q)
@@ -149,5 +149,5 @@ module _ (count p : ℕ) where
       others = b.inboxes.others;
       earlier = λ source some. entered_behind q.position (q.position + 1) q.incarnation incarnation (q.inboxes source).reader (omega arith) young (b.inboxes.earlier source some);
     };
-    moments = b.moments;
+    stamps = b.stamps;
   }

@@ -90,7 +90,7 @@ module _ (count p : ℕ) where
         queue = b.queue;
         outboxes = b.outboxes;
         inboxes = b.inboxes;
-        moments = b.moments;
+        stamps = b.stamps;
       }) begun refl refl refl refl
 
   pub answers_follows : (q : Partition) (id : Id) (number : ℕ) (answer : Option Answer) → home count id ≡ p → Belongs count p q → 0 < q.position → Follows q (record q { answers = at_number q.answers id number answer })
@@ -108,7 +108,7 @@ module _ (count p : ℕ) where
         queue = b.queue;
         outboxes = b.outboxes;
         inboxes = b.inboxes;
-        moments = b.moments;
+        stamps = b.stamps;
       }) begun refl refl refl refl
 
   pub activities_follows : (q : Partition) (id : Id) (task : ℕ) (activity : Option Activity) → home count id ≡ p → Belongs count p q → 0 < q.position → Follows q (record q { activities = at_number q.activities id task activity })
@@ -126,7 +126,7 @@ module _ (count p : ℕ) where
         queue = b.queue;
         outboxes = b.outboxes;
         inboxes = b.inboxes;
-        moments = b.moments;
+        stamps = b.stamps;
       }) begun refl refl refl refl
 
   pub timers_follows : (q : Partition) (id : Id) (task : ℕ) (due : Option ℕ) → home count id ≡ p → Belongs count p q → 0 < q.position → Follows q (record q { timers = at_number q.timers id task due })
@@ -144,7 +144,7 @@ module _ (count p : ℕ) where
         queue = b.queue;
         outboxes = b.outboxes;
         inboxes = b.inboxes;
-        moments = b.moments;
+        stamps = b.stamps;
       }) begun refl refl refl refl
 
   pub given_up_follows : (q : Partition) (id : Id) (over : Bool) → Belongs count p q → 0 < q.position → Follows q (given_up_in q id over)
@@ -163,7 +163,7 @@ module _ (count p : ℕ) where
         queue = b.queue;
         outboxes = b.outboxes;
         inboxes = b.inboxes;
-        moments = b.moments;
+        stamps = b.stamps;
       }) begun refl refl refl refl
 
   pub asked_follows : (q : Partition) (id : Id) (list : List Asked) → home count id ≡ p → Belongs count p q → 0 < q.position → Follows q (asked_in q id list)
@@ -177,13 +177,13 @@ module _ (count p : ℕ) where
       let one = timers_follows q id task (Some due) here b begun in
       follows_then q after (asked_in after id more) one (asked_follows after id more here one.belongs one.begun)
 
-  -- ---- moments
+  -- ---- stamps
 
   raised_above : (was stamp : ℕ) (low : Bool) → nat_le was stamp ≡ low → (was ≤ cond low stamp was) × (stamp ≤ cond low stamp was)
   raised_above was stamp true is = (leb-true was stamp is, omega arith)
   raised_above was stamp false is = let high : stamp < was = leb-false was stamp is in (omega arith, omega (arith, high))
 
-  -- the greatest moment is raised, and is then no less than this
+  -- the greatest stamp is raised, and is then no less than this
   pub raised_follows : (q : Partition) (stamp : ℕ) → Belongs count p q → 0 < q.position → Follows q (raised_to stamp q) × (stamp ≤ (raised_to stamp q).stamp)
   raised_follows q stamp b begun =
       let above = raised_above q.stamp stamp (nat_le q.stamp stamp) refl in
@@ -195,19 +195,19 @@ module _ (count p : ℕ) where
               queue = b.queue;
               outboxes = b.outboxes;
               inboxes = b.inboxes;
-              moments = record {
-                rows = λ id row found. let low = b.moments.rows id row found in omega (arith, low, is);
-                events = λ id row found past of_it. let low = b.moments.events id row found past of_it in omega (arith, low, is);
-                lasts = λ id e found. let low = b.moments.lasts id e found in omega (arith, low, is);
+              stamps = record {
+                rows = λ id row found. let low = b.stamps.rows id row found in omega (arith, low, is);
+                events = λ id row found past of_it. let low = b.stamps.events id row found past of_it in omega (arith, low, is);
+                lasts = λ id e found. let low = b.stamps.lasts id e found in omega (arith, low, is);
               };
             }) begun refl refl refl refl,
         above.1,
       )
 
   -- the events of a row after one more
-  event_moments : (history : List Past) (stamp top : ℕ) (event : Option Event) → ((past : Past) → Contains history past → past.stamp ≤ top) → stamp ≤ top → (past : Past) → Contains (with_event history stamp event) past → past.stamp ≤ top
-  event_moments history stamp top None old low past of_it = old past of_it
-  event_moments history stamp top (Some event) old low past of_it = by (Contains-push_cases history new past of_it)
+  event_stamps : (history : List Past) (stamp top : ℕ) (event : Option Event) → ((past : Past) → Contains history past → past.stamp ≤ top) → stamp ≤ top → (past : Past) → Contains (with_event history stamp event) past → past.stamp ≤ top
+  event_stamps history stamp top None old low past of_it = old past of_it
+  event_stamps history stamp top (Some event) old low past of_it = by (Contains-push_cases history new past of_it)
     where
       new : Past
       new = record { event = event; stamp = stamp }
@@ -216,9 +216,9 @@ module _ (count p : ℕ) where
       by (inl before) = old past before
       by (inr is) = subst (λ (one : Past). one.stamp ≤ top) is low
 
-  history_moments : (top : ℕ) (row : Option Row) → ((one : Row) → row ≡ Some one → (past : Past) → Contains one.history past → past.stamp ≤ top) → (past : Past) → Contains (history_of row) past → past.stamp ≤ top
-  history_moments top None old past of_it = absurd (let none : of_it.0 < 0 = of_it.1 in omega (arith, none))
-  history_moments top (Some row) old past of_it = old row refl past of_it
+  history_stamps : (top : ℕ) (row : Option Row) → ((one : Row) → row ≡ Some one → (past : Past) → Contains one.history past → past.stamp ≤ top) → (past : Past) → Contains (history_of row) past → past.stamp ≤ top
+  history_stamps top None old past of_it = absurd (let none : of_it.0 < 0 = of_it.1 in omega (arith, none))
+  history_stamps top (Some row) old past of_it = old row refl past of_it
 
   -- an instance's row is another one
   pub row_follows : (q : Partition) (id : Id) (stamp : ℕ) (event : Option Event) (o : Option Orchestration) → home count id ≡ p → Belongs count p q → 0 < q.position → stamp ≤ q.stamp
@@ -237,10 +237,10 @@ module _ (count p : ℕ) where
         queue = b.queue;
         outboxes = b.outboxes;
         inboxes = b.inboxes;
-        moments = record {
+        stamps = record {
           rows = λ other row found. (by other row (id_eq id other) o found).0;
           events = λ other row found. (by other row (id_eq id other) o found).1;
-          lasts = b.moments.lasts;
+          lasts = b.stamps.lasts;
         };
       }) begun refl refl refl refl
     where
@@ -249,8 +249,8 @@ module _ (count p : ℕ) where
       by other row true None found = absurd (cc found)
       by other row true (Some one) found =
           subst (λ (r : Row). (r.stamp ≤ q.stamp) × ((past : Past) → Contains r.history past → past.stamp ≤ q.stamp)) (some_same found)
-          (low, event_moments (history_of (q.instances id)) stamp q.stamp event (history_moments q.stamp (q.instances id) (b.moments.events id)) low)
-      by other row false now found = (b.moments.rows other row found, b.moments.events other row found)
+          (low, event_stamps (history_of (q.instances id)) stamp q.stamp event (history_stamps q.stamp (q.instances id) (b.stamps.events id)) low)
+      by other row false now found = (b.stamps.rows other row found, b.stamps.events other row found)
 
   pub entity_follows : (q : Partition) (id : Id) (e : Entity) → home count id ≡ p → Belongs count p q → 0 < q.position → e.last ≤ q.stamp → Follows q (record q { entities = at_id q.entities id (Some e) })
   entity_follows q id e here b begun low = same_streams q (record q { entities = at_id q.entities id (Some e) })
@@ -267,19 +267,19 @@ module _ (count p : ℕ) where
         queue = b.queue;
         outboxes = b.outboxes;
         inboxes = b.inboxes;
-        moments = record { rows = b.moments.rows; events = b.moments.events; lasts = λ other one found. by other one (id_eq id other) found };
+        stamps = record { rows = b.stamps.rows; events = b.stamps.events; lasts = λ other one found. by other one (id_eq id other) found };
       }) begun refl refl refl refl
     where
       by : (other : Id) (one : Entity) (test : Bool) → cond test (Some e) (q.entities other) ≡ Some one → one.last ≤ q.stamp
       by other one true found = subst (λ (x : Entity). x.last ≤ q.stamp) (some_same found) low
-      by other one false found = b.moments.lasts other one found
+      by other one false found = b.stamps.lasts other one found
 
   -- ---- messages
 
   -- the queue is another one, of messages to receivers here
   pub queue_follows : (q : Partition) (queue : List Message) → Belongs count p q → 0 < q.position → ((message : Message) → Contains queue message → home count message.to ≡ p) → Follows q (record q { queue = queue })
   queue_follows q queue b begun lives = same_streams q (record q { queue = queue })
-      (record { number = b.number; rows = b.rows; queue = lives; outboxes = b.outboxes; inboxes = b.inboxes; moments = b.moments }) begun refl refl refl refl
+      (record { number = b.number; rows = b.rows; queue = lives; outboxes = b.outboxes; inboxes = b.inboxes; stamps = b.stamps }) begun refl refl refl refl
 
   -- one more message in a queue
   pub queued_lives : (queue : List Message) (message : Message) → ((one : Message) → Contains queue one → home count one.to ≡ p) → home count message.to ≡ p → (one : Message) → Contains (queue ++ message ∷ []) one → home count one.to ≡ p
@@ -308,7 +308,7 @@ module _ (count p : ℕ) where
         earlier = λ other one of_it. (holds other one (target == other) refl of_it).2;
       };
       inboxes = b.inboxes;
-      moments = b.moments;
+      stamps = b.stamps;
     };
     begun = begun;
     position = refl;

@@ -25,7 +25,7 @@ use Rattle.dura_model.proofs.Shown.{home_below, dropped_in, silent}
 use Rattle.dura_model.proofs.Belonging.{got_belongs, trim_belongs, enter_belongs}
 use Rattle.dura_model.proofs.Keeping.{Follows, follows_then, taken_follows, answers_follows, activities_follows, timers_follows, raised_follows, entity_follows, queue_follows, queued_lives, post_follows, post_all_follows, stands_follows, without_contained, first_lives}
 
--- an entity that was delivered to is at the moment that it was at
+-- an entity that was delivered to is at the stamp that it was at
 operated_last : (e : Entity) (from to : Id) (argument : _) (reply : Reply) (body : Option Block) → (operated e from to argument reply body).entity.last ≡ e.last
 operated_last e from to argument reply None = refl
 operated_last e from to argument reply (Some body) = refl
@@ -93,7 +93,7 @@ module _ (flows : Flows) (count p : ℕ) where
       let event = resulted task (answer_of outcome) in
       let after = stands_in count less id row.stamp (Some event) (goes_on_from (instance_in flows id row) event row.stamp []) in
       let one = activities_follows count p q id task None here b begun in
-      then_is q after next (follows_then count p q less after one (event_comes less id row row.stamp event below here one.belongs one.begun there (b.moments.rows id row there))) (some_same is)
+      then_is q after next (follows_then count p q less after one (event_comes less id row row.stamp event below here one.belongs one.begun there (b.stamps.rows id row there))) (some_same is)
 
   -- ---- deliveries
 
@@ -121,8 +121,8 @@ module _ (flows : Flows) (count p : ℕ) where
       let d = deliver_to flows was class from to body in
       let noted : Partition = record q { entities = at_id q.entities to (Some d.entity) } in
       let after = post_all count noted d.sent in
-      let moment = entity_last flows was class from to body in
-      let one = entity_follows count p q to d.entity here b begun (omega (arith, moment, low)) in
+      let last_is = entity_last flows was class from to body in
+      let one = entity_follows count p q to d.entity here b begun (omega (arith, stamp, low)) in
       let two = post_all_follows count p noted to d.sent (λ other. home_below count p other below) here (entity_from flows was class from to body) one.belongs one.begun in
       then_is q after next (follows_then count p q noted after one two) (passed (takes e.holder from && nat_le e.last stamp) after next is).1
 
@@ -423,7 +423,7 @@ fresh_belongs count place = record {
     earlier = λ target posted of_it. nothing_in posted of_it;
   };
   inboxes = record { others = λ source. inr refl; earlier = λ source some. absurd (omega (arith, some)) };
-  moments = record { rows = λ id row is. absurd (cc is); events = λ id row is. absurd (cc is); lasts = λ id e is. absurd (cc is) };
+  stamps = record { rows = λ id row is. absurd (cc is); events = λ id row is. absurd (cc is); lasts = λ id e is. absurd (cc is) };
 }
   where
     nothing_in : {X Y : Type 0} (x : X) → Contains [] x → Y

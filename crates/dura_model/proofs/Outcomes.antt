@@ -12,7 +12,7 @@ use Rattle.flow_syntax.specs.Syntax.{Flows, Block}
 use Rattle.flow_syntax.specs.Machine.{Machine, new_machine, Asked, an_activity, a_timer, Resumed, Event, started, resulted, was_raised, fired, was_granted, resume}
 use Rattle.flow_syntax.specs.Entity.{Entity, takes, deliver as deliver_to}
 use Rattle.dura_model.specs.World.{World, Orchestration, Activity, at_id, at_link, at_number, empty}
-use Rattle.dura_model.specs.Deliveries.{Effect, ending, at_end, goes_on_from, begun, flow_of, beginning, to_absent, to_present, is_over, waited, raised_at, result_at, granted_at, at_moment, to_instance, telling}
+use Rattle.dura_model.specs.Deliveries.{Effect, ending, at_end, goes_on_from, begun, flow_of, beginning, to_absent, to_present, is_over, waited, raised_at, result_at, granted_at, at_stamp, to_instance, telling}
 use Rattle.dura_value.specs.Messages.{was_raised as is_raised}
 use Rattle.dura_model.specs.Steps.{Label, take, deliver, finish, fire, sent, asked, given_up, stands_as, is_request, taken, last_of, entity_of, to_entity, answered, to_client, received, delivered, answer_of, finished, timed, step}
 use Rattle.dura_model.specs.Legal.{Legal, after_from, is_finish, finishes}
@@ -106,7 +106,7 @@ present_adds o from to stamp release = adds_same _ _ refl refl
 
 instance_adds : (flows : Flows) (there : Option Orchestration) (from to : Id) (stamp : ℕ) (body : Body) → Adds (tasks_of there) (to_instance flows there from to stamp body)
 instance_adds flows None from to stamp body = absent_adds flows from to stamp body
-instance_adds flows (Some o) from to stamp body = present_adds (at_moment o stamp) from to stamp body
+instance_adds flows (Some o) from to stamp body = present_adds (at_stamp o stamp) from to stamp body
 
 -- ---- worlds
 

@@ -11,7 +11,7 @@ use Rattle.flow_syntax.specs.Machine.{new_machine, Event, started, resulted, was
 use Rattle.flow_syntax.specs.Machine.{fired as timer_fired}
 use Rattle.flow_syntax.specs.Entity.{Entity, takes, deliver as deliver_to}
 use Rattle.dura_model.specs.World.{Orchestration, Activity, at_id, at_number, cleared}
-use Rattle.dura_model.specs.Deliveries.{Effect, ending, at_end, goes_on_from, telling, beginning, flow_of, begun, to_absent, is_over, waited, raised_at, result_at, granted_at, to_present, at_moment, to_instance}
+use Rattle.dura_model.specs.Deliveries.{Effect, ending, at_end, goes_on_from, telling, beginning, flow_of, begun, to_absent, is_over, waited, raised_at, result_at, granted_at, to_present, at_stamp, to_instance}
 use Rattle.dura_model.specs.Steps.{is_request, number_in, entity_of, answer_of}
 use Rattle.dura_model.specs.Partition.{Row, Partition, fresh, instance_in, instance_at, event_of, row_after, raised_to, first_in, without_first, last_in, answered_in, client_received, entity_after, entity_received, received_in, delivered_in, taken_in, ended_in, fired_in, entry_of, with_inbox, with_first, with_posted, post, post_all, asked_in, given_up_in, stands_in, accepted}
 use Rattle.dura_model.specs.Placed.{AreOfInstances}
@@ -121,7 +121,7 @@ Stays row e = is_some e.instance ≡ false → (is_some row ≡ false) × (e.ask
 
 instance_stays : (flows : Flows) (row : Option Row) (from to : Id) (stamp : ℕ) (body : Body) → Stays row (to_instance flows (option_map (instance_in flows to) row) from to stamp body)
 instance_stays flows None from to stamp body away = (refl, absent_asks flows from to stamp body away)
-instance_stays flows (Some row) from to stamp body away = true_false (sym (present_there (at_moment (instance_in flows to row) stamp) from to stamp body) ∙ away)
+instance_stays flows (Some row) from to stamp body away = true_false (sym (present_there (at_stamp (instance_in flows to row) stamp) from to stamp body) ∙ away)
 
 -- ---- states
 

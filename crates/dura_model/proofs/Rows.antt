@@ -8,7 +8,7 @@ use Rattle.dura_value.specs.Messages.{was_raised as is_raised}
 use Rattle.flow_syntax.specs.Syntax.{Flows, Block}
 use Rattle.flow_syntax.specs.Machine.{Machine, new_machine, Event, started, resulted, was_raised, was_granted, resume, Past, replayed}
 use Rattle.dura_model.specs.World.{Orchestration}
-use Rattle.dura_model.specs.Deliveries.{Effect, ending, answering_all, at_end, goes_on_from, refusing, beginning, telling, flow_of, begun, to_absent, is_over, waited, raised_at, result_at, granted_at, to_present, at_moment, to_instance}
+use Rattle.dura_model.specs.Deliveries.{Effect, ending, answering_all, at_end, goes_on_from, refusing, beginning, telling, flow_of, begun, to_absent, is_over, waited, raised_at, result_at, granted_at, to_present, at_stamp, to_instance}
 use Rattle.dura_model.specs.Partition.{Row, instance_in, if_running, start_event, event_of, history_of, row_after}
 use Rattle.dura_model.proofs.Sending.{AllFrom, from_both, resume_keeps}
 
@@ -49,8 +49,8 @@ module _ (flows : Flows) (id : Id) where
   resumed_fits m event stamp row waiting is =
       let r = (resume m event stamp).machine in
       let now : Machine = record r { last = stamp } in
-      let moment : now ≡ r = λ i. record r { last = sym (resume_keeps m event stamp).moment i } in
-      ap (λ (n : Machine). instance_of waiting (record n { last = stamp })) is ∙ ap (instance_of waiting) moment
+      let last_is : now ≡ r = λ i. record r { last = sym (resume_keeps m event stamp).stamp i } in
+      ap (λ (n : Machine). instance_of waiting (record n { last = stamp })) is ∙ ap (instance_of waiting) stamp
     where
       instance_of : List (Id × ℕ) → Machine → Orchestration
       instance_of left n = record { machine = n; waiting = left }
@@ -106,23 +106,23 @@ module _ (flows : Flows) (id : Id) where
   -- ---- a message to an instance that is there
 
   waited_suits : (row : Row) (from : Id) (stamp number : ℕ) (answer : Option Answer)
-      → Suits (Some row) stamp None (waited (at_moment (instance_in flows id row) stamp).machine row.waiting from id number answer)
+      → Suits (Some row) stamp None (waited (at_stamp (instance_in flows id row) stamp).machine row.waiting from id number answer)
   waited_suits row from stamp number None = record { fits = refl; sent = tt }
   waited_suits row from stamp number (Some answer) = record { fits = refl; sent = (refl, tt) }
 
   raised_suits : (row : Row) (from : Id) (stamp : ℕ) (event : List ℕ) (value : Value) (number : ℕ) (over : Bool)
-      → Suits (Some row) stamp (if_running over (was_raised event value)) (raised_at (at_moment (instance_in flows id row) stamp) from id stamp event value number over)
+      → Suits (Some row) stamp (if_running over (was_raised event value)) (raised_at (at_stamp (instance_in flows id row) stamp) from id stamp event value number over)
   raised_suits row from stamp event value number true = record { fits = refl; sent = (refl, tt) }
   raised_suits row from stamp event value number false =
-      goes_on_suits (at_moment (instance_in flows id row) stamp) (was_raised event value) stamp (Some row) (telling id from number is_raised) (row_same row) (refl, tt) (row_after_event row (was_raised event value) stamp)
+      goes_on_suits (at_stamp (instance_in flows id row) stamp) (was_raised event value) stamp (Some row) (telling id from number is_raised) (row_same row) (refl, tt) (row_after_event row (was_raised event value) stamp)
 
   result_suits : (row : Row) (stamp task : ℕ) (answer : Answer) (over : Bool)
-      → Suits (Some row) stamp (if_running over (resulted task answer)) (result_at (at_moment (instance_in flows id row) stamp) stamp task answer over)
+      → Suits (Some row) stamp (if_running over (resulted task answer)) (result_at (at_stamp (instance_in flows id row) stamp) stamp task answer over)
   result_suits row stamp task answer true = record { fits = refl; sent = tt }
   result_suits row stamp task answer false =
-      goes_on_suits (at_moment (instance_in flows id row) stamp) (resulted task answer) stamp (Some row) [] (row_same row) tt (row_after_event row (resulted task answer) stamp)
+      goes_on_suits (at_stamp (instance_in flows id row) stamp) (resulted task answer) stamp (Some row) [] (row_same row) tt (row_after_event row (resulted task answer) stamp)
 
-  granted_suits : (row : Row) (stamp task : ℕ) (over : Bool) → Suits (Some row) stamp (Some (was_granted task)) (granted_at (at_moment (instance_in flows id row) stamp) stamp task over)
+  granted_suits : (row : Row) (stamp task : ℕ) (over : Bool) → Suits (Some row) stamp (Some (was_granted task)) (granted_at (at_stamp (instance_in flows id row) stamp) stamp task over)
   granted_suits row stamp task true =
       let keeps = resume_keeps (instance_in flows id row).machine (was_granted task) stamp in
       record {
@@ -130,10 +130,10 @@ module _ (flows : Flows) (id : Id) where
         sent = subst (λ (i : Id). AllFrom i (resume (instance_in flows id row).machine (was_granted task) stamp).sent) (row_same row) keeps.sent;
       }
   granted_suits row stamp task false =
-      goes_on_suits (at_moment (instance_in flows id row) stamp) (was_granted task) stamp (Some row) [] (row_same row) tt (row_after_event row (was_granted task) stamp)
+      goes_on_suits (at_stamp (instance_in flows id row) stamp) (was_granted task) stamp (Some row) [] (row_same row) tt (row_after_event row (was_granted task) stamp)
 
   present_suits : (row : Row) (from : Id) (stamp : ℕ) (body : Body)
-      → Suits (Some row) stamp (event_of flows (Some (instance_in flows id row)) from id body) (to_present (at_moment (instance_in flows id row) stamp) from id stamp body)
+      → Suits (Some row) stamp (event_of flows (Some (instance_in flows id row)) from id body) (to_present (at_stamp (instance_in flows id row) stamp) from id stamp body)
   present_suits row from stamp (start argument reply) = record { fits = refl; sent = refusing_from id from reply was_there (codes "exists") }
   present_suits row from stamp (query number) = record { fits = refl; sent = (refl, tt) }
   present_suits row from stamp (wait number) = waited_suits row from stamp number (ending (instance_in flows id row).machine.progress)

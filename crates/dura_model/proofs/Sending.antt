@@ -1,4 +1,4 @@
--- A machine stays the instance that it is, at its moment, and all that it sends comes from it.
+-- A machine stays the instance that it is, at its stamp, and all that it sends comes from it.
 use Rattle.std.proofs.Common.{◌≡◌, ◌+◌, ◌==◌, ℕ, zero, suc, length, Bool, true, false, cond, List, [], ◌∷◌, ◌++◌, Option, Some, None, Result, Ok, Err, refl, sym, subst, ◌∙◌}
 use Rattle.std.specs.Prelude.{ℤ, pos, negsuc, codes, nat_lt}
 use Rattle.dura_value.specs.declared.data.Value.{Value}
@@ -21,19 +21,19 @@ pub from_both : (id : Id) (one other : List Message) → AllFrom id one → AllF
 from_both id [] other all also = also
 from_both id (message ∷ messages) other all also = (all.0, from_both id messages other all.1 also)
 
--- the machine is this instance at this moment, and what was sent comes from it
+-- the machine is this instance at this stamp, and what was sent comes from it
 pub record Keeps (id : Id) (last : ℕ) (r : Resumed) : Type 0 where
   pub same : r.machine.id ≡ id
-  pub moment : r.machine.last ≡ last
+  pub stamp : r.machine.last ≡ last
   pub sent : AllFrom id r.sent
 
 keeps_silent : (m : Machine) (rest : List Asked) → Keeps m.id m.last (record { machine = m; sent = []; asked = rest })
-keeps_silent m rest = record { same = refl; moment = refl; sent = tt }
+keeps_silent m rest = record { same = refl; stamp = refl; sent = tt }
 
 keeps_both : (id : Id) (last : ℕ) (before now : Resumed) → Keeps id last before → Keeps before.machine.id before.machine.last now → Keeps id last (and_then before now)
 keeps_both id last before now one two = record {
   same = two.same ∙ one.same;
-  moment = two.moment ∙ one.moment;
+  stamp = two.stamp ∙ one.stamp;
   sent = from_both id before.sent now.sent one.sent (subst (λ (i : Id). AllFrom i now.sent) one.same two.sent);
 }
 
@@ -46,7 +46,7 @@ releasing_from id (spot ∷ set) = (refl, releasing_from id set)
 leaving_keeps : (m : Machine) (section : Section) → Keeps m.id m.last (leaving m section)
 leaving_keeps m outside = keeps_silent m []
 leaving_keeps m (acquiring task set) = keeps_silent m []
-leaving_keeps m (inside set) = record { same = refl; moment = refl; sent = releasing_from m.id set }
+leaving_keeps m (inside set) = record { same = refl; stamp = refl; sent = releasing_from m.id set }
 
 telling_from : (m : Machine) (reply : Reply) (progress : Progress) → AllFrom m.id (telling m reply progress)
 telling_from m to_nobody progress = tt
@@ -59,11 +59,11 @@ telling_from m (to_task number) (failed text) = (refl, tt)
 ended_keeps : (m : Machine) (progress : Progress) → Keeps m.id m.last (ended m progress)
 ended_keeps m progress =
     keeps_both m.id m.last (leaving m m.section) (record { machine = record (leaving m m.section).machine { rest = []; progress = progress }; sent = telling m m.reply progress; asked = [] }) (leaving_keeps m m.section)
-    (record { same = refl; moment = refl; sent = subst (λ (i : Id). AllFrom i (telling m m.reply progress)) (sym (leaving_keeps m m.section).same) (telling_from m m.reply progress) })
+    (record { same = refl; stamp = refl; sent = subst (λ (i : Id). AllFrom i (telling m m.reply progress)) (sym (leaving_keeps m m.section).same) (telling_from m m.reply progress) })
 
 thrown_keeps : (m : Machine) (fault : List ℕ) (rest : List Todo) → Keeps m.id m.last (thrown m fault rest)
 thrown_keeps m fault [] = ended_keeps m (failed fault)
-thrown_keeps m fault (end_try variable handler ∷ rest) = record { same = refl; moment = refl; sent = tt }
+thrown_keeps m fault (end_try variable handler ∷ rest) = record { same = refl; stamp = refl; sent = tt }
 thrown_keeps m fault (unlock ∷ rest) = keeps_both m.id m.last (leaving m m.section) (thrown (leaving m m.section).machine fault rest) (leaving_keeps m m.section) (thrown_keeps (leaving m m.section).machine fault rest)
 thrown_keeps m fault (run statement ∷ rest) = thrown_keeps m fault rest
 thrown_keeps m fault (wait_lock ∷ rest) = thrown_keeps m fault rest
@@ -73,7 +73,7 @@ throws_keeps m fault = thrown_keeps m fault m.rest
 
 -- ---- tasks
 
--- the same instance at the same moment
+-- the same instance at the same stamp
 abbrev IsAlike : Machine → Machine → Type 0
 IsAlike m after = (after.id ≡ m.id) × (after.last ≡ m.last)
 
@@ -107,7 +107,7 @@ by_rule_keeps m true r keeps = keeps
 by_rule_keeps m false r keeps = throws_keeps m _
 
 timer_keeps : (m : Machine) (variable : List ℕ) (due : ℕ) (in_time : Bool) → Keeps m.id m.last (cond in_time (record { machine = with_task (with_handle m variable) (of_timer due); sent = []; asked = a_timer (length m.tasks) due ∷ [] }) (throws m (codes "overflow")))
-timer_keeps m variable due true = record { same = refl; moment = refl; sent = tt }
+timer_keeps m variable due true = record { same = refl; stamp = refl; sent = tt }
 timer_keeps m variable due false = throws_keeps m _
 
 sets_timer_keeps : (m : Machine) (variable : List ℕ) (delay : ℤ) → Keeps m.id m.last (sets_timer m variable delay)
@@ -120,15 +120,15 @@ with_kept_alike m name task (Some value) = arrived_alike (record m { kept = with
 
 listens_keeps : (m : Machine) (variable name : List ℕ) → Keeps m.id m.last (listens m variable name)
 listens_keeps m variable name =
-    let alike = with_kept_alike (with_task (with_handle m variable) (of_event name)) name (length m.tasks) (kept_value name m.kept) in record { same = alike.0; moment = alike.1; sent = tt }
+    let alike = with_kept_alike (with_task (with_handle m variable) (of_event name)) name (length m.tasks) (kept_value name m.kept) in record { same = alike.0; stamp = alike.1; sent = tt }
 
 gets_keeps : (m : Machine) (variable : List ℕ) (outcome : Outcome) → Keeps m.id m.last (gets m variable outcome)
-gets_keeps m variable (outcomes.Done value) = record { same = refl; moment = refl; sent = tt }
+gets_keeps m variable (outcomes.Done value) = record { same = refl; stamp = refl; sent = tt }
 gets_keeps m variable (outcomes.Failed text) = throws_keeps m text
 
 -- one that waits stays as it was
 waiting_keeps : (was m : Machine) → IsAlike m was → Keeps m.id m.last (only was)
-waiting_keeps was m alike = record { same = alike.0; moment = alike.1; sent = tt }
+waiting_keeps was m alike = record { same = alike.0; stamp = alike.1; sent = tt }
 
 awaited_keeps : (was m : Machine) (variable : List ℕ) (arrival : Option Arrival) → IsAlike m was → NextKeeps m (awaited was m variable arrival)
 awaited_keeps was m variable None alike = waiting_keeps was m alike
@@ -136,19 +136,19 @@ awaited_keeps was m variable (Some arrival) alike = gets_keeps m variable arriva
 
 awaited_all_keeps : (was m : Machine) (variable : List ℕ) (results : Option (List Outcome)) → IsAlike m was → NextKeeps m (awaited_all was m variable results)
 awaited_all_keeps was m variable None alike = waiting_keeps was m alike
-awaited_all_keeps was m variable (Some results) alike = having_keeps m (all_values results >>= λ given. to_scalars given >>= list_of) (sets m variable) (λ value. record { same = refl; moment = refl; sent = tt })
+awaited_all_keeps was m variable (Some results) alike = having_keeps m (all_values results >>= λ given. to_scalars given >>= list_of) (sets m variable) (λ value. record { same = refl; stamp = refl; sent = tt })
 
 awaited_any_keeps : (was m : Machine) (variable : List ℕ) (handles : List ℕ) (best : Option Candidate) → IsAlike m was → NextKeeps m (awaited_any was m variable handles best)
 awaited_any_keeps was m variable [] best alike = throws_keeps m _
 awaited_any_keeps was m variable (handle ∷ handles) None alike = waiting_keeps was m alike
-awaited_any_keeps was m variable (handle ∷ handles) (Some best) alike = record { same = refl; moment = refl; sent = tt }
+awaited_any_keeps was m variable (handle ∷ handles) (Some best) alike = record { same = refl; stamp = refl; sent = tt }
 
 branches_keeps : (m : Machine) (b : Bool) (yes_body no_body : Block) → Keeps m.id m.last (branches m b yes_body no_body)
-branches_keeps m true yes_body no_body = record { same = refl; moment = refl; sent = tt }
-branches_keeps m false yes_body no_body = record { same = refl; moment = refl; sent = tt }
+branches_keeps m true yes_body no_body = record { same = refl; stamp = refl; sent = tt }
+branches_keeps m false yes_body no_body = record { same = refl; stamp = refl; sent = tt }
 
 loops_keeps : (m : Machine) (b : Bool) (test : Expression) (body : Block) → Keeps m.id m.last (loops m b test body)
-loops_keeps m true test body = record { same = refl; moment = refl; sent = tt }
+loops_keeps m true test body = record { same = refl; stamp = refl; sent = tt }
 loops_keeps m false test body = keeps_silent m []
 
 locking_from : (m : Machine) (task : ℕ) (set : List Spot) (first : Option Id) → AllFrom m.id (locking m task set first)
@@ -156,15 +156,15 @@ locking_from m task set None = tt
 locking_from m task set (Some first) = (refl, tt)
 
 statement_keeps : (was m : Machine) (statement : Statement) → IsAlike m was → NextKeeps m (statement_step was m statement)
-statement_keeps was m (let_be variable value) alike = having_keeps m (eval m.variables value) (sets m variable) (λ given. record { same = refl; moment = refl; sent = tt })
-statement_keeps was m (spawn variable activity argument) alike = having_keeps m (eval m.variables argument) (scheduled (with_handle m variable) activity) (λ given. record { same = refl; moment = refl; sent = tt })
-statement_keeps was m (call variable activity argument) alike = having_keeps m (eval m.variables argument) (calls m variable activity) (λ given. record { same = refl; moment = refl; sent = tt })
+statement_keeps was m (let_be variable value) alike = having_keeps m (eval m.variables value) (sets m variable) (λ given. record { same = refl; stamp = refl; sent = tt })
+statement_keeps was m (spawn variable activity argument) alike = having_keeps m (eval m.variables argument) (scheduled (with_handle m variable) activity) (λ given. record { same = refl; stamp = refl; sent = tt })
+statement_keeps was m (call variable activity argument) alike = having_keeps m (eval m.variables argument) (calls m variable activity) (λ given. record { same = refl; stamp = refl; sent = tt })
 statement_keeps was m (subflow variable flow key argument) alike =
     having_keeps m ((eval m.variables key >>= to_key) >>= λ k. eval m.variables argument >>= λ a. Ok (k, a)) _
-    (λ p. by_rule_keeps m (may_start m.section) (starts m variable flow p.0 p.1) (record { same = refl; moment = refl; sent = (refl, tt) }))
+    (λ p. by_rule_keeps m (may_start m.section) (starts m variable flow p.0 p.1) (record { same = refl; stamp = refl; sent = (refl, tt) }))
 statement_keeps was m (ask variable class key operation argument) alike =
     having_keeps m ((eval m.variables key >>= to_key) >>= λ k. eval m.variables argument >>= λ a. Ok (k, a)) _
-    (λ p. by_rule_keeps m (may_ask m.section (spot_of class p.0) m.tasks) (asks m variable (spot_of class p.0) operation p.1) (record { same = refl; moment = refl; sent = (refl, tt) }))
+    (λ p. by_rule_keeps m (may_ask m.section (spot_of class p.0) m.tasks) (asks m variable (spot_of class p.0) operation p.1) (record { same = refl; stamp = refl; sent = (refl, tt) }))
 statement_keeps was m (timer variable delay) alike = having_keeps m (eval m.variables delay >>= to_integer) (sets_timer m variable) (sets_timer_keeps m variable)
 statement_keeps was m (next_event variable name) alike = listens_keeps m variable name
 statement_keeps was m (await variable handle) alike =
@@ -175,13 +175,13 @@ statement_keeps was m (await_any variable handles) alike =
     waits_keeps m (eval m.variables handles >>= to_handles m.tasks) (λ ns. awaited_any was m variable ns (first_arrived m.tasks 0 ns)) (λ ns. awaited_any_keeps was m variable ns (first_arrived m.tasks 0 ns) alike)
 statement_keeps was m (signal class key operation argument) alike =
     having_keeps m ((eval m.variables key >>= to_key) >>= λ k. eval m.variables argument >>= λ a. Ok (k, a)) _
-    (λ p. by_rule_keeps m (may_signal m.section (spot_of class p.0)) (signals m (spot_of class p.0) operation p.1) (record { same = refl; moment = refl; sent = (refl, tt) }))
+    (λ p. by_rule_keeps m (may_signal m.section (spot_of class p.0)) (signals m (spot_of class p.0) operation p.1) (record { same = refl; stamp = refl; sent = (refl, tt) }))
 statement_keeps was m (lock_in entities body) alike =
     having_keeps m (eval_spots m.variables entities) _
-    (λ spots. by_rule_keeps m (may_lock m.section m.tasks) (locks m (set_of spots) body) (record { same = refl; moment = refl; sent = locking_from m (length m.tasks) (set_of spots) (entity_at (set_of spots) 0) }))
+    (λ spots. by_rule_keeps m (may_lock m.section m.tasks) (locks m (set_of spots) body) (record { same = refl; stamp = refl; sent = locking_from m (length m.tasks) (set_of spots) (entity_at (set_of spots) 0) }))
 statement_keeps was m (if_then test yes_body no_body) alike = having_keeps m (eval m.variables test >>= to_truth) (λ b. branches m b yes_body no_body) (λ b. branches_keeps m b yes_body no_body)
 statement_keeps was m (while test body) alike = having_keeps m (eval m.variables test >>= to_truth) (λ b. loops m b test body) (λ b. loops_keeps m b test body)
-statement_keeps was m (try body variable handler) alike = record { same = refl; moment = refl; sent = tt }
+statement_keeps was m (try body variable handler) alike = record { same = refl; stamp = refl; sent = tt }
 statement_keeps was m (return value) alike = having_keeps m (eval m.variables value) (λ v. ended m (done v)) (λ v. ended_keeps m (done v))
 statement_keeps was m (fail text) alike = having_keeps m (eval m.variables text >>= to_text) (throws m) (throws_keeps m)
 
@@ -195,7 +195,7 @@ running_keeps m [] = ended_keeps m _
 running_keeps m (run statement ∷ rest) = statement_keeps m (record m { rest = rest }) statement (refl, refl)
 running_keeps m (wait_lock ∷ rest) = lock_keeps m (record m { rest = rest }) m.section (refl, refl)
 running_keeps m (unlock ∷ rest) = leaving_keeps (record m { rest = rest }) m.section
-running_keeps m (end_try variable handler ∷ rest) = record { same = refl; moment = refl; sent = tt }
+running_keeps m (end_try variable handler ∷ rest) = record { same = refl; stamp = refl; sent = tt }
 
 step_keeps : (m : Machine) (progress : Progress) → NextKeeps m (step_of m progress)
 step_keeps m unborn = keeps_silent m []
@@ -241,7 +241,7 @@ recorded_alike m (was_granted task) = granted_alike m task m.section
 
 -- what is kept after a change that leaves the machine alike
 keeps_alike : (m now : Machine) (r : Resumed) → IsAlike m now → Keeps now.id now.last r → Keeps m.id m.last r
-keeps_alike m now r alike keeps = record { same = keeps.same ∙ alike.0; moment = keeps.moment ∙ alike.1; sent = subst (λ (i : Id). AllFrom i r.sent) alike.0 keeps.sent }
+keeps_alike m now r alike keeps = record { same = keeps.same ∙ alike.0; stamp = keeps.stamp ∙ alike.1; sent = subst (λ (i : Id). AllFrom i r.sent) alike.0 keeps.sent }
 
 late_keeps : (m : Machine) (happening : Event) → Keeps m.id m.last (granted_late m happening)
 late_keeps m (started sender argument reply) = keeps_silent m []

@@ -113,7 +113,7 @@ granted_at o stamp task true =
     let r = resume o.machine (was_granted task) stamp in record { instance = Some (record { machine = r.machine; waiting = o.waiting }); sent = r.sent; asked = []; gives_up = false }
 granted_at o stamp task false = goes_on_from o (was_granted task) stamp []
 
--- a message to an instance that is there, at its new last moment
+-- a message to an instance that is there, at its new last stamp
 abbrev pub to_present : Orchestration → Id → Id → ℕ → Body → Effect
 to_present o from to stamp (start argument reply) = stays_so o.machine o.waiting (refusing to from reply was_there (codes "exists"))
 to_present o from to stamp (query number) = stays_so o.machine o.waiting (telling to from number (standing o.machine.progress))
@@ -123,10 +123,10 @@ to_present o from to stamp (result (to_task task) answer) = result_at o stamp ta
 to_present o from to stamp (granted task) = granted_at o stamp task (is_over o.machine.progress)
 to_present o from to stamp other = stays_so o.machine o.waiting []
 
-abbrev pub at_moment : Orchestration → ℕ → Orchestration
-at_moment o stamp = record o { machine = record o.machine { last = stamp } }
+abbrev pub at_stamp : Orchestration → ℕ → Orchestration
+at_stamp o stamp = record o { machine = record o.machine { last = stamp } }
 
 -- a message to an instance
 abbrev pub to_instance : Flows → Option Orchestration → Id → Id → ℕ → Body → Effect
 to_instance flows None from to stamp body = to_absent flows from to stamp body
-to_instance flows (Some o) from to stamp body = to_present (at_moment o stamp) from to stamp body
+to_instance flows (Some o) from to stamp body = to_present (at_stamp o stamp) from to stamp body

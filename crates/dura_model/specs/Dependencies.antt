@@ -27,11 +27,11 @@ abbrev pub newest_of : ℕ → List Identity → Option Identity
 newest_of partition [] = None
 newest_of partition (one ∷ names) = if one.partition == partition then or_later (newest_of partition names) one else newest_of partition names
 
--- An entry is right before another in its partition: one position earlier, and of no later life.
+-- An entry is right before another in its partition: one position earlier, and of no later incarnation.
 pub record IsRightBefore (before e : Identity) : Type 0 where
   pub partition : e.partition ≡ before.partition
   pub position : e.position ≡ before.position + 1
-  pub life : before.incarnation ≤ e.incarnation
+  pub incarnation : before.incarnation ≤ e.incarnation
 
 -- An entry is the first of its partition, or the newest one there so far is right before it.
 abbrev pub FollowsIn : List Identity → Identity → Type 0
@@ -47,13 +47,13 @@ pub data Founded (recovered : List Identity) : List Committed → Type 0 where
   none : Founded recovered []
   one_more : {entries : List Committed} (e : Committed) → Founded recovered entries → IsFounded (recovered ++ names_of entries) e → Founded recovered (entries ++ e ∷ [])
 
--- a life of a partition began, and gave up all entries of earlier ones from this position on
+-- a incarnation of a partition began, and gave up all entries of earlier ones from this position on
 pub record Floor : Type 0 where
   pub partition : ℕ
   pub incarnation : ℕ
   pub from : ℕ
 
--- an entry was given up by a later life of its partition
+-- an entry was given up by a later incarnation of its partition
 pub record Lost (floors : List Floor) (e : Identity) : Type 0 where
   pub floor : Floor
   pub there : Contains floors floor

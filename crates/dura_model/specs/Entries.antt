@@ -27,13 +27,13 @@ abbrev pub placed : Flows → (count : ℕ) → Partition → List Entry → Res
 placed flows count p [] = Ok p
 placed flows count p (entry ∷ entries) = or_place entry.position (entry_accepted flows count p entry) >>= λ next. placed flows count next entries
 
--- the life that goes on behind entries, one later than the last one's
-abbrev pub life_behind : ℕ → List Entry → ℕ
-life_behind life [] = life
-life_behind life (entry ∷ entries) = life_behind (entry.incarnation + 1) entries
+-- the incarnation that goes on behind entries, one later than the last one's
+abbrev pub incarnation_behind : ℕ → List Entry → ℕ
+incarnation_behind incarnation [] = incarnation
+incarnation_behind incarnation (entry ∷ entries) = incarnation_behind (entry.incarnation + 1) entries
 
-abbrev pub next_life : List Entry → ℕ
-next_life = life_behind 0
+abbrev pub next_incarnation : List Entry → ℕ
+next_incarnation = incarnation_behind 0
 
 -- the world that the state of the one partition shows
 abbrev pub shown_by : Flows → Partition → World

@@ -14,7 +14,7 @@ use Rattle.dura_model.specs.Steps.{Label, take, deliver, finish, fire, is_reques
 
 -- ---- the state
 
--- an instance as it is kept: its last moment, its history, and the clients that wait for its end
+-- an instance as it is kept: its last stamp, its history, and the clients that wait for its end
 pub record Row : Type 0 where
   pub stamp : ℕ
   pub history : List Past
@@ -35,7 +35,7 @@ pub record Inbox : Type 0 where
   pub next : ℕ
   pub reader : Identity
 
--- All that a partition knows: who it is, the place of its next entry, its life and its greatest moment; the requests taken
+-- All that a partition knows: who it is, the position of its next entry, its incarnation and its greatest stamp; the requests taken
 -- from its clients and their answers; its instances and entities; their activities and timers that are pending; the
 -- messages to receivers here, in order; and the streams from and to other partitions.
 pub record Partition : Type 0 where
@@ -74,11 +74,11 @@ fresh number = record {
   outboxes = λ target. record { first = 0; messages = [] };
 }
 
--- the entry that its items belong to: it has begun, so the place of the next one is behind it
+-- the entry that its items belong to: it has begun, so the position of the next one is behind it
 abbrev pub entry_of : Partition → Identity
 entry_of p = record { partition = p.number; incarnation = p.incarnation; position = p.position - 1 }
 
--- an entry of this life begins
+-- an entry of this incarnation begins
 abbrev pub enter : ℕ → Partition → Partition
 enter incarnation p = record p { incarnation = incarnation; position = p.position + 1 }
 
@@ -118,7 +118,7 @@ abbrev pub with_event : List Past → ℕ → Option Event → List Past
 with_event history stamp None = history
 with_event history stamp (Some event) = history ++ record { event = event; stamp = stamp } ∷ []
 
--- the row of an instance after a delivery or an event at this moment
+-- the row of an instance after a delivery or an event at this stamp
 abbrev pub row_after : Option Row → ℕ → Option Event → Orchestration → Row
 row_after row stamp event o = record { stamp = stamp; history = with_event (history_of row) stamp event; waiting = o.waiting }
 
@@ -155,7 +155,7 @@ stands_in count p id stamp event e =
 
 -- ---- items
 
--- the greatest moment is no less than this
+-- the greatest stamp is no less than this
 abbrev pub raised_to : ℕ → Partition → Partition
 raised_to stamp p = record p { stamp = if nat_le p.stamp stamp then stamp else p.stamp }
 

@@ -12,7 +12,7 @@ use Rattle.dura_model.specs.World.{Activity}
 use Rattle.dura_model.specs.Steps.{Label, step}
 use Rattle.dura_model.specs.Partition.{Row, Posted, Outbox, Inbox, Partition, first_in, accepted, shown, with_part}
 
--- an entry of this partition, before this position and of no later life than this
+-- an entry of this partition, before this position and of no later incarnation than this
 pub record IsBehind (place position incarnation : ℕ) (entry : Identity) : Type 0 where
   pub here : entry.partition ≡ place
   pub before : entry.position < position
@@ -63,13 +63,13 @@ pub record InboxesStand (count place position incarnation : ℕ) (inboxes : ℕ 
   -- the entry that took in the last message is an earlier one
   pub earlier : (source : ℕ) → 0 < (inboxes source).next → IsBehind place position incarnation (inboxes source).reader
 
--- Nothing is of a later moment than this.
-pub record MomentsStand (stamp : ℕ) (instances : Id → Option Row) (entities : Id → Option Entity) : Type 0 where
-  -- an instance's last moment
+-- Nothing is of a later stamp than this.
+pub record StampsStand (stamp : ℕ) (instances : Id → Option Row) (entities : Id → Option Entity) : Type 0 where
+  -- an instance's last stamp
   pub rows : (id : Id) (row : Row) → instances id ≡ Some row → row.stamp ≤ stamp
-  -- the moment of an event
+  -- the stamp of an event
   pub events : (id : Id) (row : Row) → instances id ≡ Some row → (past : Past) → Contains row.history past → past.stamp ≤ stamp
-  -- an entity's last moment
+  -- an entity's last stamp
   pub lasts : (id : Id) (e : Entity) → entities id ≡ Some e → e.last ≤ stamp
 
 -- What the state at a place among so many needs by itself.
@@ -84,8 +84,8 @@ pub record Belongs (count place : ℕ) (p : Partition) : Type 0 where
   pub outboxes : OutboxesStand count place p.position p.incarnation p.outboxes
   -- what came in is from other partitions, taken in by its entries so far
   pub inboxes : InboxesStand count place p.position p.incarnation p.inboxes
-  -- nothing in it is of a later moment than its own
-  pub moments : MomentsStand p.stamp p.instances p.entities
+  -- nothing in it is of a later stamp than its own
+  pub stamps : StampsStand p.stamp p.instances p.entities
 
 -- each of its pending activities and timers is of an instance that is there
 pub record AreOfInstances (p : Partition) : Type 0 where

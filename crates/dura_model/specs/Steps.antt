@@ -11,8 +11,8 @@ use Rattle.flow_syntax.specs.Entity.{Entity, takes, initial, deliver as deliver_
 use Rattle.dura_model.specs.World.{World, Orchestration, Activity, at_id, at_link, at_number, cleared}
 use Rattle.dura_model.specs.Deliveries.{Effect, to_instance, goes_on_from}
 
--- A request of a client is taken; the first message of a link is delivered at this moment; a pending activity finishes; a
--- pending timer fires at this moment.
+-- A request of a client is taken; the first message of a link is delivered at this stamp; a pending activity finishes; a
+-- pending timer fires at this stamp.
 pub data Label : Type 0 where
   take : (client : Id) → (number : ℕ) → (message : Message) → Label
   deliver : (from to : Id) → (stamp : ℕ) → Label
@@ -127,7 +127,7 @@ abbrev pub answer_of : Outcome → Answer
 answer_of (outcomes.Done value) = is_done value
 answer_of (outcomes.Failed text) = has_failed text
 
--- a pending activity is over, with an outcome that it may give, which reaches the instance at its last moment
+-- a pending activity is over, with an outcome that it may give, which reaches the instance at its last stamp
 abbrev pub finished : World → Id → ℕ → Outcome → Option Orchestration → Option Activity → Option World
 finished w id task outcome (Some o) (Some activity) =
     if may activity.name activity.argument outcome
@@ -135,7 +135,7 @@ finished w id task outcome (Some o) (Some activity) =
     else None
 finished w id task outcome o activity = None
 
--- a pending timer is over, not before it is due nor before the instance's last moment
+-- a pending timer is over, not before it is due nor before the instance's last stamp
 abbrev pub timed : World → Id → ℕ → ℕ → Option Orchestration → Option ℕ → Option World
 timed w id task stamp (Some o) (Some due) =
     if nat_le due stamp && nat_le o.machine.last stamp

@@ -6,7 +6,7 @@ ghost use Rattle.dura_value.specs.Items.{Entry, Item, ran};
 ghost use Rattle.dura_value.specs.Messages.{Message};
 ghost use Rattle.dura_value.specs.Reading.{◌>>=◌ as bind};
 ghost use Rattle.flow_syntax.specs.Syntax.{Flows};
-ghost use Rattle.dura_model.specs.Entries.{placed, next_life, labels_in, AllGiven};
+ghost use Rattle.dura_model.specs.Entries.{placed, next_incarnation, labels_in, AllGiven};
 ghost use Rattle.dura_model.specs.Legal.{Legal, may_ask, may_go_on, TakenInTurn, finishes};
 ghost use Rattle.dura_model.specs.Partition.{Partition, fresh, enter, first_in, accepted, label_in, shown, with_part};
 ghost use Rattle.dura_model.specs.Placed.{AreShown, happens_at, IsGiven, IsOfStreams, IsLabelled, ShowsNothing, IsSameEntry, Belongs, AreOfInstances};
@@ -76,10 +76,10 @@ pub fn the_one_before_tells()
 {}
 
 /// What entries make where others come behind them is what the others make behind these.
-#[tactic(auto, using(crate::proofs::Appending::placed_both, crate::proofs::Appending::labels_both, crate::proofs::Appending::next_life_last))]
+#[tactic(auto, using(crate::proofs::Appending::placed_both, crate::proofs::Appending::labels_both, crate::proofs::Appending::next_incarnation_last))]
 pub fn one_after_another()
     ensures placed { (flows : Flows) (count : ℕ) (p : Partition) (a b : List Entry) → placed flows count p (a ++ b) ≡ bind (placed flows count p a) (λ q. placed flows count q b) }
     ensures given { (flows : Flows) (count : ℕ) (p : Partition) (a b : List Entry) → AllGiven flows count p (a ++ b) ↔ (AllGiven flows count p a × ((q : Partition) → placed flows count p a ≡ Ok q → AllGiven flows count q b)) }
     ensures labels { (a b : List Entry) → labels_in (a ++ b) ≡ labels_in a ++ labels_in b }
-    ensures life { (entries : List Entry) (last : Entry) → next_life (entries ++ last ∷ []) ≡ last.incarnation + 1 }
+    ensures incarnation { (entries : List Entry) (last : Entry) → next_incarnation (entries ++ last ∷ []) ≡ last.incarnation + 1 }
 {}

@@ -1,6 +1,6 @@
 //! The failure-free machine, as definitions, and laws of them.
 //!
-//! - `specs/World`, `Deliveries` and `Steps`: everything that there is at a moment, what a message makes of its receiver, and
+//! - `specs/World`, `Deliveries` and `Steps`: everything that there is at a stamp, what a message makes of its receiver, and
 //!   what one label makes of the world.
 //! - `specs/Legal`: legal runs, quiet worlds, tasks that end, sections that overlap.
 //! - `specs/Partition`: the state of one partition, what an item makes of it, and the world that all states show.

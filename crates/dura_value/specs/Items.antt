@@ -4,7 +4,7 @@ use Rattle.dura_value.specs.declared.outcome.Outcome.{Outcome}
 use Rattle.dura_value.specs.Ids.{Id}
 use Rattle.dura_value.specs.Messages.{Message}
 
--- an entry by its partition, the life of the partition that made it, and its place there
+-- an entry by its partition, the incarnation of the partition that made it, and its position there
 pub record Identity : Type 0 where
   pub partition : ℕ
   pub incarnation : ℕ
@@ -21,7 +21,7 @@ pub data Item : Type 0 where
   fired : (id : Id) → (task stamp : ℕ) → Item
   trim : (reader : Identity) → (number : ℕ) → Item
 
--- an entry: its place in the log, the life of the partition that made it, and its items
+-- an entry: its position in the log, the incarnation of the partition that made it, and its items
 pub record Entry : Type 0 where
   pub position : ℕ
   pub incarnation : ℕ

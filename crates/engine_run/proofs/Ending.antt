@@ -38,7 +38,7 @@ module _ (MayFollow : List Settled → List Said → ℕ → List Entry → Type
   pub at_rest : (was : ℕ) (queues : List Queue) (clients : List (List ℕ)) (state : PartState) → StandsWith MayFollow MaySay o steps trail told [] → HasSaid rules told queues → All IsRequest rules.requests → clients ≡ clients_of rules.requests
       → Entered rules (o.logs 0) was (of_part 0 trail) state → IsOver rules (state_of state) queues clients → IsAtRest MayFollow MaySay rules latest o steps trail queues
   at_rest was queues clients state stands said asked names entered over =
-      let begun : IsOver rules (enter rules.life entered.before) queues (clients_of rules.requests) =
+      let begun : IsOver rules (enter rules.incarnation entered.before) queues (clients_of rules.requests) =
       subst (λ (p : Partition). IsOver rules p queues (clients_of rules.requests)) entered.entered (subst (λ (l : List (List ℕ)). IsOver rules (state_of state) queues l) names over) in
       let zero : state.rows.number ≡ 0 = omega (arith, entered.sound.below, entered.one) in
       let first : entered.before.number ≡ 0 = ap (λ (p : Partition). p.number) (sym entered.entered) ∙ zero in
@@ -49,7 +49,7 @@ module _ (MayFollow : List Settled → List Said → ℕ → List Entry → Type
         state = entered.before;
         made = entered.stands.made;
         quiet = quiet_behind rules entered.before (state_of state) queues clients entered.stands.shown entered.stands.younger entered.entered entered.sound.owned over;
-        taken = λ k d inside. due_taken rules told queues rules.flows (enter rules.life entered.before) said asked first (get_or (clients_of rules.requests) k d) (begun.idle.requests k d inside);
+        taken = λ k d inside. due_taken rules told queues rules.flows (enter rules.incarnation entered.before) said asked first (get_or (clients_of rules.requests) k d) (begun.idle.requests k d inside);
         over = begun;
         asked = asked;
       }
@@ -219,6 +219,6 @@ spent_no_say partition number cause is also = absurd (cc (is, also))
 pub spent_no_clock : (partition number : ℕ) (cause : Cause) → cause ≡ Spent partition number → cause ≡ ClockFault → ⊥
 spent_no_clock partition number cause is also = absurd (cc (is, also))
 
--- no moment is above the clock's latest
-pub moment_above : (old new before now : ℕ) → new ≤ max old now → before ≤ now → old ≤ before → new ≤ now
-moment_above old new before now raised later under = omega (arith, raised, later, under)
+-- no stamp is above the clock's latest
+pub stamp_above : (old new before now : ℕ) → new ≤ max old now → before ≤ now → old ≤ before → new ≤ now
+stamp_above old new before now raised later under = omega (arith, raised, later, under)

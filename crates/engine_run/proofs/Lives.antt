@@ -16,7 +16,7 @@ use Rattle.flow_syntax.specs.Syntax.{Flows}
 use Rattle.hub_store.specs.Origin.{Origin}
 use Rattle.hub_store.specs.Trail.{Settled, Said, of_part, settled_at}
 use Rattle.part_items.specs.Logs.{logs_in, entries_in, alone_with}
-use Rattle.dura_model.specs.Entries.{placed, next_life, labels_in, AllGiven, shown_by}
+use Rattle.dura_model.specs.Entries.{placed, next_incarnation, labels_in, AllGiven, shown_by}
 use Rattle.run_rules.specs.Stands.{FilesStand}
 use Rattle.run_rules.proofs.LabelsStand.{labels_stand}
 use Rattle.run_laws.proofs.Ordered.{never_overlaps}
@@ -107,7 +107,7 @@ module _ (rules : Rules) (o : Origin) (settled more : List Entry) where
 said_still : (entries more : List Entry) (life : Life) → IsSaidBy entries life → IsSaidBy (entries ++ more) life
 said_still entries more life (inl silent) = inl silent
 said_still entries more life (inr speaks) =
-    let rules = rules_with life.job speaks.begin (next_life (speaks.origin.logs 0).entries) in
+    let rules = rules_with life.job speaks.begin (next_incarnation (speaks.origin.logs 0).entries) in
     inr (record {
       origin = speaks.origin;
       begin = speaks.begin;
@@ -218,9 +218,9 @@ module _ (flows : Flows) (digest : ℕ) (entries : List Entry) (before : List St
           told = on.told;
           lines = on.lines;
           part = on.part;
-          answered = subst (λ (l : List Entry). AllAnswered (rules_with life.job first_kept.state (next_life l)) runs.origin (settled_then life) on.told on.lines) (sym runs.kept) on.answered;
+          answered = subst (λ (l : List Entry). AllAnswered (rules_with life.job first_kept.state (next_incarnation l)) runs.origin (settled_then life) on.told on.lines) (sym runs.kept) on.answered;
           spoken = on.spoken ∙ ap (λ (t : List ℕ). t ++ on.lines ++ on.part) (last runs.opening).silent;
-          saying = subst (λ (l : List Entry). (on.part ≡ []) ⊎ IsHalfSaid (rules_with life.job first_kept.state (next_life l)) runs.origin (settled_then life) on.told (by_then life) on.part) (sym runs.kept) on.saying;
+          saying = subst (λ (l : List Entry). (on.part ≡ []) ⊎ IsHalfSaid (rules_with life.job first_kept.state (next_incarnation l)) runs.origin (settled_then life) on.told (by_then life) on.part) (sym runs.kept) on.saying;
         });
   }
 

@@ -78,36 +78,36 @@ log_keeps digest file payloads (Err offset) is = record { kept = refl; alone = r
 at_keeps : (log : Log) (position : ℕ) → log.header.partition ≡ 0 → KeepsOwn (log_at log position)
 at_keeps log position alone = record { kept = refl; alone = alone }
 
--- it goes on at this position, in no later life
-pub record GoesOnAt (log : Log) (position life : ℕ) : Type 0 where
+-- it goes on at this position, in no later incarnation
+pub record GoesOnAt (log : Log) (position incarnation : ℕ) : Type 0 where
   pub place : (goes_on log []).position ≡ position
-  pub follows : (goes_on log []).incarnation ≤ life
+  pub follows : (goes_on log []).incarnation ≤ incarnation
 
-pub record IsPicked (log : Log) (file position life : ℕ) : Type 0 where
+pub record IsPicked (log : Log) (file position incarnation : ℕ) : Type 0 where
   pub own : KeepsOwn log
-  pub goes : GoesOnAt log position life
+  pub goes : GoesOnAt log position incarnation
   pub file_is : log.file ≡ file
 
-from_picked : (log : Log) (position life : ℕ) → KeepsOwn log → IsPicked (log_from log position life) log.file position life
-from_picked log position life own = by (goes_on_at log position life) refl
+from_picked : (log : Log) (position incarnation : ℕ) → KeepsOwn log → IsPicked (log_from log position incarnation) log.file position incarnation
+from_picked log position incarnation own = by (goes_on_at log position incarnation) refl
   where
-    by : (test : Bool) → goes_on_at log position life ≡ test → IsPicked (log_from log position life) log.file position life
+    by : (test : Bool) → goes_on_at log position incarnation ≡ test → IsPicked (log_from log position incarnation) log.file position incarnation
     by true is = rw is (record {
       own = own;
-      goes = let parts = both_true ((goes_on log []).position == position) (nat_le (goes_on log []).incarnation life) is in record { place = eqb-true (goes_on log []).position position parts.0; follows = leb-true (goes_on log []).incarnation life parts.1 };
+      goes = let parts = both_true ((goes_on log []).position == position) (nat_le (goes_on log []).incarnation incarnation) is in record { place = eqb-true (goes_on log []).position position parts.0; follows = leb-true (goes_on log []).incarnation incarnation parts.1 };
       file_is = refl;
     })
-    by false is = rw is (record { own = at_keeps log position own.alone; goes = record { place = refl; follows = omega arith }; file_is = refl })
+    by false is = rw is (record { own = at_keeps log position own.alone; goes = record { position = refl; follows = omega arith }; file_is = refl })
 
 with_file : (digest file : ℕ) (payloads : List (List ℕ)) (read : Result (List Entry) ℕ) → (log_of digest file payloads read).file ≡ file
 with_file digest file payloads (Ok entries) = refl
 with_file digest file payloads (Err offset) = refl
 
-pub picked : (digest file : ℕ) (steps : List Step) (state : Partition) (life : ℕ) → IsPicked (log_in_file digest file steps state life) file state.position life
-picked digest file steps state life =
+pub picked : (digest file : ℕ) (steps : List Step) (state : Partition) (incarnation : ℕ) → IsPicked (log_in_file digest file steps state incarnation) file state.position incarnation
+picked digest file steps state incarnation =
     let payloads = payloads_of (reading_of (content_of file steps)) in
     let read = decoded first_gate (first_of (header_with digest)) payloads in
-    let one = from_picked (log_with digest file payloads) state.position life (log_keeps digest file payloads read refl) in
+    let one = from_picked (log_with digest file payloads) state.position incarnation (log_keeps digest file payloads read refl) in
     record { own = one.own; goes = one.goes; file_is = one.file_is ∙ with_file digest file payloads read }
 
 -- one partition with such a log is where a store may begin
@@ -121,10 +121,10 @@ is_origin log steps own = record {
 -- ---- the log that rests
 
 -- Where the log rests in its file whose entries made the state, it is the one that is picked.
-pub picked_is : (digest file : ℕ) (steps : List Step) (state : Partition) (life gate : ℕ) (payloads : List (List ℕ)) (entries : List Entry) → IsResting (changes_of file steps) (header_with digest) payloads gate
-    → decoded first_gate (first_of (header_with digest)) payloads ≡ Ok entries → behind_all (first_of (header_with digest)) entries ≡ state_next state → state.incarnation ≤ life
-    → log_in_file digest file steps state life ≡ record { file = file; header = header_with digest; payloads = payloads; entries = entries }
-picked_is digest file steps state life gate payloads entries rests read goes young =
+pub picked_is : (digest file : ℕ) (steps : List Step) (state : Partition) (incarnation gate : ℕ) (payloads : List (List ℕ)) (entries : List Entry) → IsResting (changes_of file steps) (header_with digest) payloads gate
+    → decoded first_gate (first_of (header_with digest)) payloads ≡ Ok entries → behind_all (first_of (header_with digest)) entries ≡ state_next state → state.incarnation ≤ incarnation
+    → log_in_file digest file steps state incarnation ≡ record { file = file; header = header_with digest; payloads = payloads; entries = entries }
+picked_is digest file steps state incarnation gate payloads entries rests read goes young =
     let reading : reading_of (content_of file steps) ≡ segment (header_with digest) payloads gate =
     ap reading_of rests.content ∙ reads_closed (header_with digest) payloads gate rests.byte rests.rest rests.ends rests.closed in
     let found : Log = record { file = file; header = header_with digest; payloads = payloads; entries = entries } in
@@ -132,5 +132,5 @@ picked_is digest file steps state life gate payloads entries rests read goes you
     ap (λ r. log_with digest file (payloads_of r)) reading ∙ ap (log_of digest file payloads) read in
     let next : goes_on found [] ≡ state_next state = ap (behind_all (first_of (header_with digest))) (append-nil entries) ∙ goes in
     let place : ((goes_on found []).position == state.position) ≡ true = eq-eqb (goes_on found []).position state.position (ap (λ (n : Next). n.position) next) in
-    let follows : nat_le (goes_on found []).incarnation life ≡ true = le-leb (goes_on found []).incarnation life (let same = ap (λ (n : Next). n.incarnation) next in omega (arith, same, young)) in
-    ap (λ (l : Log). log_from l state.position life) with_is ∙ rw (place, follows) refl
+    let follows : nat_le (goes_on found []).incarnation incarnation ≡ true = le-leb (goes_on found []).incarnation incarnation (let same = ap (λ (n : Next). n.incarnation) next in omega (arith, same, young)) in
+    ap (λ (l : Log). log_from l state.position incarnation) with_is ∙ rw (place, follows) refl

@@ -19,7 +19,7 @@ use Rattle.dura_model.proofs.Alone.{home_alone, are_shown_alone}
 use Rattle.part_rounds.specs.Comes.{IsOver}
 use Rattle.part_rounds.specs.Fills.{CantEnd}
 use Rattle.part_rows.specs.Open.{lets_in, last_at, NoneOpen}
-use Rattle.part_steps.specs.Enabled.{moment_at, NoneEnabled}
+use Rattle.part_steps.specs.Enabled.{stamp_at, NoneEnabled}
 use Rattle.part_steps.proofs.Delivering.{not_taken}
 use Rattle.part_steps.proofs.Enabling.{open_enabled}
 use Rattle.run_rules.specs.Rules.{Rules}
@@ -58,7 +58,7 @@ module _ (flows : Flows) (p : Partition) (shows : AreShown 1 (λ place. p)) (own
 
   -- ---- deliveries
 
-  closed : (now : ℕ) → NoneEnabled flows 1 p (moment_at p now) → NoneOpen p
+  closed : (now : ℕ) → NoneEnabled flows 1 p (stamp_at p now) → NoneOpen p
   closed now none from to body found = by (lets_in p.entities from to) refl
     where
       by : (lets : Bool) → lets_in p.entities from to ≡ lets → lets_in p.entities from to ≡ false
@@ -98,7 +98,7 @@ module _ (flows : Flows) (p : Partition) (shows : AreShown 1 (λ place. p)) (own
 
   pub quiet_over : (rules : Rules) (queues : List Queue) (clients : List (List ℕ)) → rules.flows ≡ flows → IsOver rules p queues clients → Quiet flows [] (shown_by flows p)
   quiet_over rules queues clients same over =
-      let steps = subst (λ (f : Flows). NoneEnabled f 1 p (moment_at p over.now)) same over.idle.steps in
+      let steps = subst (λ (f : Flows). NoneEnabled f 1 p (stamp_at p over.now)) same over.idle.steps in
       record {
         delivered = stays (closed over.now steps);
         finished = none_pending over.idle.outcomes;
@@ -107,9 +107,9 @@ module _ (flows : Flows) (p : Partition) (shows : AreShown 1 (λ place. p)) (own
       }
 
 -- the same of a state in an entry that has begun
-pub quiet_behind : (rules : Rules) (before p : Partition) (queues : List Queue) (clients : List (List ℕ)) → AreShown 1 (λ place. before) → before.incarnation ≤ rules.life → p ≡ enter rules.life before → AreOfInstances p → IsOver rules p queues clients
+pub quiet_behind : (rules : Rules) (before p : Partition) (queues : List Queue) (clients : List (List ℕ)) → AreShown 1 (λ place. before) → before.incarnation ≤ rules.incarnation → p ≡ enter rules.incarnation before → AreOfInstances p → IsOver rules p queues clients
     → Quiet rules.flows [] (shown_by rules.flows before)
 quiet_behind rules before p queues clients shows younger is owned over =
-    let entered = enter rules.life before in
-    let here = are_shown_alone (with_part (λ place. before) 0 entered) entered refl (enter_keeps rules.flows 1 (λ place. before) 0 rules.life shows (omega arith) younger) in
+    let entered = enter rules.incarnation before in
+    let here = are_shown_alone (with_part (λ place. before) 0 entered) entered refl (enter_keeps rules.flows 1 (λ place. before) 0 rules.incarnation shows (omega arith) younger) in
     quiet_over rules.flows entered here (subst AreOfInstances is owned) rules queues clients refl (subst (λ (q : Partition). IsOver rules q queues clients) is over)

@@ -12,7 +12,7 @@ use Rattle.engine_run.specs.Opening.{cause_of_recovery, IsLogCause}
 use Rattle.engine_run.proofs.Asked.{same_job, same_state}
 use Rattle.flow_syntax.specs.Syntax.{Flows}
 use Rattle.part_items.specs.Logs.{logs_in, entries_in, alone_with}
-use Rattle.dura_model.specs.Entries.{placed, next_life}
+use Rattle.dura_model.specs.Entries.{placed, next_incarnation}
 use Rattle.recover_core.specs.Recovering.{Recovers, OnlySyncs}
 use Rattle.recover_core.specs.declared.error.RecoverError.{RecoverError}
 use Rattle.recover_core.specs.declared.error.RecoverError.TheVariants as errors
@@ -126,7 +126,7 @@ late_untouched old new (Spent partition number) is = tt
 -- ---- files that are accepted
 
 no_log_refusal : (flows : Flows) (digest : ℕ) (files : ℕ → List ℕ) (entries : List Entry) (state : Partition) (error : RecoverError) → entries_in (logs_in (alone_with digest) files) ≡ Some entries → placed flows 1 (fresh 0) entries ≡ Ok state
-    → next_life entries < 2 ^ 62 → IsLogRefusal error → Recovers flows digest files (Err error) → ⊥
+    → next_incarnation entries < 2 ^ 62 → IsLogRefusal error → Recovers flows digest files (Err error) → ⊥
 no_log_refusal flows digest files entries state (errors.Damaged file offset) kept made young is refused = let wrong : None ≡ Some entries = ap entries_in (sym refused) ∙ kept in cc wrong
 no_log_refusal flows digest files entries state (errors.OtherShape found asked) kept made young is refused = let wrong : None ≡ Some entries = ap entries_in (sym refused.0) ∙ kept in cc wrong
 no_log_refusal flows digest files entries state (errors.OtherFlows found given) kept made young is refused = let wrong : None ≡ Some entries = ap entries_in (sym refused.0) ∙ kept in cc wrong
@@ -136,15 +136,15 @@ no_log_refusal flows digest files entries state (errors.Illegal partition positi
     cc wrong
 no_log_refusal flows digest files entries state (errors.Spent partition number) kept made young is refused =
     let same : refused.entries ≡ entries = cc (refused.kept, kept) in
-    let life : next_life entries ≡ number = ap next_life (sym same) ∙ refused.life in
-    omega (arith, life, refused.old, young)
+    let incarnation : next_incarnation entries ≡ number = ap next_incarnation (sym same) ∙ refused.incarnation in
+    omega (arith, incarnation, refused.old, young)
 no_log_refusal flows digest files entries state errors.SiteFault kept made young is refused = is
 no_log_refusal flows digest files entries state errors.Memory kept made young is refused = is
 
 none_clash : (state : Partition) (requests : List Request) (name : List ℕ) (number : ℕ) → NoClash state requests → IsClash state requests name number → ⊥
 none_clash state requests name number none clash = let wrong : true ≡ false = sym clash.there.clashes ∙ All-contains (λ r. clashes state r ≡ false) requests clash.there.request none clash.there.asked in cc wrong
 
-pub ready : (files : ℕ → List ℕ) (job : Job) (entries : List Entry) (state : Partition) → AsksFor files job → FilesKeep job files entries state → NoClash state job.requests → next_life entries < 2 ^ 62 → IsReady files
+pub ready : (files : ℕ → List ℕ) (job : Job) (entries : List Entry) (state : Partition) → AsksFor files job → FilesKeep job files entries state → NoClash state job.requests → next_incarnation entries < 2 ^ 62 → IsReady files
 ready files job entries state asks keeps no_clash young = record { job = job; asks = asks; entries = entries; state = state; keeps = keeps; no_clash = no_clash; young = young }
 
 -- files that are accepted aren't refused

@@ -41,16 +41,16 @@ shown_alone p belongs = record {
         record { from_first = omega (arith, out, in_next); to_end = omega (arith, out, in_next) }
 
 module _ (job : Job) (entries : List Entry) (steps : List Step) (log : Resting) (opened : IsOpened job.digest entries steps log)
-    (state : Partition) (made : placed job.flows 1 (fresh 0) entries ≡ Ok state) (life : ℕ) (young : state.incarnation ≤ life) where
+    (state : Partition) (made : placed job.flows 1 (fresh 0) entries ≡ Ok state) (incarnation : ℕ) (young : state.incarnation ≤ incarnation) where
   -- the log goes on where the state does
   log_goes : behind_all (first_of (header_with job.digest)) entries ≡ state_next state
   log_goes = sym (entries_come job.flows entries (fresh 0) state (are_shown_alone fresh (fresh 0) refl (fresh_shown 1)) (decoded_numbered 33 (first_of (header_with job.digest)) opened.payloads entries opened.read) made).1
 
   -- the log that is picked is the one that rests
-  is_found : log_in_file job.digest log.file steps state life ≡ record { file = log.file; header = header_with job.digest; payloads = opened.payloads; entries = entries }
-  is_found = picked_is job.digest log.file steps state life log.gate opened.payloads entries opened.rests opened.read log_goes young
+  is_found : log_in_file job.digest log.file steps state incarnation ≡ record { file = log.file; header = header_with job.digest; payloads = opened.payloads; entries = entries }
+  is_found = picked_is job.digest log.file steps state incarnation log.gate opened.payloads entries opened.rests opened.read log_goes young
 
-  pub begins_alone : AreGivenIn job entries → BeginsAlone (origin_with (log_in_file job.digest log.file steps state life) steps) (rules_with job state life) job.digest
+  pub begins_alone : AreGivenIn job entries → BeginsAlone (origin_with (log_in_file job.digest log.file steps state incarnation) steps) (rules_with job state incarnation) job.digest
   begins_alone given = record {
     one = refl;
     header = ap (λ (l : Log). l.header) is_found;
@@ -61,14 +61,14 @@ module _ (job : Job) (entries : List Entry) (steps : List Step) (log : Resting) 
     empty = opened.empty;
   }
 
-  pub picked_entries : (log_in_file job.digest log.file steps state life).entries ≡ entries
+  pub picked_entries : (log_in_file job.digest log.file steps state incarnation).entries ≡ entries
   picked_entries = ap (λ (l : Log). l.entries) is_found
 
-  pub has_begun : HasBegun (origin_with (log_in_file job.digest log.file steps state life) steps) steps (log ∷ [])
+  pub has_begun : HasBegun (origin_with (log_in_file job.digest log.file steps state incarnation) steps) steps (log ∷ [])
   has_begun = record { now = refl; rests = at }
     where
       at : (partition : ℕ) (other : Resting) → slice_get (log ∷ []) partition ≡ Some other
-          → (other.file ≡ (log_in_file job.digest log.file steps state life).file) × IsResting (changes_of (log_in_file job.digest log.file steps state life).file steps) (log_in_file job.digest log.file steps state life).header (log_in_file job.digest log.file steps state life).payloads other.gate
+          → (other.file ≡ (log_in_file job.digest log.file steps state incarnation).file) × IsResting (changes_of (log_in_file job.digest log.file steps state incarnation).file steps) (log_in_file job.digest log.file steps state incarnation).header (log_in_file job.digest log.file steps state incarnation).payloads other.gate
       at zero other is =
           let same : log ≡ other = cc is in
           subst (λ (l : Log). (other.file ≡ l.file) × IsResting (changes_of l.file steps) l.header l.payloads other.gate) (sym is_found)

@@ -88,16 +88,16 @@ none_fires flows count p next id task stamp (Some o) (Some due) none is = cc non
 -- ---- the world
 
 module _ (rules : Rules) (latest : ℕ) {trail : List Settled} {told : List Said} {lines : List ℕ} (story : SaidSoFar (may_follow rules latest) (may_say rules) trail told lines) (before : Partition)
-    (made : placed rules.flows 1 rules.begin (of_part 0 trail) ≡ Ok before) (shows : AreShown 1 (λ place. before)) (younger : before.incarnation ≤ rules.life) (rightly : AnswersTaken before)
+    (made : placed rules.flows 1 rules.begin (of_part 0 trail) ≡ Ok before) (shows : AreShown 1 (λ place. before)) (younger : before.incarnation ≤ rules.incarnation) (rightly : AnswersTaken before)
     (asked : All IsRequest rules.requests) (quiet : Quiet rules.flows (map (λ (r : Request). r.message) rules.requests) (shown_by rules.flows before)) where
   abbrev world : World
   world = shown_by rules.flows before
 
   abbrev entered : Partition
-  entered = enter rules.life before
+  entered = enter rules.incarnation before
 
   here : AreShown 1 (λ place. entered)
-  here = are_shown_alone (with_part (λ place. before) 0 entered) entered refl (enter_keeps rules.flows 1 (λ place. before) 0 rules.life shows (omega arith) younger)
+  here = are_shown_alone (with_part (λ place. before) 0 entered) entered refl (enter_keeps rules.flows 1 (λ place. before) 0 rules.incarnation shows (omega arith) younger)
 
   pending_stirs : IsPending entered → ⊥
   pending_stirs (inl one) = let wrong : false ≡ true = sym (ap (λ (o : Option Activity). is_some o) (quiet.finished one.0 one.1)) ∙ one.2 in cc wrong

@@ -7,7 +7,7 @@ use Rattle.dura_value.specs.Items.{Entry}
 use Rattle.engine_run.specs.Job.{Job, FilesKeep}
 use Rattle.engine_run.specs.Kept.{IsClash, NoClash}
 use Rattle.hub_store.specs.Trail.{Settled}
-use Rattle.dura_model.specs.Entries.{next_life}
+use Rattle.dura_model.specs.Entries.{next_incarnation}
 use Rattle.recover_core.specs.Recovering.{Recovers, OnlySyncs}
 use Rattle.recover_core.specs.declared.error.RecoverError.{RecoverError}
 use Rattle.recover_core.specs.declared.error.RecoverError.TheVariants as errors
@@ -21,7 +21,7 @@ use Rattle.site_model.specs.History.{Step}
 abbrev pub AsksFor : (ℕ → List ℕ) → Job → Type 0
 AsksFor files job = HasInput files job.flows job.digest job.requests
 
--- The files are accepted: what the logs kept made a state in which nothing clashes, and a further life may begin.
+-- The files are accepted: what the logs kept made a state in which nothing clashes, and a further incarnation may begin.
 pub record IsReady (files : ℕ → List ℕ) : Type 0 where
   pub job : Job
   pub asks : AsksFor files job
@@ -29,7 +29,7 @@ pub record IsReady (files : ℕ → List ℕ) : Type 0 where
   pub state : Partition
   pub keeps : FilesKeep job files entries state
   pub no_clash : NoClash state job.requests
-  pub young : next_life entries < 2 ^ 62
+  pub young : next_incarnation entries < 2 ^ 62
 
 -- another request was taken under this client's name and number
 abbrev pub ClashesWithKept : (ℕ → List ℕ) → (client : List ℕ) → (number : ℕ) → Type 0
@@ -98,7 +98,7 @@ SettlesNothing None cause = Unit {0}
 SettlesNothing (Some (Show partitions)) cause = Unit {0}
 SettlesNothing (Some (Run options)) cause = IsRefusal cause
 
--- A refusal writes nothing, and says nothing: the log files may be synced. Where no life is left, `AreRefused` has it too.
+-- A refusal writes nothing, and says nothing: the log files may be synced. Where no incarnation is left, `AreRefused` has it too.
 abbrev pub Untouched : (old new : List Step) → Cause → Type 0
 Untouched old new Done = Unit {0}
 Untouched old new (Waiting client number) = Unit {0}

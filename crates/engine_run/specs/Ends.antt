@@ -41,7 +41,7 @@ pub record IsFirstUntold (rules : Rules) (told : Told) (name : List ℕ) (number
   pub number_is : number ≡ request.number
   pub first : All (λ other. (r : Request) → next_untold rules told other ≡ Some r → no_later (name, number) (other, r.number) ≡ true) (clients_of rules.requests)
 
--- What a call goes by: its options; what activities give; and of the clock the moments that it had given before and by the end, and the
+-- What a call goes by: its options; what activities give; and of the clock the stamps that it had given before and by the end, and the
 -- greatest of them.
 pub record Terms : Type 0 where
   pub options : RunOptions
@@ -53,7 +53,7 @@ pub record Terms : Type 0 where
 abbrev pub terms_of : RunOptions → (List ℕ → Value → ℕ → Outcome) → (before after : List Reading) → (latest : ℕ) → Terms
 terms_of options gives before after latest = record { options = options; gives = gives; before = before; after = after; latest = latest }
 
--- It went by its clock: each entry is filled at the moment that the clock gave last, which it gave since the entry before, and with no more
+-- It went by its clock: each entry is filled at the stamp that the clock gave last, which it gave since the entry before, and with no more
 -- items than an entry may have; and no entry came once there were as many labels as there may be.
 pub record GoesInTime (rules : Rules) (terms : Terms) (trail : List Settled) (told : List Said) : Type 0 where
   pub course : GoesByClock rules terms.gives terms.options.batch (clients_of rules.requests) terms.before [] [] terms.after (of_part 0 trail) told
@@ -72,8 +72,8 @@ pub record WouldFill (rules : Rules) (latest : ℕ) (o : Origin) (steps : List S
   pub length_is : length_then ≡ gate + 6 + length (spell_frame (entry ∷ []))
   pub reaches : options.segment ≤ length_then
 
--- The place of the next entry is this number, which isn't below the limit of the format.
-pub record IsPlaceSpent (rules : Rules) (trail : List Settled) (number : ℕ) : Type 0 where
+-- The position of the next entry is this number, which isn't below the limit of the format.
+pub record IsPositionSpent (rules : Rules) (trail : List Settled) (number : ℕ) : Type 0 where
   pub before : Partition
   pub made : placed rules.flows 1 rules.begin (of_part 0 trail) ≡ Ok before
   pub number_is : number ≡ before.position
@@ -99,7 +99,7 @@ module _ (MayFollow : List Settled → List Said → ℕ → List Entry → Type
   EndsAs steps trail options (Long labels) = (labels ≡ count_labels (of_part 0 trail)) × (options.steps ≤ labels) × ((told : List Said) × StandsWith MayFollow MaySay o steps trail told [])
   EndsAs steps trail options (Full partition length_then) =
       (partition ≡ 0) × ((told : List Said) × StandsWith MayFollow MaySay o steps trail told [] × WouldFill rules latest o steps trail told options length_then)
-  EndsAs steps trail options (Spent partition number) = (partition ≡ 0) × IsPlaceSpent rules trail number × ((told : List Said) × StandsWith MayFollow MaySay o steps trail told [])
+  EndsAs steps trail options (Spent partition number) = (partition ≡ 0) × IsPositionSpent rules trail number × ((told : List Said) × StandsWith MayFollow MaySay o steps trail told [])
   EndsAs steps trail options SiteFault = Unit {0}
   EndsAs steps trail options SayFault = Unit {0}
   EndsAs steps trail options ClockFault = Unit {0}

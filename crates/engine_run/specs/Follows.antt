@@ -1,4 +1,4 @@
--- What may follow may follow still once more was settled elsewhere, and said; and up to a later moment.
+-- What may follow may follow still once more was settled elsewhere, and said; and up to a later stamp.
 use Rattle.std.proofs.Common.{◌≡◌, ◌≤◌, ℕ, List, [], ◌++◌, sym, ◌∙◌, ap, subst}
 use Rattle.std.proofs.lemmas.List.{map-append, append-nil}
 use Rattle.dura_value.specs.Items.{Entry}

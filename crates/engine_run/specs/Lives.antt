@@ -10,7 +10,7 @@ use Rattle.engine_run.specs.Picks.{rules_with}
 use Rattle.flow_syntax.specs.Syntax.{Flows}
 use Rattle.hub_store.specs.Origin.{Origin}
 use Rattle.hub_store.specs.Trail.{Settled, Said, of_part, settled_at}
-use Rattle.dura_model.specs.Entries.{next_life, labels_in}
+use Rattle.dura_model.specs.Entries.{next_incarnation, labels_in}
 use Rattle.run_rules.specs.Stands.{FilesStand}
 use Rattle.run_causes.specs.declared.cause.Cause.{Cause}
 use Rattle.run_laws.specs.Leaves.{AllAnswered, IsHalfSaid}
@@ -86,9 +86,9 @@ pub record Speaks (entries : List Entry) (life : Life) : Type 0 where
   pub told : List Said
   pub lines : List ℕ
   pub part : List ℕ
-  pub answered : AllAnswered (rules_with life.job begin (next_life (origin.logs 0).entries)) origin behind told lines
+  pub answered : AllAnswered (rules_with life.job begin (next_incarnation (origin.logs 0).entries)) origin behind told lines
   pub spoken : tape (by_then life) ≡ tape life.old ++ lines ++ part
-  pub saying : (part ≡ []) ⊎ IsHalfSaid (rules_with life.job begin (next_life (origin.logs 0).entries)) origin behind told (by_then life) part
+  pub saying : (part ≡ []) ⊎ IsHalfSaid (rules_with life.job begin (next_incarnation (origin.logs 0).entries)) origin behind told (by_then life) part
 
 -- what a life said is that run's, if it said anything
 abbrev pub IsSaidBy : List Entry → Life → Type 0

@@ -25,26 +25,26 @@ log_of digest file payloads (Err offset) = record { file = file; header = header
 abbrev pub log_with : (digest file : ℕ) → List (List ℕ) → Log
 log_with digest file payloads = log_of digest file payloads (decoded first_gate (first_of (header_with digest)) payloads)
 
--- whether a log goes on at this position, in no later life than this
-abbrev pub goes_on_at : Log → (position life : ℕ) → Bool
-goes_on_at log position life = ((goes_on log []).position == position) && nat_le (goes_on log []).incarnation life
+-- whether a log goes on at this position, in no later incarnation than this
+abbrev pub goes_on_at : Log → (position incarnation : ℕ) → Bool
+goes_on_at log position incarnation = ((goes_on log []).position == position) && nat_le (goes_on log []).incarnation incarnation
 
 -- a log without entries that begins at this position
 abbrev pub log_at : Log → (position : ℕ) → Log
 log_at log position = record { file = log.file; header = record log.header { base = position }; payloads = []; entries = [] }
 
 -- the log, where it goes on at this position; else one without entries that begins there
-abbrev pub log_from : Log → (position life : ℕ) → Log
-log_from log position life = if goes_on_at log position life then log else log_at log position
+abbrev pub log_from : Log → (position incarnation : ℕ) → Log
+log_from log position incarnation = if goes_on_at log position incarnation then log else log_at log position
 
--- the log that a file has by now, where it goes on behind this state in this life
-abbrev pub log_in_file : (digest file : ℕ) → List Step → Partition → (life : ℕ) → Log
-log_in_file digest file steps state life = log_from (log_with digest file (payloads_of (reading_of (content_of file steps)))) state.position life
+-- the log that a file has by now, where it goes on behind this state in this incarnation
+abbrev pub log_in_file : (digest file : ℕ) → List Step → Partition → (incarnation : ℕ) → Log
+log_in_file digest file steps state incarnation = log_from (log_with digest file (payloads_of (reading_of (content_of file steps)))) state.position incarnation
 
 -- one partition with this log
 abbrev pub origin_with : Log → List Step → Origin
 origin_with log steps = record { count = 1; logs = λ partition. log; steps = steps }
 
--- the rules of a run from this state on, in this life
-abbrev pub rules_with : Job → Partition → (life : ℕ) → Rules
-rules_with job state life = record { flows = job.flows; begin = state; life = life; requests = job.requests }
+-- the rules of a run from this state on, in this incarnation
+abbrev pub rules_with : Job → Partition → (incarnation : ℕ) → Rules
+rules_with job state incarnation = record { flows = job.flows; begin = state; incarnation = incarnation; requests = job.requests }

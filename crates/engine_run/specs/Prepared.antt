@@ -5,7 +5,7 @@ use Rattle.engine_run.specs.Job.{Job, FilesKeep}
 use Rattle.engine_run.specs.Opened.{IsOpened}
 use Rattle.engine_run.specs.declared.prepared.Prepared.{Prepared}
 use Rattle.flow_syntax.specs.Views.{flows_of}
-use Rattle.dura_model.specs.Entries.{next_life}
+use Rattle.dura_model.specs.Entries.{next_incarnation}
 use Rattle.part_steps.specs.States.{state_of, count_of, IsSound}
 use Rattle.request_reader.specs.Line.{request_of}
 use Rattle.run_causes.specs.declared.cause.Cause.{Cause}
@@ -16,18 +16,18 @@ use Rattle.site_model.specs.History.{Step}
 abbrev pub job_of : Prepared → Job
 job_of p = record { flows = flows_of p.flows; digest = p.digest; requests = map request_of p.requests.items }
 
--- An entry of the life that begins may begin in the state of the one partition.
+-- An entry of the incarnation that begins may begin in the state of the one partition.
 pub record CanGoOn (p : Prepared) : Type 0 where
   pub sound : IsSound p.state
   pub alone : count_of p.state ≡ 1
-  pub younger : (state_of p.state).incarnation ≤ p.life
-  pub young : p.life < 2 ^ 62
+  pub younger : (state_of p.state).incarnation ≤ p.incarnation
+  pub young : p.incarnation < 2 ^ 62
 
--- What the files held made the state; the life that begins is one later than the last; and the log is opened.
+-- What the files held made the state; the incarnation that begins is one later than the last; and the log is opened.
 pub record IsPrepared (files : ℕ → List ℕ) (steps : List Step) (p : Prepared) : Type 0 where
   pub entries : List Entry
   pub keeps : FilesKeep (job_of p) files entries (state_of p.state)
-  pub life_is : p.life ≡ next_life entries
+  pub incarnation_is : p.incarnation ≡ next_incarnation entries
   pub opened : IsOpened p.digest entries steps p.log
 
 -- why a run may end before it goes on

@@ -10,7 +10,7 @@ use Rattle.dura_model.specs.Legal.{Quiet}
 use Rattle.dura_model.specs.Partition.{Partition, enter}
 use Rattle.dura_value.specs.Items.{Entry}
 use Rattle.engine_run.specs.Asked.{IsRequest, IsTaken}
-use Rattle.engine_run.specs.Ends.{Terms, GoesInTime, WouldFill, IsPlaceSpent, SaysWhole}
+use Rattle.engine_run.specs.Ends.{Terms, GoesInTime, WouldFill, IsPositionSpent, SaysWhole}
 use Rattle.engine_run.specs.Order.{no_later}
 use Rattle.hub_store.specs.Moments.{StandsWith, AtEveryMoment}
 use Rattle.hub_store.specs.Origin.{Origin}
@@ -54,7 +54,7 @@ module _ (MayFollow : List Settled → List Said → ℕ → List Entry → Type
     pub made : placed rules.flows 1 rules.begin (of_part 0 trail) ≡ Ok state
     pub quiet : Quiet rules.flows [] (shown_by rules.flows state)
     pub taken : All (IsTaken state queues) (clients_of rules.requests)
-    pub over : IsOver rules (enter rules.life state) queues (clients_of rules.requests)
+    pub over : IsOver rules (enter rules.incarnation state) queues (clients_of rules.requests)
     pub asked : All IsRequest rules.requests
 
   -- Whole lines were said, and once this was settled something is possible still. Each request is one that its client sends.
@@ -70,7 +70,7 @@ module _ (MayFollow : List Settled → List Said → ℕ → List Entry → Type
   RoundsEnd steps trail options (Waiting client number) = (queues : List Queue) × IsAtRest steps trail queues × IsFirstUnsaid queues (clients_of rules.requests) client number
   RoundsEnd steps trail options (Long labels) = (labels ≡ count_labels (of_part 0 trail)) × (options.steps ≤ labels) × IsUnfinished steps trail
   RoundsEnd steps trail options (Full partition length_then) = (partition ≡ 0) × ((left : IsUnfinished steps trail) × WouldFill rules latest o steps trail left.told options length_then)
-  RoundsEnd steps trail options (Spent partition number) = (partition ≡ 0) × IsPlaceSpent rules trail number × IsUnfinished steps trail
+  RoundsEnd steps trail options (Spent partition number) = (partition ≡ 0) × IsPositionSpent rules trail number × IsUnfinished steps trail
   RoundsEnd steps trail options SiteFault = Unit {0}
   RoundsEnd steps trail options SayFault = Unit {0}
   RoundsEnd steps trail options ClockFault = Unit {0}
@@ -90,17 +90,17 @@ module _ (MayFollow : List Settled → List Said → ℕ → List Entry → Type
     pub short : IsShort terms.options.segment (of_part 0 trail) (content_of (o.logs 0).file new)
     pub ends : RoundsEnd new trail terms.options cause
 
--- why a run doesn't go on at all: for want of memory, or of a number for an entry at this place
-abbrev pub IsWanting : (place : ℕ) → Cause → Type 0
-IsWanting place Memory = Unit {0}
-IsWanting place (Spent partition number) = (partition ≡ 0) × (number ≡ place) × (2 ^ 62 ≤ number)
-IsWanting place other = ⊥
+-- why a run doesn't go on at all: for want of memory, or of a number for an entry at this position
+abbrev pub IsWanting : (position : ℕ) → Cause → Type 0
+IsWanting position Memory = Unit {0}
+IsWanting position (Spent partition number) = (partition ≡ 0) × (number ≡ position) × (2 ^ 62 ≤ number)
+IsWanting position other = ⊥
 
 -- nothing happened
-pub record Stays (old new : List Step) (trail : List Settled) (place : ℕ) (cause : Cause) : Type 0 where
+pub record Stays (old new : List Step) (trail : List Settled) (position : ℕ) (cause : Cause) : Type 0 where
   pub same : new ≡ old
   pub nothing : trail ≡ []
-  pub wanting : IsWanting place cause
+  pub wanting : IsWanting position cause
 
 -- why rounds stop
 abbrev pub cause_of_stop : Stop → Cause

@@ -37,7 +37,7 @@ fn run_requests<V: Site, C: Clock, A: Activities>(
     requires few { options.batch ≤ 64 }
     requires fits { 0 < options.segment }
     requires short { options.segment ≤ 2 ^ 31 }
-    ensures told { V.tells result.site → V.tells site }
+    ensures tells { V.tells result.site → V.tells site }
     ensures status { result.status ≡ status_of result.cause }
     ensures no_usage { result.cause ≢ Cause.Usage }
     ensures answers { V.tells result.site → CauseHolds (λ file. content_of file (V.history site)) result.cause }
@@ -62,7 +62,7 @@ pub fn run_alone<V: Site, C: Clock, A: Activities>(
     clock: C,
     acts: &A,
 ) -> Ended<V, C>
-    ensures told { V.tells result.site → V.tells site }
+    ensures tells { V.tells result.site → V.tells site }
     ensures status { result.status ≡ status_of result.cause }
 
     // The words alone decide on a usage fault, and then nothing happens.
@@ -104,7 +104,7 @@ pub fn run<R: Threads + Wait + Sync, V: Site + Send, C: Clock + Send, A: Activit
     clock: C,
     acts: &A,
 ) -> Ended<V, C>
-    ensures told { V.tells result.site → V.tells site }
+    ensures tells { V.tells result.site → V.tells site }
     ensures status { result.status ≡ status_of result.cause }
 
     // The words alone decide on a usage fault, and then nothing happens.

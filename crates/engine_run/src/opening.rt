@@ -51,7 +51,7 @@ pub(crate) fn recover_logs<V: Site>(
     flows: &Flows,
     digest: u64,
 ) -> Result<Recovered, Cause>
-    ensures told { V.tells site.new → V.tells site.old }
+    ensures tells { V.tells site.new → V.tells site.old }
     ensures recovers { V.tells site.new → RecoversAs (flows_of flows.now) digest (λ file. content_of file (V.history site.old)) result }
     ensures begins { IfOk result CanBegin }
     ensures early { IfErr result IsLogCause }
@@ -75,7 +75,7 @@ pub(crate) fn open_log<V: Site>(
     log: Option<Resting>,
     digest: u64,
 ) -> Result<Resting, Cause>
-    ensures told { V.tells site.new → V.tells site.old }
+    ensures tells { V.tells site.new → V.tells site.old }
     ensures there { IfSome log (λ found. (result ≡ Ok found) × (V.history site.new ≡ V.history site.old)) }
     ensures during { log ≡ None → V.tells site.new → IsKept (changes_of FIRST_LOG (V.history site.old))
         → LeavesOnly FIRST_LOG (V.history site.old) (V.history site.new) (IsFormatting (content_of FIRST_LOG (V.history site.old)) (header_with digest)) }

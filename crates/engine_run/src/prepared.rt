@@ -36,14 +36,14 @@ pub(crate) struct Prepared {
     pub state: PartState,
     /// The log.
     pub log: Resting,
-    /// The life that begins.
-    pub life: u64,
+    /// The incarnation that begins.
+    pub incarnation: u64,
 }
 
 /// Reads what is asked for, recovers what the logs keep, and opens the log, in this order. Where another request was taken
 /// than is asked for, nothing is opened.
 pub(crate) fn prepare<V: Site>(alloc: Global, site: &mut V) -> Result<Prepared, Cause>
-    ensures told { V.tells site.new → V.tells site.old }
+    ensures tells { V.tells site.new → V.tells site.old }
     ensures asks { V.tells site.new → IfOk result (λ p. AsksFor (λ file. content_of file (V.history site.old)) (job_of p)) }
     ensures prepared { V.tells site.new → IfOk result (IsPrepared (λ file. content_of file (V.history site.old)) (V.history site.new)) }
     ensures no_clash { IfOk result (λ p. NoClash (state_of p.state) (job_of p).requests) }
@@ -81,6 +81,6 @@ pub(crate) fn prepare<V: Site>(alloc: Global, site: &mut V) -> Result<Prepared, 
         requests,
         state,
         log,
-        life: incarnation,
+        incarnation,
     })
 }

@@ -44,7 +44,7 @@ use std::alloc::{AllocError, Global};
 /// The one partition.
 const ALONE: u32 = 0;
 
-/// The place that no entry may have: the format's numbers are below it.
+/// The position that no entry may have: the format's numbers are below it.
 const POSITION_LIMIT: u64 = 1 << 62;
 
 /// Why a run ends that goes on no more.
@@ -110,19 +110,19 @@ fn drive_on<V: Site, N: Ruled, C: Clock, A: Activities>(
     port: &mut Port,
     clients: &[Name],
     state: PartState,
-    life: u64,
+    incarnation: u64,
     options: RunOptions,
 ) -> Cause
     requires sound { IsSound store.old }
     requires going { store.old.halted ≡ false }
     requires rests { stage_at store.old 0 ≡ Stage.Resting }
     requires new { trail_in store.old ≡ [] }
-    requires moment { store.old.latest ≤ C.latest clock.old }
+    requires stamp { store.old.latest ≤ C.latest clock.old }
     requires segment { store.old.segment ≡ options.segment }
     requires fits { 0 < options.segment }
     requires flows { N.rules.flows ≡ flows_of flows.now }
-    requires life { life ≡ N.rules.life }
-    requires short { life < 2 ^ 62 }
+    requires incarnation { incarnation ≡ N.rules.incarnation }
+    requires short { incarnation < 2 ^ 62 }
     requires some { 0 < options.batch }
     requires few { options.batch ≤ 64 }
     requires stands { StateStands N.rules (N.origin.logs 0) (of_part 0 (trail_in store.old)) (state_of state) }
@@ -134,7 +134,7 @@ fn drive_on<V: Site, N: Ruled, C: Clock, A: Activities>(
     requires asked { V.tells store.old.site → All IsRequest N.rules.requests }
     ensures tells { V.tells store.new.site → V.tells store.old.site }
     ensures sound { IsSound store.new }
-    ensures moment { store.new.latest ≤ C.latest clock.new }
+    ensures stamp { store.new.latest ≤ C.latest clock.new }
     ensures segment { store.new.segment ≡ store.old.segment }
     ensures whole { result ≢ Cause.SayFault → store.new.cut ≡ false }
     ensures ends { V.tells store.new.site → RoundsEnd (N.may_follow (C.latest clock.new)) N.may_say N.rules (C.latest clock.new) N.origin (V.history store.new.site) (trail_in store.new) options result }
@@ -153,7 +153,7 @@ fn drive_on<V: Site, N: Ruled, C: Clock, A: Activities>(
         port,
         clients,
         state,
-        life,
+        incarnation,
         options.batch,
         options.steps,
     ) {
@@ -193,12 +193,12 @@ pub(crate) fn go<V: Site, N: Ruled, C: Clock, A: Activities>(
     requires few { options.batch ≤ 64 }
     requires fits { 0 < options.segment }
     requires short { options.segment ≤ 2 ^ 31 }
-    requires rules { N.rules ≡ rules_with (job_of prepared) (state_of prepared.state) prepared.life }
+    requires rules { N.rules ≡ rules_with (job_of prepared) (state_of prepared.state) prepared.incarnation }
     requires stands { StateStands N.rules (N.origin.logs 0) [] (state_of prepared.state) }
     requires origin { IsOrigin N.origin }
     requires asked { V.tells site → All IsRequest N.rules.requests }
     requires begun { V.tells site → HasBegun N.origin (V.history site) (prepared.log ∷ []) }
-    ensures told { V.tells result.site → V.tells site }
+    ensures tells { V.tells result.site → V.tells site }
     ensures status { result.status ≡ status_of result.cause }
     ensures late { IsLateCause result.cause }
     ensures goes { V.tells result.site → GoesOn (N.may_follow (C.latest result.clock)) N.may_say N.rules (C.latest result.clock) N.origin (V.history result.site) result.trail (terms_of options A.gives (C.given clock) (C.given result.clock) (C.latest result.clock)) result.cause ⊎ Stays (V.history site) (V.history result.site) result.trail (state_of prepared.state).position result.cause }
@@ -210,7 +210,7 @@ pub(crate) fn go<V: Site, N: Ruled, C: Clock, A: Activities>(
         requests,
         state,
         log,
-        life,
+        incarnation,
     } = prepared;
     let nothing = Trail::none(alloc);
     let position = state.position();
@@ -238,7 +238,7 @@ pub(crate) fn go<V: Site, N: Ruled, C: Clock, A: Activities>(
         }
     };
     let cause = drive_on(
-        alloc, &mut store, &mut clock, acts, &flows, &mut port, &clients, state, life, options,
+        alloc, &mut store, &mut clock, acts, &flows, &mut port, &clients, state, incarnation, options,
     );
     let Settled { site, trail } = store.end();
     end_with(cause, trail, site, clock)
@@ -258,12 +258,12 @@ pub(crate) fn go_named<V: Site, M: Named, C: Clock, A: Activities>(
     requires few { options.batch ≤ 64 }
     requires fits { 0 < options.segment }
     requires short { options.segment ≤ 2 ^ 31 }
-    requires rules { M.rules ≡ rules_with (job_of prepared) (state_of prepared.state) prepared.life }
+    requires rules { M.rules ≡ rules_with (job_of prepared) (state_of prepared.state) prepared.incarnation }
     requires stands { StateStands M.rules M.log [] (state_of prepared.state) }
     requires origin { IsOrigin (origin_with M.log M.steps) }
     requires asked { V.tells site → All IsRequest M.rules.requests }
     requires begun { V.tells site → HasBegun (origin_with M.log M.steps) (V.history site) (prepared.log ∷ []) }
-    ensures told { V.tells result.site → V.tells site }
+    ensures tells { V.tells result.site → V.tells site }
     ensures status { result.status ≡ status_of result.cause }
     ensures late { IsLateCause result.cause }
     ensures goes { V.tells result.site → GoesOn (may_follow M.rules (C.latest result.clock)) (may_say M.rules) M.rules (C.latest result.clock) (origin_with M.log M.steps) (V.history result.site) result.trail (terms_of options A.gives (C.given clock) (C.given result.clock) (C.latest result.clock)) result.cause ⊎ Stays (V.history site) (V.history result.site) result.trail (state_of prepared.state).position result.cause }

@@ -15,7 +15,7 @@ use std::alloc::Global;
 
 /// Reads the flows, recovers what the logs keep, and says the table of it.
 pub(crate) fn show<V: Site>(alloc: Global, site: &mut V) -> Cause
-    ensures told { V.tells site.new → V.tells site.old }
+    ensures tells { V.tells site.new → V.tells site.old }
     ensures shows { V.tells site.new → ShowsAs (λ file. content_of file (V.history site.old)) (tape (V.history site.old)) (tape (V.history site.new)) result }
     ensures nothing { WritesNothing (V.history site.old) (V.history site.new) }
     ensures fault { result ≡ Cause.SiteFault → HasRisen (V.disk_faults site.old) (V.disk_faults site.new) }

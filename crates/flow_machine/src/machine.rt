@@ -64,7 +64,7 @@ pub struct Machine<'f> {
     pub kept: KeptEvents,
     /// Its section.
     pub section: Section,
-    /// Its last moment.
+    /// Its last stamp.
     pub last: u64,
     /// How many events it had.
     pub events: u32,

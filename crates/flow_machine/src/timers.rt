@@ -26,7 +26,7 @@ impl<'f> Machine<'f> {
         integer
     }
 
-    /// A timer that is due at this moment.
+    /// A timer that is due at this stamp.
     fn set_due(&mut self, made: &mut Made, variable: &Name, due: u64) -> Result<(), AllocError>
         requires { due < 2 ^ 63 }
         ensures { OnOk result (Makes made.old made.new self.new (is_due_in_time (machine_of self.old) variable.now due)) }

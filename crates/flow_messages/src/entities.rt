@@ -14,7 +14,7 @@ pub struct Entity {
     pub value: Value,
     /// The instance that holds it.
     pub holder: Option<Id>,
-    /// Its last moment.
+    /// Its last stamp.
     pub last: u64,
 }
 

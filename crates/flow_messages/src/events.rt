@@ -17,11 +17,11 @@ pub enum Event {
     Granted(u32),
 }
 
-/// An event of a history, with its moment.
+/// An event of a history, with its stamp.
 #[derive(Drop)]
 pub struct Past {
     /// The event.
     pub event: Event,
-    /// Its moment.
+    /// Its stamp.
     pub stamp: u64,
 }

@@ -10,7 +10,7 @@ use std::alloc::Global;
 pub enum Asked {
     /// The activity of this task, by its name and with its argument.
     Activity(u32, Name, Value),
-    /// The timer of this task, and the moment that it is due at.
+    /// The timer of this task, and the stamp that it is due at.
     Timer(u32, u64),
 }
 

@@ -148,7 +148,7 @@ fn begin(
     }
 }
 
-/// An event at its last moment, and what it makes of it.
+/// An event at its last stamp, and what it makes of it.
 fn take(
     machine: &mut Machine<'_>,
     alloc: Global,
@@ -167,7 +167,7 @@ fn take(
     }
 }
 
-/// An event at this moment, and what the machine makes of it.
+/// An event at this stamp, and what the machine makes of it.
 pub fn advance(
     machine: &mut Machine<'_>,
     alloc: Global,

@@ -3,7 +3,7 @@
 ghost use Rattle.std.specs.Prelude.{◌≡◌, IfOk, option_map};
 ghost use Rattle.dura_value.specs.Views.{id_of, body_of as said_of};
 ghost use Rattle.flow_syntax.specs.Views.{flows_of};
-ghost use Rattle.dura_model.specs.Deliveries.{at_moment, to_instance};
+ghost use Rattle.dura_model.specs.Deliveries.{at_stamp, to_instance};
 ghost use Rattle.dura_model.specs.Partition.{instance_in};
 ghost use Rattle.part_rows.specs.Views.{row_of};
 ghost use Rattle.flow_steps.specs.Views.{instance_of, effect_of};
@@ -17,15 +17,15 @@ use flow_syntax::Flows;
 use part_rows::{Row, Waiting};
 use std::alloc::{AllocError, Global};
 
-/// An instance has a new last moment.
+/// An instance has a new last stamp.
 fn at<'f>(mut instance: Instance<'f>, stamp: u64) -> Instance<'f>
-    ensures { instance_of result ≡ at_moment (instance_of instance.entry) stamp }
+    ensures { instance_of result ≡ at_stamp (instance_of instance.entry) stamp }
 {
     instance.machine.last = stamp;
     instance
 }
 
-/// What a message to an instance makes at this moment.
+/// What a message to an instance makes at this stamp.
 pub(crate) fn to_instance<'f>(
     alloc: Global,
     flows: &'f Flows,

@@ -80,7 +80,7 @@ fn join(mut sent: Vec<Message>, mut more: Vec<Message>) -> Result<Vec<Message>, 
     Ok(sent)
 }
 
-/// An event reaches an instance at this moment. `before` is sent before all that the machine sends.
+/// An event reaches an instance at this stamp. `before` is sent before all that the machine sends.
 #[tactic(auto, using(crate::proofs::AtEnds::at_an_end))]
 pub(crate) fn go_on_from<'f>(
     alloc: Global,

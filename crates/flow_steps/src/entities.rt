@@ -22,7 +22,7 @@ fn first_value(flows: &Flows, class: &Name) -> Result<Value, AllocError>
     }
 }
 
-/// An entity as it was kept, or as its class begins, at a new last moment.
+/// An entity as it was kept, or as its class begins, at a new last stamp.
 pub(crate) fn entity_at(
     flows: &Flows,
     class: &Name,

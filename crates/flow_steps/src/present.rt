@@ -271,7 +271,7 @@ fn query<'f>(
     Ok(stay(alloc, instance, sent))
 }
 
-/// A message to an instance that is there, at its new last moment.
+/// A message to an instance that is there, at its new last stamp.
 pub(crate) fn to_it<'f>(
     alloc: Global,
     instance: Instance<'f>,

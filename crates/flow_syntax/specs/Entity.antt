@@ -8,7 +8,7 @@ use Rattle.flow_syntax.specs.Syntax.{Block, Class, Flows, class_of, look_up}
 use Rattle.flow_syntax.specs.Eval.{Variables, value_in}
 use Rattle.flow_syntax.specs.Machine.{Machine, Progress, running, done, failed, new_machine, todo, go, most_steps}
 
--- an entity: its value, who holds it, and its last moment
+-- an entity: its value, who holds it, and its last stamp
 pub record Entity : Type 0 where
   pub value : Value
   pub holder : Option Id

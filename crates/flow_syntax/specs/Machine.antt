@@ -16,7 +16,7 @@ use Rattle.flow_syntax.specs.Eval.{◌>>=◌, wrong_type, Variables, set_in, eva
 -- ---- the machine
 
 -- what a task is: an activity with its argument, an instance that was started, an entity that was asked, a timer with the
--- moment that it is due at, the next event of a name, the grant of a set
+-- stamp that it is due at, the next event of a name, the grant of a set
 pub data Kind : Type 0 where
   of_activity : (name : List ℕ) → (argument : Value) → Kind
   of_flow : Kind
@@ -60,7 +60,7 @@ pub record Raised : Type 0 where
   pub value : Value
 
 -- An instance: its flow's body where the flow is known, who started it and is answered, its variables, what is still to run,
--- its tasks by number, how many results arrived, the events that are kept, its section, its last moment, how many events
+-- its tasks by number, how many results arrived, the events that are kept, its section, its last stamp, how many events
 -- it had, and how far it has come.
 pub record Machine : Type 0 where
   pub id : Id
@@ -335,7 +335,7 @@ asks m variable spot operation argument = record {
 abbrev pub signals : Machine → Spot → (operation : List ℕ) → Value → Resumed
 signals m spot operation argument = record { machine = m; sent = says m (at_spot spot) (operate operation argument to_nobody) ∷ []; asked = [] }
 
--- moments are below this
+-- stamps are below this
 abbrev pub end_of_time : ℕ
 end_of_time = number_limit
 
@@ -345,7 +345,7 @@ is_due_in_time m variable due =
     then record { machine = with_task (with_handle m variable) (of_timer due); sent = []; asked = a_timer (length m.tasks) due ∷ [] }
     else throws m (codes "overflow")
 
--- a timer is due at the last moment plus its delay
+-- a timer is due at the last stamp plus its delay
 abbrev pub sets_timer : Machine → (variable : List ℕ) → ℤ → Resumed
 sets_timer m variable (pos delay) = is_due_in_time m variable (m.last + delay)
 sets_timer m variable (negsuc n) = throws m (codes "range")
@@ -549,11 +549,11 @@ resumed_by m e unborn = begins m e m.body
 resumed_by m e running = goes_on (recorded m e)
 resumed_by m e over = granted_late m e
 
--- An event at this moment, and what the machine makes of it.
+-- An event at this stamp, and what the machine makes of it.
 abbrev pub resume : Machine → Event → ℕ → Resumed
 resume m e stamp = let now = record m { last = stamp } in resumed_by now e now.progress
 
--- an event of a history, with its moment
+-- an event of a history, with its stamp
 pub record Past : Type 0 where
   pub event : Event
   pub stamp : ℕ

@@ -22,7 +22,7 @@ pub enum Kind {
     Flow,
     /// An entity that was asked.
     Entity(Spot),
-    /// A timer, and the moment that it is due at.
+    /// A timer, and the stamp that it is due at.
     Timer(u64),
     /// The next event of a name.
     Event(Name),

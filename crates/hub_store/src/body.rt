@@ -57,7 +57,7 @@ fn body_log<V: Site>(
     requires limit { limit ≤ 2 ^ 31 }
     requires rests { V.tells site.old → Rests (changes_of log.file (V.history site.old)) log.gate }
     requires spelled { payload.now ≡ spell_frame (entries_of frame) }
-    ensures told { V.tells site.new → V.tells site.old }
+    ensures tells { V.tells site.new → V.tells site.old }
     ensures during { (h : Header) (payloads : List (List ℕ)) → IsResting (changes_of log.file (V.history site.old)) h payloads log.gate
         → LeavesOnly log.file (V.history site.old) (V.history site.new) (HasFrames h payloads log.gate) }
     ensures fits { (h : Header) (payloads : List (List ℕ)) → IsResting (changes_of log.file (V.history site.old)) h payloads log.gate
@@ -99,7 +99,7 @@ impl<V: Site, N: Start> Store<V, N> {
         requires place { part < N.origin.count }
         requires rests { stage_at self.old part ≡ Stage.Resting }
         requires behind { GoesBehind (goes_on (N.origin.logs part) (of_part part (trail_in self.old))) (entries_of frame) }
-        ensures told { V.tells self.new.site → V.tells self.old.site }
+        ensures tells { V.tells self.new.site → V.tells self.old.site }
         ensures sound { IsSound self.new }
         ensures ok { OnOk result ((stage_at self.new part ≡ Stage.Bodied) × (going_at self.new part ≡ Some (entries_of frame))) }
         ensures only { MovesOnly part self.old self.new }

@@ -25,7 +25,7 @@ use site_model::Site;
 /// Opens the gate before a frame.
 fn gate_log<V: Site>(site: &mut V, log: Synced, frame: Frame) -> (Way, Result<(), Refusal>)
     requires { V.tells site.old → IsSyncedThere (changes_of log.file (V.history site.old)) log.gate log.next }
-    ensures told { V.tells site.new → V.tells site.old }
+    ensures tells { V.tells site.new → V.tells site.old }
     ensures step { (bytes : List ℕ) × ((V.history site.new ≡ on log.file (wrote log.gate 1 bytes) ∷ V.history site.old) ⊎ (V.history site.new ≡ V.history site.old)) }
     ensures during { (h : Header) (payloads : List (List ℕ)) (payload : List ℕ) → IsSynced (changes_of log.file (V.history site.old)) h payloads payload log.gate log.next
         → LeavesOnly log.file (V.history site.old) (V.history site.new) (HasFramesOrOneMore h payloads payload log.gate log.next) }
@@ -53,7 +53,7 @@ impl<V: Site, N: Start> Store<V, N> {
         requires going { self.old.halted ≡ false }
         requires place { part < N.origin.count }
         requires follows { (going : List Entry) → going_at self.old part ≡ Some going → N.may_follow self.old.latest (trail_in self.old) (told_in self.old) part going }
-        ensures told { V.tells self.new.site → V.tells self.old.site }
+        ensures tells { V.tells self.new.site → V.tells self.old.site }
         ensures sound { IsSound self.new }
         ensures ok { OnOk result (stage_at self.new part ≡ Stage.Gated) }
         ensures frame { going_at self.new part ≡ going_at self.old part }

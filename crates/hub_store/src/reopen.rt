@@ -36,7 +36,7 @@ pub enum Reopening {
 fn reopen_log<V: Site>(site: &mut V, way: Way) -> (Result<Reopened, Broken>, Frame)
     requires frame { stage_of way ≢ Stage.Resting }
     requires there { way ≢ Way.Away }
-    ensures told { V.tells site.new → V.tells site.old }
+    ensures tells { V.tells site.new → V.tells site.old }
     ensures reopens { V.tells site.new → (file : ℕ) (h : Header) (payloads : List (List ℕ)) → WayFits file h payloads (changes_of file (V.history site.old)) way
         → Reopens file h payloads (spell_frame (entries_of result.1)) way (V.history site.old) (V.history site.new) result.0 }
     ensures going { going_in way ≡ Some (entries_of result.1) }
@@ -64,7 +64,7 @@ impl<V: Site, N: Start> Store<V, N> {
         // Before its gate is opened a frame is only dropped.
         requires follows { (going : List Entry) → going_at self.old part ≡ Some going → stage_at self.old part ≢ Stage.Bodied → stage_at self.old part ≢ Stage.Synced
             → N.may_follow self.old.latest (trail_in self.old) (told_in self.old) part going }
-        ensures told { V.tells self.new.site → V.tells self.old.site }
+        ensures tells { V.tells self.new.site → V.tells self.old.site }
         ensures sound { IsSound self.new }
         ensures ok { OnOk result (stage_at self.new part ≡ Stage.Resting) }
         ensures settled { result ≡ Ok Reopening.Settled → Settles (V.tells self.new.site) (length (V.history self.new.site)) part (going_at self.old part) (trail_in self.old) (trail_in self.new) }

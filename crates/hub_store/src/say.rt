@@ -26,7 +26,7 @@ impl<V: Site, N: Start> Store<V, N> {
         requires going { self.old.halted ≡ false }
         requires some { 0 < length line.now }
         requires may { N.may_say (trail_in self.old) (told_in self.old) (asked client.now number) line.now }
-        ensures told { V.tells self.new.site → V.tells self.old.site }
+        ensures tells { V.tells self.new.site → V.tells self.old.site }
         ensures sound { IsSound self.new }
         ensures ok { OnOk result (told_in self.new ≡ told_in self.old ++ asked client.now number ∷ []) }
         ensures err { OnErr result (told_in self.new ≡ told_in self.old) }

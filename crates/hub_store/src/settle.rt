@@ -19,7 +19,7 @@ impl<V: Site, N: Start> Store<V, N> {
         requires going { self.old.halted ≡ false }
         requires place { part < N.origin.count }
         requires follows { (going : List Entry) → going_at self.old part ≡ Some going → N.may_follow self.old.latest (trail_in self.old) (told_in self.old) part going }
-        ensures told { V.tells self.new.site → V.tells self.old.site }
+        ensures tells { V.tells self.new.site → V.tells self.old.site }
         ensures sound { IsSound self.new }
         ensures ok { OnOk result (stage_at self.new part ≡ Stage.Resting) }
         ensures trail { OnOk result (Settles (V.tells self.new.site) (length (V.history self.new.site)) part (going_at self.old part) (trail_in self.old) (trail_in self.new)) }

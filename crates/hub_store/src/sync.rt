@@ -23,7 +23,7 @@ use site_model::Site;
 
 /// Makes a frame safe on the disk.
 fn sync_log<V: Site>(site: &mut V, log: Bodied, frame: Frame) -> (Way, Result<(), Refusal>)
-    ensures told { V.tells site.new → V.tells site.old }
+    ensures tells { V.tells site.new → V.tells site.old }
     ensures during { (h : Header) (payloads : List (List ℕ)) (payload : List ℕ) → IsBodied (changes_of log.file (V.history site.old)) h payloads payload log.gate log.next
         → LeavesOnly log.file (V.history site.old) (V.history site.new) (HasFrames h payloads log.gate) }
     ensures fits { (h : Header) (payloads : List (List ℕ)) → IsBodied (changes_of log.file (V.history site.old)) h payloads (spell_frame (entries_of frame)) log.gate log.next
@@ -49,7 +49,7 @@ impl<V: Site, N: Start> Store<V, N> {
         requires sound { IsSound self.old }
         requires going { self.old.halted ≡ false }
         requires place { part < N.origin.count }
-        ensures told { V.tells self.new.site → V.tells self.old.site }
+        ensures tells { V.tells self.new.site → V.tells self.old.site }
         ensures sound { IsSound self.new }
         ensures ok { OnOk result (stage_at self.new part ≡ Stage.Synced) }
         ensures frame { going_at self.new part ≡ going_at self.old part }

@@ -16,9 +16,9 @@ use std::marker::Model;
 pub struct Settled {
     /// The partition that it is of.
     pub partition: u32,
-    /// Its place in the partition's log.
+    /// Its position in the partition's log.
     pub position: u64,
-    /// The life of the partition that made it.
+    /// The incarnation of the partition that made it.
     pub incarnation: u64,
     /// What it keeps.
     pub items: Items,

@@ -15,7 +15,7 @@ use Rattle.hub_store.specs.Sound.{IsSound}
 abbrev pub header : Header
 header = record { partition = 0; partitions = 1; digest = 0x08F44B07B5901A25; base = 0 }
 
--- the stream to partition 2 is let go before number 5: the entry 4 of its life 3 has the one before that
+-- the stream to partition 2 is let go before number 5: the entry 4 of its incarnation 3 has the one before that
 abbrev pub letting_go : Item
 letting_go = trim (record { partition = 2; incarnation = 3; position = 4 }) 5
 

@@ -85,7 +85,7 @@ fn lines_said(rt: &impl Abort, alloc: Global, site: &MemorySite) -> u64 {
     1
 }
 
-/// When the entry at this position was settled, once, in its life.
+/// When the entry at this position was settled, once, in its incarnation.
 fn settled_at(rt: &impl Abort, rows: &[Settled], position: usize) -> u64 {
     let row = rows.get(position).expect(rt, "an entry that was settled");
     assert!(rt;

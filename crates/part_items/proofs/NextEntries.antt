@@ -12,7 +12,7 @@ use Rattle.dura_codec.specs.Fields.{Read, Stops, number_at, count_at, fault_in}
 use Rattle.part_items.specs.Coming.{Coming, to_come, IsNext, IsFirst, ReadsNext}
 use Rattle.part_items.specs.declared.frames.Entry as read
 use Rattle.part_items.specs.Grammar.{members_at, entry_items_at, alone, whole}
-use Rattle.part_items.specs.Numbered.{Next, behind, place_at, life_at, next_entry_at, next_entries_at, next_frame_at, next_frame_in}
+use Rattle.part_items.specs.Numbered.{Next, behind, position_at, incarnation_at, next_entry_at, next_entries_at, next_frame_at, next_frame_in}
 use Rattle.part_items.specs.Tags.{most_members}
 
 -- ---- what is to come
@@ -85,16 +85,16 @@ count_below bytes read h =
     let below : s.0.0 < number_limit = grind (arith, nat_tests, p.0) in
     subst (λ (r : ℕ × List ℕ). r.0 < number_limit) p.1 below
 
-place_is : (next : Next) (bytes : List ℕ) (read : ℕ × List ℕ) → place_at next bytes ≡ Ok read → (read.0 ≡ next.position) × (read.0 < number_limit)
-unfolding place_at
-place_is next bytes read h =
+position_is : (next : Next) (bytes : List ℕ) (read : ℕ × List ℕ) → position_at next bytes ≡ Ok read → (read.0 ≡ next.position) × (read.0 < number_limit)
+unfolding position_at
+position_is next bytes read h =
     let s = step (count_at bytes) _ read h in
     let p = passed _ s.0 _ read s.2 in
     subst (λ (r : ℕ × List ℕ). (r.0 ≡ next.position) × (r.0 < number_limit)) p.1 (eqb-true s.0.0 next.position p.0, count_below bytes s.0 s.1)
 
-life_is : (next : Next) (bytes : List ℕ) (read : ℕ × List ℕ) → life_at next bytes ≡ Ok read → (next.incarnation ≤ read.0) × (read.0 < number_limit)
-unfolding life_at
-life_is next bytes read h =
+incarnation_is : (next : Next) (bytes : List ℕ) (read : ℕ × List ℕ) → incarnation_at next bytes ≡ Ok read → (next.incarnation ≤ read.0) × (read.0 < number_limit)
+unfolding incarnation_at
+incarnation_is next bytes read h =
     let s = step (count_at bytes) _ read h in
     let p = passed _ s.0 _ read s.2 in
     subst (λ (r : ℕ × List ℕ). (next.incarnation ≤ r.0) × (r.0 < number_limit)) p.1 (leb-true next.incarnation s.0.0 p.0, count_below bytes s.0 s.1)
@@ -102,12 +102,12 @@ life_is next bytes read h =
 pub is_next : (next : Next) (bytes : List ℕ) (entry : Entry) (after : List ℕ) → next_entry_at next bytes ≡ Ok (entry, after) → IsNext next entry
 unfolding next_entry_at
 is_next next bytes entry after h =
-    let place = step (place_at next bytes) _ (entry, after) h in
-    let life = step (life_at next place.0.1) _ (entry, after) place.2 in
-    let items = step (entry_items_at life.0.1) _ (entry, after) life.2 in
-    let at = place_is next bytes place.0 place.1 in
-    let of = life_is next place.0.1 life.0 life.1 in
-    let same : (record { position = place.0.0; incarnation = life.0.0; items = items.0.0 }, items.0.1) ≡ (entry, after) = ok_is _ (entry, after) items.2 in
+    let place = step (position_at next bytes) _ (entry, after) h in
+    let incarnation = step (incarnation_at next place.0.1) _ (entry, after) place.2 in
+    let items = step (entry_items_at incarnation.0.1) _ (entry, after) incarnation.2 in
+    let at = position_is next bytes place.0 place.1 in
+    let of = incarnation_is next place.0.1 incarnation.0 incarnation.1 in
+    let same : (record { position = place.0.0; incarnation = incarnation.0.0; items = items.0.0 }, items.0.1) ≡ (entry, after) = ok_is _ (entry, after) items.2 in
     subst (λ (r : Entry × List ℕ). IsNext next r.0) same (at.0, of.0, at.1, of.1)
 
 second_true : (x y : Bool) → x && y ≡ true → y ≡ true

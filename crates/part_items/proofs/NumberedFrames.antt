@@ -4,7 +4,7 @@ use Rattle.std.proofs.lemmas.Bool.Decides.{nat_tests}
 use Rattle.dura_value.specs.Items.{Entry}
 use Rattle.dura_codec.specs.Fields.{Read, count_at, several_at}
 use Rattle.part_items.specs.Grammar.{members_at, entry_items_at, entry_at, frame_at, whole, frame_in}
-use Rattle.part_items.specs.Numbered.{Next, behind, IsNumbered, place_at, life_at, next_entry_at, next_entries_at, next_frame_at, next_frame_in}
+use Rattle.part_items.specs.Numbered.{Next, behind, IsNumbered, position_at, incarnation_at, next_entry_at, next_entries_at, next_frame_at, next_frame_in}
 use Rattle.part_items.specs.Spelling.{spell_frame}
 use Rattle.part_items.specs.ItemFits.{FitsFrame}
 use Rattle.part_items.proofs.Numbers.{is_within}
@@ -12,16 +12,16 @@ use Rattle.part_items.proofs.Steps.{ok_is, step, passed}
 use Rattle.part_items.proofs.OnlyItems.{alone_ok}
 use Rattle.part_items.proofs.EntryLemmas.{frame_again}
 
-place_is : (next : Next) (bytes : List ℕ) (read : ℕ × List ℕ) → place_at next bytes ≡ Ok read → (count_at bytes ≡ Ok read) × (read.0 ≡ next.position)
-unfolding place_at
-place_is next bytes read h =
+position_is : (next : Next) (bytes : List ℕ) (read : ℕ × List ℕ) → position_at next bytes ≡ Ok read → (count_at bytes ≡ Ok read) × (read.0 ≡ next.position)
+unfolding position_at
+position_is next bytes read h =
     let s = step (count_at bytes) _ read h in
     let p = passed _ (Ok s.0) _ read s.2 in
     (s.1 ∙ p.1, subst (λ (r : ℕ × List ℕ). r.0 ≡ next.position) (ok_is s.0 read p.1) (eqb-true s.0.0 next.position p.0))
 
-life_is : (next : Next) (bytes : List ℕ) (read : ℕ × List ℕ) → life_at next bytes ≡ Ok read → (count_at bytes ≡ Ok read) × (next.incarnation ≤ read.0)
-unfolding life_at
-life_is next bytes read h =
+incarnation_is : (next : Next) (bytes : List ℕ) (read : ℕ × List ℕ) → incarnation_at next bytes ≡ Ok read → (count_at bytes ≡ Ok read) × (next.incarnation ≤ read.0)
+unfolding incarnation_at
+incarnation_is next bytes read h =
     let s = step (count_at bytes) _ read h in
     let p = passed _ (Ok s.0) _ read s.2 in
     (s.1 ∙ p.1, subst (λ (r : ℕ × List ℕ). next.incarnation ≤ r.0) (ok_is s.0 read p.1) (leb-true next.incarnation s.0.0 p.0))
@@ -29,45 +29,45 @@ life_is next bytes read h =
 is_same : (n m : ℕ) → n ≡ m → (n == m) ≡ true
 is_same n m same = grind (arith, nat_tests)
 
-place_read : (next : Next) (bytes : List ℕ) (read : ℕ × List ℕ) → count_at bytes ≡ Ok read → read.0 ≡ next.position → place_at next bytes ≡ Ok read
-unfolding place_at
-place_read next bytes read h here = rw (h, is_same read.0 next.position here) refl
+position_read : (next : Next) (bytes : List ℕ) (read : ℕ × List ℕ) → count_at bytes ≡ Ok read → read.0 ≡ next.position → position_at next bytes ≡ Ok read
+unfolding position_at
+position_read next bytes read h here = rw (h, is_same read.0 next.position here) refl
 
-life_read : (next : Next) (bytes : List ℕ) (read : ℕ × List ℕ) → count_at bytes ≡ Ok read → next.incarnation ≤ read.0 → life_at next bytes ≡ Ok read
-unfolding life_at
-life_read next bytes read h within = rw (h, is_within next.incarnation read.0 within) refl
+incarnation_read : (next : Next) (bytes : List ℕ) (read : ℕ × List ℕ) → count_at bytes ≡ Ok read → next.incarnation ≤ read.0 → incarnation_at next bytes ≡ Ok read
+unfolding incarnation_at
+incarnation_read next bytes read h within = rw (h, is_within next.incarnation read.0 within) refl
 
 -- an entry that stands where the log goes on
 record StandsNext (next : Next) (bytes : List ℕ) (read : Entry × List ℕ) : Type 0 where
   reads : entry_at bytes ≡ Ok read
-  place : read.0.position ≡ next.position
-  life : next.incarnation ≤ read.0.incarnation
+  position : read.0.position ≡ next.position
+  incarnation : next.incarnation ≤ read.0.incarnation
 
 entry_is : (next : Next) (bytes : List ℕ) (read : Entry × List ℕ) → next_entry_at next bytes ≡ Ok read → StandsNext next bytes read
 unfolding next_entry_at entry_at
 entry_is next bytes read h =
-    let place = step (place_at next bytes) _ read h in
-    let life = step (life_at next place.0.1) _ read place.2 in
-    let items = step (entry_items_at life.0.1) _ read life.2 in
-    let at = place_is next bytes place.0 place.1 in
-    let of = life_is next place.0.1 life.0 life.1 in
-    let same : (record { position = place.0.0; incarnation = life.0.0; items = items.0.0 }, items.0.1) ≡ read = ok_is _ read items.2 in
+    let place = step (position_at next bytes) _ read h in
+    let incarnation = step (incarnation_at next place.0.1) _ read place.2 in
+    let items = step (entry_items_at incarnation.0.1) _ read incarnation.2 in
+    let at = position_is next bytes place.0 place.1 in
+    let of = incarnation_is next place.0.1 incarnation.0 incarnation.1 in
+    let same : (record { position = place.0.0; incarnation = incarnation.0.0; items = items.0.0 }, items.0.1) ≡ read = ok_is _ read items.2 in
     record {
       reads = rw (at.0, of.0, items.1) items.2;
-      place = subst (λ (r : Entry × List ℕ). r.0.position ≡ next.position) same at.1;
-      life = subst (λ (r : Entry × List ℕ). next.incarnation ≤ r.0.incarnation) same of.1;
+      position = subst (λ (r : Entry × List ℕ). r.0.position ≡ next.position) same at.1;
+      incarnation = subst (λ (r : Entry × List ℕ). next.incarnation ≤ r.0.incarnation) same of.1;
     }
 
 entry_read : (next : Next) (bytes : List ℕ) (read : Entry × List ℕ) → StandsNext next bytes read → next_entry_at next bytes ≡ Ok read
 unfolding next_entry_at entry_at
 entry_read next bytes read stands =
     let place = step (count_at bytes) _ read stands.reads in
-    let life = step (count_at place.0.1) _ read place.2 in
-    let items = step (entry_items_at life.0.1) _ read life.2 in
-    let same : (record { position = place.0.0; incarnation = life.0.0; items = items.0.0 }, items.0.1) ≡ read = ok_is _ read items.2 in
-    let here : place.0.0 ≡ next.position = ap (λ (r : Entry × List ℕ). r.0.position) same ∙ stands.place in
-    let within : next.incarnation ≤ life.0.0 = subst (λ (r : Entry × List ℕ). next.incarnation ≤ r.0.incarnation) (sym same) stands.life in
-    rw (place_read next bytes place.0 place.1 here, life_read next place.0.1 life.0 life.1 within, items.1) items.2
+    let incarnation = step (count_at place.0.1) _ read place.2 in
+    let items = step (entry_items_at incarnation.0.1) _ read incarnation.2 in
+    let same : (record { position = place.0.0; incarnation = incarnation.0.0; items = items.0.0 }, items.0.1) ≡ read = ok_is _ read items.2 in
+    let here : place.0.0 ≡ next.position = ap (λ (r : Entry × List ℕ). r.0.position) same ∙ stands.position in
+    let within : next.incarnation ≤ incarnation.0.0 = subst (λ (r : Entry × List ℕ). next.incarnation ≤ r.0.incarnation) (sym same) stands.incarnation in
+    rw (position_read next bytes place.0 place.1 here, incarnation_read next place.0.1 incarnation.0 incarnation.1 within, items.1) items.2
 
 entries_are : (next : Next) (count : ℕ) (bytes : List ℕ) (read : List Entry × List ℕ) → next_entries_at next count bytes ≡ Ok read → (several_at entry_at count bytes ≡ Ok read) × IsNumbered next read.0
 unfolding next_entries_at several_at
@@ -78,7 +78,7 @@ entries_are next (suc count) bytes read h =
     let stands = entry_is next bytes first.0 first.1 in
     let are = entries_are (behind first.0.0) count first.0.1 more.0 more.1 in
     let same : (first.0.0 ∷ more.0.0, more.0.1) ≡ read = ok_is _ read more.2 in
-    (rw (stands.reads, are.0) more.2, subst (λ (r : List Entry × List ℕ). IsNumbered next r.0) same (stands.place, stands.life, are.1))
+    (rw (stands.reads, are.0) more.2, subst (λ (r : List Entry × List ℕ). IsNumbered next r.0) same (stands.position, stands.incarnation, are.1))
 
 entries_read : (next : Next) (count : ℕ) (bytes : List ℕ) (read : List Entry × List ℕ) → several_at entry_at count bytes ≡ Ok read → IsNumbered next read.0 → next_entries_at next count bytes ≡ Ok read
 unfolding next_entries_at several_at
@@ -88,7 +88,7 @@ entries_read next (suc count) bytes read h numbered =
     let more = step (several_at entry_at count first.0.1) _ read first.2 in
     let same : (first.0.0 ∷ more.0.0, more.0.1) ≡ read = ok_is _ read more.2 in
     let each : IsNumbered next (first.0.0 ∷ more.0.0) = subst (λ (r : List Entry × List ℕ). IsNumbered next r.0) (sym same) numbered in
-    let one = entry_read next bytes first.0 (record { reads = first.1; place = each.0; life = each.1 }) in
+    let one = entry_read next bytes first.0 (record { reads = first.1; position = each.0; incarnation = each.1 }) in
     rw (one, entries_read (behind first.0.0) count first.0.1 more.0 more.1 each.2) more.2
 
 frame_is : (next : Next) (bytes : List ℕ) (read : List Entry × List ℕ) → next_frame_at next bytes ≡ Ok read → (frame_at bytes ≡ Ok read) × IsNumbered next read.0

@@ -25,7 +25,7 @@ abbrev pub Begins : Next → List ℕ → Result Coming ReadError → Type 0
 Begins next bytes (Ok coming) = (coming.next ≡ next) × (coming.left ≤ most_members) × (coming.entries ≡ next_frame_in next bytes)
 Begins next bytes (Err error) = ReadFails error (next_frame_in next bytes)
 
--- an entry stands where the log goes on, is of no earlier life, and its numbers are below their limit
+-- an entry stands where the log goes on, is of no earlier incarnation, and its numbers are below their limit
 abbrev pub IsNext : Next → Entry → Type 0
 IsNext next entry = (entry.position ≡ next.position) × (next.incarnation ≤ entry.incarnation) × (entry.position < number_limit) × (entry.incarnation < number_limit)
 

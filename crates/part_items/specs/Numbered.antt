@@ -5,7 +5,7 @@ use Rattle.dura_value.specs.Reading.{◌>>=◌}
 use Rattle.dura_codec.specs.Fields.{Read, count_at}
 use Rattle.part_items.specs.Grammar.{members_at, entry_items_at, alone, whole}
 
--- where a log goes on: the place of its next entry, and the life that no entry from there on is before
+-- where a log goes on: the position of its next entry, and the incarnation that no entry from there on is before
 pub record Next : Type 0 where
   pub position : ℕ
   pub incarnation : ℕ
@@ -19,29 +19,29 @@ abbrev pub behind_all : Next → List Entry → Next
 behind_all next [] = next
 behind_all next (entry ∷ entries) = behind_all (behind entry) entries
 
--- each of these stands where the log goes on behind the one before, and is of no earlier life
+-- each of these stands where the log goes on behind the one before, and is of no earlier incarnation
 abbrev pub IsNumbered : Next → List Entry → Type 0
 IsNumbered next [] = Unit {0}
 IsNumbered next (entry ∷ entries) =
     (entry.position ≡ next.position) × (next.incarnation ≤ entry.incarnation) × IsNumbered (behind entry) entries
 
--- the number of the next entry's place
-unfoldable pub place_at : Next → List ℕ → Read ℕ
-place_at next bytes = do
+-- the position of the next entry
+unfoldable pub position_at : Next → List ℕ → Read ℕ
+position_at next bytes = do
   position ← count_at bytes
   if position.0 == next.position then Ok position else Err (length bytes)
 
--- the life of the next entry
-unfoldable pub life_at : Next → List ℕ → Read ℕ
-life_at next bytes = do
+-- the incarnation of the next entry
+unfoldable pub incarnation_at : Next → List ℕ → Read ℕ
+incarnation_at next bytes = do
   incarnation ← count_at bytes
   if nat_le next.incarnation incarnation.0 then Ok incarnation else Err (length bytes)
 
 -- an entry that stands where the log goes on
 unfoldable pub next_entry_at : Next → List ℕ → Read Entry
 next_entry_at next bytes = do
-  position ← place_at next bytes
-  incarnation ← life_at next position.1
+  position ← position_at next bytes
+  incarnation ← incarnation_at next position.1
   items ← entry_items_at incarnation.1
   Ok (record { position = position.0; incarnation = incarnation.0; items = items.0 }, items.1)
 

@@ -36,12 +36,12 @@ impl Items {
     }
 }
 
-/// An entry: its place in the log, the life of the partition that made it, and its items.
+/// An entry: its position in the log, the incarnation of the partition that made it, and its items.
 #[derive(Drop)]
 pub struct Entry {
-    /// Its place in the log.
+    /// Its position in the log.
     pub position: u64,
-    /// The life of the partition that made it.
+    /// The incarnation of the partition that made it.
     pub incarnation: u64,
     /// What it keeps.
     pub items: Items,

@@ -4,7 +4,7 @@ ghost use Rattle.std.specs.Prelude.{◌≡◌, ◌<◌, [], None, Err, IfOk, OnE
 ghost use Rattle.dura_value.specs.Limits.{number_limit};
 ghost use Rattle.dura_codec.specs.Fields.{Takes, fault_in};
 ghost use Rattle.part_items.specs.Plain.{entry_of, next_of};
-ghost use Rattle.part_items.specs.Numbered.{behind, place_at, life_at, next_entry_at};
+ghost use Rattle.part_items.specs.Numbered.{behind, position_at, incarnation_at, next_entry_at};
 ghost use Rattle.part_items.specs.Coming.{Begins, ReadsNext};
 
 use crate::frames::Entry;
@@ -17,9 +17,9 @@ use std::marker::Model;
 /// Where a log goes on.
 #[derive(Clone, Copy, PartialEq, Eq)]
 pub struct Next {
-    /// The place of its next entry.
+    /// The position of its next entry.
     pub position: u64,
-    /// The life of the partition that no entry from there on is before.
+    /// The incarnation of the partition that no entry from there on is before.
     pub incarnation: u64,
 }
 
@@ -34,10 +34,10 @@ fn next_behind(entry: &Entry) -> Next
     }
 }
 
-/// The number of the next entry's place.
-#[tactic(auto, unfolding(crate::specs::Numbered::place_at))]
-fn take_place(next: Next, bytes: &[u8]) -> Result<(u64, &[u8]), FieldError>
-    ensures { Takes (λ n. n) result (place_at (next_of next) bytes.now) }
+/// the position of the next entry.
+#[tactic(auto, unfolding(crate::specs::Numbered::position_at))]
+fn take_position(next: Next, bytes: &[u8]) -> Result<(u64, &[u8]), FieldError>
+    ensures { Takes (λ n. n) result (position_at (next_of next) bytes.now) }
 {
     let (position, rest) = take_count(bytes)?;
     if position != next.position {
@@ -46,10 +46,10 @@ fn take_place(next: Next, bytes: &[u8]) -> Result<(u64, &[u8]), FieldError>
     Ok((position, rest))
 }
 
-/// The life of the next entry.
-#[tactic(auto, unfolding(crate::specs::Numbered::life_at))]
-fn take_life(next: Next, bytes: &[u8]) -> Result<(u64, &[u8]), FieldError>
-    ensures { Takes (λ n. n) result (life_at (next_of next) bytes.now) }
+/// The incarnation of the next entry.
+#[tactic(auto, unfolding(crate::specs::Numbered::incarnation_at))]
+fn take_incarnation(next: Next, bytes: &[u8]) -> Result<(u64, &[u8]), FieldError>
+    ensures { Takes (λ n. n) result (incarnation_at (next_of next) bytes.now) }
 {
     let (incarnation, rest) = take_count(bytes)?;
     if incarnation < next.incarnation {
@@ -63,8 +63,8 @@ fn take_life(next: Next, bytes: &[u8]) -> Result<(u64, &[u8]), FieldError>
 fn take_next_entry(alloc: Global, next: Next, bytes: &[u8]) -> Result<(Entry, &[u8]), FieldError>
     ensures { Takes entry_of result (next_entry_at (next_of next) bytes.now) }
 {
-    let (position, rest) = take_place(next, bytes)?;
-    let (incarnation, rest) = take_life(next, rest)?;
+    let (position, rest) = take_position(next, bytes)?;
+    let (incarnation, rest) = take_incarnation(next, rest)?;
     let (items, rest) = take_entry_items(alloc, rest)?;
     let entry = Entry {
         position,
@@ -105,8 +105,8 @@ impl<'b> Model for FrameReader<'b> {
 }
 
 impl<'b> FrameReader<'b> {
-    /// Before the entries of the next frame of a log, which these bytes are, all of them: they are numbered from this place on,
-    /// and of no life before this one.
+    /// Before the entries of the next frame of a log, which these bytes are, all of them: they are numbered from this position on,
+    /// and of no incarnation before this one.
     pub fn begin(next: Next, bytes: &'b [u8]) -> Result<FrameReader<'b>, ReadError>
         ensures { Begins (next_of next) bytes.now result }
     {

@@ -1,4 +1,4 @@
--- Counts and moments that only rise. A tactic reads all that is known where it stands, so each step of them is a lemma.
+-- Counts and stamps that only rise. A tactic reads all that is known where it stands, so each step of them is a lemma.
 use Rattle.std.proofs.Common.{◌≡◌, ℕ, ◌≤◌, ◌<◌, ◌+◌, arith}
 use Rattle.std.specs.Prelude.{max}
 
@@ -28,14 +28,14 @@ same_below_first a b c same = omega arith
 pub low_max : (a b t : ℕ) → b ≡ max a t → a ≤ b
 low_max a b t is = omega arith
 
-pub moment_low : (a b t : ℕ) → b ≡ max a t → t ≤ b
-moment_low a b t is = omega arith
+pub stamp_low : (a b t : ℕ) → b ≡ max a t → t ≤ b
+stamp_low a b t is = omega arith
 
--- the latest moment behind one that was raised to a moment that the clock gave
+-- the latest stamp behind one that was raised to a stamp that the clock gave
 pub raised_below : (old raised now t clock : ℕ) → now ≡ raised → raised ≡ max old t → t ≤ clock → now ≤ max old clock
 raised_below old raised now t clock same is low = omega arith
 
--- the latest moment behind two steps
+-- the latest stamp behind two steps
 pub latest_both : (old mid now before after : ℕ) → now ≤ max mid after → mid ≤ max old before → before ≤ after → now ≤ max old after
 latest_both old mid now before after then first rise = omega arith
 

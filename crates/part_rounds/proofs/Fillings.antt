@@ -49,26 +49,26 @@ module _ (rules : Rules) (told : Told) where
   }
 
   -- a delivery or a timer that is accepted is given, and asks for nothing
-  step_given : (p q : Partition) (item : Item) (moment : ℕ) → is_at item moment ≡ true → accepted rules.flows 1 p item ≡ Some q → IsGiven p item × IsAsked rules told item
-  step_given p q (ran from to stamp) moment at is = (by (first_in p.queue from to) is, tt)
+  step_given : (p q : Partition) (item : Item) (now : ℕ) → is_at item now ≡ true → accepted rules.flows 1 p item ≡ Some q → IsGiven p item × IsAsked rules told item
+  step_given p q (ran from to stamp) now at is = (by (first_in p.queue from to) is, tt)
     where
       by : (o : Option Body) → delivered_in rules.flows 1 p from to stamp o ≡ Some q → o ≡ None → ⊥
       by None made none = cc made
       by (Some body) made none = cc none
-  step_given p q (fired id task stamp) moment at is = (tt, tt)
-  step_given p q (took message) moment at is = absurd (cc at)
-  step_given p q (got source number message) moment at is = absurd (cc at)
-  step_given p q (ended id task outcome) moment at is = absurd (cc at)
-  step_given p q (trim reader number) moment at is = absurd (cc at)
+  step_given p q (fired id task stamp) now at is = (tt, tt)
+  step_given p q (took message) now at is = absurd (cc at)
+  step_given p q (got source number message) now at is = absurd (cc at)
+  step_given p q (ended id task outcome) now at is = absurd (cc at)
+  step_given p q (trim reader number) now at is = absurd (cc at)
 
   -- nor does it end an activity
-  step_pending : (p : Partition) (item : Item) (moment : ℕ) → is_at item moment ≡ true → EndsPending p item
-  step_pending p (ran from to stamp) moment at = tt
-  step_pending p (fired id task stamp) moment at = tt
-  step_pending p (took message) moment at = tt
-  step_pending p (got source number message) moment at = tt
-  step_pending p (ended id task outcome) moment at = absurd (cc at)
-  step_pending p (trim reader number) moment at = tt
+  step_pending : (p : Partition) (item : Item) (now : ℕ) → is_at item now ≡ true → EndsPending p item
+  step_pending p (ran from to stamp) now at = tt
+  step_pending p (fired id task stamp) now at = tt
+  step_pending p (took message) now at = tt
+  step_pending p (got source number message) now at = tt
+  step_pending p (ended id task outcome) now at = absurd (cc at)
+  step_pending p (trim reader number) now at = tt
 
   pub makes_pending : {now : ℕ} {first : Partition} {items : List Item} {made : List Outputs} {p : Partition} → (from : Partition) → Makes rules.flows 1 now first items made p → All (EndsPending from) items
   makes_pending from nothing = λ k d inside. absurd (omega (arith, inside))

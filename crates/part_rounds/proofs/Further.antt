@@ -23,8 +23,8 @@ pub timer_pending : (p : Partition) (due : ℕ) → IsNext p.timers due → IsPe
 timer_pending p due next = inr (next.there.0, next.there.1, ap is_some next.there.2)
 
 -- what was filled with something is possible
-pub filled_further : (rules : Rules) (log : Log) (latest : ℕ) (settled : List Entry) (told : Told) (position life : ℕ) (items : List Item) → IsFilled rules log latest settled told position life items → GoesFurther rules settled told
-filled_further rules log latest settled told position life items filled = record {
+pub filled_further : (rules : Rules) (log : Log) (latest : ℕ) (settled : List Entry) (told : Told) (position incarnation : ℕ) (items : List Item) → IsFilled rules log latest settled told position incarnation items → GoesFurther rules settled told
+filled_further rules log latest settled told position incarnation items filled = record {
   before = filled.before;
   made = filled.stands.made;
   shown = filled.stands.shown;
@@ -57,7 +57,7 @@ full_wider rules few limit latest settled told segment way partition length_then
     record { alone = full.alone; entry = full.entry; some = full.some; few = omega (arith, no_more, wider); follows = full.follows; length_is = full.length_is; reaches = full.reaches; further = full.further }
 
 -- what can be filled goes further
-pub fills_further : (rules : Rules) (log : Log) (settled : List Entry) (told : Told) (before after : Partition) (items : List Item) → StateStands rules log settled before → Fills rules told (enter rules.life before) items after → 0 < length items → GoesFurther rules settled told
+pub fills_further : (rules : Rules) (log : Log) (settled : List Entry) (told : Told) (before after : Partition) (items : List Item) → StateStands rules log settled before → Fills rules told (enter rules.incarnation before) items after → 0 < length items → GoesFurther rules settled told
 fills_further rules log settled told before after items stands fills some = record {
   before = before;
   made = stands.made;

@@ -5,7 +5,7 @@ pub mod Endings
 pub mod Fillings
 pub mod Further
 pub mod InTime
-pub mod Moments
+pub mod Stamps
 pub mod Puttings
 pub mod Queues
 pub mod TimersInTime

@@ -20,7 +20,7 @@ use Rattle.part_rounds.specs.declared.rounds.Round.TheVariants.{On, Over}
 use Rattle.part_steps.specs.declared.state.PartState.{PartState}
 use Rattle.part_rounds.specs.declared.coming.Coming.TheVariants as comings
 use Rattle.part_rows.specs.Timers.{NoTimer}
-use Rattle.part_steps.specs.Enabled.{NoneEnabled, moment_at}
+use Rattle.part_steps.specs.Enabled.{NoneEnabled, stamp_at}
 use Rattle.part_steps.specs.States.{state_of, count_of, IsSound}
 use Rattle.run_rules.specs.Rules.{Rules, Told}
 
@@ -28,7 +28,7 @@ use Rattle.run_rules.specs.Rules.{Rules, Told}
 -- possible any more, no timer is pending, and the state is as it was
 abbrev pub Comes : Flows → Partition → List Queue → List (List ℕ) → (limit : ℕ) → Coming → Type 0
 Comes flows p queues clients limit (comings.Filled filling now) = IsUnderWay filling × (0 < length filling.items.items) × (length filling.items.items ≤ limit) × All FitsItem (items_of filling.items.items)
-    × (length filling.items.items < limit → NoneEnabled flows 1 (state_of filling.state) (moment_at (state_of filling.state) now))
+    × (length filling.items.items < limit → NoneEnabled flows 1 (state_of filling.state) (stamp_at (state_of filling.state) now))
 Comes flows p queues clients limit (comings.Rest state) = IsSound state × (count_of state ≡ 1) × (state_of state ≡ p) × ((now : ℕ) × IsIdle flows p queues clients now) × NoTimer p.timers
 
 -- the items lead from this state to that of the filling
@@ -36,7 +36,7 @@ abbrev pub FillsNext : Rules → Told → Partition → Coming → Type 0
 FillsNext rules told p (comings.Filled filling now) = Fills rules told p (items_of filling.items.items) (state_of filling.state)
 FillsNext rules told p (comings.Rest state) = Unit {0}
 
--- What was filled is of no later moment than now and the state before; and now isn't behind the clock's latest.
+-- What was filled is of no later stamp than now and the state before; and now isn't behind the clock's latest.
 abbrev pub IsByNow : Partition → (latest : ℕ) → Coming → Type 0
 IsByNow p latest (comings.Filled filling now) = ((state_of filling.state).stamp ≤ max p.stamp now) × (now ≤ latest)
 IsByNow p latest (comings.Rest state) = Unit {0}
@@ -45,7 +45,7 @@ IsByNow p latest (comings.Rest state) = Unit {0}
 pub record Entered (rules : Rules) (log : Log) (latest : ℕ) (settled : List Entry) (state : PartState) : Type 0 where
   pub before : Partition
   pub stands : StateStands rules log settled before
-  pub entered : state_of state ≡ enter rules.life before
+  pub entered : state_of state ≡ enter rules.incarnation before
   pub timely : IsTimely rules latest before
   pub sound : IsSound state
   pub one : count_of state ≡ 1

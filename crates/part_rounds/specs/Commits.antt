@@ -20,7 +20,7 @@ pub record IsFull (rules : Rules) (limit latest : ℕ) (settled : List Entry) (t
   pub reaches : segment ≤ length_then
   pub further : GoesFurther rules settled told
 
--- Something is possible still, but its entry's place, which is this number, isn't below the limit of the format.
+-- Something is possible still, but its entry's position, which is this number, isn't below the limit of the format.
 pub record IsSpent (rules : Rules) (settled : List Entry) (told : Told) (partition number : ℕ) : Type 0 where
   pub alone : partition ≡ 0
   pub before : Partition

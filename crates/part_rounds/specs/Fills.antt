@@ -12,7 +12,7 @@ use Rattle.dura_model.specs.Entries.{all_accepted, AreGiven}
 use Rattle.part_items.specs.Plain.{item_of, items_of}
 use Rattle.part_items.specs.declared.items.Item.{Item as OwnItem}
 use Rattle.part_steps.specs.Quiet.{NoActivity}
-use Rattle.part_steps.specs.Enabled.{NoneEnabled, moment_at}
+use Rattle.part_steps.specs.Enabled.{NoneEnabled, stamp_at}
 use Rattle.part_steps.specs.States.{state_of, count_of, IsSound}
 use Rattle.part_rounds.specs.declared.filling.Filling.{Filling}
 use Rattle.request_reader.specs.Line.{Request}
@@ -62,9 +62,9 @@ CantEnd p = NoActivity p ⊎ ((id : Id) × (task : ℕ) × IsSome (p.activities 
 abbrev pub CantTake : Flows → Partition → List Queue → (name : List ℕ) → Type 0
 CantTake flows p queues name = (r : Request) → due_of name queues ≡ Some r → (is_some (p.taken (client name) r.number) ≡ true) ⊎ (accepted flows 1 p (took r.message) ≡ None)
 
--- Without more requests nothing is possible at this moment: no activity can end, nothing that is due of these clients can be taken, and
+-- Without more requests nothing is possible at this stamp: no activity can end, nothing that is due of these clients can be taken, and
 -- no delivery and no timer is accepted.
 pub record IsIdle (flows : Flows) (p : Partition) (queues : List Queue) (clients : List (List ℕ)) (now : ℕ) : Type 0 where
   pub outcomes : CantEnd p
   pub requests : All (λ name. CantTake flows p queues name) clients
-  pub steps : NoneEnabled flows 1 p (moment_at p now)
+  pub steps : NoneEnabled flows 1 p (stamp_at p now)

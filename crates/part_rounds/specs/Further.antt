@@ -25,5 +25,5 @@ pub record GoesFurther (rules : Rules) (settled : List Entry) (told : Told) : Ty
   pub before : Partition
   pub made : placed rules.flows 1 rules.begin settled ≡ Ok before
   pub shown : AreShown 1 (λ place. before)
-  pub younger : before.incarnation ≤ rules.life
-  pub stirs : Stirs rules told (enter rules.life before)
+  pub younger : before.incarnation ≤ rules.incarnation
+  pub stirs : Stirs rules told (enter rules.incarnation before)

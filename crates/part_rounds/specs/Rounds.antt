@@ -43,42 +43,42 @@ next_answer state queues name = option_and_then (λ r. state.answers (client nam
 
 -- an entry of this call with these items, in this state
 abbrev pub entry_at : Rules → Partition → List Item → Entry
-entry_at rules p items = record { position = p.position; incarnation = rules.life; items = items }
+entry_at rules p items = record { position = p.position; incarnation = rules.incarnation; items = items }
 
 -- no answer to a client's next request is there
 abbrev pub NoneUnsaid : Partition → List Queue → (clients : List (List ℕ)) → Type 0
 NoneUnsaid p queues clients = All (λ name. next_answer p queues name ≡ None) clients
 
 -- Behind these entries of the call the state is this, which shows a world; the log goes on where the state does, and both are of no
--- later life than the call's.
+-- later incarnation than the call's.
 pub record StateStands (rules : Rules) (log : Log) (settled : List Entry) (p : Partition) : Type 0 where
   pub made : placed rules.flows 1 rules.begin settled ≡ Ok p
   pub shown : AreShown 1 (λ place. p)
-  pub place : (goes_on log settled).position ≡ p.position
-  pub follows : (goes_on log settled).incarnation ≤ rules.life
-  pub younger : p.incarnation ≤ rules.life
+  pub position : (goes_on log settled).position ≡ p.position
+  pub follows : (goes_on log settled).incarnation ≤ rules.incarnation
+  pub younger : p.incarnation ≤ rules.incarnation
 
--- The state is of no later moment than both the log's entries at the beginning and the clock's latest.
+-- The state is of no later stamp than both the log's entries at the beginning and the clock's latest.
 abbrev pub IsTimely : Rules → (latest : ℕ) → Partition → Type 0
 IsTimely rules latest p = p.stamp ≤ max rules.begin.stamp latest
 
--- What an entry was filled with, at this place and in this life: from the state behind what is settled on, 1 to 64 items that can be
+-- What an entry was filled with, at this position and in this incarnation: from the state behind what is settled on, 1 to 64 items that can be
 -- written.
-pub record IsFilled (rules : Rules) (log : Log) (latest : ℕ) (settled : List Entry) (told : Told) (position life : ℕ) (items : List Item) : Type 0 where
+pub record IsFilled (rules : Rules) (log : Log) (latest : ℕ) (settled : List Entry) (told : Told) (position incarnation : ℕ) (items : List Item) : Type 0 where
   pub before : Partition
   pub stands : StateStands rules log settled before
   pub position_is : position ≡ before.position
-  pub life_is : life ≡ rules.life
+  pub incarnation_is : incarnation ≡ rules.incarnation
   pub after : Partition
-  pub fills : Fills rules told (enter rules.life before) items after
+  pub fills : Fills rules told (enter rules.incarnation before) items after
   pub timely : IsTimely rules latest after
   pub fit : All FitsItem items
   pub some : 0 < length items
   pub few : length items ≤ most_members
   pub position_fits : FitsCount position
-  pub life_fits : FitsCount life
+  pub incarnation_fits : FitsCount incarnation
 
 -- what it was filled with makes this state
-pub record IsFilledTo (rules : Rules) (log : Log) (latest : ℕ) (settled : List Entry) (told : Told) (position life : ℕ) (items : List Item) (q : Partition) : Type 0 where
-  pub filled : IsFilled rules log latest settled told position life items
+pub record IsFilledTo (rules : Rules) (log : Log) (latest : ℕ) (settled : List Entry) (told : Told) (position incarnation : ℕ) (items : List Item) (q : Partition) : Type 0 where
+  pub filled : IsFilled rules log latest settled told position incarnation items
   pub after_is : filled.after ≡ q

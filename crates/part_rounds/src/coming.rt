@@ -11,26 +11,26 @@ ghost use Rattle.run_rules.specs.Rules.{Rules};
 ghost use Rattle.site_model.specs.Calls.{HasRisen};
 
 use crate::filling::Filling;
-use crate::filling_on::{Chance, gather};
+use crate::gathering::{Chance, gather};
 use crate::stop::Stop;
 use activity_table::Activities;
 use client_port::Port;
 use dura_value::Name;
 use part_rows::Reactions;
 use part_steps::PartState;
-use site_model::{Clock, LAST_MOMENT};
+use site_model::{Clock, LAST_STAMP};
 use std::alloc::Global;
 
 /// What comes next.
 pub(crate) enum Coming {
-    /// An entry with these items, filled at this moment.
+    /// An entry with these items, filled at this stamp.
     Filled(Filling, u64),
     /// Nothing, without more requests.
     Rest(PartState),
 }
 
 /// Reads the clock and fills an entry that has begun. Where nothing is possible it waits until the first timer is due, and fills it
-/// then; a timer that is due behind the last moment is never reached, which ends in `Memory`.
+/// then; a timer that is due behind the last stamp is never reached, which ends in `Memory`.
 pub(crate) fn take_next<R: Reactions, A: Activities, C: Clock>(
     alloc: Global,
     reactions: &R,
@@ -50,7 +50,7 @@ pub(crate) fn take_next<R: Reactions, A: Activities, C: Clock>(
     ensures comes { IfOk result (λ next. Comes (R.flows reactions.now) (state_of state) port.now clients.now limit next) }
     ensures at { IfOk result (λ next. ComesAt (R.flows reactions.now) (λ name argument. A.gives name argument word) (state_of state) port.now clients.now (C.given clock.old) (C.given clock.new) next) }
     ensures reads { HasRead (R.flows reactions.now) (state_of state) port.now clients.now (C.given clock.old) (C.given clock.new) }
-    ensures moment { IfOk result (λ next. IsByNow (state_of state) (C.latest clock.new) next) }
+    ensures stamp { IfOk result (λ next. IsByNow (state_of state) (C.latest clock.new) next) }
     ensures latest { C.latest clock.old ≤ C.latest clock.new }
     ensures stops { IfErr result (λ stop. is_of_clock stop ≡ true) }
     ensures fault { result ≡ Err Stop.ClockFault → HasRisen (C.clock_faults clock.old) (C.clock_faults clock.new) }
@@ -73,7 +73,7 @@ pub(crate) fn take_next<R: Reactions, A: Activities, C: Clock>(
     let Some(due) = state.next_timer() else {
         return Ok(Coming::Rest(state));
     };
-    let later = match clock.wait_until(due.min(LAST_MOMENT)) {
+    let later = match clock.wait_until(due.min(LAST_STAMP)) {
         Ok(later) => later,
         Err(_) => {
             state.let_go();

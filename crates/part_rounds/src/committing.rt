@@ -22,22 +22,22 @@ use std::alloc::Global;
 /// The one partition.
 pub(crate) const ALONE: u32 = 0;
 
-/// Commits what an entry was filled with, at this place and in this life.
+/// Commits what an entry was filled with, at this position and in this incarnation.
 pub(crate) fn commit_items<V: Site, N: Ruled>(
     alloc: Global,
     store: &mut Store<V, N>,
     position: u64,
-    life: u64,
+    incarnation: u64,
     items: Vec<Item>,
 ) -> Result<(), Stop>
     requires sound { IsSound store.old }
     requires going { store.old.halted ≡ false }
     requires rests { stage_at store.old 0 ≡ Stage.Resting }
-    requires filled { IsFilled N.rules (N.origin.logs 0) store.old.latest (of_part 0 (trail_in store.old)) (pairs_of (told_in store.old)) position life (items_of items.items) }
+    requires filled { IsFilled N.rules (N.origin.logs 0) store.old.latest (of_part 0 (trail_in store.old)) (pairs_of (told_in store.old)) position incarnation (items_of items.items) }
     ensures tells { V.tells store.new.site → V.tells store.old.site }
     ensures sound { IsSound store.new }
     ensures stage { OnOk result (stage_at store.new 0 ≡ Stage.Resting) }
-    ensures trail { OnOk result (of_part 0 (trail_in store.new) ≡ of_part 0 (trail_in store.old) ++ record { position = position; incarnation = life; items = items_of items.items } ∷ []) }
+    ensures trail { OnOk result (of_part 0 (trail_in store.new) ≡ of_part 0 (trail_in store.old) ++ record { position = position; incarnation = incarnation; items = items_of items.items } ∷ []) }
     ensures no_trail { OnErr result (trail_in store.new ≡ trail_in store.old) }
     ensures said { told_in store.new ≡ told_in store.old }
     ensures still { OnOk result (store.new.halted ≡ false) }
@@ -53,7 +53,7 @@ pub(crate) fn commit_items<V: Site, N: Ruled>(
 {
     let entry = Entry {
         position,
-        incarnation: life,
+        incarnation,
         items: Items::of(items),
     };
     commit(alloc, store, ALONE, entry)?;

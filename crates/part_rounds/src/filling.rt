@@ -1,13 +1,16 @@
-//! Filling an entry.
+//! An entry as far as it is filled: its items, the state that they make, and what puts one more or several behind them.
 
-ghost use Rattle.std.specs.Prelude.{◌≡◌, ◌<◌, ◌≤◌, ◌-◌, max, IfOk, length};
+ghost use Rattle.std.specs.Prelude.{◌≡◌, ◌<◌, ◌≤◌, ◌-◌, max, true, false, IfOk, length};
+ghost use Rattle.std.specs.List.{All};
+ghost use Rattle.part_items.specs.ItemFits.{FitsItem};
+ghost use Rattle.part_items.specs.Plain.{items_of};
 ghost use Rattle.part_rounds.specs.Fills.{IsUnderWay, FillsOn, Puts};
 ghost use Rattle.part_rounds.specs.InTime.{Giving, GoesOnAt};
-ghost use Rattle.part_steps.specs.Enabled.{NoneEnabled, moment_at};
+ghost use Rattle.part_steps.specs.Enabled.{NoneEnabled, stamp_at};
 ghost use Rattle.part_steps.specs.States.{state_of};
 ghost use Rattle.run_rules.specs.Rules.{Rules, Told};
 
-use part_items::Item;
+use part_items::{Item, item_fits};
 use part_rows::Reactions;
 use part_steps::{Batch, PartState, Verdict, next_items};
 use std::alloc::{AllocError, Global};
@@ -79,9 +82,9 @@ pub(crate) fn fill<R: Reactions>(
     ensures goes_on { (rules : Rules) (told : Told) → rules.flows ≡ R.flows reactions.now → IfOk result (λ next. FillsOn rules told filling next) }
     ensures under_way { IfOk result (λ next. IsUnderWay next) }
     ensures few { IfOk result (λ next. length next.items.items ≤ limit) }
-    ensures moment { IfOk result (λ next. (state_of next.state).stamp ≤ max (state_of filling.state).stamp now) }
+    ensures stamp { IfOk result (λ next. (state_of next.state).stamp ≤ max (state_of filling.state).stamp now) }
     ensures at { (gives : Giving) → IfOk result (λ next. GoesOnAt (R.flows reactions.now) now gives filling next) }
-    ensures less { IfOk result (λ next. length next.items.items < limit → NoneEnabled (R.flows reactions.now) 1 (state_of next.state) (moment_at (state_of next.state) now)) }
+    ensures less { IfOk result (λ next. length next.items.items < limit → NoneEnabled (R.flows reactions.now) 1 (state_of next.state) (stamp_at (state_of next.state) now)) }
     ensures still { IfOk result (λ next. length next.items.items ≡ length filling.items.items → state_of next.state ≡ state_of filling.state) }
 {
     let Filling { state, mut items } = filling;
@@ -100,4 +103,17 @@ pub(crate) fn fill<R: Reactions>(
             Err(error)
         }
     }
+}
+
+/// Whether all of these can be written.
+pub(crate) fn all_fit(items: &[Item]) -> bool
+    ensures fits { result ≡ true → All FitsItem (items_of items.now) }
+    ensures misfit { result ≡ false → All FitsItem (items_of items.now) → ⊥ }
+{
+    for item in items {
+        if !item_fits(item) {
+            return false;
+        }
+    }
+    true
 }

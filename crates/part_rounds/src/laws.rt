@@ -18,9 +18,9 @@ ghost use Rattle.part_rounds.specs.Rounds.{entry_at, StateStands, IsTimely};
 ghost use Rattle.run_rules.specs.Rules.{Rules, Told, Follows};
 ghost use Rattle.site_model.specs.Readings.{Reading};
 
-/// An entry that was filled from the settled state on may follow, where the state that it makes is of no later moment than may be.
+/// An entry that was filled from the settled state on may follow, where the state that it makes is of no later stamp than may be.
 pub fn filled_entries_follow()
-    ensures { (rules : Rules) (latest : ℕ) (settled : List Entry) (p q : Partition) (told : Told) (items : List Item) → placed rules.flows 1 rules.begin settled ≡ Ok p → Fills rules told (enter rules.life p) items q → IsTimely rules latest q
+    ensures { (rules : Rules) (latest : ℕ) (settled : List Entry) (p q : Partition) (told : Told) (items : List Item) → placed rules.flows 1 rules.begin settled ≡ Ok p → Fills rules told (enter rules.incarnation p) items q → IsTimely rules latest q
         → Follows rules latest settled told (entry_at rules p items ∷ []) }
 {}
 
@@ -28,16 +28,16 @@ pub fn filled_entries_follow()
 /// label.
 pub fn filled_entries_stand()
     ensures numbered { (rules : Rules) (log : Log) (settled : List Entry) (p : Partition) (items : List Item) → StateStands rules log settled p → IsNumbered (goes_on log settled) (entry_at rules p items ∷ []) }
-    ensures stands { (rules : Rules) (log : Log) (settled : List Entry) (p q : Partition) (told : Told) (items : List Item) → StateStands rules log settled p → Fills rules told (enter rules.life p) items q
+    ensures stands { (rules : Rules) (log : Log) (settled : List Entry) (p q : Partition) (told : Told) (items : List Item) → StateStands rules log settled p → Fills rules told (enter rules.incarnation p) items q
         → StateStands rules log (settled ++ entry_at rules p items ∷ []) q }
-    ensures labels { (rules : Rules) (log : Log) (settled : List Entry) (p q : Partition) (told : Told) (items : List Item) → StateStands rules log settled p → Fills rules told (enter rules.life p) items q
+    ensures labels { (rules : Rules) (log : Log) (settled : List Entry) (p q : Partition) (told : Told) (items : List Item) → StateStands rules log settled p → Fills rules told (enter rules.incarnation p) items q
         → count_labels (settled ++ entry_at rules p items ∷ []) ≡ count_labels settled + length items }
 {}
 
-/// No timer fires before it is due, nor before the moment that the clock gave last; and none at a later moment than both the state at
+/// No timer fires before it is due, nor before the stamp that the clock gave last; and none at a later stamp than both the state at
 /// the beginning and all that the clock gave since.
 #[tactic(auto, using(crate::proofs::TimersInTime::in_time))]
 pub fn timers_fire_in_time()
-    ensures { (rules : Rules) (gives : List ℕ → Value → ℕ → Outcome) (limit : ℕ) (clients : List (List ℕ)) (given moments : List Reading) (trail : List Entry) (told answered : List Said) → GoesByClock rules gives limit clients given [] told moments trail answered
-        → (since : List Reading) × (moments ≡ since ++ given) × All (FiresInTime rules since) trail }
+    ensures { (rules : Rules) (gives : List ℕ → Value → ℕ → Outcome) (limit : ℕ) (clients : List (List ℕ)) (given readings : List Reading) (trail : List Entry) (told answered : List Said) → GoesByClock rules gives limit clients given [] told readings trail answered
+        → (since : List Reading) × (readings ≡ since ++ given) × All (FiresInTime rules since) trail }
 {}

@@ -70,7 +70,7 @@ pub(crate) fn run_pending<R: Reactions, A: Activities>(
     ensures goes_on { (rules : Rules) (told : Told) → rules.flows ≡ R.flows reactions.now → IfOk result (λ next. FillsOn rules told filling next) }
     ensures at { (now : ℕ) → IfOk result (λ next. GoesOnAt (R.flows reactions.now) now (λ name argument. A.gives name argument word) filling next) }
     ensures few { IfOk result (λ next. length next.items.items ≤ 1) }
-    ensures moment { IfOk result (λ next. (state_of next.state).stamp ≡ (state_of filling.state).stamp) }
+    ensures stamp { IfOk result (λ next. (state_of next.state).stamp ≡ (state_of filling.state).stamp) }
     ensures none { IfOk result (λ next. next.items.items ≡ [] → state_of next.state ≡ state_of filling.state) }
     ensures idle { IfOk result (λ next. next.items.items ≡ [] → CantEnd (state_of filling.state)) }
     ensures settled { IfOk result (λ next. All (IsOfPending (state_of filling.state)) (items_of next.items.items)) }

@@ -31,7 +31,7 @@ use part_steps::PartState;
 use site_model::{Clock, Site};
 use std::alloc::Global;
 
-/// The place that no entry may have: the format's numbers are below it.
+/// The position that no entry may have: the format's numbers are below it.
 const POSITION_LIMIT: u64 = 1 << 62;
 
 /// What a round came to.
@@ -57,14 +57,14 @@ fn settle_filling<V: Site, N: Ruled>(
     port: &mut Port,
     clients: &[Name],
     position: u64,
-    life: u64,
+    incarnation: u64,
     filling: Filling,
 ) -> Result<PartState, Stop>
     requires sound { IsSound store.old }
     requires going { store.old.halted ≡ false }
     requires rests { stage_at store.old 0 ≡ Stage.Resting }
     requires room { position < 2 ^ 62 }
-    requires filled { IsFilledTo N.rules (N.origin.logs 0) store.old.latest (of_part 0 (trail_in store.old)) (pairs_of (told_in store.old)) position life (items_of filling.items.items) (state_of filling.state) }
+    requires filled { IsFilledTo N.rules (N.origin.logs 0) store.old.latest (of_part 0 (trail_in store.old)) (pairs_of (told_in store.old)) position incarnation (items_of filling.items.items) (state_of filling.state) }
     requires way { IsUnderWay filling }
     requires said { HasSaid N.rules (told_in store.old) port.old }
     ensures tells { V.tells store.new.site → V.tells store.old.site }
@@ -78,7 +78,7 @@ fn settle_filling<V: Site, N: Ruled>(
     ensures entered { IfOk result (λ state. Entered N.rules (N.origin.logs 0) store.new.latest (of_part 0 (trail_in store.new)) state) }
     ensures unsaid { IfOk result (λ state. NoneUnsaid (state_of state) port.new clients.now) }
     ensures labels { OnOk result (count_labels (of_part 0 (trail_in store.new)) ≡ count_labels (of_part 0 (trail_in store.old)) + length filling.items.items) }
-    ensures settles { SettlesThenSays clients.now (record { position = position; incarnation = life; items = items_of filling.items.items }) (of_part 0 (trail_in store.old)) (told_in store.old) (of_part 0 (trail_in store.new)) (told_in store.new) }
+    ensures settles { SettlesThenSays clients.now (record { position = position; incarnation = incarnation; items = items_of filling.items.items }) (of_part 0 (trail_in store.old)) (told_in store.old) (of_part 0 (trail_in store.new)) (told_in store.new) }
     ensures no_more { count_labels (of_part 0 (trail_in store.new)) ≤ count_labels (of_part 0 (trail_in store.old)) + length filling.items.items }
     ensures full { (of n : ℕ) → result ≡ Err (Stop.Full of n) → IsFull N.rules (length filling.items.items) store.new.latest (of_part 0 (trail_in store.new)) (pairs_of (told_in store.new)) store.new.segment (way_of store.new.ways.items 0) of n }
     ensures fault { result ≡ Err Stop.SiteFault → HasRisen (V.disk_faults store.old.site) (V.disk_faults store.new.site) }
@@ -89,7 +89,7 @@ fn settle_filling<V: Site, N: Ruled>(
     ensures say_later { V.say_faults store.old.site ≤ V.say_faults store.new.site }
 {
     let Filling { state, items } = filling;
-    match commit_items(alloc, store, position, life, items) {
+    match commit_items(alloc, store, position, incarnation, items) {
         Ok(()) => {}
         Err(stop) => {
             state.let_go();
@@ -97,7 +97,7 @@ fn settle_filling<V: Site, N: Ruled>(
         }
     }
     match say_due(alloc, store, &state, port, clients) {
-        Ok(()) => Ok(state.enter(life)),
+        Ok(()) => Ok(state.enter(incarnation)),
         Err(stop) => {
             state.let_go();
             Err(stop)
@@ -106,7 +106,7 @@ fn settle_filling<V: Site, N: Ruled>(
 }
 
 /// One round in an entry that has begun: what comes next is committed, and what it answers is said. The word that an activity
-/// runs with is a digest of this life and the entry's place.
+/// runs with is a digest of this incarnation and the entry's position.
 fn go_round<V: Site, N: Ruled, R: Reactions, A: Activities, C: Clock>(
     alloc: Global,
     reactions: &R,
@@ -116,15 +116,15 @@ fn go_round<V: Site, N: Ruled, R: Reactions, A: Activities, C: Clock>(
     port: &mut Port,
     clients: &[Name],
     state: PartState,
-    life: u64,
+    incarnation: u64,
     limit: u32,
 ) -> Result<Round, Stop>
     requires sound { IsSound store.old }
     requires going { store.old.halted ≡ false }
     requires rests { stage_at store.old 0 ≡ Stage.Resting }
     requires flows { N.rules.flows ≡ R.flows reactions.now }
-    requires life { life ≡ N.rules.life }
-    requires short { life < 2 ^ 62 }
+    requires incarnation { incarnation ≡ N.rules.incarnation }
+    requires short { incarnation < 2 ^ 62 }
     requires some { 0 < limit }
     requires few { limit ≤ 64 }
     requires entered { Entered N.rules (N.origin.logs 0) store.old.latest (of_part 0 (trail_in store.old)) state }
@@ -135,7 +135,7 @@ fn go_round<V: Site, N: Ruled, R: Reactions, A: Activities, C: Clock>(
     ensures segment { store.new.segment ≡ store.old.segment }
     ensures latest { store.new.latest ≤ max store.old.latest (C.latest clock.new) }
     ensures whole { result ≢ Err Stop.SayFault → store.new.cut ≡ false }
-    ensures moments { C.latest clock.old ≤ C.latest clock.new }
+    ensures stamps { C.latest clock.old ≤ C.latest clock.new }
     ensures stage { OnOk result (stage_at store.new 0 ≡ Stage.Resting) }
     ensures still { OnOk result (store.new.halted ≡ false) }
     ensures said { OnOk result (HasSaid N.rules (told_in store.new) port.new) }
@@ -152,7 +152,7 @@ fn go_round<V: Site, N: Ruled, R: Reactions, A: Activities, C: Clock>(
     ensures clock_later { C.clock_faults clock.old ≤ C.clock_faults clock.new }
 {
     let position = state.position() - 1;
-    let chance = word(life, 0, position);
+    let chance = word(incarnation, 0, position);
     match take_next(
         alloc, reactions, acts, clock, state, port, clients, chance, limit,
     )? {
@@ -166,7 +166,7 @@ fn go_round<V: Site, N: Ruled, R: Reactions, A: Activities, C: Clock>(
             }
             store.raise(now);
             let more = filling.items.len() as u64;
-            let state = settle_filling(alloc, store, port, clients, position, life, filling)?;
+            let state = settle_filling(alloc, store, port, clients, position, incarnation, filling)?;
             Ok(Round::On(state, more))
         }
         Coming::Rest(state) => Ok(Round::Over(state)),
@@ -184,7 +184,7 @@ pub fn drive<V: Site, N: Ruled, R: Reactions, A: Activities, C: Clock>(
     port: &mut Port,
     clients: &[Name],
     state: PartState,
-    life: u64,
+    incarnation: u64,
     limit: u32,
     steps: u32,
 ) -> Result<End, Stop>
@@ -192,8 +192,8 @@ pub fn drive<V: Site, N: Ruled, R: Reactions, A: Activities, C: Clock>(
     requires going { store.old.halted ≡ false }
     requires rests { stage_at store.old 0 ≡ Stage.Resting }
     requires flows { N.rules.flows ≡ R.flows reactions.now }
-    requires life { life ≡ N.rules.life }
-    requires short { life < 2 ^ 62 }
+    requires incarnation { incarnation ≡ N.rules.incarnation }
+    requires short { incarnation < 2 ^ 62 }
     requires some { 0 < limit }
     requires few { limit ≤ 64 }
     requires stands { StateStands N.rules (N.origin.logs 0) (of_part 0 (trail_in store.old)) (state_of state) }
@@ -207,7 +207,7 @@ pub fn drive<V: Site, N: Ruled, R: Reactions, A: Activities, C: Clock>(
     ensures segment { store.new.segment ≡ store.old.segment }
     ensures latest { store.new.latest ≤ max store.old.latest (C.latest clock.new) }
     ensures whole { result ≢ Err Stop.SayFault → store.new.cut ≡ false }
-    ensures moments { C.latest clock.old ≤ C.latest clock.new }
+    ensures stamps { C.latest clock.old ≤ C.latest clock.new }
     ensures stage { OnOk result (stage_at store.new 0 ≡ Stage.Resting) }
     ensures still { OnOk result (store.new.halted ≡ false) }
     ensures said { OnOk result (HasSaid N.rules (told_in store.new) port.new) }
@@ -230,11 +230,11 @@ pub fn drive<V: Site, N: Ruled, R: Reactions, A: Activities, C: Clock>(
             return Err(stop);
         }
     }
-    let mut state = state.enter(life);
+    let mut state = state.enter(incarnation);
     let mut labels = 0u64;
     'rounds: while labels < steps as u64 {
         match go_round(
-            alloc, reactions, acts, clock, store, port, clients, state, life, limit,
+            alloc, reactions, acts, clock, store, port, clients, state, incarnation, limit,
         )? {
             Round::On(next, more) => {
                 state = next;

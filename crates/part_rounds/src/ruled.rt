@@ -29,7 +29,7 @@ impl Ruled for Brand {
     ghost use Rattle.std.specs.Prelude.{[], refl};
     ghost use Rattle.dura_model.specs.Partition.{fresh};
 
-    ghost rules = { record { flows = record { flows = []; classes = [] }; begin = fresh 0; life = 0; requests = [] } };
+    ghost rules = { record { flows = record { flows = []; classes = [] }; begin = fresh 0; incarnation = 0; requests = [] } };
 
     ghost one = { refl };
 

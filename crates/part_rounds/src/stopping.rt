@@ -11,7 +11,7 @@ ghost use Rattle.part_steps.specs.States.{state_of, count_of, IsSound};
 ghost use Rattle.run_rules.specs.Rules.{Rules};
 
 use crate::filling::Filling;
-use crate::filling_on::fill_on;
+use crate::gathering::fill_on;
 use crate::rounds::End;
 use crate::stop::Stop;
 use client_port::Port;

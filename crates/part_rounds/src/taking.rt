@@ -53,7 +53,7 @@ fn take_of<R: Reactions>(
     ensures under_way { IfOk result (λ next. IsUnderWay next) }
     ensures longer { IfOk result (λ next. length filling.items.items ≤ length next.items.items) }
     ensures one { IfOk result (λ next. length next.items.items ≤ length filling.items.items + 1) }
-    ensures moment { IfOk result (λ next. (state_of next.state).stamp ≡ (state_of filling.state).stamp) }
+    ensures stamp { IfOk result (λ next. (state_of next.state).stamp ≡ (state_of filling.state).stamp) }
     ensures none { IfOk result (λ next. length next.items.items ≡ length filling.items.items → (state_of next.state ≡ state_of filling.state) × CantTake (R.flows reactions.now) (state_of filling.state) port.now client.now) }
 {
     let due = match due_message(&filling.state, port, client) {
@@ -88,7 +88,7 @@ pub(crate) fn take_due<R: Reactions>(
     ensures under_way { IfOk result (λ next. IsUnderWay next) }
     ensures longer { IfOk result (λ next. length filling.items.items ≤ length next.items.items) }
     ensures few { IfOk result (λ next. length next.items.items ≤ limit) }
-    ensures moment { IfOk result (λ next. (state_of next.state).stamp ≡ (state_of filling.state).stamp) }
+    ensures stamp { IfOk result (λ next. (state_of next.state).stamp ≡ (state_of filling.state).stamp) }
     ensures none { length filling.items.items < limit → IfOk result (λ next. length next.items.items ≡ length filling.items.items
         → (state_of next.state ≡ state_of filling.state) × All (λ name. CantTake (R.flows reactions.now) (state_of filling.state) port.now name) clients.now) }
 {

@@ -23,7 +23,7 @@ use Rattle.part_rows.specs.Timers.{timer_cmp, timer_of, timers_in, is_at, InOrde
 pub timer_again : (k : Timer) → timer_of k.due (id_of k.id) k.task ≡ k
 timer_again k = ap (λ (id : Id). record { due = k.due; id = id; task = k.task }) (key_again k.id)
 
--- a timer is found where it has the moment, the id and the task
+-- a timer is found where it has the stamp, the id and the task
 pub is_timer : (k : Timer) (due : ℕ) (id : plain.Id) (task : ℕ) → finds (timer_cmp k) (timer_of due id task) ≡ (k.due == due && (plain.id_eq (id_of k.id) id && k.task == task))
 is_timer k due id task =
     let later = ordering_then (id_cmp k.id (key_of id)) (nat_cmp k.task task) in
@@ -33,17 +33,17 @@ is_timer k due id task =
     ∙ ap (λ (b : Bool). k.due == due && (b && is_eq (nat_cmp k.task task))) (is_key k.id id)
     ∙ ap (λ (b : Bool). k.due == due && (plain.id_eq (id_of k.id) id && b)) (number_same k.task task)
 
-taken_at : (b d : Bool) (moment : ℕ) (due : ℕ) (was : Option ℕ) → (moment == due) ≡ d → (b ≡ true → was ≡ Some moment) → cond (d && b) false (is_at was due) ≡ is_at (cond b None was) due
-taken_at true true moment due was same found = refl
-taken_at true false moment due was same found = ap (λ (w : Option ℕ). is_at w due) (found refl) ∙ same
-taken_at false true moment due was same found = refl
-taken_at false false moment due was same found = refl
+taken_at : (b d : Bool) (stamp : ℕ) (due : ℕ) (was : Option ℕ) → (stamp == due) ≡ d → (b ≡ true → was ≡ Some stamp) → cond (d && b) false (is_at was due) ≡ is_at (cond b None was) due
+taken_at true true stamp due was same found = refl
+taken_at true false stamp due was same found = ap (λ (w : Option ℕ). is_at w due) (found refl) ∙ same
+taken_at false true stamp due was same found = refl
+taken_at false false stamp due was same found = refl
 
-put_at : (b d : Bool) (moment : ℕ) (due : ℕ) (was : Option ℕ) → (moment == due) ≡ d → (b ≡ true → was ≡ None) → cond (d && b) true (is_at was due) ≡ is_at (cond b (Some moment) was) due
-put_at true true moment due was same found = sym same
-put_at true false moment due was same found = ap (λ (w : Option ℕ). is_at w due) (found refl) ∙ sym same
-put_at false true moment due was same found = refl
-put_at false false moment due was same found = refl
+put_at : (b d : Bool) (stamp : ℕ) (due : ℕ) (was : Option ℕ) → (stamp == due) ≡ d → (b ≡ true → was ≡ None) → cond (d && b) true (is_at was due) ≡ is_at (cond b (Some stamp) was) due
+put_at true true stamp due was same found = sym same
+put_at true false stamp due was same found = ap (λ (w : Option ℕ). is_at w due) (found refl) ∙ sym same
+put_at false true stamp due was same found = refl
+put_at false false stamp due was same found = refl
 
 both : (a b : Bool) → a && b ≡ true → (a ≡ true) × (b ≡ true)
 both true b is = (refl, is)
@@ -100,7 +100,7 @@ is_at_itself due = number_self due
 
 is_at_true : (was : Option ℕ) (due : ℕ) → is_at was due ≡ true → was ≡ Some due
 is_at_true None due is = absurd (cc is)
-is_at_true (Some moment) due is = ap Some (numbers_same moment due is)
+is_at_true (Some stamp) due is = ap Some (numbers_same stamp due is)
 
 not_after : (a b : Ordering) → is_gt (ordering_then a b) ≡ false → is_gt a ≡ false
 not_after orderings.Less b is = refl

@@ -25,7 +25,7 @@ abbrev pub last_of_entity : Option Entity → ℕ
 last_of_entity None = 0
 last_of_entity (Some e) = e.last
 
--- the last moment of an instance or an entity, and 0 where it isn't there
+-- the last stamp of an instance or an entity, and 0 where it isn't there
 abbrev pub last_at : Partition → Id → ℕ
 last_at p (orchestration flow key) = last_in (p.instances (orchestration flow key))
 last_at p (entity class key) = last_of_entity (p.entities (entity class key))

@@ -32,6 +32,6 @@ waits_of = map waiting_of
 abbrev pub reaction_of : seen.Reaction → Reaction
 reaction_of made = record { event = option_map event_of made.event; waiting = option_map (λ w. waits_of w.items) made.waiting; sent = messages_of made.sent.items; asked = map asked_of made.asked.items; gives_up = made.gives_up }
 
--- what a message makes of an entity that is kept, or of one as its class begins, at this moment
+-- what a message makes of an entity that is kept, or of one as its class begins, at this stamp
 abbrev pub delivered : Flows → (class : List ℕ) → Option Entity → (from to : Id) → ℕ → Body → Delivered
 delivered flows class kept from to stamp body = deliver_to flows (record (entity_of flows class kept) { last = stamp }) class from to body

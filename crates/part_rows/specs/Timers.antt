@@ -10,7 +10,7 @@ use Rattle.part_rows.specs.declared.timer.Timer.{Timer}
 use Rattle.part_rows.specs.declared.timers.TimerRow.{TimerRow}
 use Rattle.part_rows.specs.contracts.timer.TimerOrd.TheImpl as ord
 
--- the order of timers: by the moment that they are due at, then by id, then by task
+-- the order of timers: by the stamp that they are due at, then by id, then by task
 abbrev pub timer_cmp : Timer → Timer → Ordering
 timer_cmp = ord.cmp-value.it
 
@@ -20,15 +20,15 @@ timer_of due id task = record { due = due; id = key_of id; task = task }
 
 -- when the timer of an instance's task is due
 abbrev pub timers_in : TimerRow → Id → ℕ → Option ℕ
-timers_in row = by_number row.moments
+timers_in row = by_number row.stamps
 
 -- how many timers an instance has
 abbrev pub count_in : TimerRow → Id → ℕ
-count_in row = count_of row.moments
+count_in row = count_of row.stamps
 
 abbrev pub is_at : Option ℕ → ℕ → Bool
 is_at None due = false
-is_at (Some moment) due = moment == due
+is_at (Some stamp) due = stamp == due
 
 -- The order has just the timers that there are.
 abbrev pub InOrder : TimerRow → Type 0
@@ -44,7 +44,7 @@ pub record IsFirstDue (timers : Id → ℕ → Option ℕ) (now due : ℕ) (id :
 abbrev pub NoneDue : (Id → ℕ → Option ℕ) → ℕ → Type 0
 NoneDue timers now = (due : ℕ) (id : Id) (task : ℕ) → timers id task ≡ Some due → now < due
 
--- the least moment that one is due at
+-- the least stamp that one is due at
 pub record IsNext (timers : Id → ℕ → Option ℕ) (due : ℕ) : Type 0 where
   pub there : (id : Id) × (task : ℕ) × (timers id task ≡ Some due)
   pub least : (other_due : ℕ) (other : Id) (other_task : ℕ) → timers other other_task ≡ Some other_due → due ≤ other_due

@@ -28,7 +28,7 @@ impl PartRows {
         }
     }
 
-    /// The last moment of an instance or an entity, and 0 where it isn't there.
+    /// The last stamp of an instance or an entity, and 0 where it isn't there.
     pub fn last_of(&self, id: &Id) -> u64
         ensures { result ≡ last_at (part_of self.now) (id_of id.now) }
     {

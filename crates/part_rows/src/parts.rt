@@ -24,11 +24,11 @@ pub struct PartRows {
     pub partitions: u32,
     /// Which of them it is.
     pub number: u32,
-    /// The place of its next entry.
+    /// The position of its next entry.
     pub position: u64,
-    /// Its life.
+    /// Its incarnation.
     pub incarnation: u64,
-    /// Its greatest moment.
+    /// Its greatest stamp.
     pub stamp: u64,
     /// The requests that were taken from its clients.
     pub taken: NumberMap<Message>,

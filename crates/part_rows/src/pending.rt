@@ -104,7 +104,7 @@ impl PartRows {
         Ok(())
     }
 
-    /// Its greatest moment is no less than this.
+    /// Its greatest stamp is no less than this.
     pub fn raise_to(&mut self, stamp: u64)
         ensures raised { part_of self.new ≡ raised_to stamp (part_of self.old) }
         ensures timers { self.new.timers ≡ self.old.timers }

@@ -15,7 +15,7 @@ pub struct Waiting {
 /// An instance as it is kept.
 #[derive(Drop)]
 pub struct Row {
-    /// Its last moment.
+    /// Its last stamp.
     pub stamp: u64,
     /// Its events, the first of which came first.
     pub history: Vec<Past>,

@@ -10,14 +10,14 @@ use id_maps::copy_numbers;
 use std::alloc::{AllocError, Global};
 use std::collections::{BTreeMap, VecDeque};
 
-/// An entry by its partition, the life of the partition that made it, and its place there.
+/// An entry by its partition, the incarnation of the partition that made it, and its position there.
 #[derive(Clone, Copy)]
 pub struct Identity {
     /// The partition.
     pub partition: u32,
-    /// Its life.
+    /// Its incarnation.
     pub incarnation: u64,
-    /// The entry's place.
+    /// The entry's position.
     pub position: u64,
 }
 

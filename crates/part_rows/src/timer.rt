@@ -5,10 +5,10 @@ ghost use Rattle.std.specs.Prelude.{◌≡◌, IfOk};
 use dura_value::Id;
 use std::alloc::AllocError;
 
-/// A timer. In order the one that is due first comes first; of those due at one moment the first by id, then by task.
+/// A timer. In order the one that is due first comes first; of those due at one stamp the first by id, then by task.
 #[derive(Clone, Drop, PartialEq, Eq, PartialOrd, Ord)]
 pub struct Timer {
-    /// The moment that it is due at.
+    /// The stamp that it is due at.
     pub due: u64,
     /// The instance that it wakes.
     pub id: Id,

@@ -16,7 +16,7 @@ use std::collections::BTreeSet;
 /// After an Err, which is want of memory, a row is only dropped.
 #[derive(Drop)]
 pub struct TimerRow {
-    moments: NumberMap<u64>,
+    stamps: NumberMap<u64>,
     order: BTreeSet<Timer>,
 }
 
@@ -27,7 +27,7 @@ impl TimerRow {
         ensures order { InOrder result }
     {
         TimerRow {
-            moments: NumberMap::new(alloc),
+            stamps: NumberMap::new(alloc),
             order: BTreeSet::new(alloc),
         }
     }
@@ -36,7 +36,7 @@ impl TimerRow {
     pub fn get(&self, id: &Id, task: u32) -> Option<u64>
         ensures { result ≡ timers_in self.now (id_of id.now) task }
     {
-        self.moments.get(id, task).copied()
+        self.stamps.get(id, task).copied()
     }
 
     /// Sets the timer of this task, in place of the one that it has.
@@ -47,7 +47,7 @@ impl TimerRow {
     {
         self.take(&id, task)?;
         self.order.insert(Timer::of(due, &id, task)?)?;
-        self.moments.put(alloc, id, task, due)?;
+        self.stamps.put(alloc, id, task, due)?;
         Ok(())
     }
 
@@ -59,7 +59,7 @@ impl TimerRow {
         ensures count { IfOk result (λ due. count_in self.new (id_of id.now) + (if is_some due then 1 else 0) ≡ count_in self.old (id_of id.now)) }
         ensures order { OnOk result (InOrder self.new) }
     {
-        let Some(due) = self.moments.take(id, task) else {
+        let Some(due) = self.stamps.take(id, task) else {
             return Ok(None);
         };
         self.order.remove(&Timer::of(due, id, task)?);
@@ -72,7 +72,7 @@ impl TimerRow {
         ensures dropped { OnOk result (timers_in self.new ≡ cleared (timers_in self.old) (id_of id.now)) }
         ensures order { OnOk result (InOrder self.new) }
     {
-        while let Some(task) = self.moments.first_of(id) {
+        while let Some(task) = self.stamps.first_of(id) {
             self.take(id, task)?;
         }
         Ok(())
@@ -90,7 +90,7 @@ impl TimerRow {
         }
     }
 
-    /// The moment at which the first timer is due.
+    /// The stamp at which the first timer is due.
     pub fn next(&self) -> Option<u64>
         requires { InOrder self.now }
         ensures next { IfSome result (λ due. IsNext (timers_in self.now) due) }
@@ -109,7 +109,7 @@ impl TimerRow {
         ensures order { IfOk result InOrder }
     {
         Ok(TimerRow {
-            moments: self.moments.copied(alloc, |due| Ok(*due))?,
+            stamps: self.stamps.copied(alloc, |due| Ok(*due))?,
             order: self.order.clone()?,
         })
     }

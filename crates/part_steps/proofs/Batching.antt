@@ -10,12 +10,12 @@ use Rattle.dura_model.specs.Partition.{accepted}
 use Rattle.part_steps.specs.declared.batch.Batch.{Batch}
 use Rattle.part_steps.specs.declared.state.PartState.{PartState}
 use Rattle.part_steps.specs.Batches.{HasMore, IsOver}
-use Rattle.part_steps.specs.Enabled.{moment_at, is_at, NoneEnabled, Makes, nothing, one_more}
+use Rattle.part_steps.specs.Enabled.{stamp_at, is_at, NoneEnabled, Makes, nothing, one_more}
 use Rattle.part_steps.specs.Outputs.{Outputs, outputs_by, outputs_of}
 use Rattle.part_steps.specs.States.{IsSound, state_of, count_of}
 
 pub one_item_more : (flows : Flows) (now : ℕ) (old new : Batch) (item : own.Item) (made : made_outputs.Outputs) (state : PartState)
-    → is_at (item_of item) (moment_at (state_of old.state) now) ≡ true → accepted flows (count_of old.state) (state_of old.state) (item_of item) ≡ Some (state_of state) → outputs_of made ≡ outputs_by flows (state_of old.state) (item_of item) → count_of state ≡ count_of old.state → (state_of state).position ≡ (state_of old.state).position → IsSound state
+    → is_at (item_of item) (stamp_at (state_of old.state) now) ≡ true → accepted flows (count_of old.state) (state_of old.state) (item_of item) ≡ Some (state_of state) → outputs_of made ≡ outputs_by flows (state_of old.state) (item_of item) → count_of state ≡ count_of old.state → (state_of state).position ≡ (state_of old.state).position → IsSound state
     → new.state ≡ state → new.items.items ≡ old.items.items ++ item ∷ [] → new.outputs.items ≡ old.outputs.items ++ made ∷ [] → HasMore flows now old new
 one_item_more flows now old new item made state at taken made_is count_is position_is sound_too state_is items_is outputs_is = record {
   item = item_of item;
@@ -65,10 +65,10 @@ filled_more flows now first many old new filled more = record {
 }
 
 -- nothing more was possible
-pub none_behind : (flows : Flows) (first : PartState) (many now : ℕ) (old new : Batch) → Filled flows now first many old → IsOver flows now old new → NoneEnabled flows (count_of first) (state_of new.state) (moment_at (state_of new.state) now)
+pub none_behind : (flows : Flows) (first : PartState) (many now : ℕ) (old new : Batch) → Filled flows now first many old → IsOver flows now old new → NoneEnabled flows (count_of first) (state_of new.state) (stamp_at (state_of new.state) now)
 none_behind flows first many now old new filled over =
-    subst (λ (b : Batch). NoneEnabled flows (count_of first) (state_of b.state) (moment_at (state_of b.state) now)) (sym over.same)
-    (subst (λ (k : ℕ). NoneEnabled flows k (state_of old.state) (moment_at (state_of old.state) now)) filled.partitions over.none)
+    subst (λ (b : Batch). NoneEnabled flows (count_of first) (state_of b.state) (stamp_at (state_of b.state) now)) (sym over.same)
+    (subst (λ (k : ℕ). NoneEnabled flows k (state_of old.state) (stamp_at (state_of old.state) now)) filled.partitions over.none)
 
 pub over_filled : (flows : Flows) (first : PartState) (many now : ℕ) (old new : Batch) → Filled flows now first many old → IsOver flows now old new → Filled flows now first many new
 over_filled flows first many now old new filled over = subst (Filled flows now first many) (sym over.same) filled

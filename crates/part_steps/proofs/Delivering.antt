@@ -30,7 +30,7 @@ module _ (flows : Flows) (count : ℕ) (p : Partition) (from : Id) (stamp : ℕ)
   received (client name) = sym (ap (λ (b : Bool). cond b (Some (reached flows count p from (client name) stamp body)) None) (zero_low stamp))
 
 module _ (flows : Flows) (count : ℕ) (p : Partition) (from to : Id) (stamp : ℕ) where
-  -- the partition without the message, at this moment
+  -- the partition without the message, at this stamp
   abbrev left : Partition
   left = raised_to stamp (record p { queue = without_first p.queue from to })
 

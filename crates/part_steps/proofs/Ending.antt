@@ -77,7 +77,7 @@ module _ (flows : Flows) (count : ℕ) (p : Partition) (id : Id) (task : ℕ) wh
     pub nobody_there : instance_at flows p id ≡ None → accepted flows count p (fired id task stamp) ≡ None
     nobody_there is = ap (λ (o : Option Orchestration). fired_in flows count p id task stamp o (p.timers id task)) is
 
-    -- the partition without the timer, at this moment
+    -- the partition without the timer, at this stamp
     abbrev fired_left : Partition
     fired_left = raised_to stamp (record p { timers = at_number p.timers id task None })
 

@@ -27,7 +27,7 @@ pub record Outputs : Type 0 where
   pub sent : List Message
   pub answers : List Answered
 
--- what a message makes its receiver send at this moment
+-- what a message makes its receiver send at this stamp
 abbrev pub sent_to : Flows → Partition → (from to : Id) → ℕ → Body → List Message
 sent_to flows p from (orchestration flow key) stamp body =
     let to = orchestration flow key in (to_instance flows (instance_at flows p to) from to stamp body).sent

@@ -9,7 +9,7 @@ use Rattle.dura_model.specs.Partition.{Row, Partition, instance_at, event_of, st
 use Rattle.part_rows.specs.Open.{lets_in, last_at}
 use Rattle.part_rows.specs.Reactions.{delivered}
 
--- whether a receiver takes what a sender sends it at this moment, which isn't before its last
+-- whether a receiver takes what a sender sends it at this stamp, which isn't before its last
 abbrev pub takes_at : Partition → (from to : Id) → ℕ → Bool
 takes_at p from to stamp = lets_in p.entities from to && nat_le (last_at p to) stamp
 
@@ -18,7 +18,7 @@ abbrev pub instance_reached : Flows → ℕ → Partition → (from to : Id) →
 instance_reached flows count p from to stamp body =
     stands_in count p to stamp (event_of flows (instance_at flows p to) from to body) (to_instance flows (instance_at flows p to) from to stamp body)
 
--- what a message makes of an entity of a class at this moment
+-- what a message makes of an entity of a class at this stamp
 abbrev pub delivered_at : Flows → Partition → (class : List ℕ) → (from to : Id) → ℕ → Body → Delivered
 delivered_at flows p class from to stamp body = delivered flows class (p.entities to) from to stamp body
 
@@ -31,7 +31,7 @@ reached flows count p from (orchestration flow key) stamp body = instance_reache
 reached flows count p from (entity class key) stamp body = entity_reached flows count p class from (entity class key) stamp body
 reached flows count p from (client name) stamp body = client_received p (client name) body
 
--- whether a timer is pending and due at this moment, and its instance's last moment isn't later
+-- whether a timer is pending and due at this stamp, and its instance's last stamp isn't later
 abbrev pub fires_at : Option Row → Option ℕ → ℕ → Bool
 fires_at (Some row) (Some due) stamp = nat_le due stamp && nat_le row.stamp stamp
 fires_at row timer stamp = false

@@ -13,7 +13,7 @@ pub record AreSound (rows : PartRows) : Type 0 where
   pub order : InOrder rows.timers
   -- it is one of so many
   pub below : rows.number < rows.partitions
-  -- all in it belongs here, and nothing is of a later moment than its own
+  -- all in it belongs here, and nothing is of a later stamp than its own
   pub belongs : Belongs rows.partitions rows.number (part_of rows)
   -- what is pending is of instances that are there
   pub owned : AreOfInstances (part_of rows)

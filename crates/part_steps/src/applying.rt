@@ -114,7 +114,7 @@ fn reach_first<R: Reactions>(
     Ok(outputs(sent, answers))
 }
 
-/// The first message of a link is delivered at this moment.
+/// The first message of a link is delivered at this stamp.
 fn run<R: Reactions>(
     alloc: Global,
     reactions: &R,
@@ -214,7 +214,7 @@ fn finish<R: Reactions>(
     Ok(Some(outputs))
 }
 
-/// Whether a timer of an instance's task is pending and due, and the instance's last moment isn't later.
+/// Whether a timer of an instance's task is pending and due, and the instance's last stamp isn't later.
 fn may_fire(rows: &PartRows, id: &Id, task: u32, stamp: u64) -> bool
     ensures { result ≡ fires_at ((part_of rows.now).instances (id_of id.now)) ((part_of rows.now).timers (id_of id.now) task) stamp }
 {
@@ -224,7 +224,7 @@ fn may_fire(rows: &PartRows, id: &Id, task: u32, stamp: u64) -> bool
     }
 }
 
-/// A pending timer fires at this moment.
+/// A pending timer fires at this stamp.
 fn fire<R: Reactions>(
     alloc: Global,
     reactions: &R,

@@ -3,7 +3,7 @@
 ghost use Rattle.std.specs.Prelude.{◌≡◌, ◌<◌, ◌≤◌, ◌++◌, ◌∷◌, [], length, map, IfOk, OnOk};
 ghost use Rattle.part_items.specs.Plain.{items_of};
 ghost use Rattle.part_steps.specs.Batches.{BatchGoesOn};
-ghost use Rattle.part_steps.specs.Enabled.{moment_at, NoneEnabled, Makes};
+ghost use Rattle.part_steps.specs.Enabled.{stamp_at, NoneEnabled, Makes};
 ghost use Rattle.part_steps.specs.Outputs.{outputs_of};
 ghost use Rattle.part_steps.specs.States.{IsSound, state_of, count_of};
 
@@ -124,7 +124,7 @@ pub fn next_items<R: Reactions>(
     requires begun { 0 < (state_of state).position }
     ensures made { IfOk result (λ batch. Makes (R.flows reactions.now) (count_of state) now (state_of state) (items_of batch.items.items) (map outputs_of batch.outputs.items) (state_of batch.state)) }
     ensures limit { IfOk result (λ batch. length batch.items.items ≤ limit) }
-    ensures none { IfOk result (λ batch. length batch.items.items < limit → NoneEnabled (R.flows reactions.now) (count_of state) (state_of batch.state) (moment_at (state_of batch.state) now)) }
+    ensures none { IfOk result (λ batch. length batch.items.items < limit → NoneEnabled (R.flows reactions.now) (count_of state) (state_of batch.state) (stamp_at (state_of batch.state) now)) }
     ensures partitions { IfOk result (λ batch. count_of batch.state ≡ count_of state) }
     ensures entry { IfOk result (λ batch. (state_of batch.state).position ≡ (state_of state).position) }
     ensures sound { IfOk result (λ batch. IsSound batch.state) }

@@ -40,7 +40,7 @@ fn add_event(
     Ok(history)
 }
 
-/// The row of an instance for whose end these wait, after a delivery or an event at this moment.
+/// The row of an instance for whose end these wait, after a delivery or an event at this stamp.
 fn next_row(
     alloc: Global,
     row: Option<Row>,
@@ -58,7 +58,7 @@ fn next_row(
     })
 }
 
-/// The row of an instance after a delivery or an event at this moment, or none where the instance isn't there.
+/// The row of an instance after a delivery or an event at this stamp, or none where the instance isn't there.
 fn next_or_none(
     alloc: Global,
     row: Option<Row>,
@@ -81,7 +81,7 @@ fn next_or_none(
     }
 }
 
-/// An instance has the row that a delivery or an event at this moment makes of its row, or none where it isn't there.
+/// An instance has the row that a delivery or an event at this stamp makes of its row, or none where it isn't there.
 fn put_row(
     alloc: Global,
     rows: &mut PartRows,

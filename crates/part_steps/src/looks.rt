@@ -13,7 +13,7 @@ use dura_value::{Answer, Id, Message};
 use part_rows::Activity;
 
 impl PartState {
-    /// The place of its next entry.
+    /// The position of its next entry.
     pub fn position(&self) -> u64
         ensures { result ≡ (state_of self.now).position }
     {
@@ -61,7 +61,7 @@ impl PartState {
         self.rows.activities.first()
     }
 
-    /// The moment at which the first timer is due.
+    /// The stamp at which the first timer is due.
     pub fn next_timer(&self) -> Option<u64>
         requires { IsSound self.now }
         ensures next { IfSome result (λ due. IsNext (state_of self.now).timers due) }

@@ -17,7 +17,7 @@ use flow_messages::copy_name;
 use part_rows::{PartRows, Reactions, copy_answer};
 use std::alloc::{AllocError, Global};
 
-/// Whether a receiver takes what a sender sends it at this moment.
+/// Whether a receiver takes what a sender sends it at this stamp.
 pub(crate) fn takes_at(rows: &PartRows, from: &Id, to: &Id, stamp: u64) -> bool
     ensures { result ≡ takes_at (part_of rows.now) (id_of from.now) (id_of to.now) stamp }
 {

@@ -5,7 +5,7 @@ ghost use Rattle.flow_syntax.specs.Syntax.{Flows as PlainFlows};
 ghost use Rattle.part_items.specs.Plain.{item_of};
 ghost use Rattle.dura_model.specs.Partition.{fresh, enter, accepted};
 ghost use Rattle.part_steps.specs.Applied.{Becomes};
-ghost use Rattle.part_steps.specs.Enabled.{ComesNext, moment_at, IsEnabled, NoneEnabled};
+ghost use Rattle.part_steps.specs.Enabled.{ComesNext, stamp_at, IsEnabled, NoneEnabled};
 ghost use Rattle.part_steps.specs.Outputs.{outputs_by};
 ghost use Rattle.part_steps.specs.States.{IsSound, state_of, count_of};
 
@@ -61,7 +61,7 @@ impl PartState {
         self.rows.let_go();
     }
 
-    /// An entry of this life begins. Positions are below 2^62.
+    /// An entry of this incarnation begins. Positions are below 2^62.
     pub fn enter(self, incarnation: u64) -> PartState
         requires sound { IsSound self }
         requires younger { (state_of self).incarnation ≤ incarnation }
@@ -101,9 +101,9 @@ impl PartState {
         }
     }
 
-    /// The moment of what is done now: a clock may stand behind what was done before.
-    fn moment(&self, now: u64) -> u64
-        ensures { result ≡ moment_at (state_of self.now) now }
+    /// The stamp of what is done now: a clock may stand behind what was done before.
+    fn stamp(&self, now: u64) -> u64
+        ensures { result ≡ stamp_at (state_of self.now) now }
     {
         if self.rows.stamp <= now {
             now
@@ -117,16 +117,16 @@ impl PartState {
     #[tactic(auto, using(crate::proofs::Enabling::none_enabled))]
     pub fn enabled(&self, now: u64) -> Result<Option<Item>, AllocError>
         requires { IsSound self.now }
-        ensures some { IfOk result (λ item. IfSome item (λ one. (flows : PlainFlows) → IsEnabled flows (count_of self.now) (state_of self.now) (moment_at (state_of self.now) now) (item_of one))) }
-        ensures next { IfOk result (λ item. IfSome item (λ one. ComesNext (state_of self.now) (moment_at (state_of self.now) now) (item_of one))) }
-        ensures none { IfOk result (λ item. IfNone item ((flows : PlainFlows) → NoneEnabled flows (count_of self.now) (state_of self.now) (moment_at (state_of self.now) now))) }
+        ensures some { IfOk result (λ item. IfSome item (λ one. (flows : PlainFlows) → IsEnabled flows (count_of self.now) (state_of self.now) (stamp_at (state_of self.now) now) (item_of one))) }
+        ensures next { IfOk result (λ item. IfSome item (λ one. ComesNext (state_of self.now) (stamp_at (state_of self.now) now) (item_of one))) }
+        ensures none { IfOk result (λ item. IfNone item ((flows : PlainFlows) → NoneEnabled flows (count_of self.now) (state_of self.now) (stamp_at (state_of self.now) now))) }
     {
-        let moment = self.moment(now);
+        let stamp = self.stamp(now);
         if let Some(message) = self.rows.first_open() {
-            return Ok(Some(Item::Ran(copy_id(&message.from)?, copy_id(&message.to)?, moment)));
+            return Ok(Some(Item::Ran(copy_id(&message.from)?, copy_id(&message.to)?, stamp)));
         }
-        match self.rows.timers.due(moment) {
-            Some(timer) => Ok(Some(Item::Fired(copy_id(&timer.id)?, timer.task, moment))),
+        match self.rows.timers.due(stamp) {
+            Some(timer) => Ok(Some(Item::Fired(copy_id(&timer.id)?, timer.task, stamp))),
             None => Ok(None),
         }
     }

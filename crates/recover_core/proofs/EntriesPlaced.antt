@@ -9,7 +9,7 @@ use Rattle.part_items.specs.Numbered.{Next, behind_all}
 use Rattle.part_items.specs.Plain.{next_of}
 use Rattle.part_steps.specs.declared.state.PartState.{PartState}
 use Rattle.part_steps.specs.States.{IsSound, state_of, count_of}
-use Rattle.dura_model.specs.Entries.{all_accepted, entry_accepted, or_place, placed, life_behind}
+use Rattle.dura_model.specs.Entries.{all_accepted, entry_accepted, or_place, placed, incarnation_behind}
 use Rattle.dura_model.proofs.Appending.{placed_both}
 use Rattle.part_items.proofs.Behind.{behind_both}
 use Rattle.recover_core.specs.declared.progress.Placing.{Placing}
@@ -25,15 +25,15 @@ pub record HasApplied (flows : Flows) (old now : PartState) (all rest : List Ite
   pub sound : IsSound now
   pub count : count_of now ≡ count_of old
   pub position : (state_of now).position ≡ (state_of old).position
-  pub life : (state_of now).incarnation ≡ (state_of old).incarnation
+  pub incarnation : (state_of now).incarnation ≡ (state_of old).incarnation
 
 pub none_applied : (flows : Flows) (old : PartState) (all : List Item) → IsSound old → HasApplied flows old old all all
-none_applied flows old all sound = record { same = refl; sound = sound; count = refl; position = refl; life = refl }
+none_applied flows old all sound = record { same = refl; sound = sound; count = refl; position = refl; incarnation = refl }
 
 pub one_applied : (flows : Flows) (old now next : PartState) (all rest : List Item) (item : Item) → HasApplied flows old now all (item ∷ rest)
     → accepted flows (count_of now) (state_of now) item ≡ Some (state_of next) → IsSound next → count_of next ≡ count_of now → (state_of next).position ≡ (state_of now).position → (state_of next).incarnation ≡ (state_of now).incarnation
     → HasApplied flows old next all rest
-one_applied flows old now next all rest item so_far is sound count position life =
+one_applied flows old now next all rest item so_far is sound count position incarnation =
     let here : accepted flows (count_of old) (state_of now) item ≡ Some (state_of next) = subst (λ (n : ℕ). accepted flows n (state_of now) item ≡ Some (state_of next)) so_far.count is in
     let one : all_accepted flows (count_of old) (state_of now) (item ∷ rest) ≡ all_accepted flows (count_of old) (state_of next) rest =
     ap (option_and_then (λ p. all_accepted flows (count_of old) p rest)) here in
@@ -42,7 +42,7 @@ one_applied flows old now next all rest item so_far is sound count position life
       sound = sound;
       count = count ∙ so_far.count;
       position = position ∙ so_far.position;
-      life = life ∙ so_far.life;
+      incarnation = incarnation ∙ so_far.incarnation;
     }
 
 pub one_refused : (flows : Flows) (old now : PartState) (all rest : List Item) (item : Item) → HasApplied flows old now all (item ∷ rest)
@@ -53,20 +53,20 @@ one_refused flows old now all rest item so_far is =
     sym so_far.same ∙ one
 
 pub all_applied : (flows : Flows) (old now : PartState) (all : List Item) → HasApplied flows old now all [] → Makes (Some now) old (all_accepted flows (count_of old) (state_of old) all)
-all_applied flows old now all so_far = (sym so_far.same, so_far.sound, so_far.count, so_far.position, so_far.life)
+all_applied flows old now all so_far = (sym so_far.same, so_far.sound, so_far.count, so_far.position, so_far.incarnation)
 
 -- ---- an entry
 
 -- an entry of a state that goes on
 pub entry_made : (flows : Flows) (entry : Entry) (old new : PartState) → count_of old ≡ 1 → entry_accepted flows 1 (state_of old) entry ≡ Some (state_of new) → IsSound new → count_of new ≡ 1
     → (state_of new).position ≡ (state_of old).position + 1 → (state_of new).incarnation ≡ entry.incarnation → GoesOnAs flows entry (On old) (On new)
-entry_made flows entry old new alone is sound count position life = record {
+entry_made flows entry old new alone is sound count position incarnation = record {
   placed = λ made shows. (
     ap (λ (m : Result Partition ℕ). m >>= λ p. placed flows 1 p (entry ∷ [])) shows.0 ∙ ap (λ (o : Option Partition). or_place entry.position o >>= λ p. Ok p) is,
     count,
     sound,
   );
-  ready = (sound, count, omega (arith, life));
+  ready = (sound, count, omega (arith, incarnation));
   room = omega (arith, position);
 }
 
@@ -99,10 +99,10 @@ still_stuck flows entry position = record {
   room = omega arith;
 }
 
--- a later life may begin where an earlier one may
-pub ready_later : (placing : Placing) (life later : ℕ) → life ≤ later → IsReadyFor life placing → IsReadyFor later placing
-ready_later (On state) life later young ready = (ready.0, ready.1, let before = ready.2 in omega (arith, before, young))
-ready_later (Stuck position) life later young ready = tt
+-- a later incarnation may begin where an earlier one may
+pub ready_later : (placing : Placing) (incarnation later : ℕ) → incarnation ≤ later → IsReadyFor incarnation placing → IsReadyFor later placing
+ready_later (On state) incarnation later young ready = (ready.0, ready.1, let before = ready.2 in omega (arith, before, young))
+ready_later (Stuck position) incarnation later young ready = tt
 
 -- ---- entries
 
@@ -111,9 +111,9 @@ pub placed_more : (flows : Flows) (made : Result Partition ℕ) (a b : List Entr
 placed_more flows (Ok p) a b = placed_both flows 1 p a b
 placed_more flows (Err position) a b = refl
 
-life_both : (life : ℕ) (a b : List Entry) → life_behind life (a ++ b) ≡ life_behind (life_behind life a) b
-life_both life [] b = refl
-life_both life (entry ∷ a) b = life_both (entry.incarnation + 1) a b
+incarnation_both : (incarnation : ℕ) (a b : List Entry) → incarnation_behind incarnation (a ++ b) ≡ incarnation_behind (incarnation_behind incarnation a) b
+incarnation_both incarnation [] b = refl
+incarnation_both incarnation (entry ∷ a) b = incarnation_both (entry.incarnation + 1) a b
 
 placed_none : (flows : Flows) (made : Result Partition ℕ) → (made >>= λ p. placed flows 1 p []) ≡ made
 placed_none flows (Ok p) = refl
@@ -122,7 +122,7 @@ placed_none flows (Err position) = refl
 pub none_placed : (flows : Flows) (old : Progress) → IsReady old → PlacesOn flows [] old old
 none_placed flows old ready = record {
   next = refl;
-  life = refl;
+  incarnation = refl;
   placed = λ made shows. subst (λ (m : Result Partition ℕ). Shows old.placing m) (sym (placed_none flows made)) shows;
   ready = ready;
   room = omega arith;
@@ -131,7 +131,7 @@ none_placed flows old ready = record {
 pub more_placed : (flows : Flows) (a b : List Entry) (old mid new : Progress) → PlacesOn flows a old mid → PlacesOn flows b mid new → PlacesOn flows (a ++ b) old new
 more_placed flows a b old mid new first second = record {
   next = second.next ∙ ap (λ (n : Next). behind_all n b) first.next ∙ sym (behind_both (next_of old.next) a b);
-  life = second.life ∙ ap (λ (n : ℕ). life_behind n b) first.life ∙ sym (life_both old.life a b);
+  incarnation = second.incarnation ∙ ap (λ (n : ℕ). incarnation_behind n b) first.incarnation ∙ sym (incarnation_both old.incarnation a b);
   placed = λ made shows. subst (λ (m : Result Partition ℕ). Shows new.placing m) (sym (placed_more flows made a b)) (second.placed _ (first.placed made shows));
   ready = second.ready;
   room = omega (arith, first.room, second.room, length-append a b);
@@ -141,6 +141,6 @@ more_placed flows a b old mid new first second = record {
 pub progress_more : (flows : Flows) (first : Next) (a b : List Entry) (old new : Progress) → IsProgress flows first a old → PlacesOn flows b old new → IsProgress flows first (a ++ b) new
 progress_more flows first a b old new so_far more = record {
   next = more.next ∙ ap (λ (n : Next). behind_all n b) so_far.next ∙ sym (behind_both first a b);
-  life = more.life ∙ ap (λ (n : ℕ). life_behind n b) so_far.life ∙ sym (life_both 0 a b);
+  incarnation = more.incarnation ∙ ap (λ (n : ℕ). incarnation_behind n b) so_far.incarnation ∙ sym (incarnation_both 0 a b);
   placed = subst (λ (m : Result Partition ℕ). Shows new.placing m) (sym (placed_both flows 1 (fresh 0) a b)) (more.placed _ so_far.placed);
 }

@@ -55,14 +55,14 @@ module _ (file : ℕ) (old new : List Step) (is : new ≡ on file synced ∷ old
       ap (kept_in 0) same_content ∙ ap (kept_from (content_of file old)) opens.0 ∙ ap (λ (c : List ℕ). kept_under reader.header (left_from c first_gate (first_of reader.header))) same
 
   pub is_found : (flows : Flows) (reader : LogReader) (log : Resting) (progress : Progress) → reader.file ≡ file → Opens 0 (content_of file old) (Ok reader) → log.file ≡ reader.file → ReadsAll new flows reader (Ok (log, progress))
-      → IsFound new flows file (record { header = reader.header; log = log; life = progress.life; placing = progress.placing })
+      → IsFound new flows file (record { header = reader.header; log = log; incarnation = progress.incarnation; placing = progress.placing })
   is_found flows reader log progress file_is opens there all = record {
     entries = all.1;
     payloads = all.0;
     file_is = there ∙ file_is;
     kept = keeps_read reader file_is opens ∙ ap (kept_under reader.header) all.3;
     placed = all.5.placed;
-    life = all.5.life;
+    incarnation = all.5.incarnation;
     decoded = all.2;
     rests = all.4;
     partition = own_partition 0 (content_of file old) reader.header opens.0;

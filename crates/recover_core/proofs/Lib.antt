@@ -6,7 +6,7 @@ pub mod FramesRead
 pub mod HeadersRead
 pub mod LogsFound
 pub mod NextFrames
-pub mod SameLife
+pub mod SameIncarnation
 pub mod Standing
 pub mod Ties
 pub mod Walks

@@ -15,7 +15,7 @@ use Rattle.part_steps.specs.declared.state.PartState.{PartState}
 use Rattle.part_steps.specs.States.{IsSound, state_of, count_of}
 use Rattle.part_items.specs.Kept.{Kept, nothing, keeps, first_of, kept_in}
 use Rattle.part_items.specs.Logs.{Refusal, Logs, no_log, log_in, fault_of, late_base, or_else, first_fault, the_log, unless, logs_of, logs_in, entries_in, alone_with}
-use Rattle.dura_model.specs.Entries.{placed, next_life}
+use Rattle.dura_model.specs.Entries.{placed, next_incarnation}
 use Rattle.recover_core.specs.declared.error.RecoverError.{RecoverError}
 use Rattle.recover_core.specs.declared.error.RecoverError.TheVariants.{Damaged, OtherShape, OtherFlows, Illegal, Spent, SiteFault, Memory}
 use Rattle.recover_core.specs.declared.files.Found.{Found}
@@ -35,7 +35,7 @@ risen_later before mid now first second (inl rose) = inl (omega arith)
 risen_later before mid now first second (inr full) = elim (cases_lt before mid) [ inl rose ↦ inl (omega arith) | inr same ↦ inr (omega arith) ]
 
 -- what was chosen is ready where both files are
-pub ready_chosen : (first second : LogFile) (found : Found) → IsReadyFile first → IsReadyFile second → Chooses first second (Some found) → IsReadyFor found.life found.placing
+pub ready_chosen : (first second : LogFile) (found : Found) → IsReadyFile first → IsReadyFile second → Chooses first second (Some found) → IsReadyFor found.incarnation found.placing
 ready_chosen first second found one two chosen = elim chosen.1 [ inl is ↦ subst IsReadyFile is.0 one | inr is ↦ subst IsReadyFile is.1 two ]
 
 -- ---- refusals
@@ -93,7 +93,7 @@ found_moved old new flows file found same f = record {
   file_is = f.file_is;
   kept = ap (λ (c : _). kept_in 0 (reads c)) same ∙ f.kept;
   placed = f.placed;
-  life = f.life;
+  incarnation = f.incarnation;
   decoded = f.decoded;
   rests =
       let there : changes_of found.log.file new ≡ changes_of found.log.file old = ap (λ (n : ℕ). changes_of n new) f.file_is ∙ same ∙ ap (λ (n : ℕ). changes_of n old) (sym f.file_is) in
@@ -113,7 +113,7 @@ pub record HasLog (steps : List Step) (flows : Flows) (digest : ℕ) (logs : Log
   pub payloads : List (List ℕ)
   pub logs_is : logs ≡ log_in found.log.file entries found.log.gate
   pub placed : Shows found.placing (placed flows 1 (fresh 0) entries)
-  pub life : found.life ≡ next_life entries
+  pub incarnation : found.incarnation ≡ next_incarnation entries
   pub decoded : frames_in (first_of found.header) payloads ≡ Ok entries
   pub rests : RestsAs steps found.header payloads found.log
   pub partition : found.header.partition ≡ 0
@@ -127,7 +127,7 @@ has_log steps flows digest file logs found suits base is = record {
   payloads = suits.0.payloads;
   logs_is = is ∙ ap (λ (n : ℕ). log_in n suits.0.entries found.log.gate) (sym suits.0.file_is);
   placed = suits.0.placed;
-  life = suits.0.life;
+  incarnation = suits.0.incarnation;
   decoded = suits.0.decoded;
   rests = suits.0.rests;
   partition = suits.0.partition;
@@ -204,7 +204,7 @@ module _ (flows : Flows) (digest : ℕ) (old steps : List Step) (first_same : co
             placed = ap (λ (p : Partition). Ok p) (sym made);
             alone = alone;
             sound = sound;
-            life = refl;
+            incarnation = refl;
             young = lit< tt;
             log = none;
           }
@@ -236,7 +236,7 @@ end_recovered steps flows digest logs found (Ok r) has ends = record {
   placed = ends.0;
   alone = ends.1;
   sound = ends.2;
-  life = ends.3;
+  incarnation = ends.3;
   young = ends.4;
   log = subst (λ (o : Option Resting). IsLogOf has.entries o logs) (sym ends.5) has.logs_is;
 }
@@ -255,7 +255,7 @@ end_recovered steps flows digest logs found (Err (Spent partition number)) has e
   kept = ap entries_in has.logs_is;
   state = ends.1.0;
   placed = ends.1.1;
-  life = ends.2;
+  incarnation = ends.2;
   old = ends.3;
 }
 end_recovered steps flows digest logs found (Err SiteFault) has ends = absurd ends

@@ -6,7 +6,7 @@ use Rattle.dura_model.specs.Partition.{Partition, fresh}
 use Rattle.part_steps.specs.States.{IsSound, state_of, count_of}
 use Rattle.part_items.specs.Kept.{Kept, nothing, keeps}
 use Rattle.part_items.specs.Logs.{Refusal, same_base, late_base, or_else}
-use Rattle.dura_model.specs.Entries.{placed, next_life}
+use Rattle.dura_model.specs.Entries.{placed, next_incarnation}
 use Rattle.recover_core.specs.declared.error.RecoverError.{RecoverError}
 use Rattle.recover_core.specs.declared.error.RecoverError.TheVariants.{Illegal, Spent}
 use Rattle.recover_core.specs.declared.files.LogFile.{LogFile}
@@ -31,8 +31,8 @@ Chooses first second (Some found) = (found.header.base ≡ 0) × (((first ≡ Lo
 -- what the entries of the log that was found stand for
 abbrev pub Ends : Flows → List Entry → Found → Result Recovered RecoverError → Type 0
 Ends flows entries found (Ok r) = (placed flows 1 (fresh 0) entries ≡ Ok (state_of r.state)) × (count_of r.state ≡ 1) × IsSound r.state
-    × (r.incarnation ≡ next_life entries) × (r.incarnation < 2 ^ 62) × (r.log ≡ Some found.log)
+    × (r.incarnation ≡ next_incarnation entries) × (r.incarnation < 2 ^ 62) × (r.log ≡ Some found.log)
 Ends flows entries found (Err (Illegal partition position)) = (partition ≡ 0) × (placed flows 1 (fresh 0) entries ≡ Err position)
 Ends flows entries found (Err (Spent partition number)) =
-    (partition ≡ 0) × ((state : Partition) × (placed flows 1 (fresh 0) entries ≡ Ok state)) × (next_life entries ≡ number) × (2 ^ 62 ≤ number)
+    (partition ≡ 0) × ((state : Partition) × (placed flows 1 (fresh 0) entries ≡ Ok state)) × (next_incarnation entries ≡ number) × (2 ^ 62 ≤ number)
 Ends flows entries found (Err other) = ⊥

@@ -18,7 +18,7 @@ use Rattle.part_items.specs.Numbered.{Next, behind_all, next_frame_in}
 use Rattle.part_items.specs.Plain.{next_of}
 use Rattle.part_items.specs.Kept.{nothing, broken, keeps, in_file, left_from, first_of, kept_in}
 use Rattle.part_items.specs.Logs.{fault_of, alone_with}
-use Rattle.dura_model.specs.Entries.{placed, next_life}
+use Rattle.dura_model.specs.Entries.{placed, next_incarnation}
 use Rattle.recover_core.specs.declared.error.RecoverError.{RecoverError}
 use Rattle.recover_core.specs.declared.files.LogFile.{LogFile}
 use Rattle.recover_core.specs.declared.files.LogFile.TheVariants.{Fresh, Log}
@@ -115,10 +115,10 @@ ReadsAll steps flows reader (Err unread.Memory) = Unit {0}
 
 -- ---- a file that was read
 
--- an entry of the life that goes on may begin behind what a file holds
+-- an entry of the incarnation that goes on may begin behind what a file holds
 abbrev pub IsReadyFile : LogFile → Type 0
 IsReadyFile Fresh = Unit {0}
-IsReadyFile (Log found) = IsReadyFor found.life found.placing
+IsReadyFile (Log found) = IsReadyFor found.incarnation found.placing
 
 -- A log was found in a file: this is what it keeps, its entries were placed, and it rests.
 pub record IsFound (steps : List Step) (flows : Flows) (file : ℕ) (found : Found) : Type 0 where
@@ -127,7 +127,7 @@ pub record IsFound (steps : List Step) (flows : Flows) (file : ℕ) (found : Fou
   pub file_is : found.log.file ≡ file
   pub kept : kept_in 0 (content_of file steps) ≡ keeps found.header entries found.log.gate
   pub placed : Shows found.placing (placed flows 1 (fresh 0) entries)
-  pub life : found.life ≡ next_life entries
+  pub incarnation : found.incarnation ≡ next_incarnation entries
   pub decoded : frames_in (first_of found.header) payloads ≡ Ok entries
   pub rests : RestsAs steps found.header payloads found.log
   pub partition : found.header.partition ≡ 0

@@ -8,7 +8,7 @@ use Rattle.part_items.specs.Numbered.{Next, behind_all}
 use Rattle.part_items.specs.Plain.{next_of}
 use Rattle.part_steps.specs.declared.state.PartState.{PartState}
 use Rattle.part_steps.specs.States.{IsSound, state_of, count_of}
-use Rattle.dura_model.specs.Entries.{placed, life_behind, next_life}
+use Rattle.dura_model.specs.Entries.{placed, incarnation_behind, next_incarnation}
 use Rattle.recover_core.specs.declared.progress.Placing.{Placing}
 use Rattle.recover_core.specs.declared.progress.Placing.TheVariants.{On, Stuck}
 use Rattle.recover_core.specs.declared.progress.Progress.{Progress}
@@ -29,14 +29,14 @@ abbrev pub position_in : Placing → ℕ
 position_in (On state) = (state_of state).position
 position_in (Stuck position) = 0
 
--- an entry of this life may begin
-abbrev pub IsReadyFor : (life : ℕ) → Placing → Type 0
-IsReadyFor life (On state) = IsSound state × (count_of state ≡ 1) × ((state_of state).incarnation ≤ life)
-IsReadyFor life (Stuck position) = Unit {0}
+-- an entry of this incarnation may begin
+abbrev pub IsReadyFor : (incarnation : ℕ) → Placing → Type 0
+IsReadyFor incarnation (On state) = IsSound state × (count_of state ≡ 1) × ((state_of state).incarnation ≤ incarnation)
+IsReadyFor incarnation (Stuck position) = Unit {0}
 
--- an entry that is numbered on may begin, and one of the life that goes on
+-- an entry that is numbered on may begin, and one of the incarnation that goes on
 abbrev pub IsReady : Progress → Type 0
-IsReady p = IsReadyFor p.next.incarnation p.placing × (p.next.incarnation ≤ p.life)
+IsReady p = IsReadyFor p.next.incarnation p.placing × (p.next.incarnation ≤ p.incarnation)
 
 -- what an entry makes of what those before it made
 pub record GoesOnAs (flows : Flows) (entry : Entry) (old new : Placing) : Type 0 where
@@ -47,7 +47,7 @@ pub record GoesOnAs (flows : Flows) (entry : Entry) (old new : Placing) : Type 0
 -- what entries make of how far those before them came
 pub record PlacesOn (flows : Flows) (entries : List Entry) (old new : Progress) : Type 0 where
   pub next : next_of new.next ≡ behind_all (next_of old.next) entries
-  pub life : new.life ≡ life_behind old.life entries
+  pub incarnation : new.incarnation ≡ incarnation_behind old.incarnation entries
   pub placed : (made : Result Partition ℕ) → Shows old.placing made → Shows new.placing (made >>= λ p. placed flows 1 p entries)
   pub ready : IsReady new
   pub room : position_in new.placing ≤ position_in old.placing + length entries
@@ -55,5 +55,5 @@ pub record PlacesOn (flows : Flows) (entries : List Entry) (old new : Progress) 
 -- these entries of a log that begins here were placed
 pub record IsProgress (flows : Flows) (first : Next) (entries : List Entry) (p : Progress) : Type 0 where
   pub next : next_of p.next ≡ behind_all first entries
-  pub life : p.life ≡ next_life entries
+  pub incarnation : p.incarnation ≡ next_incarnation entries
   pub placed : Shows p.placing (placed flows 1 (fresh 0) entries)

@@ -12,7 +12,7 @@ use Rattle.dura_model.specs.Steps.{Label}
 use Rattle.part_steps.specs.States.{IsSound, state_of, count_of}
 use Rattle.part_items.specs.Kept.{first_of}
 use Rattle.part_items.specs.Logs.{Logs, refused, no_log, log_in, damaged_at, other_shape, other_flows, logs_in, entries_in, alone_with}
-use Rattle.dura_model.specs.Entries.{placed, next_life, shown_by}
+use Rattle.dura_model.specs.Entries.{placed, next_incarnation, shown_by}
 use Rattle.recover_core.specs.declared.error.RecoverError.{RecoverError}
 use Rattle.recover_core.specs.declared.error.RecoverError.TheVariants.{Damaged, OtherShape, OtherFlows, Illegal, Spent, SiteFault, Memory}
 use Rattle.recover_core.specs.declared.recovery.Recovered.{Recovered}
@@ -23,18 +23,18 @@ abbrev pub IsLogOf : List Entry → Option Resting → Logs → Type 0
 IsLogOf entries None logs = logs ≡ no_log
 IsLogOf entries (Some log) logs = logs ≡ log_in log.file entries log.gate
 
--- All entries of the files made this state, and the life that begins is one that none of them has.
+-- All entries of the files made this state, and the incarnation that begins is one that none of them has.
 pub record IsRecovered (flows : Flows) (logs : Logs) (r : Recovered) : Type 0 where
   pub entries : List Entry
   pub kept : entries_in logs ≡ Some entries
   pub placed : placed flows 1 (fresh 0) entries ≡ Ok (state_of r.state)
   pub alone : count_of r.state ≡ 1
   pub sound : IsSound r.state
-  pub life : r.incarnation ≡ next_life entries
+  pub incarnation : r.incarnation ≡ next_incarnation entries
   pub young : r.incarnation < 2 ^ 62
   pub log : IsLogOf entries r.log logs
 
--- an entry of the life that begins may be begun in the state
+-- an entry of the incarnation that begins may be begun in the state
 pub record CanBegin (r : Recovered) : Type 0 where
   pub sound : IsSound r.state
   pub alone : count_of r.state ≡ 1
@@ -48,14 +48,14 @@ pub record IsIllegal (flows : Flows) (logs : Logs) (partition position : ℕ) : 
   pub kept : entries_in logs ≡ Some entries
   pub placed : placed flows 1 (fresh 0) entries ≡ Err position
 
--- all entries are accepted, and behind them the lives are used up
+-- all entries are accepted, and behind them the incarnations are used up
 pub record IsSpent (flows : Flows) (logs : Logs) (partition number : ℕ) : Type 0 where
   pub alone : partition ≡ 0
   pub entries : List Entry
   pub kept : entries_in logs ≡ Some entries
   pub state : Partition
   pub placed : placed flows 1 (fresh 0) entries ≡ Ok state
-  pub life : next_life entries ≡ number
+  pub incarnation : next_incarnation entries ≡ number
   pub old : 2 ^ 62 ≤ number
 
 -- what is answered of what the partition has in its log files
@@ -101,7 +101,7 @@ OnlySyncs old new = (new ≡ old) ⊎ ((new ≡ one_synced old) ⊎ (new ≡ bot
 
 -- ---- files that stand for a run
 
--- the files aren't refused: all else lies with the disk, with memory, or with the lives
+-- the files aren't refused: all else lies with the disk, with memory, or with the incarnations
 abbrev pub IsNotRefused : Result Recovered RecoverError → Type 0
 IsNotRefused (Err (Damaged file offset)) = ⊥
 IsNotRefused (Err (OtherShape found asked)) = ⊥

@@ -33,15 +33,15 @@ pub enum RecoverError {
     Illegal {
         /// The number of the partition.
         partition: u32,
-        /// The place of the entry.
+        /// The position of the entry.
         position: u64,
     },
-    /// The lives of the partition are used up.
-    #[error("partition {partition} is past its last life with {number}")]
+    /// The incarnations of the partition are used up.
+    #[error("partition {partition} is past its last incarnation with {number}")]
     Spent {
         /// The number of the partition.
         partition: u32,
-        /// The life that would begin.
+        /// The incarnation that would begin.
         number: u64,
     },
     /// The disk failed.

@@ -29,8 +29,8 @@ pub(crate) struct Found {
     pub header: Header,
     /// The log behind its frames.
     pub log: Resting,
-    /// The life that goes on behind its entries.
-    pub life: u64,
+    /// The incarnation that goes on behind its entries.
+    pub incarnation: u64,
     /// What they make of the state.
     pub placing: Placing,
 }
@@ -51,7 +51,7 @@ fn read_file<V: Site, R: Reactions>(
     reactions: &R,
     file: u32,
 ) -> Result<LogFile, FrameError>
-    ensures told { V.tells site.new → V.tells site.old }
+    ensures tells { V.tells site.new → V.tells site.old }
     ensures says { V.tells site.new → SaysFile (V.history site.new) (R.flows reactions.now) file result }
     ensures ready { IfOk result IsReadyFile }
     ensures syncs { (V.history site.new ≡ on file synced ∷ V.history site.old) ⊎ (V.history site.new ≡ V.history site.old) }
@@ -71,7 +71,7 @@ fn read_file<V: Site, R: Reactions>(
     Ok(LogFile::Log(Found {
         header,
         log,
-        life: progress.life,
+        incarnation: progress.incarnation,
         placing: progress.placing,
     }))
 }
@@ -106,7 +106,7 @@ pub(crate) fn open_file<V: Site, R: Reactions>(
     digest: u64,
     file: u32,
 ) -> Result<LogFile, RecoverError>
-    ensures told { V.tells site.new → V.tells site.old }
+    ensures tells { V.tells site.new → V.tells site.old }
     ensures says { V.tells site.new → SaysFits (V.history site.new) (R.flows reactions.now) digest file result }
     ensures ready { IfOk result IsReadyFile }
     ensures syncs { (V.history site.new ≡ on file synced ∷ V.history site.old) ⊎ (V.history site.new ≡ V.history site.old) }

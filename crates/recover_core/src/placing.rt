@@ -81,7 +81,7 @@ pub(crate) fn place_entry<R: Reactions>(
     entry.let_go();
     Ok(Progress {
         next,
-        life: next.incarnation + 1,
+        incarnation: next.incarnation + 1,
         placing: placing?,
     })
 }

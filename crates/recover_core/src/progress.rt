@@ -31,8 +31,8 @@ impl Placing {
 pub(crate) struct Progress {
     /// Where the log goes on.
     pub next: Next,
-    /// The life that goes on behind the entries.
-    pub life: u64,
+    /// The incarnation that goes on behind the entries.
+    pub incarnation: u64,
     /// What they make of the state.
     pub placing: Placing,
 }
@@ -49,7 +49,7 @@ impl Progress {
                 position: base,
                 incarnation: 0,
             },
-            life: 0,
+            incarnation: 0,
             placing: Placing::On(PartState::new(alloc, 1, 0)),
         }
     }

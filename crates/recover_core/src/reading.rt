@@ -89,7 +89,7 @@ fn read_step<V: Site, R: Reactions>(
     reading: Reading,
 ) -> Result<Turn, FrameError>
     requires { CanGoOn reading }
-    ensures told { V.tells site.new → V.tells site.old }
+    ensures tells { V.tells site.new → V.tells site.old }
     ensures reads { V.tells site.new → reading.reader.size ≡ length (content_of reading.reader.file (V.history site.old)) → (payloads : List (List ℕ)) (entries : List Entry)
         → HasReadTo (R.flows reactions.now) (content_of reading.reader.file (V.history site.old)) reading.reader.header payloads entries reading.reader.gate reading.progress
         → ReadsOn (R.flows reactions.now) (content_of reading.reader.file (V.history site.old)) reading.reader.header payloads entries result }
@@ -125,7 +125,7 @@ pub(crate) fn read_on<V: Site, R: Reactions>(
     reactions: &R,
     reader: LogReader,
 ) -> Result<(Resting, Progress), FrameError>
-    ensures told { V.tells site.new → V.tells site.old }
+    ensures tells { V.tells site.new → V.tells site.old }
     ensures reads { V.tells site.new → IsOpened (V.history site.old) reader → ReadsAll (V.history site.old) (R.flows reactions.now) reader result }
     ensures there { IfOk result (λ end. end.0.file ≡ reader.file) }
     ensures ready { IfOk result (λ end. IsReady end.1) }

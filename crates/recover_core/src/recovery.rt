@@ -6,7 +6,7 @@ ghost use Rattle.dura_value.specs.Items.{Entry};
 ghost use Rattle.flow_syntax.specs.Syntax.{Flows as PlainFlows};
 ghost use Rattle.dura_model.specs.Partition.{fresh};
 ghost use Rattle.part_items.specs.Logs.{logs_in, alone_with};
-ghost use Rattle.dura_model.specs.Entries.{placed, next_life};
+ghost use Rattle.dura_model.specs.Entries.{placed, next_incarnation};
 ghost use Rattle.recover_core.specs.Chosen.{Ends};
 ghost use Rattle.recover_core.specs.Progress.{Shows, IsReadyFor};
 ghost use Rattle.recover_core.specs.Recovering.{CanBegin, Recovers, RestsFor, OnlySyncs, both_synced};
@@ -21,8 +21,8 @@ use part_steps::PartState;
 use site_model::Site;
 use std::alloc::Global;
 
-/// The lives that no partition has.
-const LIVES: u64 = 1 << 62;
+/// The incarnations that no partition has.
+const INCARNATION_LIMIT: u64 = 1 << 62;
 
 /// What was recovered.
 #[derive(Drop)]
@@ -31,20 +31,20 @@ pub struct Recovered {
     pub state: PartState,
     /// The log, or none where there is none yet.
     pub log: Option<Resting>,
-    /// The life that begins now: one more than that of the last entry, 0 where there is none.
+    /// The incarnation that begins now: one more than that of the last entry, 0 where there is none.
     pub incarnation: u64,
 }
 
 /// What the entries of a log stand for.
 fn end(found: Found) -> Result<Recovered, RecoverError>
-    ensures ends { (flows : PlainFlows) (entries : List Entry) → Shows found.placing (placed flows 1 (fresh 0) entries) → found.life ≡ next_life entries → Ends flows entries found result }
-    ensures begins { IsReadyFor found.life found.placing → IfOk result CanBegin }
+    ensures ends { (flows : PlainFlows) (entries : List Entry) → Shows found.placing (placed flows 1 (fresh 0) entries) → found.incarnation ≡ next_incarnation entries → Ends flows entries found result }
+    ensures begins { IsReadyFor found.incarnation found.placing → IfOk result CanBegin }
     ensures no_fault { result ≡ Err RecoverError.SiteFault → ⊥ }
 {
     let Found {
         header: _,
         log,
-        life,
+        incarnation,
         placing,
     } = found;
     let state = match placing {
@@ -56,23 +56,23 @@ fn end(found: Found) -> Result<Recovered, RecoverError>
             });
         }
     };
-    if life >= LIVES {
+    if incarnation >= INCARNATION_LIMIT {
         state.let_go();
         return Err(RecoverError::Spent {
             partition: 0,
-            number: life,
+            number: incarnation,
         });
     }
     Ok(Recovered {
         state,
         log: Some(log),
-        incarnation: life,
+        incarnation,
     })
 }
 
 /// Opens the log of the one partition, and says what its two files stand for. A file is synced before it is read, and
 /// nothing is written. Of each file the bytes are looked at first, then of how many partitions and of which flows it is;
-/// then whether both can stand; then the entries, one after another; and then whether a life is left.
+/// then whether both can stand; then the entries, one after another; and then whether a incarnation is left.
 #[tactic(auto, using(crate::proofs::LogsFound::risen_later))]
 pub fn recover<V: Site, R: Reactions>(
     alloc: Global,
@@ -80,7 +80,7 @@ pub fn recover<V: Site, R: Reactions>(
     reactions: &R,
     digest: u64,
 ) -> Result<Recovered, RecoverError>
-    ensures told { V.tells site.new → V.tells site.old }
+    ensures tells { V.tells site.new → V.tells site.old }
     ensures recovers { V.tells site.new → Recovers (R.flows reactions.now) digest (λ file. content_of file (V.history site.old)) result }
     ensures begins { IfOk result CanBegin }
     ensures syncs { OnlySyncs (V.history site.old) (V.history site.new) }

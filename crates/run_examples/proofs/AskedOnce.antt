@@ -23,8 +23,8 @@ then = post 1 (record (enter 0 (fresh 0)) { taken = at_number (fresh 0).taken re
 
 pub taking_fills : (requests : List Request) → FillsAt (rules_for requests) gives 1 0 (fresh 0) (taking 0)
 taking_fills requests = record {
-  place = refl;
-  life = refl;
+  position = refl;
+  incarnation = refl;
   after = then;
   accepted = refl;
   at = (tt, λ q is. tt);

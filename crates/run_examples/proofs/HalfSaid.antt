@@ -23,7 +23,7 @@ use Rattle.part_items.specs.Kept.{entries_from, kept_in}
 use Rattle.part_items.specs.Logs.{second_log}
 use Rattle.dura_model.specs.Entries.{AreGiven}
 use Rattle.part_items.specs.Grammar.{took_at, ran_at, item_at, members_at, entry_items_at}
-use Rattle.part_items.specs.Numbered.{place_at, life_at, next_entry_at, next_entries_at, next_frame_at}
+use Rattle.part_items.specs.Numbered.{position_at, incarnation_at, next_entry_at, next_entries_at, next_frame_at}
 use Rattle.part_items.specs.Spelling.{spell_entry, spell_heading}
 use Rattle.part_rounds.specs.InTime.GoesByClock.{begins as clock_begins}
 use Rattle.run_causes.specs.declared.cause.Cause.TheVariants.{SayFault, Memory}
@@ -60,7 +60,7 @@ alone = record {
 
 -- all of the log is on the disk
 keeps_all : (image : List ℕ) → Leaves (changes_of 16 answering_written) image → LogKeeps (answering_origin.logs 0) [] image
-unfolding is_utf8 chars encode request_number_at several_at run_at word_size_at name_at key_at text_at scalar_at scalars_at value_front value_at id_at reply_at answer_at spot_at spot_count_at lock_at start_at raise_at query_at wait_at result_at operate_at granted_at body_at message_at count_at outcome_at took_at item_at members_at entry_items_at place_at life_at next_entry_at next_entries_at next_frame_at header_at framed_at entries_from spell_entry spell_heading ran_at
+unfolding is_utf8 chars encode request_number_at several_at run_at word_size_at name_at key_at text_at scalar_at scalars_at value_front value_at id_at reply_at answer_at spot_at spot_count_at lock_at start_at raise_at query_at wait_at result_at operate_at granted_at body_at message_at count_at outcome_at took_at item_at members_at entry_items_at position_at incarnation_at next_entry_at next_entries_at next_frame_at header_at framed_at entries_from spell_entry spell_heading ran_at
 keeps_all image left = (114, ap (kept_in 0) left)
 
 silently : StandsWith (may_follow rules 0) (may_say rules) answering_origin answering_written [] [] []

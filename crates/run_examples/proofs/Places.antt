@@ -20,7 +20,7 @@ of_others b =
 
 pub too_late : Belongs 1 0 ahead → ⊥
 too_late b =
-    let wrong : 7 ≤ 0 = b.moments.lasts account _ refl in absurd (omega (arith, wrong))
+    let wrong : 7 ≤ 0 = b.stamps.lasts account _ refl in absurd (omega (arith, wrong))
 
 pub owned : AreOfInstances begun
 owned = record { pending = λ id task activity is. absurd (cc is); due = λ id task due is. absurd (cc is) }

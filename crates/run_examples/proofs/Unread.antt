@@ -15,23 +15,23 @@ use Rattle.run_examples.specs.Calls.{settled_once, terms_by}
 use Rattle.run_rules.specs.Rules.{Rules}
 use Rattle.site_model.specs.Readings.{Reading}
 
-none_behind : (news moments : List Reading) → news ++ moments ≡ [] → moments ≡ []
-none_behind [] moments is = is
-none_behind (reading ∷ news) moments is = cc is
+none_behind : (news readings : List Reading) → news ++ readings ≡ [] → readings ≡ []
+none_behind [] readings is = is
+none_behind (reading ∷ news) readings is = cc is
 
 module _ (rules : Rules) (gives : List ℕ → Value → ℕ → Outcome) (limit : ℕ) (clients : List (List ℕ)) (given : List Reading) (settled : List Entry) (told : List Said) where
-  unread : {moments : List Reading} {trail : List Entry} {answered : List Said} → GoesByClock rules gives limit clients given settled told moments trail answered → moments ≡ [] → trail ≡ settled
+  unread : {readings : List Reading} {trail : List Entry} {answered : List Said} → GoesByClock rules gives limit clients given settled told readings trail answered → readings ≡ [] → trail ≡ settled
   unread begins is = refl
-  unread (reads {moments} so_far news behind) is = unread so_far (none_behind news moments is)
+  unread (reads {readings} so_far news behind) is = unread so_far (none_behind news readings is)
   unread (settles so_far last news entry behind fills) is = cc is
   unread (says so_far more turns) is = unread so_far is
 
   -- without clients nobody is answered
-  silent : {moments : List Reading} {trail : List Entry} {answered : List Said} → GoesByClock rules gives limit clients given settled told moments trail answered → clients ≡ [] → answered ≡ told
+  silent : {readings : List Reading} {trail : List Entry} {answered : List Said} → GoesByClock rules gives limit clients given settled told readings trail answered → clients ≡ [] → answered ≡ told
   silent begins none = refl
   silent (reads so_far news behind) none = silent so_far none
   silent (settles so_far last news entry behind fills) none = silent so_far none
-  silent (says {moments} {trail} {answered} so_far more turns) none =
+  silent (says {readings} {trail} {answered} so_far more turns) none =
       let empty : more ≡ [] = subst (λ (l : List (List ℕ)). InTurn l more) none turns in
       ap (λ (l : List Said). answered ++ l) empty ∙ append-nil answered ∙ silent so_far none
 

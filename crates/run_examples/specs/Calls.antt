@@ -68,7 +68,7 @@ ended_twice =
 
 -- rules of a call that begins where nothing happened, for these requests
 abbrev pub rules_for : List Request → Rules
-rules_for requests = record { flows = no_flows; begin = fresh 0; life = 0; requests = requests }
+rules_for requests = record { flows = no_flows; begin = fresh 0; incarnation = 0; requests = requests }
 
 -- client b asks for the same
 abbrev pub asking_too : Request
@@ -102,6 +102,6 @@ answered = record empty {
 abbrev pub by_steps : ℕ → RunOptions
 by_steps steps = record { partitions = 1; batch = 16; steps = steps; segment = 4096 }
 
--- by which nothing is given, and no moment
+-- by which nothing is given, and no stamp
 abbrev pub terms_by : (steps latest : ℕ) → Terms
 terms_by steps latest = terms_of (by_steps steps) (λ name argument word. outcomes.Done argument) [] [] latest

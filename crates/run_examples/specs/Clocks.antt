@@ -17,7 +17,7 @@ gives name argument word = outcomes.Done argument
 abbrev pub no_items : Entry
 no_items = record (taking 0) { items = [] }
 
--- the client's question is delivered at a later moment
+-- the client's question is delivered at a later stamp
 abbrev pub too_late : Entry
 too_late = record { position = 1; incarnation = 0; items = ran asker sum 5 ∷ [] }
 

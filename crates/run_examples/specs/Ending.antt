@@ -31,5 +31,5 @@ abbrev pub by_batch : ℕ → RunOptions
 by_batch batch = record (by_steps 1) { batch = batch }
 
 -- the next entry would stand where none may
-abbrev pub at_last_place : Rules
-at_last_place = record (rules_for []) { begin = record (fresh 0) { position = 2 ^ 62 } }
+abbrev pub at_last_position : Rules
+at_last_position = record (rules_for []) { begin = record (fresh 0) { position = 2 ^ 62 } }

@@ -40,7 +40,7 @@ orphaned = record begun { activities = at_number (λ id task. None) sum 0 (Some 
 abbrev pub ticking : Partition
 ticking = record begun { timers = at_number (λ id task. None) sum 0 (Some 5) }
 
--- an entity was delivered to at a later moment than the partition has come to
+-- an entity was delivered to at a later stamp than the partition has come to
 abbrev pub ahead : Partition
 ahead = record begun { entities = at_id (λ id. None) account (Some (record { value = values.Null; holder = None; last = 7 })) }
 
@@ -48,7 +48,7 @@ ahead = record begun { entities = at_id (λ id. None) account (Some (record { va
 abbrev pub waiting : Partition
 waiting = record begun { instances = at_id (λ id. None) sum (Some (record { stamp = 0; history = []; waiting = [] })) }
 
--- it has come to this moment
+-- it has come to this stamp
 abbrev pub come_to : ℕ → Partition
 come_to stamp = record begun { stamp = stamp }
 

@@ -11,18 +11,18 @@ ghost use Rattle.run_examples.specs.States.{begun, asked};
 ghost use Rattle.run_rules.specs.FieldExamples.{asking, asking_rules, no_sum};
 ghost use Rattle.site_model.specs.Readings.{asked as asks, waited};
 
-/// An entry is filled where it takes the one request and there may be no more items: at no other place, in no other life; not with what
-/// isn't accepted, not with nothing, not where there may be none, nor where there may be more; not at a moment that the clock didn't give,
+/// An entry is filled where it takes the one request and there may be no more items: at no other place, in no other incarnation; not with what
+/// isn't accepted, not with nothing, not where there may be none, nor where there may be more; not at a stamp that the clock didn't give,
 /// and with no outcome that the activity didn't.
 pub fn entries_filled()
     ensures taken { FillsAt (rules_for []) gives 1 0 (fresh 0) (taking 0) }
-    ensures other_place { FillsAt (rules_for []) gives 1 0 (fresh 0) (taking 1) → ⊥ }
-    ensures other_life { FillsAt (later_rules no_flows) gives 1 0 (fresh 0) (taking 0) → ⊥ }
+    ensures other_position { FillsAt (rules_for []) gives 1 0 (fresh 0) (taking 1) → ⊥ }
+    ensures other_incarnation { FillsAt (later_rules no_flows) gives 1 0 (fresh 0) (taking 0) → ⊥ }
     ensures refused { FillsAt (rules_for []) gives 1 0 request_taken (taking 1) → ⊥ }
     ensures nothing { FillsAt (rules_for []) gives 1 0 (fresh 0) no_items → ⊥ }
     ensures too_many { FillsAt (rules_for []) gives 0 0 (fresh 0) (taking 0) → ⊥ }
     ensures too_few { FillsAt (rules_for []) gives 2 0 (fresh 0) (taking 0) → ⊥ }
-    ensures other_moment { FillsAt (rules_for []) gives 1 0 asked too_late → ⊥ }
+    ensures other_stamp { FillsAt (rules_for []) gives 1 0 asked too_late → ⊥ }
     ensures other_outcome { FillsAt (asking_rules no_flows) gives 1 0 asking (ending 0 no_sum) → ⊥ }
 {}
 

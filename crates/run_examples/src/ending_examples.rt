@@ -1,12 +1,12 @@
 //! Examples of why a run ends that went on: in each all facts hold, or all but one.
 
 ghost use Rattle.std.specs.Prelude.{ℕ, List, [], ◌∷◌, ◌^◌, ◌+◌, codes};
-ghost use Rattle.engine_run.specs.Ends.{EndsAs, IsToldOut, IsPlaceSpent, WouldFill};
+ghost use Rattle.engine_run.specs.Ends.{EndsAs, IsToldOut, IsPositionSpent, WouldFill};
 ghost use Rattle.hub_store.specs.Examples.{MayFollow, MaySay, nowhere, one_log, log_written};
 ghost use Rattle.hub_store.specs.Trail.{Said};
 ghost use Rattle.run_causes.specs.declared.cause.Cause.TheVariants as causes;
 ghost use Rattle.run_examples.specs.Calls.{by_steps, no_flows, rules_for, starting};
-ghost use Rattle.run_examples.specs.Ending.{answered_before, taken_twice, by_segment, by_batch, at_last_place};
+ghost use Rattle.run_examples.specs.Ending.{answered_before, taken_twice, by_segment, by_batch, at_last_position};
 ghost use Rattle.run_rules.specs.Examples.{rules_with};
 ghost use Rattle.site_model.specs.History.{on, synced};
 
@@ -30,7 +30,7 @@ pub fn runs_unfinished()
     ensures not_full { (length_then : ℕ) → EndsAs MayFollow MaySay (rules_with no_flows) 0 one_log log_written [] (by_batch 0) (causes.Full 0 length_then) → ⊥ }
     ensures other_full { (length_then : ℕ) → EndsAs MayFollow MaySay (rules_with no_flows) 0 one_log log_written [] (by_segment 77) (causes.Full 1 length_then) → ⊥ }
     ensures not_spent { EndsAs MayFollow MaySay (rules_for []) 0 nowhere [] [] (by_steps 0) (causes.Spent 0 0) → ⊥ }
-    ensures other_spent { EndsAs MayFollow MaySay at_last_place 0 nowhere [] [] (by_steps 0) (causes.Spent 1 (2 ^ 62)) → ⊥ }
+    ensures other_spent { EndsAs MayFollow MaySay at_last_position 0 nowhere [] [] (by_steps 0) (causes.Spent 1 (2 ^ 62)) → ⊥ }
 {}
 
 /// A log of 34 bytes would come to 77 by the entry that takes the client's request. It isn't full below that; nor by an entry of no item, or
@@ -45,9 +45,9 @@ pub fn logs_full()
 {}
 
 /// No place is left at 2^62 or behind it, where that is the place of the next entry.
-pub fn places_spent()
-    ensures last { IsPlaceSpent at_last_place [] (2 ^ 62) }
-    ensures other { IsPlaceSpent at_last_place [] (2 ^ 62 + 1) → ⊥ }
-    ensures early { IsPlaceSpent (rules_for []) [] 0 → ⊥ }
-    ensures no_state { (number : ℕ) → IsPlaceSpent (rules_for []) taken_twice number → ⊥ }
+pub fn positions_spent()
+    ensures last { IsPositionSpent at_last_position [] (2 ^ 62) }
+    ensures other { IsPositionSpent at_last_position [] (2 ^ 62 + 1) → ⊥ }
+    ensures early { IsPositionSpent (rules_for []) [] 0 → ⊥ }
+    ensures no_state { (number : ℕ) → IsPositionSpent (rules_for []) taken_twice number → ⊥ }
 {}

@@ -8,14 +8,14 @@ ghost use Rattle.dura_value.specs.Messages.{is_value, is_running};
 ghost use Rattle.id_maps.specs.Order.{IsNextBehind, NoneBehind};
 ghost use Rattle.dura_model.specs.Partition.{Partition};
 ghost use Rattle.dura_model.specs.Placed.{Belongs, AreOfInstances};
-ghost use Rattle.part_steps.specs.Enabled.{moment_at, IsEnabled, NoneEnabled, Makes};
+ghost use Rattle.part_steps.specs.Enabled.{stamp_at, IsEnabled, NoneEnabled, Makes};
 ghost use Rattle.part_steps.specs.Listing.{entity_standing, instance_standing};
 ghost use Rattle.part_steps.specs.Outputs.{Outputs};
 ghost use Rattle.part_steps.specs.Quiet.{IsQuiet};
 ghost use Rattle.run_examples.specs.States.{asker, sum, account, question, begun, asked, held, orphaned, ticking, ahead, waiting, come_to, no_flows};
 
 /// A state belongs at its number. It doesn't elsewhere, nor with a message for who lives elsewhere, nor where something in it is of a later
-/// moment than its own.
+/// stamp than its own.
 #[tactic(auto, using(crate::proofs::Places::belongs_here, crate::proofs::Places::belongs_elsewhere, crate::proofs::Places::of_others, crate::proofs::Places::too_late))]
 pub fn belongs()
     ensures here { Belongs 1 0 begun }
@@ -32,13 +32,13 @@ pub fn are_of_instances()
     ensures ticking { AreOfInstances ticking → ⊥ }
 {}
 
-/// What is done now is at the greater of now and the moment that the state has come to.
-pub fn moments()
-    ensures behind { moment_at (come_to 5) 3 ≡ 5 }
-    ensures ahead { moment_at (come_to 5) 8 ≡ 8 }
+/// What is done now is at the greater of now and the stamp that the state has come to.
+pub fn stamps()
+    ensures behind { stamp_at (come_to 5) 3 ≡ 5 }
+    ensures ahead { stamp_at (come_to 5) 8 ≡ 8 }
 {}
 
-/// A message can be delivered at its moment, where it is there and its receiver takes it. Nothing else is enabled.
+/// A message can be delivered at its stamp, where it is there and its receiver takes it. Nothing else is enabled.
 #[tactic(auto, using(crate::proofs::Moves::delivers, crate::proofs::Moves::at_another, crate::proofs::Moves::not_there, crate::proofs::Moves::not_taken, crate::proofs::Moves::no_request))]
 pub fn enabled()
     ensures delivers { IsEnabled no_flows 1 asked 0 (ran asker sum 0) }

@@ -14,7 +14,7 @@ const INPUT_LIMIT: u64 = 16_777_216;
 
 /// The length of a file, unless it is too long.
 pub(crate) fn input_length<V: Site>(site: &mut V, file: u32) -> Result<u64, Cause>
-    ensures told { V.tells site.new → V.tells site.old }
+    ensures tells { V.tells site.new → V.tells site.old }
     ensures reads { V.tells site.new → LengthRead (content_of file (V.history site.old)) file result }
     ensures file_cause { IfErr result IsFileCause }
     ensures unchanged { V.history site.new ≡ V.history site.old }
@@ -36,7 +36,7 @@ pub(crate) fn input_length<V: Site>(site: &mut V, file: u32) -> Result<u64, Caus
 
 /// The bytes of a file, unless it is too long.
 pub(crate) fn read_file<V: Site>(alloc: Global, site: &mut V, file: u32) -> Result<Vec<u8>, Cause>
-    ensures told { V.tells site.new → V.tells site.old }
+    ensures tells { V.tells site.new → V.tells site.old }
     ensures reads { V.tells site.new → FileRead (content_of file (V.history site.old)) file result }
     ensures file_cause { IfErr result IsFileCause }
     ensures unchanged { V.history site.new ≡ V.history site.old }

@@ -43,7 +43,7 @@ fn requests_of(alloc: Global, bytes: &[u8]) -> Result<Vec<Request>, Cause>
 
 /// The requests of file 1.
 fn read_request_file<V: Site>(alloc: Global, site: &mut V) -> Result<Vec<Request>, Cause>
-    ensures told { V.tells site.new → V.tells site.old }
+    ensures tells { V.tells site.new → V.tells site.old }
     ensures reads { V.tells site.new → ReadsRequestFile (content_of REQUESTS (V.history site.old)) result }
     ensures input_cause { IfErr result IsInputCause }
     ensures unchanged { V.history site.new ≡ V.history site.old }
@@ -57,7 +57,7 @@ fn read_request_file<V: Site>(alloc: Global, site: &mut V) -> Result<Vec<Request
 
 /// Looks whether file 2 is empty.
 fn check_plan<V: Site>(site: &mut V) -> Result<(), Cause>
-    ensures told { V.tells site.new → V.tells site.old }
+    ensures tells { V.tells site.new → V.tells site.old }
     ensures reads { V.tells site.new → ReadsPlan (content_of PLAN (V.history site.old)) result }
     ensures input_cause { IfErr result IsInputCause }
     ensures unchanged { V.history site.new ≡ V.history site.old }
@@ -76,7 +76,7 @@ fn check_plan<V: Site>(site: &mut V) -> Result<(), Cause>
 
 /// The requests of file 1, if file 2 is empty.
 fn read_rest<V: Site>(alloc: Global, site: &mut V) -> Result<Vec<Request>, Cause>
-    ensures told { V.tells site.new → V.tells site.old }
+    ensures tells { V.tells site.new → V.tells site.old }
     ensures reads { V.tells site.new → ReadsRest (λ file. content_of file (V.history site.old)) result }
     ensures input_cause { IfErr result IsInputCause }
     ensures unchanged { V.history site.new ≡ V.history site.old }
@@ -91,7 +91,7 @@ fn read_rest<V: Site>(alloc: Global, site: &mut V) -> Result<Vec<Request>, Cause
 
 /// Reads files 0 and 1 in this order, each one's length first, and looks at the length of file 2.
 pub fn read_input<V: Site>(alloc: Global, site: &mut V) -> Result<Input, Cause>
-    ensures told { V.tells site.new → V.tells site.old }
+    ensures tells { V.tells site.new → V.tells site.old }
     ensures reads { V.tells site.new → ReadsInput (λ file. content_of file (V.history site.old)) result }
     ensures input_cause { IfErr result IsInputCause }
     ensures unchanged { V.history site.new ≡ V.history site.old }

@@ -9,7 +9,7 @@ use Rattle.flow_syntax.specs.Syntax.{Block, Flows}
 use Rattle.flow_syntax.specs.Machine.{Section, outside, acquiring, inside, new_machine, Event, started, resulted, was_granted, resume, Resumed}
 use Rattle.flow_syntax.specs.Machine.{was_raised as raised}
 use Rattle.dura_model.specs.World.{Orchestration}
-use Rattle.dura_model.specs.Deliveries.{Effect, stays_away, stays_so, ending, answering_all, at_end, goes_on_from, refusing, beginning, telling, flow_of, begun, to_absent, is_over, waited, raised_at, result_at, granted_at, to_present, at_moment, to_instance}
+use Rattle.dura_model.specs.Deliveries.{Effect, stays_away, stays_so, ending, answering_all, at_end, goes_on_from, refusing, beginning, telling, flow_of, begun, to_absent, is_over, waited, raised_at, result_at, granted_at, to_present, at_stamp, to_instance}
 use Rattle.dura_model.specs.Steps.{is_instance}
 use Rattle.run_laws.proofs.MessageKinds.{kind_of, is_other}
 use Rattle.run_laws.proofs.Does.{Does, rests, Plain, plain_does, does_then, IsSettled}
@@ -144,7 +144,7 @@ module _ (id : Id) (o : Orchestration) (sits : Sits id (Some o)) (settled : IsSe
 pub other_behaves : (flows : Flows) (id from : Id) (there : Option Orchestration) (stamp : ℕ) (body : Body) → is_instance id ≡ true → Sits id there → IsSettled (section_of there) (over_of there) → kind_of body ≡ is_other
     → Behaves id (section_of there) (over_of there) (to_instance flows there from id stamp body)
 other_behaves flows id from None stamp body instance sits settled is = absent_behaves flows id from stamp body instance
-other_behaves flows id from (Some o) stamp body instance sits settled is = present_behaves id (at_moment o stamp) sits settled from stamp body is
+other_behaves flows id from (Some o) stamp body instance sits settled is = present_behaves id (at_stamp o stamp) sits settled from stamp body is
 
 -- a grant that the instance waits for
 granted_behaves : (id : Id) (o : Orchestration) (task : ℕ) (set : List Spot) (stamp : ℕ) (over : Bool) → Sits id (Some o) → o.machine.section ≡ acquiring task set → Behaves id (inside set) (is_over o.machine.progress) (granted_at o stamp task over)
@@ -156,4 +156,4 @@ granted_behaves id o task set stamp over sits waits = by over (subst (λ (i : Id
 
 pub grant_behaves : (flows : Flows) (id from : Id) (o : Orchestration) (task : ℕ) (set : List Spot) (stamp : ℕ) → Sits id (Some o) → o.machine.section ≡ acquiring task set
     → Behaves id (inside set) (is_over o.machine.progress) (to_instance flows (Some o) from id stamp (granted task))
-grant_behaves flows id from o task set stamp sits waits = granted_behaves id (at_moment o stamp) task set stamp (is_over o.machine.progress) sits waits
+grant_behaves flows id from o task set stamp sits waits = granted_behaves id (at_stamp o stamp) task set stamp (is_over o.machine.progress) sits waits

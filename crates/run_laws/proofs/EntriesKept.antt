@@ -18,7 +18,7 @@ use Rattle.run_rules.specs.Stands.{FilesStand}
 use Rattle.dura_model.proofs.Alone.{are_shown_alone}
 use Rattle.run_rules.proofs.EntriesLead.{entries_lead}
 use Rattle.part_items.specs.Grammar.{took_at, item_at, members_at, entry_items_at}
-use Rattle.part_items.specs.Numbered.{place_at, life_at, next_entry_at, next_entries_at, next_frame_at}
+use Rattle.part_items.specs.Numbered.{position_at, incarnation_at, next_entry_at, next_entries_at, next_frame_at}
 use Rattle.run_laws.specs.Examples.{twice_log}
 
 pub none_kept : entries_in (logs_in (alone_with digest) (two_files empty_log [])) ≡ Some []
@@ -26,11 +26,11 @@ unfolding header_at entries_from
 none_kept = refl
 
 pub once_kept : entries_in (logs_in (alone_with digest) (two_files taking_log [])) ≡ Some (taking 0 ∷ [])
-unfolding is_utf8 chars encode request_number_at several_at run_at word_size_at name_at key_at text_at scalar_at scalars_at value_front value_at id_at reply_at answer_at spot_at spot_count_at lock_at start_at raise_at query_at wait_at result_at operate_at granted_at body_at message_at count_at outcome_at took_at item_at members_at entry_items_at place_at life_at next_entry_at next_entries_at next_frame_at header_at framed_at entries_from
+unfolding is_utf8 chars encode request_number_at several_at run_at word_size_at name_at key_at text_at scalar_at scalars_at value_front value_at id_at reply_at answer_at spot_at spot_count_at lock_at start_at raise_at query_at wait_at result_at operate_at granted_at body_at message_at count_at outcome_at took_at item_at members_at entry_items_at position_at incarnation_at next_entry_at next_entries_at next_frame_at header_at framed_at entries_from
 once_kept = refl
 
 pub twice_kept : entries_in (logs_in (alone_with digest) (two_files twice_log [])) ≡ Some (taking 0 ∷ taking 1 ∷ [])
-unfolding is_utf8 chars encode request_number_at several_at run_at word_size_at name_at key_at text_at scalar_at scalars_at value_front value_at id_at reply_at answer_at spot_at spot_count_at lock_at start_at raise_at query_at wait_at result_at operate_at granted_at body_at message_at count_at outcome_at took_at item_at members_at entry_items_at place_at life_at next_entry_at next_entries_at next_frame_at header_at framed_at entries_from
+unfolding is_utf8 chars encode request_number_at several_at run_at word_size_at name_at key_at text_at scalar_at scalars_at value_front value_at id_at reply_at answer_at spot_at spot_count_at lock_at start_at raise_at query_at wait_at result_at operate_at granted_at body_at message_at count_at outcome_at took_at item_at members_at entry_items_at position_at incarnation_at next_entry_at next_entries_at next_frame_at header_at framed_at entries_from
 twice_kept = refl
 
 pub once_stands : (flows : Flows) → FilesStand flows digest (two_files taking_log []) (take request.from 1 request ∷ [])

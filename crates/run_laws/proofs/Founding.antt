@@ -35,7 +35,7 @@ ends (entry ∷ entries) = elim (ends entries) [
 ]
 
 right_before : (next : Next) (front : List Entry) (last e : Entry) (rest : List Entry) → IsNumbered next (front ++ last ∷ e ∷ rest) → IsRightBefore (committed last).name (committed e).name
-right_before next [] last e rest numbered = record { partition = refl; position = numbered.2.0; life = numbered.2.1 }
+right_before next [] last e rest numbered = record { partition = refl; position = numbered.2.0; incarnation = numbered.2.1 }
 right_before next (entry ∷ front) last e rest numbered = right_before (behind entry) front last e rest numbered.2
 
 follows_known : (before : List Entry) (e : Entry) (rest : List Entry) → IsNumbered (state_next (fresh 0)) (before ++ e ∷ rest) → FollowsIn (names_of (committed_in before)) (committed e).name

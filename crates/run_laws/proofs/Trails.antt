@@ -25,7 +25,7 @@ pub record Goes (rules : Rules) (latest : ℕ) (entries : List Entry) : Type 0 w
 
 module _ (rules : Rules) (latest : ℕ) where
   own_frame : (going : List Entry) (told : Told) → All (IsOurs rules latest told) going → All (IsOfCall rules latest) going
-  own_frame going told ours = λ k d inside. let one = ours k d inside in record { life = one.life; timely = one.timely }
+  own_frame going told ours = λ k d inside. let one = ours k d inside in record { incarnation = one.incarnation; timely = one.timely }
 
   -- a frame that may follow
   pub goes_on : (trail : List Settled) (told : List Said) (going : List Entry) → Goes rules latest (of_part 0 trail) → may_follow rules latest trail told 0 going → Goes rules latest (of_part 0 trail ++ going)

@@ -15,7 +15,7 @@ use Rattle.site_model.specs.History.{changes_of, Leaves}
 abbrev pub pairs_of : List Said → Told
 pairs_of = map (λ one. (one.client, one.number))
 
--- what a call by these rules may commit of the one partition, where the clock gave no later moment than this, once this was settled and said
+-- what a call by these rules may commit of the one partition, where the clock gave no later stamp than this, once this was settled and said
 abbrev pub may_follow : Rules → (latest : ℕ) → List Settled → List Said → ℕ → List Entry → Type 0
 may_follow rules latest trail told partition going = (partition ≡ 0) × Follows rules latest (of_part 0 trail) (pairs_of told) going
 

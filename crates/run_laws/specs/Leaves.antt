@@ -56,9 +56,9 @@ committed e = record { name = record { partition = 0; incarnation = e.incarnatio
 abbrev pub committed_in : List Entry → List Committed
 committed_in = map committed
 
--- An entry of this call: of its life, and of no later moment than both the log's entries at the beginning and the clock's latest.
+-- An entry of this call: of its incarnation, and of no later stamp than both the log's entries at the beginning and the clock's latest.
 pub record IsOfCall (rules : Rules) (latest : ℕ) (entry : Entry) : Type 0 where
-  pub life : entry.incarnation ≡ rules.life
+  pub incarnation : entry.incarnation ≡ rules.incarnation
   pub timely : All (IsBy (max rules.begin.stamp latest)) entry.items
 
 -- Activities ran only for tasks whose schedule was settled: what came did so frame by frame, and each outcome in a frame is that of an

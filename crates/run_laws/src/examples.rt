@@ -47,7 +47,7 @@ pub fn crashes_leave()
 {}
 
 /// A crash leaves the entry that was settled. Without it, or with no other entries than the log had, which no file keeps, it leaves
-/// something else; so it does with an entry that isn't accepted, with one of another life, and with one whose gate wasn't written. And
+/// something else; so it does with an entry that isn't accepted, with one of another incarnation, and with one whose gate wasn't written. And
 /// what stands on the tape answers somebody.
 pub fn crashes_leave_entries()
     ensures taken { (flows : Flows) → StandsOn (rules_with flows) 0 digest empty_origin [] taken_once (two_files taking_log []) }

@@ -18,7 +18,7 @@ first_follows flows = record {
   given = ((tt, λ next is. tt), λ next is. tt);
   ours = All-from_recursion (IsOurs (rules_with flows) 0 []) (taking 0 ∷ []) (
     record {
-      life = refl;
+      incarnation = refl;
       asked = All-from_recursion (IsAsked (rules_with flows) []) (took request ∷ [])
           (record { name = codes "a"; place = 0; request = first_asked; asked = refl; sends = refl; answered = omega arith }, tt);
       timely = All-from_recursion (IsBy 0) (took request ∷ []) (tt, tt);

@@ -39,7 +39,7 @@ module _ (rules : Rules) (latest : ℕ) (told more : Told) where
   asked_still (trim reader number) asked = asked
 
   ours_still : (entry : Entry) → IsOurs rules latest told entry → IsOurs rules latest (told ++ more) entry
-  ours_still entry ours = record { life = ours.life; asked = λ k d inside. asked_still _ (ours.asked k d inside); timely = ours.timely }
+  ours_still entry ours = record { incarnation = ours.incarnation; asked = λ k d inside. asked_still _ (ours.asked k d inside); timely = ours.timely }
 
   pub follows_still : (settled going : List Entry) → Follows rules latest settled told going → Follows rules latest settled (told ++ more) going
   follows_still settled going follows = record {
@@ -52,18 +52,18 @@ module _ (rules : Rules) (latest : ℕ) (told more : Told) where
     pending = follows.pending;
   }
 
--- what is of no later moment than this is of none later than a later one
-pub by_later : (moment later : ℕ) → moment ≤ later → (item : Item) → IsBy moment item → IsBy later item
-by_later moment later above (took message) low = low
-by_later moment later above (got source number message) low = low
-by_later moment later above (ran from to stamp) low = omega (arith, above, low)
-by_later moment later above (ended id task outcome) low = low
-by_later moment later above (fired id task stamp) low = omega (arith, above, low)
-by_later moment later above (trim reader number) low = low
+-- what is of no later stamp than this is of none later than a later one
+pub by_later : (now later : ℕ) → now ≤ later → (item : Item) → IsBy now item → IsBy later item
+by_later now later above (took message) low = low
+by_later now later above (got source number message) low = low
+by_later now later above (ran from to stamp) low = omega (arith, above, low)
+by_later now later above (ended id task outcome) low = low
+by_later now later above (fired id task stamp) low = omega (arith, above, low)
+by_later now later above (trim reader number) low = low
 
 ours_later : (rules : Rules) (latest later : ℕ) (told : Told) → latest ≤ later → (entry : Entry) → IsOurs rules latest told entry → IsOurs rules later told entry
 ours_later rules latest later told above entry ours = record {
-  life = ours.life;
+  incarnation = ours.incarnation;
   asked = ours.asked;
   timely = λ k d inside. by_later (max rules.begin.stamp latest) (max rules.begin.stamp later) (omega (arith, above)) _ (ours.timely k d inside);
 }

@@ -26,13 +26,13 @@ first_asked = record { client = codes "a"; number = 1; message = request }
 abbrev pub then_asked : Request
 then_asked = record { client = codes "a"; number = 2; message = waiting }
 
--- a call in a first life, where nothing happened before
+-- a call in a first incarnation, where nothing happened before
 abbrev pub rules_with : Flows → Rules
-rules_with flows = record { flows = flows; begin = fresh 0; life = 0; requests = first_asked ∷ then_asked ∷ [] }
+rules_with flows = record { flows = flows; begin = fresh 0; incarnation = 0; requests = first_asked ∷ then_asked ∷ [] }
 
--- one more life, in which nobody asks for anything
+-- one more incarnation, in which nobody asks for anything
 abbrev pub later_rules : Flows → Rules
-later_rules flows = record (rules_with flows) { life = 1 }
+later_rules flows = record (rules_with flows) { incarnation = 1 }
 
 abbrev pub silent_rules : Flows → Rules
 silent_rules flows = record (rules_with flows) { requests = [] }

@@ -21,7 +21,7 @@ use Rattle.run_rules.specs.Examples.{rules_with, started, summing, adding}
 abbrev pub other_start : Message
 other_start = record request { body = start (values.Int (pos 1)) (to_request 1) }
 
--- an entry in which a timer fires at this moment
+-- an entry in which a timer fires at this stamp
 abbrev pub firing : (stamp : ℕ) → Entry
 firing stamp = record { position = 0; incarnation = 0; items = fired summing 3 stamp ∷ [] }
 

@@ -12,12 +12,12 @@ use Rattle.flow_syntax.specs.Syntax.{Flows}
 use Rattle.dura_model.specs.Entries.{placed, AllGiven}
 use Rattle.request_reader.specs.Line.{Request}
 
--- What is fixed when a call begins: the flows, the state that the entries of the log made, the life of the entries that come, and
+-- What is fixed when a call begins: the flows, the state that the entries of the log made, the incarnation of the entries that come, and
 -- what clients ask.
 pub record Rules : Type 0 where
   pub flows : Flows
   pub begin : Partition
-  pub life : ℕ
+  pub incarnation : ℕ
   pub requests : List Request
 
 -- Requests whose answers were said, the first first: their clients' names, and their numbers.
@@ -49,19 +49,19 @@ IsAsked rules told (ended id task outcome) = Unit {0}
 IsAsked rules told (fired id task stamp) = Unit {0}
 IsAsked rules told (trim reader number) = Unit {0}
 
--- no item is of a later moment than this
+-- no item is of a later stamp than this
 abbrev pub IsBy : ℕ → Item → Type 0
-IsBy moment (took message) = Unit {0}
-IsBy moment (got source number message) = Unit {0}
-IsBy moment (ran from to stamp) = stamp ≤ moment
-IsBy moment (ended id task outcome) = Unit {0}
-IsBy moment (fired id task stamp) = stamp ≤ moment
-IsBy moment (trim reader number) = Unit {0}
+IsBy now (took message) = Unit {0}
+IsBy now (got source number message) = Unit {0}
+IsBy now (ran from to stamp) = stamp ≤ now
+IsBy now (ended id task outcome) = Unit {0}
+IsBy now (fired id task stamp) = stamp ≤ now
+IsBy now (trim reader number) = Unit {0}
 
--- The items of an entry are asked for, its life is this call's, and none of its items is of a later moment than both the log's
+-- The items of an entry are asked for, its incarnation is this call's, and none of its items is of a later stamp than both the log's
 -- entries at the beginning and the clock's latest.
 pub record IsOurs (rules : Rules) (latest : ℕ) (told : Told) (entry : Entry) : Type 0 where
-  pub life : entry.incarnation ≡ rules.life
+  pub incarnation : entry.incarnation ≡ rules.incarnation
   pub asked : All (IsAsked rules told) entry.items
   pub timely : All (IsBy (max rules.begin.stamp latest)) entry.items
 
@@ -78,7 +78,7 @@ EndsPending p (trim reader number) = Unit {0}
 abbrev pub EndPending : Partition → List Entry → Type 0
 EndPending p = All (λ entry. All (EndsPending p) entry.items)
 
--- Entries that may be committed behind these, where the clock gave no later moment than this: each is accepted in the state that those
+-- Entries that may be committed behind these, where the clock gave no later stamp than this: each is accepted in the state that those
 -- before it make, each outcome is one that its activity may give, and they are this call's. No activity ran before the entry was
 -- settled that asks for it: each outcome is that of an activity which is pending already in the state that the settled entries make.
 pub record Follows (rules : Rules) (latest : ℕ) (settled : List Entry) (told : Told) (going : List Entry) : Type 0 where

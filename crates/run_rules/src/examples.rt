@@ -20,7 +20,7 @@ pub fn requests_due()
     ensures unasked { (flows : Flows) (told : Told) → IsDue (silent_rules flows) told request → ⊥ }
 {}
 
-/// The entry by which the first request is taken may follow where nothing is settled; not behind itself, not in another life, and not
+/// The entry by which the first request is taken may follow where nothing is settled; not behind itself, not in another incarnation, and not
 /// where nobody asks.
 pub fn entries_following()
     ensures first { (flows : Flows) → Follows (rules_with flows) 0 [] [] (taking 0 ∷ []) }
@@ -29,8 +29,8 @@ pub fn entries_following()
     ensures unasked { (flows : Flows) (latest : ℕ) (told : Told) → Follows (silent_rules flows) latest [] told (taking 0 ∷ []) → ⊥ }
 {}
 
-/// A timer that fires at a moment is of no later one than that, and of a later one than any before.
-pub fn moments_of_items()
+/// A timer that fires at a stamp is of no later one than that, and of a later one than any before.
+pub fn stamps_of_items()
     ensures then { (id : Id) (task : ℕ) → IsBy 5 (fired id task 5) }
     ensures earlier { (id : Id) (task : ℕ) → IsBy 4 (fired id task 5) → ⊥ }
     ensures delivered { (from to : Id) → IsBy 4 (ran from to 5) → ⊥ }

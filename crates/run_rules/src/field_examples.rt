@@ -16,10 +16,10 @@ pub fn requests_sent()
     ensures other { (flows : Flows) → IsDue (rules_with flows) [] other_start → ⊥ }
 {}
 
-/// An entry is of this call's life, takes what was asked for, and is of no later moment than the clock's.
+/// An entry is of this call's incarnation, takes what was asked for, and is of no later stamp than the clock's.
 pub fn entries_ours()
     ensures ours { (flows : Flows) → IsOurs (rules_with flows) 5 [] (firing 5) }
-    ensures life { (flows : Flows) → IsOurs (later_rules flows) 5 [] (firing 5) → ⊥ }
+    ensures incarnation { (flows : Flows) → IsOurs (later_rules flows) 5 [] (firing 5) → ⊥ }
     ensures asked { (flows : Flows) → IsOurs (silent_rules flows) 0 [] (taking 0) → ⊥ }
     ensures timely { (flows : Flows) → IsOurs (rules_with flows) 4 [] (firing 5) → ⊥ }
 {}

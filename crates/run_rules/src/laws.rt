@@ -11,7 +11,7 @@ pub fn still_follows()
     ensures { (rules : Rules) (latest : ℕ) (settled going : List Entry) (told more : Told) → Follows rules latest settled told going → Follows rules latest settled (told ++ more) going }
 {}
 
-/// What may follow up to a moment may follow up to a later one.
+/// What may follow up to a stamp may follow up to a later one.
 #[tactic(auto, using(crate::proofs::Going::follows_later))]
 pub fn later_follows()
     ensures { (rules : Rules) (latest later : ℕ) (settled going : List Entry) (told : Told) → latest ≤ later → Follows rules latest settled told going → Follows rules later settled told going }

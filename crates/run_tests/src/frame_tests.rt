@@ -6,7 +6,7 @@ use part_items::{Frame, FrameReader, Next, read_frame};
 use std::alloc::Global;
 use std::process::Abort;
 
-/// Client a's request 1, which starts Sum/x with null, as the one item of the first entry, of life 0.
+/// Client a's request 1, which starts Sum/x with null, as the one item of the first entry, of incarnation 0.
 pub(crate) const EXAMPLE: [u8; 38] = [
     0x00, 0x01, // one entry
     0x00, 0x00, 0x00, 0x00, 0x00, 0x00, 0x00, 0x00, // its position
@@ -137,7 +137,7 @@ fn changed_bytes(rt: HostRuntime) {
     }
 }
 
-/// The example as the next frame of a log that goes on at this place, in this life.
+/// The example as the next frame of a log that goes on at this place, in this incarnation.
 fn check_next(
     rt: &impl Abort,
     alloc: Global,

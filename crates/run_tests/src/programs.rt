@@ -92,9 +92,9 @@ pub(crate) fn run_words(
     run_with(rt, alloc, words, site, TickClock::new(0, fails))
 }
 
-/// A run from this moment on.
-pub(crate) fn run_from(rt: &impl Abort, alloc: Global, site: MemorySite, moment: u32) -> Run {
-    let clock = TickClock::new(u64::from(moment), Vec::new(alloc));
+/// A run from this stamp on.
+pub(crate) fn run_from(rt: &impl Abort, alloc: Global, site: MemorySite, stamp: u32) -> Run {
+    let clock = TickClock::new(u64::from(stamp), Vec::new(alloc));
     run_with(rt, alloc, &["run"], site, clock)
 }
 

@@ -93,20 +93,20 @@ fn site_of(rt: &impl Abort, alloc: Global, first: &str, second: &str, fails: u64
     site
 }
 
-/// The file and the gate of the log, the life that begins, and whether client a's requests 1 and 2 were taken. No log is in file 0.
+/// The file and the gate of the log, the incarnation that begins, and whether client a's requests 1 and 2 were taken. No log is in file 0.
 fn state_text(rt: &impl Abort, alloc: Global, recovered: Recovered) -> String {
     let client = Id::Client(Name::of(alloc, b"a").expect(rt, "memory"));
     let first = recovered.state.has_taken(&client, 1);
     let second = recovered.state.has_taken(&client, 2);
     drop(client);
-    let life = recovered.incarnation;
+    let incarnation = recovered.incarnation;
     let (file, gate) = match &recovered.log {
         Some(log) => (log.file, log.gate),
         None => (0, 0),
     };
     assert!(rt; recovered.log.is_some() == (file != 0));
     drop(recovered);
-    format!(in alloc; "log {file} to {gate}, life {life}, taken {first} {second}").expect(
+    format!(in alloc; "log {file} to {gate}, incarnation {incarnation}, taken {first} {second}").expect(
         rt, "memory",
     )
 }
@@ -148,20 +148,20 @@ fn check(rt: &impl Abort, alloc: Global, lines: &str) {
     }
 }
 
-const NOTHING_YET: &str = "empty | empty | log 0 to 0, life 0, taken false false
-byte 0, byte 1, byte 2 | byte 195 | log 0 to 0, life 0, taken false false";
+const NOTHING_YET: &str = "empty | empty | log 0 to 0, incarnation 0, taken false false
+byte 0, byte 1, byte 2 | byte 195 | log 0 to 0, incarnation 0, taken false false";
 
-const ONE_ENTRY: &str = "header, entry, byte 0 | empty | log 16 to 76, life 1, taken true false
-byte 0 | header, entry, byte 0 | log 17 to 76, life 1, taken true false";
+const ONE_ENTRY: &str = "header, entry, byte 0 | empty | log 16 to 76, incarnation 1, taken true false
+byte 0 | header, entry, byte 0 | log 17 to 76, incarnation 1, taken true false";
 
 const LIFE_BEHIND_THE_LAST: &str =
-    "header, entry, entry 9=1 17=5 37=2, byte 0 | empty | log 16 to 119, life 6, taken true true";
+    "header, entry, entry 9=1 17=5 37=2, byte 0 | empty | log 16 to 119, incarnation 6, taken true true";
 
-/// The same request once more; bytes that are wrong behind it, which come first; the last life.
+/// The same request once more; bytes that are wrong behind it, which come first; the last incarnation.
 const ENTRIES_THAT_CANNOT_BE: &str =
     "header, entry, entry 9=1, byte 0 | empty | partition 0 has an illegal entry at position 1
 header, entry, entry 9=1, entry, byte 0 | empty | file 16 is damaged at offset 126
-header, entry 10=63 11=255 12=255 13=255 14=255 15=255 16=255 17=255, byte 0 | empty | partition 0 is past its last life with 4611686018427387904";
+header, entry 10=63 11=255 12=255 13=255 14=255 15=255 16=255 17=255, byte 0 | empty | partition 0 is past its last incarnation with 4611686018427387904";
 
 const OTHER_LOGS: &str =
     "header 16=2, entry, byte 0 | empty | the log is of 2 partitions, and 1 are asked for
@@ -202,7 +202,7 @@ fn the_disk_fails(rt: HostRuntime) {
     check_at(
         &rt,
         alloc,
-        "header, entry, byte 0 | empty | log 16 to 76, life 1, taken true false",
+        "header, entry, byte 0 | empty | log 16 to 76, incarnation 1, taken true false",
         9,
     );
 }

@@ -55,7 +55,7 @@ fn labels_of_the_sum(rt: HostRuntime) {
     drop(ended);
 }
 
-/// Whoever takes a nap wakes at its moment or later.
+/// Whoever takes a nap wakes at its stamp or later.
 #[test]
 fn the_clock_behind_a_nap(rt: HostRuntime) {
     let alloc = rt.alloc();
@@ -64,17 +64,17 @@ fn the_clock_behind_a_nap(rt: HostRuntime) {
     drop(ended);
 }
 
-/// The moment of a delivery or of a timer.
-fn moment_of(item: &Item) -> Option<u64> {
+/// The stamp of a delivery or of a timer.
+fn stamp_of(item: &Item) -> Option<u64> {
     match item {
         Item::Ran(_, _, stamp) | Item::Fired(_, _, stamp) => Some(*stamp),
         _ => None,
     }
 }
 
-/// Whoever begins a nap of 10 milliseconds at moment 1000 wakes at 1010: all before it is at the one, and all from it on at the other.
+/// Whoever begins a nap of 10 milliseconds at stamp 1000 wakes at 1010: all before it is at the one, and all from it on at the other.
 #[test]
-fn a_nap_from_a_later_moment(rt: HostRuntime) {
+fn a_nap_from_a_later_stamp(rt: HostRuntime) {
     let alloc = rt.alloc();
     let ended = run_from(&rt, alloc, site_of(&rt, alloc, NAP, &[]), 1000);
     check_end(&rt, &ended, 0);
@@ -83,7 +83,7 @@ fn a_nap_from_a_later_moment(rt: HostRuntime) {
         for item in entry.items.as_slice() {
             woken = woken || matches!(item, Item::Fired(_, _, _));
             let wanted = if woken { 1010 } else { 1000 };
-            assert!(rt; moment_of(item).is_none_or(|stamp| stamp == wanted));
+            assert!(rt; stamp_of(item).is_none_or(|stamp| stamp == wanted));
         }
     }
     assert!(rt; woken);

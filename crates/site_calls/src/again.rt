@@ -20,7 +20,7 @@ fn is_cut_off<T>(answer: &io::Result<T>) -> bool
 
 /// Looks whether a file is there.
 pub(crate) fn find_file<C: Calls>(calls: &mut C, file: u32) -> io::Result<bool>
-    ensures told { StaysHonest (C.events calls.old) (C.events calls.new) }
+    ensures tells { StaysHonest (C.events calls.old) (C.events calls.new) }
     ensures noted { MatchResult result
         (λ is_there. IsNoted (found file is_there) (C.events calls.old) (C.events calls.new))
         (λ _. StandsStill (C.events calls.old) (C.events calls.new)) }
@@ -38,7 +38,7 @@ pub(crate) fn find_file<C: Calls>(calls: &mut C, file: u32) -> io::Result<bool>
 
 /// How many bytes a file has that was found or made.
 pub(crate) fn measure_file<C: Calls>(calls: &mut C, file: u32) -> io::Result<u64>
-    ensures told { StaysHonest (C.events calls.old) (C.events calls.new) }
+    ensures tells { StaysHonest (C.events calls.old) (C.events calls.new) }
     ensures noted { MatchResult result
         (λ size. IsNoted (measured file size) (C.events calls.old) (C.events calls.new))
         (λ _. StandsStill (C.events calls.old) (C.events calls.new)) }
@@ -63,7 +63,7 @@ pub(crate) fn read_some<C: Calls>(
     out: &mut [u8],
 ) -> io::Result<usize>
     requires { done < length out.old }
-    ensures told { StaysHonest (C.events calls.old) (C.events calls.new) }
+    ensures tells { StaysHonest (C.events calls.old) (C.events calls.new) }
     ensures front { take done out.new ≡ take done out.old }
     ensures count { IfOk result (λ count. done + count ≤ length out.old) }
     ensures noted { MatchResult result
@@ -90,7 +90,7 @@ pub(crate) fn write_some<C: Calls>(
     bytes: &[u8],
 ) -> io::Result<usize>
     requires { done < length bytes.now }
-    ensures told { StaysHonest (C.events calls.old) (C.events calls.new) }
+    ensures tells { StaysHonest (C.events calls.old) (C.events calls.new) }
     ensures some { IfOk result (λ count. 0 < count) }
     ensures count { IfOk result (λ count. done + count ≤ length bytes.now) }
     ensures writing { (unseen : Unseen) (start : Standing) → IsWriting file at bytes.now done start (replay unseen (C.events calls.old)) → MatchResult result
@@ -111,7 +111,7 @@ pub(crate) fn write_some<C: Calls>(
 /// Goes on printing a line, of which `done` bytes are printed.
 pub(crate) fn print_some<C: Calls>(calls: &mut C, done: usize, line: &[u8]) -> io::Result<usize>
     requires { done < length line.now }
-    ensures told { StaysHonest (C.events calls.old) (C.events calls.new) }
+    ensures tells { StaysHonest (C.events calls.old) (C.events calls.new) }
     ensures some { IfOk result (λ count. 0 < count) }
     ensures count { IfOk result (λ count. done + count ≤ length line.now) }
     ensures noted { MatchResult result

@@ -12,7 +12,7 @@ use std::io;
 
 /// How many bytes a file has.
 pub(crate) fn length_of<C: Calls>(calls: &mut C, file: u32) -> io::Result<u64>
-    ensures told { StaysHonest (C.events calls.old) (C.events calls.new) }
+    ensures tells { StaysHonest (C.events calls.old) (C.events calls.new) }
     ensures still { StandsStill (C.events calls.old) (C.events calls.new) }
     ensures value { (unseen : Unseen) → IsHonest unseen (C.events calls.new)
         → IfOk result (λ size. size ≡ length (content_of file (replay unseen (C.events calls.old)).steps)) }
@@ -32,7 +32,7 @@ pub(crate) fn read_file<C: Calls>(
     at: u64,
     out: &mut [u8],
 ) -> io::Result<usize>
-    ensures told { StaysHonest (C.events calls.old) (C.events calls.new) }
+    ensures tells { StaysHonest (C.events calls.old) (C.events calls.new) }
     ensures still { StandsStill (C.events calls.old) (C.events calls.new) }
     ensures count { IfOk result (λ count. count ≤ length out.old) }
     ensures value { (unseen : Unseen) → IsHonest unseen (C.events calls.new)
@@ -48,7 +48,7 @@ pub(crate) fn read_file<C: Calls>(
 
 /// Reads until the buffer is full or the file ends.
 fn read_on<C: Calls>(calls: &mut C, file: u32, at: u64, out: &mut [u8]) -> io::Result<usize>
-    ensures told { StaysHonest (C.events calls.old) (C.events calls.new) }
+    ensures tells { StaysHonest (C.events calls.old) (C.events calls.new) }
     ensures still { StandsStill (C.events calls.old) (C.events calls.new) }
     ensures count { IfOk result (λ count. count ≤ length out.old) }
     ensures value { (unseen : Unseen) → IsHonest unseen (C.events calls.new)

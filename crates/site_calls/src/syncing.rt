@@ -15,7 +15,7 @@ use std::io;
 /// Makes safe what a file holds. One that isn't there is safe as it is.
 pub(crate) fn sync_file<C: Calls>(calls: &mut C, known: &mut Known, file: u32) -> Result<(), Fault>
     requires { (unseen : Unseen) × Knows known.old (replay unseen (C.events calls.old)) }
-    ensures told { StaysHonest (C.events calls.old) (C.events calls.new) }
+    ensures tells { StaysHonest (C.events calls.old) (C.events calls.new) }
     ensures known { (unseen : Unseen) → Knows known.old (replay unseen (C.events calls.old)) → Knows known.new (replay unseen (C.events calls.new)) }
     ensures done { (unseen : Unseen) → Knows known.old (replay unseen (C.events calls.old))
         → Syncs file (replay unseen (C.events calls.old)).steps (replay unseen (C.events calls.new)).steps result }
@@ -39,7 +39,7 @@ pub(crate) fn sync_file<C: Calls>(calls: &mut C, known: &mut Known, file: u32) -
 /// no later one is believed.
 fn make_safe<C: Calls>(calls: &mut C, known: &mut Known, file: u32) -> Result<(), Fault>
     requires { (unseen : Unseen) × Knows known.old (replay unseen (C.events calls.old)) }
-    ensures told { StaysHonest (C.events calls.old) (C.events calls.new) }
+    ensures tells { StaysHonest (C.events calls.old) (C.events calls.new) }
     ensures known { (unseen : Unseen) → Knows known.old (replay unseen (C.events calls.old)) → Knows known.new (replay unseen (C.events calls.new)) }
     ensures done { (unseen : Unseen) → Knows known.old (replay unseen (C.events calls.old))
         → Syncs file (replay unseen (C.events calls.old)).steps (replay unseen (C.events calls.new)).steps result }
@@ -58,7 +58,7 @@ fn make_safe<C: Calls>(calls: &mut C, known: &mut Known, file: u32) -> Result<()
 
 /// Makes the names safe where one is loose.
 fn secure_names<C: Calls>(calls: &mut C, known: &mut Known) -> Result<(), Fault>
-    ensures told { StaysHonest (C.events calls.old) (C.events calls.new) }
+    ensures tells { StaysHonest (C.events calls.old) (C.events calls.new) }
     ensures known { (unseen : Unseen) → Knows known.old (replay unseen (C.events calls.old)) → Knows known.new (replay unseen (C.events calls.new)) }
     ensures same { (unseen : Unseen) → (replay unseen (C.events calls.new)).steps ≡ (replay unseen (C.events calls.old)).steps }
     ensures safe { OnOk result (known.new ≡ record known.old { is_loose = false }) }
@@ -79,7 +79,7 @@ fn secure_names<C: Calls>(calls: &mut C, known: &mut Known) -> Result<(), Fault>
 fn flush_file<C: Calls>(calls: &mut C, known: &mut Known, file: u32) -> Result<(), Fault>
     requires named { known.old.is_loose ≡ false }
     requires unbroken { known.old.is_broken ≡ false }
-    ensures told { StaysHonest (C.events calls.old) (C.events calls.new) }
+    ensures tells { StaysHonest (C.events calls.old) (C.events calls.new) }
     ensures known { (unseen : Unseen) → Knows known.old (replay unseen (C.events calls.old)) → Knows known.new (replay unseen (C.events calls.new)) }
     ensures done { (unseen : Unseen) → Knows known.old (replay unseen (C.events calls.old))
         → Syncs file (replay unseen (C.events calls.old)).steps (replay unseen (C.events calls.new)).steps result }

@@ -4,7 +4,7 @@ ghost use Rattle.site_model.specs.Calls.{HasCause};
 ghost use Rattle.site_model.specs.Readings.{asked, waited};
 
 use site_calls::counted;
-use site_model::{Clock, Failed, LAST_MOMENT, Readings};
+use site_model::{Clock, Failed, LAST_STAMP, Readings};
 use std::io::ErrorKind;
 use std::time::{Duration, SystemTime, UNIX_EPOCH};
 use std::{io, rt, thread};
@@ -12,7 +12,7 @@ use std::{io, rt, thread};
 /// How often a wait reads the clock.
 const READS_LIMIT: u32 = 1000;
 
-/// The machine's clock, in milliseconds since 1970. It may be set back, so a moment may lie before an earlier one.
+/// The machine's clock, in milliseconds since 1970. It may be set back, so a stamp may lie before an earlier one.
 #[derive(Drop)]
 pub struct WallClock<R> {
     rt: R,
@@ -22,7 +22,7 @@ pub struct WallClock<R> {
 }
 
 impl<R> WallClock<R> {
-    /// A clock that has given no moment.
+    /// A clock that has given no stamp.
     pub fn new(rt: R) -> WallClock<R> {
         WallClock {
             rt,
@@ -32,7 +32,7 @@ impl<R> WallClock<R> {
         }
     }
 
-    // A moment that was read becomes one that was given, or the fault is counted.
+    // A stamp that was read becomes one that was given, or the fault is counted.
     fn give(&mut self, read: io::Result<u64>) -> Result<u64, Failed>
         ensures same { IfOk result (λ t. read ≡ Ok t) }
         ensures latest { IfOk result (λ t. self.new.latest ≡ max self.old.latest t) }
@@ -40,16 +40,16 @@ impl<R> WallClock<R> {
         ensures readings { self.new.readings ≡ self.old.readings }
         ensures cause { HasCause self.old.faults self.new.faults result }
     {
-        let moment = counted(read, &mut self.faults)?;
-        self.latest = self.latest.max(moment);
-        Ok(moment)
+        let stamp = counted(read, &mut self.faults)?;
+        self.latest = self.latest.max(stamp);
+        Ok(stamp)
     }
 }
 
 impl<R: rt::Clock> Clock for WallClock<R> {
     ghost latest = { λ clock. clock.latest };
 
-    ghost given = { λ clock. clock.readings.moments };
+    ghost given = { λ clock. clock.readings.stamps };
 
     ghost clock_faults = { λ clock. clock.faults };
 
@@ -60,38 +60,38 @@ impl<R: rt::Clock> Clock for WallClock<R> {
         Ok(now)
     }
 
-    fn wait_until(&mut self, moment: u64) -> Result<u64, Failed> {
-        let read = read_from(&self.rt, moment);
+    fn wait_until(&mut self, stamp: u64) -> Result<u64, Failed> {
+        let read = read_from(&self.rt, stamp);
         let now = self.give(read)?;
-        self.readings.waited(moment, now);
+        self.readings.waited(stamp, now);
         Ok(now)
     }
 }
 
-// A clock that is set before 1970 gives an error, and so does one past the last moment.
+// A clock that is set before 1970 gives an error, and so does one past the last stamp.
 fn read_clock(rt: &impl rt::Clock) -> io::Result<u64>
-    ensures range { IfOk result (λ t. t ≤ LAST_MOMENT) }
+    ensures range { IfOk result (λ t. t ≤ LAST_STAMP) }
 {
     let Ok(since) = SystemTime::now(rt)?.duration_since(UNIX_EPOCH) else {
         return Err(io::Error::from(ErrorKind::InvalidData));
     };
     match u64::try_from(since.as_millis()) {
-        Ok(moment) if moment <= LAST_MOMENT => Ok(moment),
+        Ok(stamp) if stamp <= LAST_STAMP => Ok(stamp),
         _ => Err(io::Error::from(ErrorKind::InvalidData)),
     }
 }
 
-// Reads the clock until it has come to this moment. It sleeps in between, and reads again since a sleep may end early.
-fn read_from(rt: &impl rt::Clock, moment: u64) -> io::Result<u64>
-    ensures reached { IfOk result (λ t. moment ≤ t) }
-    ensures range { IfOk result (λ t. t ≤ LAST_MOMENT) }
+// Reads the clock until it has come to this stamp. It sleeps in between, and reads again since a sleep may end early.
+fn read_from(rt: &impl rt::Clock, stamp: u64) -> io::Result<u64>
+    ensures reached { IfOk result (λ t. stamp ≤ t) }
+    ensures range { IfOk result (λ t. t ≤ LAST_STAMP) }
 {
     for _ in 0..READS_LIMIT {
         let now = read_clock(rt)?;
-        if now >= moment {
+        if now >= stamp {
             return Ok(now);
         }
-        thread::sleep(rt, Duration::from_millis(moment - now));
+        thread::sleep(rt, Duration::from_millis(stamp - now));
     }
     Err(io::Error::from(ErrorKind::TimedOut))
 }

@@ -3,18 +3,18 @@ use Rattle.std.specs.Prelude.{ℕ, List}
 use Rattle.site_memory.specs.declared.tick.TickClock.{TickClock}
 use Rattle.site_model.specs.Readings.{Reading}
 
--- the greatest moment that it gave
+-- the greatest stamp that it gave
 abbrev pub tick_latest : TickClock → ℕ
 tick_latest clock = clock.latest
 
--- the moments that it gave, the newest first
+-- the stamps that it gave, the newest first
 abbrev pub tick_given : TickClock → List Reading
-tick_given clock = clock.readings.moments
+tick_given clock = clock.readings.stamps
 
 -- how often it has failed
 abbrev pub tick_faults : TickClock → ℕ
 tick_faults clock = clock.faults
 
--- the moment that it stands at
+-- the stamp that it stands at
 abbrev pub tick_at : TickClock → ℕ
 tick_at clock = clock.at

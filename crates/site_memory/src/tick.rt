@@ -4,7 +4,7 @@ ghost use Rattle.site_model.specs.Calls.{HasCause};
 ghost use Rattle.site_model.specs.Readings.{asked, waited};
 
 use crate::faults::raised;
-use site_model::{Clock, Failed, LAST_MOMENT, Readings};
+use site_model::{Clock, Failed, LAST_STAMP, Readings};
 
 /// A clock that stands still until it is waited for, and fails where it is told to.
 ///
@@ -23,9 +23,9 @@ pub struct TickClock {
 impl TickClock {
     ghost use Rattle.site_memory.specs.Tick.{tick_at, tick_latest, tick_given, tick_faults};
 
-    /// A clock at this moment. The calls with these numbers fail, counted from 0 over both kinds.
+    /// A clock at this stamp. The calls with these numbers fail, counted from 0 over both kinds.
     pub fn new(at: u64, fails: Vec<u64>) -> TickClock
-        requires { at ≤ LAST_MOMENT }
+        requires { at ≤ LAST_STAMP }
         ensures at { tick_at result ≡ at }
         ensures latest { tick_latest result ≡ 0 }
         ensures given { tick_given result ≡ [] }
@@ -41,7 +41,7 @@ impl TickClock {
         }
     }
 
-    /// The greatest moment that it gave, or 0.
+    /// The greatest stamp that it gave, or 0.
     pub fn latest(&self) -> u64
         ensures { result ≡ tick_latest self.now }
     {
@@ -73,7 +73,7 @@ impl Clock for TickClock {
     ghost clock_faults = { tick_faults };
 
     fn now(&mut self) -> Result<u64, Failed>
-        ensures range { IfOk result (λ t. t ≤ LAST_MOMENT) }
+        ensures range { IfOk result (λ t. t ≤ LAST_STAMP) }
         ensures latest { IfOk result (λ t. tick_latest self.new ≡ max (tick_latest self.old) t) }
         ensures given { IfOk result (λ t. tick_given self.new ≡ asked t ∷ tick_given self.old) }
         ensures failed { OnErr result (tick_latest self.new ≡ tick_latest self.old) }
@@ -91,16 +91,16 @@ impl Clock for TickClock {
         Ok(self.at)
     }
 
-    fn wait_until(&mut self, moment: u64) -> Result<u64, Failed>
-        requires { moment ≤ LAST_MOMENT }
-        ensures reached { IfOk result (λ t. moment ≤ t) }
-        ensures range { IfOk result (λ t. t ≤ LAST_MOMENT) }
+    fn wait_until(&mut self, stamp: u64) -> Result<u64, Failed>
+        requires { stamp ≤ LAST_STAMP }
+        ensures reached { IfOk result (λ t. stamp ≤ t) }
+        ensures range { IfOk result (λ t. t ≤ LAST_STAMP) }
         ensures latest { IfOk result (λ t. tick_latest self.new ≡ max (tick_latest self.old) t) }
-        ensures given { IfOk result (λ t. tick_given self.new ≡ waited moment t ∷ tick_given self.old) }
+        ensures given { IfOk result (λ t. tick_given self.new ≡ waited stamp t ∷ tick_given self.old) }
         ensures failed { OnErr result (tick_latest self.new ≡ tick_latest self.old) }
         ensures gave_none { OnErr result (tick_given self.new ≡ tick_given self.old) }
         ensures cause { HasCause (tick_faults self.old) (tick_faults self.new) result }
-        ensures at { IfOk result (λ t. t ≡ max (tick_at self.old) moment) }
+        ensures at { IfOk result (λ t. t ≡ max (tick_at self.old) stamp) }
         ensures moved { IfOk result (λ t. tick_at self.new ≡ t) }
         ensures stays { OnErr result (tick_at self.new ≡ tick_at self.old) }
     {
@@ -108,9 +108,9 @@ impl Clock for TickClock {
             self.faults = raised(self.faults);
             return Err(Failed);
         }
-        self.at = self.at.max(moment);
+        self.at = self.at.max(stamp);
         self.latest = self.latest.max(self.at);
-        self.readings.waited(moment, self.at);
+        self.readings.waited(stamp, self.at);
         Ok(self.at)
     }
 }

@@ -22,7 +22,7 @@ pub fn read_front<V: Site>(
     file: u32,
     most: u64,
 ) -> Result<Vec<u8>, FrontError>
-    ensures told { V.tells site.new → V.tells site.old }
+    ensures tells { V.tells site.new → V.tells site.old }
     ensures front { V.tells site.new → IfOk result (λ v. v.items ≡ take most (content_of file (V.history site.old))) }
     ensures unchanged { V.history site.new ≡ V.history site.old }
     ensures later { V.disk_faults site.old ≤ V.disk_faults site.new }

@@ -6,7 +6,7 @@
 //! answers agree with it is `tells`: it holds of each site in memory, and of a real directory as long as the disk
 //! answered so.
 //!
-//! A [`Clock`] gives moments in milliseconds. Those that it gave are a ghost list, which a clock holds as [`Readings`]
+//! A [`Clock`] gives stamps in milliseconds. Those that it gave are a ghost list, which a clock holds as [`Readings`]
 //! (`specs/Readings.antt`).
 #![tactic(auto)]
 
@@ -16,7 +16,7 @@ mod laws;
 mod readings;
 mod site;
 
-pub use clock::{Clock, LAST_MOMENT};
+pub use clock::{Clock, LAST_STAMP};
 pub use front::{FrontError, read_front};
 pub use laws::what_a_read_gives_is_an_image;
 pub use readings::Readings;

@@ -1,15 +1,15 @@
-//! The list of moments that a clock gave. Only clauses read it.
+//! The list of stamps that a clock gave. Only clauses read it.
 ghost use Rattle.std.specs.Prelude.{◌≡◌, List, [], ◌∷◌};
 ghost use Rattle.std.specs.Borrow.{ftrue};
 ghost use Rattle.site_model.specs.Readings.{Reading, asked, waited, reading_of};
 
 use std::marker::{Model, PhantomData};
 
-/// The moments so far, the newest first. No memory holds them, and noting one does nothing when it runs.
+/// The stamps so far, the newest first. No memory holds them, and noting one does nothing when it runs.
 #[derive(Drop)]
 pub struct Readings {
     marker: PhantomData<u8>,
-    pub ghost moments: { List Reading },
+    pub ghost stamps: { List Reading },
 }
 
 impl Model for Readings {
@@ -20,31 +20,31 @@ impl Model for Readings {
 unsafe impl Send for Readings {}
 
 impl Readings {
-    /// No moment.
+    /// No stamp.
     pub fn new() -> Readings
-        ensures { result.moments ≡ [] }
+        ensures { result.stamps ≡ [] }
     {
         Readings {
             marker: PhantomData,
         }
     }
 
-    // Notes a moment, as `reading_of` reads it.
+    // Notes a stamp, as `reading_of` reads it.
     fn note(&mut self, _numbers: &[u64])
-        ensures { self.new.moments ≡ reading_of _numbers.now ∷ self.old.moments }
+        ensures { self.new.stamps ≡ reading_of _numbers.now ∷ self.old.stamps }
     {}
 
-    /// The present moment was asked for, and was this.
-    pub fn asked(&mut self, moment: u64)
-        ensures { self.new.moments ≡ asked moment ∷ self.old.moments }
+    /// The present stamp was asked for, and was this.
+    pub fn asked(&mut self, stamp: u64)
+        ensures { self.new.stamps ≡ asked stamp ∷ self.old.stamps }
     {
-        self.note(&[moment]);
+        self.note(&[stamp]);
     }
 
-    /// A moment was waited for, until this one.
-    pub fn waited(&mut self, until: u64, moment: u64)
-        ensures { self.new.moments ≡ waited until moment ∷ self.old.moments }
+    /// A stamp was waited for, until this one.
+    pub fn waited(&mut self, until: u64, stamp: u64)
+        ensures { self.new.stamps ≡ waited until stamp ∷ self.old.stamps }
     {
-        self.note(&[until, moment]);
+        self.note(&[until, stamp]);
     }
 }

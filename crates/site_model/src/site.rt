@@ -42,7 +42,7 @@ pub trait Site {
 
     /// How many bytes a file has.
     fn length(&mut self, file: u32) -> Result<u64, Failed>
-        ensures told { tells self.new → tells self.old }
+        ensures tells { tells self.new → tells self.old }
         ensures value { tells self.new → IfOk result (λ n. n ≡ length (content_of file (history self.old))) }
         ensures unchanged { history self.new ≡ history self.old }
         ensures cause { HasCause (disk_faults self.old) (disk_faults self.new) result }
@@ -51,7 +51,7 @@ pub trait Site {
     /// Reads from offset `at` on, as many bytes as there are and as `out` holds, and says how many. One that gives
     /// fewer than `out` holds has come to the file's end. Past that number, and at an error, `out` may hold anything.
     fn read(&mut self, file: u32, at: u64, out: &mut [u8]) -> Result<usize, Failed>
-        ensures told { tells self.new → tells self.old }
+        ensures tells { tells self.new → tells self.old }
         ensures count { IfOk result (λ n. n ≤ length out.old) }
         ensures value { tells self.new → IfOk result (Reads (content_of file (history self.old)) at out.old out.new) }
         ensures unchanged { history self.new ≡ history self.old }
@@ -62,14 +62,14 @@ pub trait Site {
     /// in the range. A write that failed leaves its range as if written and not synced.
     fn write(&mut self, file: u32, at: u64, bytes: &[u8]) -> Result<(), Failed>
         requires { tells self.old → at ≤ length (content_of file (history self.old)) }
-        ensures told { tells self.new → tells self.old }
+        ensures tells { tells self.new → tells self.old }
         ensures done { Writes file at bytes.now (history self.old) (history self.new) result }
         ensures cause { HasCause (disk_faults self.old) (disk_faults self.new) result }
         ensures say_faults { say_faults self.new ≡ say_faults self.old };
 
     /// After it, a crash leaves of the file what a read gives.
     fn sync(&mut self, file: u32) -> Result<(), Failed>
-        ensures told { tells self.new → tells self.old }
+        ensures tells { tells self.new → tells self.old }
         ensures done { Syncs file (history self.old) (history self.new) result }
         ensures cause { HasCause (disk_faults self.old) (disk_faults self.new) result }
         ensures say_faults { say_faults self.new ≡ say_faults self.old };
@@ -78,7 +78,7 @@ pub trait Site {
     /// its line.
     fn say(&mut self, line: &[u8]) -> Result<(), Failed>
         requires { 0 < length line.now }
-        ensures told { tells self.new → tells self.old }
+        ensures tells { tells self.new → tells self.old }
         ensures done { Says line.now (history self.old) (history self.new) result }
         ensures cause { HasCause (say_faults self.old) (say_faults self.new) result }
         ensures disk_faults { disk_faults self.new ≡ disk_faults self.old };

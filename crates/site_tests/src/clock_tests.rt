@@ -1,7 +1,7 @@
-// What no clause says: that the clocks give moments at all, that of the machine in milliseconds, and that a wait gives up.
+// What no clause says: that the clocks give stamps at all, that of the machine in milliseconds, and that a wait gives up.
 use site_host::WallClock;
 use site_memory::TickClock;
-use site_model::{Clock, LAST_MOMENT};
+use site_model::{Clock, LAST_STAMP};
 use std::process::Abort;
 use std::time::Duration;
 use std::{io, rt};
@@ -21,26 +21,26 @@ impl rt::Clock for Still {
 }
 
 fn check_wait(rt: &impl Abort, clock: &mut WallClock<HostRuntime>, from: u64) {
-    let soon = from.saturating_add(5).min(LAST_MOMENT);
+    let soon = from.saturating_add(5).min(LAST_STAMP);
     let reached = clock.wait_until(soon).expect(rt, "a wait");
     assert!(rt; reached >= soon);
 }
 
 fn check_moments(rt: &impl Abort, clock: &mut WallClock<HostRuntime>) {
-    let first = clock.now().expect(rt, "a moment");
-    let second = clock.now().expect(rt, "a moment");
+    let first = clock.now().expect(rt, "a stamp");
+    let second = clock.now().expect(rt, "a stamp");
     assert!(rt; 1_700_000_000_000 < first && first <= second);
     check_wait(rt, clock, second);
 }
 
 fn check_still(rt: &impl Abort) {
     let mut clock = WallClock::new(Still(Duration::from_millis(1234)));
-    let reached = clock.wait_until(1234).expect(rt, "a moment");
+    let reached = clock.wait_until(1234).expect(rt, "a stamp");
     assert!(rt; reached == 1234);
     clock.wait_until(1235).expect_err(rt, "a fault");
 }
 
-/// A clock past the last moment gives none.
+/// A clock past the last stamp gives none.
 fn check_past_the_last(rt: &impl Abort) {
     let mut clock = WallClock::new(Still(Duration::from_secs(u64::MAX)));
     clock.now().expect_err(rt, "a fault");
@@ -53,24 +53,24 @@ fn reads_the_clock(rt: HostRuntime) {
     check_past_the_last(&rt);
 }
 
-/// Both are the same moment.
+/// Both are the same stamp.
 fn check_same(rt: &impl Abort, value: u64, wanted: u64) {
     assert!(rt; value == wanted);
 }
 
 fn check_first_waits(rt: &impl Abort, clock: &mut TickClock) {
     check_same(rt, clock.latest(), 0);
-    check_same(rt, clock.now().expect(rt, "a moment"), 5);
+    check_same(rt, clock.now().expect(rt, "a stamp"), 5);
     clock.wait_until(9).expect_err(rt, "a fault");
-    check_same(rt, clock.wait_until(9).expect(rt, "a moment"), 9);
-    check_same(rt, clock.wait_until(3).expect(rt, "a moment"), 9);
+    check_same(rt, clock.wait_until(9).expect(rt, "a stamp"), 9);
+    check_same(rt, clock.wait_until(3).expect(rt, "a stamp"), 9);
 }
 
 fn check_last_wait(rt: &impl Abort, clock: &mut TickClock) {
     clock.now().expect_err(rt, "a fault");
-    let last = clock.wait_until(LAST_MOMENT).expect(rt, "a moment");
-    check_same(rt, last, LAST_MOMENT);
-    check_same(rt, clock.latest(), LAST_MOMENT);
+    let last = clock.wait_until(LAST_STAMP).expect(rt, "a stamp");
+    check_same(rt, last, LAST_STAMP);
+    check_same(rt, clock.latest(), LAST_STAMP);
     check_same(rt, clock.faults(), 2);
 }
 

@@ -34,7 +34,7 @@ pub(crate) fn say_line<V: Site>(
     id: &Id,
     answer: &Answer,
 ) -> Result<(), ShowError>
-    ensures told { V.tells site.new → V.tells site.old }
+    ensures tells { V.tells site.new → V.tells site.old }
     ensures said { OnOk result (tape (V.history site.new) ≡ tape (V.history site.old) ++ table_line (id_of id.now) (Some (answer_of answer.now))) }
     ensures part { IfErr result (λ error. SaysPart (table_line (id_of id.now) (Some (answer_of answer.now))) error (tape (V.history site.old)) (tape (V.history site.new))) }
     ensures files { (file : ℕ) → changes_of file (V.history site.new) ≡ changes_of file (V.history site.old) }

@@ -48,7 +48,7 @@ variables =
 abbrev pub values_of : List Expression → List (Result Value (List ℕ))
 values_of = map (eval variables)
 
--- an instance that begins with this body at the moment 7
+-- an instance that begins with this body at the stamp 7
 abbrev pub begun_with : Block → Machine
 begun_with body = (resume (new_machine (orchestration (codes "F") (codes "x")) (Some body)) (started (client (codes "a")) values.Null (to_request 1)) 7).machine
 

@@ -27,15 +27,15 @@ entry position incarnation =
 abbrev log : (position incarnation : ℕ) → List ℕ → Log
 log position incarnation bytes = record { next = record { position = position; incarnation = incarnation }; bytes = bytes }
 
--- the example where a log begins; two entries where it goes on, the second of a later life
+-- the example where a log begins; two entries where it goes on, the second of a later incarnation
 abbrev pub next_rows : List (Log × List Entry)
 next_rows =
     (log 0 0 example_bytes, example_entries)
     ∷ (log 5 2 (0 ∷ 2 ∷ entry_bytes 5 2 0x20 ++ entry_bytes 6 3 0x20), entry 5 2 ∷ entry 6 3 ∷ [])
     ∷ []
 
--- the example at another place, and in a later life; a second entry at the place of the first one whose tag is none either, and
--- one whose tag alone is none; a second entry of a life before the first one's
+-- the example at another place, and in a later incarnation; a second entry at the place of the first one whose tag is none either, and
+-- one whose tag alone is none; a second entry of a incarnation before the first one's
 abbrev pub next_faults : List (Log × ℕ)
 next_faults =
     (log 1 0 example_bytes, 2)

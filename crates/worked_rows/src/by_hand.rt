@@ -25,7 +25,7 @@ pub fn waits()
 {}
 
 /// An entry is founded on the one right before it, and on those whose messages came in. A gap isn't, nor an entry of an
-/// earlier life, nor one that takes in what nobody sent.
+/// earlier incarnation, nor one that takes in what nobody sent.
 pub fn founded()
     ensures first { Founded [] (committed (entry 0 0 0) [] ∷ []) }
     ensures behind { Founded (entry 0 1 4 ∷ []) (committed (entry 0 1 5) [] ∷ []) }
@@ -37,7 +37,7 @@ pub fn founded()
     ensures let_go_for_nobody { Founded [] (committed (entry 0 0 0) (trim (entry 1 0 0) 1 ∷ []) ∷ []) → ⊥ }
 {}
 
-/// A later life of the partition gave up what stands at its floor or above.
+/// A later incarnation of the partition gave up what stands at its floor or above.
 pub fn lost()
     ensures at_the_floor { Lost (record { partition = 0; incarnation = 2; from = 5 } ∷ []) (entry 0 1 5) }
     ensures below_it { Lost (record { partition = 0; incarnation = 2; from = 5 } ∷ []) (entry 0 1 4) → ⊥ }

@@ -39,6 +39,6 @@ pub fn checks()
 {}
 
 pub fn timers()
-    ensures moments { TimersAgree }
+    ensures stamps { TimersAgree }
     ensures order { GoInOrder }
 {}

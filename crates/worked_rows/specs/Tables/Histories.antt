@@ -101,7 +101,7 @@ EarlyAgrees =
     × (listening.sent ≡ tells early_id (int 7))
     × (listening.asked ≡ [])
 
--- ---- a timer is due so long after the moment of the event that set it
+-- ---- a timer is due so long after the stamp of the event that set it
 
 abbrev nap_id : Id
 nap_id = orchestration (codes "Nap") (codes "x")

@@ -13,7 +13,7 @@ draw_x = orchestration (codes "Draw") (codes "x")
 abbrev pub draw_y : Id
 draw_y = orchestration (codes "Draw") (codes "y")
 
--- four timers, three of which are due at one moment
+-- four timers, three of which are due at one stamp
 abbrev pub timers : Id → ℕ → Option ℕ
 timers = at_number (at_number (at_number (at_number no_number sum_x 0 (Some 40)) draw_y 1 (Some 30)) draw_x 3 (Some 30)) draw_x 2 (Some 30)
 
@@ -29,14 +29,14 @@ abbrev pub TimersAgree : Type 0
 TimersAgree =
     (timers draw_x 3 ≡ Some 30)
     × (timers draw_y 3 ≡ None)
-    -- one that is set again has its new moment alone
+    -- one that is set again has its new stamp alone
     × (at_number (at_number timers draw_x 3 (Some 20)) draw_x 3 (Some 30) draw_x 3 ≡ Some 30)
     × (without_one draw_x 3 ≡ None)
     × (without_one draw_y 1 ≡ Some 30)
     × (last_alone draw_y 1 ≡ None)
     × (last_alone sum_x 0 ≡ Some 40)
 
--- The timers of one moment go by id, then by task.
+-- The timers of one stamp go by id, then by task.
 pub record GoInOrder : Type 0 where
   pub none_at_first : NoneDue timers 0
   pub none_before : NoneDue timers 29

@@ -5,7 +5,7 @@ use Rattle.commit_log.proofs.format.is_closed.Goals as goal
 
 pub returns-then-length-le1 : goal.returns-then-length-le1
 returns-then-length-le1 g c = record {
-  told = c.length.ensures.told;
+  tells = c.length.ensures.tells;
   value = λ tells. short_content _ (omega (arith, c.if-length-le1.true, c.in-Ok.ensures.value tells));
   unchanged = c.length.ensures.unchanged;
   cause = record { later = c.length.ensures.cause.later; same = c.in-Ok.ensures.cause.same; risen = tt };
@@ -14,7 +14,7 @@ returns-then-length-le1 g c = record {
 
 pub returns-in-Err : goal.returns-in-Err
 returns-in-Err g c = record {
-  told = c.length.ensures.told;
+  tells = c.length.ensures.tells;
   value = λ tells. tt;
   unchanged = c.length.ensures.unchanged;
   cause = record { later = c.length.ensures.cause.later; same = tt; risen = c.in-Err.ensures.cause.risen };
@@ -23,15 +23,15 @@ returns-in-Err g c = record {
 
 pub returns-in-Err-read : goal.returns-in-Err-read
 returns-in-Err-read g c = record {
-  told = λ tells. c.length.ensures.told (c.read.ensures.told tells);
+  tells = λ tells. c.length.ensures.tells (c.read.ensures.tells tells);
   value = λ tells. tt;
   unchanged = c.read.ensures.unchanged ∙ c.length.ensures.unchanged;
   cause = failed_later _ _ _ _ c.in-Ok.ensures.cause.same c.read.ensures.cause.later c.in-Err-read.ensures.cause.risen;
   say_faults = c.read.ensures.say_faults ∙ c.length.ensures.say_faults;
 }
 
-pub returns-then-count-eq1-clause-told : goal.returns-then-count-eq1-clause-told
-returns-then-count-eq1-clause-told g c tells = c.length.ensures.told (c.read.ensures.told tells)
+pub returns-then-count-eq1-clause-tells : goal.returns-then-count-eq1-clause-tells
+returns-then-count-eq1-clause-tells g c tells = c.length.ensures.tells (c.read.ensures.tells tells)
 
 pub returns-then-count-eq1-clause-unchanged : goal.returns-then-count-eq1-clause-unchanged
 returns-then-count-eq1-clause-unchanged g c = c.read.ensures.unchanged ∙ c.length.ensures.unchanged
@@ -42,8 +42,8 @@ returns-then-count-eq1-clause-cause g c = done_later _ _ _ _ c.in-Ok.ensures.cau
 pub returns-then-count-eq1-clause-say_faults : goal.returns-then-count-eq1-clause-say_faults
 returns-then-count-eq1-clause-say_faults g c = c.read.ensures.say_faults ∙ c.length.ensures.say_faults
 
-pub returns-else-count-eq1-clause-told : goal.returns-else-count-eq1-clause-told
-returns-else-count-eq1-clause-told g c tells = c.length.ensures.told (c.read.ensures.told tells)
+pub returns-else-count-eq1-clause-tells : goal.returns-else-count-eq1-clause-tells
+returns-else-count-eq1-clause-tells g c tells = c.length.ensures.tells (c.read.ensures.tells tells)
 
 pub returns-else-count-eq1-clause-unchanged : goal.returns-else-count-eq1-clause-unchanged
 returns-else-count-eq1-clause-unchanged g c = c.read.ensures.unchanged ∙ c.length.ensures.unchanged

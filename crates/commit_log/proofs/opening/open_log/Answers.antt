@@ -3,15 +3,15 @@ use Rattle.commit_log.proofs.Opens.{opening_during}
 use Rattle.commit_log.proofs.opening.open_log.Goals as goal
 
 pub returns-in-Err-clause-during : goal.returns-in-Err-clause-during
-returns-in-Err-clause-during g c tells = opening_during _ _ _ _ _ c.synced_length.ensures.either refl (g.met.V.Site.inside _ _ (c.synced_length.ensures.told tells))
+returns-in-Err-clause-during g c tells = opening_during _ _ _ _ _ c.synced_length.ensures.either refl (g.met.V.Site.inside _ _ (c.synced_length.ensures.tells tells))
 
 pub returns-in_err-header-clause-during : goal.returns-in_err-header-clause-during
 returns-in_err-header-clause-during g c tells =
-    opening_during _ _ _ _ _ c.synced_length.ensures.either c.read_front.ensures.unchanged (g.met.V.Site.inside _ _ (c.synced_length.ensures.told (c.read_front.ensures.told tells)))
+    opening_during _ _ _ _ _ c.synced_length.ensures.either c.read_front.ensures.unchanged (g.met.V.Site.inside _ _ (c.synced_length.ensures.tells (c.read_front.ensures.tells tells)))
 
 pub returns-clause-during : goal.returns-clause-during
 returns-clause-during g c tells =
-    opening_during _ _ _ _ _ c.synced_length.ensures.either c.read_front.ensures.unchanged (g.met.V.Site.inside _ _ (c.synced_length.ensures.told (c.read_front.ensures.told tells)))
+    opening_during _ _ _ _ _ c.synced_length.ensures.either c.read_front.ensures.unchanged (g.met.V.Site.inside _ _ (c.synced_length.ensures.tells (c.read_front.ensures.tells tells)))
 
 pub returns-in-Err-clause-opens : goal.returns-in-Err-clause-opens
 returns-in-Err-clause-opens g c tells = tt

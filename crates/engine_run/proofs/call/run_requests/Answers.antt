@@ -33,12 +33,12 @@ go_named-requires-clause-stands g c =
     let p = c.in-Ok.prepared in
     let state = state_of p.state in
     let can = c.in-Ok.ensures.can in
-    let here = picked p.digest p.log.file (g.V.Site.history c.prepare.new.site) state p.life in
+    let here = picked p.digest p.log.file (g.V.Site.history c.prepare.new.site) state p.incarnation in
     let first = one_first (count_of p.state) p.state.rows.number can.alone can.sound.below in
     record {
       made = refl;
       shown = shown_alone state (subst (λ (n : ℕ). Belongs 1 n state) first (subst (λ (n : ℕ). Belongs n p.state.rows.number state) can.alone can.sound.belongs));
-      place = here.goes.place;
+      position = here.goes.position;
       follows = here.goes.follows;
       younger = can.younger;
     }
@@ -52,7 +52,7 @@ pub go_named-requires-clause-begun : goal.go_named-requires-clause-begun
 go_named-requires-clause-begun g c tells =
     let p = c.in-Ok.prepared in
     let prepared = c.in-Ok.ensures.prepared tells in
-    has_begun (job_of p) prepared.entries (g.V.Site.history c.prepare.new.site) p.log prepared.opened (state_of p.state) prepared.keeps.made p.life c.in-Ok.ensures.can.younger
+    has_begun (job_of p) prepared.entries (g.V.Site.history c.prepare.new.site) p.log prepared.opened (state_of p.state) prepared.keeps.made p.incarnation c.in-Ok.ensures.can.younger
 
 pub go_named-requires-clause-can : goal.go_named-requires-clause-can
 go_named-requires-clause-can g c = c.in-Ok.ensures.can
@@ -76,21 +76,21 @@ pub returns-in-Ok : goal.returns-in-Ok
 returns-in-Ok g c =
     let prepare = c.prepare.ensures in
     let gone = c.go_named.ensures in record {
-      told = λ tells. prepare.told (gone.told tells);
+      tells = λ tells. prepare.tells (gone.tells tells);
       status = gone.status;
       no_usage = λ usage. subst IsLateCause usage gone.late;
       answers = λ tells.
           let p = c.in-Ok.prepared in
-          let told = c.go_named.ensures.told tells in
+          let told = c.go_named.ensures.tells tells in
           let prepared = c.in-Ok.ensures.prepared told in
           late_answers (λ file. content_of file (g.V.Site.history c.args.site)) c.go_named.result.cause c.go_named.ensures.late
-          (ready (λ file. content_of file (g.V.Site.history c.args.site)) (job_of p) prepared.entries (state_of p.state) (c.in-Ok.ensures.asks told) prepared.keeps c.in-Ok.ensures.no_clash (subst (λ (n : ℕ). n < 2 ^ 62) prepared.life_is c.in-Ok.ensures.can.young));
+          (ready (λ file. content_of file (g.V.Site.history c.args.site)) (job_of p) prepared.entries (state_of p.state) (c.in-Ok.ensures.asks told) prepared.keeps c.in-Ok.ensures.no_clash (subst (λ (n : ℕ). n < 2 ^ 62) prepared.incarnation_is c.in-Ok.ensures.can.young));
       refused = λ tells refused.
           let p = c.in-Ok.prepared in
-          let told = c.go_named.ensures.told tells in
+          let told = c.go_named.ensures.tells tells in
           let prepared = c.in-Ok.ensures.prepared told in
           absurd (not_refused (λ file. content_of file (g.V.Site.history c.args.site))
-          (ready (λ file. content_of file (g.V.Site.history c.args.site)) (job_of p) prepared.entries (state_of p.state) (c.in-Ok.ensures.asks told) prepared.keeps c.in-Ok.ensures.no_clash (subst (λ (n : ℕ). n < 2 ^ 62) prepared.life_is c.in-Ok.ensures.can.young)) refused);
+          (ready (λ file. content_of file (g.V.Site.history c.args.site)) (job_of p) prepared.entries (state_of p.state) (c.in-Ok.ensures.asks told) prepared.keeps c.in-Ok.ensures.no_clash (subst (λ (n : ℕ). n < 2 ^ 62) prepared.incarnation_is c.in-Ok.ensures.can.young)) refused);
       settles_nothing = λ is. absurd (late_no_refusal c.go_named.result.cause gone.late is);
       untouched = late_untouched (g.V.Site.history c.args.site) (g.V.Site.history c.go_named.result.site) c.go_named.result.cause gone.late;
       headline = λ tells job asks.
@@ -101,7 +101,7 @@ returns-in-Ok g c =
           let steps = g.V.Site.history c.prepare.new.site in
           let end = c.go_named.result in
           let new = g.V.Site.history end.site in
-          let told = c.go_named.ensures.told tells in
+          let told = c.go_named.ensures.tells tells in
           let prepared = c.in-Ok.ensures.prepared told in
           let asked = c.in-Ok.ensures.asks told in
           let opens = c.in-Ok.ensures.opens told own asked in
@@ -111,7 +111,7 @@ returns-in-Ok g c =
           let same_begin = same_state own (λ file. content_of file old) prepared.entries entries state begin prepared.keeps keeps in
           elim (c.go_named.ensures.goes tells) [
             | inl goes ↦
-                let runs = runs_on own old steps new prepared.entries state prepared.keeps (subst (AreGivenIn own) (sym same) given) p.log prepared.opened opens p.life prepared.life_is c.in-Ok.ensures.can.younger end.trail terms end.cause goes in
+                let runs = runs_on own old steps new prepared.entries state prepared.keeps (subst (AreGivenIn own) (sym same) given) p.log prepared.opened opens p.incarnation prepared.incarnation_is c.in-Ok.ensures.can.younger end.trail terms end.cause goes in
                 inl (subst (λ (l : List Entry). RunsOn own l begin old new end.trail terms end.cause) same
                 (subst (λ (q : Partition). RunsOn own prepared.entries q old new end.trail terms end.cause) same_begin runs))
             | inr stays ↦ inr (record { early = wanting_early (state_of p.state).position end.cause stays.wanting; nothing = stays.nothing; opening = subst (Always (IsOpening own entries old) old) (sym stays.same) (opens entries begin keeps given) })
@@ -132,7 +132,7 @@ returns-in-Err g c =
     let prepare = c.prepare.ensures in
     let end = c.end_with.ensures in
     let old = g.V.Site.history c.args.site in record {
-      told = λ tells. prepare.told (subst g.V.Site.tells end.site tells);
+      tells = λ tells. prepare.tells (subst g.V.Site.tells end.site tells);
       status = end.status ∙ ap status_of (sym end.cause);
       no_usage = λ usage. subst IsEarlyCause (sym end.cause ∙ usage) c.in-Err.ensures.early;
       answers = λ tells. subst (CauseHolds (λ file. content_of file old)) (sym end.cause) (c.in-Err.ensures.answers (subst g.V.Site.tells end.site tells));

@@ -6,7 +6,7 @@ use Rattle.part_steps.specs.States.{state_of}
 
 abbrev pub ghosts-go_named : goal.ghosts-go_named
 ghosts-go_named g a = record {
-  log = log_in_file a.prepared.digest a.prepared.log.file (g.V.Site.history a.site) (state_of a.prepared.state) a.prepared.life;
+  log = log_in_file a.prepared.digest a.prepared.log.file (g.V.Site.history a.site) (state_of a.prepared.state) a.prepared.incarnation;
   steps = g.V.Site.history a.site;
-  rules = rules_with (job_of a.prepared) (state_of a.prepared.state) a.prepared.life;
+  rules = rules_with (job_of a.prepared) (state_of a.prepared.state) a.prepared.incarnation;
 }

@@ -32,14 +32,14 @@ use Rattle.site_model.specs.Moments.{Always, LeavesOnly}
 pub returns-in_err-file-clause-opens : goal.returns-in_err-file-clause-opens
 returns-in_err-file-clause-opens g c tells job asks entries state keeps given =
     let old = g.V.Site.history c.args.site.now in
-    subst (Always (IsOpening job entries old) old) (sym c.read_input.ensures.unchanged) (opening_first job entries old (λ f. g.met.V.Site.inside c.args.site.now f (c.read_input.ensures.told tells)))
+    subst (Always (IsOpening job entries old) old) (sym c.read_input.ensures.unchanged) (opening_first job entries old (λ f. g.met.V.Site.inside c.args.site.now f (c.read_input.ensures.tells tells)))
 
 pub returns-in_err-state-clause-answers : goal.returns-in_err-state-clause-answers
 returns-in_err-state-clause-answers g c tells =
     let old = g.V.Site.history c.args.site.now in
     let file = c.in_ok-file.field-0.file in
     let job : Job = record { flows = flows_of file.flows; digest = file.digest; requests = map request_of c.in_ok-file.field-0.requests.items } in
-    let asks = c.in_ok-file.ensures.reads (c.recover_logs.ensures.told tells) in
+    let asks = c.in_ok-file.ensures.reads (c.recover_logs.ensures.tells tells) in
     let recovers = subst (λ (s : List Step). RecoversAs (flows_of file.flows) file.digest (λ f. content_of f s) (Err c.in_err-state.field-0.0)) c.read_input.ensures.unchanged (c.in_err-state.ensures.recovers tells) in
     let p = err_from_is_err_and c.from_residual-in_err-state.result c.from_residual-in_err-state.ensures.1 in
     rw (p.1, p.2, recovers.1) (logs_refused (λ f. content_of f old) job recovers.0 asks recovers.2)
@@ -57,7 +57,7 @@ returns-in_err-state-clause-opens g c tells job asks entries state keeps given =
     let old = g.V.Site.history c.args.site.now in
     let now = g.V.Site.history c.recover_logs.new.site in
     let syncs = subst (λ (s : List Step). OnlySyncs s now) c.read_input.ensures.unchanged c.recover_logs.ensures.syncs in
-    opening_synced job entries old (λ f. g.met.V.Site.inside c.args.site.now f (c.read_input.ensures.told (c.recover_logs.ensures.told tells))) now syncs
+    opening_synced job entries old (λ f. g.met.V.Site.inside c.args.site.now f (c.read_input.ensures.tells (c.recover_logs.ensures.tells tells))) now syncs
 
 pub returns-in-Err-clause-answers : goal.returns-in-Err-clause-answers
 returns-in-Err-clause-answers g c tells =
@@ -66,7 +66,7 @@ returns-in-Err-clause-answers g c tells =
     let requests = c.in_ok-file.field-0.requests.items in
     let found = c.in_ok-state.field-0 in
     let job : Job = record { flows = flows_of file.flows; digest = file.digest; requests = map request_of requests } in
-    let asks = c.in_ok-file.ensures.reads (c.recover_logs.ensures.told tells) in
+    let asks = c.in_ok-file.ensures.reads (c.recover_logs.ensures.tells tells) in
     let recovered = subst (λ (s : List Step). RecoversAs (flows_of file.flows) file.digest (λ f. content_of f s) (Ok found)) c.read_input.ensures.unchanged (c.in_ok-state.ensures.recovers tells) in
     let keeps : FilesKeep job (λ f. content_of f old) recovered.entries (state_of found.state) = record { kept = recovered.kept; made = recovered.placed } in
     let clash = subst (λ (rs : List OwnRequest). RefusesKept (state_of found.state) (map request_of rs) c.in-Err.cause) c.deref.ensures.value c.in-Err.ensures.err in
@@ -77,7 +77,7 @@ returns-in-Err-clause-opens g c tells job asks entries state keeps given =
     let old = g.V.Site.history c.args.site.now in
     let now = g.V.Site.history c.recover_logs.new.site in
     let syncs = subst (λ (s : List Step). OnlySyncs s now) c.read_input.ensures.unchanged c.recover_logs.ensures.syncs in
-    opening_synced job entries old (λ f. g.met.V.Site.inside c.args.site.now f (c.read_input.ensures.told (c.recover_logs.ensures.told tells))) now syncs
+    opening_synced job entries old (λ f. g.met.V.Site.inside c.args.site.now f (c.read_input.ensures.tells (c.recover_logs.ensures.tells tells))) now syncs
 
 pub returns-in-Err-open_log-clause-opens : goal.returns-in-Err-open_log-clause-opens
 returns-in-Err-open_log-clause-opens g c tells job asks =
@@ -86,8 +86,8 @@ returns-in-Err-open_log-clause-opens g c tells job asks =
     let file = c.in_ok-file.field-0.file in
     let found = c.in_ok-state.field-0 in
     let own : Job = record { flows = flows_of file.flows; digest = file.digest; requests = map request_of c.in_ok-file.field-0.requests.items } in
-    let tells_then = c.open_log.ensures.told tells in
-    let asked = c.in_ok-file.ensures.reads (c.recover_logs.ensures.told tells_then) in
+    let tells_then = c.open_log.ensures.tells tells in
+    let asked = c.in_ok-file.ensures.reads (c.recover_logs.ensures.tells tells_then) in
     let recovered = subst (λ (s : List Step). RecoversAs (flows_of file.flows) file.digest (λ f. content_of f s) (Ok found)) c.read_input.ensures.unchanged (c.in_ok-state.ensures.recovers tells_then) in
     let synced = c.in_ok-state.ensures.synced ∙ ap both_synced c.read_input.ensures.unchanged in
     let none = c.in-Err-open_log.ensures.stops.0 in
@@ -96,7 +96,7 @@ returns-in-Err-open_log-clause-opens g c tells job asks =
     let opens : OpensOnly own old now = λ entries state keeps given.
     let same = same_entries own (λ f. content_of f old) recovered.entries entries (state_of found.state) state (record { kept = recovered.kept; made = recovered.placed }) keeps in
     opens_from file.digest old own refl now entries None (subst (λ l. IsLogOf l None (logs_in (alone_with file.digest) (λ f. content_of f old))) same (subst (λ l. IsLogOf recovered.entries l (logs_in (alone_with file.digest) (λ f. content_of f old))) none recovered.log))
-    (λ f. g.met.V.Site.inside c.args.site.now f (c.read_input.ensures.told (c.recover_logs.ensures.told tells_then))) tt (λ is. leaves) keeps.kept in
+    (λ f. g.met.V.Site.inside c.args.site.now f (c.read_input.ensures.tells (c.recover_logs.ensures.tells tells_then))) tt (λ is. leaves) keeps.kept in
     subst (λ (j : Job). OpensOnly j old now) (same_job (λ f. content_of f old) own job asked asks) opens
 
 pub returns-clause-prepared : goal.returns-clause-prepared
@@ -106,7 +106,7 @@ returns-clause-prepared g c tells =
     let file = c.in_ok-file.field-0.file in
     let found = c.in_ok-state.field-0 in
     let log = c.in-Ok.log in
-    let tells_then = c.open_log.ensures.told tells in
+    let tells_then = c.open_log.ensures.tells tells in
     let recovered = subst (λ (s : List Step). RecoversAs (flows_of file.flows) file.digest (λ f. content_of f s) (Ok found)) c.read_input.ensures.unchanged (c.in_ok-state.ensures.recovers tells_then) in
     let logs : List Step → Logs = λ s. logs_in (alone_with file.digest) (λ f. content_of f s) in
     let synced = c.in_ok-state.ensures.synced ∙ ap both_synced c.read_input.ensures.unchanged in
@@ -116,7 +116,7 @@ returns-clause-prepared g c tells =
     record {
       entries = recovered.entries;
       keeps = record { kept = recovered.kept; made = recovered.placed };
-      life_is = recovered.life;
+      incarnation_is = recovered.incarnation;
       opened = opened_from file.digest old now recovered.entries found.log log recovered.kept recovered.log rests
           (some_with found.log (λ l. (Ok log ≡ Ok l) × (now ≡ g.V.Site.history c.recover_logs.new.site)) (λ l. (log ≡ l) × (now ≡ both_synced old)) (λ l is. (ok_same log l is.0, is.1 ∙ synced)) c.in-Ok.ensures.there)
           (λ is. c.in-Ok.ensures.place is)
@@ -131,21 +131,21 @@ returns-clause-opens g c tells job asks =
     let file = c.in_ok-file.field-0.file in
     let found = c.in_ok-state.field-0 in
     let own : Job = record { flows = flows_of file.flows; digest = file.digest; requests = map request_of c.in_ok-file.field-0.requests.items } in
-    let tells_then = c.open_log.ensures.told tells in
-    let asked = c.in_ok-file.ensures.reads (c.recover_logs.ensures.told tells_then) in
+    let tells_then = c.open_log.ensures.tells tells in
+    let asked = c.in_ok-file.ensures.reads (c.recover_logs.ensures.tells tells_then) in
     let recovered = subst (λ (s : List Step). RecoversAs (flows_of file.flows) file.digest (λ f. content_of f s) (Ok found)) c.read_input.ensures.unchanged (c.in_ok-state.ensures.recovers tells_then) in
     let synced = c.in_ok-state.ensures.synced ∙ ap both_synced c.read_input.ensures.unchanged in
     let kept = subst (λ (s : List Step). IsKept (changes_of 16 s)) (sym synced) (first_kept old) in
     let opens : OpensOnly own old now = λ entries state keeps given.
     let same = same_entries own (λ f. content_of f old) recovered.entries entries (state_of found.state) state (record { kept = recovered.kept; made = recovered.placed }) keeps in
     opens_from file.digest old own refl now entries found.log (subst (λ l. IsLogOf l found.log (logs_in (alone_with file.digest) (λ f. content_of f old))) same recovered.log)
-    (λ f. g.met.V.Site.inside c.args.site.now f (c.read_input.ensures.told (c.recover_logs.ensures.told tells_then)))
+    (λ f. g.met.V.Site.inside c.args.site.now f (c.read_input.ensures.tells (c.recover_logs.ensures.tells tells_then)))
     (some_with found.log (λ l. (Ok c.in-Ok.log ≡ Ok l) × (now ≡ g.V.Site.history c.recover_logs.new.site)) (λ l. now ≡ both_synced old) (λ l is. is.1 ∙ synced) c.in-Ok.ensures.there)
     (λ is. subst (λ (s : List Step). LeavesOnly 16 s now (IsFormatting (content_of 16 s) (header_with file.digest))) synced (c.in-Ok.ensures.during is tells kept)) keeps.kept in
     subst (λ (j : Job). OpensOnly j old now) (same_job (λ f. content_of f old) own job asked asks) opens
 
-pub returns-in_err-file-clause-told : goal.returns-in_err-file-clause-told
-returns-in_err-file-clause-told g c = c.read_input.ensures.told
+pub returns-in_err-file-clause-tells : goal.returns-in_err-file-clause-tells
+returns-in_err-file-clause-tells g c = c.read_input.ensures.tells
 
 pub returns-in_err-file-clause-later : goal.returns-in_err-file-clause-later
 returns-in_err-file-clause-later g c = c.read_input.ensures.later
@@ -165,8 +165,8 @@ returns-in_err-file-clause-no_clash g c = let p = err_from_is_err_and c.from_res
 pub returns-in_err-file-clause-can : goal.returns-in_err-file-clause-can
 returns-in_err-file-clause-can g c = let p = err_from_is_err_and c.from_residual.result c.from_residual.ensures.1 in rw p.1 tt
 
-pub returns-in_err-state-clause-told : goal.returns-in_err-state-clause-told
-returns-in_err-state-clause-told g c = λ tells. c.read_input.ensures.told (c.recover_logs.ensures.told tells)
+pub returns-in_err-state-clause-tells : goal.returns-in_err-state-clause-tells
+returns-in_err-state-clause-tells g c = λ tells. c.read_input.ensures.tells (c.recover_logs.ensures.tells tells)
 
 pub returns-in_err-state-clause-later : goal.returns-in_err-state-clause-later
 returns-in_err-state-clause-later g c = le_trans c.read_input.ensures.later c.recover_logs.ensures.later
@@ -186,8 +186,8 @@ returns-in_err-state-clause-no_clash g c = let p = err_from_is_err_and c.from_re
 pub returns-in_err-state-clause-can : goal.returns-in_err-state-clause-can
 returns-in_err-state-clause-can g c = let p = err_from_is_err_and c.from_residual-in_err-state.result c.from_residual-in_err-state.ensures.1 in rw p.1 tt
 
-pub returns-in-Err-clause-told : goal.returns-in-Err-clause-told
-returns-in-Err-clause-told g c = λ tells. c.read_input.ensures.told (c.recover_logs.ensures.told tells)
+pub returns-in-Err-clause-tells : goal.returns-in-Err-clause-tells
+returns-in-Err-clause-tells g c = λ tells. c.read_input.ensures.tells (c.recover_logs.ensures.tells tells)
 
 pub returns-in-Err-clause-later : goal.returns-in-Err-clause-later
 returns-in-Err-clause-later g c = le_trans c.read_input.ensures.later c.recover_logs.ensures.later
@@ -207,8 +207,8 @@ returns-in-Err-clause-no_clash g c = tt
 pub returns-in-Err-clause-can : goal.returns-in-Err-clause-can
 returns-in-Err-clause-can g c = tt
 
-pub returns-in-Err-open_log-clause-told : goal.returns-in-Err-open_log-clause-told
-returns-in-Err-open_log-clause-told g c = λ tells. c.read_input.ensures.told (c.recover_logs.ensures.told (c.open_log.ensures.told tells))
+pub returns-in-Err-open_log-clause-tells : goal.returns-in-Err-open_log-clause-tells
+returns-in-Err-open_log-clause-tells g c = λ tells. c.read_input.ensures.tells (c.recover_logs.ensures.tells (c.open_log.ensures.tells tells))
 
 pub returns-in-Err-open_log-clause-later : goal.returns-in-Err-open_log-clause-later
 returns-in-Err-open_log-clause-later g c = le_trans (le_trans c.read_input.ensures.later c.recover_logs.ensures.later) c.open_log.ensures.later
@@ -228,8 +228,8 @@ returns-in-Err-open_log-clause-no_clash g c = tt
 pub returns-in-Err-open_log-clause-can : goal.returns-in-Err-open_log-clause-can
 returns-in-Err-open_log-clause-can g c = tt
 
-pub returns-clause-told : goal.returns-clause-told
-returns-clause-told g c = λ tells. c.read_input.ensures.told (c.recover_logs.ensures.told (c.open_log.ensures.told tells))
+pub returns-clause-tells : goal.returns-clause-tells
+returns-clause-tells g c = λ tells. c.read_input.ensures.tells (c.recover_logs.ensures.tells (c.open_log.ensures.tells tells))
 
 pub returns-clause-later : goal.returns-clause-later
 returns-clause-later g c = le_trans (le_trans c.read_input.ensures.later c.recover_logs.ensures.later) c.open_log.ensures.later
@@ -238,7 +238,7 @@ pub returns-clause-say_faults : goal.returns-clause-say_faults
 returns-clause-say_faults g c = c.open_log.ensures.say_faults ∙ c.recover_logs.ensures.say_faults ∙ c.read_input.ensures.say_faults
 
 pub returns-clause-asks : goal.returns-clause-asks
-returns-clause-asks g c = λ tells. c.in_ok-file.ensures.reads (c.recover_logs.ensures.told (c.open_log.ensures.told tells))
+returns-clause-asks g c = λ tells. c.in_ok-file.ensures.reads (c.recover_logs.ensures.tells (c.open_log.ensures.tells tells))
 
 pub returns-clause-can : goal.returns-clause-can
 returns-clause-can g c = record { sound = c.in_ok-state.ensures.begins.sound; alone = c.in_ok-state.ensures.begins.alone; younger = c.in_ok-state.ensures.begins.younger; young = c.in_ok-state.ensures.begins.young }
@@ -271,13 +271,13 @@ returns-in-Err-open_log-clause-refused g c = λ tells refused.
     let requests = c.in_ok-file.field-0.requests.items in
     let found = c.in_ok-state.field-0 in
     let job : Job = record { flows = flows_of file.flows; digest = file.digest; requests = map request_of requests } in
-    let tells_then = c.open_log.ensures.told tells in
-    let asks = c.in_ok-file.ensures.reads (c.recover_logs.ensures.told tells_then) in
+    let tells_then = c.open_log.ensures.tells tells in
+    let asks = c.in_ok-file.ensures.reads (c.recover_logs.ensures.tells tells_then) in
     let recovered = subst (λ (s : List Step). RecoversAs (flows_of file.flows) file.digest (λ f. content_of f s) (Ok found)) c.read_input.ensures.unchanged (c.in_ok-state.ensures.recovers tells_then) in
     absurd (not_refused (λ f. content_of f old)
     (ready (λ f. content_of f old) job recovered.entries (state_of found.state) asks (record { kept = recovered.kept; made = recovered.placed })
     (subst (λ (rs : List OwnRequest). NoClash (state_of found.state) (map request_of rs)) c.deref.ensures.value c.in_default.ensures.ok)
-    (subst (λ (n : ℕ). n < 2 ^ 62) recovered.life recovered.young)) refused)
+    (subst (λ (n : ℕ). n < 2 ^ 62) recovered.incarnation recovered.young)) refused)
 
 pub returns-clause-refused : goal.returns-clause-refused
 returns-clause-refused g c = λ tells refused.
@@ -286,13 +286,13 @@ returns-clause-refused g c = λ tells refused.
     let requests = c.in_ok-file.field-0.requests.items in
     let found = c.in_ok-state.field-0 in
     let job : Job = record { flows = flows_of file.flows; digest = file.digest; requests = map request_of requests } in
-    let tells_then = c.open_log.ensures.told tells in
-    let asks = c.in_ok-file.ensures.reads (c.recover_logs.ensures.told tells_then) in
+    let tells_then = c.open_log.ensures.tells tells in
+    let asks = c.in_ok-file.ensures.reads (c.recover_logs.ensures.tells tells_then) in
     let recovered = subst (λ (s : List Step). RecoversAs (flows_of file.flows) file.digest (λ f. content_of f s) (Ok found)) c.read_input.ensures.unchanged (c.in_ok-state.ensures.recovers tells_then) in
     absurd (not_refused (λ f. content_of f old)
     (ready (λ f. content_of f old) job recovered.entries (state_of found.state) asks (record { kept = recovered.kept; made = recovered.placed })
     (subst (λ (rs : List OwnRequest). NoClash (state_of found.state) (map request_of rs)) c.deref.ensures.value c.in_default.ensures.ok)
-    (subst (λ (n : ℕ). n < 2 ^ 62) recovered.life recovered.young)) refused)
+    (subst (λ (n : ℕ). n < 2 ^ 62) recovered.incarnation recovered.young)) refused)
 
 pub returns-in_err-file-clause-answers : goal.returns-in_err-file-clause-answers
 returns-in_err-file-clause-answers g c = λ tells.

@@ -1,7 +1,7 @@
 use Rattle.std.proofs.Common.{◌≢◌, ◌∙◌, ◌≤◌, ℕ, List, [], Err, refl, sym, ap, subst}
 use Rattle.engine_run.specs.Rounds.{RoundsEnd, IsLateCause, IsRestCause}
 use Rattle.engine_run.proofs.Early.{differ, one_some, same_err}
-use Rattle.engine_run.proofs.Ending.{at_rest, rest_ends, rest_late, stop_ends, stop_late, other_stop, site_stop, say_stop, clock_stop, memory_no_site, memory_no_say, memory_no_clock, moment_above}
+use Rattle.engine_run.proofs.Ending.{at_rest, rest_ends, rest_late, stop_ends, stop_late, other_stop, site_stop, say_stop, clock_stop, memory_no_site, memory_no_say, memory_no_clock, stamp_above}
 use Rattle.engine_run.proofs.running.drive_on.Goals as goal
 use Rattle.hub_store.specs.Changes.{trail_in, told_in}
 use Rattle.hub_store.specs.Trail.{Settled, Said, of_part}
@@ -29,8 +29,8 @@ drive-requires-clause-rests g c = c.requires.rests
 pub drive-requires-clause-flows : goal.drive-requires-clause-flows
 drive-requires-clause-flows g c = c.requires.flows ∙ sym c.of-machines.ensures
 
-pub drive-requires-clause-life : goal.drive-requires-clause-life
-drive-requires-clause-life g c = c.requires.life
+pub drive-requires-clause-incarnation : goal.drive-requires-clause-incarnation
+drive-requires-clause-incarnation g c = c.requires.incarnation
 
 pub drive-requires-clause-short : goal.drive-requires-clause-short
 drive-requires-clause-short g c = c.requires.short
@@ -63,7 +63,7 @@ pub returns-in-Ok : goal.returns-in-Ok
 returns-in-Ok g c = record {
   tells = c.drive.ensures.tells;
   sound = c.drive.ensures.sound;
-  moment = moment_above _ _ _ _ c.drive.ensures.latest c.drive.ensures.moments c.requires.moment;
+  stamp = stamp_above _ _ _ _ c.drive.ensures.latest c.drive.ensures.stamps c.requires.stamp;
   segment = c.drive.ensures.segment;
   whole = λ other. c.drive.ensures.sound.uncut c.in-Ok-Rest.ensures.still;
   ends = λ tells.
@@ -76,8 +76,8 @@ returns-in-Ok g c = record {
       let queues = c.drive.new.port in
       let clients = c.args.clients.now in
       let raised = c.drive.ensures.latest in
-      let later = c.drive.ensures.moments in
-      let above : new.latest ≤ latest = moment_above _ _ _ _ raised later c.requires.moment in
+      let later = c.drive.ensures.stamps in
+      let above : new.latest ≤ latest = stamp_above _ _ _ _ raised later c.requires.stamp in
       let may : (trail : List Settled) (told : List Said) (partition : ℕ) (going : List Entry) → g.N.Start.may_follow new.latest trail told partition going → g.N.Start.may_follow latest trail told partition going =
       λ trail told partition going follows. g.N.Start.later_follows new.latest latest trail told partition going above follows in
       let stands = with_later (g.N.Start.may_follow new.latest) (g.N.Start.may_follow latest) g.N.Start.may_say may o steps (trail_in new) (told_in new) [] (told.rests (c.drive.ensures.sound.uncut c.in-Ok-Rest.ensures.still)) in
@@ -101,7 +101,7 @@ pub returns-in-Err-rest_cause : goal.returns-in-Err-rest_cause
 returns-in-Err-rest_cause g c = record {
   tells = c.drive.ensures.tells;
   sound = c.drive.ensures.sound;
-  moment = moment_above _ _ _ _ c.drive.ensures.latest c.drive.ensures.moments c.requires.moment;
+  stamp = stamp_above _ _ _ _ c.drive.ensures.latest c.drive.ensures.stamps c.requires.stamp;
   segment = c.drive.ensures.segment;
   whole = λ other. c.drive.ensures.sound.uncut c.in-Ok-Rest.ensures.still;
   ends = λ tells. tt;
@@ -122,7 +122,7 @@ pub returns-in-Ok-Long : goal.returns-in-Ok-Long
 returns-in-Ok-Long g c = record {
   tells = c.drive.ensures.tells;
   sound = c.drive.ensures.sound;
-  moment = moment_above _ _ _ _ c.drive.ensures.latest c.drive.ensures.moments c.requires.moment;
+  stamp = stamp_above _ _ _ _ c.drive.ensures.latest c.drive.ensures.stamps c.requires.stamp;
   segment = c.drive.ensures.segment;
   whole = λ other. c.drive.ensures.sound.uncut c.in-Ok-Long.ensures.still;
   ends = λ tells.
@@ -130,8 +130,8 @@ returns-in-Ok-Long g c = record {
       let o = g.N.Start.origin in
       let latest = g.C.Clock.latest c.drive.new.clock in
       let raised = c.drive.ensures.latest in
-      let later = c.drive.ensures.moments in
-      let above : new.latest ≤ latest = moment_above _ _ _ _ raised later c.requires.moment in
+      let later = c.drive.ensures.stamps in
+      let above : new.latest ≤ latest = stamp_above _ _ _ _ raised later c.requires.stamp in
       let may : (trail : List Settled) (told : List Said) (partition : ℕ) (going : List Entry) → g.N.Start.may_follow new.latest trail told partition going → g.N.Start.may_follow latest trail told partition going =
       λ trail told partition going follows. g.N.Start.later_follows new.latest latest trail told partition going above follows in
       let told = c.drive.ensures.sound.told tells in
@@ -162,7 +162,7 @@ pub returns-in-Err : goal.returns-in-Err
 returns-in-Err g c = record {
   tells = c.drive.ensures.tells;
   sound = c.drive.ensures.sound;
-  moment = moment_above _ _ _ _ c.drive.ensures.latest c.drive.ensures.moments c.requires.moment;
+  stamp = stamp_above _ _ _ _ c.drive.ensures.latest c.drive.ensures.stamps c.requires.stamp;
   segment = c.drive.ensures.segment;
   whole = λ other. c.drive.ensures.whole (other_stop c.in-Err.stop (subst (λ (cause : Cause). cause ≢ SayFault) c.cause_of.ensures other) c.drive.result c.in-Err.is);
   ends = λ tells.
@@ -173,8 +173,8 @@ returns-in-Err g c = record {
       let fits = told.logs 0 (one_some g.N.Start.origin.count g.met.N.Ruled.one) in
       let latest = g.C.Clock.latest c.drive.new.clock in
       let raised = c.drive.ensures.latest in
-      let later = c.drive.ensures.moments in
-      let above : new.latest ≤ latest = moment_above _ _ _ _ raised later c.requires.moment in
+      let later = c.drive.ensures.stamps in
+      let above : new.latest ≤ latest = stamp_above _ _ _ _ raised later c.requires.stamp in
       let may : (trail : List Settled) (told : List Said) (partition : ℕ) (going : List Entry) → g.N.Start.may_follow new.latest trail told partition going → g.N.Start.may_follow latest trail told partition going =
       λ trail told partition going follows. g.N.Start.later_follows new.latest latest trail told partition going above follows in
       let segment = c.drive.ensures.segment ∙ c.requires.segment in

@@ -43,8 +43,8 @@ drive_on-cause-requires-clause-rests g c = c.in-Ok-begin.ensures.rest 0 (one_som
 pub drive_on-cause-requires-clause-new : goal.drive_on-cause-requires-clause-new
 drive_on-cause-requires-clause-new g c = c.in-Ok-begin.ensures.trail
 
-pub drive_on-cause-requires-clause-moment : goal.drive_on-cause-requires-clause-moment
-drive_on-cause-requires-clause-moment g c = omega (arith, c.in-Ok-begin.ensures.latest)
+pub drive_on-cause-requires-clause-stamp : goal.drive_on-cause-requires-clause-stamp
+drive_on-cause-requires-clause-stamp g c = omega (arith, c.in-Ok-begin.ensures.latest)
 
 pub drive_on-cause-requires-clause-segment : goal.drive_on-cause-requires-clause-segment
 drive_on-cause-requires-clause-segment g c = c.in-Ok-begin.ensures.segment
@@ -55,8 +55,8 @@ drive_on-cause-requires-clause-fits g c = c.requires.fits
 pub drive_on-cause-requires-clause-flows : goal.drive_on-cause-requires-clause-flows
 drive_on-cause-requires-clause-flows g c = ap (λ (r : Rules). r.flows) c.requires.rules
 
-pub drive_on-cause-requires-clause-life : goal.drive_on-cause-requires-clause-life
-drive_on-cause-requires-clause-life g c = sym (ap (λ (r : Rules). r.life) c.requires.rules)
+pub drive_on-cause-requires-clause-incarnation : goal.drive_on-cause-requires-clause-incarnation
+drive_on-cause-requires-clause-incarnation g c = sym (ap (λ (r : Rules). r.incarnation) c.requires.rules)
 
 pub drive_on-cause-requires-clause-short : goal.drive_on-cause-requires-clause-short
 drive_on-cause-requires-clause-short g c = c.requires.can.young
@@ -187,7 +187,7 @@ returns g c =
           let told = c.drive_on-cause.ensures.sound.told tells_then in
           let latest = g.C.Clock.latest c.drive_on-cause.new.clock in
           let later : (trail : List Settled) (told : List Said) (partition : ℕ) (going : List Entry) → g.N.Start.may_follow store.latest trail told partition going → g.N.Start.may_follow latest trail told partition going =
-          λ trail told partition going may. g.N.Start.later_follows store.latest latest trail told partition going c.drive_on-cause.ensures.moment may in
+          λ trail told partition going may. g.N.Start.later_follows store.latest latest trail told partition going c.drive_on-cause.ensures.stamp may in
           let before = g.C.Clock.given c.args.clock in
           let terms = terms_of c.args.options g.A.Activities.gives before (g.C.Clock.given c.drive_on-cause.new.clock) latest in
           let place = (state_of c.args.prepared.state).position in

@@ -24,7 +24,7 @@ returns-in-Err g c =
     let read = c.read_flow_file.ensures in
     let old = g.V.Site.history c.args.site.now in
     let early = c.in-Err.ensures.flows_cause in record {
-      told = read.told;
+      tells = read.tells;
       shows = λ tells. flows_shown (λ f. content_of f old) (tape old) (tape (g.V.Site.history c.read_flow_file.new.site)) c.in-Err.cause early (c.in-Err.ensures.reads tells) (ap tape read.unchanged);
       nothing = record { mid = old; syncs = inl refl; files = λ file. ap (changes_of file) read.unchanged };
       fault = λ is. c.in-Err.ensures.fault (ap (λ (cause : Cause). Err cause) is);
@@ -45,11 +45,11 @@ returns-in-Err-recover_logs g c =
     let cause = c.in-Err-recover_logs.cause in
     let early = c.in-Err-recover_logs.ensures.early in
     let syncs = subst (λ (s : List Step). OnlySyncs s now) read.unchanged recover.syncs in record {
-      told = λ tells. read.told (recover.told tells);
+      tells = λ tells. read.tells (recover.tells tells);
       shows = λ tells.
           let recovers = subst (λ (s : List Step). RecoversAs (flows_of file.flows) file.digest (λ f. content_of f s) (Err cause)) read.unchanged (c.in-Err-recover_logs.ensures.recovers tells) in
           subst (λ (e : Cause). ShowsAs (λ f. content_of f old) (tape old) (tape now) e) (sym recovers.1)
-          (logs_shown (λ f. content_of f old) (tape old) (tape now) (flows_of file.flows) file.digest (c.in-Ok.ensures.reads (recover.told tells)) recovers.0 recovers.2 (syncs_tape old now syncs));
+          (logs_shown (λ f. content_of f old) (tape old) (tape now) (flows_of file.flows) file.digest (c.in-Ok.ensures.reads (recover.tells tells)) recovers.0 recovers.2 (syncs_tape old now syncs));
       nothing = record { mid = now; syncs = syncs; files = λ f. refl };
       fault = λ is. risen_later _ _ _ read.later recover.later (c.in-Err-recover_logs.ensures.fault (ap (λ (cause : Cause). Err cause) is));
       say_fault = λ is. absurd (subst IsLogCause is early);
@@ -73,11 +73,11 @@ returns-in-Ok-said g c =
     let now = g.V.Site.history c.say_table-said.new.site in
     let syncs = subst (λ (s : List Step). OnlySyncs s mid) read.unchanged recover.syncs in
     let before = recover.say_faults ∙ read.say_faults in record {
-      told = λ tells. read.told (recover.told (said.tells tells));
+      tells = λ tells. read.tells (recover.tells (said.tells tells));
       shows = λ tells.
           let told = said.tells tells in
           let recovers = subst (λ (s : List Step). RecoversAs flows file.digest (λ f. content_of f s) (Ok found)) read.unchanged (c.in-Ok-recover_logs.ensures.recovers told) in
-          (flows, state, record { digest = file.digest; flows_in_file = c.in-Ok.ensures.reads (recover.told told); entries = recovers.entries; keeps = record { kept = recovers.kept; made = recovers.placed } }, subst (λ (t : List ℕ). SaysTable flows state t (tape now)) (syncs_tape old mid syncs) (subst (λ (f : Flows). SaysTable f state (tape mid) (tape now)) c.of-machines.ensures c.in-Ok-said.ensures.said));
+          (flows, state, record { digest = file.digest; flows_in_file = c.in-Ok.ensures.reads (recover.tells told); entries = recovers.entries; keeps = record { kept = recovers.kept; made = recovers.placed } }, subst (λ (t : List ℕ). SaysTable flows state t (tape now)) (syncs_tape old mid syncs) (subst (λ (f : Flows). SaysTable f state (tape mid) (tape now)) c.of-machines.ensures c.in-Ok-said.ensures.said));
       nothing = record { mid = mid; syncs = syncs; files = said.files };
       fault = λ is. absurd (differ Done SiteFault refl is);
       say_fault = λ is. absurd (differ Done SayFault refl is);
@@ -87,8 +87,8 @@ returns-in-Ok-said g c =
       say_later = le_trans (le_of_eq (sym before)) said.later;
     }
 
-pub returns-in-Err-SayFault-clause-told : goal.returns-in-Err-SayFault-clause-told
-returns-in-Err-SayFault-clause-told g c = let read = c.read_flow_file.ensures in let recover = c.recover_logs.ensures in let said = c.say_table-said.ensures in λ tells. read.told (recover.told (said.tells tells))
+pub returns-in-Err-SayFault-clause-tells : goal.returns-in-Err-SayFault-clause-tells
+returns-in-Err-SayFault-clause-tells g c = let read = c.read_flow_file.ensures in let recover = c.recover_logs.ensures in let said = c.say_table-said.ensures in λ tells. read.tells (recover.tells (said.tells tells))
 
 pub returns-in-Err-SayFault-clause-nothing : goal.returns-in-Err-SayFault-clause-nothing
 returns-in-Err-SayFault-clause-nothing g c = let read = c.read_flow_file.ensures in let recover = c.recover_logs.ensures in let said = c.say_table-said.ensures in let mid = g.V.Site.history c.recover_logs.new.site in let syncs = subst (λ (s : List Step). OnlySyncs s mid) read.unchanged recover.syncs in record { mid = mid; syncs = syncs; files = said.files }
@@ -108,8 +108,8 @@ returns-in-Err-SayFault-clause-later g c = le_trans (le_trans c.read_flow_file.e
 pub returns-in-Err-SayFault-clause-say_later : goal.returns-in-Err-SayFault-clause-say_later
 returns-in-Err-SayFault-clause-say_later g c = le_trans (le_of_eq (sym (c.recover_logs.ensures.say_faults ∙ c.read_flow_file.ensures.say_faults))) c.say_table-said.ensures.later
 
-pub returns-clause-told : goal.returns-clause-told
-returns-clause-told g c = let read = c.read_flow_file.ensures in let recover = c.recover_logs.ensures in let said = c.say_table-said.ensures in λ tells. read.told (recover.told (said.tells tells))
+pub returns-clause-tells : goal.returns-clause-tells
+returns-clause-tells g c = let read = c.read_flow_file.ensures in let recover = c.recover_logs.ensures in let said = c.say_table-said.ensures in λ tells. read.tells (recover.tells (said.tells tells))
 
 pub returns-clause-nothing : goal.returns-clause-nothing
 returns-clause-nothing g c = let read = c.read_flow_file.ensures in let recover = c.recover_logs.ensures in let said = c.say_table-said.ensures in let mid = g.V.Site.history c.recover_logs.new.site in let syncs = subst (λ (s : List Step). OnlySyncs s mid) read.unchanged recover.syncs in record { mid = mid; syncs = syncs; files = said.files }
@@ -146,7 +146,7 @@ returns-in-Err-SayFault-clause-shows g c tells =
     let told = said.ensures.tells tells in
     let recovers = subst (λ (s : List Step). RecoversAs flows file.digest (λ f. content_of f s) (Ok found)) read.unchanged (c.in-Ok-recover_logs.ensures.recovers told) in
     stops_shown (λ f. content_of f old) flows _ (state_of found.state) (tape old) (tape mid) (tape (g.V.Site.history said.new.site)) stops.SayFault
-    (record { digest = file.digest; flows_in_file = c.in-Ok.ensures.reads (recover.told told); entries = recovers.entries; keeps = record { kept = recovers.kept; made = recovers.placed } })
+    (record { digest = file.digest; flows_in_file = c.in-Ok.ensures.reads (recover.tells told); entries = recovers.entries; keeps = record { kept = recovers.kept; made = recovers.placed } })
     c.of-machines.ensures (syncs_tape old mid syncs) (stopped said.result _ c.in-Err-SayFault.field-0 stops.SayFault said.ensures.part c.in-Err-SayFault.is (rw c.in-Err-SayFault.is at c.in-Err-SayFault.field-0-is))
 
 pub returns-in-Err-SayFault-clause-say_fault : goal.returns-in-Err-SayFault-clause-say_fault
@@ -169,5 +169,5 @@ returns-clause-shows g c tells =
     let told = said.ensures.tells tells in
     let recovers = subst (λ (s : List Step). RecoversAs flows file.digest (λ f. content_of f s) (Ok found)) read.unchanged (c.in-Ok-recover_logs.ensures.recovers told) in
     inr (stops_shown (λ f. content_of f old) flows _ (state_of found.state) (tape old) (tape mid) (tape (g.V.Site.history said.new.site)) stops.Memory
-    (record { digest = file.digest; flows_in_file = c.in-Ok.ensures.reads (recover.told told); entries = recovers.entries; keeps = record { kept = recovers.kept; made = recovers.placed } })
+    (record { digest = file.digest; flows_in_file = c.in-Ok.ensures.reads (recover.tells told); entries = recovers.entries; keeps = record { kept = recovers.kept; made = recovers.placed } })
     c.of-machines.ensures (syncs_tape old mid syncs) (stopped said.result _ c.in-Err-Memory.field-0 stops.Memory said.ensures.part c.in-Err-Memory.is (rw c.in-Err-Memory.is at c.in-Err-Memory.field-0-is)))

@@ -74,8 +74,8 @@ returns-in-Err-SiteFault-clause-short g c h payloads rests =
       | inr past ↦ absurd (let full = c.in-Err-SiteFault.ensures.full past in let fault = c.in-Err-SiteFault.field-0-is in cc (full, fault))
     ]
 
-pub returns-in-Ok-clause-told : goal.returns-in-Ok-clause-told
-returns-in-Ok-clause-told g c = c.body.ensures.told
+pub returns-in-Ok-clause-tells : goal.returns-in-Ok-clause-tells
+returns-in-Ok-clause-tells g c = c.body.ensures.tells
 
 pub returns-in-Ok-clause-during : goal.returns-in-Ok-clause-during
 returns-in-Ok-clause-during g c = c.body.ensures.during
@@ -95,8 +95,8 @@ returns-in-Ok-clause-later g c = c.body.ensures.later
 pub returns-in-Ok-clause-say_faults : goal.returns-in-Ok-clause-say_faults
 returns-in-Ok-clause-say_faults g c = c.body.ensures.say_faults
 
-pub returns-in-Err-SiteFault-clause-told : goal.returns-in-Err-SiteFault-clause-told
-returns-in-Err-SiteFault-clause-told g c = c.body.ensures.told
+pub returns-in-Err-SiteFault-clause-tells : goal.returns-in-Err-SiteFault-clause-tells
+returns-in-Err-SiteFault-clause-tells g c = c.body.ensures.tells
 
 pub returns-in-Err-SiteFault-clause-during : goal.returns-in-Err-SiteFault-clause-during
 returns-in-Err-SiteFault-clause-during g c = c.body.ensures.during
@@ -116,8 +116,8 @@ returns-in-Err-SiteFault-clause-later g c = c.body.ensures.later
 pub returns-in-Err-SiteFault-clause-say_faults : goal.returns-in-Err-SiteFault-clause-say_faults
 returns-in-Err-SiteFault-clause-say_faults g c = c.body.ensures.say_faults
 
-pub returns-in-Err-Full-clause-told : goal.returns-in-Err-Full-clause-told
-returns-in-Err-Full-clause-told g c = c.body.ensures.told
+pub returns-in-Err-Full-clause-tells : goal.returns-in-Err-Full-clause-tells
+returns-in-Err-Full-clause-tells g c = c.body.ensures.tells
 
 pub returns-in-Err-Full-clause-during : goal.returns-in-Err-Full-clause-during
 returns-in-Err-Full-clause-during g c = c.body.ensures.during
@@ -140,8 +140,8 @@ returns-in-Err-Full-clause-say_faults g c = c.body.ensures.say_faults
 pub returns-in-Err-Full-clause-there : goal.returns-in-Err-Full-clause-there
 returns-in-Err-Full-clause-there g c = rests_there _
 
-pub returns-in-Err-Memory-clause-told : goal.returns-in-Err-Memory-clause-told
-returns-in-Err-Memory-clause-told g c = c.body.ensures.told
+pub returns-in-Err-Memory-clause-tells : goal.returns-in-Err-Memory-clause-tells
+returns-in-Err-Memory-clause-tells g c = c.body.ensures.tells
 
 pub returns-in-Err-Memory-clause-during : goal.returns-in-Err-Memory-clause-during
 returns-in-Err-Memory-clause-during g c = c.body.ensures.during

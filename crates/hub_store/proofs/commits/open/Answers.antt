@@ -9,7 +9,7 @@ pub returns-in-Err-clause-others : goal.returns-in-Err-clause-others
 returns-in-Err-clause-others g c = c.gate.ensures.only.others
 
 pub returns-in-Err-clause-tells : goal.returns-in-Err-clause-tells
-returns-in-Err-clause-tells g c = c.gate.ensures.told
+returns-in-Err-clause-tells g c = c.gate.ensures.tells
 
 pub returns-in-Err-clause-sound : goal.returns-in-Err-clause-sound
 returns-in-Err-clause-sound g c = c.gate.ensures.sound
@@ -48,7 +48,7 @@ pub returns-in-Err-clause-say_faults : goal.returns-in-Err-clause-say_faults
 returns-in-Err-clause-say_faults g c = c.gate.ensures.say_faults
 
 pub returns-in-Err-settle-clause-tells : goal.returns-in-Err-settle-clause-tells
-returns-in-Err-settle-clause-tells g c = λ t. c.gate.ensures.told (c.settle.ensures.told t)
+returns-in-Err-settle-clause-tells g c = λ t. c.gate.ensures.tells (c.settle.ensures.tells t)
 
 pub returns-in-Err-settle-clause-sound : goal.returns-in-Err-settle-clause-sound
 returns-in-Err-settle-clause-sound g c = c.settle.ensures.sound
@@ -75,7 +75,7 @@ pub returns-in-Err-settle-clause-say_faults : goal.returns-in-Err-settle-clause-
 returns-in-Err-settle-clause-say_faults g c = c.settle.ensures.say_faults ∙ c.gate.ensures.say_faults
 
 pub returns-in-Ok-settle-clause-tells : goal.returns-in-Ok-settle-clause-tells
-returns-in-Ok-settle-clause-tells g c = λ t. c.gate.ensures.told (c.settle.ensures.told t)
+returns-in-Ok-settle-clause-tells g c = λ t. c.gate.ensures.tells (c.settle.ensures.tells t)
 
 pub returns-in-Ok-settle-clause-sound : goal.returns-in-Ok-settle-clause-sound
 returns-in-Ok-settle-clause-sound g c = c.settle.ensures.sound

@@ -5,7 +5,7 @@ use Rattle.hub_store.proofs.commits.write.Goals as goal
 
 pub returns-in_err-body : goal.returns-in_err-body
 returns-in_err-body g c = record {
-  tells = c.body.ensures.told;
+  tells = c.body.ensures.tells;
   sound = c.body.ensures.sound;
   stage = residual_on_ok _ c.from_residual.result _ c.from_residual.ensures.1;
   frame = residual_on_ok _ c.from_residual.result _ c.from_residual.ensures.1;
@@ -23,7 +23,7 @@ returns-in_err-body g c = record {
 
 pub returns-in-Err : goal.returns-in-Err
 returns-in-Err g c = record {
-  tells = λ t. c.body.ensures.told (c.sync_body.ensures.told t);
+  tells = λ t. c.body.ensures.tells (c.sync_body.ensures.tells t);
   sound = c.sync_body.ensures.sound;
   stage = tt;
   frame = tt;
@@ -45,7 +45,7 @@ returns-in-Err g c = record {
 
 pub returns-in-Ok : goal.returns-in-Ok
 returns-in-Ok g c = record {
-  tells = λ t. c.body.ensures.told (c.sync_body.ensures.told t);
+  tells = λ t. c.body.ensures.tells (c.sync_body.ensures.tells t);
   sound = c.sync_body.ensures.sound;
   stage = c.in-Ok.ensures.ok;
   frame = c.sync_body.ensures.frame ∙ c.in_ok-body.ensures.ok.1;

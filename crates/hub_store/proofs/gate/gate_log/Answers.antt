@@ -42,8 +42,8 @@ returns-in-Err-clause-fits g c h payloads synced =
           (c.in-Err.ensures.after h payloads payload synced),
     )
 
-pub returns-in-Ok-clause-told : goal.returns-in-Ok-clause-told
-returns-in-Ok-clause-told g c = c.gate.ensures.told
+pub returns-in-Ok-clause-tells : goal.returns-in-Ok-clause-tells
+returns-in-Ok-clause-tells g c = c.gate.ensures.tells
 
 pub returns-in-Ok-clause-during : goal.returns-in-Ok-clause-during
 returns-in-Ok-clause-during g c = c.gate.ensures.during
@@ -69,8 +69,8 @@ returns-in-Ok-clause-cause g c = record { later = c.gate.ensures.cause.later; sa
 pub returns-in-Ok-clause-say_faults : goal.returns-in-Ok-clause-say_faults
 returns-in-Ok-clause-say_faults g c = c.gate.ensures.say_faults
 
-pub returns-in-Err-clause-told : goal.returns-in-Err-clause-told
-returns-in-Err-clause-told g c = c.gate.ensures.told
+pub returns-in-Err-clause-tells : goal.returns-in-Err-clause-tells
+returns-in-Err-clause-tells g c = c.gate.ensures.tells
 
 pub returns-in-Err-clause-during : goal.returns-in-Err-clause-during
 returns-in-Err-clause-during g c = c.gate.ensures.during

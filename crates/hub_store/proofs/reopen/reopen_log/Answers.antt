@@ -43,8 +43,8 @@ returns-in-Gated-clause-reopens g c tells =
     subst (Again old new frame c.reopen-in-Gated.result) (sym c.in-Gated.is)
     (gated_reopens frame old new c.reopen-in-Gated.result c.in-Gated.log (record { syncs = e.syncs; during = e.during tells; place = e.place; broken = e.broken; opened = e.opened tells }) (e.after tells))
 
-pub returns-in-Bodied-clause-told : goal.returns-in-Bodied-clause-told
-returns-in-Bodied-clause-told g c = c.reopen.ensures.told
+pub returns-in-Bodied-clause-tells : goal.returns-in-Bodied-clause-tells
+returns-in-Bodied-clause-tells g c = c.reopen.ensures.tells
 
 pub returns-in-Bodied-clause-going : goal.returns-in-Bodied-clause-going
 returns-in-Bodied-clause-going g c = ap going_in c.in-Bodied.is
@@ -58,8 +58,8 @@ returns-in-Bodied-clause-cause g c = c.reopen.ensures.cause
 pub returns-in-Bodied-clause-say_faults : goal.returns-in-Bodied-clause-say_faults
 returns-in-Bodied-clause-say_faults g c = c.reopen.ensures.say_faults
 
-pub returns-in-Synced-clause-told : goal.returns-in-Synced-clause-told
-returns-in-Synced-clause-told g c = c.reopen-in-Synced.ensures.told
+pub returns-in-Synced-clause-tells : goal.returns-in-Synced-clause-tells
+returns-in-Synced-clause-tells g c = c.reopen-in-Synced.ensures.tells
 
 pub returns-in-Synced-clause-going : goal.returns-in-Synced-clause-going
 returns-in-Synced-clause-going g c = ap going_in c.in-Synced.is
@@ -73,8 +73,8 @@ returns-in-Synced-clause-cause g c = c.reopen-in-Synced.ensures.cause
 pub returns-in-Synced-clause-say_faults : goal.returns-in-Synced-clause-say_faults
 returns-in-Synced-clause-say_faults g c = c.reopen-in-Synced.ensures.say_faults
 
-pub returns-in-Gated-clause-told : goal.returns-in-Gated-clause-told
-returns-in-Gated-clause-told g c = c.reopen-in-Gated.ensures.told
+pub returns-in-Gated-clause-tells : goal.returns-in-Gated-clause-tells
+returns-in-Gated-clause-tells g c = c.reopen-in-Gated.ensures.tells
 
 pub returns-in-Gated-clause-going : goal.returns-in-Gated-clause-going
 returns-in-Gated-clause-going g c = ap going_in c.in-Gated.is
@@ -88,8 +88,8 @@ returns-in-Gated-clause-cause g c = c.reopen-in-Gated.ensures.cause
 pub returns-in-Gated-clause-say_faults : goal.returns-in-Gated-clause-say_faults
 returns-in-Gated-clause-say_faults g c = c.reopen-in-Gated.ensures.say_faults
 
-pub returns-in-Broken-clause-told : goal.returns-in-Broken-clause-told
-returns-in-Broken-clause-told g c = c.reopen-in-Broken.ensures.told
+pub returns-in-Broken-clause-tells : goal.returns-in-Broken-clause-tells
+returns-in-Broken-clause-tells g c = c.reopen-in-Broken.ensures.tells
 
 pub returns-in-Broken-clause-going : goal.returns-in-Broken-clause-going
 returns-in-Broken-clause-going g c = ap going_in c.in-Broken.is

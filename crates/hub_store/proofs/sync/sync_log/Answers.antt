@@ -15,8 +15,8 @@ returns-in-Err-clause-fits g c h payloads bodied =
           (c.in-Err.ensures.after h payloads payload bodied),
     )
 
-pub returns-in-Ok-clause-told : goal.returns-in-Ok-clause-told
-returns-in-Ok-clause-told g c = c.sync_body.ensures.told
+pub returns-in-Ok-clause-tells : goal.returns-in-Ok-clause-tells
+returns-in-Ok-clause-tells g c = c.sync_body.ensures.tells
 
 pub returns-in-Ok-clause-during : goal.returns-in-Ok-clause-during
 returns-in-Ok-clause-during g c = c.sync_body.ensures.during
@@ -42,8 +42,8 @@ returns-in-Ok-clause-cause g c = record { later = c.sync_body.ensures.cause.late
 pub returns-in-Ok-clause-say_faults : goal.returns-in-Ok-clause-say_faults
 returns-in-Ok-clause-say_faults g c = c.sync_body.ensures.say_faults
 
-pub returns-in-Err-clause-told : goal.returns-in-Err-clause-told
-returns-in-Err-clause-told g c = c.sync_body.ensures.told
+pub returns-in-Err-clause-tells : goal.returns-in-Err-clause-tells
+returns-in-Err-clause-tells g c = c.sync_body.ensures.tells
 
 pub returns-in-Err-clause-during : goal.returns-in-Err-clause-during
 returns-in-Err-clause-during g c = c.sync_body.ensures.during

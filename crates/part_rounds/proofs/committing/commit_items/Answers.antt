@@ -22,31 +22,31 @@ commit-requires-clause-part g c = omega (arith, g.met.N.Ruled.one)
 
 pub commit-requires-clause-behind : goal.commit-requires-clause-behind
 commit-requires-clause-behind g c =
-    subst (λ (items : List Item). GoesBehind (goes_on (g.N.Start.origin.logs 0) (of_part 0 (trail_in c.args.store.now))) (record { position = c.args.position; incarnation = c.args.life; items = items_of items } ∷ [])) (sym c.of.ensures)
-    (entry_goes g.N.Ruled.rules (g.N.Start.origin.logs 0) c.args.store.now.latest (of_part 0 (trail_in c.args.store.now)) (pairs_of (told_in c.args.store.now)) c.args.position c.args.life (items_of c.args.items.items) c.requires.filled)
+    subst (λ (items : List Item). GoesBehind (goes_on (g.N.Start.origin.logs 0) (of_part 0 (trail_in c.args.store.now))) (record { position = c.args.position; incarnation = c.args.incarnation; items = items_of items } ∷ [])) (sym c.of.ensures)
+    (entry_goes g.N.Ruled.rules (g.N.Start.origin.logs 0) c.args.store.now.latest (of_part 0 (trail_in c.args.store.now)) (pairs_of (told_in c.args.store.now)) c.args.position c.args.incarnation (items_of c.args.items.items) c.requires.filled)
 
 pub commit-requires-clause-follows : goal.commit-requires-clause-follows
 commit-requires-clause-follows g c =
-    subst (λ (items : List Item). g.N.Start.may_follow c.args.store.now.latest (trail_in c.args.store.now) (told_in c.args.store.now) 0 (record { position = c.args.position; incarnation = c.args.life; items = items_of items } ∷ [])) (sym c.of.ensures)
+    subst (λ (items : List Item). g.N.Start.may_follow c.args.store.now.latest (trail_in c.args.store.now) (told_in c.args.store.now) 0 (record { position = c.args.position; incarnation = c.args.incarnation; items = items_of items } ∷ [])) (sym c.of.ensures)
     (g.met.N.Ruled.follows c.args.store.now.latest (trail_in c.args.store.now) (told_in c.args.store.now) _
-    (entry_follows g.N.Ruled.rules (g.N.Start.origin.logs 0) c.args.store.now.latest (of_part 0 (trail_in c.args.store.now)) (pairs_of (told_in c.args.store.now)) c.args.position c.args.life (items_of c.args.items.items) c.requires.filled))
+    (entry_follows g.N.Ruled.rules (g.N.Start.origin.logs 0) c.args.store.now.latest (of_part 0 (trail_in c.args.store.now)) (pairs_of (told_in c.args.store.now)) c.args.position c.args.incarnation (items_of c.args.items.items) c.requires.filled))
 
 pub returns-clause-labels : goal.returns-clause-labels
 returns-clause-labels g c =
     let before = of_part 0 (trail_in c.args.store.now) in
-    let all = labels_after g.N.Ruled.rules (g.N.Start.origin.logs 0) c.args.store.now.latest before (pairs_of (told_in c.args.store.now)) c.args.position c.args.life (items_of c.args.items.items) c.requires.filled in
+    let all = labels_after g.N.Ruled.rules (g.N.Start.origin.logs 0) c.args.store.now.latest before (pairs_of (told_in c.args.store.now)) c.args.position c.args.incarnation (items_of c.args.items.items) c.requires.filled in
     let count = ap (λ (n : ℕ). count_labels before + n) (length-map c.args.items.items item_of) in
     ap count_labels c.in_ok-commit.ensures.trail
-    ∙ subst (λ (items : List Item). count_labels (before ++ record { position = c.args.position; incarnation = c.args.life; items = items_of items } ∷ []) ≡ count_labels before + length c.args.items.items) (sym c.of.ensures) (all ∙ count)
+    ∙ subst (λ (items : List Item). count_labels (before ++ record { position = c.args.position; incarnation = c.args.incarnation; items = items_of items } ∷ []) ≡ count_labels before + length c.args.items.items) (sym c.of.ensures) (all ∙ count)
 
 pub returns-in_err-commit-clause-full : goal.returns-in_err-commit-clause-full
 returns-in_err-commit-clause-full g c of n is =
     let rules = g.N.Ruled.rules in
     let old = c.args.store.now in
-    let entry : Entry = record { position = c.args.position; incarnation = c.args.life; items = items_of c.of.result } in
+    let entry : Entry = record { position = c.args.position; incarnation = c.args.incarnation; items = items_of c.of.result } in
     let room = c.in_err-commit.ensures.room of n (body_room _ _ _ of n refl (residual_is _ _ c.from_residual.ensures.1) is) in
-    let asked = entry_follows rules (g.N.Start.origin.logs 0) old.latest (of_part 0 (trail_in old)) (pairs_of (told_in old)) c.args.position c.args.life (items_of c.args.items.items) c.requires.filled in
-    let there = subst (λ (items : List Item). Follows rules old.latest (of_part 0 (trail_in old)) (pairs_of (told_in old)) (record { position = c.args.position; incarnation = c.args.life; items = items_of items } ∷ [])) (sym c.of.ensures) asked in
+    let asked = entry_follows rules (g.N.Start.origin.logs 0) old.latest (of_part 0 (trail_in old)) (pairs_of (told_in old)) c.args.position c.args.incarnation (items_of c.args.items.items) c.requires.filled in
+    let there = subst (λ (items : List Item). Follows rules old.latest (of_part 0 (trail_in old)) (pairs_of (told_in old)) (record { position = c.args.position; incarnation = c.args.incarnation; items = items_of items } ∷ [])) (sym c.of.ensures) asked in
     let then = subst (λ (t : List Settled). Follows rules old.latest (of_part 0 t) (pairs_of (told_in old)) (entry ∷ [])) (sym c.in_err-commit.ensures.no_trail) there in
     let told = subst (λ (t : List Said). Follows rules old.latest (of_part 0 (trail_in c.commit.new.store)) (pairs_of t) (entry ∷ [])) (sym c.commit.ensures.said) then in
     record {
@@ -60,7 +60,7 @@ returns-in_err-commit-clause-full g c of n is =
       further =
           subst (λ (t : List Settled). GoesFurther rules (of_part 0 t) (pairs_of (told_in c.commit.new.store))) (sym c.in_err-commit.ensures.no_trail)
           (subst (λ (t : List Said). GoesFurther rules (of_part 0 (trail_in old)) (pairs_of t)) (sym c.commit.ensures.said)
-          (filled_further rules (g.N.Start.origin.logs 0) old.latest (of_part 0 (trail_in old)) (pairs_of (told_in old)) c.args.position c.args.life (items_of c.args.items.items) c.requires.filled));
+          (filled_further rules (g.N.Start.origin.logs 0) old.latest (of_part 0 (trail_in old)) (pairs_of (told_in old)) c.args.position c.args.incarnation (items_of c.args.items.items) c.requires.filled));
     }
 
 pub returns-in_err-commit-clause-fault : goal.returns-in_err-commit-clause-fault

@@ -3,10 +3,10 @@ use Rattle.std.proofs.Math.Facts.{Fits-le}
 use Rattle.std.proofs.lemmas.List.{length-append}
 use Rattle.part_items.specs.declared.items.Item.{Item}
 use Rattle.part_steps.specs.Outputs.{outputs_of}
-use Rattle.part_steps.specs.Enabled.{NoneEnabled, moment_at}
+use Rattle.part_steps.specs.Enabled.{NoneEnabled, stamp_at}
 use Rattle.part_steps.specs.States.{state_of, count_of}
 use Rattle.part_rounds.proofs.InTime.{filled_at}
-use Rattle.part_rounds.proofs.Moments.{makes_by}
+use Rattle.part_rounds.proofs.Stamps.{makes_by}
 use Rattle.part_rounds.proofs.Puttings.{filled_goes_on, filled_still}
 use Rattle.part_rounds.proofs.filling.fill.Goals as goal
 
@@ -31,7 +31,7 @@ returns-in-Ok-clause-less g c = λ few.
     let p = state_of c.in_ok-batch.batch.state in
     let items = ap (λ (l : List Item). length l) c.in-Ok.ensures.items in
     let both = length-append c.args.filling.items.items c.in_ok-batch.batch.items.items in
-    subst (λ (n : ℕ). NoneEnabled (g.R.Reactions.flows c.args.reactions.now) n p (moment_at p c.args.now)) c.requires.way.one (c.in_ok-batch.ensures.none (omega (arith, few, items, both, c.saturating_sub-room.ensures, c.len.ensures)))
+    subst (λ (n : ℕ). NoneEnabled (g.R.Reactions.flows c.args.reactions.now) n p (stamp_at p c.args.now)) c.requires.way.one (c.in_ok-batch.ensures.none (omega (arith, few, items, both, c.saturating_sub-room.ensures, c.len.ensures)))
 
 pub returns-in-Ok-clause-still : goal.returns-in-Ok-clause-still
 returns-in-Ok-clause-still g c = λ same.
@@ -39,5 +39,5 @@ returns-in-Ok-clause-still g c = λ same.
     filled_still (g.R.Reactions.flows c.args.reactions.now) (count_of c.args.filling.state) c.args.now (state_of c.args.filling.state) (state_of c.in_ok-batch.batch.state) c.args.filling.items.items c.in_ok-batch.batch.items.items c.append.new.self.items
     (map outputs_of c.in_ok-batch.batch.outputs.items) c.in_ok-batch.ensures.made items same
 
-pub returns-in-Ok-clause-moment : goal.returns-in-Ok-clause-moment
-returns-in-Ok-clause-moment g c = makes_by c.in_ok-batch.ensures.made
+pub returns-in-Ok-clause-stamp : goal.returns-in-Ok-clause-stamp
+returns-in-Ok-clause-stamp g c = makes_by c.in_ok-batch.ensures.made

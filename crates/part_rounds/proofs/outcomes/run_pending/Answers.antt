@@ -5,7 +5,7 @@ use Rattle.part_rounds.specs.Fills.{IsOfPending}
 use Rattle.part_rounds.specs.InTime.{Giving, IsRun}
 use Rattle.part_rounds.proofs.Endings.{put_idle, ended_goes_on}
 use Rattle.part_rounds.proofs.InTime.{puts_at, outcome_at, first_run}
-use Rattle.part_rounds.proofs.Moments.{puts_still, outcome_still}
+use Rattle.part_rounds.proofs.Stamps.{puts_still, outcome_still}
 use Rattle.part_rounds.proofs.Puttings.{puts_one, puts_none, puts_only, goes_on_still}
 use Rattle.part_rounds.proofs.outcomes.run_pending.Goals as goal
 
@@ -19,8 +19,8 @@ returns-in_ok-next-in-Some-clause-goes_on g c = λ rules told same.
     let pending = subst (λ o. IfSome o (λ one. IsOfPending (state_of c.args.filling.state) (item_of one))) c.in-Some.is c.in-Ok.ensures.some in
     ended_goes_on rules told (g.R.Reactions.flows c.args.reactions.now) c.args.filling c.in_ok-next-in-Some.next c.in-Some.item same c.requires.empty c.in_ok-next-in-Some.ensures.puts pending
 
-pub returns-in_ok-next-in-Some-clause-moment : goal.returns-in_ok-next-in-Some-clause-moment
-returns-in_ok-next-in-Some-clause-moment g c =
+pub returns-in_ok-next-in-Some-clause-stamp : goal.returns-in_ok-next-in-Some-clause-stamp
+returns-in_ok-next-in-Some-clause-stamp g c =
     let pending = subst (λ o. IfSome o (λ one. IsOfPending (state_of c.args.filling.state) (item_of one))) c.in-Some.is c.in-Ok.ensures.some in
     puts_still (g.R.Reactions.flows c.args.reactions.now) c.args.filling c.in_ok-next-in-Some.next c.in-Some.item c.in_ok-next-in-Some.ensures.puts
     (outcome_still (state_of c.args.filling.state) (item_of c.in-Some.item) pending)
@@ -48,4 +48,4 @@ returns-in_ok-next-in-Some-clause-at g c = λ now.
     let gives : Giving = λ name argument. g.A.Activities.gives name argument c.args.word in
     let run = subst (λ o. IfSome o (λ one. IsRun gives (state_of c.args.filling.state) (item_of one))) c.in-Some.is c.in-Ok.ensures.runs in
     puts_at (g.R.Reactions.flows c.args.reactions.now) now gives c.args.filling c.in_ok-next-in-Some.next c.in-Some.item c.in_ok-next-in-Some.ensures.puts
-    (λ moment. outcome_at (state_of c.args.filling.state) (item_of c.in-Some.item) moment pending) (λ from made. first_run (g.R.Reactions.flows c.args.reactions.now) gives from c.args.filling (item_of c.in-Some.item) c.requires.empty made run)
+    (λ stamp. outcome_at (state_of c.args.filling.state) (item_of c.in-Some.item) stamp pending) (λ from made. first_run (g.R.Reactions.flows c.args.reactions.now) gives from c.args.filling (item_of c.in-Some.item) c.requires.empty made run)

@@ -17,7 +17,7 @@ invariant-rounds g l = record {
   sound : IsSound l.store;
   segment : l.store.segment ≡ l.fn.store.segment;
   latest : l.store.latest ≤ max l.fn.store.latest (g.C.Clock.latest l.clock);
-  moments : g.C.Clock.latest l.fn.clock ≤ g.C.Clock.latest l.clock;
+  stamps : g.C.Clock.latest l.fn.clock ≤ g.C.Clock.latest l.clock;
   stage : stage_at l.store 0 ≡ Resting;
   still : l.store.halted ≡ false;
   said : HasSaid g.N.Ruled.rules (told_in l.store) l.port;

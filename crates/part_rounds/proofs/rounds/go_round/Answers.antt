@@ -35,16 +35,16 @@ settle_filling-requires-clause-filled g c =
     let place = ap (λ (p : Partition). p.position) entered.entered in
     let many = length-map filling.items.items item_of in
     let room : c.position-position.result - 1 < 4611686018427387904 = search in
-    let by_now = subst (IsByNow (state_of c.args.state) (g.C.Clock.latest c.take_next.new.clock)) c.in-Filled.is c.in_ok-filling.ensures.moment in
+    let by_now = subst (IsByNow (state_of c.args.state) (g.C.Clock.latest c.take_next.new.clock)) c.in-Filled.is c.in_ok-filling.ensures.stamp in
     let log = g.N.Start.origin.logs 0 in
     let items = items_of filling.items.items in
-    subst (λ (t : List Settled). IsFilledTo rules log c.raise.new.self.latest (of_part 0 t) (pairs_of (told_in c.raise.new.self)) (c.position-position.result - 1) c.args.life items (state_of filling.state)) (sym c.raise.ensures.trail)
-    (subst (λ (t : List Said). IsFilledTo rules log c.raise.new.self.latest (of_part 0 (trail_in c.args.store.now)) (pairs_of t) (c.position-position.result - 1) c.args.life items (state_of filling.state)) (sym c.raise.ensures.told) (record {
+    subst (λ (t : List Settled). IsFilledTo rules log c.raise.new.self.latest (of_part 0 t) (pairs_of (told_in c.raise.new.self)) (c.position-position.result - 1) c.args.incarnation items (state_of filling.state)) (sym c.raise.ensures.trail)
+    (subst (λ (t : List Said). IsFilledTo rules log c.raise.new.self.latest (of_part 0 (trail_in c.args.store.now)) (pairs_of t) (c.position-position.result - 1) c.args.incarnation items (state_of filling.state)) (sym c.raise.ensures.told) (record {
       filled = record {
         before = entered.before;
         stands = entered.stands;
         position_is = omega (arith, c.position-position.ensures, place);
-        life_is = c.requires.life;
+        incarnation_is = c.requires.incarnation;
         after = state_of filling.state;
         fills = subst (λ (p : Partition). Fills rules (pairs_of told) p (items_of filling.items.items) (state_of filling.state)) entered.entered fills;
         timely =
@@ -57,7 +57,7 @@ settle_filling-requires-clause-filled g c =
         some = omega (arith, comes.1, many);
         few = omega (arith, comes.2, c.requires.few, many);
         position_fits = omega (arith, room);
-        life_fits = omega (arith, c.requires.short);
+        incarnation_fits = omega (arith, c.requires.short);
       };
       after_is = refl;
     }))
@@ -70,7 +70,7 @@ returns-then-position-ge-POSITION_LIMIT g c =
       segment = refl;
       latest = below_first _ _;
       whole = λ apart. c.requires.sound.uncut c.requires.going;
-      moments = c.take_next.ensures.latest;
+      stamps = c.take_next.ensures.latest;
       stage = tt;
       still = tt;
       said = tt;
@@ -107,7 +107,7 @@ returns-in_err-filling g c =
       segment = refl;
       latest = below_first _ _;
       whole = λ apart. c.requires.sound.uncut c.requires.going;
-      moments = c.take_next.ensures.latest;
+      stamps = c.take_next.ensures.latest;
       stage = residual_on_ok _ c.from_residual.result _ c.from_residual.ensures.1;
       still = residual_on_ok _ c.from_residual.result _ c.from_residual.ensures.1;
       said = residual_on_ok _ c.from_residual.result _ c.from_residual.ensures.1;
@@ -128,7 +128,7 @@ pub returns-in_err-state-in-Filled : goal.returns-in_err-state-in-Filled
 returns-in_err-state-in-Filled g c =
     let site = c.raise.ensures.site in
     let raised = c.raise.ensures.latest in
-    let by_now = subst (IsByNow (state_of c.args.state) (g.C.Clock.latest c.take_next.new.clock)) c.in-Filled.is c.in_ok-filling.ensures.moment in
+    let by_now = subst (IsByNow (state_of c.args.state) (g.C.Clock.latest c.take_next.new.clock)) c.in-Filled.is c.in_ok-filling.ensures.stamp in
     let low = by_now.1 in
     let same = c.settle_filling.ensures.latest in
     let disk = c.settle_filling.ensures.later in
@@ -142,22 +142,22 @@ returns-in_err-state-in-Filled g c =
       segment = c.settle_filling.ensures.segment ∙ c.raise.ensures.segment;
       latest = raised_below _ _ _ _ _ same raised low;
       whole = λ apart. c.in_err-state-in-Filled.ensures.whole (λ is. apart (same_stop _ _ _ _ (residual_is _ _ c.from_residual-in_err-state-in-Filled.ensures.1) refl is));
-      moments = c.take_next.ensures.latest;
+      stamps = c.take_next.ensures.latest;
       stage = residual_on_ok _ c.from_residual-in_err-state-in-Filled.result _ c.from_residual-in_err-state-in-Filled.ensures.1;
       still = residual_on_ok _ c.from_residual-in_err-state-in-Filled.result _ c.from_residual-in_err-state-in-Filled.ensures.1;
       said = residual_on_ok _ c.from_residual-in_err-state-in-Filled.result _ c.from_residual-in_err-state-in-Filled.ensures.1;
       leaves = residual_if_ok _ c.from_residual-in_err-state-in-Filled.result _ c.from_residual-in_err-state-in-Filled.ensures.1;
       goes =
-          let entry : Entry = record { position = c.position-position.result - 1; incarnation = c.args.life; items = items_of c.in-Filled.filling.items.items } in
+          let entry : Entry = record { position = c.position-position.result - 1; incarnation = c.args.incarnation; items = items_of c.in-Filled.filling.items.items } in
           let new = c.settle_filling.new.store in
           let place = ap (λ (p : Partition). p.position) c.requires.entered.entered in
           let at_place : c.position-position.result - 1 ≡ c.requires.entered.before.position = omega (arith, c.position-position.ensures, place) in
-          let word_is = c.word-chance.ensures ∙ ap (λ (n : ℕ). word_of n 0 (c.position-position.result - 1)) c.requires.life ∙ ap (word_of g.N.Ruled.rules.life 0) at_place in
+          let word_is = c.word-chance.ensures ∙ ap (λ (n : ℕ). word_of n 0 (c.position-position.result - 1)) c.requires.incarnation ∙ ap (word_of g.N.Ruled.rules.incarnation 0) at_place in
           let at = subst (ComesAt (g.R.Reactions.flows c.args.reactions.now) (λ name argument. g.A.Activities.gives name argument c.word-chance.result) (state_of c.args.state) c.args.port.now c.args.clients.now (g.C.Clock.given c.args.clock.now) (g.C.Clock.given c.take_next.new.clock)) c.in-Filled.is c.in_ok-filling.ensures.at in
           let then =
           subst (λ (t : List Settled). SettlesThenSays c.args.clients.now entry (of_part 0 t) (told_in c.args.store.now) (of_part 0 (trail_in new)) (told_in new)) c.raise.ensures.trail
           (subst (λ (t : List Said). SettlesThenSays c.args.clients.now entry (of_part 0 (trail_in c.raise.new.self)) t (of_part 0 (trail_in new)) (told_in new)) c.raise.ensures.told c.settle_filling.ensures.settles) in
-          filled_goes g.N.Ruled.rules g.A.Activities.gives c.args.limit c.args.clients.now (g.C.Clock.given c.args.clock.now) (of_part 0 (trail_in c.args.store.now)) (told_in c.args.store.now) c.requires.entered.before (state_of c.args.state) c.requires.entered.stands.made c.requires.entered.entered (g.R.Reactions.flows c.args.reactions.now) c.requires.flows c.args.port.now c.requires.said c.word-chance.result c.args.life (c.position-position.result - 1) c.in-Filled.now c.in-Filled.filling (g.C.Clock.given c.take_next.new.clock) (of_part 0 (trail_in new)) (told_in new) word_is at_place c.requires.life at comes then;
+          filled_goes g.N.Ruled.rules g.A.Activities.gives c.args.limit c.args.clients.now (g.C.Clock.given c.args.clock.now) (of_part 0 (trail_in c.args.store.now)) (told_in c.args.store.now) c.requires.entered.before (state_of c.args.state) c.requires.entered.stands.made c.requires.entered.entered (g.R.Reactions.flows c.args.reactions.now) c.requires.flows c.args.port.now c.requires.said c.word-chance.result c.args.incarnation (c.position-position.result - 1) c.in-Filled.now c.in-Filled.filling (g.C.Clock.given c.take_next.new.clock) (of_part 0 (trail_in new)) (told_in new) word_is at_place c.requires.incarnation at comes then;
       no_more = low_more _ _ _ _ (subst (λ (t : List Settled). count_labels (of_part 0 (trail_in c.settle_filling.new.store)) ≤ count_labels (of_part 0 t) + length c.in-Filled.filling.items.items) c.raise.ensures.trail c.settle_filling.ensures.no_more) comes.2;
       spent = λ of n is. absurd (c.in_err-state-in-Filled.ensures.no_spent of n (same_stop _ _ _ _ refl (residual_is _ _ c.from_residual-in_err-state-in-Filled.ensures.1) is));
       full = λ of n is. full_wider _ _ _ _ _ _ _ _ _ _ comes.2 (c.in_err-state-in-Filled.ensures.full of n (same_stop _ _ _ _ refl (residual_is _ _ c.from_residual-in_err-state-in-Filled.ensures.1) is));
@@ -173,7 +173,7 @@ pub returns-in_ok-state-in-Filled : goal.returns-in_ok-state-in-Filled
 returns-in_ok-state-in-Filled g c =
     let site = c.raise.ensures.site in
     let raised = c.raise.ensures.latest in
-    let by_now = subst (IsByNow (state_of c.args.state) (g.C.Clock.latest c.take_next.new.clock)) c.in-Filled.is c.in_ok-filling.ensures.moment in
+    let by_now = subst (IsByNow (state_of c.args.state) (g.C.Clock.latest c.take_next.new.clock)) c.in-Filled.is c.in_ok-filling.ensures.stamp in
     let low = by_now.1 in
     let same = c.settle_filling.ensures.latest in
     let disk = c.settle_filling.ensures.later in
@@ -191,22 +191,22 @@ returns-in_ok-state-in-Filled g c =
       segment = c.settle_filling.ensures.segment ∙ c.raise.ensures.segment;
       latest = raised_below _ _ _ _ _ same raised low;
       whole = λ apart. c.in_ok-state-in-Filled.ensures.whole (λ is. ok_apart _ _ is);
-      moments = c.take_next.ensures.latest;
+      stamps = c.take_next.ensures.latest;
       stage = c.in_ok-state-in-Filled.ensures.stage;
       still = c.in_ok-state-in-Filled.ensures.still;
       said = c.in_ok-state-in-Filled.ensures.said;
       leaves = (c.in_ok-state-in-Filled.ensures.entered, c.in_ok-state-in-Filled.ensures.unsaid, omega (arith, some, c.len-more.ensures), omega (arith, many, c.requires.few, c.len-more.ensures), omega (arith, labels, trail, c.len-more.ensures));
       goes =
-          let entry : Entry = record { position = c.position-position.result - 1; incarnation = c.args.life; items = items_of c.in-Filled.filling.items.items } in
+          let entry : Entry = record { position = c.position-position.result - 1; incarnation = c.args.incarnation; items = items_of c.in-Filled.filling.items.items } in
           let new = c.settle_filling.new.store in
           let place = ap (λ (p : Partition). p.position) c.requires.entered.entered in
           let at_place : c.position-position.result - 1 ≡ c.requires.entered.before.position = omega (arith, c.position-position.ensures, place) in
-          let word_is = c.word-chance.ensures ∙ ap (λ (n : ℕ). word_of n 0 (c.position-position.result - 1)) c.requires.life ∙ ap (word_of g.N.Ruled.rules.life 0) at_place in
+          let word_is = c.word-chance.ensures ∙ ap (λ (n : ℕ). word_of n 0 (c.position-position.result - 1)) c.requires.incarnation ∙ ap (word_of g.N.Ruled.rules.incarnation 0) at_place in
           let at = subst (ComesAt (g.R.Reactions.flows c.args.reactions.now) (λ name argument. g.A.Activities.gives name argument c.word-chance.result) (state_of c.args.state) c.args.port.now c.args.clients.now (g.C.Clock.given c.args.clock.now) (g.C.Clock.given c.take_next.new.clock)) c.in-Filled.is c.in_ok-filling.ensures.at in
           let then =
           subst (λ (t : List Settled). SettlesThenSays c.args.clients.now entry (of_part 0 t) (told_in c.args.store.now) (of_part 0 (trail_in new)) (told_in new)) c.raise.ensures.trail
           (subst (λ (t : List Said). SettlesThenSays c.args.clients.now entry (of_part 0 (trail_in c.raise.new.self)) t (of_part 0 (trail_in new)) (told_in new)) c.raise.ensures.told c.settle_filling.ensures.settles) in
-          filled_goes g.N.Ruled.rules g.A.Activities.gives c.args.limit c.args.clients.now (g.C.Clock.given c.args.clock.now) (of_part 0 (trail_in c.args.store.now)) (told_in c.args.store.now) c.requires.entered.before (state_of c.args.state) c.requires.entered.stands.made c.requires.entered.entered (g.R.Reactions.flows c.args.reactions.now) c.requires.flows c.args.port.now c.requires.said c.word-chance.result c.args.life (c.position-position.result - 1) c.in-Filled.now c.in-Filled.filling (g.C.Clock.given c.take_next.new.clock) (of_part 0 (trail_in new)) (told_in new) word_is at_place c.requires.life at comes then;
+          filled_goes g.N.Ruled.rules g.A.Activities.gives c.args.limit c.args.clients.now (g.C.Clock.given c.args.clock.now) (of_part 0 (trail_in c.args.store.now)) (told_in c.args.store.now) c.requires.entered.before (state_of c.args.state) c.requires.entered.stands.made c.requires.entered.entered (g.R.Reactions.flows c.args.reactions.now) c.requires.flows c.args.port.now c.requires.said c.word-chance.result c.args.incarnation (c.position-position.result - 1) c.in-Filled.now c.in-Filled.filling (g.C.Clock.given c.take_next.new.clock) (of_part 0 (trail_in new)) (told_in new) word_is at_place c.requires.incarnation at comes then;
       no_more = low_more _ _ _ _ (subst (λ (t : List Settled). count_labels (of_part 0 (trail_in c.settle_filling.new.store)) ≤ count_labels (of_part 0 t) + length c.in-Filled.filling.items.items) c.raise.ensures.trail c.settle_filling.ensures.no_more) comes.2;
       spent = λ of n is. absurd (ok_apart _ _ is);
       full = λ of n is. absurd (ok_apart _ _ is);
@@ -229,7 +229,7 @@ returns-in-Rest g c =
       segment = refl;
       latest = below_first _ _;
       whole = λ apart. c.requires.sound.uncut c.requires.going;
-      moments = c.take_next.ensures.latest;
+      stamps = c.take_next.ensures.latest;
       stage = c.requires.rests;
       still = c.requires.going;
       said = c.requires.said;

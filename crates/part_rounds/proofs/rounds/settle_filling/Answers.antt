@@ -21,20 +21,20 @@ use Rattle.part_rounds.proofs.rounds.settle_filling.Goals as goal
 pub say_due-requires-clause-made : goal.say_due-requires-clause-made
 say_due-requires-clause-made g c =
     let log = g.N.Start.origin.logs 0 in
-    let behind = stands_after g.N.Ruled.rules log c.args.store.now.latest (of_part 0 (trail_in c.args.store.now)) (pairs_of (told_in c.args.store.now)) c.args.position c.args.life (items_of c.args.filling.items.items) c.requires.filled.filled in
+    let behind = stands_after g.N.Ruled.rules log c.args.store.now.latest (of_part 0 (trail_in c.args.store.now)) (pairs_of (told_in c.args.store.now)) c.args.position c.args.incarnation (items_of c.args.filling.items.items) c.requires.filled.filled in
     (subst (λ (l : List Entry). StateStands g.N.Ruled.rules log l (state_of c.args.filling.state)) (sym c.in-Ok.ensures.trail) (subst (StateStands g.N.Ruled.rules log _) c.requires.filled.after_is behind)).made
 
 pub enter-requires-clause-younger : goal.enter-requires-clause-younger
 enter-requires-clause-younger g c =
     let log = g.N.Start.origin.logs 0 in
-    let behind = stands_after g.N.Ruled.rules log c.args.store.now.latest (of_part 0 (trail_in c.args.store.now)) (pairs_of (told_in c.args.store.now)) c.args.position c.args.life (items_of c.args.filling.items.items) c.requires.filled.filled in
+    let behind = stands_after g.N.Ruled.rules log c.args.store.now.latest (of_part 0 (trail_in c.args.store.now)) (pairs_of (told_in c.args.store.now)) c.args.position c.args.incarnation (items_of c.args.filling.items.items) c.requires.filled.filled in
     let younger = (subst (StateStands g.N.Ruled.rules log _) c.requires.filled.after_is behind).younger in
-    omega (arith, younger, c.requires.filled.filled.life_is)
+    omega (arith, younger, c.requires.filled.filled.incarnation_is)
 
 pub enter-requires-clause-room : goal.enter-requires-clause-room
 enter-requires-clause-room g c =
     let log = g.N.Start.origin.logs 0 in
-    let place = place_after g.N.Ruled.rules log c.args.store.now.latest (of_part 0 (trail_in c.args.store.now)) (pairs_of (told_in c.args.store.now)) c.args.position c.args.life (items_of c.args.filling.items.items) c.requires.filled.filled in
+    let place = place_after g.N.Ruled.rules log c.args.store.now.latest (of_part 0 (trail_in c.args.store.now)) (pairs_of (told_in c.args.store.now)) c.args.position c.args.incarnation (items_of c.args.filling.items.items) c.requires.filled.filled in
     let same = ap (λ (p : Partition). p.position) c.requires.filled.after_is in
     omega (arith, place, same, c.requires.room)
 
@@ -94,7 +94,7 @@ returns-in-Err-say_due g c =
 pub returns-in-Ok-say_due : goal.returns-in-Ok-say_due
 returns-in-Ok-say_due g c =
     let log = g.N.Start.origin.logs 0 in
-    let behind = stands_after g.N.Ruled.rules log c.args.store.now.latest (of_part 0 (trail_in c.args.store.now)) (pairs_of (told_in c.args.store.now)) c.args.position c.args.life (items_of c.args.filling.items.items) c.requires.filled.filled in
+    let behind = stands_after g.N.Ruled.rules log c.args.store.now.latest (of_part 0 (trail_in c.args.store.now)) (pairs_of (told_in c.args.store.now)) c.args.position c.args.incarnation (items_of c.args.filling.items.items) c.requires.filled.filled in
     let stands = subst (λ (l : List Entry). StateStands g.N.Ruled.rules log l (state_of c.args.filling.state)) (sym c.in-Ok.ensures.trail) (subst (StateStands g.N.Ruled.rules log _) c.requires.filled.after_is behind) in
     let put = c.say_due.ensures.disk_faults in
     let told = c.commit_items.ensures.say_faults in
@@ -116,7 +116,7 @@ returns-in-Ok-say_due g c =
             let said = c.say_due.ensures.latest in
             let put = c.commit_items.ensures.latest in
             omega (arith, after, timely, said, put);
-        entered = c.enter.ensures.entered ∙ ap (λ (life : ℕ). enter life (state_of c.args.filling.state)) c.requires.filled.filled.life_is;
+        entered = c.enter.ensures.entered ∙ ap (λ (incarnation : ℕ). enter incarnation (state_of c.args.filling.state)) c.requires.filled.filled.incarnation_is;
         sound = c.enter.ensures.sound;
         one = c.enter.ensures.partitions ∙ c.requires.way.one;
       };

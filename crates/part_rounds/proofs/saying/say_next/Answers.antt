@@ -44,7 +44,7 @@ returns g c =
     let r = request_of c.in-Some.request.now in
     let due : due_of name old ≡ Some r = sym c.next_of.ensures ∙ ap (option_map (λ x. request_of x.now)) c.in-Some.is in
     record {
-      tells = c.say-told.ensures.told;
+      tells = c.say-told.ensures.tells;
       sound = c.say-told.ensures.sound;
       trail = c.say-told.ensures.trail;
       own = own_one name r.number told _ c.in_ok-told.ensures.ok;
@@ -164,7 +164,7 @@ returns-in_err-line g c = record {
 
 pub returns-in_err-told : goal.returns-in_err-told
 returns-in_err-told g c = record {
-  tells = c.say-told.ensures.told;
+  tells = c.say-told.ensures.tells;
   sound = c.say-told.ensures.sound;
   trail = c.say-told.ensures.trail;
   own = own_none _ _ _ c.in_err-told.ensures.err;

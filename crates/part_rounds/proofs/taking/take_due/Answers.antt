@@ -15,7 +15,7 @@ loop-client-preserved g c =
     record {
       way = c.in_ok-filling.ensures.under_way;
       few = omega (arith, c.in_ok-filling.ensures.one, c.loop-client.invariant.few, c.if-len-limit.false, c.len.ensures);
-      moment = c.in_ok-filling.ensures.moment ∙ c.loop-client.invariant.moment;
+      stamp = c.in_ok-filling.ensures.stamp ∙ c.loop-client.invariant.stamp;
       at = λ now gives from filled. c.in_ok-filling.ensures.at now gives from (c.loop-client.invariant.at now gives from filled);
       longer = omega (arith, c.in_ok-filling.ensures.longer, c.loop-client.invariant.longer);
       goes_on = λ rules told same said. goes_on_both rules (pairs_of told) c.args.filling c.loop-client.filling c.in_ok-filling.filling

@@ -13,7 +13,7 @@ abbrev pub invariant-loop-client : goal.invariant-loop-client
 invariant-loop-client g l = record {
   way : IsUnderWay l.filling;
   few : length l.filling.items.items ≤ l.limit;
-  moment : (state_of l.filling.state).stamp ≡ (state_of l.fn.filling.state).stamp;
+  stamp : (state_of l.filling.state).stamp ≡ (state_of l.fn.filling.state).stamp;
   at : (now : ℕ) (gives : Giving) → GoesOnAt (g.R.Reactions.flows l.reactions) now gives l.fn.filling l.filling;
   longer : length l.fn.filling.items.items ≤ length l.filling.items.items;
   goes_on : (rules : Rules) (told : List Said) → rules.flows ≡ g.R.Reactions.flows l.reactions → HasSaid rules told l.port → FillsOn rules (pairs_of told) l.fn.filling l.filling;

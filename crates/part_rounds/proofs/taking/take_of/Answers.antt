@@ -5,7 +5,7 @@ use Rattle.request_reader.specs.Line.{Request}
 use Rattle.dura_value.specs.Items.{took}
 use Rattle.part_items.specs.declared.items.Item.TheVariants.{Took}
 use Rattle.part_rounds.proofs.InTime.{puts_at}
-use Rattle.part_rounds.proofs.Moments.{puts_still}
+use Rattle.part_rounds.proofs.Stamps.{puts_still}
 use Rattle.part_rounds.proofs.Puttings.{puts_goes_on, puts_longer, puts_one, due_asked, put_in_vain, goes_on_still}
 use Rattle.part_rounds.specs.Rounds.{pairs_of}
 use Rattle.part_rounds.proofs.taking.take_of.Goals as goal
@@ -21,8 +21,8 @@ returns-in_ok-next-in-Some-clause-none g c = λ same.
     let due = subst (λ o. IfSome o (λ one. (r : Request) × (due_of c.args.client.now c.args.port.now ≡ Some r) × (message_of one ≡ r.message))) c.in-Some.is c.in-Ok.ensures.some in
     put_in_vain (g.R.Reactions.flows c.args.reactions.now) c.args.filling c.in_ok-next-in-Some.next (Took c.in-Some.message) c.args.port.now c.args.client.now due.0 c.in_ok-next-in-Some.ensures.puts (ap took due.2) due.1 same
 
-pub returns-in_ok-next-in-Some-clause-moment : goal.returns-in_ok-next-in-Some-clause-moment
-returns-in_ok-next-in-Some-clause-moment g c =
+pub returns-in_ok-next-in-Some-clause-stamp : goal.returns-in_ok-next-in-Some-clause-stamp
+returns-in_ok-next-in-Some-clause-stamp g c =
     puts_still (g.R.Reactions.flows c.args.reactions.now) c.args.filling c.in_ok-next-in-Some.next (Took c.in-Some.message) c.in_ok-next-in-Some.ensures.puts refl
 
 pub returns-in_ok-next-in-Some-clause-under_way : goal.returns-in_ok-next-in-Some-clause-under_way
@@ -39,4 +39,4 @@ returns-in-None-clause-goes_on g c = λ rules told same said. goes_on_still rule
 
 pub returns-in_ok-next-in-Some-clause-at : goal.returns-in_ok-next-in-Some-clause-at
 returns-in_ok-next-in-Some-clause-at g c = λ now gives.
-    puts_at (g.R.Reactions.flows c.args.reactions.now) now gives c.args.filling c.in_ok-next-in-Some.next (Took c.in-Some.message) c.in_ok-next-in-Some.ensures.puts (λ moment. tt) (λ from made. tt)
+    puts_at (g.R.Reactions.flows c.args.reactions.now) now gives c.args.filling c.in_ok-next-in-Some.next (Took c.in-Some.message) c.in_ok-next-in-Some.ensures.puts (λ stamp. tt) (λ from made. tt)

@@ -29,9 +29,9 @@ returns-clause-says g c tells =
     let mid = g.V.Site.history c.open_log.new.site in
     let flows = g.R.Reactions.flows c.args.reactions.now in
     let reader = c.in-Ok.reader in
-    let opens = c.in-Ok.ensures.opens (c.read_on.ensures.told tells) in
+    let opens = c.in-Ok.ensures.opens (c.read_on.ensures.tells tells) in
     let all = c.in_ok-log.ensures.reads tells (is_opened c.args.file old mid c.in-Ok.ensures.synced reader c.in-Ok.ensures.place opens) in
-    subst (λ (s : List Step). IsFound s flows c.args.file (record { header = reader.header; log = c.in_ok-log.log; life = c.in_ok-log.progress.life; placing = c.in_ok-log.progress.placing })) (sym c.read_on.ensures.unchanged)
+    subst (λ (s : List Step). IsFound s flows c.args.file (record { header = reader.header; log = c.in_ok-log.log; incarnation = c.in_ok-log.progress.incarnation; placing = c.in_ok-log.progress.placing })) (sym c.read_on.ensures.unchanged)
     (is_found c.args.file old mid c.in-Ok.ensures.synced flows reader c.in_ok-log.log c.in_ok-log.progress c.in-Ok.ensures.place opens c.in_ok-log.ensures.there all)
 
 pub returns-in_err-log-clause-says : goal.returns-in_err-log-clause-says
@@ -41,7 +41,7 @@ returns-in_err-log-clause-says g c tells =
     let flows = g.R.Reactions.flows c.args.reactions.now in
     let reader = c.in-Ok.reader in
     let p = err_from_is_err_and c.from_residual.result c.from_residual.ensures.1 in
-    let opens = c.in-Ok.ensures.opens (c.read_on.ensures.told tells) in
+    let opens = c.in-Ok.ensures.opens (c.read_on.ensures.tells tells) in
     let all = c.in_err-log.ensures.reads tells (is_opened c.args.file old mid c.in-Ok.ensures.synced reader c.in-Ok.ensures.place opens) in
     rw (p.1, p.2) (subst (λ (s : List Step). SaysFile s flows c.args.file (Err c.in_err-log.field-0.0)) (sym c.read_on.ensures.unchanged)
     (file_refused c.args.file old mid c.in-Ok.ensures.synced flows reader c.in_err-log.field-0.0 c.in-Ok.ensures.place opens all))
@@ -59,4 +59,4 @@ pub returns-clause-ready : goal.returns-clause-ready
 returns-clause-ready g c =
     let progress = c.in_ok-log.progress in
     let ready = c.in_ok-log.ensures.ready in
-    ready_later progress.placing progress.next.incarnation progress.life ready.1 ready.0
+    ready_later progress.placing progress.next.incarnation progress.incarnation ready.1 ready.0

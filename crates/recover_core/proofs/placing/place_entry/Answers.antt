@@ -8,7 +8,7 @@ place_on-placing-requires-clause-ready g c = ready_later c.args.progress.placing
 pub returns : goal.returns
 returns g c = record {
   next = refl;
-  life = refl;
+  incarnation = refl;
   placed = c.in_ok-placing.ensures.placed;
   ready = (c.in_ok-placing.ensures.ready, omega arith);
   room = let room = c.in_ok-placing.ensures.room in omega (arith, room);

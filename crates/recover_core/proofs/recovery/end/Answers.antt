@@ -6,9 +6,9 @@ use Rattle.dura_model.specs.Entries.{placed}
 use Rattle.recover_core.proofs.recovery.end.Goals as goal
 
 pub returns-in-Stuck-clause-ends : goal.returns-in-Stuck-clause-ends
-returns-in-Stuck-clause-ends c flows entries shows life = (refl, subst (λ (p : Placing). Shows p (placed flows 1 (fresh 0) entries)) c.in-Stuck.is shows)
+returns-in-Stuck-clause-ends c flows entries shows incarnation = (refl, subst (λ (p : Placing). Shows p (placed flows 1 (fresh 0) entries)) c.in-Stuck.is shows)
 
 pub returns-clause-begins : goal.returns-clause-begins
 returns-clause-begins c ready =
-    let on = subst (IsReadyFor c.args.found.life) c.in-On.is ready in
-    record { sound = on.0; alone = on.1; younger = on.2; young = omega (arith, c.if-life-ge-LIVES.false) }
+    let on = subst (IsReadyFor c.args.found.incarnation) c.in-On.is ready in
+    record { sound = on.0; alone = on.1; younger = on.2; young = omega (arith, c.if-incarnation-ge-INCARNATION_LIMIT.false) }

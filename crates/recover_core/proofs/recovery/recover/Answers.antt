@@ -27,7 +27,7 @@ returns-in-Err-clause-recovers g c tells =
     let two = g.V.Site.history c.open_file-2.new.site in
     let synced_first = c.in_ok-first.ensures.synced in
     let syncs = c.open_file-2.ensures.syncs in
-    let first = suits_moved one two flows c.args.digest 16 c.in_ok-first.first (first_changes old one two synced_first syncs) (c.in_ok-first.ensures.says (c.open_file-2.ensures.told tells)) in
+    let first = suits_moved one two flows c.args.digest 16 c.in_ok-first.first (first_changes old one two synced_first syncs) (c.in_ok-first.ensures.says (c.open_file-2.ensures.tells tells)) in
     second_refused flows c.args.digest old two (first_still old one two synced_first syncs) (second_content old one two synced_first syncs) c.in_ok-first.first first c.in-Err.error (c.in-Err.ensures.says tells)
 
 pub returns-in-Err-clause-syncs : goal.returns-in-Err-clause-syncs
@@ -41,7 +41,7 @@ returns-in_err-found-clause-recovers g c tells =
     let two = g.V.Site.history c.open_file-2.new.site in
     let synced_first = c.in_ok-first.ensures.synced in
     let syncs = c.open_file-2.ensures.syncs in
-    let first = suits_moved one two flows c.args.digest 16 c.in_ok-first.first (first_changes old one two synced_first syncs) (c.in_ok-first.ensures.says (c.open_file-2.ensures.told tells)) in
+    let first = suits_moved one two flows c.args.digest 16 c.in_ok-first.first (first_changes old one two synced_first syncs) (c.in_ok-first.ensures.says (c.open_file-2.ensures.tells tells)) in
     let second = c.in-Ok.ensures.says tells in
     let p = err_from_is_err_and c.from_residual-in_err-found.result c.from_residual-in_err-found.ensures.1 in
     rw (p.1, p.2) (both_refused flows c.args.digest old two (first_still old one two synced_first syncs) (second_content old one two synced_first syncs) c.in_ok-first.first first c.in-Ok.second second c.in_err-found.field-0.0 (λ some more. c.in_err-found.ensures.refused c.args.digest some more))
@@ -57,11 +57,11 @@ returns-in-Some-clause-recovers g c tells =
     let two = g.V.Site.history c.open_file-2.new.site in
     let synced_first = c.in_ok-first.ensures.synced in
     let syncs = c.open_file-2.ensures.syncs in
-    let first = suits_moved one two flows c.args.digest 16 c.in_ok-first.first (first_changes old one two synced_first syncs) (c.in_ok-first.ensures.says (c.open_file-2.ensures.told tells)) in
+    let first = suits_moved one two flows c.args.digest 16 c.in_ok-first.first (first_changes old one two synced_first syncs) (c.in_ok-first.ensures.says (c.open_file-2.ensures.tells tells)) in
     let second = c.in-Ok.ensures.says tells in
     let chosen = subst (Chooses c.in_ok-first.first c.in-Ok.second) c.in-Some.is c.in_ok-found.ensures.chosen in
     let has = one_found flows c.args.digest old two (first_still old one two synced_first syncs) (second_content old one two synced_first syncs) c.in_ok-first.first first c.in-Ok.second second c.in-Some.found chosen in
-    end_recovered two flows c.args.digest (logs_in (alone_with c.args.digest) (λ file. content_of file old)) c.in-Some.found c.end.result has (c.end.ensures.ends flows has.entries has.placed has.life)
+    end_recovered two flows c.args.digest (logs_in (alone_with c.args.digest) (λ file. content_of file old)) c.in-Some.found c.end.result has (c.end.ensures.ends flows has.entries has.placed has.incarnation)
 
 pub returns-in-Some-clause-rests : goal.returns-in-Some-clause-rests
 returns-in-Some-clause-rests g c tells =
@@ -71,11 +71,11 @@ returns-in-Some-clause-rests g c tells =
     let two = g.V.Site.history c.open_file-2.new.site in
     let synced_first = c.in_ok-first.ensures.synced in
     let syncs = c.open_file-2.ensures.syncs in
-    let first = suits_moved one two flows c.args.digest 16 c.in_ok-first.first (first_changes old one two synced_first syncs) (c.in_ok-first.ensures.says (c.open_file-2.ensures.told tells)) in
+    let first = suits_moved one two flows c.args.digest 16 c.in_ok-first.first (first_changes old one two synced_first syncs) (c.in_ok-first.ensures.says (c.open_file-2.ensures.tells tells)) in
     let second = c.in-Ok.ensures.says tells in
     let chosen = subst (Chooses c.in_ok-first.first c.in-Ok.second) c.in-Some.is c.in_ok-found.ensures.chosen in
     let has = one_found flows c.args.digest old two (first_still old one two synced_first syncs) (second_content old one two synced_first syncs) c.in_ok-first.first first c.in-Ok.second second c.in-Some.found chosen in
-    end_rests two flows c.args.digest (logs_in (alone_with c.args.digest) (λ file. content_of file old)) c.in-Some.found c.end.result has (c.end.ensures.ends flows has.entries has.placed has.life)
+    end_rests two flows c.args.digest (logs_in (alone_with c.args.digest) (λ file. content_of file old)) c.in-Some.found c.end.result has (c.end.ensures.ends flows has.entries has.placed has.incarnation)
 
 pub returns-in-Some-clause-syncs : goal.returns-in-Some-clause-syncs
 returns-in-Some-clause-syncs g c = only_both (g.V.Site.history c.args.site.now) (g.V.Site.history c.open_file.new.site) (g.V.Site.history c.open_file-2.new.site) c.in_ok-first.ensures.synced c.open_file-2.ensures.syncs
@@ -88,7 +88,7 @@ returns-in-None-clause-recovers g c tells =
     let two = g.V.Site.history c.open_file-2.new.site in
     let synced_first = c.in_ok-first.ensures.synced in
     let syncs = c.open_file-2.ensures.syncs in
-    let first = suits_moved one two flows c.args.digest 16 c.in_ok-first.first (first_changes old one two synced_first syncs) (c.in_ok-first.ensures.says (c.open_file-2.ensures.told tells)) in
+    let first = suits_moved one two flows c.args.digest 16 c.in_ok-first.first (first_changes old one two synced_first syncs) (c.in_ok-first.ensures.says (c.open_file-2.ensures.tells tells)) in
     let second = c.in-Ok.ensures.says tells in
     let chosen = subst (Chooses c.in_ok-first.first c.in-Ok.second) c.in-None.is c.in_ok-found.ensures.chosen in
     none_recovered flows c.args.digest old two (first_still old one two synced_first syncs) (second_content old one two synced_first syncs) c.in_ok-first.first first c.in-Ok.second second chosen c.new.result c.new.ensures.fresh c.new.ensures.partitions c.new.ensures.sound

@@ -2,7 +2,7 @@ use Rattle.std.proofs.Common.{◌≡◌, [], ◌∷◌, Some, None, sym, subst, 
 use Rattle.dura_model.specs.Partition.{Partition, accepted}
 use Rattle.dura_value.specs.Items.{ran, ended}
 use Rattle.part_items.specs.Examples.{request}
-use Rattle.part_steps.specs.Enabled.{moment_at}
+use Rattle.part_steps.specs.Enabled.{stamp_at}
 use Rattle.run_examples.proofs.AskedOnce.{then, taking_fills}
 use Rattle.run_examples.specs.Calls.{no_flows}
 use Rattle.run_rules.specs.Examples.{summing}
@@ -12,11 +12,11 @@ use Rattle.run_examples.proofs.clock_examples.entries_filled.Goals as goal
 pub returns-clause-taken : goal.returns-clause-taken
 returns-clause-taken c = taking_fills []
 
-pub returns-clause-other_place : goal.returns-clause-other_place
-returns-clause-other_place c = λ fills. let place = fills.place in omega (arith, place)
+pub returns-clause-other_position : goal.returns-clause-other_place
+returns-clause-other_position c = λ fills. let place = fills.position in omega (arith, place)
 
-pub returns-clause-other_life : goal.returns-clause-other_life
-returns-clause-other_life c = λ fills. let life = fills.life in omega (arith, life)
+pub returns-clause-other_incarnation : goal.returns-clause-other_incarnation
+returns-clause-other_incarnation c = λ fills. let incarnation = fills.incarnation in omega (arith, incarnation)
 
 pub returns-clause-refused : goal.returns-clause-refused
 returns-clause-refused c = λ fills. let wrong : None ≡ Some fills.after = fills.accepted in cc wrong
@@ -32,11 +32,11 @@ pub returns-clause-too_few : goal.returns-clause-too_few
 returns-clause-too_few c = λ fills.
     let after : then ≡ fills.after = cc fills.accepted in
     let none = (fills.less (omega arith)).deliveries request.from request.to in
-    let wrong : Some _ ≡ None = subst (λ (p : Partition). accepted no_flows 1 p (ran request.from request.to (moment_at p 0)) ≡ None) (sym after) none in
+    let wrong : Some _ ≡ None = subst (λ (p : Partition). accepted no_flows 1 p (ran request.from request.to (stamp_at p 0)) ≡ None) (sym after) none in
     cc wrong
 
-pub returns-clause-other_moment : goal.returns-clause-other_moment
-returns-clause-other_moment c = λ fills. let at = fills.at.0 in omega (arith, at)
+pub returns-clause-other_stamp : goal.returns-clause-other_stamp
+returns-clause-other_stamp c = λ fills. let at = fills.at.0 in omega (arith, at)
 
 pub returns-clause-other_outcome : goal.returns-clause-other_outcome
 returns-clause-other_outcome c = λ fills. let run = fills.runs 0 (ended summing 3 no_sum) (omega arith) in cc run.2

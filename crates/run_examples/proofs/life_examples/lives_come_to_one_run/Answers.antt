@@ -6,7 +6,7 @@ use Rattle.dura_value.specs.Items.{Entry}
 use Rattle.engine_run.specs.Lives.{KeepsOn, IsSaidBy, IsSettledIn}
 use Rattle.engine_run.specs.Picks.{rules_with}
 use Rattle.part_items.specs.Examples.{digest, two_files, empty_log, taking}
-use Rattle.dura_model.specs.Entries.{next_life, shown_by}
+use Rattle.dura_model.specs.Entries.{next_incarnation, shown_by}
 use Rattle.run_rules.proofs.LabelsStand.{labels_stand}
 use Rattle.run_examples.specs.Calls.{no_flows, nothing_asked}
 use Rattle.run_examples.specs.LivesSeen.{idle_life, settled_life, spoken_life}
@@ -52,7 +52,7 @@ returns-clause-said c = λ joined. elim (joined.said 0 spoken_life (omega arith)
       let run : [] ≡ (speaks.origin.logs 0).entries ++ speaks.behind = nothing_kept [] joined.kept ∙ speaks.run in
       let none = nothing_before (speaks.origin.logs 0).entries speaks.behind run in
       let behind : speaks.behind ≡ [] = sym (run ∙ ap (λ (l : List Entry). l ++ speaks.behind) none) in
-      let rules = rules_with nothing_asked speaks.begin (next_life (speaks.origin.logs 0).entries) in
+      let rules = rules_with nothing_asked speaks.begin (next_incarnation (speaks.origin.logs 0).entries) in
       let lines = nothing_settled rules speaks.origin none speaks.told speaks.lines (subst (λ (l : List Entry). AllAnswered rules speaks.origin l speaks.told speaks.lines) behind speaks.answered) in
       let part : 97 ∷ [] ≡ speaks.part = speaks.spoken ∙ ap (λ (l : List ℕ). l ++ speaks.part) lines in
       elim speaks.saying [

@@ -24,7 +24,7 @@ returns-clause-taken c = λ flows. record {
   writing = inl refl;
   given = ((tt, λ next is. tt), λ next is. tt);
   ran = frame_more nothing_ran (fresh 0) refl (taking 0 ∷ []) (All-from_recursion (λ (entry : Entry). All (EndsPending (fresh 0)) entry.items) (taking 0 ∷ []) (All-from_recursion (EndsPending (fresh 0)) (taking 0).items (tt, tt), tt));
-  own = All-from_recursion (IsOfCall (rules_with flows) 0) (taking 0 ∷ []) (record { life = refl; timely = All-from_recursion (IsBy 0) (taking 0).items (tt, tt) }, tt);
+  own = All-from_recursion (IsOfCall (rules_with flows) 0) (taking 0 ∷ []) (record { incarnation = refl; timely = All-from_recursion (IsBy 0) (taking 0).items (tt, tt) }, tt);
   founded = one_more (committed (taking 0)) none (record { follows = refl; named = λ k d inside. absurd (omega (arith, inside)) });
   told = [];
   lines = [];
@@ -47,7 +47,7 @@ returns-clause-accepted c = λ flows left.
     cc wrong
 
 pub returns-clause-of_call : goal.returns-clause-of_call
-returns-clause-of_call c = λ flows left. let own = left.own 0 (taking 0) (omega arith) in omega (arith, own.life)
+returns-clause-of_call c = λ flows left. let own = left.own 0 (taking 0) (omega arith) in omega (arith, own.incarnation)
 
 -- what is kept of one entry that wasn't settled is under way
 pub returns-clause-unwritten : goal.returns-clause-unwritten

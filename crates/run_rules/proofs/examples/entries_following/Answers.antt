@@ -18,7 +18,7 @@ returns-clause-twice c = λ flows latest told follows.
     cc again
 
 pub returns-clause-later : goal.returns-clause-later
-returns-clause-later c = λ flows latest told follows. let life : 0 ≡ 1 = (follows.ours 0 (taking 0) (omega arith)).life in omega (arith, life)
+returns-clause-later c = λ flows latest told follows. let incarnation : 0 ≡ 1 = (follows.ours 0 (taking 0) (omega arith)).incarnation in omega (arith, incarnation)
 
 pub returns-clause-unasked : goal.returns-clause-unasked
 returns-clause-unasked c = λ flows latest told follows. cc ((follows.ours 0 (taking 0) (omega arith)).asked 0 (took request) (omega arith)).asked

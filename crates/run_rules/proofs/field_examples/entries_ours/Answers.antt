@@ -8,13 +8,13 @@ use Rattle.run_rules.proofs.field_examples.entries_ours.Goals as goal
 
 pub returns-clause-ours : goal.returns-clause-ours
 returns-clause-ours c = λ flows. record {
-  life = refl;
+  incarnation = refl;
   asked = All-from_recursion (IsAsked (rules_with flows) []) (fired summing 3 5 ∷ []) (tt, tt);
   timely = All-from_recursion (IsBy 5) (fired summing 3 5 ∷ []) (omega arith, tt);
 }
 
-pub returns-clause-life : goal.returns-clause-life
-returns-clause-life c = λ flows ours. let life : 0 ≡ 1 = ours.life in omega (arith, life)
+pub returns-clause-incarnation : goal.returns-clause-incarnation
+returns-clause-incarnation c = λ flows ours. let incarnation : 0 ≡ 1 = ours.incarnation in omega (arith, incarnation)
 
 pub returns-clause-asked : goal.returns-clause-asked
 returns-clause-asked c = λ flows ours. cc (ours.asked 0 (took request) (omega arith)).asked

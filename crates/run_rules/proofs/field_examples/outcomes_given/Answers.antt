@@ -21,7 +21,7 @@ returns-clause-failed c = λ flows. record {
   given = ((may_fail, λ next is. tt), λ next is. tt);
   ours = All-from_recursion (IsOurs (asking_rules flows) 0 []) (ending 0 no_sum ∷ []) (
     record {
-      life = refl;
+      incarnation = refl;
       asked = All-from_recursion (IsAsked (asking_rules flows) []) (ended summing 3 no_sum ∷ []) (tt, tt);
       timely = All-from_recursion (IsBy 0) (ended summing 3 no_sum ∷ []) (tt, tt);
     },

@@ -37,7 +37,7 @@ returns-clause-behind c = record {
   given = ((may_end, λ next is. tt), λ next is. tt);
   ours = All-from_recursion (IsOurs (rules_with sum_flows) 5 []) (ending_first ∷ []) (
     record {
-      life = refl;
+      incarnation = refl;
       asked = All-from_recursion (IsAsked (rules_with sum_flows) []) (ended summing 0 no_sum ∷ []) (tt, tt);
       timely = All-from_recursion (IsBy 5) (ended summing 0 no_sum ∷ []) (tt, tt);
     },

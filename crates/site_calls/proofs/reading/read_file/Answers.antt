@@ -5,8 +5,8 @@ use Rattle.site_model.specs.Calls.{Reads}
 use Rattle.site_calls.proofs.Events.{told_told, still_by}
 use Rattle.site_calls.proofs.reading.read_file.Goals as goal
 
-pub returns-then-branch-clause-told : goal.returns-then-branch-clause-told
-returns-then-branch-clause-told g c = told_told _ _ _ c.find_file.ensures.told c.read_on.ensures.told
+pub returns-then-branch-clause-tells : goal.returns-then-branch-clause-tells
+returns-then-branch-clause-tells g c = told_told _ _ _ c.find_file.ensures.tells c.read_on.ensures.tells
 
 pub returns-then-branch-clause-value : goal.returns-then-branch-clause-value
 returns-then-branch-clause-value g c unseen honest =

@@ -3,11 +3,11 @@ use Rattle.site_calls.proofs.Events.{told_told, still_still, still_by}
 use Rattle.site_calls.proofs.ReadInParts.{reading_more}
 use Rattle.site_calls.proofs.reading.read_on.Goals as goal
 
-pub returns-in_err-count-clause-told : goal.returns-in_err-count-clause-told
-returns-in_err-count-clause-told g c = told_told _ _ _ c.loop-done.invariant.told c.in_err-count.ensures.told
+pub returns-in_err-count-clause-tells : goal.returns-in_err-count-clause-tells
+returns-in_err-count-clause-tells g c = told_told _ _ _ c.loop-done.invariant.told c.in_err-count.ensures.tells
 
-pub returns-then-count-eq0-clause-told : goal.returns-then-count-eq0-clause-told
-returns-then-count-eq0-clause-told g c = told_told _ _ _ c.loop-done.invariant.told c.in_ok-count.ensures.told
+pub returns-then-count-eq0-clause-tells : goal.returns-then-count-eq0-clause-tells
+returns-then-count-eq0-clause-tells g c = told_told _ _ _ c.loop-done.invariant.told c.in_ok-count.ensures.tells
 
 pub loop-done-preserved : goal.loop-done-preserved
 loop-done-preserved g c =
@@ -19,7 +19,7 @@ loop-done-preserved g c =
     let fits : c.loop-done.done + c.in_ok-count.count ≤ length c.read_some.new.out = omega (arith, c.in_ok-count.ensures.count, c.read_some.auto.out) in
     record {
       within = within;
-      told = told_told _ _ _ c.loop-done.invariant.told c.in_ok-count.ensures.told;
+      told = told_told _ _ _ c.loop-done.invariant.told c.in_ok-count.ensures.tells;
       still = still_still old mid new c.loop-done.invariant.still (still_by _ mid new (λ unseen before. refl) noted);
       reading = λ unseen honest.
           reading_more c.args.file c.args.at (length c.loop-done.out) c.loop-done.done c.in_ok-count.count c.read_some.new.out unseen old mid new c.loop-done.invariant.still noted honest fits;

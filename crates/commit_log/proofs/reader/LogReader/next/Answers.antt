@@ -51,7 +51,7 @@ returns-in-Ok-clause-found g c tells size_is payloads has_read =
     let content : List ℕ = content_of c.args.self.file (g.V.Site.history c.args.site.now) in
     let gate : ℕ = c.args.self.gate in
     let size : ℕ = c.in-Ok-Some.payload_len in
-    let begins : BeginsFrame (drop gate content) size = rw c.in-Ok-Some.field-0-is at (c.in-Ok-Some.ensures.says (c.read_payload.ensures.told tells)) in
+    let begins : BeginsFrame (drop gate content) size = rw c.in-Ok-Some.field-0-is at (c.in-Ok-Some.ensures.says (c.read_payload.ensures.tells tells)) in
     let same : content_of c.args.self.file (g.V.Site.history c.read_gate.new.site) ≡ content = ap (content_of c.args.self.file) c.read_gate.ensures.unchanged in
     let payload_is : c.in-Ok.payload ≡ take size (drop 5 (drop gate content)) =
     c.in-Ok.ensures.says tells ∙ ap (λ (l : List ℕ). take size (drop (gate + 5) l)) same ∙ ap (take size) (sym (drop-drop 5 gate content)) in

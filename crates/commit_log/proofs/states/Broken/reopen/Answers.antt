@@ -3,13 +3,13 @@ use Rattle.commit_log.proofs.Opens.{opening_during, reopens}
 use Rattle.commit_log.proofs.states.Broken.reopen.Goals as goal
 
 pub returns-in-Ok-true-clause-during : goal.returns-in-Ok-true-clause-during
-returns-in-Ok-true-clause-during g c tells = opening_during _ _ _ _ _ c.synced_gate.ensures.either refl (g.met.V.Site.inside _ _ (c.synced_gate.ensures.told tells))
+returns-in-Ok-true-clause-during g c tells = opening_during _ _ _ _ _ c.synced_gate.ensures.either refl (g.met.V.Site.inside _ _ (c.synced_gate.ensures.tells tells))
 
 pub returns-in-Ok-false-clause-during : goal.returns-in-Ok-false-clause-during
-returns-in-Ok-false-clause-during g c tells = opening_during _ _ _ _ _ c.synced_gate.ensures.either refl (g.met.V.Site.inside _ _ (c.synced_gate.ensures.told tells))
+returns-in-Ok-false-clause-during g c tells = opening_during _ _ _ _ _ c.synced_gate.ensures.either refl (g.met.V.Site.inside _ _ (c.synced_gate.ensures.tells tells))
 
 pub returns-in-Err-clause-during : goal.returns-in-Err-clause-during
-returns-in-Err-clause-during g c tells = opening_during _ _ _ _ _ c.synced_gate.ensures.either refl (g.met.V.Site.inside _ _ (c.synced_gate.ensures.told tells))
+returns-in-Err-clause-during g c tells = opening_during _ _ _ _ _ c.synced_gate.ensures.either refl (g.met.V.Site.inside _ _ (c.synced_gate.ensures.tells tells))
 
 pub returns-in-Ok-true-clause-after : goal.returns-in-Ok-true-clause-after
 returns-in-Ok-true-clause-after g c tells h payloads payload broken =
@@ -49,8 +49,8 @@ returns-in-Err-clause-syncs g c = record { either = c.in-Err.ensures.either.eith
 pub returns-in-Err-clause-cause : goal.returns-in-Err-clause-cause
 returns-in-Err-clause-cause g c = record { later = c.in-Err.ensures.cause.later; same = tt; risen = c.in-Err.ensures.cause.risen }
 
-pub returns-in-Ok-true-clause-told : goal.returns-in-Ok-true-clause-told
-returns-in-Ok-true-clause-told g c = c.synced_gate.ensures.told
+pub returns-in-Ok-true-clause-tells : goal.returns-in-Ok-true-clause-tells
+returns-in-Ok-true-clause-tells g c = c.synced_gate.ensures.tells
 
 pub returns-in-Ok-true-clause-say_faults : goal.returns-in-Ok-true-clause-say_faults
 returns-in-Ok-true-clause-say_faults g c = c.synced_gate.ensures.say_faults
@@ -58,8 +58,8 @@ returns-in-Ok-true-clause-say_faults g c = c.synced_gate.ensures.say_faults
 pub returns-in-Ok-true-clause-broken : goal.returns-in-Ok-true-clause-broken
 returns-in-Ok-true-clause-broken g c = tt
 
-pub returns-in-Ok-false-clause-told : goal.returns-in-Ok-false-clause-told
-returns-in-Ok-false-clause-told g c = c.synced_gate.ensures.told
+pub returns-in-Ok-false-clause-tells : goal.returns-in-Ok-false-clause-tells
+returns-in-Ok-false-clause-tells g c = c.synced_gate.ensures.tells
 
 pub returns-in-Ok-false-clause-say_faults : goal.returns-in-Ok-false-clause-say_faults
 returns-in-Ok-false-clause-say_faults g c = c.synced_gate.ensures.say_faults
@@ -67,8 +67,8 @@ returns-in-Ok-false-clause-say_faults g c = c.synced_gate.ensures.say_faults
 pub returns-in-Ok-false-clause-broken : goal.returns-in-Ok-false-clause-broken
 returns-in-Ok-false-clause-broken g c = tt
 
-pub returns-in-Err-clause-told : goal.returns-in-Err-clause-told
-returns-in-Err-clause-told g c = c.synced_gate.ensures.told
+pub returns-in-Err-clause-tells : goal.returns-in-Err-clause-tells
+returns-in-Err-clause-tells g c = c.synced_gate.ensures.tells
 
 pub returns-in-Err-clause-say_faults : goal.returns-in-Err-clause-say_faults
 returns-in-Err-clause-say_faults g c = c.synced_gate.ensures.say_faults

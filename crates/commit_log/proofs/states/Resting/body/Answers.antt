@@ -89,8 +89,8 @@ returns-clause-untouched g c log is = absurd (memory_fault _ log _ is refl)
 pub returns-clause-untouched_full : goal.returns-clause-untouched_full
 returns-clause-untouched_full g c n log is = absurd (full_fault _ n log _ is refl)
 
-pub returns-then-length-limit-clause-told : goal.returns-then-length-limit-clause-told
-returns-then-length-limit-clause-told g c tells = tells
+pub returns-then-length-limit-clause-tells : goal.returns-then-length-limit-clause-tells
+returns-then-length-limit-clause-tells g c tells = tells
 
 pub returns-then-length-limit-clause-wrote : goal.returns-then-length-limit-clause-wrote
 returns-then-length-limit-clause-wrote g c = tt
@@ -101,8 +101,8 @@ returns-then-length-limit-clause-place g c = tt
 pub returns-then-length-limit-clause-say_faults : goal.returns-then-length-limit-clause-say_faults
 returns-then-length-limit-clause-say_faults g c = refl
 
-pub returns-in-Err-clause-told : goal.returns-in-Err-clause-told
-returns-in-Err-clause-told g c tells = tells
+pub returns-in-Err-clause-tells : goal.returns-in-Err-clause-tells
+returns-in-Err-clause-tells g c tells = tells
 
 pub returns-in-Err-clause-wrote : goal.returns-in-Err-clause-wrote
 returns-in-Err-clause-wrote g c = tt
@@ -116,8 +116,8 @@ returns-in-Err-clause-say_faults g c = refl
 pub returns-then-length-limit-clause-untouched_full : goal.returns-then-length-limit-clause-untouched_full
 returns-then-length-limit-clause-untouched_full g c n log is = refl
 
-pub returns-in-Ok-write-clause-told : goal.returns-in-Ok-write-clause-told
-returns-in-Ok-write-clause-told g c = c.write.ensures.told
+pub returns-in-Ok-write-clause-tells : goal.returns-in-Ok-write-clause-tells
+returns-in-Ok-write-clause-tells g c = c.write.ensures.tells
 
 pub returns-in-Ok-write-clause-later : goal.returns-in-Ok-write-clause-later
 returns-in-Ok-write-clause-later g c = c.write.ensures.cause.later
@@ -125,8 +125,8 @@ returns-in-Ok-write-clause-later g c = c.write.ensures.cause.later
 pub returns-in-Ok-write-clause-say_faults : goal.returns-in-Ok-write-clause-say_faults
 returns-in-Ok-write-clause-say_faults g c = c.write.ensures.say_faults
 
-pub returns-clause-told : goal.returns-clause-told
-returns-clause-told g c = c.write.ensures.told
+pub returns-clause-tells : goal.returns-clause-tells
+returns-clause-tells g c = c.write.ensures.tells
 
 pub returns-clause-later : goal.returns-clause-later
 returns-clause-later g c = c.write.ensures.cause.later

@@ -42,13 +42,13 @@ returns-clause-sound g c =
     sound_any old _ p way trail c.requires.sound c.requires.place c.body_log-way.ensures.there (put_for _ _ _ p way c.take_way.ensures.rest c.put_way.ensures) (grown_due _ _ _ _ none_due c.due-more.ensures)
     (omega (arith, c.due-more.ensures, c.body_log-way.ensures.due, c.in_ok-reserve.ensures.ok, c.in-Some.ensures.1, ap length c.entries.ensures)) (ap trail_of c.reserve.ensures.items) (c.requires.sound.uncut c.requires.going) refl
     (λ tells.
-    let stood = c.requires.sound.told (c.body_log-way.ensures.told tells) in
+    let stood = c.requires.sound.told (c.body_log-way.ensures.tells tells) in
     let fits = subst (λ (w : Way). LogFits (o.logs p) (of_part p trail) (changes_of (o.logs p).file before) w) (sym c.in-Resting.ensures.way) (stood.logs p c.requires.place) in
     let goes = body_goes (g.N.Start.may_follow old.latest) g.N.Start.may_say o p c.in-Resting.log c.args.frame trail told before now way c.body_log-way.ensures.during c.body_log-way.ensures.fits c.body_log-way.ensures.going (c.requires.behind).again fits in
     told_on (g.N.Start.may_follow old.latest) g.N.Start.may_say o p before now old.ways.items way trail told old.cut _ c.requires.sound.apart c.requires.sound.count c.requires.place (c.requires.sound.uncut c.requires.going) stood goes.0 goes.1)
-    refl c.body_log-way.ensures.told (λ q apart. refl)
+    refl c.body_log-way.ensures.tells (λ q apart. refl)
     (λ tells.
-    let then = c.body_log-way.ensures.told tells in
+    let then = c.body_log-way.ensures.tells tells in
     let fits = subst (λ (w : Way). LogFits (o.logs p) (of_part p trail) (changes_of (o.logs p).file before) w) (sym c.in-Resting.ensures.way) ((c.requires.sound.told then).logs p c.requires.place) in
     let rests = subst (λ (f : ℕ). IsResting (changes_of f before) (o.logs p).header fits.payloads c.in-Resting.log.gate) (sym fits.fits.0) fits.fits.1 in
     elim (c.body_log-way.ensures.short (o.logs p).header fits.payloads rests) [
@@ -80,8 +80,8 @@ returns-clause-memory g c is =
     let none = c.body_log-way.ensures.memory is in
     (none.1, ap stage_of (way_put _ _ p way (put_for _ _ _ p way c.take_way.ensures.rest c.put_way.ensures) (within _ _ _ c.requires.sound.count c.requires.place) ∙ none.0))
 
-pub returns-clause-told : goal.returns-clause-told
-returns-clause-told g c = c.body_log-way.ensures.told
+pub returns-clause-tells : goal.returns-clause-tells
+returns-clause-tells g c = c.body_log-way.ensures.tells
 
 pub returns-clause-segment : goal.returns-clause-segment
 returns-clause-segment g c = refl
@@ -98,8 +98,8 @@ returns-clause-later g c = c.body_log-way.ensures.later
 pub returns-clause-say_faults : goal.returns-clause-say_faults
 returns-clause-say_faults g c = c.body_log-way.ensures.say_faults
 
-pub returns-in_err-reserve-clause-told : goal.returns-in_err-reserve-clause-told
-returns-in_err-reserve-clause-told g c = λ t. t
+pub returns-in_err-reserve-clause-tells : goal.returns-in_err-reserve-clause-tells
+returns-in_err-reserve-clause-tells g c = λ t. t
 
 pub returns-in_err-reserve-clause-segment : goal.returns-in_err-reserve-clause-segment
 returns-in_err-reserve-clause-segment g c = refl
@@ -116,8 +116,8 @@ returns-in_err-reserve-clause-later g c = le_refl _
 pub returns-in_err-reserve-clause-say_faults : goal.returns-in_err-reserve-clause-say_faults
 returns-in_err-reserve-clause-say_faults g c = refl
 
-pub returns-in_err-payload-clause-told : goal.returns-in_err-payload-clause-told
-returns-in_err-payload-clause-told g c = λ t. t
+pub returns-in_err-payload-clause-tells : goal.returns-in_err-payload-clause-tells
+returns-in_err-payload-clause-tells g c = λ t. t
 
 pub returns-in_err-payload-clause-sound : goal.returns-in_err-payload-clause-sound
 returns-in_err-payload-clause-sound g c = c.requires.sound
@@ -140,8 +140,8 @@ returns-in_err-payload-clause-only g c = record { trail = refl; told = refl; oth
 pub returns-in_err-payload-clause-later : goal.returns-in_err-payload-clause-later
 returns-in_err-payload-clause-later g c = le_refl _
 
-pub returns-in_default-clause-told : goal.returns-in_default-clause-told
-returns-in_default-clause-told g c = λ t. t
+pub returns-in_default-clause-tells : goal.returns-in_default-clause-tells
+returns-in_default-clause-tells g c = λ t. t
 
 pub returns-in_default-clause-sound : goal.returns-in_default-clause-sound
 returns-in_default-clause-sound g c = c.requires.sound

@@ -37,14 +37,14 @@ returns-clause-sound g c =
     let way = c.gate_log-way.result.0 in
     sound_on old _ p way c.requires.sound c.requires.place (with_frame way _ c.gate_log-way.ensures.going) (put_for _ _ _ p way c.take_way.ensures.rest c.put_way.ensures) (c.gate_log-way.ensures.due ∙ ap due_in c.in-Synced.ensures.way) refl refl (c.requires.sound.uncut c.requires.going) refl
     (λ tells.
-    let stood = c.requires.sound.told (c.gate_log-way.ensures.told tells) in
+    let stood = c.requires.sound.told (c.gate_log-way.ensures.tells tells) in
     let fits = subst (λ (w : Way). LogFits (o.logs p) (of_part p trail) (changes_of (o.logs p).file before) w) (sym c.in-Synced.ensures.way) (stood.logs p c.requires.place) in
     let follows = c.requires.follows _ (ap going_in (sym c.in-Synced.ensures.way)) in
     let goes = gate_goes (g.N.Start.may_follow old.latest) g.N.Start.may_say o p c.in-Synced.log c.in-Synced.frame trail told before now way c.gate_log-way.ensures.step.0 c.gate_log-way.ensures.step.1 c.gate_log-way.ensures.during c.gate_log-way.ensures.fits c.gate_log-way.ensures.going follows fits in
     told_on (g.N.Start.may_follow old.latest) g.N.Start.may_say o p before now old.ways.items way trail told old.cut _ c.requires.sound.apart c.requires.sound.count c.requires.place (c.requires.sound.uncut c.requires.going) stood goes.0 goes.1)
-    refl c.gate_log-way.ensures.told
+    refl c.gate_log-way.ensures.tells
     (λ tells. still_short old.segment (of_part p trail) (of_part p trail) (ways.Synced c.in-Synced.log c.in-Synced.frame) way _ refl (le_of_eq c.gate_log-way.ensures.reach)
-    (subst (KeepsShort old.segment (of_part p trail)) (sym c.in-Synced.ensures.way) (c.requires.sound.short (c.gate_log-way.ensures.told tells) p c.requires.place)))
+    (subst (KeepsShort old.segment (of_part p trail)) (sym c.in-Synced.ensures.way) (c.requires.sound.short (c.gate_log-way.ensures.tells tells) p c.requires.place)))
 
 pub returns-clause-ok : goal.returns-clause-ok
 returns-clause-ok g c =
@@ -75,8 +75,8 @@ returns-clause-no_frame g c = (
 pub returns-clause-unchanged : goal.returns-clause-unchanged
 returns-clause-unchanged g c is = let other = subst (λ r. OnErr r (r ≡ Err SiteFault)) is c.gate_log-way.ensures.err in absurd (fault_no_frame _ other refl)
 
-pub returns-clause-told : goal.returns-clause-told
-returns-clause-told g c = c.gate_log-way.ensures.told
+pub returns-clause-tells : goal.returns-clause-tells
+returns-clause-tells g c = c.gate_log-way.ensures.tells
 
 pub returns-clause-segment : goal.returns-clause-segment
 returns-clause-segment g c = refl
@@ -90,8 +90,8 @@ returns-clause-whole g c = refl
 pub returns-clause-say_faults : goal.returns-clause-say_faults
 returns-clause-say_faults g c = c.gate_log-way.ensures.say_faults
 
-pub returns-then-ne-clause-told : goal.returns-then-ne-clause-told
-returns-then-ne-clause-told g c = λ t. t
+pub returns-then-ne-clause-tells : goal.returns-then-ne-clause-tells
+returns-then-ne-clause-tells g c = λ t. t
 
 pub returns-then-ne-clause-sound : goal.returns-then-ne-clause-sound
 returns-then-ne-clause-sound g c = c.requires.sound

@@ -36,17 +36,17 @@ returns-in-Err-clause-sound g c =
     let dues = c.reopen_log-answer.ensures.due in
     sound_on old _ p way c.requires.sound c.requires.place (broken_there c.in-Err.log frame) (put_for _ _ _ p way c.take_way-way.ensures.rest c.put_way.ensures) (sym dues ∙ ap due_in c.take_way-way.ensures.way) refl refl c.requires.whole refl
     (λ tells.
-    let stood = c.requires.sound.told (c.reopen_log-answer.ensures.told tells) in
+    let stood = c.requires.sound.told (c.reopen_log-answer.ensures.tells tells) in
     let fits = subst (λ (w : Way). LogFits (o.logs p) (of_part p trail) (changes_of (o.logs p).file before) w) (sym c.take_way-way.ensures.way) (stood.logs p c.requires.place) in
     let again = c.reopen_log-answer.ensures.reopens tells (o.logs p).file (o.logs p).header fits.payloads fits.fits in
     let failed = subst (Reopens (o.logs p).file (o.logs p).header fits.payloads (spell_frame (entries_of frame)) was before now) c.in-Err.is again in
     let path = reopen_path (g.N.Start.may_follow old.latest) g.N.Start.may_say o p trail told before now c.reopen_log-answer.result.0 again.syncs again.during ((stood.rests c.requires.whole).images p c.requires.place) in
     let breaks = breaks_again (g.N.Start.may_follow old.latest) g.N.Start.may_say o p trail now before was frame c.in-Err.log fits c.reopen_log-answer.ensures.going failed.broken_is failed.after in
     told_on (g.N.Start.may_follow old.latest) g.N.Start.may_say o p before now old.ways.items way trail told old.cut _ c.requires.sound.apart c.requires.sound.count c.requires.place c.requires.whole stood path breaks)
-    refl c.reopen_log-answer.ensures.told
+    refl c.reopen_log-answer.ensures.tells
     (λ tells. still_short old.segment (of_part p trail) (of_part p trail) was way _ c.reopen_log-answer.ensures.going
     (subst (λ r. MatchResult r (λ found. found.log.gate + 1 ≤ reach_of was) (λ log. max log.gate log.next + 1 ≤ reach_of was)) c.in-Err.is c.reopen_log-answer.ensures.reach)
-    (subst (KeepsShort old.segment (of_part p trail)) (sym c.take_way-way.ensures.way) (c.requires.sound.short (c.reopen_log-answer.ensures.told tells) p c.requires.place)))
+    (subst (KeepsShort old.segment (of_part p trail)) (sym c.take_way-way.ensures.way) (c.requires.sound.short (c.reopen_log-answer.ensures.tells tells) p c.requires.place)))
 
 pub returns-then-not-found-clause-sound : goal.returns-then-not-found-clause-sound
 returns-then-not-found-clause-sound g c =
@@ -68,17 +68,17 @@ returns-then-not-found-clause-sound g c =
     sound_any old _ p way trail c.requires.sound c.requires.place (rests_there found.log) (put_for _ _ _ p way c.take_way-way.ensures.rest c.put_way-2.ensures) (less_due _ _ _ _ (sym dues ∙ was_due) enough size)
     (still_room _ _ _ _ c.requires.sound.room) refl c.requires.whole refl
     (λ tells.
-    let stood = c.requires.sound.told (c.reopen_log-answer.ensures.told tells) in
+    let stood = c.requires.sound.told (c.reopen_log-answer.ensures.tells tells) in
     let fits = subst (λ (w : Way). LogFits (o.logs p) (of_part p trail) (changes_of (o.logs p).file before) w) (sym c.take_way-way.ensures.way) (stood.logs p c.requires.place) in
     let again = c.reopen_log-answer.ensures.reopens tells (o.logs p).file (o.logs p).header fits.payloads fits.fits in
     let opened = subst (Reopens (o.logs p).file (o.logs p).header fits.payloads (spell_frame (entries_of frame)) was before now) c.in-Ok.is again in
     let path = reopen_path (g.N.Start.may_follow old.latest) g.N.Start.may_say o p trail told before now c.reopen_log-answer.result.0 again.syncs again.during ((stood.rests c.requires.whole).images p c.requires.place) in
     let rests = rests_without (g.N.Start.may_follow old.latest) g.N.Start.may_say o p trail now before was (spell_frame (entries_of frame)) found fits (not_true found.settled c.if-not-found.true) opened.file_is opened.after in
     told_on (g.N.Start.may_follow old.latest) g.N.Start.may_say o p before now old.ways.items way trail told old.cut _ c.requires.sound.apart c.requires.sound.count c.requires.place c.requires.whole stood path rests)
-    refl c.reopen_log-answer.ensures.told (λ q apart. refl)
+    refl c.reopen_log-answer.ensures.tells (λ q apart. refl)
     (λ tells. still_short old.segment (of_part p trail) (of_part p trail) was way _ c.reopen_log-answer.ensures.going
     (subst (λ r. MatchResult r (λ found. found.log.gate + 1 ≤ reach_of was) (λ log. max log.gate log.next + 1 ≤ reach_of was)) c.in-Ok.is c.reopen_log-answer.ensures.reach)
-    (subst (KeepsShort old.segment (of_part p trail)) (sym c.take_way-way.ensures.way) (c.requires.sound.short (c.reopen_log-answer.ensures.told tells) p c.requires.place)))
+    (subst (KeepsShort old.segment (of_part p trail)) (sym c.take_way-way.ensures.way) (c.requires.sound.short (c.reopen_log-answer.ensures.tells tells) p c.requires.place)))
 
 pub returns-then-not-found-clause-opened : goal.returns-then-not-found-clause-opened
 returns-then-not-found-clause-opened g c tells =
@@ -89,7 +89,7 @@ returns-then-not-found-clause-opened g c tells =
     let now = g.V.Site.history c.reopen_log-answer.new.site in
     let frame = c.reopen_log-answer.result.1 in
     let was = c.take_way-way.result in
-    let stood = c.requires.sound.told (c.reopen_log-answer.ensures.told tells) in
+    let stood = c.requires.sound.told (c.reopen_log-answer.ensures.tells tells) in
     let fits = subst (λ (w : Way). LogFits (o.logs p) (of_part p (trail_of old.trail.items)) (changes_of (o.logs p).file before) w) (sym c.take_way-way.ensures.way) (stood.logs p c.requires.place) in
     let again = c.reopen_log-answer.ensures.reopens tells (o.logs p).file (o.logs p).header fits.payloads fits.fits in
     let opened = subst (Reopens (o.logs p).file (o.logs p).header fits.payloads (spell_frame (entries_of frame)) was before now) c.in-Ok.is again in
@@ -116,7 +116,7 @@ returns-clause-sound g c =
     sound_any old _ p way (trail ++ settling p at (entries_of frame)) c.requires.sound c.requires.place (rests_there found.log) (put_for _ _ _ p way c.take_way-way.ensures.rest c.put_way-2.ensures)
     (less_due _ _ _ _ (sym dues ∙ was_due) enough size) (less_room _ _ _ _ _ _ _ _ (sym dues ∙ was_due) enough size c.requires.sound.room c.settle_entries.ensures.len c.settle_entries.ensures.capacity) c.settle_entries.ensures.trail c.requires.whole refl
     (λ tells.
-    let stood = c.requires.sound.told (c.reopen_log-answer.ensures.told tells) in
+    let stood = c.requires.sound.told (c.reopen_log-answer.ensures.tells tells) in
     let fits = subst (λ (w : Way). LogFits (o.logs p) (of_part p trail) (changes_of (o.logs p).file before) w) (sym c.take_way-way.ensures.way) (stood.logs p c.requires.place) in
     let again = c.reopen_log-answer.ensures.reopens tells (o.logs p).file (o.logs p).header fits.payloads fits.fits in
     let opened = subst (Reopens (o.logs p).file (o.logs p).header fits.payloads (spell_frame (entries_of frame)) was before now) c.in-Ok.is again in
@@ -129,11 +129,11 @@ returns-clause-sound g c =
     (λ is. let shut : found.settled ≡ false = opened.closed (inr (ap stage_of c.take_way-way.ensures.way ∙ is)) in true_apart (sym settled ∙ shut)) in
     let rests = rests_with (g.N.Start.may_follow old.latest) g.N.Start.may_say o now (o.logs p).file (o.logs p).header fits.payloads (spell_frame (entries_of frame)) found settled opened.file_is opened.after in
     told_settled (g.N.Start.may_follow old.latest) g.N.Start.may_say o (g.N.Start.still_follows old.latest) p found.log trail told (entries_of frame) fits.payloads before now old.ways.items old.cut _ at c.requires.sound.apart c.requires.sound.count c.requires.place c.requires.whole (c.moment-at.ensures tells) follows stood path reads opened.file_is rests)
-    refl c.reopen_log-answer.ensures.told
+    refl c.reopen_log-answer.ensures.tells
     (λ q apart. of_part-append q trail (settling p at (entries_of frame)) ∙ ap (λ (l : List Entry). of_part q trail ++ l) (no_part p q at (entries_of frame) (λ same. apart (sym same))) ∙ append-nil (of_part q trail))
     (λ tells. still_short old.segment (of_part p trail) (of_part p (trail ++ settling p at (entries_of frame))) was way _ c.reopen_log-answer.ensures.going
     (subst (λ r. MatchResult r (λ found. found.log.gate + 1 ≤ reach_of was) (λ log. max log.gate log.next + 1 ≤ reach_of was)) c.in-Ok.is c.reopen_log-answer.ensures.reach)
-    (subst (KeepsShort old.segment (of_part p trail)) (sym c.take_way-way.ensures.way) (c.requires.sound.short (c.reopen_log-answer.ensures.told tells) p c.requires.place)))
+    (subst (KeepsShort old.segment (of_part p trail)) (sym c.take_way-way.ensures.way) (c.requires.sound.short (c.reopen_log-answer.ensures.tells tells) p c.requires.place)))
 
 pub returns-clause-opened : goal.returns-clause-opened
 returns-clause-opened g c tells =
@@ -144,7 +144,7 @@ returns-clause-opened g c tells =
     let now = g.V.Site.history c.reopen_log-answer.new.site in
     let frame = c.reopen_log-answer.result.1 in
     let was = c.take_way-way.result in
-    let stood = c.requires.sound.told (c.reopen_log-answer.ensures.told tells) in
+    let stood = c.requires.sound.told (c.reopen_log-answer.ensures.tells tells) in
     let fits = subst (λ (w : Way). LogFits (o.logs p) (of_part p (trail_of old.trail.items)) (changes_of (o.logs p).file before) w) (sym c.take_way-way.ensures.way) (stood.logs p c.requires.place) in
     let again = c.reopen_log-answer.ensures.reopens tells (o.logs p).file (o.logs p).header fits.payloads fits.fits in
     let opened = subst (Reopens (o.logs p).file (o.logs p).header fits.payloads (spell_frame (entries_of frame)) was before now) c.in-Ok.is again in
@@ -229,8 +229,8 @@ returns-clause-halts g c is = absurd (ok_apart _ _ is)
 pub returns-clause-unchanged : goal.returns-clause-unchanged
 returns-clause-unchanged g c is = absurd (ok_apart _ _ is)
 
-pub returns-in-Err-clause-told : goal.returns-in-Err-clause-told
-returns-in-Err-clause-told g c = c.reopen_log-answer.ensures.told
+pub returns-in-Err-clause-tells : goal.returns-in-Err-clause-tells
+returns-in-Err-clause-tells g c = c.reopen_log-answer.ensures.tells
 
 pub returns-in-Err-clause-ok : goal.returns-in-Err-clause-ok
 returns-in-Err-clause-ok g c = tt
@@ -271,8 +271,8 @@ returns-in-Err-clause-fault g c = λ is. subst (λ r. OnErr r (HasRisen (g.V.Sit
 pub returns-in-Err-clause-say_faults : goal.returns-in-Err-clause-say_faults
 returns-in-Err-clause-say_faults g c = c.reopen_log-answer.ensures.say_faults
 
-pub returns-then-not-found-clause-told : goal.returns-then-not-found-clause-told
-returns-then-not-found-clause-told g c = c.reopen_log-answer.ensures.told
+pub returns-then-not-found-clause-tells : goal.returns-then-not-found-clause-tells
+returns-then-not-found-clause-tells g c = c.reopen_log-answer.ensures.tells
 
 pub returns-then-not-found-clause-dropped : goal.returns-then-not-found-clause-dropped
 returns-then-not-found-clause-dropped g c = λ is. refl
@@ -304,8 +304,8 @@ returns-then-not-found-clause-later g c = c.reopen_log-answer.ensures.cause.late
 pub returns-then-not-found-clause-say_faults : goal.returns-then-not-found-clause-say_faults
 returns-then-not-found-clause-say_faults g c = c.reopen_log-answer.ensures.say_faults
 
-pub returns-clause-told : goal.returns-clause-told
-returns-clause-told g c = c.reopen_log-answer.ensures.told
+pub returns-clause-tells : goal.returns-clause-tells
+returns-clause-tells g c = c.reopen_log-answer.ensures.tells
 
 pub returns-clause-no_trail : goal.returns-clause-no_trail
 returns-clause-no_trail g c = tt
@@ -334,8 +334,8 @@ returns-clause-later g c = c.reopen_log-answer.ensures.cause.later
 pub returns-clause-say_faults : goal.returns-clause-say_faults
 returns-clause-say_faults g c = c.reopen_log-answer.ensures.say_faults
 
-pub returns-then-eq-clause-told : goal.returns-then-eq-clause-told
-returns-then-eq-clause-told g c = λ t. t
+pub returns-then-eq-clause-tells : goal.returns-then-eq-clause-tells
+returns-then-eq-clause-tells g c = λ t. t
 
 pub returns-then-eq-clause-sound : goal.returns-then-eq-clause-sound
 returns-then-eq-clause-sound g c = c.requires.sound

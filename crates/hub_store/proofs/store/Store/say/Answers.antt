@@ -18,7 +18,7 @@ returns-in-Ok-clause-sound g c =
     sound_told old _ (told ++ one ∷ []) c.requires.sound refl refl refl
     (told_more _ _ _ _ c.args.client.now c.args.number c.reserve.ensures.items c.push_reserved.ensures.items c.in_ok-client.ensures refl) c.requires.sound.uncut
     (λ tells. told_said (g.N.Start.may_follow old.latest) g.N.Start.may_say g.N.Start.origin (g.N.Start.still_follows old.latest) old.ways.items (trail_of old.trail.items) told one c.args.line.now (g.V.Site.history old.site)
-    (g.V.Site.history c.say.new.self) c.say.result old.cut _ c.requires.may (c.requires.sound.uncut c.requires.going) (c.requires.sound.told (c.say.ensures.told tells)) c.say.ensures.done (c.in-Ok.ensures.done).ok) refl c.say.ensures.told
+    (g.V.Site.history c.say.new.self) c.say.result old.cut _ c.requires.may (c.requires.sound.uncut c.requires.going) (c.requires.sound.told (c.say.ensures.tells tells)) c.say.ensures.done (c.in-Ok.ensures.done).ok) refl c.say.ensures.tells
 
 pub returns-in-Err-clause-sound : goal.returns-in-Err-clause-sound
 returns-in-Err-clause-sound g c =
@@ -27,7 +27,7 @@ returns-in-Err-clause-sound g c =
     let one = asked c.args.client.now c.args.number in
     sound_told old _ told c.requires.sound refl refl refl (ap told_of c.reserve.ensures.items) (λ still. absurd (true_apart still))
     (λ tells. told_failed (g.N.Start.may_follow old.latest) g.N.Start.may_say g.N.Start.origin (g.N.Start.still_follows old.latest) old.ways.items (trail_of old.trail.items) told one c.args.line.now (g.V.Site.history old.site)
-    (g.V.Site.history c.say.new.self) c.say.result old.cut _ c.requires.may (c.requires.sound.uncut c.requires.going) refl (c.requires.sound.told (c.say.ensures.told tells)) c.say.ensures.done) refl c.say.ensures.told
+    (g.V.Site.history c.say.new.self) c.say.result old.cut _ c.requires.may (c.requires.sound.uncut c.requires.going) refl (c.requires.sound.told (c.say.ensures.tells tells)) c.say.ensures.done) refl c.say.ensures.tells
 
 pub returns-in-Ok-clause-memory : goal.returns-in-Ok-clause-memory
 returns-in-Ok-clause-memory g c is = absurd (ok_apart _ _ is)
@@ -61,8 +61,8 @@ returns-in-Err-clause-halted g c = record {
   risen = λ is. c.in-Err.ensures.cause.risen;
 }
 
-pub returns-in-Ok-clause-told : goal.returns-in-Ok-clause-told
-returns-in-Ok-clause-told g c = c.say.ensures.told
+pub returns-in-Ok-clause-tells : goal.returns-in-Ok-clause-tells
+returns-in-Ok-clause-tells g c = c.say.ensures.tells
 
 pub returns-in-Ok-clause-err : goal.returns-in-Ok-clause-err
 returns-in-Ok-clause-err g c = tt
@@ -85,8 +85,8 @@ returns-in-Ok-clause-still g c = c.requires.going
 pub returns-in-Ok-clause-disk_faults : goal.returns-in-Ok-clause-disk_faults
 returns-in-Ok-clause-disk_faults g c = c.say.ensures.disk_faults
 
-pub returns-in-Err-clause-told : goal.returns-in-Err-clause-told
-returns-in-Err-clause-told g c = c.say.ensures.told
+pub returns-in-Err-clause-tells : goal.returns-in-Err-clause-tells
+returns-in-Err-clause-tells g c = c.say.ensures.tells
 
 pub returns-in-Err-clause-ok : goal.returns-in-Err-clause-ok
 returns-in-Err-clause-ok g c = tt
@@ -114,7 +114,7 @@ returns-in-Err-clause-disk_faults g c = c.say.ensures.disk_faults
 
 pub returns-in_err-client : goal.returns-in_err-client
 returns-in_err-client g c = record {
-  told = λ t. t;
+  tells = λ t. t;
   sound = c.requires.sound;
   ok = residual_on_ok _ c.from_residual.result _ c.from_residual.ensures.1;
   err = residual_on_err _ c.from_residual.result refl;
@@ -132,7 +132,7 @@ returns-in_err-client g c = record {
 
 pub returns-in_err-reserve : goal.returns-in_err-reserve
 returns-in_err-reserve g c = record {
-  told = λ t. t;
+  tells = λ t. t;
   sound = sound_told c.args.self.now _ (told_of c.args.self.now.told.items) c.requires.sound refl refl refl (ap told_of c.reserve.ensures.items) c.requires.sound.uncut c.requires.sound.told refl (λ t. t);
   ok = residual_on_ok _ c.from_residual-in_err-reserve.result _ c.from_residual-in_err-reserve.ensures.1;
   err = residual_on_err _ c.from_residual-in_err-reserve.result (ap told_of c.reserve.ensures.items);

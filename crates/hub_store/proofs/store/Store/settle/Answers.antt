@@ -35,16 +35,16 @@ returns-in-Ok-clause-sound g c =
     sound_any old _ p (ways.Resting c.in-Ok.log) (trail ++ settling p at (entries_of frame)) c.requires.sound c.requires.place (rests_there c.in-Ok.log) (put_for _ _ _ p (ways.Resting c.in-Ok.log) c.take_way.ensures.rest c.put_way.ensures)
     (less_due _ _ _ _ dues enough size) (less_room _ _ _ _ _ _ _ _ dues enough size c.requires.sound.room c.settle_entries.ensures.len c.settle_entries.ensures.capacity) c.settle_entries.ensures.trail (c.requires.sound.uncut c.requires.going) refl
     (λ tells.
-    let stood = c.requires.sound.told (c.settle.ensures.told tells) in
+    let stood = c.requires.sound.told (c.settle.ensures.tells tells) in
     let fits = subst (λ (w : Way). LogFits (o.logs p) (of_part p trail) (changes_of (o.logs p).file before) w) (sym c.in-Gated.ensures.way) (stood.logs p c.requires.place) in
     let follows = c.requires.follows _ (ap going_in (sym c.in-Gated.ensures.way)) in
     let path = settle_path (g.N.Start.may_follow old.latest) g.N.Start.may_say o p log frame trail told before now c.settle.result c.settle.ensures.syncs c.settle.ensures.during follows fits in
     let rests = settle_rests (g.N.Start.may_follow old.latest) g.N.Start.may_say o p log frame trail before now c.in-Ok.log (c.in-Ok.ensures.place).0 c.in-Ok.ensures.after fits in
     told_settled (g.N.Start.may_follow old.latest) g.N.Start.may_say o (g.N.Start.still_follows old.latest) p c.in-Ok.log trail told (entries_of frame) fits.payloads before now old.ways.items old.cut _ at c.requires.sound.apart c.requires.sound.count c.requires.place (c.requires.sound.uncut c.requires.going) (c.moment-at.ensures tells) follows stood path fits.next rests.0 rests.1)
-    refl c.settle.ensures.told
+    refl c.settle.ensures.tells
     (λ q apart. of_part-append q trail (settling p at (entries_of frame)) ∙ ap (λ (l : List Entry). of_part q trail ++ l) (no_part p q at (entries_of frame) (λ same. apart (sym same))) ∙ append-nil (of_part q trail))
     (λ tells. still_short old.segment (of_part p trail) (of_part p (trail ++ settling p at (entries_of frame))) (ways.Gated log frame) (ways.Resting c.in-Ok.log) _ refl (reach_next log.gate log.next c.in-Ok.log.gate c.in-Ok.ensures.place.1)
-    (subst (KeepsShort old.segment (of_part p trail)) (sym c.in-Gated.ensures.way) (c.requires.sound.short (c.settle.ensures.told tells) p c.requires.place)))
+    (subst (KeepsShort old.segment (of_part p trail)) (sym c.in-Gated.ensures.way) (c.requires.sound.short (c.settle.ensures.tells tells) p c.requires.place)))
 
 pub returns-in-Ok-clause-trail : goal.returns-in-Ok-clause-trail
 returns-in-Ok-clause-trail g c = record {
@@ -69,15 +69,15 @@ returns-in-Err-clause-sound g c =
     let way = ways.Broken c.in-Err.log frame in
     sound_on old _ p way c.requires.sound c.requires.place (broken_there c.in-Err.log frame) (put_for _ _ _ p way c.take_way.ensures.rest c.put_way-in-Err.ensures) (ap due_in c.in-Gated.ensures.way) refl refl (c.requires.sound.uncut c.requires.going) refl
     (λ tells.
-    let stood = c.requires.sound.told (c.settle.ensures.told tells) in
+    let stood = c.requires.sound.told (c.settle.ensures.tells tells) in
     let fits = subst (λ (w : Way). LogFits (o.logs p) (of_part p trail) (changes_of (o.logs p).file before) w) (sym c.in-Gated.ensures.way) (stood.logs p c.requires.place) in
     let follows = c.requires.follows _ (ap going_in (sym c.in-Gated.ensures.way)) in
     let path = settle_path (g.N.Start.may_follow old.latest) g.N.Start.may_say o p log frame trail told before now c.settle.result c.settle.ensures.syncs c.settle.ensures.during follows fits in
     let breaks = settle_breaks (g.N.Start.may_follow old.latest) g.N.Start.may_say o p log frame trail before now c.in-Err.log (c.in-Err.ensures.broken).0 c.in-Err.ensures.after fits in
     told_on (g.N.Start.may_follow old.latest) g.N.Start.may_say o p before now old.ways.items way trail told old.cut _ c.requires.sound.apart c.requires.sound.count c.requires.place (c.requires.sound.uncut c.requires.going) stood path breaks)
-    refl c.settle.ensures.told
+    refl c.settle.ensures.tells
     (λ tells. still_short old.segment (of_part p trail) (of_part p trail) (ways.Gated log frame) way _ refl (reach_same log.gate log.next _ _ c.in-Err.ensures.broken.1 c.in-Err.ensures.broken.2)
-    (subst (KeepsShort old.segment (of_part p trail)) (sym c.in-Gated.ensures.way) (c.requires.sound.short (c.settle.ensures.told tells) p c.requires.place)))
+    (subst (KeepsShort old.segment (of_part p trail)) (sym c.in-Gated.ensures.way) (c.requires.sound.short (c.settle.ensures.tells tells) p c.requires.place)))
 
 pub returns-in-Ok-clause-ok : goal.returns-in-Ok-clause-ok
 returns-in-Ok-clause-ok g c =
@@ -123,8 +123,8 @@ returns-in-Err-clause-halted g c = record {
   risen = λ is. c.in-Err.ensures.cause.risen;
 }
 
-pub returns-in-Ok-clause-told : goal.returns-in-Ok-clause-told
-returns-in-Ok-clause-told g c = c.settle.ensures.told
+pub returns-in-Ok-clause-tells : goal.returns-in-Ok-clause-tells
+returns-in-Ok-clause-tells g c = c.settle.ensures.tells
 
 pub returns-in-Ok-clause-no_trail : goal.returns-in-Ok-clause-no_trail
 returns-in-Ok-clause-no_trail g c = tt
@@ -156,8 +156,8 @@ returns-in-Ok-clause-halts g c = λ is. absurd (ok_apart _ _ is)
 pub returns-in-Ok-clause-say_faults : goal.returns-in-Ok-clause-say_faults
 returns-in-Ok-clause-say_faults g c = c.settle.ensures.say_faults
 
-pub returns-in-Err-clause-told : goal.returns-in-Err-clause-told
-returns-in-Err-clause-told g c = c.settle.ensures.told
+pub returns-in-Err-clause-tells : goal.returns-in-Err-clause-tells
+returns-in-Err-clause-tells g c = c.settle.ensures.tells
 
 pub returns-in-Err-clause-ok : goal.returns-in-Err-clause-ok
 returns-in-Err-clause-ok g c = tt
@@ -192,8 +192,8 @@ returns-in-Err-clause-halts g c = λ is. refl
 pub returns-in-Err-clause-say_faults : goal.returns-in-Err-clause-say_faults
 returns-in-Err-clause-say_faults g c = c.settle.ensures.say_faults
 
-pub returns-then-ne-clause-told : goal.returns-then-ne-clause-told
-returns-then-ne-clause-told g c = λ t. t
+pub returns-then-ne-clause-tells : goal.returns-then-ne-clause-tells
+returns-then-ne-clause-tells g c = λ t. t
 
 pub returns-then-ne-clause-sound : goal.returns-then-ne-clause-sound
 returns-then-ne-clause-sound g c = c.requires.sound

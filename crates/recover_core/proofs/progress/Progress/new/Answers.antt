@@ -4,7 +4,7 @@ use Rattle.part_steps.specs.States.{state_of}
 use Rattle.recover_core.proofs.progress.Progress.new.Goals as goal
 
 pub returns-clause-begins : goal.returns-clause-begins
-returns-clause-begins c = λ flows. record { next = refl; life = refl; placed = (ap (λ (p : Partition). Ok p) (sym c.new.ensures.fresh), c.new.ensures.partitions, c.new.ensures.sound) }
+returns-clause-begins c = λ flows. record { next = refl; incarnation = refl; placed = (ap (λ (p : Partition). Ok p) (sym c.new.ensures.fresh), c.new.ensures.partitions, c.new.ensures.sound) }
 
 pub returns-clause-ready : goal.returns-clause-ready
 returns-clause-ready c =

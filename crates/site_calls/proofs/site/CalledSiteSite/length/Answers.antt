@@ -13,16 +13,16 @@ invariant_of-self g c =
     let still = c.length_of-outcome.ensures.still unseen in
     record {
       knows = subst (Knows site.known) (sym still) site.knows;
-      inside = λ tells. subst (λ m. AllInside m.steps) (sym still) (site.inside (told_still unseen _ _ (c.length_of-outcome.ensures.told unseen) still tells));
+      inside = λ tells. subst (λ m. AllInside m.steps) (sym still) (site.inside (told_still unseen _ _ (c.length_of-outcome.ensures.tells unseen) still tells));
       disk_calls = counted_once is_disk_failure _ _ c.placed-outcome.result _ _ c.noted.ensures.once
           (fails_through is_disk_failure _ _ c.length_of-outcome.result c.placed-outcome.result _ _ c.placed-outcome.ensures c.length_of-outcome.ensures.failure) site.disk_calls;
       say_calls = omega (arith, site.say_calls, c.length_of-outcome.ensures.failure.kept is_say_failure);
     }
 
-pub returns-clause-told : goal.returns-clause-told
-returns-clause-told g c tells =
+pub returns-clause-tells : goal.returns-clause-tells
+returns-clause-tells g c tells =
     let unseen = g.S.Start.unseen in
-    told_still unseen _ _ (c.length_of-outcome.ensures.told unseen) (c.length_of-outcome.ensures.still unseen) tells
+    told_still unseen _ _ (c.length_of-outcome.ensures.tells unseen) (c.length_of-outcome.ensures.still unseen) tells
 
 pub returns-clause-value : goal.returns-clause-value
 returns-clause-value g c tells =

@@ -12,14 +12,14 @@ invariant_of-self g c =
     record {
       knows = c.sync_file-outcome.ensures.known unseen site.knows;
       inside = λ tells.
-          let before = told_before unseen _ _ (c.sync_file-outcome.ensures.told unseen) (syncs_longer _ _ _ c.args.file done) tells in
+          let before = told_before unseen _ _ (c.sync_file-outcome.ensures.tells unseen) (syncs_longer _ _ _ c.args.file done) tells in
           syncs_inside_still _ _ _ c.args.file done (site.inside before);
       disk_calls = counted_once is_disk_failure _ _ c.sync_file-outcome.result _ _ c.noted.ensures.once c.sync_file-outcome.ensures.failure site.disk_calls;
       say_calls = omega (arith, site.say_calls, c.sync_file-outcome.ensures.failure.kept is_say_failure);
     }
 
-pub returns-clause-told : goal.returns-clause-told
-returns-clause-told g c tells =
+pub returns-clause-tells : goal.returns-clause-tells
+returns-clause-tells g c tells =
     let unseen = g.S.Start.unseen in
     let done = c.sync_file-outcome.ensures.done unseen c.args.self.now.knows in
-    told_before unseen _ _ (c.sync_file-outcome.ensures.told unseen) (syncs_longer _ _ _ c.args.file done) tells
+    told_before unseen _ _ (c.sync_file-outcome.ensures.tells unseen) (syncs_longer _ _ _ c.args.file done) tells

@@ -12,15 +12,15 @@ invariant_of-self g c =
     record {
       knows = c.write_file-outcome.ensures.known unseen site.knows;
       inside = λ tells.
-          let before = told_before unseen _ _ (c.write_file-outcome.ensures.told unseen) (writes_longer _ _ _ c.args.file c.args.at c.args.bytes.now done) tells in
+          let before = told_before unseen _ _ (c.write_file-outcome.ensures.tells unseen) (writes_longer _ _ _ c.args.file c.args.at c.args.bytes.now done) tells in
           writes_inside_still _ _ _ c.args.file c.args.at c.args.bytes.now done (c.requires before) (site.inside before);
       disk_calls = counted_once is_disk_failure _ _ c.placed-outcome.result _ _ c.noted.ensures.once
           (fails_through is_disk_failure _ _ c.write_file-outcome.result c.placed-outcome.result _ _ c.placed-outcome.ensures c.write_file-outcome.ensures.failure) site.disk_calls;
       say_calls = omega (arith, site.say_calls, c.write_file-outcome.ensures.failure.kept is_say_failure);
     }
 
-pub returns-clause-told : goal.returns-clause-told
-returns-clause-told g c tells =
+pub returns-clause-tells : goal.returns-clause-tells
+returns-clause-tells g c tells =
     let unseen = g.S.Start.unseen in
     let done = c.write_file-outcome.ensures.done unseen in
-    told_before unseen _ _ (c.write_file-outcome.ensures.told unseen) (writes_longer _ _ _ c.args.file c.args.at c.args.bytes.now done) tells
+    told_before unseen _ _ (c.write_file-outcome.ensures.tells unseen) (writes_longer _ _ _ c.args.file c.args.at c.args.bytes.now done) tells

@@ -1,4 +1,4 @@
--- `new` makes a struct of no bytes, at the list of no moments.
+-- `new` makes a struct of no bytes, at the list of no stamps.
 use Rattle.std.proofs.Common.{[], ◌∷◌, refl}
 use Rattle.std.proofs.raw_atomic.Walks.{proved}
 use mir.Val.{Val, vstruct, vcons, vnil}
@@ -21,7 +21,7 @@ abbrev stored : Val
 stored = vstruct (vcons (vstruct vnil) vnil)
 
 abbrev fresh : Readings
-fresh = record { marker = record {}; moments = [] }
+fresh = record { marker = record {}; stamps = [] }
 
 pub new_spec : {M : Type 1} → statement M
 new_spec 𝓤 𝓛 𝓜 𝓡 wired =

@@ -1,4 +1,4 @@
--- `note` has an empty body. Its borrow is opened, and closed at a list that is longer by the moment.
+-- `note` has an empty body. Its borrow is opened, and closed at a list that is longer by the stamp.
 use Rattle.std.proofs.Common.{ℕ, List, [], ◌∷◌, refl}
 use Rattle.std.proofs.raw_atomic.Walks.{proved}
 use base.Logic.{id⊢}
@@ -27,7 +27,7 @@ abbrev stayed : Stays f.ended.signature.params f.ended.kept
 stayed = (stay_ref (0 ∷ []) tt (plain (λ _. R)), (stay_none_slice (1 ∷ []) tt (plain (λ _. u64)) yes, tt))
 
 abbrev noted : List ℕ → Readings → Readings
-noted numbers r = record { marker = r.marker; moments = reading_of numbers ∷ r.moments }
+noted numbers r = record { marker = r.marker; stamps = reading_of numbers ∷ r.stamps }
 
 pub note_spec : {M : Type 1} → statement M
 note_spec 𝓤 𝓛 𝓜 𝓡 wired =

@@ -1,5 +1,5 @@
 use Rattle.std.proofs.Common.{arith}
-use Rattle.run_rules.proofs.examples.moments_of_items.Goals as goal
+use Rattle.run_rules.proofs.examples.stamps_of_items.Goals as goal
 
 pub returns-clause-then : goal.returns-clause-then
 returns-clause-then c = λ id task. omega arith

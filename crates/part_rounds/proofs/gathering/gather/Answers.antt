@@ -7,14 +7,14 @@ use Rattle.part_items.specs.declared.items.Item.{Item}
 use Rattle.part_rounds.specs.Fills.{Fills, CantTake}
 use Rattle.part_rounds.specs.InTime.{AreAt, Giving, IsRun}
 use Rattle.part_rounds.specs.Rounds.{pairs_of}
-use Rattle.part_steps.specs.Enabled.{NoneEnabled, moment_at}
+use Rattle.part_steps.specs.Enabled.{NoneEnabled, stamp_at}
 use Rattle.part_steps.specs.States.{state_of}
 use Rattle.part_rounds.proofs.Fillings.{fills_nothing}
 use Rattle.part_rounds.proofs.Puttings.{goes_on_both, no_items}
-use Rattle.part_rounds.proofs.filling_on.gather.Goals as goal
+use Rattle.part_rounds.proofs.gathering.gather.Goals as goal
 
 pub fill_on-requires-clause-way : goal.fill_on-requires-clause-way
-fill_on-requires-clause-way g c = (c.in_ok-ended.ensures.goes_on (record { flows = g.R.Reactions.flows c.args.reactions.now; begin = fresh 0; life = 0; requests = [] }) [] refl).way
+fill_on-requires-clause-way g c = (c.in_ok-ended.ensures.goes_on (record { flows = g.R.Reactions.flows c.args.reactions.now; begin = fresh 0; incarnation = 0; requests = [] }) [] refl).way
 
 pub returns-clause-fills : goal.returns-clause-fills
 returns-clause-fills g c = λ rules told same said.
@@ -32,7 +32,7 @@ returns-clause-none g c = λ empty.
       record {
         outcomes = c.in_ok-ended.ensures.idle before;
         requests = subst (λ (p : Partition). All (λ (name : List ℕ). CantTake (g.R.Reactions.flows c.args.reactions.now) p c.args.port.now name) c.args.clients.now) ended filled.1;
-        steps = subst (λ (p : Partition). NoneEnabled (g.R.Reactions.flows c.args.reactions.now) 1 p (moment_at p c.args.chance.now)) ended filled.2;
+        steps = subst (λ (p : Partition). NoneEnabled (g.R.Reactions.flows c.args.reactions.now) 1 p (stamp_at p c.args.chance.now)) ended filled.2;
       },
     )
 

@@ -1,4 +1,4 @@
--- How far the greatest moment of a state goes.
+-- How far the greatest stamp of a state goes.
 use Rattle.std.proofs.Common.{◌≡◌, inl, inr, ◌≤◌, ◌&&◌, ℕ, Bool, true, false, List, [], ◌∷◌, ◌++◌, cond, Option, Some, None, refl, sym, ◌∙◌, ap, subst, arith}
 use Rattle.std.specs.List.{All}
 use Rattle.std.specs.Option.{option_and_then}
@@ -18,7 +18,7 @@ use Rattle.flow_syntax.specs.Machine.{Event, Asked, an_activity, a_timer, result
 use Rattle.flow_syntax.specs.Machine.{fired as timer_fired}
 use Rattle.flow_syntax.specs.Syntax.{Flows}
 use Rattle.dura_model.specs.Entries.{all_accepted}
-use Rattle.part_steps.specs.Enabled.{Makes, is_at, moment_at}
+use Rattle.part_steps.specs.Enabled.{Makes, is_at, stamp_at}
 use Rattle.part_steps.specs.Enabled.Makes.{nothing, one_more}
 use Rattle.part_items.specs.Plain.{item_of}
 use Rattle.part_items.specs.declared.items.Item.{Item as OwnItem}
@@ -126,20 +126,20 @@ fired_raises flows count p q id task stamp (Some o) None is = absurd (cc is)
 raised_is : (was stamp : ℕ) (b : Bool) → nat_le was stamp ≡ b → cond b stamp was ≡ max was stamp
 raised_is was stamp b is = grind (arith)
 
--- the moment of an item, where it has one
-abbrev pub moment_of : Item → ℕ
-moment_of (took message) = 0
-moment_of (got source number message) = 0
-moment_of (ran from to stamp) = stamp
-moment_of (ended id task outcome) = 0
-moment_of (fired id task stamp) = stamp
-moment_of (trim reader number) = 0
+-- the stamp of an item, where it has one
+abbrev pub stamp_of : Item → ℕ
+stamp_of (took message) = 0
+stamp_of (got source number message) = 0
+stamp_of (ran from to stamp) = stamp
+stamp_of (ended id task outcome) = 0
+stamp_of (fired id task stamp) = stamp
+stamp_of (trim reader number) = 0
 
 pub raised_max : (p : Partition) (stamp : ℕ) → (raised_to stamp p).stamp ≡ max p.stamp stamp
 raised_max p stamp = raised_is p.stamp stamp (nat_le p.stamp stamp) refl
 
--- the greatest moment behind an item is the greater of the one before and the item's
-pub stamp_after : (flows : Flows) (count : ℕ) (p q : Partition) (item : Item) → accepted flows count p item ≡ Some q → q.stamp ≡ max p.stamp (moment_of item)
+-- the greatest stamp behind an item is the greater of the one before and the item's
+pub stamp_after : (flows : Flows) (count : ℕ) (p q : Partition) (item : Item) → accepted flows count p item ≡ Some q → q.stamp ≡ max p.stamp (stamp_of item)
 stamp_after flows count p q (took message) is =
     taken_keeps count p q message (home count message.from == p.number && is_request message.from (number_in message.body) message) (p.taken message.from (number_in message.body)) is ∙ omega arith
 stamp_after flows count p q (got source number message) is =
@@ -154,53 +154,53 @@ stamp_after flows count p q (trim reader number) is =
 
 -- ---- what items make of it
 
-own_moment : (item : Item) (moment : ℕ) → moment_of item ≤ moment → IsBy moment item
-own_moment (took message) moment low = tt
-own_moment (got source number message) moment low = tt
-own_moment (ran from to stamp) moment low = low
-own_moment (ended id task outcome) moment low = tt
-own_moment (fired id task stamp) moment low = low
-own_moment (trim reader number) moment low = tt
+own_stamp : (item : Item) (now : ℕ) → stamp_of item ≤ now → IsBy now item
+own_stamp (took message) now low = tt
+own_stamp (got source number message) now low = tt
+own_stamp (ran from to stamp) now low = low
+own_stamp (ended id task outcome) now low = tt
+own_stamp (fired id task stamp) now low = low
+own_stamp (trim reader number) now low = tt
 
 pub both_some : {X Y : Type 0} (o : Option X) (f : X → Option Y) (y : Y) → option_and_then f o ≡ Some y → (x : X) × (o ≡ Some x) × (f x ≡ Some y)
 both_some None f y is = absurd (cc is)
 both_some (Some x) f y is = (x, refl, is)
 
--- no item is of a later moment than the state that all make
+-- no item is of a later stamp than the state that all make
 pub items_by : (flows : Flows) (items : List Item) (p q : Partition) → all_accepted flows 1 p items ≡ Some q → (p.stamp ≤ q.stamp) × All (IsBy q.stamp) items
 items_by flows [] p q all = let same : p ≡ q = cc all in (subst (λ (r : Partition). p.stamp ≤ r.stamp) same (omega arith), λ k d inside. absurd (omega (arith, inside)))
 items_by flows (item ∷ items) p q all =
     let first = both_some (accepted flows 1 p item) (λ next. all_accepted flows 1 next items) q all in
     let after = stamp_after flows 1 p first.0 item first.1 in
     let rest = items_by flows items first.0 q first.2 in
-    (omega (arith, after, rest.0), All-cons (IsBy q.stamp) item items (own_moment item q.stamp (omega (arith, after, rest.0))) rest.1)
+    (omega (arith, after, rest.0), All-cons (IsBy q.stamp) item items (own_stamp item q.stamp (omega (arith, after, rest.0))) rest.1)
 
-at_moment : (item : Item) (moment : ℕ) → is_at item moment ≡ true → moment_of item ≡ moment
-at_moment (ran from to stamp) moment at = eqb-true stamp moment at
-at_moment (fired id task stamp) moment at = eqb-true stamp moment at
-at_moment (took message) moment at = absurd (cc at)
-at_moment (got source number message) moment at = absurd (cc at)
-at_moment (ended id task outcome) moment at = absurd (cc at)
-at_moment (trim reader number) moment at = absurd (cc at)
+at_stamp : (item : Item) (now : ℕ) → is_at item now ≡ true → stamp_of item ≡ now
+at_stamp (ran from to stamp) now at = eqb-true stamp now at
+at_stamp (fired id task stamp) now at = eqb-true stamp now at
+at_stamp (took message) now at = absurd (cc at)
+at_stamp (got source number message) now at = absurd (cc at)
+at_stamp (ended id task outcome) now at = absurd (cc at)
+at_stamp (trim reader number) now at = absurd (cc at)
 
--- what is possible by now makes no state of a later moment than now
+-- what is possible by now makes no state of a later stamp than now
 pub makes_by : {flows : Flows} {count now : ℕ} {first p : Partition} {items : List Item} {made : List Outputs} → Makes flows count now first items made p → p.stamp ≤ max first.stamp now
 makes_by nothing = omega arith
 makes_by {flows} {count} {now} {first} (one_more {items} {made} {p} {q} before item at is) =
     let low = makes_by before in
     let after = stamp_after flows count p q item is in
-    let moment = at_moment item (moment_at p now) at in
+    let stamp = at_stamp item (stamp_at p now) at in
     let now_is = raised_max p now in
-    omega (arith, low, after, moment, now_is)
+    omega (arith, low, after, stamp, now_is)
 
--- an item without a moment leaves the greatest where it is
-pub puts_still : (flows : Flows) (old new : Filling) (item : OwnItem) → Puts flows old item new → moment_of (item_of item) ≡ 0 → (state_of new.state).stamp ≡ (state_of old.state).stamp
+-- an item without a stamp leaves the greatest where it is
+pub puts_still : (flows : Flows) (old new : Filling) (item : OwnItem) → Puts flows old item new → stamp_of (item_of item) ≡ 0 → (state_of new.state).stamp ≡ (state_of old.state).stamp
 puts_still flows old new item puts none = elim puts.2 [
   | inl put ↦ let after = stamp_after flows 1 (state_of old.state) (state_of new.state) (item_of item) put.0 in omega (arith, after, none)
   | inr refused ↦ ap (λ (p : Partition). p.stamp) refused.1
 ]
 
-pub outcome_still : (p : Partition) (item : Item) → IsOfPending p item → moment_of item ≡ 0
+pub outcome_still : (p : Partition) (item : Item) → IsOfPending p item → stamp_of item ≡ 0
 outcome_still p (ended id task outcome) pending = refl
 outcome_still p (took message) pending = absurd pending
 outcome_still p (got source number message) pending = absurd pending

@@ -1,7 +1,7 @@
 use Rattle.part_items.specs.ItemFits.{FitsItem}
 use Rattle.part_items.specs.Plain.{item_of}
 use Rattle.part_rounds.proofs.Walks.{all_next_shown, all_whole_shown, all_at_shown}
-use Rattle.part_rounds.proofs.gathering.all_fit.Goals as goal
+use Rattle.part_rounds.proofs.filling.all_fit.Goals as goal
 
 pub loop-item-preserved : goal.loop-item-preserved
 loop-item-preserved c = all_next_shown item_of FitsItem c.args.items.now c.loop-item.item-index c.item-item.result c.loop-item-test.true c.item-item.is c.loop-item.invariant (c.item_fits.ensures.fits c.if-not-item_fits.false)

@@ -1,14 +1,14 @@
 use Rattle.std.proofs.Common.{◌≡◌, ◌^◌, Ok, Err, refl, ap, arith}
 use Rattle.dura_model.specs.Partition.{Partition}
-use Rattle.run_examples.specs.Ending.{at_last_place}
-use Rattle.run_examples.proofs.ending_examples.places_spent.Goals as goal
+use Rattle.run_examples.specs.Ending.{at_last_position}
+use Rattle.run_examples.proofs.ending_examples.positions_spent.Goals as goal
 
 pub returns-clause-last : goal.returns-clause-last
-returns-clause-last c = record { before = at_last_place.begin; made = refl; number_is = refl; reaches = omega arith }
+returns-clause-last c = record { before = at_last_position.begin; made = refl; number_is = refl; reaches = omega arith }
 
 pub returns-clause-other : goal.returns-clause-other
 returns-clause-other c = λ spent.
-    let before : at_last_place.begin ≡ spent.before = cc spent.made in
+    let before : at_last_position.begin ≡ spent.before = cc spent.made in
     let place : 2 ^ 62 ≡ spent.before.position = ap (λ (p : Partition). p.position) before in
     omega (arith, place, spent.number_is)
 
