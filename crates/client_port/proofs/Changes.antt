@@ -13,16 +13,9 @@ use Rattle.request_reader.specs.Line.{Request, request_of}
 use Rattle.client_port.specs.Ports.{Queue, is_of, at_client, due_of, first_due, with_last, with_request}
 use Rattle.client_port.specs.Views.{queue_of}
 use Rattle.client_port.specs.declared.queues.Queue.{Queue as OwnQueue}
+use Rattle.dura_value.proofs.Basics.{position_low}
 
 -- ---- a change
-
-at_by : (k i : ℕ) (b : Bool) (o : Option ℕ) → (o ≡ Some i → k + 1 ≤ i) → cond b (Some k) o ≡ Some i → k ≤ i
-at_by k i true o low is = let same : k ≡ i = cc in omega arith
-at_by k i false o low is = let above : k + 1 ≤ i = low is in omega arith
-
-at_low : {X : Type 0} (p : X → Bool) (k i : ℕ) (xs : List X) → position_from p k xs ≡ Some i → k ≤ i
-at_low p k i [] at = absurd (cc at)
-at_low p k i (x ∷ xs) at = at_by k i (p x) (position_from p (k + 1) xs) (at_low p (k + 1) i xs) at
 
 change_by : (f : Queue → Queue) (name : List ℕ) (h x y : OwnQueue) (xs : List OwnQueue) (k i : ℕ) (b : Bool) → bytes_eq h.client name ≡ b → cond b (Some k) (position_from (is_of name) (k + 1) (map queue_of xs)) ≡ Some i → x ≡ get_or (h ∷ xs) (i - k) x → queue_of y ≡ f (queue_of x)
     → (k + 1 ≤ i → position_from (is_of name) (k + 1) (map queue_of xs) ≡ Some i → x ≡ get_or xs (i - (k + 1)) x → map queue_of (set xs (i - (k + 1)) y) ≡ at_client f name (map queue_of xs))
@@ -32,7 +25,7 @@ change_by f name h x y xs k i true test at is same rest =
     let head : x ≡ h = rw first at is in
     rw first (ap (λ q. q ∷ map queue_of xs) (same ∙ rw head refl))
 change_by f name h x y xs k i false test at is same rest =
-    let above : k + 1 ≤ i = at_low (is_of name) (k + 1) i (map queue_of xs) at in
+    let above : k + 1 ≤ i = position_low (is_of name) (k + 1) i (map queue_of xs) at in
     let further : i - k ≡ suc (i - (k + 1)) = omega arith in
     rw further (ap (λ qs. queue_of h ∷ qs) (rest above at (rw further at is)))
 
@@ -99,7 +92,7 @@ due_by name h x xs k i true at is rest =
     let head : x ≡ h = rw first at is in
     rw head refl
 due_by name h x xs k i false at is rest =
-    let above : k + 1 ≤ i = at_low (is_of name) (k + 1) i (map queue_of xs) at in
+    let above : k + 1 ≤ i = position_low (is_of name) (k + 1) i (map queue_of xs) at in
     let further : i - k ≡ suc (i - (k + 1)) = omega arith in
     rest at (rw further at is)
 

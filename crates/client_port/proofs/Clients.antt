@@ -12,21 +12,16 @@ use Rattle.std.proofs.lemmas.Slice.Eq.{bytes_eq-Decides}
 use Rattle.request_reader.specs.Line.{Request}
 use Rattle.client_port.specs.Clients.{clients_of, queue_for, requests_of, with_client}
 use Rattle.client_port.specs.Ports.{at_client, is_of, queues_of, with_last, with_request}
+use Rattle.dura_value.proofs.Ids.{same_bytes, bytes_turned}
 
 -- ---- names
-
-same : (a b : List ℕ) → bytes_eq a b ≡ true → a ≡ b
-same a b is = (bytes_eq-Decides a b).0 is
-
-turned : (a b : List ℕ) → bytes_eq a b ≡ bytes_eq b a
-turned a b = nat_list_eq_equiv.symm a b
 
 abbrev has : List ℕ → List (List ℕ) → Bool
 has name names = list_any (λ n. bytes_eq n name) names
 
 has_turned : (name : List ℕ) (names : List (List ℕ)) → list_any (bytes_eq name) names ≡ has name names
 has_turned name [] = refl
-has_turned name (n ∷ names) = rw (turned name n, has_turned name names) refl
+has_turned name (n ∷ names) = rw (bytes_turned name n, has_turned name names) refl
 
 neither : (a b : Bool) → a || b ≡ false → (a ≡ false) × (b ≡ false)
 neither true b is = absurd (true≢false is)
@@ -42,7 +37,7 @@ has_append name (n ∷ names) more = rw (has_append name names more) (or_assoc (
 
 none_there : (name : List ℕ) (names : List (List ℕ)) → has name names ≡ false → AllByRecursion (λ n. bytes_eq name n ≡ false) names
 none_there name [] is = tt
-none_there name (n ∷ names) is = let both = neither (bytes_eq n name) (has name names) is in (turned name n ∙ both.0, none_there name names both.1)
+none_there name (n ∷ names) is = let both = neither (bytes_eq n name) (has name names) is in (bytes_turned name n ∙ both.0, none_there name names both.1)
 
 -- ---- queues
 
@@ -60,11 +55,11 @@ joined_by : (rs : List Request) (r : Request) (n : List ℕ) (names : List (List
     → (has r.client names ≡ true → at_client (with_last r) r.client (map (queue_for rs) names) ≡ map (queue_for (rs ++ r ∷ [])) names)
     → cond b (with_last r (queue_for rs n) ∷ map (queue_for rs) names) (queue_for rs n ∷ at_client (with_last r) r.client (map (queue_for rs) names)) ≡ map (queue_for (rs ++ r ∷ [])) (n ∷ names)
 joined_by rs r n names true is apart there rest =
-    let one : n ≡ r.client = same n r.client is in
-    let also : bytes_eq r.client n ≡ true = turned r.client n ∙ is in
+    let one : n ≡ r.client = same_bytes n r.client is in
+    let also : bytes_eq r.client n ≡ true = bytes_turned r.client n ∙ is in
     let all = rw one at apart in
     sym (rw (queue_same rs r n also, others rs r names all) refl)
-joined_by rs r n names false is apart there rest = sym (rw (queue_other rs r n (turned r.client n ∙ is), ← rest there) refl)
+joined_by rs r n names false is apart there rest = sym (rw (queue_other rs r n (bytes_turned r.client n ∙ is), ← rest there) refl)
 
 joined : (rs : List Request) (r : Request) (names : List (List ℕ)) → IsDistinct bytes_eq names → has r.client names ≡ true → at_client (with_last r) r.client (map (queue_for rs) names) ≡ map (queue_for (rs ++ r ∷ [])) names
 joined rs r [] once there = absurd (true≢false (sym there))
@@ -97,7 +92,7 @@ of_known rs r there h =
       once = rw clients h.once;
       absent = λ name none.
           let before = rw clients at none in
-          absent_by rs r name (bytes_eq r.client name) refl (h.absent name before) (λ is. sym (rw (same r.client name is) at there) ∙ before);
+          absent_by rs r name (bytes_eq r.client name) refl (h.absent name before) (λ is. sym (rw (same_bytes r.client name is) at there) ∙ before);
     }
 
 of_new : (rs : List Request) (r : Request) → has r.client (clients_of rs) ≡ false → Holds rs → Holds (rs ++ r ∷ [])

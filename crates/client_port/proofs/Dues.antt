@@ -4,7 +4,7 @@ use Rattle.std.specs.Prelude.{map, option_map, nat_lt, is_some, IfSome}
 use Rattle.std.specs.List.{slice_get}
 use Rattle.std.proofs.Math.Seq.{drop-cons}
 use Rattle.std.proofs.lemmas.List.{map-append, length-map}
-use Rattle.std.proofs.lemmas.Bool.{ltb-true, lt-ltb}
+use Rattle.std.proofs.lemmas.Bool.{ltb-true, lt-ltb, ltb-false}
 use Rattle.std.proofs.lemmas.Bool.Decides.{nat_tests}
 use Rattle.std.proofs.lemmas.Option.{slice_get-map, slice_get-get_or, slice_get_past}
 use Rattle.dura_value.specs.declared.messages.Request.{Request as OwnRequest}
@@ -36,13 +36,10 @@ named names more all qs i q name lt at same longer so = rw (longer, append_assoc
 above : (a b : ℕ) → b ≤ a → nat_lt a b ≡ false
 above a b e = grind (arith, nat_tests)
 
-not_below : (a b : ℕ) → nat_lt a b ≡ false → b ≤ a
-not_below a b e = grind (arith, nat_tests)
-
 -- what a look at a place gives
 pub got : (o : Option (Bor OwnRequest)) (xs : List OwnRequest) (i : ℕ) → is_some o ≡ nat_lt i (length xs) → IfSome o (λ x. x.now ≡ get_or xs i x.now) → option_map (λ r. request_of r.now) o ≡ slice_get (map request_of xs) i
 got (Some x) xs i there is = rw (slice_get-map request_of xs i, slice_get-get_or xs i x.now (ltb-true i (length xs) (sym there)), ← is) refl
-got None xs i there is = rw (slice_get-map request_of xs i, slice_get_past xs i (not_below i (length xs) (sym there))) refl
+got None xs i there is = rw (slice_get-map request_of xs i, slice_get_past xs i (ltb-false i (length xs) (sym there))) refl
 
 pub counted : (before after : OwnQueue) → before.said < length before.requests.items → after ≡ record before { said = before.said + 1 } → queue_of after ≡ with_said (queue_of before)
 counted before after low is =

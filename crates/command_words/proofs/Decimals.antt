@@ -4,7 +4,7 @@ use Rattle.std.specs.Prelude.{fold, nat_le}
 use Rattle.std.proofs.Math.Seq.{drop-cons}
 use Rattle.std.proofs.lemmas.Bool.Decides.{nat_tests}
 use Rattle.command_words.specs.Numbers.{with_digit, decimal}
-use Rattle.command_words.specs.Reading.{where_it}
+use Rattle.dura_value.specs.Optional.{where_it}
 
 grows : (bs : List ℕ) (n : ℕ) → n ≤ fold with_digit n bs
 grows [] n = omega arith

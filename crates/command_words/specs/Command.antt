@@ -11,7 +11,7 @@ use Rattle.command_words.specs.declared.words.Call.{Call}
 use Rattle.command_words.specs.declared.words.Call.TheVariants.{Run, Show}
 use Rattle.command_words.specs.declared.words.RunOptions.{RunOptions}
 use Rattle.command_words.specs.Numbers.{number_in}
-use Rattle.command_words.specs.Reading.{guard, ◌>>=◌}
+use Rattle.dura_value.specs.Optional.{guard, ◌>>=◌}
 
 -- an option `--name VALUE` with a default
 abbrev pub option_rule : Text → Text → Rule

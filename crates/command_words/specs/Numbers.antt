@@ -2,7 +2,7 @@
 use Rattle.std.specs.Prelude.{ℕ, ◌+◌, ◌-◌, ◌*◌, ◌==◌, ◌&&◌, ◌||◌, List, [], ◌∷◌, length, fold, not, Bool, false, nat_le, Option}
 use Rattle.std.specs.Char.{is_ascii_digit}
 use Rattle.std.specs.List.{list_all}
-use Rattle.command_words.specs.Reading.{guard, where_it, ◌>>=◌}
+use Rattle.dura_value.specs.Optional.{guard, where_it, ◌>>=◌}
 
 -- 0 alone, or digits that don't begin with 0
 abbrev pub is_decimal : List ℕ → Bool

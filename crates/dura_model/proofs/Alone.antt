@@ -1,7 +1,7 @@
 -- One partition alone: everything lives in it, and nothing comes in to it from another one.
 use Rattle.std.proofs.Common.{◌≡◌, ◌<◌, ◌≤◌, ◌==◌, ◌&&◌, ℕ, Bool, true, Some, refl, ap, subst, ◌∙◌, arith}
 use Rattle.std.specs.Prelude.{not, nat_lt, nat_le, length, drop, ◌++◌, ◌+◌, ◌-◌}
-use Rattle.std.proofs.lemmas.Bool.{ltb-true}
+use Rattle.std.proofs.lemmas.Bool.{ltb-true, and_parts, not-true}
 use Rattle.dura_value.specs.Ids.{Id, home}
 use Rattle.dura_value.specs.Items.{Item, took, got, ran, ended, fired, trim}
 use Rattle.flow_syntax.specs.Syntax.{Flows}
@@ -9,8 +9,7 @@ use Rattle.dura_model.specs.Partition.{Partition, instance_at, link_in, messages
 use Rattle.dura_model.specs.Placed.{Belongs, AreShown, happens_at, IsOfStreams}
 use Rattle.dura_model.specs.Steps.{Label, take, deliver, finish, fire, number_in}
 use Rattle.dura_model.specs.World.{World}
-use Rattle.dura_value.proofs.Ids.{both_true}
-use Rattle.dura_model.proofs.Basics.{passes, not_true, eqb_apart}
+use Rattle.dura_model.proofs.Basics.{passes, eqb_apart}
 use Rattle.dura_model.specs.Entries.{shown_by}
 
 pub home_alone : (id : Id) → home 1 id ≡ 0
@@ -57,10 +56,10 @@ are_shown_alone parts q is shows = record {
 -- there is no other partition
 no_other : (p : Partition) (other : ℕ) (more : Bool) → p.number ≡ 0 → (not (other == p.number) && (nat_lt other 1 && more)) ≡ true → ⊥
 no_other p other more number passes_it =
-    let parts = both_true (not (other == p.number)) (nat_lt other 1 && more) passes_it in
-    let below : other < 1 = ltb-true other 1 (both_true (nat_lt other 1) more parts.1).0 in
+    let parts = and_parts (not (other == p.number)) (nat_lt other 1 && more) passes_it in
+    let below : other < 1 = ltb-true other 1 (and_parts (nat_lt other 1) more parts.1).0 in
     let same : other ≡ p.number = omega (arith, below, number) in
-    eqb_apart other p.number (not_true (other == p.number) parts.0) same
+    eqb_apart other p.number (not-true (other == p.number) parts.0) same
 
 -- An item that is a label: what comes in and what is let go is of other partitions.
 pub record IsStep (p : Partition) (item : Item) : Type 0 where

@@ -2,14 +2,13 @@
 use Rattle.std.proofs.Common.{◌≡◌, ◌≤◌, ◌<◌, ◌+◌, ◌-◌, ◌==◌, ◌&&◌, ◌⊎◌, inl, inr, ℕ, length, drop, Bool, true, false, cond, List, [], ◌∷◌, ◌++◌, Option, Some, None, refl, sym, ap, subst, ◌∙◌, arith}
 use Rattle.std.specs.Prelude.{nat_le, nat_lt, not}
 use Rattle.std.specs.List.{Contains}
-use Rattle.std.proofs.lemmas.Bool.{eqb-true, ltb-true}
+use Rattle.std.proofs.lemmas.Bool.{eqb-true, ltb-true, and_parts, not-true}
 use Rattle.dura_value.specs.Ids.{home}
 use Rattle.dura_value.specs.Items.{Identity}
 use Rattle.dura_value.specs.Messages.{Message}
-use Rattle.dura_value.proofs.Ids.{both_true}
 use Rattle.dura_model.specs.Partition.{enter, Posted, Outbox, Inbox, Partition, entry_of, with_inbox, begins_at, with_first, got_in, trim_in}
 use Rattle.dura_model.specs.Placed.{IsBehind, IsOther, Belongs}
-use Rattle.dura_model.proofs.Basics.{passed, not_true, eqb_apart}
+use Rattle.dura_model.proofs.Basics.{passed, eqb_apart}
 use Rattle.dura_model.proofs.Shown.{dropped_in}
 use Rattle.dura_model.proofs.Keeping.{entry_behind, queued_lives}
 
@@ -40,16 +39,16 @@ module _ (count p : ℕ) where
       it = passed (not away && (low_source && (in_turn && lives))) after next is
 
       one : (not away ≡ true) × ((low_source && (in_turn && lives)) ≡ true)
-      one = both_true (not away) (low_source && (in_turn && lives)) it.0
+      one = and_parts (not away) (low_source && (in_turn && lives)) it.0
 
       two : (low_source ≡ true) × ((in_turn && lives) ≡ true)
-      two = both_true low_source (in_turn && lives) one.1
+      two = and_parts low_source (in_turn && lives) one.1
 
       three : (in_turn ≡ true) × (lives ≡ true)
-      three = both_true in_turn lives two.1
+      three = and_parts in_turn lives two.1
 
       other_source : IsOther count p source.partition
-      other_source = record { apart = λ wrong. eqb_apart source.partition q.number (not_true away one.0) (wrong ∙ sym b.number); below = ltb-true source.partition count two.0 }
+      other_source = record { apart = λ wrong. eqb_apart source.partition q.number (not-true away one.0) (wrong ∙ sym b.number); below = ltb-true source.partition count two.0 }
 
       others : (other : ℕ) (test : Bool) → (source.partition == other) ≡ test → IsOther count p other ⊎ ((cond test box (q.inboxes other)).next ≡ 0)
       others other true same = inl (subst (IsOther count p) (eqb-true source.partition other same) other_source)
@@ -92,13 +91,13 @@ module _ (count p : ℕ) where
       it = passed (not away && (low_target && enough)) after next is
 
       one : (not away ≡ true) × ((low_target && enough) ≡ true)
-      one = both_true (not away) (low_target && enough) it.0
+      one = and_parts (not away) (low_target && enough) it.0
 
       two : (low_target ≡ true) × (enough ≡ true)
-      two = both_true low_target enough one.1
+      two = and_parts low_target enough one.1
 
       other_target : IsOther count p target
-      other_target = record { apart = λ wrong. eqb_apart target q.number (not_true away one.0) (wrong ∙ sym b.number); below = ltb-true target count two.0 }
+      other_target = record { apart = λ wrong. eqb_apart target q.number (not-true away one.0) (wrong ∙ sym b.number); below = ltb-true target count two.0 }
 
       box_of : ℕ → Bool → Outbox
       box_of other test = cond test (begins_at number (q.outboxes other)) (q.outboxes other)

@@ -11,15 +11,17 @@ use Rattle.flow_syntax.specs.Syntax.{Flows, Block, class_of}
 use Rattle.flow_syntax.specs.Machine.{resulted}
 use Rattle.flow_syntax.specs.Machine.{fired as timer_fired}
 use Rattle.flow_syntax.specs.Entity.{Entity, answering, operated, operation_of, value_answer, lock_goes_on, takes, deliver as deliver_to}
-use Rattle.dura_model.specs.World.{World, Orchestration, Activity, at_id, at_link, at_number}
+use Rattle.dura_model.specs.World.{World, Orchestration, Activity, at_link}
+use Rattle.dura_value.specs.ById.{at_id, at_number}
 use Rattle.dura_model.specs.Deliveries.{goes_on_from, to_instance}
 use Rattle.dura_model.specs.Steps.{take, deliver, finish, fire, is_request, number_in, taken, last_of, entity_of, to_entity, answered, to_client, received, delivered, answer_of, finished, timed, stands_as, sent, step}
 use Rattle.dura_model.specs.Partition.{Row, Partition, instance_in, instance_at, event_of, raised_to, first_in, without_first, last_in, answered_in, client_received, entity_received, received_in, delivered_in, taken_in, ended_in, fired_in, post_all, stands_in, accepted, link_in}
-use Rattle.dura_value.proofs.Ids.{id_same, id_self, both_true}
-use Rattle.dura_model.proofs.Basics.{some_same}
+use Rattle.dura_value.proofs.Ids.{id_same, id_self}
 use Rattle.dura_model.proofs.Sending.{AllFrom}
 use Rattle.dura_model.proofs.Rows.{Suits, instance_suits, row_goes_on}
 use Rattle.dura_model.proofs.Merged.{merged, IsReady, post_merged, post_all_merged, stands_merged, taken_merged, timer_merged, activity_merged, entity_merged, answer_merged, link_both, behind, queue_at}
+use Rattle.std.proofs.lemmas.Bool.{and_parts}
+use Rattle.dura_value.proofs.Basics.{some_same}
 
 -- ---- what an entity sends
 
@@ -66,14 +68,14 @@ first_here message queue from to body same is = record {
 }
   where
     parts_are : (id_eq from message.from ≡ true) × (id_eq to message.to ≡ true)
-    parts_are = both_true (id_eq from message.from) (id_eq to message.to) same
+    parts_are = and_parts (id_eq from message.from) (id_eq to message.to) same
 
     away : (x y : Id) → id_eq from x && id_eq to y ≡ false → id_eq x message.from && id_eq y message.to ≡ false
     away x y apart = by (id_eq x message.from && id_eq y message.to) refl
       where
         by : (test : Bool) → id_eq x message.from && id_eq y message.to ≡ test → id_eq x message.from && id_eq y message.to ≡ false
         by true is_it =
-            let also = both_true (id_eq x message.from) (id_eq y message.to) is_it in
+            let also = and_parts (id_eq x message.from) (id_eq y message.to) is_it in
             let one : from ≡ x = id_same from message.from parts_are.0 ∙ sym (id_same x message.from also.0) in
             let two : to ≡ y = id_same to message.to parts_are.1 ∙ sym (id_same y message.to also.1) in
             let self : id_eq from from && id_eq to to ≡ true = ap (λ (b : Bool). b && id_eq to to) (id_self from) ∙ id_self to in
@@ -260,7 +262,7 @@ module _ (flows : Flows) (count : ℕ) (parts : ℕ → Partition) (p : ℕ) whe
     where
       by : (x y : Id) (test : Bool) → id_eq from x && id_eq to y ≡ test → (world (left q from to)).links x y ≡ cond test ((world (left q from to)).links from to) ((world q).links x y)
       by x y true is =
-          let both = both_true (id_eq from x) (id_eq to y) is in
+          let both = and_parts (id_eq from x) (id_eq to y) is in
           ap (λ (z : Id). (world (left q from to)).links z y) (sym (id_same from x both.0)) ∙ ap (λ (z : Id). (world (left q from to)).links from z) (sym (id_same to y both.1))
       by x y false is =
           let rest = behind flows count parts p q.inboxes q.outboxes (home count x) (home count y) in

@@ -2,19 +2,21 @@
 use Rattle.std.proofs.Common.{◌≡◌, ◌≤◌, ◌<◌, ◌==◌, ◌&&◌, ◌⊎◌, inl, inr, ℕ, length, Bool, true, false, cond, List, [], ◌∷◌, ◌++◌, Option, Some, None, refl, sym, ap, subst, ◌∙◌, arith, length-append}
 use Rattle.std.specs.Prelude.{option_map, nat_le}
 use Rattle.std.specs.List.{Contains}
-use Rattle.std.proofs.lemmas.Bool.{eqb-true, leb-true, leb-false}
+use Rattle.std.proofs.lemmas.Bool.{eqb-true, leb-true, leb-false, and_parts}
 use Rattle.std.proofs.lemmas.List.Elements.{Contains-push_cases, Contains-append_cases, Contains-append_right, Contains-append_left}
 use Rattle.dura_value.specs.Ids.{Id, home, id_eq}
 use Rattle.dura_value.specs.Messages.{Answer, Body, Message}
 use Rattle.flow_syntax.specs.Machine.{Asked, an_activity, a_timer, Event, Past}
 use Rattle.flow_syntax.specs.Entity.{Entity}
-use Rattle.dura_model.specs.World.{Orchestration, Activity, at_id, at_number, cleared}
+use Rattle.dura_model.specs.World.{Orchestration, Activity}
+use Rattle.dura_value.specs.ById.{at_id, at_number, cleared}
 use Rattle.dura_model.specs.Deliveries.{Effect}
 use Rattle.dura_model.specs.Partition.{Row, Posted, Outbox, Inbox, Partition, entry_of, history_of, with_event, row_after, with_posted, post, post_all, asked_in, given_up_in, stands_in, raised_to, first_in, without_first}
 use Rattle.dura_model.specs.Placed.{IsBehind, IsOther, Live, NumbersLive, Belongs}
-use Rattle.dura_value.proofs.Ids.{id_same, both_true}
-use Rattle.dura_model.proofs.Basics.{some_same, eqb_apart}
+use Rattle.dura_value.proofs.Ids.{id_same}
+use Rattle.dura_model.proofs.Basics.{eqb_apart}
 use Rattle.dura_model.proofs.Sending.{AllFrom}
+use Rattle.dura_value.proofs.Basics.{some_same}
 
 -- ---- rows
 
@@ -403,6 +405,6 @@ module _ (count p : ℕ) where
     where
       by : (test : Bool) → (id_eq from message.from && id_eq to message.to) ≡ test → cond test (Some message.body) (first_in queue from to) ≡ Some body → (first_in queue from to ≡ Some body → home count to ≡ p) → home count to ≡ p
       by true same found rest =
-          ap (home count) (id_same to message.to (both_true (id_eq from message.from) (id_eq to message.to) same).1)
+          ap (home count) (id_same to message.to (and_parts (id_eq from message.from) (id_eq to message.to) same).1)
           ∙ lives message (0, omega arith, refl)
       by false apart found rest = rest found

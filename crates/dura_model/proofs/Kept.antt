@@ -2,7 +2,7 @@
 use Rattle.std.proofs.Common.{◌≡◌, ◌≤◌, ◌<◌, ◌+◌, ◌-◌, ◌==◌, ◌&&◌, ◌⊎◌, inl, inr, ℕ, length, drop, Bool, true, false, cond, List, [], ◌∷◌, ◌++◌, Option, Some, None, refl, sym, ap, subst, ◌∙◌, arith}
 use Rattle.std.specs.Prelude.{option_map, nat_le, nat_lt, not, is_some}
 use Rattle.std.specs.List.{Contains}
-use Rattle.std.proofs.lemmas.Bool.{eqb-true, leb-true, leb-false, ltb-true}
+use Rattle.std.proofs.lemmas.Bool.{eqb-true, leb-true, leb-false, ltb-true, and_parts, not-true}
 use Rattle.std.proofs.lemmas.List.{length-drop}
 use Rattle.dura_value.specs.declared.outcome.Outcome.{Outcome}
 use Rattle.dura_value.specs.Ids.{Id, orchestration, entity, client, home}
@@ -12,18 +12,19 @@ use Rattle.flow_syntax.specs.Syntax.{Flows, Block, class_of}
 use Rattle.flow_syntax.specs.Machine.{resulted}
 use Rattle.flow_syntax.specs.Machine.{fired as timer_fired}
 use Rattle.flow_syntax.specs.Entity.{Entity, operated, operation_of, takes, deliver as deliver_to}
-use Rattle.dura_model.specs.World.{empty, Activity, at_id, at_number}
+use Rattle.dura_model.specs.World.{empty, Activity}
+use Rattle.dura_value.specs.ById.{at_id, at_number}
 use Rattle.dura_model.specs.Deliveries.{goes_on_from, to_instance}
 use Rattle.dura_model.specs.Steps.{is_request, number_in, entity_of, answer_of}
 use Rattle.dura_model.specs.Partition.{label_in, enter, fresh, shown, Row, Posted, Outbox, Inbox, Partition, entry_of, instance_in, instance_at, event_of, raised_to, first_in, without_first, last_in, answered_in, client_received, entity_received, received_in, delivered_in, taken_in, ended_in, fired_in, with_inbox, begins_at, with_first, post, post_all, stands_in, accepted, with_part}
 use Rattle.dura_model.specs.Placed.{IsBehind, IsOther, IsStreamed, Belongs, AreShown, happens_at, IsOfStreams, IsSameEntry}
-use Rattle.dura_value.proofs.Ids.{both_true}
-use Rattle.dura_model.proofs.Basics.{some_same, passes, passed, not_true, eqb_apart}
+use Rattle.dura_model.proofs.Basics.{passes, passed, eqb_apart}
 use Rattle.dura_model.proofs.Rows.{instance_suits, row_goes_on}
 use Rattle.dura_model.proofs.Items.{entity_from}
 use Rattle.dura_model.proofs.Shown.{home_below, dropped_in, silent}
 use Rattle.dura_model.proofs.Belonging.{got_belongs, trim_belongs, enter_belongs}
 use Rattle.dura_model.proofs.Keeping.{Follows, follows_then, taken_follows, answers_follows, activities_follows, timers_follows, raised_follows, entity_follows, queue_follows, queued_lives, post_follows, post_all_follows, stands_follows, without_contained, first_lives}
+use Rattle.dura_value.proofs.Basics.{some_same}
 
 -- an entity that was delivered to is at the stamp that it was at
 operated_last : (e : Entity) (from to : Id) (argument : _) (reply : Reply) (body : Option Block) → (operated e from to argument reply body).entity.last ≡ e.last
@@ -155,7 +156,7 @@ module _ (flows : Flows) (count p : ℕ) where
   label_comes (took message) q next some below b begun is =
       let number = number_in message.body in
       let it = passes (home count message.from == q.number && is_request message.from number message) (taken_in count q message (q.taken message.from number)) next is in
-      let here = eqb-true (home count message.from) q.number (both_true (home count message.from == q.number) (is_request message.from number message) it.0).0 in
+      let here = eqb-true (home count message.from) q.number (and_parts (home count message.from == q.number) (is_request message.from number message) it.0).0 in
       taken_comes q next message (q.taken message.from number) below (here ∙ b.number) b begun it.1
   label_comes (ran from to stamp) q next some below b begun is = delivered_comes q next from to stamp (first_in q.queue from to) refl below b begun is
   label_comes (ended id task outcome) q next some below b begun is = ended_comes q next id task outcome (q.instances id) (q.activities id task) below b begun refl is
@@ -260,10 +261,10 @@ module _ (flows : Flows) (count : ℕ) (parts : ℕ → Partition) (p : ℕ) whe
       it = passed (not away && (low_source && (in_turn && lives))) after next is
 
       one : (not away ≡ true) × ((low_source && (in_turn && lives)) ≡ true)
-      one = both_true (not away) (low_source && (in_turn && lives)) it.0
+      one = and_parts (not away) (low_source && (in_turn && lives)) it.0
 
       two : (low_source ≡ true) × ((in_turn && lives) ≡ true)
-      two = both_true low_source (in_turn && lives) one.1
+      two = and_parts low_source (in_turn && lives) one.1
 
       reads : (other : ℕ) → other < count → (test : Bool) → (source.partition == other) ≡ test → Reads ((parts other).outboxes p) (cond test box (q.inboxes other)).next
       reads other low true same =
@@ -305,10 +306,10 @@ module _ (flows : Flows) (count : ℕ) (parts : ℕ → Partition) (p : ℕ) whe
       it = passed (not away && (low_target && enough)) after next is
 
       one : (not away ≡ true) × ((low_target && enough) ≡ true)
-      one = both_true (not away) (low_target && enough) it.0
+      one = and_parts (not away) (low_target && enough) it.0
 
       two : (low_target ≡ true) × (enough ≡ true)
-      two = both_true low_target enough one.1
+      two = and_parts low_target enough one.1
 
       box_of : ℕ → Bool → Outbox
       box_of other test = cond test (begins_at number (q.outboxes other)) (q.outboxes other)
@@ -382,7 +383,7 @@ module _ (flows : Flows) (count : ℕ) (parts : ℕ → Partition) (p : ℕ) whe
       let q = parts p in
       let number = number_in message.body in
       let it = passes (home count message.from == q.number && is_request message.from number message) (taken_in count q message (q.taken message.from number)) next is in
-      here_is id message.from at (eqb-true (home count message.from) q.number (both_true (home count message.from == q.number) (is_request message.from number message) it.0).0 ∙ (shows.each p below).number)
+      here_is id message.from at (eqb-true (home count message.from) q.number (and_parts (home count message.from == q.number) (is_request message.from number message) it.0).0 ∙ (shows.each p below).number)
   item_lives (ran from to stamp) next id shows below at is =
       let q = parts p in
       let found = came_in (first_in q.queue from to) (delivered_in flows count q from to stamp) next refl is in

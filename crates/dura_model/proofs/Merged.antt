@@ -1,18 +1,19 @@
 -- The world that partitions show where one of them is in a state that is looked at.
 use Rattle.std.proofs.Common.{◌≡◌, ◌≤◌, ◌+◌, ◌-◌, ◌==◌, ◌&&◌, ℕ, zero, suc, length, drop, Bool, true, false, cond, List, [], ◌∷◌, ◌++◌, Option, Some, None, refl, sym, ap, subst, ◌∙◌, arith, eq-eqb, length-append}
 use Rattle.std.specs.Prelude.{option_map}
-use Rattle.std.proofs.lemmas.Bool.{eqb-true}
+use Rattle.std.proofs.lemmas.Bool.{eqb-true, and_parts}
 use Rattle.std.proofs.lemmas.List.{append-nil, append_assoc, drop-append-le}
 use Rattle.dura_value.specs.Ids.{Id, home, id_eq}
 use Rattle.dura_value.specs.Messages.{Answer, Message}
 use Rattle.flow_syntax.specs.Syntax.{Flows}
 use Rattle.flow_syntax.specs.Machine.{Asked, an_activity, a_timer, Event}
 use Rattle.flow_syntax.specs.Entity.{Entity}
-use Rattle.dura_model.specs.World.{World, Orchestration, Activity, at_id, at_link, at_number, cleared}
+use Rattle.dura_model.specs.World.{World, Orchestration, Activity, at_link}
+use Rattle.dura_value.specs.ById.{at_id, at_number, cleared}
 use Rattle.dura_model.specs.Deliveries.{Effect}
 use Rattle.dura_model.specs.Steps.{sent, asked, given_up, stands_as}
 use Rattle.dura_model.specs.Partition.{Row, Posted, Outbox, Inbox, Partition, instance_in, instance_at, with_posted, post, post_all, asked_in, given_up_in, row_after, stands_in, entry_of, link_in, messages_in, under_way, shown, with_part}
-use Rattle.dura_value.proofs.Ids.{id_same, id_self, both_true, and_true}
+use Rattle.dura_value.proofs.Ids.{id_same, id_self, and_true}
 use Rattle.dura_model.proofs.Sending.{AllFrom}
 
 pub worlds_same : (w v : World) → w.orchestrations ≡ v.orchestrations → w.entities ≡ v.entities → w.links ≡ v.links → w.activities ≡ v.activities → w.timers ≡ v.timers → w.taken ≡ v.taken → w.answers ≡ v.answers → w ≡ v
@@ -185,7 +186,7 @@ module _ (flows : Flows) (count : ℕ) (parts : ℕ → Partition) (p : ℕ) whe
 
   number_written : {X : Type 0} (f g : Id → ℕ → X) (id : Id) (number : ℕ) (x : X) → home count id ≡ p
       → (λ other n. cond (p == home count other) (at_number f id number x other n) (g other n)) ≡ at_number (λ other n. cond (p == home count other) (f other n) (g other n)) id number x
-  number_written f g id number x here = λ i other n. written (p == home count other) (id_eq id other && number == n) x (f other n) (g other n) (λ both. lives id other here (both_true (id_eq id other) (number == n) both).0) i
+  number_written f g id number x here = λ i other n. written (p == home count other) (id_eq id other && number == n) x (f other n) (g other n) (λ both. lives id other here (and_parts (id_eq id other) (number == n) both).0) i
 
   cleared_written : {X : Type 0} (f g : Id → ℕ → Option X) (id : Id) → home count id ≡ p
       → (λ other n. cond (p == home count other) (cleared f id other n) (g other n)) ≡ cleared (λ other n. cond (p == home count other) (f other n) (g other n)) id
@@ -239,7 +240,7 @@ module _ (flows : Flows) (count : ℕ) (parts : ℕ → Partition) (p : ℕ) whe
       by : (from to : Id) (test : Bool) → id_eq message.from from && id_eq message.to to ≡ test
           → after from to ≡ cond test ((merged q).links message.from message.to ++ message ∷ []) ((merged q).links from to)
       by from to true is =
-          let parts_are = both_true (id_eq message.from from) (id_eq message.to to) is in
+          let parts_are = and_parts (id_eq message.from from) (id_eq message.to to) is in
           ap (λ (x : Id). after x to) (sym (id_same message.from from parts_are.0)) ∙ ap (λ (y : Id). after message.from y) (sym (id_same message.to to parts_are.1)) ∙ own
       by from to false is =
           let swapped : is_of from to message ≡ false = ap (λ (b : Bool). b && id_eq to message.to) (id_swap from message.from) ∙ ap (λ (b : Bool). id_eq message.from from && b) (id_swap to message.to) ∙ is in

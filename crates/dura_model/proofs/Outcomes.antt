@@ -2,7 +2,7 @@
 use Rattle.std.proofs.Common.{◌≡◌, ◌≤◌, ◌<◌, ◌+◌, ◌⊎◌, inl, inr, ◌==◌, ◌&&◌, ℕ, length, Bool, true, false, cond, List, [], ◌∷◌, ◌++◌, Option, Some, None, refl, sym, ap, subst, ◌∙◌, arith, eq-eqb}
 use Rattle.std.specs.Prelude.{nat_le}
 use Rattle.std.specs.Option.{option_and_then}
-use Rattle.std.proofs.lemmas.Bool.{eqb-true, cases_lt}
+use Rattle.std.proofs.lemmas.Bool.{eqb-true, cases_lt, and_parts}
 use Rattle.activity_table.specs.Table.{may}
 use Rattle.dura_value.specs.declared.data.Value.{Value}
 use Rattle.dura_value.specs.declared.outcome.Outcome.{Outcome}
@@ -11,14 +11,16 @@ use Rattle.dura_value.specs.Messages.{Reply, to_nobody, to_task, to_request, Ans
 use Rattle.flow_syntax.specs.Syntax.{Flows, Block}
 use Rattle.flow_syntax.specs.Machine.{Machine, new_machine, Asked, an_activity, a_timer, Resumed, Event, started, resulted, was_raised, fired, was_granted, resume}
 use Rattle.flow_syntax.specs.Entity.{Entity, takes, deliver as deliver_to}
-use Rattle.dura_model.specs.World.{World, Orchestration, Activity, at_id, at_link, at_number, empty}
+use Rattle.dura_model.specs.World.{World, Orchestration, Activity, at_link, empty}
+use Rattle.dura_value.specs.ById.{at_id, at_number}
 use Rattle.dura_model.specs.Deliveries.{Effect, ending, at_end, goes_on_from, begun, flow_of, beginning, to_absent, to_present, is_over, waited, raised_at, result_at, granted_at, at_stamp, to_instance, telling}
 use Rattle.dura_value.specs.Messages.{was_raised as is_raised}
 use Rattle.dura_model.specs.Steps.{Label, take, deliver, finish, fire, sent, asked, given_up, stands_as, is_request, taken, last_of, entity_of, to_entity, answered, to_client, received, delivered, answer_of, finished, timed, step}
 use Rattle.dura_model.specs.Legal.{Legal, after_from, is_finish, finishes}
-use Rattle.dura_value.proofs.Ids.{id_same, id_self, both_true, and_true}
-use Rattle.dura_model.proofs.Basics.{some_same, passes, passed}
+use Rattle.dura_value.proofs.Ids.{id_same, id_self, and_true}
+use Rattle.dura_model.proofs.Basics.{passes, passed}
 use Rattle.dura_model.proofs.Growing.{Grows, AllNew, resume_grows}
+use Rattle.dura_value.proofs.Basics.{some_same}
 
 -- how many tasks an instance has
 abbrev tasks_of : Option Orchestration → ℕ
@@ -325,7 +327,7 @@ label_ends flows w (take who number message) next id task is within moved = absu
 label_ends flows w (deliver from to stamp) next id task is within moved = absurd (cc is)
 label_ends flows w (fire other number stamp) next id task is within moved = absurd (cc is)
 label_ends flows w (finish other number outcome) next id task is within moved =
-    let parts = both_true (id_eq id other) (task == number) is in
+    let parts = and_parts (id_eq id other) (task == number) is in
     let same = id_same id other parts.0 in
     let same_task = eqb-true task number parts.1 in
     let here : step flows w (finish id task outcome) ≡ Some next = subst (λ (t : ℕ). step flows w (finish id t outcome) ≡ Some next) (sym same_task) (subst (λ (i : Id). step flows w (finish i number outcome) ≡ Some next) (sym same) moved) in

@@ -13,10 +13,10 @@ use Rattle.dura_model.specs.World.{World}
 use Rattle.dura_model.specs.Steps.{Label, take as take_in, deliver, finish, fire, number_in, step}
 use Rattle.dura_model.specs.Partition.{Posted, Outbox, Partition, first_in, delivered_in, accepted, label_in, shown, with_part}
 use Rattle.dura_model.specs.Placed.{IsOther, IsStreamed, AreShown, happens_at, IsGiven, IsOfStreams, IsLabelled, ShowsNothing}
-use Rattle.dura_model.proofs.Basics.{some_same}
 use Rattle.dura_model.proofs.Merged.{merged, IsReady, shown_merged, merged_shown}
 use Rattle.dura_model.proofs.Items.{took_as, fired_as, ended_as, ran_as}
 use Rattle.dura_model.proofs.Streams.{got_as, trim_as}
+use Rattle.dura_value.proofs.Basics.{some_same}
 
 -- an id lives below the number of partitions
 pub home_below : (count p : ℕ) (id : Id) → p < count → home count id < count

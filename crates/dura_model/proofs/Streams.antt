@@ -1,7 +1,7 @@
 -- What comes in from a stream, or is let go, changes nothing that is shown.
 use Rattle.std.proofs.Common.{◌≡◌, ◌≤◌, ◌<◌, ◌+◌, ◌-◌, ◌==◌, ◌&&◌, ℕ, length, drop, Bool, true, false, cond, List, [], ◌∷◌, ◌++◌, Some, refl, sym, ap, subst, ◌∙◌, arith, eq-eqb}
 use Rattle.std.specs.Prelude.{nat_le, nat_lt, not}
-use Rattle.std.proofs.lemmas.Bool.{eqb-true, leb-false}
+use Rattle.std.proofs.lemmas.Bool.{eqb-true, leb-false, and_parts, not-true}
 use Rattle.std.proofs.lemmas.List.{append_assoc, drop-drop}
 use Rattle.dura_value.specs.Ids.{Id, home, id_eq}
 use Rattle.dura_value.specs.Items.{Identity, got, trim}
@@ -10,8 +10,8 @@ use Rattle.flow_syntax.specs.Syntax.{Flows}
 use Rattle.dura_model.specs.World.{World}
 use Rattle.dura_model.specs.Partition.{Posted, Outbox, Inbox, Partition, entry_of, with_inbox, begins_at, with_first, accepted, link_in, messages_in}
 use Rattle.dura_model.specs.Placed.{IsStreamed}
-use Rattle.dura_value.proofs.Ids.{id_same, both_true}
-use Rattle.dura_model.proofs.Basics.{passed, not_true}
+use Rattle.dura_value.proofs.Ids.{id_same}
+use Rattle.dura_model.proofs.Basics.{passed}
 use Rattle.dura_model.proofs.Merged.{turned, merged, IsReady, link_both, link_other, is_of, outboxes_at, inboxes_at, queue_at}
 
 -- a message that came in stands at the end of the queue in place of the head of what wasn't taken in
@@ -66,7 +66,7 @@ module _ (flows : Flows) (count : ℕ) (parts : ℕ → Partition) (p : ℕ) whe
         where
           test : (b : Bool) → is_of x y message ≡ b → is_of x y message ≡ false
           test true is =
-              let same = id_same x message.from (both_true (id_eq x message.from) (id_eq y message.to) is).0 in
+              let same = id_same x message.from (and_parts (id_eq x message.from) (id_eq y message.to) is).0 in
               let wrong : true ≡ false = sym (eq-eqb source.partition (home count x) (sym sends ∙ ap (home count) (sym same))) ∙ away in
               absurd (cc wrong)
           test false is = is
@@ -109,10 +109,10 @@ module _ (flows : Flows) (count : ℕ) (parts : ℕ → Partition) (p : ℕ) whe
       let lives = home count message.to == q.number in
       let after : Partition = record q { queue = q.queue ++ message ∷ []; inboxes = with_inbox q.inboxes source.partition (record { next = number + 1; reader = entry_of q }) } in
       let it = passed (not away && (low && (in_turn && lives))) after next is in
-      let one = both_true (not away) (low && (in_turn && lives)) it.0 in
-      let two = both_true low (in_turn && lives) one.1 in
-      let three = both_true in_turn lives two.1 in
-      let apart : (p == source.partition) ≡ false = turned source.partition p false (ap (λ (n : ℕ). source.partition == n) (sym ready.number) ∙ not_true away one.0) in
+      let one = and_parts (not away) (low && (in_turn && lives)) it.0 in
+      let two = and_parts low (in_turn && lives) one.1 in
+      let three = and_parts in_turn lives two.1 in
+      let apart : (p == source.partition) ≡ false = turned source.partition p false (ap (λ (n : ℕ). source.partition == n) (sym ready.number) ∙ not-true away one.0) in
       ap world (sym it.1) ∙ got_same q source number message apart (eqb-true number (q.inboxes source.partition).next three.0) (sends two.0) streamed
 
   trim_same : (q : Partition) (target number : ℕ) → (p == target) ≡ false → number ≤ ((parts target).inboxes p).next → world (record q { outboxes = with_first q.outboxes target number }) ≡ world q
@@ -153,6 +153,6 @@ module _ (flows : Flows) (count : ℕ) (parts : ℕ → Partition) (p : ℕ) whe
       let others = nat_lt target count && nat_le number ((q.outboxes target).first + length (q.outboxes target).messages) in
       let after : Partition = record q { outboxes = with_first q.outboxes target number } in
       let it = passed (not away && others) after next is in
-      let one = both_true (not away) others it.0 in
-      let apart : (p == target) ≡ false = turned target p false (ap (λ (n : ℕ). target == n) (sym ready.number) ∙ not_true away one.0) in
+      let one = and_parts (not away) others it.0 in
+      let apart : (p == target) ≡ false = turned target p false (ap (λ (n : ℕ). target == n) (sym ready.number) ∙ not-true away one.0) in
       ap world (sym it.1) ∙ trim_same q target number apart read

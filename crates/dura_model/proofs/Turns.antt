@@ -7,21 +7,18 @@ use Rattle.dura_model.specs.World.{World}
 use Rattle.dura_value.specs.Ids.{Id, id_eq}
 use Rattle.dura_value.specs.Messages.{Message}
 use Rattle.dura_value.proofs.Ids.{id_same}
+use Rattle.std.proofs.Math.Bool.{and-true}
 
 -- whether a request lets a client ask for one behind it
 abbrev passes : World → Id → Message → Bool
 passes w who request = not (id_eq request.from who) || is_taken w request && is_answered w request
-
-both_true : (b : Bool) → (b && true) ≡ b
-both_true true = refl
-both_true false = refl
 
 and_assoc : (a b c : Bool) → (a && (b && c)) ≡ ((a && b) && c)
 and_assoc true b c = refl
 and_assoc false b c = refl
 
 one_more : (w : World) (who : Id) (front : List Message) (request : Message) → may_ask w who (front ++ request ∷ []) ≡ (may_ask w who front && passes w who request)
-one_more w who [] request = both_true (passes w who request)
+one_more w who [] request = and-true (passes w who request)
 one_more w who (first ∷ front) request = ap (λ (b : Bool). passes w who first && b) (one_more w who front request) ∙ and_assoc (passes w who first) (may_ask w who front) (passes w who request)
 
 module _ (w : World) (who : Id) (last : Message) (behind : List Message) where
@@ -39,7 +36,7 @@ module _ (w : World) (who : Id) (last : Message) (behind : List Message) where
           → ((t a : Bool) → (t && a) ≡ may_ask w who (front ++ request ∷ []) → may_go_on w who t a rest ≡ may_ask w who ((front ++ request ∷ []) ++ rest))
           → cond own (may_go_on w who (taken && is_taken w request) (is_answered w request) rest) (may_go_on w who taken answered rest) ≡ may_ask w who ((front ++ request ∷ []) ++ rest)
       by false other was is on = on taken answered
-          (so_far ∙ sym (one_more w who front request ∙ ap (λ (b : Bool). may_ask w who front && (not b || is_taken w request && is_answered w request)) other ∙ both_true (may_ask w who front)))
+          (so_far ∙ sym (one_more w who front request ∙ ap (λ (b : Bool). may_ask w who front && (not b || is_taken w request && is_answered w request)) other ∙ and-true (may_ask w who front)))
       by true own false is on = on (taken && is_taken w request) (is_answered w request)
           (ap (λ (b : Bool). (taken && b) && is_answered w request) is ∙ none taken (is_answered w request)
           ∙ sym (one_more w who front request ∙ ap (λ (b : Bool). may_ask w who front && (not b || is_taken w request && is_answered w request)) own ∙ ap (λ (b : Bool). may_ask w who front && (b && is_answered w request)) is ∙ never (may_ask w who front)))

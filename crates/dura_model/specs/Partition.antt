@@ -8,7 +8,8 @@ use Rattle.flow_syntax.specs.Syntax.{Flows}
 use Rattle.flow_syntax.specs.Machine.{new_machine, Event, started, resulted, was_raised, was_granted, Past, replayed, Asked, an_activity, a_timer}
 use Rattle.flow_syntax.specs.Machine.{fired as timer_fired}
 use Rattle.flow_syntax.specs.Entity.{Entity, Delivered, takes, deliver as deliver_to}
-use Rattle.dura_model.specs.World.{World, Orchestration, Activity, at_id, at_number, cleared}
+use Rattle.dura_model.specs.World.{World, Orchestration, Activity}
+use Rattle.dura_value.specs.ById.{at_id, at_number, cleared}
 use Rattle.dura_model.specs.Deliveries.{Effect, to_instance, goes_on_from, flow_of, is_over}
 use Rattle.dura_model.specs.Steps.{Label, take, deliver, finish, fire, is_request, number_in, entity_of, answer_of}
 

@@ -8,7 +8,8 @@ use Rattle.dura_value.specs.Messages.{to_request, Answer, is_done, has_failed, B
 use Rattle.flow_syntax.specs.Syntax.{Flows, class_of}
 use Rattle.flow_syntax.specs.Machine.{Asked, an_activity, a_timer, resulted, fired}
 use Rattle.flow_syntax.specs.Entity.{Entity, takes, initial, deliver as deliver_to, Delivered}
-use Rattle.dura_model.specs.World.{World, Orchestration, Activity, at_id, at_link, at_number, cleared}
+use Rattle.dura_model.specs.World.{World, Orchestration, Activity, at_link}
+use Rattle.dura_value.specs.ById.{at_id, at_number, cleared}
 use Rattle.dura_model.specs.Deliveries.{Effect, to_instance, goes_on_from}
 
 -- A request of a client is taken; the first message of a link is delivered at this stamp; a pending activity finishes; a

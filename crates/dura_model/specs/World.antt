@@ -40,16 +40,6 @@ empty = record {
   answers = λ client number. None;
 }
 
--- at one place this, elsewhere as before
-abbrev pub at_id : {X : Type 0} → (Id → X) → Id → X → Id → X
-at_id f id x other = if id_eq id other then x else f other
-
+-- at one link this, elsewhere as before
 abbrev pub at_link : {X : Type 0} → (Id → Id → X) → Id → Id → X → Id → Id → X
 at_link f from to x other_from other_to = if id_eq from other_from && id_eq to other_to then x else f other_from other_to
-
-abbrev pub at_number : {X : Type 0} → (Id → ℕ → X) → Id → ℕ → X → Id → ℕ → X
-at_number f id number x other other_number = if id_eq id other && number == other_number then x else f other other_number
-
--- nothing at any number of this id
-abbrev pub cleared : {X : Type 0} → (Id → ℕ → Option X) → Id → Id → ℕ → Option X
-cleared f id other number = if id_eq id other then None else f other number

@@ -1,5 +1,5 @@
 -- The order of byte strings.
-use Rattle.std.proofs.Common.{◌≡◌, ◌==◌, ◌&&◌, ◌||◌, ℕ, nat_lt, List, [], ◌∷◌, true, false, if◌then◌else◌, refl}
+use Rattle.std.proofs.Common.{◌≡◌, ◌==◌, ◌&&◌, ◌||◌, ℕ, nat_lt, List, [], ◌∷◌, true, false, if◌then◌else◌, refl, sym}
 use Rattle.std.specs.declared.cmp.Ordering.TheVariants.{Less, Equal, Greater}
 use Rattle.std.specs.Ordering.{nat_cmp, is_lt, ordering_then}
 use Rattle.std.specs.Cmp.Lexicographic.{slice_cmp}
@@ -18,3 +18,6 @@ is_lt-slice_cmp (x ∷ xs) (y ∷ ys) =
         | false ↦ refl
       ]
     ]
+
+pub less_bytes : (xs ys : List ℕ) → is_lt (slice_cmp nat_cmp xs ys) ≡ bytes_before xs ys
+less_bytes xs ys = sym (is_lt-slice_cmp xs ys)

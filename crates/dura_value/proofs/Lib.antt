@@ -1,6 +1,9 @@
+pub mod Basics
 pub mod Bytes
+pub mod Copies
 pub mod Homes
 pub mod Ids
 pub mod Counted
 pub mod Texts
 pub mod Words
+pub mod Optional

@@ -1,3 +1,4 @@
+pub mod ById
 pub mod Bytes
 pub mod Digest
 pub mod Ids
@@ -5,6 +6,7 @@ pub mod Items
 pub mod Limits
 pub mod Messages
 pub mod Names
+pub mod Optional
 pub mod Reading
 pub mod Text
 pub mod Values

@@ -26,14 +26,10 @@ use Rattle.request_reader.specs.Line.{Request}
 use Rattle.run_laws.specs.Begins.{pairs_of, may_follow, may_say}
 use Rattle.run_laws.proofs.Requests.{requests_stay}
 use Rattle.run_rules.specs.Rules.{Rules, count_told, request_at}
+use Rattle.std.proofs.lemmas.Bool.{ltb-false, ltb-true}
+use Rattle.std.proofs.Math.Bool.{and-false}
 
 -- ---- what was said
-
-pub below : (a b : ℕ) → nat_lt a b ≡ true → a < b
-below a b is = grind (arith, nat_tests, is)
-
-pub not_below : (a b : ℕ) → nat_lt a b ≡ false → b ≤ a
-not_below a b is = grind (arith, nat_tests, is)
 
 module _ (rules : Rules) (latest : ℕ) where
   -- each request that was said has its answer by what was settled
@@ -53,14 +49,14 @@ module _ (rules : Rules) (latest : ℕ) where
 
       by : (place < count_told (pairs_of told) name → is_some (state.answers (client name) r.number) ≡ true) → (mine : Bool) → bytes_eq one.client name ≡ mine
           → (early : Bool) → nat_lt place (count_told (pairs_of told) name) ≡ early → is_some (state.answers (client name) r.number) ≡ true
-      by sooner mine own true early = sooner (below place (count_told (pairs_of told) name) early)
+      by sooner mine own true early = sooner (ltb-true place (count_told (pairs_of told) name) early)
       by sooner false own false early =
           let counted : count_told (pairs_of (told ++ one ∷ [])) name ≡ count_told (pairs_of told) name + 0 = count ∙ ap (λ (b : Bool). count_told (pairs_of told) name + cond b 1 0) own in
-          let high = not_below place (count_told (pairs_of told) name) early in
+          let high = ltb-false place (count_told (pairs_of told) name) early in
           absurd (omega (arith, counted, high, low))
       by sooner true own false early =
           let counted : count_told (pairs_of (told ++ one ∷ [])) name ≡ count_told (pairs_of told) name + 1 = count ∙ ap (λ (b : Bool). count_told (pairs_of told) name + cond b 1 0) own in
-          let high = not_below place (count_told (pairs_of told) name) early in
+          let high = ltb-false place (count_told (pairs_of told) name) early in
           let place_is : place ≡ count_told (pairs_of told) name = omega (arith, counted, high, low) in
           let name_is : one.client ≡ name = same_bytes one.client name own in
           let there : request_at rules name (count_told (pairs_of told) name) ≡ Some may.request = subst (λ (n : List ℕ). request_at rules n (count_told (pairs_of told) n) ≡ Some may.request) name_is may.next in
@@ -94,10 +90,6 @@ front_all P (x ∷ front) rest all = (all.0, front_all P front rest all.1)
 
 -- ---- who may ask
 
-pub and_false : (b : Bool) → (b && false) ≡ false
-and_false true = refl
-and_false false = refl
-
 or_true : (b : Bool) → (b || true) ≡ true
 or_true true = refl
 or_true false = refl
@@ -128,7 +120,7 @@ asks_in_vain w name [] k r all at unanswered = absurd (cc at)
 asks_in_vain w name (x ∷ front) k r all at unanswered = by (λ place is. asks_in_vain w name front place r all.1 is unanswered) k (bytes_eq x.client name) refl at
   where
     behind : asks_behind w name front ≡ false → (lets_ask w name x && asks_behind w name front) ≡ false
-    behind none = ap (λ (b : Bool). lets_ask w name x && b) none ∙ and_false (lets_ask w name x)
+    behind none = ap (λ (b : Bool). lets_ask w name x && b) none ∙ and-false (lets_ask w name x)
 
     by : ((place : ℕ) → slice_get (requests_of name front) place ≡ Some r → asks_behind w name front ≡ false)
         → (place : ℕ) (mine : Bool) → bytes_eq x.client name ≡ mine → slice_get (cond mine (x ∷ requests_of name front) (requests_of name front)) place ≡ Some r → (lets_ask w name x && asks_behind w name front) ≡ false
@@ -138,7 +130,7 @@ asks_in_vain w name (x ∷ front) k r all at unanswered = by (λ place is. asks_
         let same : x ≡ r = cc is in
         let open_still : is_answered w x.message ≡ false = answered_by w name x all.0 mine ∙ ap (has_answer w name) same ∙ unanswered in
         ap (λ (b : Bool). (not b || is_taken w x.message && is_answered w x.message) && asks_behind w name front) (whose_is name x all.0 true mine)
-        ∙ ap (λ (b : Bool). (is_taken w x.message && b) && asks_behind w name front) open_still ∙ ap (λ (b : Bool). b && asks_behind w name front) (and_false (is_taken w x.message))
+        ∙ ap (λ (b : Bool). (is_taken w x.message && b) && asks_behind w name front) open_still ∙ ap (λ (b : Bool). b && asks_behind w name front) (and-false (is_taken w x.message))
 
 -- a client whose requests have their answers asks for the next
 pub asks_on : (w : World) (name : List ℕ) (front : List Request) → AllByRecursion IsRequest front → ((who : Id) (number : ℕ) → is_some (w.answers who number) ≡ true → is_some (w.taken who number) ≡ true)

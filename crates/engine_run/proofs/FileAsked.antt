@@ -8,7 +8,7 @@ use Rattle.std.proofs.lemmas.List.Elements.{All-append, All-filter, All-from_rec
 use Rattle.std.proofs.lemmas.Option.{slice_get_cases}
 use Rattle.client_port.specs.Clients.{requests_of}
 use Rattle.client_port.specs.Ports.{Queue, due_of}
-use Rattle.std.proofs.lemmas.Bool.{eq-eqb, eqb-true}
+use Rattle.std.proofs.lemmas.Bool.{eq-eqb, eqb-true, and_parts}
 use Rattle.dura_model.specs.Partition.{Partition, accepted, taken_in}
 use Rattle.dura_model.specs.Steps.{number_in, is_asking, is_request}
 use Rattle.dura_value.specs.Ids.{Id, client, home, id_eq}
@@ -88,21 +88,13 @@ due_asked rules told queues said all name r due =
       same_bytes r.client name own,
     )
 
-left : (a b : Bool) → (a && b) ≡ true → a ≡ true
-left true b is = refl
-left false b is = absurd (cc is)
-
-right : (a b : Bool) → (a && b) ≡ true → b ≡ true
-right true b is = is
-right false b is = absurd (cc is)
-
 -- a client's request says whose it is and its number
 pub says_whose : (r : Request) → IsRequest r → (r.message.from ≡ client r.client) × (number_in r.message.body ≡ r.number)
 says_whose r asks =
     let m = r.message in
-    let behind = right (id_eq m.from (client r.client)) _ asks in (
-      id_same m.from (client r.client) (left (id_eq m.from (client r.client)) _ asks),
-      eqb-true (number_in m.body) r.number (left (number_in m.body == r.number) _ (right (is_asking m.body m.to) _ behind)),
+    let behind = (and_parts (id_eq m.from (client r.client)) _ asks).1 in (
+      id_same m.from (client r.client) ((and_parts (id_eq m.from (client r.client)) _ asks).0),
+      eqb-true (number_in m.body) r.number ((and_parts (number_in m.body == r.number) _ ((and_parts (is_asking m.body m.to) _ behind).1)).0),
     )
 
 -- a request that isn't accepted was taken

@@ -2,7 +2,7 @@
 use Rattle.std.proofs.Common.{◌≡◌, ◌≤◌, ◌-◌, ◌⊎◌, inl, inr, ℕ, ◌+◌, suc, min, List, [], ◌∷◌, ◌++◌, length, take, drop, Some, refl, sym, ◌∙◌, ap, subst, arith, append_assoc}
 use Rattle.std.proofs.lemmas.Bool.{cases_lt}
 use Rattle.std.proofs.lemmas.List.{append-nil, take_all}
-use Rattle.std.proofs.lemmas.List.Elements.{All-append, All-from_recursion}
+use Rattle.std.proofs.lemmas.List.Elements.{All-append, All-from_recursion, All-push}
 use Rattle.std.specs.List.{All}
 use Rattle.dura_model.specs.Partition.{fresh}
 use Rattle.dura_model.proofs.Outcomes.{never_twice}
@@ -26,25 +26,16 @@ use Rattle.run_rules.specs.Rules.{Rules}
 use Rattle.site_model.specs.History.{Change, wrote, synced, reads, Step, changes_of, content_of, back_to, Torn, Leaves, IsImage}
 use Rattle.site_model.specs.Moments.{Always, begins, goes_on}
 use Rattle.site_model.proofs.Paths.{each_moment, last, no_shorter}
+use Rattle.site_model.proofs.Images.{torn_as_it_was}
 
 -- ---- images
 
--- a write of which nothing came to the disk
-nothing_written : (at size : ℕ) (old : List ℕ) → Torn at size old old
-nothing_written at size old = record {
-  before = elim (cases_lt at (length old)) [
-    | inl below ↦ let same : min at (length old) ≡ at = omega arith in ap (λ (n : ℕ). take n old) same
-    | inr past ↦ let same : min at (length old) ≡ length old = omega arith in ap (λ (n : ℕ). take n old) same ∙ take_all (length old) old (omega arith) ∙ sym (take_all at old past)
-  ];
-  behind = ap (λ (l : List ℕ). drop (at + size) l) (take_all (length old) old (omega arith));
-  no_shorter = omega arith;
-  no_longer = omega arith;
 }
 
 -- a crash always leaves something
 some_left : (changes : List Change) → (image : List ℕ) × Leaves changes image
 some_left [] = ([], refl)
-some_left (wrote at size bytes ∷ changes) = let before = some_left changes in (before.0, (before.0, before.1, nothing_written at size before.0))
+some_left (wrote at size bytes ∷ changes) = let before = some_left changes in (before.0, (before.0, before.1, torn_as_it_was at size before.0))
 some_left (synced ∷ changes) = (reads changes, refl)
 
 some_image : (steps : List Step) → (image : ℕ → List ℕ) × IsImage steps image
@@ -130,9 +121,6 @@ settled_still entries more life is = record {
 
 all_with : {X : Type 0} (P Q : X → Type 0) (xs : List X) → ((x : X) → P x → Q x) → All P xs → All Q xs
 all_with P Q xs f all = λ k d inside. f _ (all k d inside)
-
-all_one : {X : Type 0} (P : X → Type 0) (xs : List X) (x : X) → All P xs → P x → All P (xs ++ x ∷ [])
-all_one P xs x all one = All-append P xs (x ∷ []) all (All-from_recursion P (x ∷ []) (one, tt))
 
 -- ---- lives
 
@@ -252,8 +240,8 @@ module _ (flows : Flows) (digest : ℕ) (first : List Step) (start : List Entry)
         behind = then.behind ++ call.more;
         front = ap (λ (l : List Entry). l ++ call.more) then.front ∙ append_assoc start then.behind call.more;
         keep = call.keep;
-        settled = all_one (IsSettledIn (then.entries ++ call.more)) lives life (all_with (IsSettledIn then.entries) (IsSettledIn (then.entries ++ call.more)) lives (settled_still then.entries call.more) then.settled) call.settled;
-        said = all_one (IsSaidBy (then.entries ++ call.more)) lives life (all_with (IsSaidBy then.entries) (IsSaidBy (then.entries ++ call.more)) lives (said_still then.entries call.more) then.said) call.said;
+        settled = All-push (IsSettledIn (then.entries ++ call.more)) lives life (all_with (IsSettledIn then.entries) (IsSettledIn (then.entries ++ call.more)) lives (settled_still then.entries call.more) then.settled) call.settled;
+        said = All-push (IsSaidBy (then.entries ++ call.more)) lives life (all_with (IsSaidBy then.entries) (IsSaidBy (then.entries ++ call.more)) lives (said_still then.entries call.more) then.said) call.said;
       }
 
 pub lives_joined : (flows : Flows) (digest : ℕ) (first last : List Step) (entries : List Entry) (lives : List Life) → AllKeep flows digest entries first → Lives flows digest first lives last

@@ -18,16 +18,13 @@ use Rattle.site_model.specs.History.{Step, on, synced, reads, changes_of, conten
 use Rattle.site_model.specs.Moments.{Always, begins, goes_on, LeavesOnly}
 use Rattle.site_model.proofs.Images.{reads_is_image}
 use Rattle.site_model.proofs.Paths.{other_change, weaker}
+use Rattle.part_items.proofs.LogsNumbered.{no_more}
 
 -- ---- the log of two files
 
 unrefused : (fault : Option Refusal) (found : Logs) (file : ℕ) (entries : List Entry) (gate : ℕ) → unless fault found ≡ log_in file entries gate → (fault ≡ None) × (found ≡ log_in file entries gate)
 unrefused None found file entries gate is = (refl, is)
 unrefused (Some refusal) found file entries gate is = absurd (cc is)
-
-no_more : {X : Type 0} (one other : Option X) → or_else one other ≡ None → (one ≡ None) × (other ≡ None)
-no_more None other is = (refl, is)
-no_more (Some x) other is = absurd (cc is)
 
 some_behind : {X : Type 0} (one : Option X) (x : X) → or_else one (Some x) ≡ None → ⊥
 some_behind None x is = cc is

@@ -1,7 +1,7 @@
 -- Where a run goes on that a call picks.
 use Rattle.std.proofs.Common.{◌≡◌, ◌≤◌, ◌<◌, ◌+◌, ◌==◌, ℕ, Bool, true, false, List, [], ◌∷◌, Option, Some, None, Result, Ok, Err, nat_le, refl, sym, ◌∙◌, ap, subst, arith, eqb-true}
 use Rattle.std.specs.Option.{option_and_then}
-use Rattle.std.proofs.lemmas.Bool.{eq-eqb, leb-true, le-leb}
+use Rattle.std.proofs.lemmas.Bool.{eq-eqb, leb-true, le-leb, and_parts}
 use Rattle.std.proofs.lemmas.List.{append-nil}
 use Rattle.commit_log.specs.Segment.{first_gate, segment, reading_of}
 use Rattle.commit_log.specs.States.{IsResting}
@@ -10,7 +10,6 @@ use Rattle.dura_model.specs.Partition.{Partition, enter, accepted, with_part}
 use Rattle.dura_model.specs.Placed.{AreShown}
 use Rattle.dura_model.proofs.Kept.{item_keeps, item_stands, enter_keeps}
 use Rattle.dura_value.specs.Items.{Item, Entry}
-use Rattle.dura_value.proofs.Ids.{both_true}
 use Rattle.engine_run.specs.Picks.{payloads_of, log_of, log_with, goes_on_at, log_at, log_from, log_in_file, origin_with}
 use Rattle.flow_syntax.specs.Syntax.{Flows}
 use Rattle.hub_store.specs.Frames.{goes_on}
@@ -24,11 +23,7 @@ use Rattle.dura_model.proofs.Appending.{both_placed}
 use Rattle.part_items.specs.Numbered.{Next, IsNumbered, behind, behind_all}
 use Rattle.run_laws.specs.Begins.{header_with}
 use Rattle.site_model.specs.History.{Step, changes_of, content_of}
-
--- both steps of two were made
-both_some : {X Y : Type 0} (o : Option X) (f : X → Option Y) (y : Y) → option_and_then f o ≡ Some y → (x : X) × (o ≡ Some x) × (f x ≡ Some y)
-both_some None f y is = absurd (cc is)
-both_some (Some x) f y is = (x, refl, is)
+use Rattle.dura_value.proofs.Basics.{both_some}
 
 -- ---- where entries come to
 
@@ -94,7 +89,7 @@ from_picked log position incarnation own = by (goes_on_at log position incarnati
     by : (test : Bool) → goes_on_at log position incarnation ≡ test → IsPicked (log_from log position incarnation) log.file position incarnation
     by true is = rw is (record {
       own = own;
-      goes = let parts = both_true ((goes_on log []).position == position) (nat_le (goes_on log []).incarnation incarnation) is in record { place = eqb-true (goes_on log []).position position parts.0; follows = leb-true (goes_on log []).incarnation incarnation parts.1 };
+      goes = let parts = and_parts ((goes_on log []).position == position) (nat_le (goes_on log []).incarnation incarnation) is in record { place = eqb-true (goes_on log []).position position parts.0; follows = leb-true (goes_on log []).incarnation incarnation parts.1 };
       file_is = refl;
     })
     by false is = rw is (record { own = at_keeps log position own.alone; goes = record { position = refl; follows = omega arith }; file_is = refl })

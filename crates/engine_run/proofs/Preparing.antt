@@ -20,19 +20,16 @@ use Rattle.run_laws.specs.Begins.{header_with}
 use Rattle.site_model.specs.History.{Step, changes_of, content_of, writes_inside, Leaves}
 use Rattle.site_model.specs.Moments.{Always, LeavesOnly}
 use Rattle.site_model.proofs.Paths.{leaves_only, together}
+use Rattle.dura_value.proofs.Basics.{both_ok}
 
 -- ---- payloads
-
-step : {X Y : Type 0} (r : Result X ℕ) (f : X → Result Y ℕ) (y : Y) → (r >>= f) ≡ Ok y → (x : X) × (r ≡ Ok x) × (f x ≡ Ok y)
-step (Ok x) f y is = (x, refl, is)
-step (Err offset) f y is = absurd (cc is)
 
 -- payloads that are read frame by frame are read, wherever they lie
 pub frames_decoded : (payloads : List (List ℕ)) (gate : ℕ) (next : Next) (entries : List Entry) → frames_in next payloads ≡ Ok entries → decoded gate next payloads ≡ Ok entries
 frames_decoded [] gate next entries is = is
 frames_decoded (payload ∷ payloads) gate next entries is =
-    let one = step (next_frame_in next payload) (λ frame. frames_in (behind_all next frame) payloads >>= λ more. Ok (frame ++ more)) entries is in
-    let two = step (frames_in (behind_all next one.0) payloads) (λ more. Ok (one.0 ++ more)) entries one.2 in
+    let one = both_ok (next_frame_in next payload) (λ frame. frames_in (behind_all next frame) payloads >>= λ more. Ok (frame ++ more)) entries is in
+    let two = both_ok (frames_in (behind_all next one.0) payloads) (λ more. Ok (one.0 ++ more)) entries one.2 in
     let rest = frames_decoded payloads (gate + 5 + length payload) (behind_all next one.0) two.0 two.1 in
     ap (λ r. in_file (gate + 5) r >>= λ frame. decoded (gate + 5 + length payload) (behind_all next frame) payloads >>= λ more. Ok (frame ++ more)) one.1
     ∙ ap (λ r. r >>= λ more. Ok (one.0 ++ more)) rest

@@ -35,18 +35,3 @@ nothing_before {P} {begin} (settles {now} {trail} more run at here) moment low =
     filter-append _ trail more
     ∙ ap (λ (l : List Settled). l ++ settled_at moment more) (nothing_before run moment low)
     ∙ settled_none (length now) moment more (omega (arith, low, before)) (recursion_from_All _ more at)
-
--- what came by then is settled
-settled_all : (at moment : ℕ) (more : List Settled) → at ≤ moment → AllByRecursion (λ one. one.at ≡ at) more → settled_at moment more ≡ more
-settled_all at moment [] low each = refl
-settled_all at moment (one ∷ more) low each =
-    ap (λ b. cond b (one ∷ settled_at moment more) (settled_at moment more)) (le-leb one.at moment (omega (arith, low, each.0)))
-    ∙ ap (λ (l : List Settled). one ∷ l) (settled_all at moment more low each.1)
-
-pub settled_by : {P : List Step → List Settled → Type 0} {begin now : List Step} {trail : List Settled} → Runs P begin now trail → (moment : ℕ) → length now ≤ moment → settled_at moment trail ≡ trail
-settled_by (starts here) moment high = refl
-settled_by (steps_on {now} step run here) moment high = settled_by run moment (omega (arith, high))
-settled_by {P} {begin} (settles {now} {trail} more run at here) moment high =
-    filter-append _ trail more
-    ∙ ap (λ (l : List Settled). l ++ settled_at moment more) (settled_by run moment high)
-    ∙ ap (λ (l : List Settled). trail ++ l) (settled_all (length now) moment more high (recursion_from_All _ more at))

@@ -19,7 +19,7 @@ use Rattle.engine_run.specs.Asked.{IsRequest, IsTaken}
 use Rattle.engine_run.specs.Ends.{next_untold, AreAllTold, IsFirstUntold, IsToldOut, RunEndsAs}
 use Rattle.engine_run.specs.Rounds.{AreAllSaid, IsFirstUnsaid, IsAtRest, IsUnfinished, RoundsEnd}
 use Rattle.engine_run.specs.Served.{has_answer, IsServed, first_open, IsFirstOpen, Awaits, IsLeftAt, HasServed}
-use Rattle.engine_run.proofs.Asking.{told_answered, get_front, get_here, get_within, front_all, and_false, asks_in_vain}
+use Rattle.engine_run.proofs.Asking.{told_answered, get_front, get_here, get_within, front_all, asks_in_vain}
 use Rattle.engine_run.proofs.FileAsked.{says_whose}
 use Rattle.engine_run.proofs.Stirred.{stirs}
 use Rattle.hub_store.specs.Moments.{SaidSoFar}
@@ -36,6 +36,7 @@ use Rattle.run_laws.specs.Requests.{AnswersTaken}
 use Rattle.run_laws.proofs.Requests.{answers_taken_on}
 use Rattle.run_rules.specs.Rules.{Rules, count_told, request_at}
 use Rattle.site_model.specs.History.{Step}
+use Rattle.std.proofs.Math.Bool.{and-false}
 
 -- ---- clients
 
@@ -321,7 +322,7 @@ module _ (rules : Rules) (latest : ℕ) (trail : List Settled) (told : List Said
       undue = elim (side own count) [
         | inl said_too ↦ no_more (taken_at rightly r (of_r IsRequest asks) (told_answered rules latest story state made r.client own r said_too there))
         | inr (inl here) ↦ no_more (was_next here)
-        | inr (inr behind) ↦ ap (λ (b : Bool). not (is_taken world r.message) && b) (kept_back behind) ∙ and_false (not (is_taken world r.message))
+        | inr (inr behind) ↦ ap (λ (b : Bool). not (is_taken world r.message) && b) (kept_back behind) ∙ and-false (not (is_taken world r.message))
       ]
         where
           no_more : is_taken world r.message ≡ true → is_due world (map (λ (x : Request). x.message) front) r.message ≡ false

@@ -3,15 +3,9 @@ use Rattle.std.proofs.Common.{◌≡◌, ◌≢◌, ◌≤◌, inl, inr, ℕ, ze
 use Rattle.std.proofs.lemmas.Bool.{cases_eq, cases_lt}
 use Rattle.engine_run.specs.Lives.{BeginsOn}
 use Rattle.site_calls.specs.Events.{held_below, start_of}
-use Rattle.site_calls.proofs.FirstSteps.{held, held_none}
+use Rattle.site_calls.proofs.FirstSteps.{held, held_none, changes_one_more}
 use Rattle.site_model.specs.History.{on, wrote, synced, Step, changes_of, content_of, Leaves, IsImage, IsKept}
 use Rattle.site_model.proofs.Paths.{own_change, other_change}
-
-one_more : (n : ℕ) (files : ℕ → List ℕ) (file : ℕ) → file ≢ n → changes_of file (held_below (suc n) files) ≡ changes_of file (held_below n files)
-unfolding held_below
-one_more n files file apart =
-    other_change file n synced (on n (wrote 0 (length (files n)) (files n)) ∷ held_below n files) apart
-    ∙ other_change file n (wrote 0 (length (files n)) (files n)) (held_below n files) apart
 
 -- all of a file is on the disk at the start
 kept_below : (n : ℕ) (files : ℕ → List ℕ) (file : ℕ) → IsKept (changes_of file (held_below n files))
@@ -20,7 +14,7 @@ kept_below zero files file = λ image left. left
 kept_below (suc n) files file = elim (cases_eq file n) [
   | inl own ↦ subst (λ (f : ℕ). IsKept (changes_of f (held_below (suc n) files))) (sym own)
       (subst IsKept (sym (own_change n synced (on n (wrote 0 (length (files n)) (files n)) ∷ held_below n files))) (λ image left. left))
-  | inr apart ↦ subst IsKept (sym (one_more n files file apart)) (kept_below n files file)
+  | inr apart ↦ subst IsKept (sym (changes_one_more n files file apart)) (kept_below n files file)
 ]
 
 kept_at_first : (files : ℕ → List ℕ) (file : ℕ) → IsKept (changes_of file (start_of files))

@@ -6,18 +6,15 @@ use Rattle.clap.specs.Simple.{subcommand_of}
 use Rattle.clap.specs.Walk.{Row, Text, first_of}
 use Rattle.command_words.specs.Command.{netherite, number_of, partitions_of, run_of, call_of, call_in}
 use Rattle.command_words.specs.Numbers.{is_decimal, decimal, number_in}
-use Rattle.command_words.specs.Reading.{guard, where_it, ◌>>=◌}
+use Rattle.dura_value.specs.Optional.{guard, where_it, ◌>>=◌}
 use Rattle.command_words.specs.declared.words.Call.{Call}
 use Rattle.command_words.specs.declared.words.Call.TheVariants.{Run, Show}
 use Rattle.command_words.specs.declared.words.RunOptions.{RunOptions}
+use Rattle.dura_value.proofs.Optional.{both_there}
 
 guarded : {X : Type 0} (test : Bool) (wanted : Option X) (x : X) → guard test wanted ≡ Some x → wanted ≡ Some x
 guarded true wanted x is = is
 guarded false wanted x is = absurd (cc is)
-
-both : {X Y : Type 0} (o : Option X) (f : X → Option Y) (y : Y) → (o >>= f) ≡ Some y → (x : X) × (o ≡ Some x) × (f x ≡ Some y)
-both None f y is = absurd (cc is)
-both (Some x) f y is = (x, refl, is)
 
 where_is : {X : Type 0} (test : X → Bool) (x y : X) → where_it test x ≡ Some y → (x ≡ y) × (test x ≡ true)
 where_is test x y is = by (test x) refl is
@@ -28,7 +25,7 @@ where_is test x y is = by (test x) refl is
 
 within : (least most : ℕ) (text : List ℕ) (n : ℕ) → number_in least most text ≡ Some n → (least ≤ n) × (n ≤ most)
 within least most text n is =
-    let step = both (where_it (λ n. nat_le n most) (decimal text)) (where_it (λ n. nat_le least n)) n (guarded (is_decimal text) _ n is) in
+    let step = both_there (where_it (λ n. nat_le n most) (decimal text)) (where_it (λ n. nat_le least n)) n (guarded (is_decimal text) _ n is) in
     let upper = where_is (λ n. nat_le n most) (decimal text) step.0 step.1 in
     let lower = where_is (λ n. nat_le least n) step.0 n step.2 in
     let above = leb-true least step.0 lower.1 in
@@ -36,7 +33,7 @@ within least most text n is =
     (omega (arith, above, lower.0), omega (arith, below, upper.0, lower.0))
 
 within_rows : (name : Text) (least most : ℕ) (rows : List Row) (n : ℕ) → number_of name least most rows ≡ Some n → (least ≤ n) × (n ≤ most)
-within_rows name least most rows n is = let step = both (first_of name rows) (number_in least most) n is in within least most step.0 n step.2
+within_rows name least most rows n is = let step = both_there (first_of name rows) (number_in least most) n is in within least most step.0 n step.2
 
 -- how a run may go
 pub record IsWithin (options : RunOptions) : Type 0 where
@@ -47,10 +44,10 @@ pub record IsWithin (options : RunOptions) : Type 0 where
 
 run_within : (rows : List Row) (options : RunOptions) → run_of rows ≡ Some options → IsWithin options
 run_within rows options is =
-    let one = both (partitions_of rows) _ options is in
-    let two = both (number_of (codes "batch") 1 64 rows) _ options one.2 in
-    let three = both (number_of (codes "steps") 1 1048576 rows) _ options two.2 in
-    let four = both (number_of (codes "segment") 4096 2147483648 rows) _ options three.2 in
+    let one = both_there (partitions_of rows) _ options is in
+    let two = both_there (number_of (codes "batch") 1 64 rows) _ options one.2 in
+    let three = both_there (number_of (codes "steps") 1 1048576 rows) _ options two.2 in
+    let four = both_there (number_of (codes "segment") 4096 2147483648 rows) _ options three.2 in
     let made : record { partitions = one.0; batch = two.0; steps = three.0; segment = four.0 } ≡ options = cc four.2 in
     let batch = within_rows (codes "batch") 1 64 rows two.0 two.1 in
     let segment = within_rows (codes "segment") 4096 2147483648 rows four.0 four.1 in
@@ -61,12 +58,12 @@ call_within : (name : Text) (rows : List Row) (options : RunOptions) → call_of
 call_within name rows options is = by (bytes_eq name (codes "run")) is
   where
     by : (test : Bool) → cond test (run_of rows >>= λ o. Some (Run o)) (partitions_of rows >>= λ p. Some (Show p)) ≡ Some (Run options) → IsWithin options
-    by true is = let step = both (run_of rows) (λ o. Some (Run o)) (Run options) is in let same : step.0 ≡ options = cc step.2 in subst IsWithin same (run_within rows step.0 step.1)
-    by false is = let step = both (partitions_of rows) (λ p. Some (Show p)) (Run options) is in absurd (cc step.2)
+    by true is = let step = both_there (run_of rows) (λ o. Some (Run o)) (Run options) is in let same : step.0 ≡ options = cc step.2 in subst IsWithin same (run_within rows step.0 step.1)
+    by false is = let step = both_there (partitions_of rows) (λ p. Some (Show p)) (Run options) is in absurd (cc step.2)
 
 pub run_is_within : (words : List (List ℕ)) (options : RunOptions) → call_in words ≡ Some (Run options) → IsWithin options
 run_is_within words options is =
-    let step = both (subcommand_of netherite words) (λ sub. call_of sub.0 sub.1) (Run options) (guarded (length (fault_of netherite words) == 0) _ (Run options) is) in
+    let step = both_there (subcommand_of netherite words) (λ sub. call_of sub.0 sub.1) (Run options) (guarded (length (fault_of netherite words) == 0) _ (Run options) is) in
     call_within step.0.0 step.0.1 options step.2
 
 -- words call for one thing

@@ -35,7 +35,7 @@ use dura_value::{Name, Request};
 use flow_steps::Machines;
 use flow_syntax::Flows;
 use hub_store::{Ended as Settled, Stage, Store, Trail};
-use part_rounds::{End, Ruled, Stop, drive};
+use part_rounds::{Bounds, End, Ruled, Stop, drive};
 use part_steps::PartState;
 use run_causes::Cause;
 use site_model::{Clock, Site};
@@ -153,9 +153,11 @@ fn drive_on<V: Site, N: Ruled, C: Clock, A: Activities>(
         port,
         clients,
         state,
-        incarnation,
-        options.batch,
-        options.steps,
+        Bounds {
+            incarnation,
+            limit: options.batch,
+            steps: options.steps,
+        },
     ) {
         Ok(End::Rest(state)) => {
             state.let_go();

@@ -7,18 +7,10 @@ use Rattle.dura_value.specs.declared.data.Value.{Value}
 use Rattle.dura_value.specs.declared.data.Value.TheVariants as values
 use Rattle.dura_value.specs.contracts.data.ScalarClone.TheImpl as scalar_clone
 use Rattle.dura_value.specs.contracts.data.ValueClone.TheImpl as value_clone
+use Rattle.dura_value.proofs.Copies.{same_scalar}
 
 same_items : {X : Type 0} (R : X → X → Type 0) → ((x y : X) → R x y → y ≡ x) → (xs ys : List X) → AllZip R xs ys → ys ≡ xs
 same_items R same [] [] all = refl
 same_items R same [] (y ∷ ys) all = absurd all
 same_items R same (x ∷ xs) [] all = absurd all
 same_items {X = X} R same (x ∷ xs) (y ∷ ys) all = ap (λ (l : List X). y ∷ l) (same_items R same xs ys all.1) ∙ ap (λ (z : X). z ∷ xs) (same x y all.0)
-
-pub same_scalar : (a b : Scalar) → scalar_clone.by_variants a b → b ≡ a
-same_scalar (scalars.Text a) (scalars.Text b) h = ap scalars.Text (sym h.3 ∙ same_items _ (λ x y is. is) h.0.bytes.items h.1.bytes.items h.4.0 ∙ h.2)
-same_scalar a b h = search rules
-
-pub same_value : (a b : Value) → value_clone.by_variants a b → b ≡ a
-same_value (values.Text a) (values.Text b) h = ap values.Text (sym h.3 ∙ same_items _ (λ x y is. is) h.0.bytes.items h.1.bytes.items h.4.0 ∙ h.2)
-same_value (values.List a) (values.List b) h = ap values.List (sym h.3 ∙ same_items _ same_scalar h.0.items.items h.1.items.items h.4.0 ∙ h.2)
-same_value a b h = search rules

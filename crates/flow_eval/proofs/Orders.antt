@@ -13,9 +13,6 @@ use Rattle.dura_value.specs.contracts.data.ValuePartialEq.TheImpl as same_values
 use Rattle.dura_value.specs.Values as table
 use Rattle.dura_value.proofs.Bytes.{is_lt-slice_cmp}
 
-pub less_bytes : (xs ys : List ℕ) → is_lt (slice_cmp nat_cmp xs ys) ≡ bytes_before xs ys
-less_bytes xs ys = sym (is_lt-slice_cmp xs ys)
-
 int_eq_is : (a b : ℤ) → int_eq a b ≡ table.int_eq a b
 int_eq_is (pos a) (pos b) = grind (arith, nat_tests)
 int_eq_is (negsuc a) (negsuc b) = grind (arith, nat_tests)

@@ -11,15 +11,7 @@ use Rattle.dura_value.specs.declared.outcome.Outcome.TheVariants as outcomes
 use Rattle.dura_value.specs.contracts.data.ScalarClone.TheImpl as scalar_clone
 use Rattle.dura_value.specs.contracts.data.ValueClone.TheImpl as value_clone
 use Rattle.dura_value.specs.contracts.outcome.OutcomeClone.TheImpl as outcome_clone
-
-same_scalar : (a b : Scalar) → scalar_clone.by_variants a b → b ≡ a
-same_scalar (scalars.Text a) (scalars.Text b) h = ap scalars.Text (sym h.3 ∙ each_same h.0.bytes.items h.1.bytes.items h.4.0 ∙ h.2)
-same_scalar a b h = search rules
-
-same_value : (a b : Value) → value_clone.by_variants a b → b ≡ a
-same_value (values.Text a) (values.Text b) h = ap values.Text (sym h.3 ∙ each_same h.0.bytes.items h.1.bytes.items h.4.0 ∙ h.2)
-same_value (values.List a) (values.List b) h = ap values.List (sym h.3 ∙ same_from_all_zip _ h.0.items.items h.1.items.items h.4.0 same_scalar ∙ h.2)
-same_value a b h = search rules
+use Rattle.dura_value.proofs.Copies.{same_scalar, same_value}
 
 pub same_outcome : (a b : Outcome) → outcome_clone.by_variants a b → b ≡ a
 same_outcome (outcomes.Done a) (outcomes.Done b) h = ap outcomes.Done (same_value a b h)

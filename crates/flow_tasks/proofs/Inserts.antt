@@ -10,9 +10,6 @@ use Rattle.dura_value.specs.Views.{spot_of, spots_of}
 use Rattle.dura_value.specs.declared.spots.Spot.{Spot}
 use Rattle.dura_value.proofs.Bytes.{is_lt-slice_cmp}
 
-pub less_bytes : (xs ys : List ℕ) → is_lt (slice_cmp nat_cmp xs ys) ≡ bytes_before xs ys
-less_bytes xs ys = sym (is_lt-slice_cmp xs ys)
-
 -- it goes before the first one that it comes before
 pub goes_here : (set : List Spot) (place : ℕ) (spot : plain.Spot) (at : Spot) → place < length set → at ≡ get_or set place at → spot_before spot (spot_of at) ≡ true
     → spots_of (take place set) ++ inserted spot (spots_of (drop place set)) ≡ insert (spots_of set) place spot

@@ -10,15 +10,13 @@ use Rattle.flow_tasks.specs.declared.raised.Raised.{Raised}
 use Rattle.flow_tasks.specs.Kept.{events_in, places_from}
 use Rattle.flow_tasks.specs.Numbers.{at_name}
 use Rattle.flow_tasks.specs.Views.{raised_of}
+use Rattle.dura_value.proofs.Ids.{same_bytes}
 
 abbrev Slots : Type 0
 Slots = List (Option Raised)
 
 abbrev plain_in : Slots → List plain.Raised
 plain_in slots = map raised_of (events_in slots)
-
-same_name : (a b : List ℕ) → bytes_eq a b ≡ true → a ≡ b
-same_name a b is = (bytes_eq-Decides a b).0 is
 
 -- ---- an event more
 
@@ -64,7 +62,7 @@ pushed slots one old new before is name =
     ∙ sym (place_behind name 0 slots one)
   where
     by_test : (b : Bool) → bytes_eq one.name name ≡ b → (if b then old one.name ++ length slots ∷ [] else old name) ≡ places_from name 0 slots ++ brings b (length slots)
-    by_test true same = ap (λ (l : List ℕ). old l ++ length slots ∷ []) (same_name one.name name same) ∙ ap (λ (l : List ℕ). l ++ length slots ∷ []) (before name)
+    by_test true same = ap (λ (l : List ℕ). old l ++ length slots ∷ []) (same_bytes one.name name same) ∙ ap (λ (l : List ℕ). l ++ length slots ∷ []) (before name)
     by_test false same = before name ∙ none_behind (places_from name 0 slots)
 
 -- ---- an event less
@@ -98,9 +96,9 @@ leads_by true name n one slots place rest named before is =
   where
     by_test : (other : List ℕ) (c : Bool) → bytes_eq name other ≡ c → places_from name (suc n) slots ≡ rest
         → places_from other (suc n) slots ≡ (if c then rest else places_from other n (Some one ∷ slots))
-    by_test other true same more = ap (λ (l : List ℕ). places_from l (suc n) slots) (sym (same_name name other same)) ∙ more
+    by_test other true same more = ap (λ (l : List ℕ). places_from l (suc n) slots) (sym (same_bytes name other same)) ∙ more
     by_test other false same more =
-        sym (ap (λ (b : Bool). if b then n ∷ places_from other (suc n) slots else places_from other (suc n) slots) (ap (λ (l : List ℕ). bytes_eq l other) (same_name one.name name named) ∙ same))
+        sym (ap (λ (b : Bool). if b then n ∷ places_from other (suc n) slots else places_from other (suc n) slots) (ap (λ (l : List ℕ). bytes_eq l other) (same_bytes one.name name named) ∙ same))
 leads_by false name n one slots place rest named before is =
     let found = before is in
     (suc found.0, later place n found.0 found.1, omega (arith, found.2), found.3, ap (λ (l : List plain.Raised). raised_of one ∷ l) found.4, λ other. by_test other (bytes_eq name other) refl _ (found.5 other))
@@ -108,7 +106,7 @@ leads_by false name n one slots place rest named before is =
     by_test : (other : List ℕ) (c : Bool) → bytes_eq name other ≡ c → (left : List ℕ) → left ≡ (if c then rest else places_from other (suc n) slots)
         → (if bytes_eq one.name other then n ∷ left else left) ≡ (if c then rest else places_from other n (Some one ∷ slots))
     by_test other true same left is =
-        ap (λ (b : Bool). if b then n ∷ left else left) (ap (bytes_eq one.name) (sym (same_name name other same)) ∙ named) ∙ is
+        ap (λ (b : Bool). if b then n ∷ left else left) (ap (bytes_eq one.name) (sym (same_bytes name other same)) ∙ named) ∙ is
     by_test other false same left is = ap (λ (l : List ℕ). if bytes_eq one.name other then n ∷ l else l) is
 
 leads : (name : List ℕ) (n : ℕ) (slots : Slots) (place : ℕ) (rest : List ℕ) → places_from name n slots ≡ place ∷ rest → Leads name n slots place rest
@@ -165,5 +163,5 @@ none_there name slots places are none =
     empty (other ∷ rest) none = absurd (cc none)
 
     by_test : (other : List ℕ) (b : Bool) → bytes_eq name other ≡ b → places name ≡ [] → (if b then drop 1 (places name) else places other) ≡ places other
-    by_test other true same is = ap (drop 1) is ∙ sym is ∙ ap places (same_name name other same)
+    by_test other true same is = ap (drop 1) is ∙ sym is ∙ ap places (same_bytes name other same)
     by_test other false same is = refl

@@ -21,6 +21,8 @@ use Rattle.flow_tasks.specs.declared.tasks.Kind.TheVariants as kinds
 use Rattle.flow_tasks.specs.declared.open_tasks.OpenTasks.{OpenTasks}
 use Rattle.flow_tasks.specs.Views.{kind_of}
 use Rattle.flow_tasks.proofs.Places.{later_by}
+use Rattle.std.proofs.Math.Bool.{and-false, and-true}
+use Rattle.dura_value.proofs.Ids.{bytes_turned}
 
 -- ---- what the numbers say
 
@@ -72,13 +74,9 @@ longer (first ∷ before) task = ap (λ (n : ℕ). suc n) (longer before task)
 abbrev pub asked : Spot → List Task → List ℕ → Bool
 asked spot tasks numbers = list_any (λ n. passes_at (is_open_ask spot) (task_at tasks n)) numbers
 
-never_settled : (b : Bool) → (b && false) ≡ false
-never_settled true = refl
-never_settled false = refl
-
 ask_is_call : (spot : Spot) (kind : Kind) (waits : Bool) → (is_call kind && waits) ≡ false → (asks_spot spot kind && waits) ≡ false
 ask_is_call spot (of_entity other) true is = absurd (cc is)
-ask_is_call spot (of_entity other) false is = never_settled (asks_spot spot (of_entity other))
+ask_is_call spot (of_entity other) false is = and-false (asks_spot spot (of_entity other))
 ask_is_call spot other waits is = refl
 
 ask_behind : (spot : Spot) (before tasks : List Task) → asked spot (before ++ tasks) (numbers_from is_open_call (length before) tasks) ≡ has_open_ask spot tasks
@@ -161,10 +159,6 @@ put_last test k (task ∷ tasks) =
 abbrev fresh : Kind → Task
 fresh kind = record { kind = kind; arrival = None }
 
-and_true : (b : Bool) → (b && true) ≡ b
-and_true true = refl
-and_true false = refl
-
 pub call_comes : (old new : OpenTasks) (kind : Kind) (number : ℕ) → is_call kind ≡ true → ((name : List ℕ) → listens_for name kind ≡ false)
     → new.calls.keys ≡ insert_key nat_cmp old.calls.keys number → numbers_in new.listeners ≡ numbers_in old.listeners
     → (tasks : List Task) → AreThose old tasks → number ≡ length tasks → AreThose new (tasks ++ fresh kind ∷ [])
@@ -175,20 +169,17 @@ call_comes old new kind number call deaf keys same tasks are is =
           ∙ ap (insert_key nat_cmp (numbers_from is_open_call 0 tasks)) (let last : number ≡ 0 + length tasks = omega (arith, is) in last)
           ∙ put_last is_open_call 0 tasks
           ∙ ap (λ (n : ℕ). numbers_from is_open_call 0 tasks ++ n ∷ []) (omega arith)
-          ∙ comes_behind is_open_call tasks (fresh kind) (and_true (is_call kind) ∙ call);
-      listeners = λ name. ap (λ (f : List ℕ → List ℕ). f name) same ∙ are.listeners name ∙ stays_behind (is_listener name) tasks (fresh kind) (and_true (listens_for name kind) ∙ deaf name);
+          ∙ comes_behind is_open_call tasks (fresh kind) (and-true (is_call kind) ∙ call);
+      listeners = λ name. ap (λ (f : List ℕ → List ℕ). f name) same ∙ are.listeners name ∙ stays_behind (is_listener name) tasks (fresh kind) (and-true (listens_for name kind) ∙ deaf name);
     }
 
 pub other_comes : (old new : OpenTasks) (kind : Kind) → is_call kind ≡ false → ((name : List ℕ) → listens_for name kind ≡ false) → new.calls.keys ≡ old.calls.keys → numbers_in new.listeners ≡ numbers_in old.listeners
     → (tasks : List Task) → AreThose old tasks → AreThose new (tasks ++ fresh kind ∷ [])
 other_comes old new kind call deaf keys same tasks are =
     record {
-      calls = keys ∙ are.calls ∙ stays_behind is_open_call tasks (fresh kind) (and_true (is_call kind) ∙ call);
-      listeners = λ name. ap (λ (f : List ℕ → List ℕ). f name) same ∙ are.listeners name ∙ stays_behind (is_listener name) tasks (fresh kind) (and_true (listens_for name kind) ∙ deaf name);
+      calls = keys ∙ are.calls ∙ stays_behind is_open_call tasks (fresh kind) (and-true (is_call kind) ∙ call);
+      listeners = λ name. ap (λ (f : List ℕ → List ℕ). f name) same ∙ are.listeners name ∙ stays_behind (is_listener name) tasks (fresh kind) (and-true (listens_for name kind) ∙ deaf name);
     }
-
-swapped : (a b : List ℕ) → bytes_eq a b ≡ bytes_eq b a
-swapped a b = nat_list_eq_equiv.symm a b
 
 listener_behind : (name other : List ℕ) (f : List ℕ → List ℕ) (number : ℕ) (tasks : List Task) (b : Bool) → bytes_eq name other ≡ b → ((name : List ℕ) → f name ≡ numbers_from (is_listener name) 0 tasks) → number ≡ length tasks
     → (if b then f name ++ number ∷ [] else f other) ≡ numbers_from (is_listener other) 0 (tasks ++ fresh (of_event name) ∷ [])
@@ -196,9 +187,9 @@ listener_behind name other f number tasks true same are is =
     ap (λ (l : List ℕ). f l ++ number ∷ []) ((bytes_eq-Decides name other).0 same)
     ∙ ap (λ (l : List ℕ). l ++ number ∷ []) (are other)
     ∙ ap (λ (n : ℕ). numbers_from (is_listener other) 0 tasks ++ n ∷ []) is
-    ∙ comes_behind (is_listener other) tasks (fresh (of_event name)) (and_true (bytes_eq other name) ∙ swapped other name ∙ same)
+    ∙ comes_behind (is_listener other) tasks (fresh (of_event name)) (and-true (bytes_eq other name) ∙ bytes_turned other name ∙ same)
 listener_behind name other f number tasks false same are is =
-    are other ∙ stays_behind (is_listener other) tasks (fresh (of_event name)) (and_true (bytes_eq other name) ∙ swapped other name ∙ same)
+    are other ∙ stays_behind (is_listener other) tasks (fresh (of_event name)) (and-true (bytes_eq other name) ∙ bytes_turned other name ∙ same)
 
 pub listener_comes : (old new : OpenTasks) (name : List ℕ) (number : ℕ) → new.calls.keys ≡ old.calls.keys → numbers_in new.listeners ≡ at_name (numbers_in old.listeners) name (numbers_in old.listeners name ++ number ∷ [])
     → (tasks : List Task) → AreThose old tasks → number ≡ length tasks → AreThose new (tasks ++ fresh (of_event name) ∷ [])
@@ -273,10 +264,10 @@ stays test closed k (suc n) (first ∷ tasks) task arrival there is =
     ap (λ l. if test first then k ∷ l else l) (stays test closed (suc k) n tasks task arrival there is)
 
 call_closed : Closed is_open_call
-call_closed task arrival = never_settled (is_call task.kind)
+call_closed task arrival = and-false (is_call task.kind)
 
 listener_closed : (name : List ℕ) → Closed (is_listener name)
-listener_closed name task arrival = never_settled (listens_for name task.kind)
+listener_closed name task arrival = and-false (listens_for name task.kind)
 
 removed : (n : ℕ) (numbers : List ℕ) → remove_key (is_at (nat_cmp n)) numbers ≡ without n numbers
 removed n [] = refl
@@ -290,16 +281,16 @@ call_settles old new kind number deaf keys same tasks arrival are there =
     record {
       calls = keys ∙ removed number old.calls.keys ∙ ap (without number) are.calls ∙ left is_open_call call_closed tasks number arrival;
       listeners = λ name. ap (λ (f : List ℕ → List ℕ). f name) same ∙ are.listeners name
-          ∙ stays (is_listener name) (listener_closed name) 0 number tasks (fresh kind) arrival there (and_true (listens_for name kind) ∙ deaf name);
+          ∙ stays (is_listener name) (listener_closed name) 0 number tasks (fresh kind) arrival there (and-true (listens_for name kind) ∙ deaf name);
     }
 
 pub other_settles : (old new : OpenTasks) (kind : Kind) (number : ℕ) → is_call kind ≡ false → ((name : List ℕ) → listens_for name kind ≡ false) → new.calls.keys ≡ old.calls.keys → numbers_in new.listeners ≡ numbers_in old.listeners
     → (tasks : List Task) (arrival : Arrival) → AreThose old tasks → task_at tasks number ≡ Some (fresh kind) → AreThose new (with_arrival tasks number arrival)
 other_settles old new kind number call deaf keys same tasks arrival are there =
     record {
-      calls = keys ∙ are.calls ∙ stays is_open_call call_closed 0 number tasks (fresh kind) arrival there (and_true (is_call kind) ∙ call);
+      calls = keys ∙ are.calls ∙ stays is_open_call call_closed 0 number tasks (fresh kind) arrival there (and-true (is_call kind) ∙ call);
       listeners = λ name. ap (λ (f : List ℕ → List ℕ). f name) same ∙ are.listeners name
-          ∙ stays (is_listener name) (listener_closed name) 0 number tasks (fresh kind) arrival there (and_true (listens_for name kind) ∙ deaf name);
+          ∙ stays (is_listener name) (listener_closed name) 0 number tasks (fresh kind) arrival there (and-true (listens_for name kind) ∙ deaf name);
     }
 
 listener_left : (name other : List ℕ) (f : List ℕ → List ℕ) (number : ℕ) (tasks : List Task) (arrival : Arrival) (b : Bool) → bytes_eq name other ≡ b → ((name : List ℕ) → f name ≡ numbers_from (is_listener name) 0 tasks)
@@ -307,7 +298,7 @@ listener_left : (name other : List ℕ) (f : List ℕ → List ℕ) (number : �
 listener_left name other f number tasks arrival true same are there =
     ap (λ (l : List ℕ). without number (f l)) ((bytes_eq-Decides name other).0 same) ∙ ap (without number) (are other) ∙ left (is_listener other) (listener_closed other) tasks number arrival
 listener_left name other f number tasks arrival false same are there =
-    are other ∙ stays (is_listener other) (listener_closed other) 0 number tasks (fresh (of_event name)) arrival there (and_true (bytes_eq other name) ∙ swapped other name ∙ same)
+    are other ∙ stays (is_listener other) (listener_closed other) 0 number tasks (fresh (of_event name)) arrival there (and-true (bytes_eq other name) ∙ bytes_turned other name ∙ same)
 
 pub listener_settles : (old new : OpenTasks) (name : List ℕ) (number : ℕ) → new.calls.keys ≡ old.calls.keys → numbers_in new.listeners ≡ at_name (numbers_in old.listeners) name (without number (numbers_in old.listeners name))
     → (tasks : List Task) (arrival : Arrival) → AreThose old tasks → task_at tasks number ≡ Some (fresh (of_event name)) → AreThose new (with_arrival tasks number arrival)

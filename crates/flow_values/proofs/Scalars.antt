@@ -11,6 +11,7 @@ use Rattle.flow_values.specs.Faults.{Path, at, to_part, ◌>>=◌}
 use Rattle.flow_values.specs.Values.{count, scalar_in, scalars_from}
 use Rattle.flow_values.specs.declared.faults.PartError.{PartError}
 use Rattle.flow_values.specs.declared.faults.PartError.TheVariants.{Misshapen, Memory}
+use Rattle.flow_values.proofs.Parts.{items_from}
 
 pub count_of_items : (vs : List Tree) → count (items_view vs) ≡ length vs
 count_of_items [] = refl
@@ -23,9 +24,6 @@ with_rest done i ds = scalars_from i ds >>= λ ss. Ok (done ++ ss)
 with_first : (done : List Scalar) (s : Scalar) (rest : Result (List Scalar) Path) → (rest >>= (λ ss. Ok (s ∷ ss)) >>= λ ss. Ok (done ++ ss)) ≡ (rest >>= λ ss. Ok ((done ++ s ∷ []) ++ ss))
 with_first done s (Err path) = refl
 with_first done s (Ok ss) = rw append_assoc refl
-
-items_from : (vs : List Tree) (i : ℕ) (v : Tree) → i < length vs → v ≡ get_or vs i v → items_view (drop i vs) ≡ item (view v) (items_view (drop (i + 1) vs))
-items_from vs i v lt at = rw (add-one, drop-cons vs i v lt, ← at) refl
 
 -- nothing was read yet
 pub begins : (vs : List Tree) → with_rest [] 0 (items_view (drop 0 vs)) ≡ scalars_from 0 (items_view vs)

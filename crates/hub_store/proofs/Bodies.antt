@@ -43,9 +43,6 @@ rests_there log is = cc
 pub true_apart : true ≡ false → ⊥
 true_apart is = cc
 
-pub ok_apart : {T E : Type 0} (value : T) (error : E) → Ok value ≡ Err error → ⊥
-ok_apart value error is = cc
-
 pub full_memory : {T : Type 0} (result : Result T BodyRefusal) (of n : ℕ) → result ≡ Err (Full of n) → result ≡ Err Memory → ⊥
 full_memory result of n full memory = cc
 

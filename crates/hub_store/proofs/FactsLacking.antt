@@ -14,6 +14,7 @@ use Rattle.hub_store.specs.Trail.{Settled, Said}
 use Rattle.hub_store.specs.Moments.SaidSoFar.{silent, settles as told_settles, says}
 use Rattle.hub_store.specs.Examples.{frame, settled_when, request, answer, speaking, one_log, IsTold, Stand, StandWith}
 use Rattle.hub_store.specs.FieldExamples.{wrong_byte, IsNext, TakingFollows, NoneFollows, frame_opened, body_written, other_byte, HasNext, WroteBehind}
+use Rattle.hub_store.proofs.LogsStand.{nothing_kept}
 
 -- ---- the tape
 
@@ -83,10 +84,6 @@ not_wrong_byte stands =
     ]
 
 -- ---- frames
-
-nothing_kept : kept_in 0 empty_log ≡ keeps (one_log.logs 0).header [] 33
-unfolding header_at entries_from
-nothing_kept = refl
 
 -- behind a closed gate a frame isn't kept
 body_kept : kept_in 0 (reads body_written) ≡ keeps (one_log.logs 0).header [] 33

@@ -7,7 +7,7 @@ use Rattle.part_items.specs.Kept.{entries_from, broken, keeps, kept_in}
 use Rattle.hub_store.specs.Moments.SaidSoFar.{silent}
 use Rattle.hub_store.specs.Examples.{settled_when, log_written, gate_opened, gate_synced, one_log, LogStands, GateWritten}
 
-nothing_kept : kept_in 0 empty_log ≡ keeps (one_log.logs 0).header [] 33
+pub nothing_kept : kept_in 0 empty_log ≡ keeps (one_log.logs 0).header [] 33
 unfolding header_at entries_from
 nothing_kept = refl
 

@@ -97,10 +97,6 @@ module _ (frame : List rows.Entry) (old new : List Step) (result : Result Reopen
         | inr is ↦ cc
       ])
 
-pub not_true : (b : Bool) → not b ≡ true → b ≡ false
-not_true true is = absurd (cc is)
-not_true false is = refl
-
 pub not_false : (b : Bool) → not b ≡ false → b ≡ true
 not_false true is = refl
 not_false false is = absurd (cc is)

@@ -8,12 +8,9 @@ use Rattle.hub_store.specs.declared.refusal.BodyRefusal.{BodyRefusal}
 use Rattle.hub_store.specs.declared.refusal.BodyRefusal.TheVariants.{Full, SiteFault, Memory}
 use Rattle.hub_store.specs.declared.way.Way.{Way}
 use Rattle.site_model.specs.Calls.{HasRisen}
+use Rattle.commit_log.proofs.Causes.{ok_apart}
 
 -- ---- answers
-
--- answers that differ
-pub ok_apart : {T E : Type 0} (value : T) (error : E) → Ok value ≡ Err error → ⊥
-ok_apart value error is = cc is
 
 -- what follows on an answer
 pub on_ok : {T E A B : Type 0} (r : Result T E) → (A → B) → OnOk r A → OnOk r B
@@ -76,8 +73,3 @@ pub full_as : {T : Type 0} (r : Result T BodyRefusal) (segment part : ℕ) (way 
 full_as r segment part way a b same full = subst (λ (f : List Entry). segment ≤ length_with way f → (r ≡ Err Memory) ⊎ (r ≡ Err (Full part (length_with way f)))) same full
 
 -- ---- counts
-
--- a count that rose later rose
-pub risen_after : (before mid now : ℕ) → before ≤ mid → mid ≤ now → HasRisen mid now → HasRisen before now
-risen_after before mid now first second (inl rose) = inl (omega arith)
-risen_after before mid now first second (inr full) = elim (cases_lt before mid) [ inl rose ↦ inl (omega arith) | inr same ↦ inr (omega arith) ]

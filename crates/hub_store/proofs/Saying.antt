@@ -5,7 +5,7 @@ use Rattle.site_model.specs.History.{Change, Step, said, saying, tape, changes_o
 use Rattle.site_model.specs.Calls.{Says}
 use Rattle.site_model.specs.Moments.{Always}
 use Rattle.site_model.specs.Moments.Always.{begins, goes_on}
-use Rattle.site_model.proofs.Tape.{tape-saying, changes_of-saying}
+use Rattle.site_model.proofs.Tape.{tape-saying, changes_of-saying, says_no_file}
 use Rattle.dura_value.specs.Items.{Entry}
 use Rattle.hub_store.specs.declared.way.Way.{Way}
 use Rattle.hub_store.specs.Origin.{Log, Origin}
@@ -40,9 +40,6 @@ says_during line old new result call =
     subst (λ (steps : List Step). Always (SaysPart line old) old steps) (sym call.steps)
     (always_saying (take call.count line) (drop call.count line) [] line old old (sym (take-append-drop call.count line)) (λ file. refl) nothing
     (begins (record { files = λ file. refl; part = []; spoken = nothing; front = (line, refl); whole = inl refl })))
-
-says_no_file : {T E : Type 0} (line : List ℕ) (old new : List Step) (result : Result T E) → Says line old new result → (file : ℕ) → changes_of file new ≡ changes_of file old
-says_no_file line old new result call file = ap (changes_of file) call.steps ∙ changes_of-saying file (take call.count line) old
 
 -- lines, and then a part of one more
 behind : (base lines part : List ℕ) → (base ++ lines ++ []) ++ part ≡ base ++ lines ++ part

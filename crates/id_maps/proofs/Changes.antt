@@ -13,7 +13,8 @@ use Rattle.dura_value.specs.Ids as plain
 use Rattle.dura_value.specs.Views.{id_of}
 use Rattle.id_maps.specs.Keys.{id_cmp, key_of}
 use Rattle.dura_value.proofs.Ids.{id_same}
-use Rattle.id_maps.specs.Maps.{at_id, at_number, cleared, numbered}
+use Rattle.id_maps.specs.Maps.{numbered}
+use Rattle.dura_value.specs.ById.{at_id, at_number, cleared}
 
 pair_same : (a b c d : List ℕ) → is_eq (ordering_then (slice_cmp nat_cmp a b) (slice_cmp nat_cmp c d)) ≡ bytes_eq a b && bytes_eq c d
 pair_same a b c d = sym (both_tied (bytes_eq a b) (bytes_eq c d) (slice_cmp nat_cmp a b) (slice_cmp nat_cmp c d) (sym (is_eq-slice_cmp a b)) (sym (is_eq-slice_cmp c d)))

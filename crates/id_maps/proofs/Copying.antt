@@ -15,6 +15,7 @@ use Rattle.id_maps.specs.Keys.{id_cmp, key_of}
 use Rattle.id_maps.specs.Maps.{numbered}
 use Rattle.id_maps.proofs.Changes.{is_key, key_again, number_same}
 use Rattle.id_maps.proofs.Firsts.{of_first, of_others}
+use Rattle.dura_value.proofs.Basics.{number_self}
 
 module _ {K X : Type 0} (cmp : K → K → Ordering) (IsCopy : X → X → Type 0) where
   -- there is a copy at a key, or what is kept there is left
@@ -58,9 +59,6 @@ module _ {K X : Type 0} (cmp : K → K → Ordering) (IsCopy : X → X → Type 
   -- nothing is left
   pub all_copied : (m n : BTreeMap K X) (left : List (K × X)) → left ≡ [] → IsUnderWay m n left → (q : K) → AreCopied IsCopy (get cmp m q) (get cmp n q)
   all_copied m n left none done q = either (get cmp m q) (get cmp n q) ((subst (IsUnderWay m n) none done).others q)
-
-number_self : (n : ℕ) → (n == n) ≡ true
-number_self n = grind arith
 
 pub number_keys : AreExact nat_cmp (λ x y. y ≡ x)
 number_keys = record { same = λ a b is. eqb-true a b (sym (number_same a b) ∙ is); self = λ a. number_same a a ∙ number_self a; cloned = λ a b is. is }

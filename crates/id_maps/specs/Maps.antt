@@ -15,10 +15,6 @@ by_id map id = get id_cmp map.entries (key_of id)
 abbrev pub nothing : {X : Type 0} → Id → Option X
 nothing id = None
 
--- at one place this, elsewhere as before
-abbrev pub at_id : {X : Type 0} → (Id → X) → Id → X → Id → X
-at_id f id x other = if id_eq id other then x else f other
-
 -- what is kept for a number among what is kept for an id
 abbrev pub numbered : {X : Type 0} → Option (BTreeMap ℕ X) → ℕ → Option X
 numbered None number = None
@@ -40,10 +36,3 @@ count_of map id = counted (get id_cmp map.entries (key_of id))
 -- no number has anything
 abbrev pub no_number : {X : Type 0} → Id → ℕ → Option X
 no_number id number = None
-
-abbrev pub at_number : {X : Type 0} → (Id → ℕ → X) → Id → ℕ → X → Id → ℕ → X
-at_number f id number x other other_number = if id_eq id other && number == other_number then x else f other other_number
-
--- nothing at any number of this id
-abbrev pub cleared : {X : Type 0} → (Id → ℕ → Option X) → Id → Id → ℕ → Option X
-cleared f id other number = if id_eq id other then None else f other number

@@ -4,7 +4,8 @@ ghost use Rattle.std.specs.Prelude.{◌≡◌, Some, None, OnOk, OnErr, IfOk, If
 ghost use Rattle.std.specs.Fn.{FnReturnsAt};
 ghost use Rattle.dura_value.specs.Views.{id_of};
 ghost use Rattle.id_maps.specs.Copies.{IsCopyById};
-ghost use Rattle.id_maps.specs.Maps.{by_id, nothing, at_id};
+ghost use Rattle.id_maps.specs.Maps.{by_id, nothing};
+ghost use Rattle.dura_value.specs.ById.{at_id};
 ghost use Rattle.id_maps.specs.Order.{IsNextBehind, NoneBehind};
 
 use crate::entries::{copy_entries, keep};

@@ -7,7 +7,8 @@ ghost use Rattle.std.specs.Ordering.{nat_cmp};
 ghost use Rattle.dura_value.specs.Ids.{Id as PlainId};
 ghost use Rattle.dura_value.specs.Views.{id_of};
 ghost use Rattle.id_maps.specs.Copies.{AreNumbersCopied, IsCopyByNumber};
-ghost use Rattle.id_maps.specs.Maps.{by_number, count_of, no_number, at_number, cleared};
+ghost use Rattle.id_maps.specs.Maps.{by_number, count_of, no_number};
+ghost use Rattle.dura_value.specs.ById.{at_number, cleared};
 ghost use Rattle.id_maps.specs.Order.{IsFirst};
 
 use crate::entries::{copy_entries, keep};

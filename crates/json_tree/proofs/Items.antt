@@ -13,6 +13,7 @@ use Rattle.json_tree.specs.declared.reading.ReadError.{ReadError}
 use Rattle.json_tree.specs.declared.reading.ReadError.TheVariants.{NotJson, Memory}
 use Rattle.json_tree.specs.declared.tree.Tree.{Tree}
 use Rattle.json_tree.proofs.Parts.{converted_from, mapped_last}
+use Rattle.json_tree.proofs.Members.{not_made}
 
 -- the items that trees stand for, and behind them further ones
 abbrev before : List Tree → Items → Items
@@ -40,10 +41,6 @@ first_made j d (Some q) is = rw is (mapped_last (item d) q.1 (of_items q.0))
 first_refused : (j : json.Json) (o : Option (json.Items × List Token)) → of_json j ≡ None → converted of_items (parse_map (json.item j) o) ≡ None
 first_refused j None none = refl
 first_refused j (Some q) none = rw none refl
-
-not_made : {B : Type 0} (o : Option B) (r : List Token) → option_map {U = B × List Token} (λ y. (y, r)) o ≡ None → o ≡ None
-not_made None r e = refl
-not_made (Some y) r e = absurd (cc)
 
 no_turns : (p : Parse json.Json) (ts : List Token) → converted of_items (items p 0 ts) ≡ None
 unfolding items

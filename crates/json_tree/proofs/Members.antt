@@ -45,7 +45,7 @@ first_refused : (key : List ℕ) (j : json.Json) (old : Members) (o : Option (js
 first_refused key j old None none = refl
 first_refused key j old (Some q) none = rw none refl
 
-not_made : {B : Type 0} (o : Option B) (r : List Token) → option_map {U = B × List Token} (λ y. (y, r)) o ≡ None → o ≡ None
+pub not_made : {B : Type 0} (o : Option B) (r : List Token) → option_map {U = B × List Token} (λ y. (y, r)) o ≡ None → o ≡ None
 not_made None r e = refl
 not_made (Some y) r e = absurd (cc)
 

@@ -8,11 +8,7 @@ use Rattle.commit_log.specs.declared.header.Header.{Header}
 use Rattle.commit_log.specs.Segment.{◌>>=◌, open_gate, signature, constant_at, number_at, header_at, frame_at, segment_at, told, fresh, reading_of}
 use Rattle.commit_log.specs.Frames.{header_for, opening_from, opening_of}
 use Rattle.commit_log.specs.Frames as logs
-
--- both steps of two were made
-pub both_ok : {X Y : Type 0} (r : Result X ℕ) (f : X → Result Y ℕ) (y : Y) → (r >>= f) ≡ Ok y → (x : X) × (r ≡ Ok x) × (f x ≡ Ok y)
-both_ok (Ok x) f y is = (x, refl, is)
-both_ok (Err offset) f y is = absurd (cc is)
+use Rattle.dura_value.proofs.Basics.{both_ok}
 
 abbrev pub good : {X : Type 0} → X → Result X ℕ
 good x = Ok x

@@ -7,15 +7,16 @@ use Rattle.dura_value.specs.Reading.{◌>>=◌}
 use Rattle.dura_codec.specs.Fields.{Read, several_at}
 use Rattle.part_items.specs.Grammar.{item_at, members_at, entry_items_at, entry_at, alone, frame_at, frame_in}
 use Rattle.part_items.specs.Spelling.{spell_item, spell_heading, spell_entry, spell_frame}
-use Rattle.part_items.proofs.Numbers.{is_below, is_within, number_again_2, count_again}
+use Rattle.part_items.proofs.Numbers.{is_below, number_again_2, count_again}
 use Rattle.part_items.proofs.Values.{several_again}
 use Rattle.part_items.proofs.Prefixes.{apart}
 use Rattle.part_items.specs.ItemFits.{FitsItem, FitsEntry, FitsFrame}
 use Rattle.part_items.proofs.ItemLemmas.{item_again}
+use Rattle.std.proofs.lemmas.Bool.{le-leb}
 
 members_again : (count : ℕ) (rest : List ℕ) → 0 < count → count ≤ 64 → members_at (to_be_bytes w16 count ++ rest) ≡ Ok (count, rest)
 unfolding members_at
-members_again count rest some few = rw (number_again_2 count rest (omega arith), is_below 0 count some, is_within count 64 few) refl
+members_again count rest some few = rw (number_again_2 count rest (omega arith), is_below 0 count some, le-leb count 64 few) refl
 
 entry_items_again : (items : List Item) (rest : List ℕ) → 0 < length items → length items ≤ 64 → All FitsItem items → entry_items_at (to_be_bytes w16 (length items) ++ (flat_map spell_item items ++ rest)) ≡ Ok (items, rest)
 unfolding entry_items_at

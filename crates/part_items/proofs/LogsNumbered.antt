@@ -19,7 +19,7 @@ file_numbered partition bytes nothing is = tt
 file_numbered partition bytes (broken offset) is = tt
 file_numbered partition bytes (keeps header entries gate) is = let only = kept_only partition bytes header entries gate is in decoded_numbered 33 (first_of header) only.0 entries only.3
 
-no_more : {X : Type 0} (one other : Option X) → or_else one other ≡ None → (one ≡ None) × (other ≡ None)
+pub no_more : {X : Type 0} (one other : Option X) → or_else one other ≡ None → (one ≡ None) × (other ≡ None)
 no_more None other is = (refl, is)
 no_more (Some x) other is = absurd (cc is)
 

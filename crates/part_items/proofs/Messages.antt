@@ -10,10 +10,11 @@ use Rattle.dura_value.specs.Messages.{Reply, Answer, is_done, has_failed, was_st
 use Rattle.dura_codec.specs.Grammar.{answer_at, outcome_at, spot_at, spot_count_at, lock_at, start_at, raise_at, query_at, wait_at, result_at, operate_at, granted_at, body_at, message_at}
 use Rattle.dura_codec.specs.Spelling.{spell_word, spell_id, spell_reply, spell_value, spell_answer, spell_outcome, spell_spot, spell_body, spell_message}
 use Rattle.part_items.specs.Fits.{FitsAnswer, FitsOutcome, FitsSpot, FitsLock, FitsBody, FitsMessage}
-use Rattle.part_items.proofs.Numbers.{is_within, number_again_4, request_again}
+use Rattle.part_items.proofs.Numbers.{number_again_4, request_again}
 use Rattle.part_items.proofs.Words.{name_again, key_again, text_again}
 use Rattle.part_items.proofs.Values.{several_again, value_again}
 use Rattle.part_items.proofs.Ids.{id_again, reply_again}
+use Rattle.std.proofs.lemmas.Bool.{le-leb}
 
 pub answer_again : (answer : Answer) (rest : List ℕ) → FitsAnswer answer → answer_at (spell_answer answer ++ rest) ≡ Ok (answer, rest)
 unfolding answer_at
@@ -40,7 +41,7 @@ spot_again spot rest fits = rw (append_assoc, name_again spot.class (spell_word 
 -- how many entities there are
 count_again : (count : ℕ) (rest : List ℕ) → count ≤ 16 → spot_count_at (count ∷ rest) ≡ Ok (count, rest)
 unfolding spot_count_at
-count_again count rest few = rw (is_within count 16 few) refl
+count_again count rest few = rw (le-leb count 16 few) refl
 
 lock_again : (id : Id) (task : ℕ) (set : List Spot) (index : ℕ) (rest : List ℕ) → FitsLock id task set index
     → lock_at (spell_id id ++ (to_be_bytes w32 task ++ (length set ∷ (flat_map spell_spot set ++ (index ∷ rest))))) ≡ Ok (lock id task set index, rest)

@@ -14,6 +14,8 @@ use Rattle.part_items.specs.declared.frames.Entry as read
 use Rattle.part_items.specs.Grammar.{members_at, entry_items_at, alone, whole}
 use Rattle.part_items.specs.Numbered.{Next, behind, position_at, incarnation_at, next_entry_at, next_entries_at, next_frame_at, next_frame_in}
 use Rattle.part_items.specs.Tags.{most_members}
+use Rattle.dura_value.proofs.Basics.{both_ok}
+use Rattle.part_items.proofs.Steps.{ok_is}
 
 -- ---- what is to come
 
@@ -59,19 +61,6 @@ not_begun next bytes (Bad place) h = rw h refl
 
 -- ---- numbers
 
--- a step that went well had something to go on from
-step : {A B : Type 0} (r : Result A ℕ) (f : A → Result B ℕ) (b : B) → (r >>= f) ≡ Ok b → (a : A) × (r ≡ Ok a) × (f a ≡ Ok b)
-step (Ok a) f b h = (a, refl, h)
-step (Err e) f b h = absurd (cc h)
-
-ok_or : {A : Type 0} → A → Result A ℕ → A
-ok_or other (Ok a) = a
-ok_or other (Err e) = other
-
-ok_is : {A : Type 0} (a b : A) → Path (Result A ℕ) (Ok a) (Ok b) → a ≡ b
-unfolding ok_or
-ok_is a b h = ap (ok_or a) h
-
 -- a test that led to something was passed
 passed : {A : Type 0} (test : Bool) (a : A) (e : ℕ) (b : A) → (if test then Ok a else Err e) ≡ Ok b → (test ≡ true) × (a ≡ b)
 passed true a e b h = (refl, ok_is a b h)
@@ -80,7 +69,7 @@ passed false a e b h = absurd (cc h)
 count_below : (bytes : List ℕ) (read : ℕ × List ℕ) → count_at bytes ≡ Ok read → read.0 < number_limit
 unfolding count_at
 count_below bytes read h =
-    let s = step (number_at w64 bytes) _ read h in
+    let s = both_ok (number_at w64 bytes) _ read h in
     let p = passed (nat_lt s.0.0 number_limit) s.0 _ read s.2 in
     let below : s.0.0 < number_limit = grind (arith, nat_tests, p.0) in
     subst (λ (r : ℕ × List ℕ). r.0 < number_limit) p.1 below
@@ -88,23 +77,23 @@ count_below bytes read h =
 position_is : (next : Next) (bytes : List ℕ) (read : ℕ × List ℕ) → position_at next bytes ≡ Ok read → (read.0 ≡ next.position) × (read.0 < number_limit)
 unfolding position_at
 position_is next bytes read h =
-    let s = step (count_at bytes) _ read h in
+    let s = both_ok (count_at bytes) _ read h in
     let p = passed _ s.0 _ read s.2 in
     subst (λ (r : ℕ × List ℕ). (r.0 ≡ next.position) × (r.0 < number_limit)) p.1 (eqb-true s.0.0 next.position p.0, count_below bytes s.0 s.1)
 
 incarnation_is : (next : Next) (bytes : List ℕ) (read : ℕ × List ℕ) → incarnation_at next bytes ≡ Ok read → (next.incarnation ≤ read.0) × (read.0 < number_limit)
 unfolding incarnation_at
 incarnation_is next bytes read h =
-    let s = step (count_at bytes) _ read h in
+    let s = both_ok (count_at bytes) _ read h in
     let p = passed _ s.0 _ read s.2 in
     subst (λ (r : ℕ × List ℕ). (next.incarnation ≤ r.0) × (r.0 < number_limit)) p.1 (leb-true next.incarnation s.0.0 p.0, count_below bytes s.0 s.1)
 
 pub is_next : (next : Next) (bytes : List ℕ) (entry : Entry) (after : List ℕ) → next_entry_at next bytes ≡ Ok (entry, after) → IsNext next entry
 unfolding next_entry_at
 is_next next bytes entry after h =
-    let place = step (position_at next bytes) _ (entry, after) h in
-    let incarnation = step (incarnation_at next place.0.1) _ (entry, after) place.2 in
-    let items = step (entry_items_at incarnation.0.1) _ (entry, after) incarnation.2 in
+    let place = both_ok (position_at next bytes) _ (entry, after) h in
+    let incarnation = both_ok (incarnation_at next place.0.1) _ (entry, after) place.2 in
+    let items = both_ok (entry_items_at incarnation.0.1) _ (entry, after) incarnation.2 in
     let at = position_is next bytes place.0 place.1 in
     let of = incarnation_is next place.0.1 incarnation.0 incarnation.1 in
     let same : (record { position = place.0.0; incarnation = incarnation.0.0; items = items.0.0 }, items.0.1) ≡ (entry, after) = ok_is _ (entry, after) items.2 in
@@ -117,7 +106,7 @@ second_true false y is = absurd (cc is)
 pub few : (bytes : List ℕ) (read : ℕ × List ℕ) → members_at bytes ≡ Ok read → read.0 ≤ most_members
 unfolding members_at
 few bytes read h =
-    let s = step (number_at w16 bytes) _ read h in
+    let s = both_ok (number_at w16 bytes) _ read h in
     let p = passed (nat_lt 0 s.0.0 && nat_le s.0.0 most_members) s.0 _ read s.2 in
     let within : s.0.0 ≤ most_members = leb-true s.0.0 most_members (second_true (nat_lt 0 s.0.0) (nat_le s.0.0 most_members) p.0) in
     subst (λ (r : ℕ × List ℕ). r.0 ≤ most_members) p.1 within

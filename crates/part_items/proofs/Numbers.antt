@@ -13,9 +13,6 @@ not_below n m le = grind (arith, nat_tests)
 pub is_below : (n m : ℕ) → n < m → nat_lt n m ≡ true
 is_below n m lt = grind (arith, nat_tests)
 
-pub is_within : (n m : ℕ) → n ≤ m → nat_le n m ≡ true
-is_within n m le = grind (arith, nat_tests)
-
 -- the front of what goes on is as long as was asked for
 pub enough : (size : ℕ) (front rest : List ℕ) → length front ≡ size → nat_lt (length (front ++ rest)) size ≡ false
 enough size front rest is = not_below (length (front ++ rest)) size (omega (arith, length-append front rest))

@@ -12,7 +12,8 @@ use Rattle.part_items.specs.ItemFits.{FitsFrame}
 use Rattle.part_items.proofs.NumberedFrames.{numbered_is, numbered_again}
 use Rattle.part_items.specs.Kept.{in_file, decoded}
 use Rattle.part_items.proofs.Behind.{behind_both, numbered_both}
-use Rattle.part_items.proofs.Bytes.{both_ok, good, same_ok}
+use Rattle.part_items.proofs.Bytes.{good, same_ok}
+use Rattle.dura_value.proofs.Basics.{both_ok}
 
 -- these entries, and what was read behind them
 abbrev in_front : List Entry → Result (List Entry) ℕ → Result (List Entry) ℕ

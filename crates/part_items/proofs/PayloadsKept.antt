@@ -9,8 +9,9 @@ use Rattle.commit_log.specs.Frames as logs
 use Rattle.dura_value.specs.Items.{Entry}
 use Rattle.part_items.specs.Numbered.{Next, behind_all, next_frame_in}
 use Rattle.part_items.specs.Kept.{nothing, keeps, in_file, at_gate, entries_from, left_from, kept_under, kept_from, kept_in, first_of, decoded}
-use Rattle.part_items.proofs.Bytes.{both_ok, good, same_ok, frame_rest, header_rest, header_here, header_only, begins, reading_is, opening_is}
+use Rattle.part_items.proofs.Bytes.{good, same_ok, frame_rest, header_rest, header_here, header_only, begins, reading_is, opening_is}
 use Rattle.part_items.proofs.FrameByFrame.{enough}
+use Rattle.dura_value.proofs.Basics.{both_ok}
 
 -- ---- frames
 

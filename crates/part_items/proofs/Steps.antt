@@ -9,6 +9,7 @@ use Rattle.std.proofs.Math.Seq.{drop-append_seam}
 use Rattle.dura_value.specs.Reading.{◌>>=◌}
 use Rattle.part_items.specs.Fits.{AreBytes}
 use Rattle.dura_codec.specs.Fields.{Read, byte_at, number_at, count_at, request_number_at, run_at, several_at}
+use Rattle.dura_value.proofs.Basics.{both_ok, passed_ok}
 
 ok_or : {A : Type 0} → A → Result A ℕ → A
 ok_or other (Ok a) = a
@@ -20,16 +21,6 @@ ok_is a b h = ap (ok_or a) h
 
 pub no_err : {A : Type 0} {C : Type 0} (e : ℕ) (b : A) → Path (Result A ℕ) (Err e) (Ok b) → C
 no_err e b h = absurd (cc h)
-
--- a step that went well had something to go on from
-pub step : {A B : Type 0} (r : Result A ℕ) (f : A → Result B ℕ) (b : B) → (r >>= f) ≡ Ok b → (a : A) × (r ≡ Ok a) × (f a ≡ Ok b)
-step (Ok a) f b h = (a, refl, h)
-step (Err e) f b h = absurd (cc h)
-
--- a test that led to something was passed
-pub passed : {A : Type 0} (test : Bool) (a : Result A ℕ) (e : ℕ) (b : A) → (if test then a else Err e) ≡ Ok b → (test ≡ true) × (a ≡ Ok b)
-passed true a e b h = (refl, h)
-passed false a e b h = absurd (cc h)
 
 pub failed : {A : Type 0} (test : Bool) (a : Result A ℕ) (e : ℕ) (b : A) → (if test then Err e else a) ≡ Ok b → (test ≡ false) × (a ≡ Ok b)
 failed true a e b h = absurd (cc h)
@@ -82,15 +73,15 @@ number_only_8 bytes read all h =
 pub count_only : (bytes : List ℕ) (read : ℕ × List ℕ) → AreBytes bytes → count_at bytes ≡ Ok read → bytes ≡ to_be_bytes w64 read.0 ++ read.1
 unfolding count_at
 count_only bytes read all h =
-    let s = step (number_at w64 bytes) _ read h in
-    let p = passed _ (Ok s.0) _ read s.2 in
+    let s = both_ok (number_at w64 bytes) _ read h in
+    let p = passed_ok _ (Ok s.0) _ read s.2 in
     number_only_8 bytes s.0 all s.1 ∙ ap (λ (q : ℕ × List ℕ). to_be_bytes w64 q.0 ++ q.1) (ok_is s.0 read p.1)
 
 pub request_only : (bytes : List ℕ) (read : ℕ × List ℕ) → AreBytes bytes → request_number_at bytes ≡ Ok read → bytes ≡ to_be_bytes w32 read.0 ++ read.1
 unfolding request_number_at
 request_only bytes read all h =
-    let s = step (number_at w32 bytes) _ read h in
-    let p = passed _ (Ok s.0) _ read s.2 in
+    let s = both_ok (number_at w32 bytes) _ read h in
+    let p = passed_ok _ (Ok s.0) _ read s.2 in
     number_only_4 bytes s.0 all s.1 ∙ ap (λ (q : ℕ × List ℕ). to_be_bytes w32 q.0 ++ q.1) (ok_is s.0 read p.1)
 
 pub run_only : (test : List ℕ → Bool) (size : ℕ) (bytes : List ℕ) (read : List ℕ × List ℕ) → run_at test size bytes ≡ Ok read → (bytes ≡ read.0 ++ read.1) × (length read.0 ≡ size)
@@ -98,7 +89,7 @@ unfolding run_at
 run_only test size bytes read h =
     let p = failed (nat_lt (length bytes) size) _ _ read h in
     let enough : size ≤ length bytes = grind (arith, nat_tests, p.0) in
-    let q = passed _ _ _ read p.1 in
+    let q = passed_ok _ _ _ read p.1 in
     let e : (take size bytes, drop size bytes) ≡ read = ok_is _ read q.1 in
     (sym (take-append-drop size bytes) ∙ ap (λ (r : List ℕ × List ℕ). r.0 ++ r.1) e, sym (ap (λ (r : List ℕ × List ℕ). length r.0) e) ∙ length-take-le size bytes enough)
 
@@ -120,8 +111,8 @@ several_only {X} read spell only zero bytes r all h =
     let e : ([], bytes) ≡ r = ok_is _ r h in
     (ap (λ (q : List X × List ℕ). flat_map spell q.0 ++ q.1) e, sym (ap (λ (q : List X × List ℕ). length q.0) e))
 several_only {X} read spell only (suc count) bytes r all h =
-    let s = step (read bytes) _ r h in
-    let t = step (several_at read count s.0.1) _ r s.2 in
+    let s = both_ok (read bytes) _ r h in
+    let t = both_ok (several_at read count s.0.1) _ r s.2 in
     let first : bytes ≡ spell s.0.0 ++ s.0.1 = only bytes s.0 all s.1 in
     let more = several_only read spell only count s.0.1 t.0 (rest_are bytes (spell s.0.0) s.0.1 first all) t.1 in
     let e : (s.0.0 ∷ t.0.0, t.0.1) ≡ r = ok_is _ r t.2 in

@@ -12,8 +12,9 @@ use Rattle.dura_codec.specs.Fields.{Read, number_at, several_at}
 use Rattle.dura_codec.specs.Grammar.{scalar_at, scalars_at, value_front, of_front, value_at}
 use Rattle.dura_codec.specs.Spelling.{spell_scalar, spell_value}
 use Rattle.part_items.specs.Fits.{FitsScalar, FitsList, FitsValue}
-use Rattle.part_items.proofs.Numbers.{is_within, number_again_2, number_again_8}
+use Rattle.part_items.proofs.Numbers.{number_again_2, number_again_8}
 use Rattle.part_items.proofs.Words.{text_again}
+use Rattle.std.proofs.lemmas.Bool.{le-leb}
 
 -- what holds of each holds of those behind the first
 rest_of : {X : Type 0} (P : X → Type 0) (x : X) (xs : List X) → All P (x ∷ xs) → All P xs
@@ -60,7 +61,7 @@ pub scalars_again : (parts : List Scalar) (rest : List ℕ) → FitsList parts �
 unfolding scalars_at value_front
 scalars_again parts rest fits =
     let few : length parts ≤ 1024 = fits.few in
-    rw (number_again_2 (length parts) (flat_map spell_scalar parts ++ rest) (omega arith), is_within (length parts) 1024 few) (front_again 65533 parts rest fits.short fits.each)
+    rw (number_again_2 (length parts) (flat_map spell_scalar parts ++ rest) (omega arith), le-leb (length parts) 1024 few) (front_again 65533 parts rest fits.short fits.each)
 
 pub value_again : (value : Value) (rest : List ℕ) → FitsValue value → value_at (spell_value value ++ rest) ≡ Ok (value, rest)
 unfolding value_at

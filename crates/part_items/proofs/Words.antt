@@ -6,12 +6,8 @@ use Rattle.dura_value.specs.Text.{IsText}
 use Rattle.dura_codec.specs.Fields.{run_at}
 use Rattle.dura_codec.specs.Grammar.{word_size_at, name_at, key_at, text_at}
 use Rattle.dura_codec.specs.Spelling.{spell_word, spell_text}
-use Rattle.part_items.proofs.Numbers.{is_below, is_within, enough, taken, behind, number_again_2}
-
--- of two tests that are passed together each is
-pub both : (a b : Bool) → (a && b) ≡ true → (a ≡ true) × (b ≡ true)
-both true b h = (refl, h)
-both false b h = absurd (cc h)
+use Rattle.part_items.proofs.Numbers.{is_below, enough, taken, behind, number_again_2}
+use Rattle.std.proofs.lemmas.Bool.{and_parts, le-leb}
 
 pub run_again : (test : List ℕ → Bool) (run rest : List ℕ) → test run ≡ true → run_at test (length run) (run ++ rest) ≡ Ok (run, rest)
 unfolding run_at
@@ -19,16 +15,16 @@ run_again test run rest passes = rw (enough (length run) run rest refl, taken (l
 
 pub size_again : (size : ℕ) (rest : List ℕ) → 0 < size → size ≤ 64 → word_size_at (size ∷ rest) ≡ Ok (size, rest)
 unfolding word_size_at
-size_again size rest some most = rw (is_below 0 size some, is_within size 64 most) refl
+size_again size rest some most = rw (is_below 0 size some, le-leb size 64 most) refl
 
 name_size : (name : List ℕ) → is_name name ≡ true → (0 < length name) × (length name ≤ 64)
 name_size [] is = absurd (cc is)
-name_size (first ∷ rest) is = (omega arith, leb-true _ _ (both _ _ is).0)
+name_size (first ∷ rest) is = (omega arith, leb-true _ _ (and_parts _ _ is).0)
 
 key_size : (key : List ℕ) → is_key key ≡ true → (0 < length key) × (length key ≤ 64)
 key_size key is =
-    let p = both _ _ is in
-    (leb-true _ _ p.0, leb-true _ _ (both _ _ p.1).0)
+    let p = and_parts _ _ is in
+    (leb-true _ _ p.0, leb-true _ _ (and_parts _ _ p.1).0)
 
 pub name_again : (name rest : List ℕ) → is_name name ≡ true → name_at (spell_word name ++ rest) ≡ Ok (name, rest)
 unfolding name_at
@@ -46,4 +42,4 @@ pub text_again : (text rest : List ℕ) → IsText text → text_at (spell_text 
 unfolding text_at
 text_again text rest is =
     let short : length text ≤ 4096 = is.1 in
-    rw (number_again_2 (length text) (text ++ rest) (omega arith), is_within (length text) 4096 short) (run_again is_utf8 text rest is.0)
+    rw (number_again_2 (length text) (text ++ rest) (omega arith), le-leb (length text) 4096 short) (run_again is_utf8 text rest is.0)

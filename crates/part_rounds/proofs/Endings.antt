@@ -26,11 +26,7 @@ use Rattle.part_rounds.specs.Fills.{FillsOn, Puts, IsOfPending, CantEnd}
 use Rattle.part_rounds.specs.declared.filling.Filling.{Filling}
 use Rattle.part_rounds.proofs.Puttings.{longer_by, puts_goes_on}
 use Rattle.run_rules.specs.Rules.{Rules, Told, IsAsked, EndsPending}
-
-both : (a b : Bool) → (a && b) ≡ true → (a ≡ true) × (b ≡ true)
-both true true h = (refl, refl)
-both true false h = absurd (cc h)
-both false b h = absurd (cc h)
+use Rattle.std.proofs.lemmas.Bool.{and_parts}
 
 first_below : (b : ℕ) → is_ascii_alphabetic b ≡ true → b < 128
 first_below b h = grind (arith, nat_tests)
@@ -40,14 +36,14 @@ next_below b h = grind (arith, nat_tests)
 
 rest_ascii : (bs : List ℕ) → list_all goes_on_name bs ≡ true → IsAscii bs
 rest_ascii [] h = IsAscii-nil
-rest_ascii (b ∷ bs) h = let parts = both (goes_on_name b) (list_all goes_on_name bs) h in IsAscii-cons b bs (next_below b parts.0) (rest_ascii bs parts.1)
+rest_ascii (b ∷ bs) h = let parts = and_parts (goes_on_name b) (list_all goes_on_name bs) h in IsAscii-cons b bs (next_below b parts.0) (rest_ascii bs parts.1)
 
 -- a name is ASCII
 pub name_utf8 : (name : List ℕ) → is_name name ≡ true → IsUtf8 name
 name_utf8 [] h = absurd (cc h)
 name_utf8 (b ∷ bs) h =
-    let named = both (nat_le (length (b ∷ bs)) most_word_bytes) (is_ascii_alphabetic b && list_all goes_on_name bs) h in
-    let parts = both (is_ascii_alphabetic b) (list_all goes_on_name bs) named.1 in
+    let named = and_parts (nat_le (length (b ∷ bs)) most_word_bytes) (is_ascii_alphabetic b && list_all goes_on_name bs) h in
+    let parts = and_parts (is_ascii_alphabetic b) (list_all goes_on_name bs) named.1 in
     IsUtf8-from_ascii (b ∷ bs) (IsAscii-cons b bs (first_below b parts.0) (rest_ascii bs parts.1))
 
 not_there : {A B : Type 0} (f : A → B) (o : Option A) → option_map f o ≡ None → o ≡ None

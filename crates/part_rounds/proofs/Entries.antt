@@ -30,6 +30,7 @@ use Rattle.part_rounds.specs.Fills.{Fills}
 use Rattle.part_rounds.specs.Rounds.{entry_at, StateStands, IsTimely, IsFilled}
 use Rattle.part_rounds.proofs.Stamps.{items_by}
 use Rattle.run_rules.proofs.Going.{followed_made, by_later}
+use Rattle.dura_value.proofs.Basics.{both_some}
 
 -- what is pending in an entry that has begun was pending before
 before_incarnation : (p : Partition) (incarnation : ℕ) (item : Item) → EndsPending (enter incarnation p) item → EndsPending p item
@@ -53,11 +54,6 @@ module _ (rules : Rules) (settled : List Entry) (p : Partition) (made : placed r
         (λ k d inside. absurd (omega (arith, inside)));
     pending = All-cons (λ (entry : Entry). All (EndsPending p) entry.items) (entry_at rules p items) [] (λ k d inside. before_incarnation p rules.incarnation _ (fills.pending k d inside)) (λ k d inside. absurd (omega (arith, inside)));
   }
-
--- both steps of two were made
-both_some : {X Y : Type 0} (o : Option X) (f : X → Option Y) (y : Y) → option_and_then f o ≡ Some y → (x : X) × (o ≡ Some x) × (f x ≡ Some y)
-both_some None f y is = absurd (cc is)
-both_some (Some x) f y is = (x, refl, is)
 
 -- items that are accepted are labels, each of them
 module _ (flows : Flows) where

@@ -17,6 +17,7 @@ use Rattle.run_rules.specs.Rules.{Rules, Told, count_told, request_at}
 use Rattle.dura_model.specs.Partition.{Partition}
 use Rattle.dura_value.specs.Ids.{client}
 use Rattle.part_rounds.specs.Rounds.{pairs_of, of_client, HasSaid, KeepsDue, next_answer}
+use Rattle.dura_value.proofs.Basics.{true_or_false}
 
 -- what is due of a client is what is due of its queue
 pub due_is : (name : List ℕ) (qs : List Queue) → due_of name qs ≡ option_and_then first_due (of_client name qs)
@@ -61,10 +62,6 @@ clients_stay name (q ∷ qs) = at (is_of name q) (clients_stay name qs)
     at true rest = ap (λ (c : List ℕ). c ∷ map (λ (q : Queue). q.client) qs) (same_client q)
     at false rest = ap (λ (l : List (List ℕ)). q.client ∷ l) rest
 
-either : (b : Bool) → (b ≡ true) ⊎ (b ≡ false)
-either true = inl refl
-either false = inr refl
-
 -- a client's queue, once one more of another's or of its own was said
 found_after : (m n : List ℕ) (qs : List Queue) → of_client n (at_client with_said m qs) ≡ cond (bytes_eq m n) (option_map with_said (of_client n qs)) (of_client n qs)
 found_after m n [] = at (bytes_eq m n)
@@ -72,7 +69,7 @@ found_after m n [] = at (bytes_eq m n)
     at : (b : Bool) → of_client n [] ≡ cond b (option_map with_said (of_client n [])) (of_client n [])
     at true = refl
     at false = refl
-found_after m n (q ∷ qs) = elim (either (is_of m q)) [
+found_after m n (q ∷ qs) = elim (true_or_false (is_of m q)) [
   | inl mine ↦
       ap (λ b. of_client n (cond b (with_said q ∷ qs) (q ∷ at_client with_said m qs))) mine
       ∙ ap (λ (c : List ℕ). cond (bytes_eq c n) (Some (with_said q)) (of_client n qs)) (same_client q ∙ same_bytes q.client m mine)
@@ -96,7 +93,7 @@ found_after m n (q ∷ qs) = elim (either (is_of m q)) [
 
 -- what is due of another client stays
 pub due_stays : (m n : List ℕ) (qs : List Queue) → n ≢ m → due_of n (at_client with_said m qs) ≡ due_of n qs
-due_stays m n qs apart = elim (either (bytes_eq m n)) [
+due_stays m n qs apart = elim (true_or_false (bytes_eq m n)) [
   | inl same ↦ absurd (apart (sym (same_bytes m n same)))
   | inr other ↦
       due_is n (at_client with_said m qs)
@@ -106,7 +103,7 @@ due_stays m n qs apart = elim (either (bytes_eq m n)) [
 
 -- nothing is left to be said of a client once nothing is left of this one, where nothing was left before
 pub still_none : (state : Partition) (m n : List ℕ) (old new : List Queue) → KeepsDue m old new → next_answer state new m ≡ None → next_answer state old n ≡ None → next_answer state new n ≡ None
-still_none state m n old new keeps here before = elim (either (bytes_eq m n)) [
+still_none state m n old new keeps here before = elim (true_or_false (bytes_eq m n)) [
   | inl same ↦ subst (λ (c : List ℕ). next_answer state new c ≡ None) (same_bytes m n same) here
   | inr other ↦
       ap (option_and_then (λ (r : Request). state.answers (client n) r.number)) (keeps n (λ same. let own : bytes_eq m n ≡ true = subst (λ (c : List ℕ). bytes_eq m c ≡ true) (sym same) (bytes_self m) in cc (own, other)))

@@ -8,7 +8,8 @@ use Rattle.std.proofs.lemmas.List.Elements.{All-cons}
 use Rattle.dura_model.specs.Deliveries.{Effect, to_instance, goes_on_from}
 use Rattle.dura_model.specs.Steps.{is_request, number_in, entity_of, answer_of}
 use Rattle.dura_model.specs.Partition.{Partition, post, post_all, asked_in, given_up_in, stands_in, raised_to, answered_in, client_received, received_in, delivered_in, taken_in, ended_in, fired_in, accepted, first_in, without_first, last_in, row_after, event_of, with_posted, with_inbox, with_first, entry_of, instance_at}
-use Rattle.dura_model.specs.World.{Activity, Orchestration, at_id, at_number}
+use Rattle.dura_model.specs.World.{Activity, Orchestration}
+use Rattle.dura_value.specs.ById.{at_id, at_number}
 use Rattle.dura_value.specs.Ids.{Id, orchestration, entity, client, home}
 use Rattle.dura_value.specs.Items.{Item, took, got, ran, ended, fired, trim}
 use Rattle.dura_value.specs.Messages.{to_nobody, to_task, to_request, Answer, Body, start, raise, query, wait, result, operate, lock, granted, release, Message}
@@ -27,6 +28,7 @@ use Rattle.part_rounds.specs.declared.filling.Filling.{Filling}
 use Rattle.part_steps.specs.Outputs.{Outputs}
 use Rattle.part_steps.specs.States.{state_of}
 use Rattle.run_rules.specs.Rules.{IsBy}
+use Rattle.dura_value.proofs.Basics.{both_some}
 
 -- ---- what keeps it
 
@@ -161,10 +163,6 @@ own_stamp (ran from to stamp) now low = low
 own_stamp (ended id task outcome) now low = tt
 own_stamp (fired id task stamp) now low = low
 own_stamp (trim reader number) now low = tt
-
-pub both_some : {X Y : Type 0} (o : Option X) (f : X → Option Y) (y : Y) → option_and_then f o ≡ Some y → (x : X) × (o ≡ Some x) × (f x ≡ Some y)
-both_some None f y is = absurd (cc is)
-both_some (Some x) f y is = (x, refl, is)
 
 -- no item is of a later stamp than the state that all make
 pub items_by : (flows : Flows) (items : List Item) (p q : Partition) → all_accepted flows 1 p items ≡ Some q → (p.stamp ≤ q.stamp) × All (IsBy q.stamp) items

@@ -1,6 +1,6 @@
 -- Timers fire when they are due.
 use Rattle.std.proofs.Common.{◌≡◌, ℕ, ◌≤◌, true, false, Bool, List, [], ◌∷◌, ◌++◌, Option, Some, None, Ok, refl, sym, ◌∙◌, ap, subst, append_assoc, arith}
-use Rattle.std.proofs.lemmas.Bool.{leb-true}
+use Rattle.std.proofs.lemmas.Bool.{leb-true, and_parts}
 use Rattle.std.proofs.lemmas.List.Elements.{All-append, All-cons}
 use Rattle.std.specs.List.{All}
 use Rattle.std.specs.Prelude.{cond, max, nat_le, ◌&&◌}
@@ -17,24 +17,21 @@ use Rattle.dura_model.specs.Entries.{placed, or_place, all_accepted}
 use Rattle.dura_model.proofs.Appending.{placed_both}
 use Rattle.part_rounds.specs.InTime.{IsAt, AreAt, FillsAt, GoesByClock, FiresDue, FireDue, latest_of, FiresInTime}
 use Rattle.part_rounds.specs.InTime.GoesByClock.{begins, reads, settles, says}
-use Rattle.part_rounds.proofs.Stamps.{stamp_of as item_stamp, raised_max, stamp_after, both_some, items_by}
+use Rattle.part_rounds.proofs.Stamps.{stamp_of as item_stamp, raised_max, stamp_after, items_by}
 use Rattle.part_steps.specs.Enabled.{stamp_at}
 use Rattle.run_rules.specs.Rules.{Rules}
 use Rattle.run_rules.proofs.Going.{by_later}
 use Rattle.site_model.specs.Readings.{Reading, stamp_of}
+use Rattle.dura_value.proofs.Basics.{both_some}
 
 -- ---- a timer that fires is due
-
-first_true : (a b : Bool) → (a && b) ≡ true → a ≡ true
-first_true true b is = refl
-first_true false b is = is
 
 holds : {X : Type 0} (b : Bool) (x y : X) → cond b (Some x) None ≡ Some y → b ≡ true
 holds true x y is = refl
 holds false x y is = absurd (cc is)
 
 fired_due : (flows : Flows) (p q : Partition) (id : Id) (task stamp : ℕ) (o : Option Orchestration) (timer : Option ℕ) → fired_in flows 1 p id task stamp o timer ≡ Some q → (due : ℕ) × (timer ≡ Some due) × (due ≤ stamp)
-fired_due flows p q id task stamp (Some o) (Some due) is = (due, refl, leb-true due stamp (first_true (nat_le due stamp) (nat_le o.machine.last stamp) (holds (nat_le due stamp && nat_le o.machine.last stamp) _ q is)))
+fired_due flows p q id task stamp (Some o) (Some due) is = (due, refl, leb-true due stamp ((and_parts (nat_le due stamp) (nat_le o.machine.last stamp) (holds (nat_le due stamp && nat_le o.machine.last stamp) _ q is)).0))
 fired_due flows p q id task stamp (Some o) None is = absurd (cc is)
 fired_due flows p q id task stamp None timer is = absurd (cc is)
 

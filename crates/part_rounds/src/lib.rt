@@ -21,6 +21,6 @@ mod stop;
 mod stopping;
 mod taking;
 
-pub use rounds::{End, drive};
+pub use rounds::{Bounds, End, drive};
 pub use ruled::Ruled;
 pub use stop::Stop;

@@ -34,6 +34,17 @@ use std::alloc::Global;
 /// The position that no entry may have: the format's numbers are below it.
 const POSITION_LIMIT: u64 = 1 << 62;
 
+/// How a call goes on, and how far.
+#[derive(Clone, Copy)]
+pub struct Bounds {
+    /// The incarnation of the partition that the call began.
+    pub incarnation: u64,
+    /// The most labels of an entry.
+    pub limit: u32,
+    /// How many labels are enough.
+    pub steps: u32,
+}
+
 /// What a round came to.
 pub(crate) enum Round {
     /// It goes on, in the entry that comes, with so many labels more.
@@ -116,17 +127,16 @@ fn go_round<V: Site, N: Ruled, R: Reactions, A: Activities, C: Clock>(
     port: &mut Port,
     clients: &[Name],
     state: PartState,
-    incarnation: u64,
-    limit: u32,
+    bounds: Bounds,
 ) -> Result<Round, Stop>
     requires sound { IsSound store.old }
     requires going { store.old.halted ≡ false }
     requires rests { stage_at store.old 0 ≡ Stage.Resting }
     requires flows { N.rules.flows ≡ R.flows reactions.now }
-    requires incarnation { incarnation ≡ N.rules.incarnation }
-    requires short { incarnation < 2 ^ 62 }
-    requires some { 0 < limit }
-    requires few { limit ≤ 64 }
+    requires incarnation { bounds.incarnation ≡ N.rules.incarnation }
+    requires short { bounds.incarnation < 2 ^ 62 }
+    requires some { 0 < bounds.limit }
+    requires few { bounds.limit ≤ 64 }
     requires entered { Entered N.rules (N.origin.logs 0) store.old.latest (of_part 0 (trail_in store.old)) state }
     requires unsaid { NoneUnsaid (state_of state) port.old clients.now }
     requires said { HasSaid N.rules (told_in store.old) port.old }
@@ -140,10 +150,10 @@ fn go_round<V: Site, N: Ruled, R: Reactions, A: Activities, C: Clock>(
     ensures still { OnOk result (store.new.halted ≡ false) }
     ensures said { OnOk result (HasSaid N.rules (told_in store.new) port.new) }
     ensures leaves { IfOk result (λ round. LeavesRound N.rules (N.origin.logs 0) store.new.latest (of_part 0 (trail_in store.old)) (of_part 0 (trail_in store.new)) port.new clients.now round) }
-    ensures goes { GoesByClock N.rules A.gives limit clients.now (C.given clock.old) (of_part 0 (trail_in store.old)) (told_in store.old) (C.given clock.new) (of_part 0 (trail_in store.new)) (told_in store.new) }
-    ensures no_more { count_labels (of_part 0 (trail_in store.new)) ≤ count_labels (of_part 0 (trail_in store.old)) + limit }
+    ensures goes { GoesByClock N.rules A.gives bounds.limit clients.now (C.given clock.old) (of_part 0 (trail_in store.old)) (told_in store.old) (C.given clock.new) (of_part 0 (trail_in store.new)) (told_in store.new) }
+    ensures no_more { count_labels (of_part 0 (trail_in store.new)) ≤ count_labels (of_part 0 (trail_in store.old)) + bounds.limit }
     ensures spent { (of n : ℕ) → result ≡ Err (Stop.Spent of n) → IsSpent N.rules (of_part 0 (trail_in store.new)) (pairs_of (told_in store.new)) of n }
-    ensures full { (of n : ℕ) → result ≡ Err (Stop.Full of n) → IsFull N.rules limit store.new.latest (of_part 0 (trail_in store.new)) (pairs_of (told_in store.new)) store.new.segment (way_of store.new.ways.items 0) of n }
+    ensures full { (of n : ℕ) → result ≡ Err (Stop.Full of n) → IsFull N.rules bounds.limit store.new.latest (of_part 0 (trail_in store.new)) (pairs_of (told_in store.new)) store.new.segment (way_of store.new.ways.items 0) of n }
     ensures fault { result ≡ Err Stop.SiteFault → HasRisen (V.disk_faults store.old.site) (V.disk_faults store.new.site) }
     ensures say_fault { result ≡ Err Stop.SayFault → HasRisen (V.say_faults store.old.site) (V.say_faults store.new.site) }
     ensures clock_fault { result ≡ Err Stop.ClockFault → HasRisen (C.clock_faults clock.old) (C.clock_faults clock.new) }
@@ -152,9 +162,9 @@ fn go_round<V: Site, N: Ruled, R: Reactions, A: Activities, C: Clock>(
     ensures clock_later { C.clock_faults clock.old ≤ C.clock_faults clock.new }
 {
     let position = state.position() - 1;
-    let chance = word(incarnation, 0, position);
+    let chance = word(bounds.incarnation, 0, position);
     match take_next(
-        alloc, reactions, acts, clock, state, port, clients, chance, limit,
+        alloc, reactions, acts, clock, state, port, clients, chance, bounds.limit,
     )? {
         Coming::Filled(filling, now) => {
             if position >= POSITION_LIMIT {
@@ -166,7 +176,9 @@ fn go_round<V: Site, N: Ruled, R: Reactions, A: Activities, C: Clock>(
             }
             store.raise(now);
             let more = filling.items.len() as u64;
-            let state = settle_filling(alloc, store, port, clients, position, incarnation, filling)?;
+            let state = settle_filling(
+                alloc, store, port, clients, position, bounds.incarnation, filling,
+            )?;
             Ok(Round::On(state, more))
         }
         Coming::Rest(state) => Ok(Round::Over(state)),
@@ -184,18 +196,16 @@ pub fn drive<V: Site, N: Ruled, R: Reactions, A: Activities, C: Clock>(
     port: &mut Port,
     clients: &[Name],
     state: PartState,
-    incarnation: u64,
-    limit: u32,
-    steps: u32,
+    bounds: Bounds,
 ) -> Result<End, Stop>
     requires sound { IsSound store.old }
     requires going { store.old.halted ≡ false }
     requires rests { stage_at store.old 0 ≡ Stage.Resting }
     requires flows { N.rules.flows ≡ R.flows reactions.now }
-    requires incarnation { incarnation ≡ N.rules.incarnation }
-    requires short { incarnation < 2 ^ 62 }
-    requires some { 0 < limit }
-    requires few { limit ≤ 64 }
+    requires incarnation { bounds.incarnation ≡ N.rules.incarnation }
+    requires short { bounds.incarnation < 2 ^ 62 }
+    requires some { 0 < bounds.limit }
+    requires few { bounds.limit ≤ 64 }
     requires stands { StateStands N.rules (N.origin.logs 0) (of_part 0 (trail_in store.old)) (state_of state) }
     requires new { trail_in store.old ≡ [] }
     requires own { IsOwnSound state }
@@ -211,11 +221,11 @@ pub fn drive<V: Site, N: Ruled, R: Reactions, A: Activities, C: Clock>(
     ensures stage { OnOk result (stage_at store.new 0 ≡ Stage.Resting) }
     ensures still { OnOk result (store.new.halted ≡ false) }
     ensures said { OnOk result (HasSaid N.rules (told_in store.new) port.new) }
-    ensures leaves { IfOk result (λ end. Leaves N.rules (N.origin.logs 0) store.new.latest (of_part 0 (trail_in store.new)) (pairs_of (told_in store.new)) port.new clients.now steps end) }
-    ensures goes { GoesByClock N.rules A.gives limit clients.now (C.given clock.old) (of_part 0 (trail_in store.old)) (told_in store.old) (C.given clock.new) (of_part 0 (trail_in store.new)) (told_in store.new) }
-    ensures no_more { count_labels (of_part 0 (trail_in store.new)) < steps + limit }
+    ensures leaves { IfOk result (λ end. Leaves N.rules (N.origin.logs 0) store.new.latest (of_part 0 (trail_in store.new)) (pairs_of (told_in store.new)) port.new clients.now bounds.steps end) }
+    ensures goes { GoesByClock N.rules A.gives bounds.limit clients.now (C.given clock.old) (of_part 0 (trail_in store.old)) (told_in store.old) (C.given clock.new) (of_part 0 (trail_in store.new)) (told_in store.new) }
+    ensures no_more { count_labels (of_part 0 (trail_in store.new)) < bounds.steps + bounds.limit }
     ensures spent { (of n : ℕ) → result ≡ Err (Stop.Spent of n) → IsSpent N.rules (of_part 0 (trail_in store.new)) (pairs_of (told_in store.new)) of n }
-    ensures full { (of n : ℕ) → result ≡ Err (Stop.Full of n) → IsFull N.rules limit store.new.latest (of_part 0 (trail_in store.new)) (pairs_of (told_in store.new)) store.new.segment (way_of store.new.ways.items 0) of n }
+    ensures full { (of n : ℕ) → result ≡ Err (Stop.Full of n) → IsFull N.rules bounds.limit store.new.latest (of_part 0 (trail_in store.new)) (pairs_of (told_in store.new)) store.new.segment (way_of store.new.ways.items 0) of n }
     ensures fault { result ≡ Err Stop.SiteFault → HasRisen (V.disk_faults store.old.site) (V.disk_faults store.new.site) }
     ensures say_fault { result ≡ Err Stop.SayFault → HasRisen (V.say_faults store.old.site) (V.say_faults store.new.site) }
     ensures clock_fault { result ≡ Err Stop.ClockFault → HasRisen (C.clock_faults clock.old) (C.clock_faults clock.new) }
@@ -230,11 +240,11 @@ pub fn drive<V: Site, N: Ruled, R: Reactions, A: Activities, C: Clock>(
             return Err(stop);
         }
     }
-    let mut state = state.enter(incarnation);
+    let mut state = state.enter(bounds.incarnation);
     let mut labels = 0u64;
-    'rounds: while labels < steps as u64 {
+    'rounds: while labels < bounds.steps as u64 {
         match go_round(
-            alloc, reactions, acts, clock, store, port, clients, state, incarnation, limit,
+            alloc, reactions, acts, clock, store, port, clients, state, bounds,
         )? {
             Round::On(next, more) => {
                 state = next;

@@ -1,6 +1,6 @@
 -- A stream that changes changes as a function.
 use Rattle.std.proofs.Common.{◌≡◌, ◌∙◌, ◌<◌, ◌≤◌, ◌+◌, ◌-◌, ◌==◌, ◌++◌, ℕ, suc, List, [], ◌∷◌, length, drop, map, Bool, true, false, Option, Some, None, IsSome, nat_le, eqb-true, refl, ap, sym, subst, cond, arith}
-use Rattle.std.proofs.lemmas.Bool.{leb-true, lt-leb, le-leb}
+use Rattle.std.proofs.lemmas.Bool.{leb-true, lt-leb, le-leb, eqb-true}
 use Rattle.std.proofs.lemmas.List.{map-append, length-map}
 use Rattle.std.specs.Ordering.{nat_cmp}
 use Rattle.std.specs.BTreeMap.{BTreeMap, get, UpdatesBy}
@@ -21,9 +21,6 @@ pub inbox_changes : (m n : BTreeMap ℕ Inbox) (source : ℕ) (box : Inbox) → 
     → (λ (q : ℕ). inbox_or_new (get nat_cmp n q)) ≡ plain.with_inbox (λ (q : ℕ). inbox_or_new (get nat_cmp m q)) source (inbox_of box)
 inbox_changes m n source box updates = λ i q. (ap inbox_or_new (updates.0 q ∙ ap (λ (b : Bool). cond b (Some box) (get nat_cmp m q)) (number_same source q)) ∙ inbox_at (source == q) box (get nat_cmp m q)) i
 
-same_number : (a b : ℕ) → (a == b) ≡ true → a ≡ b
-same_number a b is = eqb-true a b is
-
 -- what a stream becomes
 abbrev Change : Type 0
 Change = plain.Outbox → plain.Outbox
@@ -41,7 +38,7 @@ box_changes : (m n : BTreeMap ℕ Outbox) (target : ℕ) (box : Outbox) (f : Cha
     → (λ (q : ℕ). outbox_or_new (get nat_cmp n q)) ≡ changed_at f target (λ (q : ℕ). outbox_or_new (get nat_cmp m q))
 box_changes m n target box f updates is = λ i q.
     (ap outbox_or_new (updates.0 q ∙ ap (λ (b : Bool). cond b (Some box) (get nat_cmp m q)) (number_same target q))
-    ∙ outbox_at (target == q) box (get nat_cmp m q) (get nat_cmp m target) f (λ same. ap (get nat_cmp m) (sym (same_number target q same))) is) i
+    ∙ outbox_at (target == q) box (get nat_cmp m q) (get nat_cmp m target) f (λ same. ap (get nat_cmp m) (sym (eqb-true target q same))) is) i
 
 abbrev behind : Posted → Change
 behind posted box = record box { messages = box.messages ++ posted_of posted ∷ [] }

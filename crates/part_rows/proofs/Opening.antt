@@ -4,7 +4,7 @@ use Rattle.std.specs.List.{find, slice_get}
 use Rattle.std.proofs.lemmas.Option.{slice_get_within, get_or_from_slice_get, slice_get-get_or}
 use Rattle.std.proofs.lemmas.List.{drop_more}
 use Rattle.std.proofs.Math.ListN.{drop_of_length-le}
-use Rattle.dura_value.proofs.Ids.{id_same, id_self, both_true}
+use Rattle.dura_value.proofs.Ids.{id_same, id_self}
 use Rattle.dura_value.specs.declared.messages.Message.{Message}
 use Rattle.dura_value.specs.Ids.{Id, id_eq}
 use Rattle.dura_value.specs.Messages as said
@@ -12,6 +12,7 @@ use Rattle.dura_value.specs.Views.{id_of, body_of, message_of, messages_of}
 use Rattle.flow_syntax.specs.Entity.{Entity}
 use Rattle.dura_model.specs.Partition.{first_in}
 use Rattle.part_rows.specs.Open.{lets_in}
+use Rattle.std.proofs.lemmas.Bool.{and_parts}
 
 module _ (entities : Id → Option Entity) where
   abbrev pub is_taken : Message → Bool
@@ -44,7 +45,7 @@ module _ (entities : Id → Option Entity) where
   link_by : (b : Bool) (x : Message) (ms : List Message) (from to : Id) (body : said.Body) → id_eq from (id_of x.from) && id_eq to (id_of x.to) ≡ b → is_taken x ≡ false → NoneOf ms
       → cond b (Some (body_of x.body)) (first_in (messages_of ms) from to) ≡ Some body → lets_in entities from to ≡ false
   link_by true x ms from to body link closed later is =
-      let both = both_true (id_eq from (id_of x.from)) (id_eq to (id_of x.to)) link in
+      let both = and_parts (id_eq from (id_of x.from)) (id_eq to (id_of x.to)) link in
       ap (λ (f : Id). lets_in entities f to) (id_same from (id_of x.from) both.0) ∙ ap (lets_in entities (id_of x.from)) (id_same to (id_of x.to) both.1) ∙ closed
   link_by false x ms from to body link closed later is = later from to body is
 

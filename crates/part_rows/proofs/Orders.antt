@@ -14,11 +14,13 @@ use Rattle.dura_value.specs.Ids as plain
 use Rattle.dura_value.specs.Views.{id_of}
 use Rattle.dura_value.proofs.Ids.{id_same, id_self}
 use Rattle.id_maps.specs.Keys.{id_cmp, key_of}
-use Rattle.id_maps.specs.Maps.{at_number, cleared}
+use Rattle.dura_value.specs.ById.{at_number, cleared}
 use Rattle.id_maps.proofs.Changes.{is_key, key_again, number_same}
 use Rattle.part_rows.specs.declared.timer.Timer.{Timer}
 use Rattle.part_rows.specs.declared.timers.TimerRow.{TimerRow}
 use Rattle.part_rows.specs.Timers.{timer_cmp, timer_of, timers_in, is_at, InOrder, IsFirstDue, NoneDue, IsNext}
+use Rattle.std.proofs.lemmas.Bool.{and_parts, eqb-true}
+use Rattle.dura_value.proofs.Basics.{number_self}
 
 pub timer_again : (k : Timer) → timer_of k.due (id_of k.id) k.task ≡ k
 timer_again k = ap (λ (id : Id). record { due = k.due; id = id; task = k.task }) (key_again k.id)
@@ -45,18 +47,11 @@ put_at true false stamp due was same found = ap (λ (w : Option ℕ). is_at w du
 put_at false true stamp due was same found = refl
 put_at false false stamp due was same found = refl
 
-both : (a b : Bool) → a && b ≡ true → (a ≡ true) × (b ≡ true)
-both true b is = (refl, is)
-both false b is = absurd (cc is)
-
-numbers_same : (a b : ℕ) → (a == b) ≡ true → a ≡ b
-numbers_same a b is = grind arith
-
 -- where an id and a number are those of a timer, they have what the timer has
 found_at : {X : Type 0} (f : plain.Id → ℕ → X) (id other : plain.Id) (number other_number : ℕ) (x : X) → f id number ≡ x → plain.id_eq id other && number == other_number ≡ true → f other other_number ≡ x
 found_at f id other number other_number x found is =
-    let parts = both (plain.id_eq id other) (number == other_number) is in
-    ap (λ (i : plain.Id). f i other_number) (sym (id_same id other parts.0)) ∙ ap (f id) (sym (numbers_same number other_number parts.1)) ∙ found
+    let parts = and_parts (plain.id_eq id other) (number == other_number) is in
+    ap (λ (i : plain.Id). f i other_number) (sym (id_same id other parts.0)) ∙ ap (f id) (sym (eqb-true number other_number parts.1)) ∙ found
 
 -- what a set has once a timer is in it or isn't
 abbrev pub Changes : BTreeSet Timer → BTreeSet Timer → Timer → Bool → Type 0
@@ -80,9 +75,6 @@ puts timers s n k absent before changes due id task =
     ∙ ap (λ (b : Bool). cond (k.due == due && (plain.id_eq (id_of k.id) id && k.task == task)) true b) (before due id task)
     ∙ put_at (plain.id_eq (id_of k.id) id && k.task == task) (k.due == due) k.due due (timers id task) refl (found_at timers (id_of k.id) id k.task task None absent)
 
-number_self : (n : ℕ) → (n == n) ≡ true
-number_self n = grind arith
-
 -- what is put at a place stands there
 pub at_itself : {X : Type 0} (f : plain.Id → ℕ → X) (id : plain.Id) (number : ℕ) (x : X) → at_number f id number x id number ≡ x
 at_itself f id number x = ap (λ (b : Bool). cond (b && number == number) x (f id number)) (id_self id) ∙ ap (λ (b : Bool). cond b x (f id number)) (number_self number)
@@ -100,7 +92,7 @@ is_at_itself due = number_self due
 
 is_at_true : (was : Option ℕ) (due : ℕ) → is_at was due ≡ true → was ≡ Some due
 is_at_true None due is = absurd (cc is)
-is_at_true (Some stamp) due is = ap Some (numbers_same stamp due is)
+is_at_true (Some stamp) due is = ap Some (eqb-true stamp due is)
 
 not_after : (a b : Ordering) → is_gt (ordering_then a b) ≡ false → is_gt a ≡ false
 not_after orderings.Less b is = refl

@@ -3,7 +3,7 @@
 ghost use Rattle.std.specs.Prelude.{◌≡◌, Some, None, OnOk, IfSome, IfNone, option_map};
 ghost use Rattle.dura_value.specs.Views.{id_of, message_of};
 ghost use Rattle.flow_messages.specs.Views.{entity_of};
-ghost use Rattle.dura_model.specs.World.{at_id};
+ghost use Rattle.dura_value.specs.ById.{at_id};
 ghost use Rattle.part_rows.specs.Views.{row_of};
 ghost use Rattle.part_rows.specs.Open.{lets_in, last_at, oldest_open, IsOpen, NoneOpen};
 ghost use Rattle.part_rows.specs.Parts.{part_of};

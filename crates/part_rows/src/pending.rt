@@ -5,7 +5,7 @@ ghost use Rattle.dura_value.specs.Views.{id_of};
 ghost use Rattle.flow_messages.specs.Views.{asked_of};
 ghost use Rattle.part_rows.specs.Timers.{InOrder};
 ghost use Rattle.dura_model.specs.Partition.{asked_in, given_up_in, raised_to};
-ghost use Rattle.dura_model.specs.World.{at_number, cleared};
+ghost use Rattle.dura_value.specs.ById.{at_number, cleared};
 ghost use Rattle.part_rows.specs.Views.{activity_of};
 ghost use Rattle.part_rows.specs.Parts.{part_of};
 

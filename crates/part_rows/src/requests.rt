@@ -2,7 +2,7 @@
 
 ghost use Rattle.std.specs.Prelude.{◌≡◌, ◌<◌, Some, OnOk, IfOk, is_some};
 ghost use Rattle.dura_value.specs.Views.{id_of, answer_of, body_of, message_of};
-ghost use Rattle.dura_model.specs.World.{at_number};
+ghost use Rattle.dura_value.specs.ById.{at_number};
 ghost use Rattle.dura_model.specs.Partition.{client_received};
 ghost use Rattle.dura_model.specs.Steps.{number_in, is_asking, is_request};
 ghost use Rattle.part_rows.specs.Accepts.{Accepts, accepted_request};

@@ -2,7 +2,8 @@
 
 ghost use Rattle.std.specs.Prelude.{◌≡◌, ◌+◌, if◌then◌else◌, is_some, Some, None, IfOk, OnOk, IfSome, IfNone};
 ghost use Rattle.dura_value.specs.Views.{id_of};
-ghost use Rattle.id_maps.specs.Maps.{no_number, at_number, cleared};
+ghost use Rattle.id_maps.specs.Maps.{no_number};
+ghost use Rattle.dura_value.specs.ById.{at_number, cleared};
 ghost use Rattle.part_rows.specs.Timers.{timers_in, count_in, InOrder, IsFirstDue, NoneDue, IsNext, NoTimer};
 
 use crate::timer::Timer;

@@ -8,15 +8,14 @@ use Rattle.dura_value.specs.Messages.{Answer, Message}
 use Rattle.flow_syntax.specs.Syntax.{Flows}
 use Rattle.flow_syntax.specs.Machine.{resulted}
 use Rattle.flow_syntax.specs.Machine.{fired as timer_fired}
-use Rattle.dura_model.specs.World.{Orchestration, Activity, at_number}
+use Rattle.dura_model.specs.World.{Orchestration, Activity}
+use Rattle.dura_value.specs.ById.{at_number}
 use Rattle.dura_model.specs.Deliveries.{goes_on_from}
 use Rattle.dura_model.specs.Steps.{answer_of}
 use Rattle.dura_model.specs.Partition.{Row, Partition, raised_to, instance_in, instance_at, stands_in, ended_in, fired_in, accepted}
 use Rattle.part_steps.specs.Outputs.{Outputs, sent_at_end, sent_at_timer, outputs_by}
 use Rattle.part_steps.specs.Reached.{fires_at}
-
-some_same : {X : Type 0} {x y : X} → Some x ≡ Some y → x ≡ y
-some_same is = cc
+use Rattle.dura_value.proofs.Basics.{some_same}
 
 -- outputs without answers
 abbrev pub alone : List Message → Outputs

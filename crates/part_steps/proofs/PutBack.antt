@@ -6,7 +6,8 @@ use Rattle.dura_value.specs.Messages.{Body}
 use Rattle.flow_syntax.specs.Syntax.{Flows}
 use Rattle.flow_syntax.specs.Machine.{Event}
 use Rattle.flow_syntax.specs.Entity.{Entity}
-use Rattle.dura_model.specs.World.{Orchestration, at_id}
+use Rattle.dura_model.specs.World.{Orchestration}
+use Rattle.dura_value.specs.ById.{at_id}
 use Rattle.dura_model.specs.Deliveries.{Effect, to_instance}
 use Rattle.dura_model.specs.Partition.{Row, Partition, row_after, post_all, asked_in, given_up_in, stands_in, instance_at, client_received}
 use Rattle.part_rows.proofs.Seen.{set_again}

@@ -2,7 +2,7 @@
 use Rattle.std.specs.Prelude.{ℕ, List, Option, option_map}
 use Rattle.dura_value.specs.Ids.{Id}
 use Rattle.flow_syntax.specs.Machine.{Event}
-use Rattle.dura_model.specs.World.{at_id}
+use Rattle.dura_value.specs.ById.{at_id}
 use Rattle.dura_model.specs.Partition.{Row, Partition, history_of, with_event, post_all, asked_in, given_up_in}
 use Rattle.part_rows.specs.Reactions.{Reaction}
 

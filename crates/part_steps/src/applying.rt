@@ -7,7 +7,7 @@ ghost use Rattle.part_rows.specs.Timers.{InOrder};
 ghost use Rattle.part_items.specs.Plain.{item_of};
 ghost use Rattle.dura_model.specs.Steps.{answer_of as answer_to};
 ghost use Rattle.dura_model.specs.Partition.{raised_to, got_in, trim_in, accepted};
-ghost use Rattle.dura_model.specs.World.{at_number};
+ghost use Rattle.dura_value.specs.ById.{at_number};
 ghost use Rattle.part_rows.specs.Accepts.{accepted_request};
 ghost use Rattle.part_rows.specs.Views.{identity_of};
 ghost use Rattle.part_rows.specs.Parts.{part_of};

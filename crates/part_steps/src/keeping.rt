@@ -4,7 +4,7 @@ ghost use Rattle.std.specs.Prelude.{◌≡◌, ◌<◌, ◌++◌, map, IfOk, OnO
 ghost use Rattle.dura_value.specs.Views.{id_of, messages_of};
 ghost use Rattle.flow_messages.specs.Views.{event_of, past_of};
 ghost use Rattle.part_rows.specs.Timers.{InOrder};
-ghost use Rattle.dura_model.specs.World.{at_id};
+ghost use Rattle.dura_value.specs.ById.{at_id};
 ghost use Rattle.dura_model.specs.Partition.{history_of, with_event, post_all, given_up_in};
 ghost use Rattle.part_rows.specs.Reactions.{waits_of, reaction_of};
 ghost use Rattle.part_rows.specs.Views.{row_of};

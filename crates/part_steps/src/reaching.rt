@@ -5,7 +5,7 @@ ghost use Rattle.dura_value.specs.Ids.{entity, client};
 ghost use Rattle.dura_value.specs.Views.{id_of, body_of as said_of, messages_of};
 ghost use Rattle.part_rows.specs.Timers.{InOrder};
 ghost use Rattle.dura_model.specs.Deliveries.{to_instance};
-ghost use Rattle.dura_model.specs.World.{at_id};
+ghost use Rattle.dura_value.specs.ById.{at_id};
 ghost use Rattle.dura_model.specs.Partition.{instance_at};
 ghost use Rattle.part_rows.specs.Parts.{part_of};
 ghost use Rattle.part_steps.specs.Outputs.{sent_to, answered_to, answered_of};

@@ -1,6 +1,6 @@
 -- What was read of a file is what it keeps.
 use Rattle.std.proofs.Common.{◌≡◌, ◌≢◌, ◌∙◌, inl, inr, ℕ, List, [], ◌∷◌, length, true, false, ◌==◌, Some, None, Ok, Err, refl, sym, ap, subst, eqb-true, arith}
-use Rattle.std.proofs.lemmas.Bool.{cases_Bool}
+use Rattle.std.proofs.lemmas.Bool.{cases_Bool, eq-eqb}
 use Rattle.std.proofs.lemmas.Bool.Decides.{nat_tests}
 use Rattle.site_model.specs.History.{Step, on, synced, reads, changes_of, content_of, IsKept}
 use Rattle.site_model.proofs.Paths.{own_change}
@@ -82,9 +82,6 @@ module _ (file : ℕ) (old new : List Step) (is : new ≡ on file synced ∷ old
 pub damaged_fault : (digest file offset : ℕ) (kept : Kept) → kept ≡ broken offset → fault_of (alone_with digest) file kept ≡ Some (damaged_at file offset)
 damaged_fault digest file offset kept is = ap (fault_of (alone_with digest) file) is
 
-pub is_one : (n m : ℕ) → n ≡ m → (n == m) ≡ true
-is_one n m is = grind (arith, nat_tests)
-
 pub is_other : (n m : ℕ) → n ≢ m → (n == m) ≡ false
 is_other n m other = elim (cases_Bool (n == m)) [ inl is ↦ absurd (other (eqb-true n m is)) | inr apart ↦ apart ]
 
@@ -92,7 +89,7 @@ pub shape_fault : (digest file : ℕ) (h : Header) (entries : List Entry) (gate 
 shape_fault digest file h entries gate other = rw (is_other h.partitions 1 other) refl
 
 pub flows_fault : (digest file : ℕ) (h : Header) (entries : List Entry) (gate : ℕ) → h.partitions ≡ 1 → h.digest ≢ digest → fault_of (alone_with digest) file (keeps h entries gate) ≡ Some (other_flows h.digest)
-flows_fault digest file h entries gate alone other = rw (is_one h.partitions 1 alone, is_other h.digest digest other) refl
+flows_fault digest file h entries gate alone other = rw (eq-eqb h.partitions 1 alone, is_other h.digest digest other) refl
 
 pub no_fault : (digest file : ℕ) (kept : Kept) (h : Header) (entries : List Entry) (gate : ℕ) → kept ≡ keeps h entries gate → h.partitions ≡ 1 → h.digest ≡ digest → fault_of (alone_with digest) file kept ≡ None
-no_fault digest file kept h entries gate is alone own = ap (fault_of (alone_with digest) file) is ∙ rw (is_one h.partitions 1 alone, is_one h.digest digest own) refl
+no_fault digest file kept h entries gate is alone own = ap (fault_of (alone_with digest) file) is ∙ rw (eq-eqb h.partitions 1 alone, eq-eqb h.digest digest own) refl

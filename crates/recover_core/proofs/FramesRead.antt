@@ -21,11 +21,7 @@ use Rattle.recover_core.specs.declared.reading.Turn.{Turn}
 use Rattle.recover_core.specs.Files.{frames_in, PlacesFrame, IsOpened, HasReadTo, ReadsOn, RestsAfter, ReadsAll}
 use Rattle.recover_core.specs.Progress.{PlacesOn, IsProgress}
 use Rattle.recover_core.proofs.EntriesPlaced.{progress_more}
-
--- a step that went well had something to go on from
-step : {A B : Type 0} (r : Result A ℕ) (f : A → Result B ℕ) (b : B) → (r >>= f) ≡ Ok b → (a : A) × (r ≡ Ok a) × (f a ≡ Ok b)
-step (Ok a) f b h = (a, refl, h)
-step (Err e) f b h = absurd (cc h)
+use Rattle.dura_value.proofs.Basics.{both_ok}
 
 -- entries in front of others and a place
 abbrev with_front : List Entry → Result (List Entry × ℕ) ℕ → Result (List Entry × ℕ) ℕ
@@ -43,8 +39,8 @@ frames_more next [] payload entries more is here =
     let first : next_frame_in next payload ≡ Ok more = subst (λ (e : List Entry). next_frame_in (behind_all next e) payload ≡ Ok more) (sym none) here in
     rw first (ap (λ (l : List Entry). Ok l) (append-nil more) ∙ ap (λ (e : List Entry). Ok (e ++ more)) none)
 frames_more next (one ∷ payloads) payload entries more is here =
-    let first = step (next_frame_in next one) _ entries is in
-    let later = step (frames_in (behind_all next first.0) payloads) _ entries first.2 in
+    let first = both_ok (next_frame_in next one) _ entries is in
+    let later = both_ok (frames_in (behind_all next first.0) payloads) _ entries first.2 in
     let both : first.0 ++ later.0 ≡ entries = let same : Path (Result (List Entry) ℕ) (Ok (first.0 ++ later.0)) (Ok entries) = later.2 in cc same in
     let behind : next_frame_in (behind_all (behind_all next first.0) later.0) payload ≡ Ok more =
     subst (λ (n : Next). next_frame_in n payload ≡ Ok more) (ap (behind_all next) (sym both) ∙ behind_both next first.0 later.0) here in
@@ -112,14 +108,14 @@ none_read flows content header gate p read first progress = record {
   progress = progress;
 }
 
--- ---- a step of the loop
+-- ---- a both_ok of the loop
 
 module _ (flows : Flows) (old steps : List Step) (reader : LogReader) (reading : Reading) (result : Result Turn FrameError) (payloads : List (List ℕ)) (entries : List Entry)
     (file : reading.reader.file ≡ reader.file) (header : reading.reader.header ≡ reader.header) (size : reading.reader.size ≡ reader.size) (same : steps ≡ old) (opened : IsOpened old reader) where
   content_same : content_of reading.reader.file steps ≡ content_of reader.file old
   content_same = ap (λ (f : ℕ). content_of f steps) file ∙ ap (content_of reader.file) same
 
-  -- what a step says of the log as it is read, it says of the log as it was opened
+  -- what a both_ok says of the log as it is read, it says of the log as it was opened
   pub reads_over : HasReadTo flows (content_of reader.file old) reader.header payloads entries reading.reader.gate reading.progress
       → (reading.reader.size ≡ length (content_of reading.reader.file steps) → (some : List (List ℕ)) (more : List Entry) → HasReadTo flows (content_of reading.reader.file steps) reading.reader.header some more reading.reader.gate reading.progress
       → ReadsOn flows (content_of reading.reader.file steps) reading.reader.header some more result)

@@ -4,45 +4,37 @@ use Rattle.std.specs.Int.{w32, w64}
 use Rattle.commit_log.specs.declared.header.Header.{Header}
 use Rattle.commit_log.specs.Segment.{◌>>=◌, open_gate, signature, constant_at, number_at, header_at}
 use Rattle.commit_log.specs.Frames.{fresh, headed, header_for, opening_from, opening_of}
-
--- a step that went well had something to go on from
-step : {A B : Type 0} (r : Result A ℕ) (f : A → Result B ℕ) (b : B) → (r >>= f) ≡ Ok b → (a : A) × (r ≡ Ok a) × (f a ≡ Ok b)
-step (Ok a) f b h = (a, refl, h)
-step (Err e) f b h = absurd (cc h)
+use Rattle.dura_value.proofs.Basics.{both_ok, passed_ok}
 
 same_ok : {A : Type 0} (r : Result A ℕ) (a b : A) → r ≡ Ok a → r ≡ Ok b → a ≡ b
 same_ok r a b one other = let both : Ok a ≡ Ok b = sym one ∙ other in cc both
-
-passed : {A : Type 0} (test : Bool) (a : Result A ℕ) (e : ℕ) (b : A) → (if test then a else Err e) ≡ Ok b → (test ≡ true) × (a ≡ Ok b)
-passed true a e b h = (refl, h)
-passed false a e b h = absurd (cc h)
 
 -- the last number of a header, behind the others
 last_number : (partition partitions digest : ℕ) (bytes : List ℕ) (found : Header × List ℕ)
     → (number_at w64 25 bytes >>= λ base. if nat_lt base.0 (2 ^ 63) then Ok (record { partition = partition; partitions = partitions; digest = digest; base = base.0 }, base.1) else Err 25) ≡ Ok found → partition ≡ found.0.partition
 last_number partition partitions digest bytes found h =
-    let base = step (number_at w64 25 bytes) _ found h in
+    let base = both_ok (number_at w64 25 bytes) _ found h in
     let read : Header × List ℕ = (record { partition = partition; partitions = partitions; digest = digest; base = base.0.0 }, base.0.1) in
-    let end = passed (nat_lt base.0.0 (2 ^ 63)) (Ok read) 25 found base.2 in
+    let end = passed_ok (nat_lt base.0.0 (2 ^ 63)) (Ok read) 25 found base.2 in
     ap (λ (f : Header × List ℕ). f.0.partition) (same_ok (Ok read) read found refl end.1)
 
 -- the number that stands first behind the signature
 header_number : (bytes rest : List ℕ) (number : ℕ × List ℕ) (found : Header × List ℕ) → constant_at signature 1 bytes ≡ Ok rest → number_at w32 9 rest ≡ Ok number → header_at bytes ≡ Ok found → number.0 ≡ found.0.partition
 unfolding header_at
 header_number bytes rest number found constant first h =
-    let start = step (constant_at signature 1 bytes) _ found h in
-    let partition = step (number_at w32 9 start.0) _ found start.2 in
-    let partitions = step (number_at w32 13 partition.0.1) _ found partition.2 in
-    let digest = step (number_at w64 17 partitions.0.1) _ found partitions.2 in
+    let start = both_ok (constant_at signature 1 bytes) _ found h in
+    let partition = both_ok (number_at w32 9 start.0) _ found start.2 in
+    let partitions = both_ok (number_at w32 13 partition.0.1) _ found partition.2 in
+    let digest = both_ok (number_at w64 17 partitions.0.1) _ found partitions.2 in
     let there : rest ≡ start.0 = same_ok (constant_at signature 1 bytes) rest start.0 constant start.1 in
     let number_is : number ≡ partition.0 = same_ok (number_at w32 9 start.0) number partition.0 (subst (λ (r : List ℕ). number_at w32 9 r ≡ Ok number) there first) partition.1 in
     ap (λ (n : ℕ × List ℕ). n.0) number_is ∙ last_number partition.0.0 partitions.0.0 digest.0.0 digest.0.1 found digest.2
 
 own_header : (partition : ℕ) (bytes : List ℕ) (found : Header × List ℕ) → header_for partition bytes ≡ Ok found → found.0.partition ≡ partition
 own_header partition bytes found h =
-    let start = step (constant_at signature 1 bytes) _ found h in
-    let number = step (number_at w32 9 start.0) _ found start.2 in
-    let own = passed (eqb number.0.0 partition) (header_at bytes) 9 found number.2 in
+    let start = both_ok (constant_at signature 1 bytes) _ found h in
+    let number = both_ok (number_at w32 9 start.0) _ found start.2 in
+    let own = passed_ok (eqb number.0.0 partition) (header_at bytes) 9 found number.2 in
     sym (header_number bytes start.0 number.0 found start.1 number.1 own.1) ∙ eqb-true number.0.0 partition own.0
 
 headed_by : (found : Result (Header × List ℕ) ℕ) (h : Header) → opening_from found ≡ headed h → (rest : List ℕ) × (found ≡ Ok (h, rest))

@@ -1,7 +1,7 @@
 -- What two files have is what is answered of them.
 use Rattle.std.proofs.Common.{◌≡◌, ◌∙◌, ◌⊎◌, inl, inr, ℕ, ◌≤◌, lit<, List, [], true, ◌==◌, Option, Some, None, Result, Ok, Err, refl, sym, ap, subst, arith}
 use Rattle.std.specs.Prelude.{IfOk, IfSome}
-use Rattle.std.proofs.lemmas.Bool.{cases_lt}
+use Rattle.std.proofs.lemmas.Bool.{cases_lt, eq-eqb}
 use Rattle.site_model.specs.History.{Step, changes_of, content_of, reads}
 use Rattle.site_model.specs.Calls.{HasRisen}
 use Rattle.commit_log.specs.declared.header.Header.{Header}
@@ -27,12 +27,7 @@ use Rattle.recover_core.specs.Files.{frames_in, IsFound, Suits, IsReadyFile}
 use Rattle.recover_core.specs.Progress.{Shows, IsReadyFor}
 use Rattle.recover_core.specs.Recovering.{IsLogOf, RecoversLogs, Recovers, RestsFor}
 use Rattle.recover_core.specs.Refusals.{RefusesFiles}
-use Rattle.recover_core.proofs.FilesFound.{is_one, no_fault}
-
--- a count of faults that rose later has risen
-pub risen_later : (before mid now : ℕ) → before ≤ mid → mid ≤ now → HasRisen mid now → HasRisen before now
-risen_later before mid now first second (inl rose) = inl (omega arith)
-risen_later before mid now first second (inr full) = elim (cases_lt before mid) [ inl rose ↦ inl (omega arith) | inr same ↦ inr (omega arith) ]
+use Rattle.recover_core.proofs.FilesFound.{no_fault}
 
 -- what was chosen is ready where both files are
 pub ready_chosen : (first second : LogFile) (found : Found) → IsReadyFile first → IsReadyFile second → Chooses first second (Some found) → IsReadyFor found.incarnation found.placing
@@ -219,13 +214,13 @@ module _ (flows : Flows) (digest : ℕ) (old steps : List Step) (first_same : co
               let two = subst (Suits steps flows digest 17) here.1 suits_too in
               has_log steps flows digest 16 (logs_in (alone_with digest) (λ file. content_of file old)) found one chosen.0
               (logs_are (keeps found.header one.0.entries found.log.gate) nothing one.0.kept two
-              ∙ first_has digest found.header one.0.entries found.log.gate (is_one found.header.partitions 1 one.1) (is_one found.header.digest digest one.2) (is_one found.header.base 0 chosen.0))
+              ∙ first_has digest found.header one.0.entries found.log.gate (eq-eqb found.header.partitions 1 one.1) (eq-eqb found.header.digest digest one.2) (eq-eqb found.header.base 0 chosen.0))
           by (inr here) =
               let one = subst (Suits steps flows digest 16) here.0 suits in
               let two = subst (Suits steps flows digest 17) here.1 suits_too in
               has_log steps flows digest 17 (logs_in (alone_with digest) (λ file. content_of file old)) found two chosen.0
               (logs_are nothing (keeps found.header two.0.entries found.log.gate) one two.0.kept
-              ∙ second_has digest found.header two.0.entries found.log.gate (is_one found.header.partitions 1 two.1) (is_one found.header.digest digest two.2) (is_one found.header.base 0 chosen.0))
+              ∙ second_has digest found.header two.0.entries found.log.gate (eq-eqb found.header.partitions 1 two.1) (eq-eqb found.header.digest digest two.2) (eq-eqb found.header.base 0 chosen.0))
 
 -- ---- what its entries stand for
 

@@ -8,7 +8,7 @@ use Rattle.serde_json.specs.Data.{Data}
 use Rattle.serde_json.specs.Read.{read}
 use Rattle.serde_json.specs.View.{members_view, items_view}
 use Rattle.serde_json.specs.declared.value.Value.{Value}
-use Rattle.request_reader.specs.Reading.{guard}
+use Rattle.dura_value.specs.Optional.{guard}
 use Rattle.request_reader.specs.Json.{data_of, count, count_items}
 
 guarded : {X : Type 0} (b : Bool) (o : Option X) → (b ≡ true → o ≡ None) → guard b o ≡ None

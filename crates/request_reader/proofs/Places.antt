@@ -10,7 +10,7 @@ use Rattle.std.specs.Str.{bytes_eq}
 use Rattle.std.proofs.lemmas.Option.{slice_get-map, slice_get-get_or, slice_get_past}
 use Rattle.std.proofs.lemmas.List.Sums.{fold-append}
 use Rattle.std.proofs.lemmas.Map.Text.{is_eq-slice_cmp}
-use Rattle.std.proofs.lemmas.Bool.{eqb-true, ltb-true}
+use Rattle.std.proofs.lemmas.Bool.{eqb-true, ltb-true, and_parts, ltb-false}
 use Rattle.std.proofs.lemmas.Bool.Decides.{nat_tests}
 use Rattle.std.proofs.lemmas.Slice.Eq.{bytes_eq-Decides}
 use Rattle.std.specs.declared.cmp.Ordering.{Ordering}
@@ -18,17 +18,11 @@ use Rattle.std.specs.declared.cmp.Ordering.TheVariants.{Less, Equal, Greater}
 use Rattle.dura_value.specs.declared.messages.Request.{Request as OwnRequest}
 use Rattle.request_reader.specs.Line.{Request, request_of}
 use Rattle.request_reader.specs.Requests.{is_by, latest}
+use Rattle.dura_value.proofs.Ids.{same_bytes}
+use Rattle.dura_value.proofs.Basics.{position_low}
 
 tail_get : {X : Type 0} (x : X) (xs : List X) (i k : ℕ) → k + 1 ≤ i → slice_get (x ∷ xs) (i - k) ≡ slice_get xs (i - (k + 1))
 tail_get x xs i k low = let e : i - k ≡ suc (i - (k + 1)) = omega arith in rw e refl
-
-low_by : (k i : ℕ) (b : Bool) (o : Option ℕ) → (o ≡ Some i → k + 1 ≤ i) → cond b (Some k) o ≡ Some i → k ≤ i
-low_by k i true o low is = let same : k ≡ i = cc in omega arith
-low_by k i false o low is = let above : k + 1 ≤ i = low is in omega arith
-
-place_low : {X : Type 0} (p : X → Bool) (k i : ℕ) (xs : List X) → position_from p k xs ≡ Some i → k ≤ i
-place_low p k i [] at = absurd (cc at)
-place_low p k i (x ∷ xs) at = low_by k i (p x) (position_from p (k + 1) xs) (place_low p (k + 1) i xs) at
 
 found_by : {X : Type 0} (x : X) (xs : List X) (k i : ℕ) (b : Bool) (o : Option ℕ) (it : Option X) → (o ≡ Some i → slice_get (x ∷ xs) (i - k) ≡ it) → cond b (Some k) o ≡ Some i → slice_get (x ∷ xs) (i - k) ≡ cond b (Some x) it
 found_by x xs k i true o it rest is = let none : i - k ≡ 0 = (let same : k ≡ i = cc in omega arith) in rw none refl
@@ -36,7 +30,7 @@ found_by x xs k i false o it rest is = rest is
 
 found_from : {X : Type 0} (p : X → Bool) (k i : ℕ) (xs : List X) → position_from p k xs ≡ Some i → slice_get xs (i - k) ≡ find p xs
 found_from p k i [] at = absurd (cc at)
-found_from p k i (x ∷ xs) at = found_by x xs k i (p x) (position_from p (k + 1) xs) (find p xs) (λ is. tail_get x xs i k (place_low p (k + 1) i xs is) ∙ found_from p (k + 1) i xs is) at
+found_from p k i (x ∷ xs) at = found_by x xs k i (p x) (position_from p (k + 1) xs) (find p xs) (λ is. tail_get x xs i k (position_low p (k + 1) i xs is) ∙ found_from p (k + 1) i xs is) at
 
 pub found : (p : Request → Bool) (xs : List OwnRequest) (i : ℕ) → position_from p 0 (map request_of xs) ≡ Some i → option_map request_of (slice_get xs i) ≡ find p (map request_of xs)
 found p xs i at = let first : i ≡ i - 0 = omega arith in sym (slice_get-map request_of xs i) ∙ ap (slice_get (map request_of xs)) first ∙ found_from p 0 i (map request_of xs) at
@@ -66,19 +60,12 @@ pub or_none : {X : Type 0} (o : Option X) → option_or o None ≡ o
 or_none (Some x) = refl
 or_none None = refl
 
-both : (a b : Bool) → a && b ≡ true → (a ≡ true) × (b ≡ true)
-both true b is = (refl, is)
-both false b is = absurd (cc is)
-
 same_numbers : (m n : ℕ) → m == n ≡ true → m ≡ n
 same_numbers m n is = eqb-true m n is
 
-same_bytes : (a b : List ℕ) → bytes_eq a b ≡ true → a ≡ b
-same_bytes a b is = (bytes_eq-Decides a b).0 is
-
 pub places_after : (rs : List Request) (r : Request) (name : List ℕ) (n : ℕ) (old new : Option ℕ) (test : Bool) → test ≡ is_by name n r → new ≡ cond test (Some (length rs)) old → old ≡ position_from (is_by name n) 0 rs → find (is_by r.client r.number) rs ≡ None → new ≡ position_from (is_by name n) 0 (rs ++ r ∷ [])
 places_after rs r name n old new true is set before free =
-    let words = both (bytes_eq r.client name) (r.number == n) (sym is) in
+    let words = and_parts (bytes_eq r.client name) (r.number == n) (sym is) in
     let client = same_bytes r.client name words.0 in
     let number = same_numbers r.number n words.1 in
     let none : position_from (is_by name n) 0 rs ≡ None = no_place (is_by name n) 0 rs (rw (← client, ← number) free) in
@@ -98,14 +85,11 @@ eq_both Less p = refl
 eq_both Equal p = refl
 eq_both Greater p = refl
 
--- two pairs of a client and a number are the same where both are
+-- two pairs of a client and a number are the same where and_parts are
 pub same_pair : (a b : List ℕ) (m n : ℕ) → is_eq (ordering_then (slice_cmp nat_cmp a b) (nat_cmp m n)) ≡ bytes_eq a b && m == n
 same_pair a b m n = eq_both (slice_cmp nat_cmp a b) (nat_cmp m n) ∙ rw (is_eq-slice_cmp a b, eq_then m n) refl
-
-not_below : (a b : ℕ) → nat_lt a b ≡ false → b ≤ a
-not_below a b e = grind (arith, nat_tests)
 
 -- what a look at a place gives
 pub got : (o : Option (Bor OwnRequest)) (xs : List OwnRequest) (i : ℕ) → is_some o ≡ nat_lt i (length xs) → IfSome o (λ x. x.now ≡ get_or xs i x.now) → option_map (λ r. request_of r.now) o ≡ option_map request_of (slice_get xs i)
 got (Some x) xs i there is = rw (slice_get-get_or xs i x.now (ltb-true i (length xs) (sym there)), ← is) refl
-got None xs i there is = rw (slice_get_past xs i (not_below i (length xs) (sym there))) refl
+got None xs i there is = rw (slice_get_past xs i (ltb-false i (length xs) (sym there))) refl

@@ -7,7 +7,8 @@ use Rattle.serde_json.specs.Data.{Items, item}
 use Rattle.serde_json.specs.View.{view, items_view}
 use Rattle.serde_json.specs.declared.value.Value.{Value as Json}
 use Rattle.dura_value.specs.declared.data.Scalar.{Scalar}
-use Rattle.request_reader.specs.Reading.{LineGives, ◌>>=◌}
+use Rattle.request_reader.specs.Reading.{LineGives}
+use Rattle.dura_value.specs.Optional.{◌>>=◌}
 use Rattle.request_reader.specs.declared.error.ReadError.{ReadError}
 use Rattle.request_reader.specs.declared.error.ReadError.TheVariants.{Refused, Memory}
 use Rattle.request_reader.specs.Values.{scalar_in, scalars_in}

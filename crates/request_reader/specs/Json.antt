@@ -8,7 +8,7 @@ use Rattle.serde_json.specs.Read.{read}
 use Rattle.dura_value.specs.Ids.{Id}
 use Rattle.dura_value.specs.Names.{is_name}
 use Rattle.dura_value.specs.Reading.{id_in}
-use Rattle.request_reader.specs.Reading.{◌>>=◌, guard, where_it}
+use Rattle.dura_value.specs.Optional.{◌>>=◌, guard, where_it}
 
 -- the JSON that the bytes are
 abbrev pub data_of : List ℕ → Option Data

@@ -8,7 +8,7 @@ use Rattle.dura_value.specs.declared.messages.Request.{Request as OwnRequest}
 use Rattle.dura_value.specs.Messages.{Message}
 use Rattle.dura_value.specs.Views.{message_of}
 use Rattle.request_reader.specs.Json.{data_of, has_members, one_if, name_at, id_at}
-use Rattle.request_reader.specs.Reading.{◌>>=◌, guard, where_it}
+use Rattle.dura_value.specs.Optional.{◌>>=◌, guard, where_it}
 use Rattle.request_reader.specs.Values.{value_at}
 
 -- a request: whose it is, its number, and the message that it sends

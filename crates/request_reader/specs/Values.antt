@@ -11,7 +11,7 @@ use Rattle.dura_value.specs.declared.data.Value.TheVariants as values
 use Rattle.dura_value.specs.Values.{value_of, scalars_size}
 use Rattle.dura_value.specs.Limits.{most_text_bytes, most_scalars, most_scalars_bytes}
 use Rattle.request_reader.specs.Json.{count_items}
-use Rattle.request_reader.specs.Reading.{◌>>=◌, guard, where_it}
+use Rattle.dura_value.specs.Optional.{◌>>=◌, guard, where_it}
 
 -- UTF-8 of not too many bytes
 abbrev pub is_text : List ℕ → Bool

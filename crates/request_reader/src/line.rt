@@ -5,7 +5,8 @@ ghost use Rattle.serde_json.specs.View.{view};
 ghost use Rattle.dura_value.specs.Ids.{client as client_id};
 ghost use Rattle.dura_value.specs.Views.{id_of, body_of, message_of};
 ghost use Rattle.request_reader.specs.Json.{id_at};
-ghost use Rattle.request_reader.specs.Reading.{LineGives, where_it, ◌>>=◌ as bind};
+ghost use Rattle.request_reader.specs.Reading.{LineGives};
+ghost use Rattle.dura_value.specs.Optional.{where_it, ◌>>=◌ as bind};
 ghost use Rattle.request_reader.specs.Line.{is_instance, has_state, number_in, start_in, wait_in, raise_in, query_in, sent_in, request_in, request_on, request_of};
 
 use crate::error::ReadError;

@@ -3,7 +3,8 @@
 ghost use Rattle.std.specs.Prelude.{◌≡◌, ◌++◌, [], ◌∷◌, length, option_map};
 ghost use Rattle.std.specs.Str.{IsUtf8};
 ghost use Rattle.serde_json.specs.View.{view, items_view};
-ghost use Rattle.request_reader.specs.Reading.{LineGives, where_it};
+ghost use Rattle.request_reader.specs.Reading.{LineGives};
+ghost use Rattle.dura_value.specs.Optional.{where_it};
 ghost use Rattle.dura_value.specs.Values.{value_of};
 ghost use Rattle.request_reader.specs.Values.{is_text, scalar_in, scalars_in, list_in, value_in, value_at};
 

@@ -5,7 +5,7 @@ use Rattle.activity_table.specs.Chance.{word_of}
 use Rattle.client_port.specs.Clients.{clients_of}
 use Rattle.client_port.specs.Ports.{queues_of}
 use Rattle.dura_model.specs.Partition.{Partition, fresh, enter, post}
-use Rattle.dura_model.specs.World.{at_number}
+use Rattle.dura_value.specs.ById.{at_number}
 use Rattle.dura_value.specs.Items.{took}
 use Rattle.engine_run.proofs.Queues.{nothing_said}
 use Rattle.part_items.specs.Examples.{request, taking}

@@ -7,7 +7,7 @@ use Rattle.dura_model.specs.Entries.{shown_by}
 use Rattle.engine_run.specs.Served.{IsLeftAt}
 use Rattle.run_examples.specs.Calls.{no_flows, rules_for}
 
-nobody_asks : (before : List Message) (r : Message) (behind : List Message) → [] ≡ before ++ r ∷ behind → ⊥
+pub nobody_asks : (before : List Message) (r : Message) (behind : List Message) → [] ≡ before ++ r ∷ behind → ⊥
 nobody_asks [] r behind is = cc is
 nobody_asks (first ∷ before) r behind is = cc is
 

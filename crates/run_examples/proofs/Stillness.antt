@@ -2,10 +2,11 @@
 use Rattle.std.proofs.Common.{◌≡◌, ◌&&◌, ◌∙◌, Bool, true, false, cond, Some, None, refl, ap}
 use Rattle.dura_value.specs.Ids.{Id, id_eq}
 use Rattle.dura_value.specs.Messages.{Body, query}
-use Rattle.dura_value.proofs.Ids.{id_same, both_true}
+use Rattle.dura_value.proofs.Ids.{id_same}
 use Rattle.part_rows.specs.Open.{lets_in}
 use Rattle.part_steps.specs.Quiet.{IsQuiet}
 use Rattle.run_examples.specs.States.{asker, sum, account, begun, asked, held, orphaned, ticking}
+use Rattle.std.proofs.lemmas.Bool.{and_parts}
 
 pub quiet_at_first : IsQuiet begun
 quiet_at_first = record { deliveries = λ from to body is. absurd (cc is); activities = λ id task. refl; timers = λ id task. refl }
@@ -13,7 +14,7 @@ quiet_at_first = record { deliveries = λ from to body is. absurd (cc is); activ
 -- the one message is the asker's to the entity
 of_asker : (from to : Id) (b : Bool) (body : Body) → (id_eq from asker && id_eq to account) ≡ b → cond b (Some (query 1)) None ≡ Some body → lets_in held.entities from to ≡ false
 of_asker from to true body same is =
-    let parts = both_true (id_eq from asker) (id_eq to account) same in
+    let parts = and_parts (id_eq from asker) (id_eq to account) same in
     ap (λ (i : Id). lets_in held.entities i to) (id_same from asker parts.0) ∙ ap (lets_in held.entities asker) (id_same to account parts.1)
 of_asker from to false body same is = absurd (cc is)
 

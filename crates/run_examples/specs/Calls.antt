@@ -4,7 +4,8 @@ use Rattle.client_port.specs.Ports.{Queue}
 use Rattle.command_words.specs.declared.words.RunOptions.{RunOptions}
 use Rattle.dura_model.specs.Partition.{Partition, fresh}
 use Rattle.dura_model.specs.Steps.{Label, finish}
-use Rattle.dura_model.specs.World.{World, empty, at_number}
+use Rattle.dura_model.specs.World.{World, empty}
+use Rattle.dura_value.specs.ById.{at_number}
 use Rattle.dura_value.specs.Digest.{fnv1a_64}
 use Rattle.dura_value.specs.Ids.{client, orchestration}
 use Rattle.dura_value.specs.Messages.{start, wait, to_request, was_started}

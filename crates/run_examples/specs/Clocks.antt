@@ -1,7 +1,7 @@
 -- Entries to look at that are filled by a clock.
 use Rattle.std.specs.Prelude.{ℕ, List, [], ◌∷◌, Some}
 use Rattle.dura_model.specs.Partition.{Partition}
-use Rattle.dura_model.specs.World.{at_number}
+use Rattle.dura_value.specs.ById.{at_number}
 use Rattle.dura_value.specs.Items.{Item, Entry, ran, fired}
 use Rattle.dura_value.specs.declared.data.Value.{Value}
 use Rattle.dura_value.specs.declared.outcome.Outcome.{Outcome}

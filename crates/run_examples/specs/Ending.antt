@@ -2,7 +2,7 @@
 use Rattle.std.specs.Prelude.{ℕ, List, [], ◌∷◌, ◌^◌, codes, Some}
 use Rattle.command_words.specs.declared.words.RunOptions.{RunOptions}
 use Rattle.dura_model.specs.Partition.{Partition, fresh}
-use Rattle.dura_model.specs.World.{at_number}
+use Rattle.dura_value.specs.ById.{at_number}
 use Rattle.dura_value.specs.Ids.{client}
 use Rattle.dura_value.specs.Messages.{was_started}
 use Rattle.hub_store.specs.Trail.{Settled}

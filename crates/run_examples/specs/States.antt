@@ -4,7 +4,7 @@ use Rattle.dura_value.specs.declared.data.Value.TheVariants as values
 use Rattle.dura_value.specs.Ids.{Id, orchestration, entity, client}
 use Rattle.dura_value.specs.Messages.{query, Message}
 use Rattle.flow_syntax.specs.Syntax.{Flows}
-use Rattle.dura_model.specs.World.{at_id, at_number}
+use Rattle.dura_value.specs.ById.{at_id, at_number}
 use Rattle.dura_model.specs.Partition.{Partition, fresh, post}
 
 abbrev pub asker : Id

@@ -3,9 +3,10 @@ use Rattle.std.proofs.Common.{◌≡◌, ◌&&◌, ◌+◌, ◌⊎◌, inl, inr,
 use Rattle.std.proofs.lemmas.List.{append-nil}
 use Rattle.dura_value.specs.Ids.{Id, id_eq}
 use Rattle.dura_value.specs.Messages.{Spot, Message}
-use Rattle.dura_value.proofs.Ids.{id_same, id_self, both_true}
+use Rattle.dura_value.proofs.Ids.{id_same, id_self}
 use Rattle.dura_model.specs.World.{at_link}
 use Rattle.run_laws.proofs.MessageKinds.{Kind, kind_of, is_lock, is_grant, is_release}
+use Rattle.std.proofs.lemmas.Bool.{and_parts}
 
 -- ---- cases
 
@@ -21,7 +22,7 @@ pub case_link : (a b : Id) (P : Id → Id → Type 0) → P a b → ((x y : Id) 
 case_link a b P here there x y = by (id_eq a x && id_eq b y) refl
   where
     by : (test : Bool) → id_eq a x && id_eq b y ≡ test → P x y
-    by true is = let parts = both_true (id_eq a x) (id_eq b y) is in subst (λ (p : Id). P p y) (id_same a x parts.0) (subst (P a) (id_same b y parts.1) here)
+    by true is = let parts = and_parts (id_eq a x) (id_eq b y) is in subst (λ (p : Id). P p y) (id_same a x parts.0) (subst (P a) (id_same b y parts.1) here)
     by false is = there x y is
 
 pub when_true : {X : Type 0} (test : Bool) (x y : X) → test ≡ true → cond test x y ≡ x

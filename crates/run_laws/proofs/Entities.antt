@@ -7,7 +7,8 @@ use Rattle.flow_syntax.specs.Syntax.{Block, Flows, class_of}
 use Rattle.flow_syntax.specs.Machine.{Section, outside, acquiring, inside}
 use Rattle.flow_syntax.specs.Entity.{Entity, Delivered, takes, answering, operated, operation_of, lock_goes_on}
 use Rattle.flow_syntax.specs.Entity.{deliver as deliver_to}
-use Rattle.dura_model.specs.World.{World, at_id, at_link}
+use Rattle.dura_model.specs.World.{World, at_link}
+use Rattle.dura_value.specs.ById.{at_id}
 use Rattle.dura_model.specs.Steps.{is_instance, entity_of, answered, to_client}
 use Rattle.dura_model.specs.Legal.{holder_of}
 use Rattle.run_laws.proofs.MessageKinds.{kind_of, is_other}

@@ -13,7 +13,7 @@ use Rattle.run_laws.proofs.Tallies.{first, among, named}
 
 -- ---- elements of a list
 
-nothing_in : {X : Type 0} (x : X) → Contains {X = X} [] x → ⊥
+pub nothing_in : {X : Type 0} (x : X) → Contains {X = X} [] x → ⊥
 nothing_in x has = let low = has.1 in omega (arith, low)
 
 here : {X : Type 0} (x : X) (xs : List X) → Contains (x ∷ xs) x
@@ -136,9 +136,6 @@ only_one {X = X} y x has = by (here_or_later y x [] has)
     by : (y ≡ x) ⊎ Contains {X = X} [] x → y ≡ x
     by (inl is) = is
     by (inr none) = absurd (nothing_in x none)
-
-pub none_there : {X : Type 0} (x : X) → Contains {X = X} [] x → ⊥
-none_there x has = nothing_in x has
 
 -- ---- sets
 

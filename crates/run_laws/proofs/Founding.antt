@@ -20,6 +20,7 @@ use Rattle.dura_model.proofs.Appending.{both_placed}
 use Rattle.run_rules.proofs.EntriesLead.{entries_lead}
 use Rattle.part_items.specs.Numbered.{Next, behind, IsNumbered}
 use Rattle.run_laws.specs.Leaves.{committed, committed_in}
+use Rattle.dura_value.proofs.Basics.{both_some}
 
 -- ---- the entry right before
 
@@ -68,10 +69,6 @@ Unnamed (entry ∷ entries) = (named_by entry.items ≡ []) × Unnamed entries
 unnamed_behind : (a b : List Entry) → Unnamed (a ++ b) → Unnamed b
 unnamed_behind [] b all = all
 unnamed_behind (entry ∷ a) b all = unnamed_behind a b all.1
-
-both_some : {X Y : Type 0} (o : Option X) (f : X → Option Y) (y : Y) → option_and_then f o ≡ Some y → (x : X) × (o ≡ Some x) × (f x ≡ Some y)
-both_some None f y is = absurd (cc is)
-both_some (Some x) f y is = (x, refl, is)
 
 module _ (flows : Flows) where
   items_unnamed : (items : List Item) (p q : Partition) → AreShown 1 (λ place. p) → 0 < p.position → all_accepted flows 1 p items ≡ Some q → named_by items ≡ []

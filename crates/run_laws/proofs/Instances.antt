@@ -3,7 +3,8 @@ use Rattle.std.proofs.Common.{◌≡◌, zero, Bool, true, false, List, [], ◌�
 use Rattle.dura_value.specs.Ids.{Id, id_eq}
 use Rattle.dura_value.specs.Messages.{Spot, at_spot, lock, release, Message}
 use Rattle.flow_syntax.specs.Machine.{Section, outside, acquiring, inside, releasing}
-use Rattle.dura_model.specs.World.{at_id, at_link}
+use Rattle.dura_model.specs.World.{at_link}
+use Rattle.dura_value.specs.ById.{at_id}
 use Rattle.dura_model.specs.Steps.{is_instance}
 use Rattle.run_laws.proofs.Does.{Does, rests, sends, enters, stalls, leaves, ends}
 use Rattle.run_laws.proofs.Moves.{lock_pushed}

@@ -5,7 +5,8 @@ use Rattle.dura_value.specs.Messages.{Spot, Body, start, raise, query, wait, res
 use Rattle.flow_syntax.specs.Syntax.{Flows}
 use Rattle.flow_syntax.specs.Machine.{Section, outside, acquiring, inside, Asked, an_activity, a_timer}
 use Rattle.flow_syntax.specs.Entity.{Entity}
-use Rattle.dura_model.specs.World.{World, Orchestration, at_id, at_link, at_number}
+use Rattle.dura_model.specs.World.{World, Orchestration, at_link}
+use Rattle.dura_value.specs.ById.{at_id, at_number}
 use Rattle.dura_model.specs.Deliveries.{Effect, to_instance, is_over}
 use Rattle.dura_model.specs.Steps.{sent, asked, given_up, stands_as, is_instance}
 use Rattle.dura_model.specs.Legal.{holder_of}
@@ -18,6 +19,7 @@ use Rattle.run_laws.proofs.Instances.{Placed, pushed, does_keeps}
 use Rattle.run_laws.proofs.Moves.{lock_found}
 use Rattle.run_laws.proofs.Releases.{release_named}
 use Rattle.run_laws.proofs.Tallies.{Place, quiet, locking, granting, is_entity, SoundLock, Sound, Tally, shifts_one, other_popped}
+use Rattle.dura_value.proofs.Basics.{some_same}
 
 -- an instance, and the place
 pub record Fits (id : Id) (o : Option Orchestration) (place : Place) : Type 0 where
@@ -80,9 +82,6 @@ stands_with w id e =
       entities_are = sends.entities_are ∙ asks.entities_are ∙ given.entities_are;
       links_are = sends.links_are ∙ ap (λ (l : Id → Id → List Message). pushed l e.sent) (asks.links_are ∙ given.links_are);
     }
-
-pub some_same : {X : Type 0} {x y : X} → Some x ≡ Some y → x ≡ y
-some_same is = cc
 
 pub guarded : (test : Bool) (x y : World) → cond test (Some x) None ≡ Some y → (test ≡ true) × (x ≡ y)
 guarded true x y is = (refl, some_same is)

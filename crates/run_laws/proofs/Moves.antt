@@ -3,11 +3,12 @@ use Rattle.std.proofs.Common.{◌≡◌, ◌&&◌, ◌+◌, inr, ℕ, Bool, true
 use Rattle.std.proofs.lemmas.List.{append-nil}
 use Rattle.dura_value.specs.Ids.{Id, id_eq}
 use Rattle.dura_value.specs.Messages.{Spot, Message}
-use Rattle.dura_value.proofs.Ids.{id_self, id_same, both_true}
+use Rattle.dura_value.proofs.Ids.{id_self, id_same}
 use Rattle.dura_model.specs.World.{at_link}
 use Rattle.run_laws.proofs.MessageKinds.{Kind, kind_of, is_lock}
 use Rattle.run_laws.proofs.Counts.{lock_of, case_id, when_true, when_false, Lock, locks_in, locks_of, where_link, count_link}
 use Rattle.run_laws.proofs.Tallies.{Place, quiet, locking, granting, first, held, locks_at, grants_at, SoundLock, Sound, among, named, Tally, Shifts, where_nothing, count_nothing, joined, parted}
+use Rattle.std.proofs.lemmas.Bool.{and_parts}
 
 -- ---- of lists and tests
 
@@ -92,7 +93,7 @@ found_at a b task set index rest (locking other_task other other_index from at) 
   where
     by : (test : Bool) → id_eq from a && id_eq at b ≡ test → lock_of task set index ∷ rest ≡ cond test (lock_of other_task other other_index ∷ []) [] → locking other_task other other_index from at ≡ locking task set index a b
     by true same is =
-        let parts = both_true (id_eq from a) (id_eq at b) same in
+        let parts = and_parts (id_eq from a) (id_eq at b) same in
         let one : lock_of task set index ≡ lock_of other_task other other_index = cc is in
         let from_a = id_same from a parts.0 in
         let at_b = id_same at b parts.1 in

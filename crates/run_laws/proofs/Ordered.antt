@@ -1,10 +1,10 @@
 -- The laws of sections, from the invariant.
 use Rattle.std.proofs.Common.{◌≡◌, ◌&&◌, ◌+◌, ◌<◌, ◌≤◌, ◌⊎◌, inl, inr, ℕ, Bool, true, false, cond, List, [], ◌∷◌, Option, Some, None, refl, sym, ap, subst, ◌∙◌, arith}
 use Rattle.std.specs.List.{Contains}
-use Rattle.std.proofs.lemmas.Bool.{cases_lt}
+use Rattle.std.proofs.lemmas.Bool.{cases_lt, and_parts}
 use Rattle.dura_value.specs.Ids.{Id, id_eq}
 use Rattle.dura_value.specs.Messages.{Spot, at_spot, spot_before, Message}
-use Rattle.dura_value.proofs.Ids.{id_self, id_same, both_true}
+use Rattle.dura_value.proofs.Ids.{id_self, id_same}
 use Rattle.flow_syntax.specs.Syntax.{Flows}
 use Rattle.flow_syntax.specs.Machine.{Section, outside, acquiring, inside, Progress, unborn, running, done, failed}
 use Rattle.dura_model.specs.World.{World, Orchestration}
@@ -14,16 +14,14 @@ use Rattle.dura_model.specs.Legal.{Legal, Inside, Overlap, holder_of, Releases, 
 use Rattle.run_laws.specs.Causes.{RunsInside, Because, is_inside, is_acquiring, is_granted, is_leaving}
 use Rattle.run_laws.proofs.Counts.{lock_of, Lock, releases, locks_of, grants_of, when_true, link_self}
 use Rattle.run_laws.proofs.Does.{IsSettled}
-use Rattle.run_laws.proofs.Found.{release_stands, grant_stands, lock_stands, lock_counted, only_one, none_there, contains_among, among_contains, first_place, first_before, named_one, counts_one}
+use Rattle.run_laws.proofs.Found.{release_stands, grant_stands, lock_stands, lock_counted, only_one, contains_among, among_contains, first_place, first_before, named_one, counts_one, nothing_in}
 use Rattle.run_laws.proofs.Instances.{Placed}
 use Rattle.run_laws.proofs.Keeps.{Fits, Keeps, holders}
 use Rattle.run_laws.proofs.Order.{spot_trans, spot_not_self}
 use Rattle.run_laws.proofs.Programs.{is_unborn}
 use Rattle.run_laws.proofs.Runs.{legal_keeps}
 use Rattle.run_laws.proofs.Tallies.{Place, quiet, locking, granting, first, held, locks_at, grants_at, Sound, SoundLock, Tally, among, named}
-
-some_same : {X : Type 0} {x y : X} → Some x ≡ Some y → x ≡ y
-some_same is = cc
+use Rattle.dura_value.proofs.Basics.{some_same}
 
 module _ (w : World) (keeps : Keeps w) where
   abbrev tally : Tally keeps.places w.links (holders w.entities)
@@ -53,13 +51,13 @@ module _ (w : World) (keeps : Keeps w) where
   -- ---- the order of waits
 
   place_found : (id : Id) (task : ℕ) (set : List Spot) (index : ℕ) (from at : Id) (place : Place) → Contains (locks_at place from at) (lock_of task set index) → place ≡ locking task set index from at
-  place_found id task set index from at (quiet held) has = absurd (none_there (lock_of task set index) has)
-  place_found id task set index from at (granting asked wanted a) has = absurd (none_there (lock_of task set index) has)
+  place_found id task set index from at (quiet held) has = absurd (nothing_in (lock_of task set index) has)
+  place_found id task set index from at (granting asked wanted a) has = absurd (nothing_in (lock_of task set index) has)
   place_found id task set index from at (locking asked wanted place a b) has = by (id_eq a from && id_eq b at) refl has
     where
       by : (test : Bool) → id_eq a from && id_eq b at ≡ test → Contains (cond test (lock_of asked wanted place ∷ []) []) (lock_of task set index) → locking asked wanted place a b ≡ locking task set index from at
       by true same has =
-          let parts = both_true (id_eq a from) (id_eq b at) same in
+          let parts = and_parts (id_eq a from) (id_eq b at) same in
           let it = only_one (lock_of asked wanted place) (lock_of task set index) has in
           let x = id_same a from parts.0 in
           let y = id_same b at parts.1 in
@@ -67,7 +65,7 @@ module _ (w : World) (keeps : Keeps w) where
           let s = ap (λ (l : Lock). l.set) it in
           let i = ap (λ (l : Lock). l.index) it in
           cc (x, y, t, s, i)
-      by false apart has = absurd (none_there (lock_of task set index) has)
+      by false apart has = absurd (nothing_in (lock_of task set index) has)
 
   waits_place : (id : Id) (spot : Spot) (waits : Waits w id spot) → keeps.places id ≡ locking waits.task waits.set waits.index waits.from (at_spot spot)
   waits_place id spot waits =
@@ -193,7 +191,7 @@ module _ (w : World) (keeps : Keeps w) where
       by (inr releases_it) = is_leaving releases_it
 
   nothing_stands : ((from to : Id) → w.links from to ≡ []) → (from to : Id) (message : Message) → Contains (w.links from to) message → ⊥
-  nothing_stands none from to message has = none_there message (subst (λ (l : List Message). Contains l message) (none from to) has)
+  nothing_stands none from to message has = nothing_in message (subst (λ (l : List Message). Contains l message) (none from to) has)
 
   runs_inside : ((from to : Id) → w.links from to ≡ []) → (id : Id) (spot : Spot) → Because w id spot → RunsInside w id spot
   runs_inside none id spot (is_inside has) = has

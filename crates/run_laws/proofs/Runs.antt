@@ -6,21 +6,23 @@ use Rattle.activity_table.specs.Table.{may}
 use Rattle.dura_value.specs.declared.outcome.Outcome.{Outcome}
 use Rattle.dura_value.specs.Ids.{Id, orchestration, entity, client, id_eq}
 use Rattle.dura_value.specs.Messages.{Body, start, raise, query, wait, result, operate, lock, granted, release, Message}
-use Rattle.dura_value.proofs.Ids.{both_true}
 use Rattle.flow_syntax.specs.Syntax.{Flows}
 use Rattle.flow_syntax.specs.Machine.{resulted, fired, Event}
 use Rattle.flow_syntax.specs.Entity.{takes}
 use Rattle.flow_syntax.specs.Entity.{deliver as deliver_to}
-use Rattle.dura_model.specs.World.{World, Orchestration, Activity, empty, at_id, at_link, at_number}
+use Rattle.dura_model.specs.World.{World, Orchestration, Activity, empty, at_link}
+use Rattle.dura_value.specs.ById.{at_id, at_number}
 use Rattle.dura_model.specs.Deliveries.{to_instance, goes_on_from, is_over}
 use Rattle.dura_model.specs.Steps.{Label, take, deliver, finish, fire, sent, stands_as, is_client, is_asking, number_in, is_number, is_request, taken, last_of, entity_of, entity_stands, to_entity, to_client, received, delivered, answer_of, finished, timed, step}
 use Rattle.dura_model.specs.Legal.{Legal, after_from}
 use Rattle.run_laws.proofs.MessageKinds.{kind_of, is_other}
 use Rattle.run_laws.proofs.Effects.{event_behaves}
 use Rattle.run_laws.proofs.Entities.{entity_holder, reaches, client_told, client_with}
-use Rattle.run_laws.proofs.Keeps.{Fits, Keeps, With, holders, keeps_with, sent_with, stands_with, guarded, some_same, instance_keeps, arrives}
+use Rattle.run_laws.proofs.Keeps.{Fits, Keeps, With, holders, keeps_with, sent_with, stands_with, guarded, instance_keeps, arrives}
 use Rattle.run_laws.proofs.Programs.{is_grant}
 use Rattle.run_laws.proofs.Tallies.{quiet, other_pushed}
+use Rattle.std.proofs.lemmas.Bool.{and_parts}
+use Rattle.dura_value.proofs.Basics.{some_same}
 
 -- ---- requests
 
@@ -37,9 +39,9 @@ asking_plain release to is = absurd (cc is)
 
 request_plain : (who : Id) (number : ℕ) (message : Message) → is_request who number message ≡ true → kind_of message.body ≡ is_other
 request_plain who number message is =
-    let parts = both_true (is_client who) (id_eq message.from who && (is_asking message.body message.to && (number_in message.body == number && is_number number))) is in
-    let more = both_true (id_eq message.from who) (is_asking message.body message.to && (number_in message.body == number && is_number number)) parts.1 in
-    asking_plain message.body message.to (both_true (is_asking message.body message.to) (number_in message.body == number && is_number number) more.1).0
+    let parts = and_parts (is_client who) (id_eq message.from who && (is_asking message.body message.to && (number_in message.body == number && is_number number))) is in
+    let more = and_parts (id_eq message.from who) (is_asking message.body message.to && (number_in message.body == number && is_number number)) parts.1 in
+    asking_plain message.body message.to (and_parts (is_asking message.body message.to) (number_in message.body == number && is_number number) more.1).0
 
 allowed : (test : Bool) (x : Option World) (y : World) → cond test x None ≡ Some y → (test ≡ true) × (x ≡ Some y)
 allowed true x y is = (refl, is)
@@ -77,7 +79,7 @@ module _ (flows : Flows) where
       let e = entity_of flows class (w.entities to) in
       let d = deliver_to flows (record e { last = stamp }) class from to message.body in
       let guard = guarded (takes e.holder from && nat_le e.last stamp) (entity_stands v to d) next is in
-      let lets = both_true (takes e.holder from) (nat_le e.last stamp) guard.0 in
+      let lets = and_parts (takes e.holder from) (nat_le e.last stamp) guard.0 in
       let has = sent_with (record v { entities = at_id w.entities to (Some d.entity) }) d.sent in
       subst Keeps guard.1
       (keeps_with w.orchestrations (at_id w.entities to (Some d.entity)) _ (entity_stands v to d) (record { instances_are = has.instances_are; entities_are = has.entities_are; links_are = has.links_are })

@@ -4,7 +4,8 @@ use Rattle.std.proofs.lemmas.List.{append-nil}
 use Rattle.dura_value.specs.Ids.{Id, entity, id_eq}
 use Rattle.dura_value.specs.Messages.{Spot, at_spot, entity_at, Message}
 use Rattle.dura_value.proofs.Ids.{id_self}
-use Rattle.dura_model.specs.World.{at_id, at_link}
+use Rattle.dura_model.specs.World.{at_link}
+use Rattle.dura_value.specs.ById.{at_id}
 use Rattle.dura_model.specs.Steps.{is_instance}
 use Rattle.run_laws.proofs.MessageKinds.{Kind, kind_of, is_other}
 use Rattle.run_laws.proofs.Counts.{when_true, when_false, Lock, locks_in, grants_in, releases_in, locks_of, grants_of, releases, behind, where_link, count_link, pushed_one, locks_pushed, grants_pushed, releases_pushed, behind_pushed, locks_popped, grants_popped, releases_popped, behind_popped}

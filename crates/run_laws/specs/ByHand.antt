@@ -5,7 +5,8 @@ use Rattle.dura_value.specs.Ids.{Id, orchestration}
 use Rattle.dura_value.specs.Messages.{Spot, at_spot, lock, Message}
 use Rattle.flow_syntax.specs.Machine.{Section, inside, running, new_machine, spot_of}
 use Rattle.flow_syntax.specs.Entity.{Entity}
-use Rattle.dura_model.specs.World.{World, Orchestration, empty, at_id, at_link}
+use Rattle.dura_model.specs.World.{World, Orchestration, empty, at_link}
+use Rattle.dura_value.specs.ById.{at_id}
 
 abbrev pub one : Id
 one = orchestration (codes "F") (codes "one")

@@ -16,11 +16,7 @@ use Rattle.run_rules.specs.Stands.{state_next}
 use Rattle.dura_model.specs.Entries.{all_accepted, entry_accepted, placed, and_label, labels_of, labels_in, AreGiven, AllGiven, shown_by}
 use Rattle.dura_model.proofs.Appending.{both_placed}
 use Rattle.dura_model.proofs.Alone.{home_alone, shown_alone, are_shown_alone, IsStep, accepted_is_step}
-
--- both steps of two were made
-both_some : {X Y : Type 0} (o : Option X) (f : X → Option Y) (y : Y) → option_and_then f o ≡ Some y → (x : X) × (o ≡ Some x) × (f x ≡ Some y)
-both_some None f y is = absurd (cc is)
-both_some (Some x) f y is = (x, refl, is)
+use Rattle.dura_value.proofs.Basics.{both_some}
 
 module _ (flows : Flows) where
   -- one run behind another

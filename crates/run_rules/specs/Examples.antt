@@ -1,7 +1,7 @@
 -- What a call may commit and say, by example.
 use Rattle.std.specs.Prelude.{ℕ, [], ◌∷◌, codes, Some}
 use Rattle.dura_model.specs.Partition.{Partition, fresh}
-use Rattle.dura_model.specs.World.{at_number}
+use Rattle.dura_value.specs.ById.{at_number}
 use Rattle.dura_value.specs.Ids.{Id, client, orchestration}
 use Rattle.dura_value.specs.Items.{Entry, ended}
 use Rattle.dura_value.specs.Messages.{Message, wait, was_started}

@@ -1,7 +1,7 @@
 -- What each fact about entries and lines keeps out, by example.
 use Rattle.std.specs.Prelude.{ℕ, pos, [], ◌∷◌, codes, Some}
 use Rattle.dura_model.specs.Partition.{Partition}
-use Rattle.dura_model.specs.World.{at_id, at_number}
+use Rattle.dura_value.specs.ById.{at_id, at_number}
 use Rattle.dura_value.specs.Ids.{client}
 use Rattle.dura_value.specs.Items.{Entry, took, ran, ended, fired}
 use Rattle.dura_value.specs.Messages.{Message, start, to_request, was_started}

@@ -2,10 +2,10 @@
 use Rattle.std.proofs.Common.{◌≡◌, ◌≢◌, inl, inr, ℕ, zero, suc, ◌+◌, ◌*◌, ◌<◌, ◌≤◌, List, [], ◌∷◌, ◌++◌, length, sym, refl, ◌∙◌, ap, arith}
 use Rattle.std.proofs.lemmas.Bool.{cases_eq}
 use Rattle.std.proofs.lemmas.List.{append-nil, drop_all}
-use Rattle.site_model.specs.History.{Change, on, wrote, synced, put, reads, changes_of, content_of}
+use Rattle.site_model.specs.History.{Change, on, wrote, synced, put, reads, changes_of, content_of, AllInside}
 use Rattle.site_model.proofs.Paths.{own_change, other_change}
 use Rattle.site_calls.specs.Events.{held_below, start_of}
-use Rattle.site_calls.proofs.Inside.{AllInside, inside_wrote, inside_synced}
+use Rattle.site_calls.proofs.Inside.{inside_wrote, inside_synced}
 
 length-held_below : (n : ℕ) (files : ℕ → List ℕ) → length (held_below n files) ≡ 2 * n
 unfolding held_below
@@ -27,7 +27,7 @@ pub inside_start_of : (files : ℕ → List ℕ) → AllInside (start_of files)
 unfolding start_of
 inside_start_of files = inside_held_below 144 files
 
-changes_one_more : (n : ℕ) (files : ℕ → List ℕ) (file : ℕ) → file ≢ n → changes_of file (held_below (suc n) files) ≡ changes_of file (held_below n files)
+pub changes_one_more : (n : ℕ) (files : ℕ → List ℕ) (file : ℕ) → file ≢ n → changes_of file (held_below (suc n) files) ≡ changes_of file (held_below n files)
 unfolding held_below
 changes_one_more n files file apart =
     other_change file n synced (on n (wrote 0 (length (files n)) (files n)) ∷ held_below n files) apart

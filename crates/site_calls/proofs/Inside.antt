@@ -1,27 +1,15 @@
 -- Each write of each file began inside it.
 use Rattle.std.proofs.Common.{◌≡◌, inl, inr, ℕ, ◌≤◌, Bool, true, ◌&&◌, List, ◌∷◌, length, ◌∙◌, ap}
 use Rattle.std.proofs.lemmas.Bool.{cases_eq, le-leb}
-use Rattle.site_model.specs.History.{Step, Change, on, wrote, synced, changes_of, content_of, writes_inside, saying}
-use Rattle.site_model.proofs.Paths.{own_change, other_change}
+use Rattle.site_model.specs.History.{Step, Change, on, wrote, synced, changes_of, content_of, writes_inside, saying, AllInside}
+use Rattle.site_model.proofs.Paths.{own_change, other_change, inside_on, and_true}
 use Rattle.site_model.proofs.Tape.{changes_of-saying}
-
-abbrev pub AllInside : List Step → Type 0
-AllInside steps = (file : ℕ) → writes_inside (changes_of file steps) ≡ true
-
-both : {a b : Bool} → a ≡ true → b ≡ true → (a && b) ≡ true
-both {b = b} p q = ap (λ x. x && b) p ∙ q
-
-inside_on : (file : ℕ) (change : Change) (steps : List Step) → AllInside steps → writes_inside (change ∷ changes_of file steps) ≡ true → AllInside (on file change ∷ steps)
-inside_on file change steps before here other = elim (cases_eq other file) [
-  | inl is ↦ ap (λ (f : ℕ). writes_inside (changes_of f (on file change ∷ steps))) is ∙ ap writes_inside (own_change file change steps) ∙ here
-  | inr apart ↦ ap writes_inside (other_change other file change steps apart) ∙ before other
-]
 
 pub inside_wrote : (file at size : ℕ) (bytes : List ℕ) (steps : List Step) → at ≤ length (content_of file steps) → length bytes ≤ size
     → AllInside steps → AllInside (on file (wrote at size bytes) ∷ steps)
 inside_wrote file at size bytes steps within fits before =
     inside_on file (wrote at size bytes) steps before
-    (both (both (le-leb at (length (content_of file steps)) within) (le-leb (length bytes) size fits)) (before file))
+    (and_true (and_true (le-leb at (length (content_of file steps)) within) (le-leb (length bytes) size fits)) (before file))
 
 pub inside_synced : (file : ℕ) (steps : List Step) → AllInside steps → AllInside (on file synced ∷ steps)
 inside_synced file steps before = inside_on file synced steps before (before file)

@@ -2,10 +2,10 @@
 use Rattle.std.proofs.Common.{◌≡◌, inl, inr, ℕ, ◌^◌, ◌<◌, ◌≤◌, List, length, take, Result, Ok, Err, sym, ap, subst, arith}
 use Rattle.std.specs.Prelude.{IfOk, MatchResult}
 use Rattle.std.proofs.lemmas.Result.{IfOk-at_ok, MatchResult-at_ok}
-use Rattle.site_model.specs.History.{Step, content_of}
+use Rattle.site_model.specs.History.{Step, content_of, AllInside}
 use Rattle.site_model.specs.Calls.{Writes, Syncs, Says}
 use Rattle.site_calls.specs.Events.{Event, Unseen, replay, IsHonest, Tells}
-use Rattle.site_calls.proofs.Inside.{AllInside, inside_wrote, inside_synced, inside_said}
+use Rattle.site_calls.proofs.Inside.{inside_wrote, inside_synced, inside_said}
 use Rattle.site_calls.proofs.PrintInParts.{length-saying}
 
 -- what tells now told before, where no steps were lost

@@ -2,11 +2,11 @@
 use Rattle.std.proofs.Common.{◌≡◌, inl, inr, ℕ, ◌+◌, ◌-◌, ◌<◌, ◌≤◌, Bool, true, ◌&&◌, List, [], ◌∷◌, ◌++◌, length, take, drop, get_or, refl, sym, ◌∙◌, ap, arith}
 use Rattle.std.proofs.lemmas.Bool.{cases_eq, le-leb}
 use Rattle.std.proofs.lemmas.List.{take_more, take-append-drop, drop_more, drop-drop}
-use Rattle.site_model.specs.History.{Step, Change, on, said, wrote, synced, changes_of, content_of, writes_inside, saying, tape, back_to}
-use Rattle.site_model.proofs.Paths.{own_change, other_change}
+use Rattle.site_model.specs.History.{Step, Change, on, said, wrote, synced, changes_of, content_of, writes_inside, saying, tape, back_to, AllInside}
+use Rattle.site_model.proofs.Paths.{own_change, other_change, inside_on, and_true}
 use Rattle.site_memory.specs.declared.kept.Kept.{Kept}
 use Rattle.site_memory.specs.declared.kept.Kept.TheVariants.{Wrote, Byte, Synced, Said}
-use Rattle.site_memory.specs.Record.{AllInside, grown, next, replayed, history_of}
+use Rattle.site_memory.specs.Record.{grown, next, replayed, history_of}
 
 replayed_push : (entries : List Kept) (entry : Kept) (steps : List Step) → replayed (entries ++ entry ∷ []) steps ≡ next entry (replayed entries steps)
 replayed_push [] entry steps = refl
@@ -39,22 +39,13 @@ pub changes_saying : (file : ℕ) (line : List ℕ) (steps : List Step) → chan
 changes_saying file [] steps = refl
 changes_saying file (byte ∷ line) steps = changes_saying file line (said byte ∷ steps)
 
-pub both : {a b : Bool} → a ≡ true → b ≡ true → (a && b) ≡ true
-both {b = b} p q = ap (λ x. x && b) p ∙ q
-
-pub inside_on : (file : ℕ) (change : Change) (steps : List Step) → AllInside steps → writes_inside (change ∷ changes_of file steps) ≡ true → AllInside (on file change ∷ steps)
-inside_on file change steps before here other = elim (cases_eq other file) [
-  | inl is ↦ ap (λ (f : ℕ). writes_inside (changes_of f (on file change ∷ steps))) is ∙ ap writes_inside (own_change file change steps) ∙ here
-  | inr apart ↦ ap writes_inside (other_change other file change steps apart) ∙ before other
-]
-
 pub inside_wrote : (entries : List Kept) (file at size : ℕ) (bytes : List ℕ) (steps : List Step)
     → history_of entries ≡ on file (wrote at size bytes) ∷ steps
     → AllInside steps → at ≤ length (content_of file steps) → length bytes ≤ size → AllInside (history_of entries)
 inside_wrote entries file at size bytes steps is before within fits other =
     ap (λ (s : List Step). writes_inside (changes_of other s)) is
     ∙ inside_on file (wrote at size bytes) steps before
-    (both (both (le-leb at (length (content_of file steps)) within) (le-leb (length bytes) size fits)) (before file)) other
+    (and_true (and_true (le-leb at (length (content_of file steps)) within) (le-leb (length bytes) size fits)) (before file)) other
 
 pub inside_synced : (entries : List Kept) (file : ℕ) (steps : List Step) → history_of entries ≡ on file synced ∷ steps → AllInside steps → AllInside (history_of entries)
 inside_synced entries file steps is before other =

@@ -5,18 +5,12 @@ use Rattle.std.proofs.lemmas.Grind.{same_number_lists}
 use Rattle.std.proofs.lemmas.List.{drop_all, drop_at, take_min, take_at, take_all, length-replicate, get_or-replicate, get_or_append_left, get_or-append_right, get_or-take, get_or-drop}
 use Rattle.site_model.specs.History.{Step, Change, on, said, wrote, synced, changes_of, Torn, Leaves, writes_inside}
 use Rattle.site_model.proofs.Paths.{own_change, other_change}
-use Rattle.site_model.proofs.Images.{reads_is_image}
+use Rattle.site_model.proofs.Images.{reads_is_image, torn_as_it_was}
 use Rattle.site_memory.specs.declared.pick.Pick.{Pick}
 use Rattle.site_memory.specs.declared.pick.Pick.TheVariants.{Stable, All, Torn as Filled}
 use Rattle.site_memory.specs.Record.{grown}
 use Rattle.site_memory.specs.Picked.{filled, after_write, torn, picked}
 
-torn_as_it_was : (at size : ℕ) (old : List ℕ) → Torn at size old old
-torn_as_it_was at size old = record {
-  before = take_min at old;
-  behind = ap (λ (l : List ℕ). drop (at + size) l) (take_all (length old) old (omega arith));
-  no_shorter = omega arith;
-  no_longer = omega arith;
 }
 
 length-front : (byte at end : ℕ) (old : List ℕ) → at ≤ end → length (take at old ++ replicate (end - min at (length old)) byte) ≡ end

@@ -2,14 +2,14 @@
 use Rattle.std.proofs.Common.{◌≡◌, ◌≢◌, ◌==◌, inl, inr, ℕ, zero, suc, ◌+◌, ◌<◌, Bool, true, false, cond, List, [], ◌∷◌, ◌++◌, length, drop, refl, sym, ◌∙◌, ap, subst, arith, append_assoc}
 use Rattle.std.proofs.lemmas.Bool.{cases_eq, and_parts, le-leb}
 use Rattle.std.proofs.lemmas.List.{nil_from_length, append-nil, drop_all}
-use Rattle.site_model.specs.History.{Step, Change, on, said, wrote, synced, changes_of, reads, content_of, put, Leaves, IsImage, writes_inside, saying, tape, IsKept}
-use Rattle.site_model.proofs.Paths.{own_change, other_change}
-use Rattle.site_memory.specs.Record.{AllInside, grown}
+use Rattle.site_model.specs.History.{Step, Change, on, said, wrote, synced, changes_of, reads, content_of, put, Leaves, IsImage, writes_inside, saying, tape, IsKept, AllInside}
+use Rattle.site_model.proofs.Paths.{own_change, other_change, inside_on, and_true}
+use Rattle.site_memory.specs.Record.{grown}
 use Rattle.site_memory.specs.Picked.{picked}
 use Rattle.site_memory.specs.declared.pick.Pick.{Pick}
 use Rattle.site_memory.specs.declared.pick.Pick.TheVariants.{Stable, All, Torn}
 use Rattle.site_memory.specs.Start.{IsStart}
-use Rattle.site_memory.proofs.History.{changes_saying, inside_on, both}
+use Rattle.site_memory.proofs.History.{changes_saying}
 use Rattle.site_memory.proofs.Picked.{picked_leaves}
 
 -- the start
@@ -72,7 +72,7 @@ inside_started : (file : ℕ) (bytes : List ℕ) (new : List Step) → AllInside
 inside_started file bytes new inside =
     let written : AllInside (on file (wrote 0 (length bytes) bytes) ∷ new) =
     inside_on file (wrote 0 (length bytes) bytes) new inside
-    (both (both (le-leb 0 (length (content_of file new)) (omega arith)) (le-leb (length bytes) (length bytes) (omega arith))) (inside file)) in
+    (and_true (and_true (le-leb 0 (length (content_of file new)) (omega arith)) (le-leb (length bytes) (length bytes) (omega arith))) (inside file)) in
     inside_on file synced (on file (wrote 0 (length bytes) bytes) ∷ new) written (written file)
 
 kept_started : (file : ℕ) (bytes : List ℕ) (new : List Step) → ((other : ℕ) → IsKept (changes_of other new))

@@ -24,7 +24,3 @@ replayed (entry ∷ entries) steps = replayed entries (next entry steps)
 -- the history that a record says
 unfoldable pub history_of : List Kept → List Step
 history_of entries = replayed entries []
-
--- each write of each file began inside it
-abbrev pub AllInside : List Step → Type 0
-AllInside steps = (file : ℕ) → writes_inside (changes_of file steps) ≡ true

@@ -1,8 +1,8 @@
 // The start of a site from what a crash leaves of another.
 ghost use Rattle.std.specs.Prelude.{◌≡◌, ◌≤◌, ◌∷◌, ℕ, List, length, take, IfOk, OnOk};
-ghost use Rattle.site_model.specs.History.{Step, Change, IsImage, IsKept, on, wrote, synced, changes_of, content_of, back_to, saying, tape};
+ghost use Rattle.site_model.specs.History.{Step, Change, IsImage, IsKept, on, wrote, synced, changes_of, content_of, back_to, saying, tape, AllInside};
 ghost use Rattle.site_memory.specs.Picked.{picked};
-ghost use Rattle.site_memory.specs.Record.{AllInside, history_of, next};
+ghost use Rattle.site_memory.specs.Record.{history_of, next};
 ghost use Rattle.site_memory.specs.Start.{IsStart};
 
 use crate::pick::picked_in;

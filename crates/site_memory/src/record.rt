@@ -1,8 +1,8 @@
 // The record of what was kept, with the room that is left for more.
 ghost use Rattle.std.specs.Prelude.{◌≡◌, true, ◌⊎◌, ◌+◌, ◌<◌, ◌≤◌, ℕ, List, [], ◌∷◌, length, IfOk, OnOk, OnErr, vec_len, vec_capacity};
 ghost use Rattle.std.proofs.Props.{props};
-ghost use Rattle.site_model.specs.History.{Step, on, wrote, synced, changes_of, content_of, writes_inside, saying};
-ghost use Rattle.site_memory.specs.Record.{AllInside, history_of};
+ghost use Rattle.site_model.specs.History.{Step, on, wrote, synced, changes_of, content_of, writes_inside, saying, AllInside};
+ghost use Rattle.site_memory.specs.Record.{history_of};
 
 use crate::Kept;
 use site_model::Failed;

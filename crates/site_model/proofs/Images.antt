@@ -2,8 +2,17 @@
 use Rattle.std.proofs.Common.{◌≡◌, inl, inr, true, ◌&&◌, nat_le, ℕ, ◌+◌, ◌≤◌, min, max, List, [], ◌∷◌, ◌++◌, length, take, drop, refl, sym, ◌∙◌, ap, arith, length-append, length-take, length-drop, append_assoc}
 use Rattle.std.proofs.lemmas.Bool.{and_parts, leb-true, cases_lt}
 use Rattle.std.proofs.lemmas.Slice.{drop-append-drop}
-use Rattle.std.proofs.lemmas.List.{take-take, take_at, take_all, drop_all}
+use Rattle.std.proofs.lemmas.List.{take-take, take_min, take_at, take_all, drop_all}
 use Rattle.site_model.specs.History.{Change, wrote, synced, put, reads, Torn, Leaves, writes_inside}
+
+-- a write may leave all as it was
+pub torn_as_it_was : (at size : ℕ) (old : List ℕ) → Torn at size old old
+torn_as_it_was at size old = record {
+  before = take_min at old;
+  behind = ap (λ (l : List ℕ). drop (at + size) l) (take_all (length old) old (omega arith));
+  no_shorter = omega arith;
+  no_longer = omega arith;
+}
 
 -- what stands before the range stays
 pub torn_front : (n at size : ℕ) (old new : List ℕ) → n ≤ at → n ≤ length old → Torn at size old new → take n new ≡ take n old

@@ -1,7 +1,7 @@
 -- Claims on every moment between two histories: how they are joined, weakened and read.
-use Rattle.std.proofs.Common.{◌≡◌, ◌≢◌, ◌⊎◌, inl, inr, ℕ, suc, ◌-◌, ◌≤◌, List, ◌∷◌, length, drop, refl, sym, ◌∙◌, ap, subst, arith, cond}
+use Rattle.std.proofs.Common.{◌≡◌, ◌≢◌, ◌⊎◌, inl, inr, ℕ, suc, ◌-◌, ◌≤◌, Bool, true, ◌&&◌, List, ◌∷◌, length, drop, refl, sym, ◌∙◌, ap, subst, arith, cond}
 use Rattle.std.proofs.lemmas.Bool.{eq-eqb, ne_eqb, cases_eq}
-use Rattle.site_model.specs.History.{Step, Change, on, changes_of, Leaves, back_to}
+use Rattle.site_model.specs.History.{Step, Change, on, changes_of, writes_inside, AllInside, Leaves, back_to}
 use Rattle.site_model.specs.Moments.{Always, OnlyFile, LeavesOnly}
 use Rattle.site_model.specs.Moments.Always.{begins, goes_on}
 
@@ -12,6 +12,16 @@ own_change file change steps = ap (λ b. cond b (change ∷ changes_of file step
 -- and no change of another
 pub other_change : (other file : ℕ) (change : Change) (steps : List Step) → other ≢ file → changes_of other (on file change ∷ steps) ≡ changes_of other steps
 other_change other file change steps apart = ap (λ b. cond b (change ∷ changes_of other steps) (changes_of other steps)) (ne_eqb other file apart)
+
+pub and_true : {a b : Bool} → a ≡ true → b ≡ true → (a && b) ≡ true
+and_true {b = b} p q = ap (λ x. x && b) p ∙ q
+
+-- one more change that began inside its file
+pub inside_on : (file : ℕ) (change : Change) (steps : List Step) → AllInside steps → writes_inside (change ∷ changes_of file steps) ≡ true → AllInside (on file change ∷ steps)
+inside_on file change steps before here other = elim (cases_eq other file) [
+  | inl is ↦ ap (λ (f : ℕ). writes_inside (changes_of f (on file change ∷ steps))) is ∙ ap writes_inside (own_change file change steps) ∙ here
+  | inr apart ↦ ap writes_inside (other_change other file change steps apart) ∙ before other
+]
 
 pub first : {P : List Step → Type 0} {old new : List Step} → Always P old new → P old
 first (begins here) = here

@@ -62,6 +62,10 @@ writes_inside [] = true
 writes_inside (wrote at size bytes ∷ changes) = nat_le at (length (reads changes)) && nat_le (length bytes) size && writes_inside changes
 writes_inside (synced ∷ changes) = writes_inside changes
 
+-- and so did each write of each file
+abbrev pub AllInside : List Step → Type 0
+AllInside steps = (file : ℕ) → writes_inside (changes_of file steps) ≡ true
+
 -- what has been said, the oldest byte first
 abbrev pub tape : List Step → List ℕ
 tape [] = []

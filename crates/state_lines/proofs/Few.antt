@@ -2,7 +2,7 @@
 use Rattle.std.proofs.Common.{◌≡◌, Bool, true, false, [], ◌∷◌, ◌++◌, codes, Some, None, is_some, cond, refl, sym, subst}
 use Rattle.std.specs.Fmt.{digits}
 use Rattle.dura_model.specs.Partition.{fresh}
-use Rattle.dura_model.specs.World.{at_id}
+use Rattle.dura_value.specs.ById.{at_id}
 use Rattle.dura_value.specs.Ids.{Id, id_eq}
 use Rattle.dura_value.proofs.Ids.{id_same}
 use Rattle.flow_syntax.specs.Syntax.{Flows}

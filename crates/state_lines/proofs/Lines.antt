@@ -25,9 +25,6 @@ said_part line old new result call = record {
 pub nothing_said : (line before : List ℕ) → SaysPart line Memory before before
 nothing_said line before = record { part = []; rest = line; said = sym (append-nil before); front = refl; whole = λ is. refl }
 
-pub no_file : {T E : Type 0} (line : List ℕ) (old new : List Step) (result : Result T E) → Says line old new result → (file : ℕ) → changes_of file new ≡ changes_of file old
-no_file line old new result call file = ap (changes_of file) call.steps ∙ changes_of-saying file (take call.count line) old
-
 -- where the error is that of memory, what holds at it holds of the result
 pub by_memory : {T : Type 0} (result : Result T ShowError) (P : ShowError → Type 0) → IsErrAnd result (λ error. error ≡ Memory) → P Memory → IfErr result P
 by_memory (Ok value) P is holds = tt

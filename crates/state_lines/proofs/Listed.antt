@@ -14,6 +14,7 @@ use Rattle.id_maps.specs.Order.{is_behind, is_no_later, IsNextBehind, NoneBehind
 use Rattle.state_lines.specs.Table.{last_of, AreNext, AreAll}
 use Rattle.state_lines.proofs.Behind.{count_behind, fewer, same_key, at_itself}
 use Rattle.state_lines.proofs.Order.{no_later_trans, no_later_itself}
+use Rattle.dura_value.proofs.Basics.{true_or_false}
 
 no_later_either : (o : Ordering) → (is_le o ≡ true) ⊎ (is_le (ordering_reverse o) ≡ true)
 no_later_either Less = inl refl
@@ -26,10 +27,6 @@ in_order a b = elim (no_later_either (id_cmp (key_of a) (key_of b))) [
   | inl first ↦ inl first
   | inr second ↦ inr (ap is_le (total-law.antisymm (key_of b) (key_of a)) ∙ second)
 ]
-
-either : (b : Bool) → (b ≡ true) ⊎ (b ≡ false)
-either true = inl refl
-either false = inr refl
 
 module _ {X : Type 0} where
   -- whether one of these entries has the id
@@ -103,7 +100,7 @@ module _ {X : Type 0} where
 
     next_or_none : (entries : List (Id × X)) → NextOrNone entries
     next_or_none [] = inr (λ id there after. cc there)
-    next_or_none (e ∷ entries) = elim (either (is_behind last (id_of e.0))) [
+    next_or_none (e ∷ entries) = elim (true_or_false (is_behind last (id_of e.0))) [
       | inl behind ↦ with_behind e entries behind (next_or_none entries)
       | inr before ↦ with_before e entries before (next_or_none entries)
     ]

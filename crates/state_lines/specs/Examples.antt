@@ -1,7 +1,7 @@
 -- Tables, by example.
 use Rattle.std.specs.Prelude.{[], ◌∷◌, codes, Some, None, pos}
 use Rattle.dura_model.specs.Partition.{Partition, Row, fresh}
-use Rattle.dura_model.specs.World.{at_id}
+use Rattle.dura_value.specs.ById.{at_id}
 use Rattle.dura_value.specs.Ids.{Id, entity, orchestration}
 use Rattle.dura_value.specs.declared.data.Value.TheVariants as values
 use Rattle.flow_syntax.specs.Entity.{Entity}

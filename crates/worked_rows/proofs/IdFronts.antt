@@ -1,13 +1,13 @@
 -- How far bytes begin an id.
 use Rattle.std.proofs.Common.{◌≡◌, ◌==◌, ◌&&◌, ◌+◌, ℕ, suc, List, [], ◌∷◌, ◌++◌, length, take, true, false, nat_le, refl, ap, sym, subst, arith, Result, Ok, Err, if◌then◌else◌}
-use Rattle.std.proofs.lemmas.Bool.{eqb-true}
+use Rattle.std.proofs.lemmas.Bool.{eqb-true, and_parts}
 use Rattle.std.specs.Char.{is_ascii_alphabetic}
 use Rattle.dura_value.specs.Ids.{Id, orchestration, entity, client, written}
 use Rattle.std.specs.List.{list_all}
 use Rattle.dura_value.specs.Limits.{most_word_bytes}
 use Rattle.dura_value.specs.Names.{is_name, is_key, goes_on_name}
 use Rattle.dura_value.specs.Reading.{◌>>=◌, name_front, key_front, name_at, key_at, pair_at, id_in}
-use Rattle.dura_value.proofs.Ids.{both_true, and_true}
+use Rattle.dura_value.proofs.Ids.{and_true}
 use Rattle.worked_rows.specs.Forms.{has_form}
 use Rattle.worked_rows.specs.Begins.{IsName, IsKey, IsWritten, StopsAt}
 use Rattle.worked_rows.proofs.WordFronts.{name_stops, key_stops}
@@ -46,8 +46,8 @@ tails a b x y whole = cc whole
 no_name_of : (mark : ℕ) (name rest bytes : List ℕ) → is_ascii_alphabetic mark ≡ false → is_name name ≡ true → name ++ rest ≡ mark ∷ bytes → ⊥
 no_name_of mark [] rest bytes mute is whole = cc is
 no_name_of mark (a ∷ name) rest bytes mute is whole =
-    let parts = both_true (nat_le (length (a ∷ name)) most_word_bytes) (is_ascii_alphabetic a && list_all goes_on_name name) is in
-    let these = both_true (is_ascii_alphabetic a) (list_all goes_on_name name) parts.1 in
+    let parts = and_parts (nat_le (length (a ∷ name)) most_word_bytes) (is_ascii_alphabetic a && list_all goes_on_name name) is in
+    let these = and_parts (is_ascii_alphabetic a) (list_all goes_on_name name) parts.1 in
     let letter : is_ascii_alphabetic mark ≡ true = subst (λ (z : ℕ). is_ascii_alphabetic z ≡ true) (heads a mark (name ++ rest) bytes whole) these.0 in
     cc (letter, mute)
 
@@ -59,7 +59,7 @@ client_of mark (client name) xs at form whole = subst (λ (z : List ℕ). is_nam
 client_of mark (entity class key) xs at form whole = let same : 64 ≡ mark = heads 64 mark (class ++ 47 ∷ key) xs whole in absurd (omega arith)
 client_of mark (orchestration flow key) xs at form whole =
     let mute : is_ascii_alphabetic mark ≡ false = subst (λ (z : ℕ). is_ascii_alphabetic z ≡ false) (sym at) refl in
-    absurd (no_name_of mark flow (47 ∷ key) xs mute (both_true (is_name flow) (is_key key) form).0 whole)
+    absurd (no_name_of mark flow (47 ∷ key) xs mute (and_parts (is_name flow) (is_key key) form).0 whole)
 
 client_back : (xs : List ℕ) → IsWritten (35 ∷ xs) → IsName xs
 client_back xs w = client_of 35 w.0 xs refl w.1 w.2
@@ -70,11 +70,11 @@ entity_to xs p = (entity p.0 p.1, and_true (is_name p.0) (is_key p.1) p.2 p.3, a
 entity_of : (mark : ℕ) (id : Id) (xs : List ℕ) → mark ≡ 64 → has_form id ≡ true → written id ≡ mark ∷ xs → IsPair xs
 entity_of mark (client name) xs at form whole = let same : 35 ≡ mark = heads 35 mark name xs whole in absurd (omega arith)
 entity_of mark (entity class key) xs at form whole =
-    let parts = both_true (is_name class) (is_key key) form in
+    let parts = and_parts (is_name class) (is_key key) form in
     (class, key, parts.0, parts.1, tails 64 mark (class ++ 47 ∷ key) xs whole)
 entity_of mark (orchestration flow key) xs at form whole =
     let mute : is_ascii_alphabetic mark ≡ false = subst (λ (z : ℕ). is_ascii_alphabetic z ≡ false) (sym at) refl in
-    absurd (no_name_of mark flow (47 ∷ key) xs mute (both_true (is_name flow) (is_key key) form).0 whole)
+    absurd (no_name_of mark flow (47 ∷ key) xs mute (and_parts (is_name flow) (is_key key) form).0 whole)
 
 entity_back : (xs : List ℕ) → IsWritten (64 ∷ xs) → IsPair xs
 entity_back xs w = entity_of 64 w.0 xs refl w.1 w.2
@@ -86,7 +86,7 @@ flow_of : (first : ℕ) (id : Id) (xs : List ℕ) → (first ≡ 35 → ⊥) →
 flow_of first (client name) xs other another form whole = absurd (other (sym (heads 35 first name xs whole)))
 flow_of first (entity class key) xs other another form whole = absurd (another (sym (heads 64 first (class ++ 47 ∷ key) xs whole)))
 flow_of first (orchestration flow key) xs other another form whole =
-    let parts = both_true (is_name flow) (is_key key) form in
+    let parts = and_parts (is_name flow) (is_key key) form in
     (flow, key, parts.0, parts.1, whole)
 
 flow_stops : (first : ℕ) (xs : List ℕ) (n : ℕ) → (first ≡ 35 → ⊥) → (first ≡ 64 → ⊥) → StopsAt IsPair (first ∷ xs) n → StopsAt IsWritten (first ∷ xs) n

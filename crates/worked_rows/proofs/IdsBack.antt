@@ -1,6 +1,6 @@
 -- What is written is read again, and nothing else is read.
 use Rattle.std.proofs.Common.{◌≡◌, ◌==◌, ◌&&◌, ◌∙◌, ◌<◌, ◌+◌, ℕ, zero, suc, List, [], ◌∷◌, ◌++◌, length, take, drop, true, false, nat_lt, nat_le, refl, ap, sym, subst, arith, length-append, Result, Ok, Err, if◌then◌else◌}
-use Rattle.std.proofs.lemmas.Bool.{eqb-true, ltb-true, lt-ltb}
+use Rattle.std.proofs.lemmas.Bool.{eqb-true, ltb-true, lt-ltb, and_parts}
 use Rattle.std.proofs.lemmas.Bool.Decides.{nat_tests}
 use Rattle.std.specs.Char.{is_ascii_alphabetic}
 use Rattle.std.specs.List.{list_all, prefix_len}
@@ -8,7 +8,7 @@ use Rattle.dura_value.specs.Ids.{Id, orchestration, entity, client, written}
 use Rattle.dura_value.specs.Limits.{most_word_bytes}
 use Rattle.dura_value.specs.Names.{is_name, is_key, goes_on_name}
 use Rattle.dura_value.specs.Reading.{◌>>=◌, name_front, key_front, name_at, key_at, pair_at, id_in}
-use Rattle.dura_value.proofs.Ids.{both_true, and_true}
+use Rattle.dura_value.proofs.Ids.{and_true}
 use Rattle.worked_rows.specs.Forms.{has_form}
 use Rattle.worked_rows.proofs.Order.{above_marks}
 use Rattle.worked_rows.proofs.PairFronts.{no_slash, name_has_none, parts_of}
@@ -16,7 +16,7 @@ use Rattle.worked_rows.proofs.PairFronts.{no_slash, name_has_none, parts_of}
 place_behind : (x k : List ℕ) → list_all no_slash x ≡ true → prefix_len no_slash (x ++ 47 ∷ k) ≡ length x
 place_behind [] k none = refl
 place_behind (a ∷ x) k none =
-    let parts = both_true (no_slash a) (list_all no_slash x) none in
+    let parts = and_parts (no_slash a) (list_all no_slash x) none in
     let rest : prefix_len no_slash (x ++ 47 ∷ k) ≡ length x = place_behind x k parts.1 in
     rw parts.0 (omega arith)
 
@@ -43,13 +43,13 @@ pub written_is_read : (id : Id) → has_form id ≡ true → id_in (written id) 
 unfolding id_in
 written_is_read (client name) form = rw form
 written_is_read (entity class key) form =
-    let parts = both_true (is_name class) (is_key key) form in
+    let parts = and_parts (is_name class) (is_key key) form in
     rw (pair_back 1 class key parts.0 parts.1)
 written_is_read (orchestration [] key) form = absurd (cc form)
 written_is_read (orchestration (a ∷ flow) key) form =
-    let parts = both_true (is_name (a ∷ flow)) (is_key key) form in
-    let these = both_true (nat_le (length (a ∷ flow)) most_word_bytes) (is_ascii_alphabetic a && list_all goes_on_name flow) parts.0 in
-    let those = both_true (is_ascii_alphabetic a) (list_all goes_on_name flow) these.1 in
+    let parts = and_parts (is_name (a ∷ flow)) (is_key key) form in
+    let these = and_parts (nat_le (length (a ∷ flow)) most_word_bytes) (is_ascii_alphabetic a && list_all goes_on_name flow) parts.0 in
+    let those = and_parts (is_ascii_alphabetic a) (list_all goes_on_name flow) these.1 in
     let above : 64 < a = above_marks a those.0 in
     let no_client : (a == 35) ≡ false = grind (arith, nat_tests) in
     let no_entity : (a == 64) ≡ false = grind (arith, nat_tests) in

@@ -1,6 +1,6 @@
 -- How far bytes begin a name, a slash and a key.
 use Rattle.std.proofs.Common.{◌≡◌, ◌∙◌, ◌<◌, ◌≤◌, ◌+◌, ◌-◌, ℕ, zero, suc, List, [], ◌∷◌, ◌++◌, length, take, drop, min, Bool, true, false, not, cond, nat_lt, refl, ap, sym, subst, arith, append_assoc, Result, Ok, Err, if◌then◌else◌}
-use Rattle.std.proofs.lemmas.Bool.{ltb-true, ltb-false}
+use Rattle.std.proofs.lemmas.Bool.{ltb-true, ltb-false, and_parts}
 use Rattle.std.proofs.lemmas.Bool.Decides.{nat_tests}
 use Rattle.std.proofs.lemmas.List.{length-take-le, length-drop}
 use Rattle.std.proofs.lemmas.List.Sums.{prefix_len-le-length}
@@ -8,7 +8,7 @@ use Rattle.std.specs.List.{list_all, prefix_len}
 use Rattle.std.specs.Char.{is_ascii_alphabetic}
 use Rattle.dura_value.specs.Names.{is_name, is_key, goes_on_name}
 use Rattle.dura_value.specs.Reading.{◌>>=◌, name_front, key_front, key_at, is_slash, pair_at}
-use Rattle.dura_value.proofs.Ids.{both_true, and_true}
+use Rattle.dura_value.proofs.Ids.{and_true}
 use Rattle.worked_rows.specs.Begins.{IsName, IsKey, StopsAt}
 use Rattle.worked_rows.proofs.Order.{above_slash, name_goes_on}
 use Rattle.worked_rows.proofs.WordFronts.{front_passes, name_stops, key_stops}
@@ -29,28 +29,28 @@ slash_is a passes is = let other : no_slash 47 ≡ true = subst (λ (b : ℕ). n
 -- what stands before the first slash, and what behind it
 by_slash : (x y k l : List ℕ) → list_all no_slash x ≡ true → list_all no_slash y ≡ true → x ++ 47 ∷ k ≡ y ++ 47 ∷ l → (x ≡ y) × (k ≡ l)
 by_slash [] [] k l first second is = (refl, cc is)
-by_slash [] (b ∷ y) k l first second is = let same : b ≡ 47 = cc is in absurd (slash_is b (both_true (no_slash b) (list_all no_slash y) second).0 same)
-by_slash (a ∷ x) [] k l first second is = let same : a ≡ 47 = cc is in absurd (slash_is a (both_true (no_slash a) (list_all no_slash x) first).0 same)
+by_slash [] (b ∷ y) k l first second is = let same : b ≡ 47 = cc is in absurd (slash_is b (and_parts (no_slash b) (list_all no_slash y) second).0 same)
+by_slash (a ∷ x) [] k l first second is = let same : a ≡ 47 = cc is in absurd (slash_is a (and_parts (no_slash a) (list_all no_slash x) first).0 same)
 by_slash (a ∷ x) (b ∷ y) k l first second is =
     let head : a ≡ b = cc is in
     let tail : x ++ 47 ∷ k ≡ y ++ 47 ∷ l = cc is in
-    let rest = by_slash x y k l (both_true (no_slash a) (list_all no_slash x) first).1 (both_true (no_slash b) (list_all no_slash y) second).1 tail in
+    let rest = by_slash x y k l (and_parts (no_slash a) (list_all no_slash x) first).1 (and_parts (no_slash b) (list_all no_slash y) second).1 tail in
     (ap (λ (c : ℕ). c ∷ x) head ∙ ap (λ (z : List ℕ). b ∷ z) rest.0, rest.1)
 
 -- what has no slash lies before the first one
 before_slash : (w x rest k : List ℕ) → list_all no_slash w ≡ true → x ++ 47 ∷ k ≡ w ++ rest → (r : List ℕ) × (x ≡ w ++ r)
 before_slash [] x rest k none is = (x, refl)
-before_slash (a ∷ w) [] rest k none is = let same : a ≡ 47 = cc is in absurd (slash_is a (both_true (no_slash a) (list_all no_slash w) none).0 same)
+before_slash (a ∷ w) [] rest k none is = let same : a ≡ 47 = cc is in absurd (slash_is a (and_parts (no_slash a) (list_all no_slash w) none).0 same)
 before_slash (a ∷ w) (b ∷ x) rest k none is =
     let head : b ≡ a = cc is in
     let tail : x ++ 47 ∷ k ≡ w ++ rest = cc is in
-    let more = before_slash w x rest k (both_true (no_slash a) (list_all no_slash w) none).1 tail in
+    let more = before_slash w x rest k (and_parts (no_slash a) (list_all no_slash w) none).1 tail in
     (more.0, ap (λ (c : ℕ). c ∷ x) head ∙ ap (λ (z : List ℕ). a ∷ z) more.1)
 
 names_have_none : (x : List ℕ) → list_all goes_on_name x ≡ true → list_all no_slash x ≡ true
 names_have_none [] all = refl
 names_have_none (a ∷ x) all =
-    let parts = both_true (goes_on_name a) (list_all goes_on_name x) all in
+    let parts = and_parts (goes_on_name a) (list_all goes_on_name x) all in
     let above : 47 < a = above_slash a parts.0 in
     and_true (no_slash a) (list_all no_slash x) (grind (arith, nat_tests)) (names_have_none x parts.1)
 

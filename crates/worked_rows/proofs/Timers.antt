@@ -3,19 +3,14 @@ use Rattle.std.proofs.Common.{◌≡◌, ◌&&◌, ◌==◌, ◌<◌, ◌≤◌,
 use Rattle.std.specs.Ordering.{is_gt}
 use Rattle.dura_value.specs.Ids.{Id, id_eq}
 use Rattle.dura_value.proofs.Ids.{id_same}
-use Rattle.id_maps.specs.Maps.{no_number, at_number}
+use Rattle.id_maps.specs.Maps.{no_number}
+use Rattle.dura_value.specs.ById.{at_number}
 use Rattle.part_rows.specs.Timers.{timer_cmp, timer_of, IsFirstDue, NoneDue}
 use Rattle.worked_rows.specs.Tables.Timers.{sum_x, draw_x, draw_y, timers, without_one, GoInOrder}
+use Rattle.std.proofs.lemmas.Bool.{and_parts, eqb-true}
 
 abbrev All : (Id → ℕ → ℕ → Type 0) → (Id → ℕ → Option ℕ) → Type 0
 All Q f = (due : ℕ) (id : Id) (task : ℕ) → f id task ≡ Some due → Q id task due
-
-both : (a b : Bool) → a && b ≡ true → (a ≡ true) × (b ≡ true)
-both true b is = (refl, is)
-both false b is = absurd (cc is)
-
-numbers_same : (a b : ℕ) → (a == b) ≡ true → a ≡ b
-numbers_same a b is = grind arith
 
 some_same : (a b : ℕ) → Some a ≡ Some b → a ≡ b
 some_same a b is = cc is
@@ -26,8 +21,8 @@ of_none Q due id task is = absurd (cc is)
 at_one : (Q : Id → ℕ → ℕ → Type 0) (f : Id → ℕ → Option ℕ) (id other : Id) (task number due d : ℕ) (b : Bool) → id_eq id other && task == number ≡ b
     → All Q f → Q id task due → cond b (Some due) (f other number) ≡ Some d → Q other number d
 at_one Q f id other task number due d true same all one is =
-    let parts = both (id_eq id other) (task == number) same in
-    subst (λ (n : ℕ). Q other n d) (numbers_same task number parts.1)
+    let parts = and_parts (id_eq id other) (task == number) same in
+    subst (λ (n : ℕ). Q other n d) (eqb-true task number parts.1)
     (subst (λ (i : Id). Q i task d) (id_same id other parts.0)
     (subst (λ (m : ℕ). Q id task m) (some_same due d is) one))
 at_one Q f id other task number due d false same all one is = all d other number is

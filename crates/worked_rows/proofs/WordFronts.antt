@@ -1,6 +1,6 @@
 -- How far bytes begin a name or a key.
 use Rattle.std.proofs.Common.{◌≡◌, ◌&&◌, ◌∙◌, ◌<◌, ◌≤◌, ◌+◌, ℕ, zero, suc, List, [], ◌∷◌, ◌++◌, length, take, min, Bool, true, false, cond, nat_le, if◌then◌else◌, refl, sym, subst, arith, length-append}
-use Rattle.std.proofs.lemmas.Bool.{le-leb, leb-true}
+use Rattle.std.proofs.lemmas.Bool.{le-leb, leb-true, and_parts}
 use Rattle.std.proofs.lemmas.List.{append-nil, length-take-le}
 use Rattle.std.proofs.lemmas.List.Folds.{list_all-append}
 use Rattle.std.proofs.lemmas.List.Sums.{prefix_len-le-length}
@@ -8,7 +8,7 @@ use Rattle.std.specs.List.{list_all, prefix_len}
 use Rattle.std.specs.Char.{is_ascii_alphabetic}
 use Rattle.dura_value.specs.Names.{goes_on_name, stands_in_key}
 use Rattle.dura_value.specs.Reading.{name_front, key_front}
-use Rattle.dura_value.proofs.Ids.{both_true, and_true}
+use Rattle.dura_value.proofs.Ids.{and_true}
 use Rattle.worked_rows.specs.Begins.{IsName, IsKey, Begins, StopsAt}
 
 -- the first ones pass
@@ -38,7 +38,7 @@ next_fails p (suc n) (x ∷ xs) is more =
 -- so nothing goes on behind them
 pub goes_no_further : (p : ℕ → Bool) (n : ℕ) (xs rest : List ℕ) → n ≡ prefix_len p xs → n < length xs → list_all p (take (suc n) xs ++ rest) ≡ true → ⊥
 goes_no_further p n xs rest is more all =
-    let parts = both_true (list_all p (take (suc n) xs)) (list_all p rest) (sym (list_all-append p (take (suc n) xs) rest) ∙ all) in
+    let parts = and_parts (list_all p (take (suc n) xs)) (list_all p rest) (sym (list_all-append p (take (suc n) xs) rest) ∙ all) in
     let fails : list_all p (take (suc n) xs) ≡ false = next_fails p n xs is more in
     let passes : list_all p (take (suc n) xs) ≡ true = parts.0 in
     cc (fails, passes)
@@ -59,8 +59,8 @@ name_from x xs m letter is =
       );
       longest = λ more begun.
           let rest : List ℕ = begun.0 in
-          let parts = both_true (nat_le (suc (length (take (suc m) xs ++ rest))) 64) (is_ascii_alphabetic x && list_all goes_on_name (take (suc m) xs ++ rest)) begun.1 in
-          let these = both_true (is_ascii_alphabetic x) (list_all goes_on_name (take (suc m) xs ++ rest)) parts.1 in
+          let parts = and_parts (nat_le (suc (length (take (suc m) xs ++ rest))) 64) (is_ascii_alphabetic x && list_all goes_on_name (take (suc m) xs ++ rest)) begun.1 in
+          let these = and_parts (is_ascii_alphabetic x) (list_all goes_on_name (take (suc m) xs ++ rest)) parts.1 in
           let longer : length (take (suc m) xs) ≡ suc m = length-take-le (suc m) xs (omega arith) in
           let sum : length (take (suc m) xs ++ rest) ≡ length (take (suc m) xs) + length rest = length-append (take (suc m) xs) rest in
           let small : suc (length (take (suc m) xs ++ rest)) ≤ 64 = leb-true (suc (length (take (suc m) xs ++ rest))) 64 parts.0 in
@@ -78,8 +78,8 @@ name_stops (x ∷ xs) =
         front = (97 ∷ [], refl);
         longest = λ more begun.
             let rest : List ℕ = begun.0 in
-            let parts = both_true (nat_le (suc (length (take 0 xs ++ rest))) 64) (is_ascii_alphabetic x && list_all goes_on_name (take 0 xs ++ rest)) begun.1 in
-            let these = both_true (is_ascii_alphabetic x) (list_all goes_on_name (take 0 xs ++ rest)) parts.1 in
+            let parts = and_parts (nat_le (suc (length (take 0 xs ++ rest))) 64) (is_ascii_alphabetic x && list_all goes_on_name (take 0 xs ++ rest)) begun.1 in
+            let these = and_parts (is_ascii_alphabetic x) (list_all goes_on_name (take 0 xs ++ rest)) parts.1 in
             let is : is_ascii_alphabetic x ≡ true = these.0 in
             cc (letter, is);
       }
@@ -108,8 +108,8 @@ key_stops bytes =
       longest = λ more begun.
           let rest : List ℕ = begun.0 in
           let t : List ℕ = take (suc m) bytes ++ rest in
-          let parts = both_true (nat_le 1 (length t)) (nat_le (length t) 64 && list_all stands_in_key t) begun.1 in
-          let these = both_true (nat_le (length t) 64) (list_all stands_in_key t) parts.1 in
+          let parts = and_parts (nat_le 1 (length t)) (nat_le (length t) 64 && list_all stands_in_key t) begun.1 in
+          let these = and_parts (nat_le (length t) 64) (list_all stands_in_key t) parts.1 in
           let longer : length (take (suc m) bytes) ≡ suc m = length-take-le (suc m) bytes (omega arith) in
           let sum : length t ≡ length (take (suc m) bytes) + length rest = length-append (take (suc m) bytes) rest in
           let small : length t ≤ 64 = leb-true (length t) 64 these.0 in

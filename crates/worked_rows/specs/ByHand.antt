@@ -6,7 +6,8 @@ use Rattle.dura_value.specs.Items.{Identity, Item, took, got, ran, trim}
 use Rattle.dura_value.specs.Messages.{Spot, at_spot, wait, lock, release, Message}
 use Rattle.flow_syntax.specs.Machine.{Machine, Section, outside, acquiring, inside, running, new_machine, spot_of}
 use Rattle.flow_syntax.specs.Entity.{Entity}
-use Rattle.dura_model.specs.World.{World, Orchestration, empty, at_id, at_link}
+use Rattle.dura_model.specs.World.{World, Orchestration, empty, at_link}
+use Rattle.dura_value.specs.ById.{at_id}
 use Rattle.dura_model.specs.Dependencies.{Committed, Floor}
 
 -- ---- sections

@@ -9,7 +9,8 @@ use Rattle.flow_syntax.specs.Syntax.{scalar, variable, binary, add, let_be, spaw
 use Rattle.flow_syntax.specs.Machine.{Machine, Event, outside, Progress, running, done, failed, new_machine, resume, started, resulted, fired, was_granted, spot_of, Resumed}
 use Rattle.flow_syntax.specs.Machine.{was_raised as raised}
 use Rattle.flow_syntax.specs.Entity.{Entity, Delivered, takes, deliver}
-use Rattle.dura_model.specs.World.{World, Orchestration, empty, at_number}
+use Rattle.dura_model.specs.World.{World, Orchestration, empty}
+use Rattle.dura_value.specs.ById.{at_number}
 use Rattle.dura_model.specs.Deliveries.{Effect, to_instance}
 use Rattle.dura_model.specs.Steps.{to_client}
 use Rattle.worked_rows.specs.Made.{named, class_with, locked, message}

@@ -2,10 +2,7 @@ use Rattle.std.proofs.Common.{◌≡◌, ℕ, Result, Ok, Err, refl}
 use Rattle.commit_log.specs.declared.reader.OpenError.{OpenError}
 use Rattle.commit_log.specs.declared.reader.OpenError.TheVariants.{Fresh, Damaged, SiteFault}
 use Rattle.commit_log.proofs.parse.parse_front.Goals as goal
-
--- answers that differ
-ok_apart : {T E : Type 0} (value : T) (error : E) → Ok value ≡ Err error → ⊥
-ok_apart value error is = cc
+use Rattle.commit_log.proofs.Causes.{ok_apart}
 
 fresh_fault : {T : Type 0} (result : Result T OpenError) → result ≡ Err Fresh → result ≡ Err SiteFault → ⊥
 fresh_fault result fresh fault = cc

@@ -2,13 +2,7 @@ use Rattle.std.proofs.Common.{◌≡◌, ℕ, Result, Ok, Err, refl}
 use Rattle.commit_log.specs.declared.reader.FrameError.{FrameError}
 use Rattle.commit_log.specs.declared.reader.FrameError.TheVariants.{Damaged, SiteFault, Memory}
 use Rattle.commit_log.proofs.reading.read_payload.Goals as goal
-
--- answers that differ
-ok_apart : {T E : Type 0} (value : T) (error : E) → Ok value ≡ Err error → ⊥
-ok_apart value error is = cc
-
-damaged_fault : {T : Type 0} (result : Result T FrameError) (offset : ℕ) → result ≡ Err (Damaged offset) → result ≡ Err SiteFault → ⊥
-damaged_fault result offset damaged fault = cc
+use Rattle.commit_log.proofs.Causes.{ok_apart, damaged_fault}
 
 memory_fault : {T : Type 0} (result : Result T FrameError) → result ≡ Err Memory → result ≡ Err SiteFault → ⊥
 memory_fault result memory fault = cc

@@ -21,12 +21,12 @@ use Rattle.engine_run.proofs.Standing.{shown_alone, has_begun}
 use Rattle.engine_run.proofs.call.run_requests.Goals as goal
 use Rattle.part_steps.specs.States.{state_of, count_of}
 use Rattle.recover_core.specs.Recovering.{OnlySyncs}
-use Rattle.recover_core.proofs.LogsFound.{risen_later}
 use Rattle.run_causes.specs.Causes.{status_of}
 use Rattle.run_causes.specs.declared.cause.Cause.{Cause}
 use Rattle.site_model.specs.Calls.{HasRisen}
 use Rattle.site_model.specs.History.{content_of}
 use Rattle.site_model.specs.Moments.{Always}
+use Rattle.site_model.proofs.Faults.{risen_later}
 
 pub go_named-requires-clause-stands : goal.go_named-requires-clause-stands
 go_named-requires-clause-stands g c =

@@ -17,17 +17,17 @@ use Rattle.engine_run.proofs.Preparing.{opened_from, opens_from}
 use Rattle.engine_run.proofs.Refusing.{logs_refused, clash_refused, logs_untouched, ready, not_refused}
 use Rattle.engine_run.proofs.prepared.prepare.Goals as goal
 use Rattle.flow_syntax.specs.Views.{flows_of}
-use Rattle.hub_store.proofs.Refusals.{ok_apart}
 use Rattle.part_items.specs.Logs.{Logs, logs_in, alone_with}
 use Rattle.part_steps.specs.States.{state_of}
 use Rattle.recover_core.specs.Recovering.{IsLogOf, RestsFor, OnlySyncs, both_synced}
-use Rattle.recover_core.proofs.LogsFound.{risen_later}
 use Rattle.request_reader.specs.Line.{request_of}
 use Rattle.run_causes.specs.declared.cause.Cause.{Cause}
 use Rattle.run_causes.specs.declared.cause.Cause.TheVariants.{SiteFault}
 use Rattle.run_laws.specs.Begins.{header_with}
 use Rattle.site_model.specs.History.{Step, changes_of, content_of, IsKept}
 use Rattle.site_model.specs.Moments.{Always, LeavesOnly}
+use Rattle.site_model.proofs.Faults.{risen_later}
+use Rattle.commit_log.proofs.Causes.{ok_apart}
 
 pub returns-in_err-file-clause-opens : goal.returns-in_err-file-clause-opens
 returns-in_err-file-clause-opens g c tells job asks entries state keeps given =

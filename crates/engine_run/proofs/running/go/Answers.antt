@@ -8,7 +8,7 @@ use Rattle.engine_run.specs.Rounds.{GoesOn, Stays, IsLateCause, IsWanting}
 use Rattle.engine_run.proofs.Early.{one_some, room_left}
 use Rattle.engine_run.proofs.Ending.{memory_no_site, memory_no_say, memory_no_clock, spent_no_site, spent_no_say, spent_no_clock}
 use Rattle.engine_run.proofs.Queues.{clients_named, nothing_said}
-use Rattle.engine_run.proofs.Runs.{run_further, nothing_before, settled_by}
+use Rattle.engine_run.proofs.Runs.{run_further, nothing_before}
 use Rattle.engine_run.proofs.running.go.Goals as goal
 use Rattle.hub_store.specs.Changes.{trail_in, told_in}
 use Rattle.hub_store.specs.Opened.{HasBegun}
@@ -24,6 +24,7 @@ use Rattle.run_causes.specs.Causes.{status_of}
 use Rattle.run_rules.specs.Rules.{Rules}
 use Rattle.site_model.specs.Calls.{HasRisen}
 use Rattle.site_model.specs.History.{content_of}
+use Rattle.hub_store.proofs.EveryMoment.{all_settled}
 
 pub begin-requires-clause-short : goal.begin-requires-clause-short
 begin-requires-clause-short g c = c.requires.short
@@ -198,7 +199,7 @@ returns g c =
             every = moments_later (g.N.Start.may_follow store.latest) (g.N.Start.may_follow latest) g.N.Start.may_say later g.N.Start.origin (g.V.Site.history store.site) (trail_in store) (c.end-site.ensures.every tells_then);
             further = run_further told.runs;
             nothing = nothing_before told.runs;
-            by_the_end = settled_by told.runs (length (g.V.Site.history store.site)) (omega arith);
+            by_the_end = all_settled told.runs (length (g.V.Site.history store.site)) (omega arith);
             told = told_in store;
             whole = λ other.
                 with_later (g.N.Start.may_follow store.latest) (g.N.Start.may_follow latest) g.N.Start.may_say later g.N.Start.origin (g.V.Site.history store.site) (trail_in store) (told_in store) [] (c.end-site.ensures.whole tells_then (c.drive_on-cause.ensures.whole other));

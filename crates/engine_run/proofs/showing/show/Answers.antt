@@ -9,7 +9,6 @@ use Rattle.flow_syntax.specs.Syntax.{Flows}
 use Rattle.flow_syntax.specs.Views.{flows_of}
 use Rattle.part_steps.specs.States.{state_of}
 use Rattle.recover_core.specs.Recovering.{OnlySyncs}
-use Rattle.recover_core.proofs.LogsFound.{risen_later}
 use Rattle.run_causes.specs.declared.cause.Cause.{Cause}
 use Rattle.run_causes.specs.declared.cause.Cause.TheVariants.{Done, Usage, SiteFault, SayFault, ClockFault, Memory}
 use Rattle.run_inputs.specs.Input.{IsFlowsCause}
@@ -18,6 +17,7 @@ use Rattle.site_model.specs.History.{Step, changes_of, content_of, tape}
 use Rattle.state_lines.specs.Fronts.{SaysTable}
 use Rattle.state_lines.specs.declared.error.ShowError.{ShowError}
 use Rattle.state_lines.specs.declared.error.ShowError.TheVariants as stops
+use Rattle.site_model.proofs.Faults.{risen_later}
 
 pub returns-in-Err : goal.returns-in-Err
 returns-in-Err g c =

@@ -6,9 +6,10 @@ use Rattle.commit_log.specs.Outcomes.{AfterBody}
 use Rattle.commit_log.specs.States.{IsBodied, IsBroken}
 use Rattle.part_items.specs.Plain.{entries_of}
 use Rattle.part_items.specs.Spelling.{spell_frame}
-use Rattle.hub_store.proofs.Bodies.{ok_apart, full_memory, full_fault, memory_fault, rests_there}
+use Rattle.hub_store.proofs.Bodies.{full_memory, full_fault, memory_fault, rests_there}
 use Rattle.hub_store.proofs.Shortness.{next_gate}
 use Rattle.hub_store.proofs.body.body_log.Goals as goal
+use Rattle.commit_log.proofs.Causes.{ok_apart}
 
 pub returns-in-Err-SiteFault-clause-fits : goal.returns-in-Err-SiteFault-clause-fits
 returns-in-Err-SiteFault-clause-fits g c h payloads rests =

@@ -3,9 +3,10 @@ use Rattle.hub_store.specs.Changes.{trail_in}
 use Rattle.hub_store.specs.Frames.{length_with}
 use Rattle.hub_store.specs.Ways.{way_of}
 use Rattle.part_items.specs.Plain.{entry_of}
-use Rattle.hub_store.proofs.Refusals.{fault_not_full, full_as, memory_not_fault, memory_not_full, of_err, ok_no_refusal, on_err, on_ok, residual_is, residual_on_err, residual_on_ok, risen_after, same_either, same_refusal}
+use Rattle.hub_store.proofs.Refusals.{fault_not_full, full_as, memory_not_fault, memory_not_full, of_err, ok_no_refusal, on_err, on_ok, residual_is, residual_on_err, residual_on_ok, same_either, same_refusal}
 use Rattle.hub_store.proofs.Trails.{settled_one}
 use Rattle.hub_store.proofs.commits.commit.Goals as goal
+use Rattle.site_model.proofs.Faults.{risen_later}
 
 pub returns-in_err-frame : goal.returns-in_err-frame
 returns-in_err-frame g c = record {
@@ -64,7 +65,7 @@ returns g c = record {
   whole = c.open.ensures.whole ∙ c.write.ensures.whole;
   full = λ long. absurd (ok_no_refusal _ _ _ (full_as _ _ _ _ _ _ c.in_ok-frame.ensures c.in_ok-write.ensures.full long));
   room = λ of n is. absurd (fault_not_full _ of n (of_err c.open.result _ c.open.ensures.stops is) is);
-  fault = λ is. risen_after _ _ _ c.write.ensures.later c.open.ensures.later (of_err c.open.result _ c.open.ensures.fault is);
+  fault = λ is. risen_later _ _ _ c.write.ensures.later c.open.ensures.later (of_err c.open.result _ c.open.ensures.fault is);
   later = le_trans c.write.ensures.later c.open.ensures.later;
   say_faults = c.open.ensures.say_faults ∙ c.write.ensures.say_faults;
 }

@@ -1,7 +1,9 @@
 use Rattle.std.proofs.Common.{refl, le_trans, ◌∙◌}
 use Rattle.hub_store.proofs.Faults.{faulted}
-use Rattle.hub_store.proofs.Refusals.{ok_apart, ok_no_refusal, fault_not_full, residual_is, residual_on_ok, same_either, same_refusal, risen_after}
+use Rattle.hub_store.proofs.Refusals.{ok_no_refusal, fault_not_full, residual_is, residual_on_ok, same_either, same_refusal}
 use Rattle.hub_store.proofs.commits.write.Goals as goal
+use Rattle.site_model.proofs.Faults.{risen_later}
+use Rattle.commit_log.proofs.Causes.{ok_apart}
 
 pub returns-in_err-body : goal.returns-in_err-body
 returns-in_err-body g c = record {
@@ -38,7 +40,7 @@ returns-in-Err g c = record {
   whole = c.sync_body.ensures.whole ∙ c.body.ensures.whole;
   full = λ long. absurd (ok_no_refusal _ _ _ (c.in_ok-body.ensures.full long));
   room = λ of n is. absurd (fault_not_full _ of n refl is);
-  fault = λ is. risen_after _ _ _ c.body.ensures.later c.sync_body.ensures.halted.later (faulted _ _ _ _ _ _ refl c.in-Err.ensures.no_frame.0 c.in_ok-body.ensures.ok.0 c.in-Err.ensures.halts c.sync_body.ensures.halted);
+  fault = λ is. risen_later _ _ _ c.body.ensures.later c.sync_body.ensures.halted.later (faulted _ _ _ _ _ _ refl c.in-Err.ensures.no_frame.0 c.in_ok-body.ensures.ok.0 c.in-Err.ensures.halts c.sync_body.ensures.halted);
   later = le_trans c.body.ensures.later c.sync_body.ensures.halted.later;
   say_faults = c.sync_body.ensures.say_faults ∙ c.body.ensures.say_faults;
 }

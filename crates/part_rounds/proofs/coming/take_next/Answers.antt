@@ -11,10 +11,11 @@ use Rattle.part_rounds.specs.InTime.Reads.{fails, asks, waits}
 use Rattle.part_rounds.specs.Rounds.{pairs_of}
 use Rattle.part_rounds.proofs.Puttings.{no_items}
 use Rattle.part_steps.specs.States.{state_of}
-use Rattle.hub_store.proofs.Refusals.{ok_apart, risen_after}
 use Rattle.part_rounds.proofs.Stops.{residual_not_clock, residual_of_clock, residual_if_ok}
 use Rattle.part_rounds.proofs.coming.take_next.Goals as goal
 use Rattle.site_model.specs.Readings.{Reading, asked, waited}
+use Rattle.site_model.proofs.Faults.{risen_later}
+use Rattle.commit_log.proofs.Causes.{ok_apart}
 
 pub returns-in-Err : goal.returns-in-Err
 returns-in-Err g c =
@@ -91,7 +92,7 @@ returns-in-Err-wait_until g c =
       stamp = tt;
       latest = low_both _ _ _ (low_max _ _ _ first) (low_same _ _ second);
       stops = refl;
-      fault = λ is. risen_after _ _ _ c.now.ensures.cause.later c.wait_until.ensures.cause.later c.in-Err-wait_until.ensures.cause.risen;
+      fault = λ is. risen_later _ _ _ c.now.ensures.cause.later c.wait_until.ensures.cause.later c.in-Err-wait_until.ensures.cause.risen;
       later = low_both _ _ _ c.now.ensures.cause.later c.wait_until.ensures.cause.later;
     }
 

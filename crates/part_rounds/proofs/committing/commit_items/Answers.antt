@@ -12,10 +12,11 @@ use Rattle.part_rounds.specs.Rounds.{pairs_of}
 use Rattle.part_rounds.proofs.Entries.{entry_follows, entry_goes, labels_after}
 use Rattle.part_rounds.proofs.Further.{filled_further}
 use Rattle.part_rounds.specs.Further.{GoesFurther}
-use Rattle.hub_store.proofs.Refusals.{ok_apart, residual_is}
+use Rattle.hub_store.proofs.Refusals.{residual_is}
 use Rattle.part_rounds.proofs.Stops.{body_fault, body_room, residual_of_disk}
 use Rattle.part_rounds.proofs.committing.commit_items.Goals as goal
 use Rattle.run_rules.specs.Rules.{Follows}
+use Rattle.commit_log.proofs.Causes.{ok_apart}
 
 pub commit-requires-clause-part : goal.commit-requires-clause-part
 commit-requires-clause-part g c = omega (arith, g.met.N.Ruled.one)

@@ -18,10 +18,12 @@ use Rattle.part_rounds.specs.Comes.{LeavesRound, StopsAt, count_labels}
 use Rattle.part_rounds.specs.Rounds.{pairs_of, StateStands, NoneUnsaid}
 use Rattle.part_rounds.proofs.Further.{on_ok, memory_apart, kind_not_spent}
 use Rattle.part_rounds.proofs.Stopped.{leaves_at}
-use Rattle.hub_store.proofs.Refusals.{ok_apart, residual_is, risen_after, residual_on_ok}
+use Rattle.hub_store.proofs.Refusals.{residual_is, residual_on_ok}
 use Rattle.part_rounds.proofs.Stops.{same_stop, tape_not_full, tape_not_fault, tape_not_clock, residual_if_ok}
 use Rattle.part_rounds.proofs.rounds.drive.Goals as goal
 use Rattle.part_steps.specs.States.{state_of}
+use Rattle.site_model.proofs.Faults.{risen_later}
+use Rattle.commit_log.proofs.Causes.{ok_apart}
 
 begins_there : (rules : Rules) (log : Log) (settled : List Entry) (p : Partition) → settled ≡ [] → StateStands rules log settled p → rules.begin ≡ p
 begins_there rules log settled p none stands = let made : placed rules.flows 1 rules.begin [] ≡ Ok p = subst (λ (l : List Entry). placed rules.flows 1 rules.begin l ≡ Ok p) none stands.made in cc made
@@ -51,7 +53,7 @@ rounds-init g c =
       unsaid = subst (λ (p : Partition). NoneUnsaid p c.say_due.new.port c.args.clients.now) (sym c.enter-state.ensures.entered) c.in-Ok.ensures.none;
       count = sym (ap (λ (t : List Settled). count_labels (of_part 0 t)) (c.say_due.ensures.trail ∙ c.requires.new));
       few = some_above _ _ c.requires.some;
-      goes = then_says g.N.Ruled.rules g.A.Activities.gives c.args.limit c.args.clients.now (g.C.Clock.given c.args.clock.now) (g.C.Clock.given c.args.clock.now) (of_part 0 (trail_in c.args.store.now)) (of_part 0 (trail_in c.args.store.now)) (of_part 0 (trail_in c.say_due.new.store)) (told_in c.args.store.now) (told_in c.args.store.now) (told_in c.say_due.new.store) begins (ap (of_part 0) c.say_due.ensures.trail) c.say_due.ensures.in_turn;
+      goes = then_says g.N.Ruled.rules g.A.Activities.gives c.args.bounds.limit c.args.clients.now (g.C.Clock.given c.args.clock.now) (g.C.Clock.given c.args.clock.now) (of_part 0 (trail_in c.args.store.now)) (of_part 0 (trail_in c.args.store.now)) (of_part 0 (trail_in c.say_due.new.store)) (told_in c.args.store.now) (told_in c.args.store.now) (told_in c.say_due.new.store) begins (ap (of_part 0) c.say_due.ensures.trail) c.say_due.ensures.in_turn;
       later = low_same _ _ c.say_due.ensures.disk_faults;
       say_later = c.say_due.ensures.later;
       clock_later = low_self _;
@@ -76,7 +78,7 @@ rounds-preserved g c =
       unsaid = leaves.1;
       count = ap (λ (n : ℕ). n + c.in-On.more) c.rounds.invariant.count ∙ sym leaves.4;
       few = few_round _ _ _ _ _ _ leaves.4 c.go_round.ensures.no_more c.rounds-test.true;
-      goes = goes_both g.N.Ruled.rules g.A.Activities.gives c.args.limit c.args.clients.now c.rounds.invariant.goes c.go_round.ensures.goes;
+      goes = goes_both g.N.Ruled.rules g.A.Activities.gives c.args.bounds.limit c.args.clients.now c.rounds.invariant.goes c.go_round.ensures.goes;
       later = low_both _ _ _ c.rounds.invariant.later c.go_round.ensures.later;
       say_later = low_both _ _ _ c.rounds.invariant.say_later c.go_round.ensures.say_later;
       clock_later = low_both _ _ _ c.rounds.invariant.clock_later c.go_round.ensures.clock_later;
@@ -98,13 +100,13 @@ returns-in_err-next g c =
       still = residual_on_ok _ c.from_residual.result _ c.from_residual.ensures.1;
       said = residual_on_ok _ c.from_residual.result _ c.from_residual.ensures.1;
       leaves = residual_if_ok _ c.from_residual.result _ c.from_residual.ensures.1;
-      goes = goes_both g.N.Ruled.rules g.A.Activities.gives c.args.limit c.args.clients.now c.rounds.invariant.goes c.go_round.ensures.goes;
+      goes = goes_both g.N.Ruled.rules g.A.Activities.gives c.args.bounds.limit c.args.clients.now c.rounds.invariant.goes c.go_round.ensures.goes;
       no_more = few_more _ _ _ _ _ c.go_round.ensures.no_more c.rounds.invariant.count c.rounds-test.true;
       spent = λ of n is. c.in_err-next.ensures.spent of n (same_stop _ _ _ _ refl (residual_is _ _ c.from_residual.ensures.1) is);
       full = λ of n is. c.in_err-next.ensures.full of n (same_stop _ _ _ _ refl (residual_is _ _ c.from_residual.ensures.1) is);
-      fault = λ is. risen_after _ _ _ c.rounds.invariant.later c.go_round.ensures.later (c.in_err-next.ensures.fault (same_stop _ _ _ _ refl (residual_is _ _ c.from_residual.ensures.1) is));
-      say_fault = λ is. risen_after _ _ _ c.rounds.invariant.say_later c.go_round.ensures.say_later (c.in_err-next.ensures.say_fault (same_stop _ _ _ _ refl (residual_is _ _ c.from_residual.ensures.1) is));
-      clock_fault = λ is. risen_after _ _ _ c.rounds.invariant.clock_later c.go_round.ensures.clock_later (c.in_err-next.ensures.clock_fault (same_stop _ _ _ _ refl (residual_is _ _ c.from_residual.ensures.1) is));
+      fault = λ is. risen_later _ _ _ c.rounds.invariant.later c.go_round.ensures.later (c.in_err-next.ensures.fault (same_stop _ _ _ _ refl (residual_is _ _ c.from_residual.ensures.1) is));
+      say_fault = λ is. risen_later _ _ _ c.rounds.invariant.say_later c.go_round.ensures.say_later (c.in_err-next.ensures.say_fault (same_stop _ _ _ _ refl (residual_is _ _ c.from_residual.ensures.1) is));
+      clock_fault = λ is. risen_later _ _ _ c.rounds.invariant.clock_later c.go_round.ensures.clock_later (c.in_err-next.ensures.clock_fault (same_stop _ _ _ _ refl (residual_is _ _ c.from_residual.ensures.1) is));
       later = low_both _ _ _ c.rounds.invariant.later c.go_round.ensures.later;
       say_later = low_both _ _ _ c.rounds.invariant.say_later c.go_round.ensures.say_later;
       clock_later = low_both _ _ _ c.rounds.invariant.clock_later c.go_round.ensures.clock_later;
@@ -127,7 +129,7 @@ returns-in-Over g c =
       still = c.in_ok-next.ensures.still;
       said = c.in_ok-next.ensures.said;
       leaves = leaves;
-      goes = goes_both g.N.Ruled.rules g.A.Activities.gives c.args.limit c.args.clients.now c.rounds.invariant.goes c.go_round.ensures.goes;
+      goes = goes_both g.N.Ruled.rules g.A.Activities.gives c.args.bounds.limit c.args.clients.now c.rounds.invariant.goes c.go_round.ensures.goes;
       no_more = few_more _ _ _ _ _ c.go_round.ensures.no_more c.rounds.invariant.count c.rounds-test.true;
       spent = λ of n is. absurd (ok_apart _ _ is);
       full = λ of n is. absurd (ok_apart _ _ is);
@@ -162,7 +164,7 @@ returns g c =
       stage = on_ok _ c.stop_at.result c.rounds.invariant.stage;
       still = on_ok _ c.stop_at.result c.rounds.invariant.still;
       said = on_ok _ c.stop_at.result c.rounds.invariant.said;
-      leaves = leaves_at rules log c.rounds.store.latest (of_part 0 (trail_in c.rounds.store)) (pairs_of told) queues clients c.args.steps c.rounds.labels c.rounds.state c.rounds.invariant.entered c.rounds.invariant.unsaid c.rounds.invariant.count
+      leaves = leaves_at rules log c.rounds.store.latest (of_part 0 (trail_in c.rounds.store)) (pairs_of told) queues clients c.args.bounds.steps c.rounds.labels c.rounds.state c.rounds.invariant.entered c.rounds.invariant.unsaid c.rounds.invariant.count
           (omega (arith, c.rounds-test.false)) c.stop_at.result comes (c.stop_at.ensures.stirs rules told flows c.rounds.invariant.said);
       goes = c.rounds.invariant.goes;
       no_more = same_less _ _ _ c.rounds.invariant.count c.rounds.invariant.few;
@@ -191,7 +193,7 @@ returns-in-Err g c =
       still = tt;
       said = tt;
       leaves = tt;
-      goes = then_says g.N.Ruled.rules g.A.Activities.gives c.args.limit c.args.clients.now (g.C.Clock.given c.args.clock.now) (g.C.Clock.given c.args.clock.now) (of_part 0 (trail_in c.args.store.now)) (of_part 0 (trail_in c.args.store.now)) (of_part 0 (trail_in c.say_due.new.store)) (told_in c.args.store.now) (told_in c.args.store.now) (told_in c.say_due.new.store) begins (ap (of_part 0) c.say_due.ensures.trail) c.say_due.ensures.in_turn;
+      goes = then_says g.N.Ruled.rules g.A.Activities.gives c.args.bounds.limit c.args.clients.now (g.C.Clock.given c.args.clock.now) (g.C.Clock.given c.args.clock.now) (of_part 0 (trail_in c.args.store.now)) (of_part 0 (trail_in c.args.store.now)) (of_part 0 (trail_in c.say_due.new.store)) (told_in c.args.store.now) (told_in c.args.store.now) (told_in c.say_due.new.store) begins (ap (of_part 0) c.say_due.ensures.trail) c.say_due.ensures.in_turn;
       no_more = none_less _ _ _ (ap (λ (t : List Settled). count_labels (of_part 0 t)) (c.say_due.ensures.trail ∙ c.requires.new)) c.requires.some;
       spent = λ of n is. absurd (kind_not_spent is_of_tape _ _ of n refl c.in-Err.ensures.stops refl is);
       full = λ of n is. absurd (tape_not_full _ _ of n c.in-Err.ensures.stops refl is);

@@ -24,8 +24,8 @@ invariant-rounds g l = record {
   entered : Entered g.N.Ruled.rules (g.N.Start.origin.logs 0) l.store.latest (of_part 0 (trail_in l.store)) l.state;
   unsaid : NoneUnsaid (state_of l.state) l.port l.clients;
   count : l.labels ≡ count_labels (of_part 0 (trail_in l.store));
-  few : l.labels < l.steps + l.limit;
-  goes : GoesByClock g.N.Ruled.rules g.A.Activities.gives l.limit l.clients (g.C.Clock.given l.fn.clock) (of_part 0 (trail_in l.fn.store)) (told_in l.fn.store) (g.C.Clock.given l.clock) (of_part 0 (trail_in l.store)) (told_in l.store);
+  few : l.labels < l.bounds.steps + l.bounds.limit;
+  goes : GoesByClock g.N.Ruled.rules g.A.Activities.gives l.bounds.limit l.clients (g.C.Clock.given l.fn.clock) (of_part 0 (trail_in l.fn.store)) (told_in l.fn.store) (g.C.Clock.given l.clock) (of_part 0 (trail_in l.store)) (told_in l.store);
   later : g.V.Site.disk_faults l.fn.store.site ≤ g.V.Site.disk_faults l.store.site;
   say_later : g.V.Site.say_faults l.fn.store.site ≤ g.V.Site.say_faults l.store.site;
   clock_later : g.C.Clock.clock_faults l.fn.clock ≤ g.C.Clock.clock_faults l.clock;
@@ -33,4 +33,4 @@ invariant-rounds g l = record {
 
 -- what is left of the labels
 abbrev pub decreases-rounds : goal.decreases-rounds
-decreases-rounds g l = l.steps - l.labels
+decreases-rounds g l = l.bounds.steps - l.labels

@@ -17,12 +17,13 @@ use Rattle.part_rounds.specs.Comes.{Comes, FillsNext, IsByNow, count_labels}
 use Rattle.part_rounds.specs.Fills.{Fills, IsIdle}
 use Rattle.hub_store.specs.Ways.{stage_of, way_of}
 use Rattle.part_rounds.specs.Rounds.{pairs_of, HasSaid, NoneUnsaid, IsFilledTo}
-use Rattle.hub_store.proofs.Refusals.{ok_apart, residual_is, residual_on_ok}
+use Rattle.hub_store.proofs.Refusals.{residual_is, residual_on_ok}
 use Rattle.part_rounds.proofs.Stops.{same_stop, clock_not_full, clock_not_fault, clock_not_said, residual_if_ok}
 use Rattle.part_rounds.proofs.rounds.go_round.Goals as goal
 use Rattle.part_steps.specs.States.{state_of}
 use Rattle.site_model.specs.Calls.{HasRisen}
 use Rattle.part_rows.specs.Timers.{NoTimer}
+use Rattle.commit_log.proofs.Causes.{ok_apart}
 
 pub settle_filling-requires-clause-filled : goal.settle_filling-requires-clause-filled
 settle_filling-requires-clause-filled g c =
@@ -30,7 +31,7 @@ settle_filling-requires-clause-filled g c =
     let told = told_in c.args.store.now in
     let filling = c.in-Filled.filling in
     let entered = c.requires.entered in
-    let comes = subst (Comes (g.R.Reactions.flows c.args.reactions.now) (state_of c.args.state) c.args.port.now c.args.clients.now c.args.limit) c.in-Filled.is c.in_ok-filling.ensures.comes in
+    let comes = subst (Comes (g.R.Reactions.flows c.args.reactions.now) (state_of c.args.state) c.args.port.now c.args.clients.now c.args.bounds.limit) c.in-Filled.is c.in_ok-filling.ensures.comes in
     let fills = subst (FillsNext rules (pairs_of told) (state_of c.args.state)) c.in-Filled.is (c.in_ok-filling.ensures.fills rules told c.requires.flows c.requires.said) in
     let place = ap (λ (p : Partition). p.position) entered.entered in
     let many = length-map filling.items.items item_of in
@@ -38,8 +39,8 @@ settle_filling-requires-clause-filled g c =
     let by_now = subst (IsByNow (state_of c.args.state) (g.C.Clock.latest c.take_next.new.clock)) c.in-Filled.is c.in_ok-filling.ensures.stamp in
     let log = g.N.Start.origin.logs 0 in
     let items = items_of filling.items.items in
-    subst (λ (t : List Settled). IsFilledTo rules log c.raise.new.self.latest (of_part 0 t) (pairs_of (told_in c.raise.new.self)) (c.position-position.result - 1) c.args.incarnation items (state_of filling.state)) (sym c.raise.ensures.trail)
-    (subst (λ (t : List Said). IsFilledTo rules log c.raise.new.self.latest (of_part 0 (trail_in c.args.store.now)) (pairs_of t) (c.position-position.result - 1) c.args.incarnation items (state_of filling.state)) (sym c.raise.ensures.told) (record {
+    subst (λ (t : List Settled). IsFilledTo rules log c.raise.new.self.latest (of_part 0 t) (pairs_of (told_in c.raise.new.self)) (c.position-position.result - 1) c.args.bounds.incarnation items (state_of filling.state)) (sym c.raise.ensures.trail)
+    (subst (λ (t : List Said). IsFilledTo rules log c.raise.new.self.latest (of_part 0 (trail_in c.args.store.now)) (pairs_of t) (c.position-position.result - 1) c.args.bounds.incarnation items (state_of filling.state)) (sym c.raise.ensures.told) (record {
       filled = record {
         before = entered.before;
         stands = entered.stands;
@@ -75,14 +76,14 @@ returns-then-position-ge-POSITION_LIMIT g c =
       still = tt;
       said = tt;
       leaves = tt;
-      goes = only_reads g.N.Ruled.rules g.A.Activities.gives c.args.limit c.args.clients.now (g.C.Clock.given c.args.clock.now) (of_part 0 (trail_in c.args.store.now)) (told_in c.args.store.now) c.requires.entered.before (state_of c.args.state) c.requires.entered.stands.made c.requires.entered.entered (g.R.Reactions.flows c.args.reactions.now) c.requires.flows c.args.port.now c.requires.said (g.C.Clock.given c.take_next.new.clock) c.take_next.ensures.reads;
+      goes = only_reads g.N.Ruled.rules g.A.Activities.gives c.args.bounds.limit c.args.clients.now (g.C.Clock.given c.args.clock.now) (of_part 0 (trail_in c.args.store.now)) (told_in c.args.store.now) c.requires.entered.before (state_of c.args.state) c.requires.entered.stands.made c.requires.entered.entered (g.R.Reactions.flows c.args.reactions.now) c.requires.flows c.args.port.now c.requires.said (g.C.Clock.given c.take_next.new.clock) c.take_next.ensures.reads;
       no_more = low_add _ _ _ refl;
       spent = λ of n is.
           let rules = g.N.Ruled.rules in
           let told = told_in c.args.store.now in
           let items = c.in-Filled.filling.items.items in
           let entered = c.requires.entered in
-          let comes = subst (Comes (g.R.Reactions.flows c.args.reactions.now) (state_of c.args.state) c.args.port.now c.args.clients.now c.args.limit) c.in-Filled.is c.in_ok-filling.ensures.comes in
+          let comes = subst (Comes (g.R.Reactions.flows c.args.reactions.now) (state_of c.args.state) c.args.port.now c.args.clients.now c.args.bounds.limit) c.in-Filled.is c.in_ok-filling.ensures.comes in
           let fills = subst (FillsNext rules (pairs_of told) (state_of c.args.state)) c.in-Filled.is (c.in_ok-filling.ensures.fills rules told c.requires.flows c.requires.said) in
           let place = ap (λ (p : Partition). p.position) entered.entered in
           let many = length-map items item_of in
@@ -112,7 +113,7 @@ returns-in_err-filling g c =
       still = residual_on_ok _ c.from_residual.result _ c.from_residual.ensures.1;
       said = residual_on_ok _ c.from_residual.result _ c.from_residual.ensures.1;
       leaves = residual_if_ok _ c.from_residual.result _ c.from_residual.ensures.1;
-      goes = only_reads g.N.Ruled.rules g.A.Activities.gives c.args.limit c.args.clients.now (g.C.Clock.given c.args.clock.now) (of_part 0 (trail_in c.args.store.now)) (told_in c.args.store.now) c.requires.entered.before (state_of c.args.state) c.requires.entered.stands.made c.requires.entered.entered (g.R.Reactions.flows c.args.reactions.now) c.requires.flows c.args.port.now c.requires.said (g.C.Clock.given c.take_next.new.clock) c.take_next.ensures.reads;
+      goes = only_reads g.N.Ruled.rules g.A.Activities.gives c.args.bounds.limit c.args.clients.now (g.C.Clock.given c.args.clock.now) (of_part 0 (trail_in c.args.store.now)) (told_in c.args.store.now) c.requires.entered.before (state_of c.args.state) c.requires.entered.stands.made c.requires.entered.entered (g.R.Reactions.flows c.args.reactions.now) c.requires.flows c.args.port.now c.requires.said (g.C.Clock.given c.take_next.new.clock) c.take_next.ensures.reads;
       no_more = low_add _ _ _ refl;
       spent = λ of n is. absurd (kind_not_spent is_of_clock _ _ of n refl c.in_err-filling.ensures.stops (residual_is _ _ c.from_residual.ensures.1) is);
       full = λ of n is. absurd (clock_not_full _ _ of n c.in_err-filling.ensures.stops (residual_is _ _ c.from_residual.ensures.1) is);
@@ -135,7 +136,7 @@ returns-in_err-state-in-Filled g c =
     let tape = c.settle_filling.ensures.say_later in
     let disk_site = ap g.V.Site.disk_faults site in
     let tape_site = ap g.V.Site.say_faults site in
-    let comes = subst (Comes (g.R.Reactions.flows c.args.reactions.now) (state_of c.args.state) c.args.port.now c.args.clients.now c.args.limit) c.in-Filled.is c.in_ok-filling.ensures.comes in
+    let comes = subst (Comes (g.R.Reactions.flows c.args.reactions.now) (state_of c.args.state) c.args.port.now c.args.clients.now c.args.bounds.limit) c.in-Filled.is c.in_ok-filling.ensures.comes in
     record {
       tells = λ t. subst g.V.Site.tells site (c.settle_filling.ensures.tells t);
       sound = c.settle_filling.ensures.sound;
@@ -148,7 +149,7 @@ returns-in_err-state-in-Filled g c =
       said = residual_on_ok _ c.from_residual-in_err-state-in-Filled.result _ c.from_residual-in_err-state-in-Filled.ensures.1;
       leaves = residual_if_ok _ c.from_residual-in_err-state-in-Filled.result _ c.from_residual-in_err-state-in-Filled.ensures.1;
       goes =
-          let entry : Entry = record { position = c.position-position.result - 1; incarnation = c.args.incarnation; items = items_of c.in-Filled.filling.items.items } in
+          let entry : Entry = record { position = c.position-position.result - 1; incarnation = c.args.bounds.incarnation; items = items_of c.in-Filled.filling.items.items } in
           let new = c.settle_filling.new.store in
           let place = ap (λ (p : Partition). p.position) c.requires.entered.entered in
           let at_place : c.position-position.result - 1 ≡ c.requires.entered.before.position = omega (arith, c.position-position.ensures, place) in
@@ -157,7 +158,7 @@ returns-in_err-state-in-Filled g c =
           let then =
           subst (λ (t : List Settled). SettlesThenSays c.args.clients.now entry (of_part 0 t) (told_in c.args.store.now) (of_part 0 (trail_in new)) (told_in new)) c.raise.ensures.trail
           (subst (λ (t : List Said). SettlesThenSays c.args.clients.now entry (of_part 0 (trail_in c.raise.new.self)) t (of_part 0 (trail_in new)) (told_in new)) c.raise.ensures.told c.settle_filling.ensures.settles) in
-          filled_goes g.N.Ruled.rules g.A.Activities.gives c.args.limit c.args.clients.now (g.C.Clock.given c.args.clock.now) (of_part 0 (trail_in c.args.store.now)) (told_in c.args.store.now) c.requires.entered.before (state_of c.args.state) c.requires.entered.stands.made c.requires.entered.entered (g.R.Reactions.flows c.args.reactions.now) c.requires.flows c.args.port.now c.requires.said c.word-chance.result c.args.incarnation (c.position-position.result - 1) c.in-Filled.now c.in-Filled.filling (g.C.Clock.given c.take_next.new.clock) (of_part 0 (trail_in new)) (told_in new) word_is at_place c.requires.incarnation at comes then;
+          filled_goes g.N.Ruled.rules g.A.Activities.gives c.args.bounds.limit c.args.clients.now (g.C.Clock.given c.args.clock.now) (of_part 0 (trail_in c.args.store.now)) (told_in c.args.store.now) c.requires.entered.before (state_of c.args.state) c.requires.entered.stands.made c.requires.entered.entered (g.R.Reactions.flows c.args.reactions.now) c.requires.flows c.args.port.now c.requires.said c.word-chance.result c.args.bounds.incarnation (c.position-position.result - 1) c.in-Filled.now c.in-Filled.filling (g.C.Clock.given c.take_next.new.clock) (of_part 0 (trail_in new)) (told_in new) word_is at_place c.requires.incarnation at comes then;
       no_more = low_more _ _ _ _ (subst (λ (t : List Settled). count_labels (of_part 0 (trail_in c.settle_filling.new.store)) ≤ count_labels (of_part 0 t) + length c.in-Filled.filling.items.items) c.raise.ensures.trail c.settle_filling.ensures.no_more) comes.2;
       spent = λ of n is. absurd (c.in_err-state-in-Filled.ensures.no_spent of n (same_stop _ _ _ _ refl (residual_is _ _ c.from_residual-in_err-state-in-Filled.ensures.1) is));
       full = λ of n is. full_wider _ _ _ _ _ _ _ _ _ _ comes.2 (c.in_err-state-in-Filled.ensures.full of n (same_stop _ _ _ _ refl (residual_is _ _ c.from_residual-in_err-state-in-Filled.ensures.1) is));
@@ -180,7 +181,7 @@ returns-in_ok-state-in-Filled g c =
     let tape = c.settle_filling.ensures.say_later in
     let disk_site = ap g.V.Site.disk_faults site in
     let tape_site = ap g.V.Site.say_faults site in
-    let comes = subst (Comes (g.R.Reactions.flows c.args.reactions.now) (state_of c.args.state) c.args.port.now c.args.clients.now c.args.limit) c.in-Filled.is c.in_ok-filling.ensures.comes in
+    let comes = subst (Comes (g.R.Reactions.flows c.args.reactions.now) (state_of c.args.state) c.args.port.now c.args.clients.now c.args.bounds.limit) c.in-Filled.is c.in_ok-filling.ensures.comes in
     let some = comes.1 in
     let many = comes.2 in
     let labels = c.in_ok-state-in-Filled.ensures.labels in
@@ -197,7 +198,7 @@ returns-in_ok-state-in-Filled g c =
       said = c.in_ok-state-in-Filled.ensures.said;
       leaves = (c.in_ok-state-in-Filled.ensures.entered, c.in_ok-state-in-Filled.ensures.unsaid, omega (arith, some, c.len-more.ensures), omega (arith, many, c.requires.few, c.len-more.ensures), omega (arith, labels, trail, c.len-more.ensures));
       goes =
-          let entry : Entry = record { position = c.position-position.result - 1; incarnation = c.args.incarnation; items = items_of c.in-Filled.filling.items.items } in
+          let entry : Entry = record { position = c.position-position.result - 1; incarnation = c.args.bounds.incarnation; items = items_of c.in-Filled.filling.items.items } in
           let new = c.settle_filling.new.store in
           let place = ap (λ (p : Partition). p.position) c.requires.entered.entered in
           let at_place : c.position-position.result - 1 ≡ c.requires.entered.before.position = omega (arith, c.position-position.ensures, place) in
@@ -206,7 +207,7 @@ returns-in_ok-state-in-Filled g c =
           let then =
           subst (λ (t : List Settled). SettlesThenSays c.args.clients.now entry (of_part 0 t) (told_in c.args.store.now) (of_part 0 (trail_in new)) (told_in new)) c.raise.ensures.trail
           (subst (λ (t : List Said). SettlesThenSays c.args.clients.now entry (of_part 0 (trail_in c.raise.new.self)) t (of_part 0 (trail_in new)) (told_in new)) c.raise.ensures.told c.settle_filling.ensures.settles) in
-          filled_goes g.N.Ruled.rules g.A.Activities.gives c.args.limit c.args.clients.now (g.C.Clock.given c.args.clock.now) (of_part 0 (trail_in c.args.store.now)) (told_in c.args.store.now) c.requires.entered.before (state_of c.args.state) c.requires.entered.stands.made c.requires.entered.entered (g.R.Reactions.flows c.args.reactions.now) c.requires.flows c.args.port.now c.requires.said c.word-chance.result c.args.incarnation (c.position-position.result - 1) c.in-Filled.now c.in-Filled.filling (g.C.Clock.given c.take_next.new.clock) (of_part 0 (trail_in new)) (told_in new) word_is at_place c.requires.incarnation at comes then;
+          filled_goes g.N.Ruled.rules g.A.Activities.gives c.args.bounds.limit c.args.clients.now (g.C.Clock.given c.args.clock.now) (of_part 0 (trail_in c.args.store.now)) (told_in c.args.store.now) c.requires.entered.before (state_of c.args.state) c.requires.entered.stands.made c.requires.entered.entered (g.R.Reactions.flows c.args.reactions.now) c.requires.flows c.args.port.now c.requires.said c.word-chance.result c.args.bounds.incarnation (c.position-position.result - 1) c.in-Filled.now c.in-Filled.filling (g.C.Clock.given c.take_next.new.clock) (of_part 0 (trail_in new)) (told_in new) word_is at_place c.requires.incarnation at comes then;
       no_more = low_more _ _ _ _ (subst (λ (t : List Settled). count_labels (of_part 0 (trail_in c.settle_filling.new.store)) ≤ count_labels (of_part 0 t) + length c.in-Filled.filling.items.items) c.raise.ensures.trail c.settle_filling.ensures.no_more) comes.2;
       spent = λ of n is. absurd (ok_apart _ _ is);
       full = λ of n is. absurd (ok_apart _ _ is);
@@ -222,7 +223,7 @@ pub returns-in-Rest : goal.returns-in-Rest
 returns-in-Rest g c =
     let entered = c.requires.entered in
     let queues = c.args.port.now in
-    let comes = subst (Comes (g.R.Reactions.flows c.args.reactions.now) (state_of c.args.state) queues c.args.clients.now c.args.limit) c.in-Rest.is c.in_ok-filling.ensures.comes in
+    let comes = subst (Comes (g.R.Reactions.flows c.args.reactions.now) (state_of c.args.state) queues c.args.clients.now c.args.bounds.limit) c.in-Rest.is c.in_ok-filling.ensures.comes in
     record {
       tells = λ t. t;
       sound = c.requires.sound;
@@ -243,7 +244,7 @@ returns-in-Rest g c =
           said = subst (λ (p : Partition). NoneUnsaid p queues c.args.clients.now) (sym comes.2) c.requires.unsaid;
         },
       );
-      goes = only_reads g.N.Ruled.rules g.A.Activities.gives c.args.limit c.args.clients.now (g.C.Clock.given c.args.clock.now) (of_part 0 (trail_in c.args.store.now)) (told_in c.args.store.now) c.requires.entered.before (state_of c.args.state) c.requires.entered.stands.made c.requires.entered.entered (g.R.Reactions.flows c.args.reactions.now) c.requires.flows c.args.port.now c.requires.said (g.C.Clock.given c.take_next.new.clock) c.take_next.ensures.reads;
+      goes = only_reads g.N.Ruled.rules g.A.Activities.gives c.args.bounds.limit c.args.clients.now (g.C.Clock.given c.args.clock.now) (of_part 0 (trail_in c.args.store.now)) (told_in c.args.store.now) c.requires.entered.before (state_of c.args.state) c.requires.entered.stands.made c.requires.entered.entered (g.R.Reactions.flows c.args.reactions.now) c.requires.flows c.args.port.now c.requires.said (g.C.Clock.given c.take_next.new.clock) c.take_next.ensures.reads;
       no_more = low_add _ _ _ refl;
       spent = λ of n is. absurd (ok_apart _ _ is);
       full = λ of n is. absurd (ok_apart _ _ is);
@@ -278,7 +279,7 @@ settle_filling-requires-clause-rests g c = ap (λ ways. stage_of (way_of ways.it
 
 pub settle_filling-requires-clause-way : goal.settle_filling-requires-clause-way
 settle_filling-requires-clause-way g c =
-    (subst (Comes (g.R.Reactions.flows c.args.reactions.now) (state_of c.args.state) c.args.port.now c.args.clients.now c.args.limit) c.in-Filled.is c.in_ok-filling.ensures.comes).0
+    (subst (Comes (g.R.Reactions.flows c.args.reactions.now) (state_of c.args.state) c.args.port.now c.args.clients.now c.args.bounds.limit) c.in-Filled.is c.in_ok-filling.ensures.comes).0
 
 pub settle_filling-requires-clause-said : goal.settle_filling-requires-clause-said
 settle_filling-requires-clause-said g c = subst (λ (t : List Said). HasSaid g.N.Ruled.rules t c.args.port.now) (sym c.raise.ensures.told) c.requires.said

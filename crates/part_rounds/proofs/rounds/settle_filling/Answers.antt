@@ -12,11 +12,11 @@ use Rattle.part_rounds.specs.Stops.{is_of_disk, is_of_tape}
 use Rattle.part_rounds.specs.Comes.{count_labels}
 use Rattle.part_rounds.specs.Rounds.{pairs_of, HasSaid, StateStands, NoneUnsaid}
 use Rattle.part_rounds.proofs.Entries.{stands_after, place_after}
-use Rattle.hub_store.proofs.Refusals.{ok_apart}
 use Rattle.part_rounds.proofs.Stops.{same_stop, disk_not_said, disk_not_clock, tape_not_full, tape_not_fault, tape_not_clock}
 use Rattle.part_steps.specs.States.{state_of}
 use Rattle.site_model.specs.Calls.{HasRisen}
 use Rattle.part_rounds.proofs.rounds.settle_filling.Goals as goal
+use Rattle.commit_log.proofs.Causes.{ok_apart}
 
 pub say_due-requires-clause-made : goal.say_due-requires-clause-made
 say_due-requires-clause-made g c =

@@ -3,10 +3,12 @@ use Rattle.client_port.specs.Ports.{Queue}
 use Rattle.part_rounds.proofs.Counts.{low_both}
 use Rattle.part_rounds.proofs.Turns.{own_both}
 use Rattle.part_rounds.specs.Rounds.{next_answer}
-use Rattle.hub_store.proofs.Refusals.{ok_apart, residual_is, residual_on_ok, risen_after}
+use Rattle.hub_store.proofs.Refusals.{residual_is, residual_on_ok}
 use Rattle.part_rounds.proofs.Stops.{same_stop, residual_of_stop}
 use Rattle.part_steps.specs.States.{state_of}
 use Rattle.part_rounds.proofs.saying.say_all.Goals as goal
+use Rattle.site_model.proofs.Faults.{risen_later}
+use Rattle.commit_log.proofs.Causes.{ok_apart}
 
 pub answers-preserved : goal.answers-preserved
 answers-preserved g c = record {
@@ -40,7 +42,7 @@ returns-in_err-say_next g c =
       none = residual_on_ok _ c.from_residual.result _ c.from_residual.ensures.1;
       others = residual_on_ok _ c.from_residual.result _ c.from_residual.ensures.1;
       stops = residual_of_stop _ _ c.from_residual.ensures.1 c.in_err-say_next.ensures.stops;
-      fault = λ is. risen_after _ _ _ c.answers.invariant.later c.say_next.ensures.later (c.in_err-say_next.ensures.fault (same_stop _ _ _ _ refl (residual_is _ _ c.from_residual.ensures.1) is));
+      fault = λ is. risen_later _ _ _ c.answers.invariant.later c.say_next.ensures.later (c.in_err-say_next.ensures.fault (same_stop _ _ _ _ refl (residual_is _ _ c.from_residual.ensures.1) is));
       later = low_both _ _ _ c.answers.invariant.later c.say_next.ensures.later;
       disk_faults = c.say_next.ensures.disk_faults ∙ c.answers.invariant.disk_faults;
     }

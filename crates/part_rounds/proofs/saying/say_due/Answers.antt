@@ -3,11 +3,13 @@ use Rattle.part_steps.specs.States.{state_of}
 use Rattle.part_rounds.proofs.Counts.{low_both}
 use Rattle.part_rounds.specs.Rounds.{next_answer}
 use Rattle.part_rounds.proofs.Queues.{still_none}
-use Rattle.hub_store.proofs.Refusals.{ok_apart, residual_is, residual_on_ok, risen_after}
+use Rattle.hub_store.proofs.Refusals.{residual_is, residual_on_ok}
 use Rattle.part_rounds.proofs.Stops.{same_stop, residual_of_stop}
 use Rattle.part_rounds.proofs.Turns.{turn_next, turn_whole}
 use Rattle.part_rounds.proofs.Walks.{all_next, all_whole}
 use Rattle.part_rounds.proofs.saying.say_due.Goals as goal
+use Rattle.site_model.proofs.Faults.{risen_later}
+use Rattle.commit_log.proofs.Causes.{ok_apart}
 
 pub loop-client-preserved : goal.loop-client-preserved
 loop-client-preserved g c =
@@ -49,7 +51,7 @@ returns-in_err-say_all g c =
       said = residual_on_ok _ c.from_residual.result _ c.from_residual.ensures.1;
       none = residual_on_ok _ c.from_residual.result _ c.from_residual.ensures.1;
       stops = residual_of_stop _ _ c.from_residual.ensures.1 c.in_err-say_all.ensures.stops;
-      fault = λ is. risen_after _ _ _ c.loop-client.invariant.later c.say_all.ensures.later (c.in_err-say_all.ensures.fault (same_stop _ _ _ _ refl (residual_is _ _ c.from_residual.ensures.1) is));
+      fault = λ is. risen_later _ _ _ c.loop-client.invariant.later c.say_all.ensures.later (c.in_err-say_all.ensures.fault (same_stop _ _ _ _ refl (residual_is _ _ c.from_residual.ensures.1) is));
       later = low_both _ _ _ c.loop-client.invariant.later c.say_all.ensures.later;
       disk_faults = c.say_all.ensures.disk_faults ∙ c.loop-client.invariant.disk_faults;
     }

@@ -13,9 +13,10 @@ use Rattle.part_rounds.specs.Rounds.{pairs_of, HasSaid, KeepsDue}
 use Rattle.run_rules.specs.Rules.{count_told}
 use Rattle.hub_store.specs.Trail.{Said}
 use Rattle.part_rounds.proofs.Queues.{next_due, due_stays, before_last, said_on, counted_on}
-use Rattle.hub_store.proofs.Refusals.{ok_apart, residual_is, residual_on_ok}
+use Rattle.hub_store.proofs.Refusals.{residual_is, residual_on_ok}
 use Rattle.part_rounds.proofs.Stops.{fault_said, memory_not_said, residual_apart, residual_memory, residual_of_say, residual_of_tape, say_fault}
 use Rattle.part_rounds.proofs.saying.say_next.Goals as goal
+use Rattle.commit_log.proofs.Causes.{ok_apart}
 
 pub say-told-requires-clause-may : goal.say-told-requires-clause-may
 say-told-requires-clause-may g c =

@@ -4,7 +4,7 @@ use Rattle.dura_value.specs.Views.{id_of}
 use Rattle.flow_syntax.specs.Machine.{fired}
 use Rattle.dura_model.specs.Deliveries.{goes_on_from}
 use Rattle.dura_model.specs.Partition.{instance_in}
-use Rattle.dura_model.specs.World.{at_number}
+use Rattle.dura_value.specs.ById.{at_number}
 use Rattle.part_rows.specs.Parts.{part_of}
 use Rattle.part_rows.specs.Reactions.{Reaction, reaction, reaction_of}
 use Rattle.part_rows.specs.Views.{row_of}

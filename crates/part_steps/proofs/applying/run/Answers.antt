@@ -1,12 +1,13 @@
 use Rattle.std.proofs.Common.{◌∙◌, ap, sym}
 use Rattle.dura_value.specs.Ids.{id_eq}
 use Rattle.dura_value.specs.Views.{id_of, body_of}
-use Rattle.dura_value.proofs.Ids.{both_true, id_same}
+use Rattle.dura_value.proofs.Ids.{id_same}
 use Rattle.part_rows.specs.Parts.{part_of}
 use Rattle.part_rows.specs.declared.parts.PartRows.{PartRows}
 use Rattle.part_steps.specs.Outputs.{outputs_of}
 use Rattle.part_steps.proofs.Delivering.{run_accepts, run_outputs}
 use Rattle.part_steps.proofs.applying.run.Goals as goal
+use Rattle.std.proofs.lemmas.Bool.{and_parts}
 
 pub returns-clause-applied : goal.returns-clause-applied
 returns-clause-applied g c =
@@ -15,7 +16,7 @@ returns-clause-applied g c =
     let to = id_of c.args.to.now in
     let message = c.in-Some.message in
     let mid : PartRows = record c.args.rows.now { queue = c.take_first.new.self } in
-    let both = both_true (id_eq from (id_of message.from)) (id_eq to (id_of message.to)) c.in-Some.ensures.link in
+    let both = and_parts (id_eq from (id_of message.from)) (id_eq to (id_of message.to)) c.in-Some.ensures.link in
     let sender = sym (id_same from (id_of message.from) both.0) in
     let receiver = sym (id_same to (id_of message.to) both.1) in
     let left = ap (λ q. record was { queue = q }) c.take_first.ensures.rest in (

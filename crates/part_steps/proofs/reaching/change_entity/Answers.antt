@@ -3,7 +3,7 @@ use Rattle.std.specs.Prelude.{option_map}
 use Rattle.dura_value.specs.Views.{id_of, body_of, messages_of}
 use Rattle.flow_syntax.specs.Entity.{Entity}
 use Rattle.flow_messages.specs.Views.{entity_of}
-use Rattle.dura_model.specs.World.{at_id}
+use Rattle.dura_value.specs.ById.{at_id}
 use Rattle.part_rows.specs.Parts.{part_of}
 use Rattle.part_rows.specs.Reactions.{delivered}
 use Rattle.part_steps.proofs.PutBack.{entity_put_back}

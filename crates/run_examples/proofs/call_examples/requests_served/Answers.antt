@@ -12,10 +12,7 @@ use Rattle.request_reader.specs.Line.{Request}
 use Rattle.run_examples.specs.Calls.{no_flows, starting, rules_for, answered}
 use Rattle.run_rules.specs.Examples.{summing}
 use Rattle.run_examples.proofs.call_examples.requests_served.Goals as goal
-
-nobody_asks : (before : List Message) (r : Message) (behind : List Message) → [] ≡ before ++ r ∷ behind → ⊥
-nobody_asks [] r behind is = cc is
-nobody_asks (first ∷ before) r behind is = cc is
+use Rattle.run_examples.proofs.Quiescent.{nobody_asks}
 
 -- nothing is left where nobody asks and nothing happened
 nothing_left : (w : World) → Quiet no_flows [] w → IsServed (rules_for []) w

@@ -11,10 +11,7 @@ use Rattle.dura_model.specs.Entries.{shown_by}
 use Rattle.request_reader.specs.Line.{Request}
 use Rattle.run_examples.specs.Calls.{no_flows, starting, second, third, rules_for, held_back, out_of_turn}
 use Rattle.run_examples.proofs.call_examples.runs_wait.Goals as goal
-
-nobody_asks : (before : List Message) (r : Message) (behind : List Message) → [] ≡ before ++ r ∷ behind → ⊥
-nobody_asks [] r behind is = cc is
-nobody_asks (first ∷ before) r behind is = cc is
+use Rattle.run_examples.proofs.Quiescent.{nobody_asks}
 
 -- ---- one request
 

@@ -13,6 +13,7 @@ use Rattle.run_laws.specs.Examples.{empty_origin, no_flows, rules, answering, an
 use Rattle.run_laws.specs.Leaves.{IsAnswered, AllAnswered}
 use Rattle.run_laws.specs.Leaves.AllAnswered.{nothing_said, one_more}
 use Rattle.run_laws.proofs.examples.answers_of_a_run.Goals as goal
+use Rattle.run_laws.proofs.NothingAnswered.{nothing_before}
 
 answered : IsAnswered rules empty_origin (answering ∷ []) [] first_said (line_of (codes "a") 1 is_unknown)
 answered = record {
@@ -31,10 +32,6 @@ answered = record {
 
 pub returns-clause-settled : goal.returns-clause-settled
 returns-clause-settled c = answered
-
-nothing_before : (before behind : List Entry) → [] ≡ before ++ behind → before ≡ []
-nothing_before [] behind is = refl
-nothing_before (entry ∷ before) behind is = cc is
 
 pub returns-clause-early : goal.returns-clause-early
 returns-clause-early c = λ one line it.

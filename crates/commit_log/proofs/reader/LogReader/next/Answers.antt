@@ -11,13 +11,7 @@ use Rattle.commit_log.specs.Reading.{Goes}
 use Rattle.commit_log.proofs.Gates.{closed_segment, segment_rests, no_frame, stands, frame_split, frame_read}
 use Rattle.commit_log.proofs.reader.LogReader.next.Goals as goal
 use Rattle.commit_log.proofs.reader.LogReader.next.Goals.{then-next-size-via-then-next-size, then-next-size-via-else-next-size+then-next-ge-END}
-
--- answers that differ
-ok_apart : {T E : Type 0} (value : T) (error : E) → Ok value ≡ Err error → ⊥
-ok_apart value error is = cc
-
-damaged_fault : {T : Type 0} (result : Result T FrameError) (offset : ℕ) → result ≡ Err (Damaged offset) → result ≡ Err SiteFault → ⊥
-damaged_fault result offset damaged fault = cc
+use Rattle.commit_log.proofs.Causes.{ok_apart, damaged_fault}
 
 -- what is answered where no gate was read
 no_gate : (content : List ℕ) (reader : LogReader) (payloads : List (List ℕ)) (error : FrameError) → SaysGate reader.gate (drop reader.gate content) (Err error) → Goes content reader payloads (Err error)

@@ -6,10 +6,7 @@ use Rattle.commit_log.specs.declared.states.BodyError.{BodyError}
 use Rattle.commit_log.specs.declared.states.BodyError.TheVariants.{Full, SiteFault, Memory}
 use Rattle.commit_log.proofs.Steps.{resting_images, body_during, body_broken, body_done}
 use Rattle.commit_log.proofs.states.Resting.body.Goals as goal
-
--- answers that differ
-ok_apart : {T E : Type 0} (value : T) (error : E) → Ok value ≡ Err error → ⊥
-ok_apart value error is = cc
+use Rattle.commit_log.proofs.Causes.{ok_apart}
 
 full_memory : {T : Type 0} (result : Result T BodyError) (n : ℕ) (log other : Resting) → result ≡ Err (Full n log) → result ≡ Err (Memory other) → ⊥
 full_memory result n log other full memory = cc

@@ -13,13 +13,15 @@ use Rattle.hub_store.specs.Plain.{trail_of, told_of}
 use Rattle.hub_store.specs.Trail.{of_part, settling}
 use Rattle.hub_store.specs.Short.{reach_of, KeepsShort}
 use Rattle.hub_store.specs.Ways.{LogFits, WayGoesOn, stage_of, gate_of, going_in, due_in}
-use Rattle.hub_store.proofs.Bodies.{way_put, rests_there, true_apart, ok_apart, fault_no_frame, dropped_settled, within, broken_there, less_due, less_room, still_room}
-use Rattle.hub_store.proofs.OpenedAgain.{not_true, not_false, settled_just, dropped_just, reopen_path, rests_with, rests_without, breaks_again}
+use Rattle.hub_store.proofs.Bodies.{way_put, rests_there, true_apart, fault_no_frame, dropped_settled, within, broken_there, less_due, less_room, still_room}
+use Rattle.hub_store.proofs.OpenedAgain.{not_false, settled_just, dropped_just, reopen_path, rests_with, rests_without, breaks_again}
 use Rattle.hub_store.proofs.Settling.{of_part-append, no_part, told_settled}
 use Rattle.hub_store.proofs.Shortness.{still_short}
 use Rattle.hub_store.proofs.Standing.{told_on}
 use Rattle.hub_store.proofs.Stores.{put_for, others_stay, sound_on, sound_any, due_of_one}
 use Rattle.hub_store.proofs.store.Store.reopen.Goals as goal
+use Rattle.std.proofs.lemmas.Bool.{not-true}
+use Rattle.commit_log.proofs.Causes.{ok_apart}
 
 pub returns-in-Err-clause-sound : goal.returns-in-Err-clause-sound
 returns-in-Err-clause-sound g c =
@@ -73,7 +75,7 @@ returns-then-not-found-clause-sound g c =
     let again = c.reopen_log-answer.ensures.reopens tells (o.logs p).file (o.logs p).header fits.payloads fits.fits in
     let opened = subst (Reopens (o.logs p).file (o.logs p).header fits.payloads (spell_frame (entries_of frame)) was before now) c.in-Ok.is again in
     let path = reopen_path (g.N.Start.may_follow old.latest) g.N.Start.may_say o p trail told before now c.reopen_log-answer.result.0 again.syncs again.during ((stood.rests c.requires.whole).images p c.requires.place) in
-    let rests = rests_without (g.N.Start.may_follow old.latest) g.N.Start.may_say o p trail now before was (spell_frame (entries_of frame)) found fits (not_true found.settled c.if-not-found.true) opened.file_is opened.after in
+    let rests = rests_without (g.N.Start.may_follow old.latest) g.N.Start.may_say o p trail now before was (spell_frame (entries_of frame)) found fits (not-true found.settled c.if-not-found.true) opened.file_is opened.after in
     told_on (g.N.Start.may_follow old.latest) g.N.Start.may_say o p before now old.ways.items way trail told old.cut _ c.requires.sound.apart c.requires.sound.count c.requires.place c.requires.whole stood path rests)
     refl c.reopen_log-answer.ensures.tells (λ q apart. refl)
     (λ tells. still_short old.segment (of_part p trail) (of_part p trail) was way _ c.reopen_log-answer.ensures.going
@@ -93,7 +95,7 @@ returns-then-not-found-clause-opened g c tells =
     let fits = subst (λ (w : Way). LogFits (o.logs p) (of_part p (trail_of old.trail.items)) (changes_of (o.logs p).file before) w) (sym c.take_way-way.ensures.way) (stood.logs p c.requires.place) in
     let again = c.reopen_log-answer.ensures.reopens tells (o.logs p).file (o.logs p).header fits.payloads fits.fits in
     let opened = subst (Reopens (o.logs p).file (o.logs p).header fits.payloads (spell_frame (entries_of frame)) was before now) c.in-Ok.is again in
-    dropped_just (o.logs p).file (gate_of was) _ before c.in-Ok.found.settled (ap gate_of c.take_way-way.ensures.way) opened.opened (not_true _ c.if-not-found.true)
+    dropped_just (o.logs p).file (gate_of was) _ before c.in-Ok.found.settled (ap gate_of c.take_way-way.ensures.way) opened.opened (not-true _ c.if-not-found.true)
 
 pub returns-clause-sound : goal.returns-clause-sound
 returns-clause-sound g c =

@@ -1,11 +1,12 @@
 use Rattle.std.proofs.Common.{[], ◌∷◌, ◌++◌, refl, sym, ◌∙◌, ap, le_refl}
 use Rattle.hub_store.specs.Changes.{asked}
 use Rattle.hub_store.specs.Plain.{trail_of, told_of}
-use Rattle.hub_store.proofs.Bodies.{true_apart, ok_apart, unsaid_apart}
+use Rattle.hub_store.proofs.Bodies.{true_apart, unsaid_apart}
 use Rattle.hub_store.proofs.Refusals.{residual_is, residual_on_err, residual_on_ok}
 use Rattle.hub_store.proofs.Saying.{told_said, told_failed}
 use Rattle.hub_store.proofs.Stores.{sound_told, told_more}
 use Rattle.hub_store.proofs.store.Store.say.Goals as goal
+use Rattle.commit_log.proofs.Causes.{ok_apart}
 
 pub returns-in-Ok-clause-ok : goal.returns-in-Ok-clause-ok
 returns-in-Ok-clause-ok g c = told_more _ _ _ _ c.args.client.now c.args.number c.reserve.ensures.items c.push_reserved.ensures.items c.in_ok-client.ensures refl

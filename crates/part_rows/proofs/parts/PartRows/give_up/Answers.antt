@@ -1,7 +1,7 @@
 use Rattle.std.proofs.Common.{◌∙◌, ap}
 use Rattle.dura_value.specs.Views.{id_of}
 use Rattle.part_rows.specs.Timers.{timers_in}
-use Rattle.dura_model.specs.World.{cleared}
+use Rattle.dura_value.specs.ById.{cleared}
 use Rattle.dura_model.specs.Partition.{Partition}
 use Rattle.part_rows.specs.Parts.{part_of}
 use Rattle.part_rows.proofs.parts.PartRows.give_up.Goals as goal

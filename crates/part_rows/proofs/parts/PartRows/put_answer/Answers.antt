@@ -1,6 +1,7 @@
 use Rattle.std.proofs.Common.{◌≡◌, ◌∙◌, IfOk, Some, ap, subst}
 use Rattle.dura_value.specs.Views.{id_of}
-use Rattle.id_maps.specs.Maps.{by_number, at_number}
+use Rattle.id_maps.specs.Maps.{by_number}
+use Rattle.dura_value.specs.ById.{at_number}
 use Rattle.part_rows.specs.Parts.{part_of}
 use Rattle.part_rows.proofs.Seen.{answers_put}
 use Rattle.part_rows.proofs.parts.PartRows.put_answer.Goals as goal

@@ -1,6 +1,7 @@
 use Rattle.std.proofs.Common.{◌≡◌, ◌∙◌, IfOk, Some, ap, subst}
 use Rattle.dura_value.specs.Views.{id_of}
-use Rattle.id_maps.specs.Maps.{by_id, at_id}
+use Rattle.id_maps.specs.Maps.{by_id}
+use Rattle.dura_value.specs.ById.{at_id}
 use Rattle.part_rows.specs.Parts.{part_of}
 use Rattle.part_rows.proofs.Seen.{entities_put}
 use Rattle.part_rows.proofs.parts.PartRows.put_entity.Goals as goal

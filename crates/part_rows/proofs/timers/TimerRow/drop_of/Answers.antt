@@ -1,6 +1,6 @@
 use Rattle.std.proofs.Common.{◌∙◌, ap, sym}
 use Rattle.dura_value.specs.Views.{id_of}
-use Rattle.id_maps.specs.Maps.{cleared}
+use Rattle.dura_value.specs.ById.{cleared}
 use Rattle.part_rows.specs.Timers.{timers_in}
 use Rattle.part_rows.proofs.Orders.{clear_already, clear_after}
 use Rattle.part_rows.proofs.timers.TimerRow.drop_of.Goals as goal

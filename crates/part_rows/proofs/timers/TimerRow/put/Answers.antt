@@ -1,6 +1,6 @@
 use Rattle.std.proofs.Common.{◌∙◌, ap, sym, subst, true, None, Some}
 use Rattle.dura_value.specs.Views.{id_of}
-use Rattle.id_maps.specs.Maps.{at_number}
+use Rattle.dura_value.specs.ById.{at_number}
 use Rattle.part_rows.specs.declared.timer.Timer.{Timer}
 use Rattle.part_rows.specs.Timers.{timers_in, is_at}
 use Rattle.part_rows.proofs.Orders.{Changes, puts, put_twice, at_itself}

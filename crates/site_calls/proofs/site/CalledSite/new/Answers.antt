@@ -2,8 +2,8 @@ use Rattle.std.proofs.Common.{arith, sym, subst, ap}
 use Rattle.site_calls.specs.Events.{replay}
 use Rattle.site_calls.specs.Known.{Knows}
 use Rattle.site_calls.proofs.FirstSteps.{inside_start_of}
-use Rattle.site_calls.proofs.Inside.{AllInside}
 use Rattle.site_calls.proofs.site.CalledSite.new.Goals as goal
+use Rattle.site_model.specs.History.{AllInside}
 
 pub invariant_of-result : goal.invariant_of-result
 invariant_of-result g c =

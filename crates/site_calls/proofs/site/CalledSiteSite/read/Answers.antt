@@ -1,10 +1,10 @@
 use Rattle.std.proofs.Common.{arith, sym, subst}
 use Rattle.site_calls.specs.Known.{Knows}
-use Rattle.site_calls.proofs.Inside.{AllInside}
 use Rattle.site_calls.specs.Failures.{is_disk_failure, is_say_failure}
 use Rattle.site_calls.proofs.Failures.{counted_once, fails_through}
 use Rattle.site_calls.proofs.Tells.{told_still}
 use Rattle.site_calls.proofs.site.CalledSiteSite.read.Goals as goal
+use Rattle.site_model.specs.History.{AllInside}
 
 pub invariant_of-self : goal.invariant_of-self
 invariant_of-self g c =

@@ -1,6 +1,6 @@
 use Rattle.std.proofs.Common.{ap, ◌∙◌, sym, subst, take, length, ◌-◌}
-use Rattle.site_model.specs.History.{back_to}
-use Rattle.site_memory.specs.Record.{AllInside, history_of}
+use Rattle.site_model.specs.History.{back_to, AllInside}
+use Rattle.site_memory.specs.Record.{history_of}
 use Rattle.site_memory.proofs.Start.{inside_drop}
 use Rattle.site_memory.proofs.memory.MemorySite.image.Goals as goal
 
