@@ -56,10 +56,14 @@ impl<T: Drop> From<AllocFailed<T>> for CallError {
 
 /// The call that the arguments of a process spell, as the system gave them or didn't.
 pub fn call_from(alloc: Global, given: io::Result<Args>) -> Result<Call, CallError>
-    ensures call { IfOk result (λ call. MatchResult given (λ arguments. Spells (into_iter_items arguments) call) (λ _. ⊥)) }
-    ensures usage { IsErrOf result CallError.Usage → MatchResult given (λ arguments. ¬ IsCall (into_iter_items arguments)) (λ _. ⊥) }
-    ensures not_utf8 { MatchResult given (λ _. ¬ IsErrOf result CallError.NotUtf8) (λ error. error_kind error ≢ ErrorKind.OutOfMemory → result ≡ Err CallError.NotUtf8) }
-    ensures memory { IfErr given (λ error. error_kind error ≡ ErrorKind.OutOfMemory → result ≡ Err CallError.Memory) }
+    ensures call { IfOk result (λ call. MatchResult given
+        (λ arguments. Spells (into_iter_items arguments) call) (λ _. ⊥)) }
+    ensures usage { IsErrOf result CallError.Usage
+        → MatchResult given (λ arguments. ¬ IsCall (into_iter_items arguments)) (λ _. ⊥) }
+    ensures not_utf8 { MatchResult given (λ _. ¬ IsErrOf result CallError.NotUtf8)
+        (λ error. error_kind error ≢ ErrorKind.OutOfMemory → result ≡ Err CallError.NotUtf8) }
+    ensures memory { IfErr given (λ error. error_kind error ≡ ErrorKind.OutOfMemory
+        → result ≡ Err CallError.Memory) }
 {
     match given {
         Ok(arguments) => match listed(alloc, arguments) {

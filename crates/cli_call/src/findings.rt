@@ -85,7 +85,8 @@ pub fn look(
     reason: Option<Reason>,
 ) -> Result<Findings, AllocError>
     ensures directory { IfOk result (λ found. string_bytes found.directory ≡ directory.now) }
-    ensures absent { IfOk result (λ found. (name : FileName) → found.absent ≡ Absent.Input name → input_of cause.now ≡ Some name) }
+    ensures absent { IfOk result (λ found. (name : FileName) → found.absent ≡ Absent.Input name
+        → input_of cause.now ≡ Some name) }
     ensures failure { IfOk result (λ found. IsFailureOf fault reason found.failure) }
     ensures log { IfOk result (λ found. names_log cause.now (string_bytes found.log)) }
     ensures foreign { IfOk result (λ found. found.is_foreign ≡ false) }

@@ -56,7 +56,8 @@ fn write_further(
 
 // Appends a line of four parts.
 fn write_hint(out: &mut Vec<u8>, a: &str, b: &str, c: &str, d: &str) -> Result<(), AllocError>
-    ensures { OnOk result (out.new.items ≡ out.old.items ++ hint (a.now ++ b.now ++ c.now ++ d.now)) }
+    ensures { OnOk result (out.new.items
+        ≡ out.old.items ++ hint (a.now ++ b.now ++ c.now ++ d.now)) }
 {
     out.extend_from_slice(b"  ")?;
     out.extend_from_slice(a.as_bytes())?;
@@ -109,7 +110,8 @@ fn write_failure(
     directory: &str,
     failure: &Failure,
 ) -> Result<(), AllocError>
-    ensures { OnOk result (out.new.items ≡ out.old.items ++ failure_text directory.now failure.now) }
+    ensures { OnOk result (out.new.items
+        ≡ out.old.items ++ failure_text directory.now failure.now) }
 {
     let place = failure.place.as_str();
     let error = failure.error.as_str();
@@ -142,7 +144,8 @@ fn write_reason(
     place: &str,
     reason: Reason,
 ) -> Result<(), AllocError>
-    ensures { OnOk result (out.new.items ≡ out.old.items ++ hint (place.now ++ codes ": " ++ reason_text reason)) }
+    ensures { OnOk result (out.new.items
+        ≡ out.old.items ++ hint (place.now ++ codes ": " ++ reason_text reason)) }
 {
     let reason = reason.to_string(alloc)?;
     write_hint(out, place, ": ", reason.as_str(), "")

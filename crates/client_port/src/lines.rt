@@ -42,7 +42,8 @@ pub fn answer_line(
     number: u32,
     answer: &Answer,
 ) -> Result<Vec<u8>, AllocError>
-    ensures line { IfOk result (λ line. line.items ≡ line_of client.now number (answer_of answer.now)) }
+    ensures line { IfOk result (λ line. line.items
+        ≡ line_of client.now number (answer_of answer.now)) }
     ensures there { IfOk result (λ line. 0 < length line.items) }
 {
     let mut line = Vec::from_slice(alloc, client.as_bytes())?;

@@ -41,7 +41,8 @@ pub(crate) fn first_due(queue: &Queue) -> Option<&Request>
 
 /// The first request of each client that wasn't said.
 pub(crate) fn all_due(alloc: Global, queues: &[Queue]) -> Result<Vec<&Request>, AllocError>
-    ensures { IfOk result (λ due. map (λ r. request_of r.now) due.items ≡ all_due (map queue_of queues.now)) }
+    ensures { IfOk result (λ due. map (λ r. request_of r.now) due.items
+        ≡ all_due (map queue_of queues.now)) }
 {
     let mut due = Vec::new(alloc);
     for queue in queues {
@@ -64,7 +65,8 @@ pub(crate) fn all_clients(alloc: Global, queues: &[Queue]) -> Result<Vec<Name>, 
 
 /// The clients of the queues come behind the others.
 fn add_clients(names: &mut Vec<Name>, queues: &[Queue]) -> Result<(), AllocError>
-    ensures { OnOk result (names.new.items ≡ names.old.items ++ map (λ q. q.client) (map queue_of queues.now)) }
+    ensures { OnOk result (names.new.items
+        ≡ names.old.items ++ map (λ q. q.client) (map queue_of queues.now)) }
 {
     for queue in queues {
         let name = copy_of(&queue.client)?;
@@ -92,7 +94,8 @@ fn copy_of(name: &Name) -> Result<Name, AllocError>
 
 /// A queue with one request.
 fn queue_with(alloc: Global, client: Name, request: Request) -> Result<Queue, AllocError>
-    ensures { IfOk result (λ q. queue_of q ≡ record { client = client; requests = request_of request ∷ []; said = 0 }) }
+    ensures { IfOk result (λ q. queue_of q
+        ≡ record { client = client; requests = request_of request ∷ []; said = 0 }) }
 {
     let mut requests = Vec::new(alloc);
     requests.push(request)?;
@@ -133,7 +136,8 @@ impl Queues {
         requires stands { PlacesStand self.old }
         requires there { Some place ≡ position_from (is_of request.client) 0 (all_of self.old) }
         requires within { place < length self.old.all.items }
-        ensures joined { OnOk result (all_of self.new ≡ with_request (all_of self.old) (request_of request)) }
+        ensures joined { OnOk result (all_of self.new
+            ≡ with_request (all_of self.old) (request_of request)) }
         ensures stands { OnOk result (PlacesStand self.new) }
     {
         let queue = &mut self.all[place];
@@ -145,7 +149,8 @@ impl Queues {
     fn open(&mut self, alloc: Global, request: Request) -> Result<(), AllocError>
         requires stands { PlacesStand self.old }
         requires new { None ≡ position_from (is_of request.client) 0 (all_of self.old) }
-        ensures opened { OnOk result (all_of self.new ≡ with_request (all_of self.old) (request_of request)) }
+        ensures opened { OnOk result (all_of self.new
+            ≡ with_request (all_of self.old) (request_of request)) }
         ensures stands { OnOk result (PlacesStand self.new) }
     {
         let place = self.all.as_slice().len();
@@ -160,7 +165,8 @@ impl Queues {
     /// The request goes to its client's queue.
     fn add(&mut self, alloc: Global, request: Request) -> Result<(), AllocError>
         requires { PlacesStand self.old }
-        ensures added { OnOk result (all_of self.new ≡ with_request (all_of self.old) (request_of request)) }
+        ensures added { OnOk result (all_of self.new
+            ≡ with_request (all_of self.old) (request_of request)) }
         ensures stands { OnOk result (PlacesStand self.new) }
     {
         match self.place_of(&request.client) {
@@ -183,7 +189,8 @@ impl Queues {
 
 /// The requests of a file by client.
 pub(crate) fn queues_of(alloc: Global, requests: Vec<Request>) -> Result<Queues, AllocError>
-    ensures queues { IfOk result (λ queues. all_of queues ≡ queues_of (map request_of requests.items)) }
+    ensures queues { IfOk result (λ queues. all_of queues
+        ≡ queues_of (map request_of requests.items)) }
     ensures stands { IfOk result PlacesStand }
 {
     let mut queues = Queues::new(alloc);

@@ -28,7 +28,8 @@ fn with_option<'a>(
     default: &'a str,
 ) -> Result<Command<'a>, AllocError>
     requires { IfOk command (λ c. (out-Command c).has_globals ≡ false) }
-    ensures { IfOk result (λ c. IsOkAnd command.entry (λ before. IsCommand (with_rule (app_of before) (option_rule name.now default.now)) c)) }
+    ensures { IfOk result (λ c. IsOkAnd command.entry
+        (λ before. IsCommand (with_rule (app_of before) (option_rule name.now default.now)) c)) }
 {
     match command {
         Ok(command) => command.arg(option(alloc, name, default)),
@@ -55,7 +56,8 @@ fn show_command<'a>(alloc: Global) -> Result<Command<'a>, AllocError>
 
 /// The command, without its subcommands.
 fn top<'a>(alloc: Global) -> Command<'a>
-    ensures { IsCommand (record { top = record netherite.top { is_leaf = true }; subs = [] }) result }
+    ensures { IsCommand (record { top = record netherite.top { is_leaf = true }; subs = [] })
+        result }
 {
     Command::new(alloc, "netherite")
         .no_binary_name(true)
@@ -71,7 +73,8 @@ fn with_subcommand<'a>(
     sub: Result<Command<'a>, AllocError>,
 ) -> Result<Command<'a>, AllocError>
     requires { IfOk sub (λ s. (out-Command s).has_globals ≡ false) }
-    ensures { IfOk result (λ c. IsOkAnd sub.entry (λ s. app_of c ≡ with_subcommand (app_of command.entry) (app_of s).top)) }
+    ensures { IfOk result (λ c. IsOkAnd sub.entry
+        (λ s. app_of c ≡ with_subcommand (app_of command.entry) (app_of s).top)) }
 {
     match sub {
         Ok(sub) => command.subcommand(sub),

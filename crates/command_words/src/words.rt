@@ -90,7 +90,8 @@ fn error_of(error: clap::Error) -> WordsError
 fn matches_of<'a>(alloc: Global, words: &'a [&'a str]) -> Result<ArgMatches<'a>, WordsError>
     ensures ok { IfOk result (λ m. (fault_of netherite (map (λ word. word.now) words.now) ≡ [])
         × (subcommand_rows_of m ≡ subcommand_of netherite (map (λ word. word.now) words.now))) }
-    ensures err { IfErr result (λ e. e ≢ Memory → fault_of netherite (map (λ word. word.now) words.now) ≢ []) }
+    ensures err { IfErr result (λ e. e ≢ Memory
+        → fault_of netherite (map (λ word. word.now) words.now) ≢ []) }
 {
     let command = command::netherite(alloc)?;
     match command.try_get_matches_from(words) {

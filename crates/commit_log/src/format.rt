@@ -78,7 +78,8 @@ fn write_safely<V: Site>(site: &mut V, file: u32, at: u64, bytes: &[u8]) -> Resu
 /// Whether the first of at least two bytes isn't open.
 fn is_closed<V: Site>(site: &mut V, file: u32) -> Result<bool, Failed>
     ensures tells { V.tells site.new → V.tells site.old }
-    ensures value { V.tells site.new → IfOk result (IsClosedContent (content_of file (V.history site.old))) }
+    ensures value { V.tells site.new → IfOk result
+        (IsClosedContent (content_of file (V.history site.old))) }
     ensures unchanged { V.history site.new ≡ V.history site.old }
     ensures cause { HasCause (V.disk_faults site.old) (V.disk_faults site.new) result }
     ensures say_faults { V.say_faults site.new ≡ V.say_faults site.old }
@@ -101,9 +102,13 @@ fn is_closed<V: Site>(site: &mut V, file: u32) -> Result<bool, Failed>
 /// that is written again a crash could make an open gate, before whatever stands behind it.
 fn close<V: Site>(site: &mut V, file: u32) -> Result<(), Failed>
     ensures tells { V.tells site.new → V.tells site.old }
-    ensures during { V.tells site.new → IsKept (changes_of file (V.history site.old)) → LeavesOnly file (V.history site.old) (V.history site.new) (IsClosing (content_of file (V.history site.old))) }
-    ensures ok { V.tells site.new → IsKept (changes_of file (V.history site.old)) → OnOk result (IsClosed (changes_of file (V.history site.new))) }
-    ensures long { V.tells site.new → OnOk result (1 ≤ length (content_of file (V.history site.new))) }
+    ensures during { V.tells site.new → IsKept (changes_of file (V.history site.old))
+        → LeavesOnly file (V.history site.old) (V.history site.new)
+        (IsClosing (content_of file (V.history site.old))) }
+    ensures ok { V.tells site.new → IsKept (changes_of file (V.history site.old))
+        → OnOk result (IsClosed (changes_of file (V.history site.new))) }
+    ensures long { V.tells site.new → OnOk result
+        (1 ≤ length (content_of file (V.history site.new))) }
     ensures cause { HasCause (V.disk_faults site.old) (V.disk_faults site.new) result }
     ensures say_faults { V.say_faults site.new ≡ V.say_faults site.old }
 {
@@ -119,8 +124,11 @@ fn write_header<V: Site>(site: &mut V, file: u32, header: Header) -> Result<(), 
     requires long { V.tells site.old → 1 ≤ length (content_of file (V.history site.old)) }
     requires base { header.base < 2 ^ 63 }
     ensures tells { V.tells site.new → V.tells site.old }
-    ensures during { IsClosed (changes_of file (V.history site.old)) → LeavesOnly file (V.history site.old) (V.history site.new) (λ image. reading_of image ≡ fresh) }
-    ensures ok { IsClosed (changes_of file (V.history site.old)) → OnOk result (IsHeaded (changes_of file (V.history site.new)) header) }
+    ensures during { IsClosed (changes_of file (V.history site.old))
+        → LeavesOnly file (V.history site.old) (V.history site.new)
+        (λ image. reading_of image ≡ fresh) }
+    ensures ok { IsClosed (changes_of file (V.history site.old))
+        → OnOk result (IsHeaded (changes_of file (V.history site.new)) header) }
     ensures cause { HasCause (V.disk_faults site.old) (V.disk_faults site.new) result }
     ensures say_faults { V.say_faults site.new ≡ V.say_faults site.old }
 {
@@ -131,8 +139,10 @@ fn write_header<V: Site>(site: &mut V, file: u32, header: Header) -> Result<(), 
 /// Opens the first byte before a whole header.
 fn open<V: Site>(site: &mut V, file: u32) -> Result<(), Failed>
     ensures tells { V.tells site.new → V.tells site.old }
-    ensures during { (h : Header) → IsHeaded (changes_of file (V.history site.old)) h → LeavesOnly file (V.history site.old) (V.history site.new) (IsOpening h) }
-    ensures ok { (h : Header) → IsHeaded (changes_of file (V.history site.old)) h → OnOk result (IsResting (changes_of file (V.history site.new)) h [] FIRST_GATE) }
+    ensures during { (h : Header) → IsHeaded (changes_of file (V.history site.old)) h
+        → LeavesOnly file (V.history site.old) (V.history site.new) (IsOpening h) }
+    ensures ok { (h : Header) → IsHeaded (changes_of file (V.history site.old)) h
+        → OnOk result (IsResting (changes_of file (V.history site.new)) h [] FIRST_GATE) }
     ensures cause { HasCause (V.disk_faults site.old) (V.disk_faults site.new) result }
     ensures say_faults { V.say_faults site.new ≡ V.say_faults site.old }
 {
@@ -145,8 +155,11 @@ impl Resting {
     pub fn format<V: Site>(site: &mut V, file: u32, header: Header) -> Result<Resting, Failed>
         requires { header.base < 2 ^ 63 }
         ensures tells { V.tells site.new → V.tells site.old }
-        ensures during { V.tells site.new → IsKept (changes_of file (V.history site.old)) → LeavesOnly file (V.history site.old) (V.history site.new) (IsFormatting (content_of file (V.history site.old)) header) }
-        ensures ok { V.tells site.new → IsKept (changes_of file (V.history site.old)) → IfOk result (RestsAs (V.history site.new) header []) }
+        ensures during { V.tells site.new → IsKept (changes_of file (V.history site.old))
+            → LeavesOnly file (V.history site.old) (V.history site.new)
+            (IsFormatting (content_of file (V.history site.old)) header) }
+        ensures ok { V.tells site.new → IsKept (changes_of file (V.history site.old))
+            → IfOk result (RestsAs (V.history site.new) header []) }
         ensures place { IfOk result (λ log. (log.file ≡ file) × (log.gate ≡ FIRST_GATE)) }
         ensures cause { HasCause (V.disk_faults site.old) (V.disk_faults site.new) result }
         ensures say_faults { V.say_faults site.new ≡ V.say_faults site.old }

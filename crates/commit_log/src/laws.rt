@@ -9,8 +9,10 @@ ghost use Rattle.commit_log.specs.Frames.{closed, wrong, found_at, HasRead};
 pub fn the_frames_are_the_whole()
     ensures ends { (content : List ℕ) (header : Header) (payloads : List (List ℕ)) (gate : ℕ)
         → HasRead content header payloads gate → gate + 1 < 2 ^ 31
-        → found_at gate (drop gate content) ≡ closed → reading_of content ≡ segment header payloads gate }
-    ensures breaks { (content : List ℕ) (header : Header) (payloads : List (List ℕ)) (gate offset : ℕ)
-        → HasRead content header payloads gate → gate + 1 < 2 ^ 31 → gate < length content
-        → found_at gate (drop gate content) ≡ wrong offset → reading_of content ≡ damaged offset }
+        → found_at gate (drop gate content) ≡ closed
+        → reading_of content ≡ segment header payloads gate }
+    ensures breaks { (content : List ℕ) (header : Header) (payloads : List (List ℕ))
+        (gate offset : ℕ) → HasRead content header payloads gate → gate + 1 < 2 ^ 31
+        → gate < length content → found_at gate (drop gate content) ≡ wrong offset
+        → reading_of content ≡ damaged offset }
 {}

@@ -15,7 +15,8 @@ use site_model::{Failed, Site};
 fn synced_length<V: Site>(site: &mut V, file: u32) -> Result<u64, Failed>
     ensures tells { V.tells site.new → V.tells site.old }
     ensures either { Syncs file (V.history site.old) (V.history site.new) result }
-    ensures value { V.tells site.new → IfOk result (λ n. n ≡ length (content_of file (V.history site.old))) }
+    ensures value { V.tells site.new → IfOk result
+        (λ n. n ≡ length (content_of file (V.history site.old))) }
     ensures cause { HasCause (V.disk_faults site.old) (V.disk_faults site.new) result }
     ensures say_faults { V.say_faults site.new ≡ V.say_faults site.old }
 {
@@ -26,9 +27,11 @@ fn synced_length<V: Site>(site: &mut V, file: u32) -> Result<u64, Failed>
 /// The header that stands in the front of a file, by one read.
 fn read_front<V: Site>(site: &mut V, file: u32, partition: u32) -> Result<Header, OpenError>
     ensures tells { V.tells site.new → V.tells site.old }
-    ensures says { V.tells site.new → SaysHeader partition (content_of file (V.history site.old)) result }
+    ensures says { V.tells site.new → SaysHeader partition (content_of file (V.history site.old))
+        result }
     ensures unchanged { V.history site.new ≡ V.history site.old }
-    ensures fault { result ≡ Err OpenError.SiteFault → HasRisen (V.disk_faults site.old) (V.disk_faults site.new) }
+    ensures fault { result ≡ Err OpenError.SiteFault
+        → HasRisen (V.disk_faults site.old) (V.disk_faults site.new) }
     ensures later { V.disk_faults site.old ≤ V.disk_faults site.new }
     ensures say_faults { V.say_faults site.new ≡ V.say_faults site.old }
 {
@@ -43,14 +46,20 @@ fn read_front<V: Site>(site: &mut V, file: u32, partition: u32) -> Result<Header
 pub fn open_log<V: Site>(site: &mut V, file: u32, partition: u32) -> Result<LogReader, OpenError>
     ensures tells { V.tells site.new → V.tells site.old }
     // A crash leaves what it could have left before.
-    ensures during { V.tells site.new → LeavesOnly file (V.history site.old) (V.history site.new) (Leaves (changes_of file (V.history site.old))) }
-    ensures opens { V.tells site.new → Opens partition (content_of file (V.history site.old)) result }
-    ensures syncs { (V.history site.new ≡ on file synced ∷ V.history site.old) ⊎ (V.history site.new ≡ V.history site.old) }
+    ensures during { V.tells site.new → LeavesOnly file (V.history site.old) (V.history site.new)
+        (Leaves (changes_of file (V.history site.old))) }
+    ensures opens { V.tells site.new → Opens partition (content_of file (V.history site.old))
+        result }
+    ensures syncs { (V.history site.new ≡ on file synced ∷ V.history site.old)
+        ⊎ (V.history site.new ≡ V.history site.old) }
     ensures synced { OnOk result (V.history site.new ≡ on file synced ∷ V.history site.old) }
-    ensures synced_fresh { result ≡ Err OpenError.Fresh → V.history site.new ≡ on file synced ∷ V.history site.old }
-    ensures synced_damaged { (offset : ℕ) → result ≡ Err (OpenError.Damaged offset) → V.history site.new ≡ on file synced ∷ V.history site.old }
+    ensures synced_fresh { result ≡ Err OpenError.Fresh
+        → V.history site.new ≡ on file synced ∷ V.history site.old }
+    ensures synced_damaged { (offset : ℕ) → result ≡ Err (OpenError.Damaged offset)
+        → V.history site.new ≡ on file synced ∷ V.history site.old }
     ensures place { IfOk result (λ reader. reader.file ≡ file) }
-    ensures fault { result ≡ Err OpenError.SiteFault → HasRisen (V.disk_faults site.old) (V.disk_faults site.new) }
+    ensures fault { result ≡ Err OpenError.SiteFault
+        → HasRisen (V.disk_faults site.old) (V.disk_faults site.new) }
     ensures later { V.disk_faults site.old ≤ V.disk_faults site.new }
     ensures say_faults { V.say_faults site.new ≡ V.say_faults site.old }
 {

@@ -20,9 +20,11 @@ const END: u64 = 1 << 31;
 fn read_gate<V: Site>(site: &mut V, file: u32, gate: u64) -> Result<Option<u32>, FrameError>
     requires { gate + 1 < 2 ^ 31 }
     ensures tells { V.tells site.new → V.tells site.old }
-    ensures says { V.tells site.new → SaysGate gate (drop gate (content_of file (V.history site.old))) result }
+    ensures says { V.tells site.new → SaysGate gate
+        (drop gate (content_of file (V.history site.old))) result }
     ensures unchanged { V.history site.new ≡ V.history site.old }
-    ensures fault { result ≡ Err FrameError.SiteFault → HasRisen (V.disk_faults site.old) (V.disk_faults site.new) }
+    ensures fault { result ≡ Err FrameError.SiteFault
+        → HasRisen (V.disk_faults site.old) (V.disk_faults site.new) }
     ensures later { V.disk_faults site.old ≤ V.disk_faults site.new }
     ensures say_faults { V.say_faults site.new ≡ V.say_faults site.old }
 {
@@ -43,10 +45,12 @@ fn read_payload<V: Site>(
 ) -> Result<Payload, FrameError>
     requires { gate + 1 < 2 ^ 31 }
     ensures tells { V.tells site.new → V.tells site.old }
-    ensures says { V.tells site.new → SaysPayload payload_len (drop (gate + 5) (content_of file (V.history site.old))) result }
+    ensures says { V.tells site.new → SaysPayload payload_len
+        (drop (gate + 5) (content_of file (V.history site.old))) result }
     ensures whole { IfOk result (λ payload. length payload ≡ payload_len) }
     ensures unchanged { V.history site.new ≡ V.history site.old }
-    ensures fault { result ≡ Err FrameError.SiteFault → HasRisen (V.disk_faults site.old) (V.disk_faults site.new) }
+    ensures fault { result ≡ Err FrameError.SiteFault
+        → HasRisen (V.disk_faults site.old) (V.disk_faults site.new) }
     ensures later { V.disk_faults site.old ≤ V.disk_faults site.new }
     ensures say_faults { V.say_faults site.new ≡ V.say_faults site.old }
 {
@@ -73,14 +77,18 @@ impl LogReader {
     /// file's before memory is taken for it.
     pub fn next<V: Site>(self, alloc: Global, site: &mut V) -> Result<Next, FrameError>
         ensures tells { V.tells site.new → V.tells site.old }
-        ensures found { V.tells site.new → self.size ≡ length (content_of self.file (V.history site.old))
-            → (payloads : List (List ℕ)) → HasRead (content_of self.file (V.history site.old)) self.header payloads self.gate
+        ensures found { V.tells site.new → self.size
+            ≡ length (content_of self.file (V.history site.old)) → (payloads : List (List ℕ))
+            → HasRead (content_of self.file (V.history site.old)) self.header payloads self.gate
             → Goes (content_of self.file (V.history site.old)) self payloads result }
-        ensures rests { V.tells site.new → (payloads : List (List ℕ)) → HasRead (content_of self.file (V.history site.old)) self.header payloads self.gate
-            → IsKept (changes_of self.file (V.history site.old)) → RestsAtEnd (V.history site.new) self.header payloads result }
+        ensures rests { V.tells site.new → (payloads : List (List ℕ))
+            → HasRead (content_of self.file (V.history site.old)) self.header payloads self.gate
+            → IsKept (changes_of self.file (V.history site.old))
+            → RestsAtEnd (V.history site.new) self.header payloads result }
         ensures unchanged { V.history site.new ≡ V.history site.old }
         ensures place { StaysInFile self result }
-        ensures fault { result ≡ Err FrameError.SiteFault → HasRisen (V.disk_faults site.old) (V.disk_faults site.new) }
+        ensures fault { result ≡ Err FrameError.SiteFault
+            → HasRisen (V.disk_faults site.old) (V.disk_faults site.new) }
         ensures later { V.disk_faults site.old ≤ V.disk_faults site.new }
         ensures say_faults { V.say_faults site.new ≡ V.say_faults site.old }
     {

@@ -16,7 +16,9 @@ use site_model::{Failed, Site};
 fn synced_gate<V: Site>(site: &mut V, file: u32, gate: u64) -> Result<bool, Failed>
     ensures tells { V.tells site.new → V.tells site.old }
     ensures either { Syncs file (V.history site.old) (V.history site.new) result }
-    ensures opened { V.tells site.new → IfOk result (λ is_open. is_open ≡ (slice_index (content_of file (V.history site.old)) gate == open_gate)) }
+    ensures opened { V.tells site.new → IfOk result
+        (λ is_open. is_open ≡ (slice_index (content_of file (V.history site.old)) gate ==
+        open_gate)) }
     ensures cause { HasCause (V.disk_faults site.old) (V.disk_faults site.new) result }
     ensures say_faults { V.say_faults site.new ≡ V.say_faults site.old }
 {
@@ -35,12 +37,19 @@ impl Broken {
     pub fn reopen<V: Site>(self, site: &mut V) -> Result<Reopened, Broken>
         ensures tells { V.tells site.new → V.tells site.old }
         // A crash leaves what it could have left before.
-        ensures during { V.tells site.new → LeavesOnly self.file (V.history site.old) (V.history site.new) (Leaves (changes_of self.file (V.history site.old))) }
-        ensures after { V.tells site.new → (h : Header) (payloads : List (List ℕ)) (payload : List ℕ) → IsBroken (changes_of self.file (V.history site.old)) h payloads payload self.gate self.next
+        ensures during { V.tells site.new → LeavesOnly self.file (V.history site.old)
+            (V.history site.new) (Leaves (changes_of self.file (V.history site.old))) }
+        ensures after { V.tells site.new → (h : Header) (payloads : List (List ℕ))
+            (payload : List ℕ) → IsBroken (changes_of self.file (V.history site.old)) h payloads
+            payload self.gate self.next
             → AfterReopen (V.history site.new) h payloads payload result }
-        ensures opened { V.tells site.new → IfOk result (λ found. found.settled ≡ (slice_index (content_of self.file (V.history site.old)) self.gate == open_gate)) }
-        ensures place { IfOk result (λ found. (found.log.file ≡ self.file) × MatchBool found.settled (found.log.gate ≡ self.next) (found.log.gate ≡ self.gate)) }
-        ensures broken { IfErr result (λ log. (log.file ≡ self.file) × (log.gate ≡ self.gate) × (log.next ≡ self.next)) }
+        ensures opened { V.tells site.new → IfOk result
+            (λ found. found.settled
+            ≡ (slice_index (content_of self.file (V.history site.old)) self.gate == open_gate)) }
+        ensures place { IfOk result (λ found. (found.log.file ≡ self.file)
+            × MatchBool found.settled (found.log.gate ≡ self.next) (found.log.gate ≡ self.gate)) }
+        ensures broken { IfErr result (λ log. (log.file ≡ self.file) × (log.gate ≡ self.gate)
+            × (log.next ≡ self.next)) }
         ensures syncs { Syncs self.file (V.history site.old) (V.history site.new) result }
         ensures cause { HasCause (V.disk_faults site.old) (V.disk_faults site.new) result }
         ensures say_faults { V.say_faults site.new ≡ V.say_faults site.old }
@@ -64,12 +73,18 @@ impl Bodied {
     /// Opens the log again before its frame was synced. The frame is dropped.
     pub fn reopen<V: Site>(self, site: &mut V) -> Result<Reopened, Broken>
         ensures tells { V.tells site.new → V.tells site.old }
-        ensures during { V.tells site.new → LeavesOnly self.file (V.history site.old) (V.history site.new) (Leaves (changes_of self.file (V.history site.old))) }
-        ensures dropped { V.tells site.new → (h : Header) (payloads : List (List ℕ)) (payload : List ℕ) → IsBodied (changes_of self.file (V.history site.old)) h payloads payload self.gate self.next
-            → AfterDrop (V.history site.new) h payloads payload result }
-        ensures opened { V.tells site.new → IfOk result (λ found. found.settled ≡ (slice_index (content_of self.file (V.history site.old)) self.gate == open_gate)) }
-        ensures place { IfOk result (λ found. (found.log.file ≡ self.file) × MatchBool found.settled (found.log.gate ≡ self.next) (found.log.gate ≡ self.gate)) }
-        ensures broken { IfErr result (λ log. (log.file ≡ self.file) × (log.gate ≡ self.gate) × (log.next ≡ self.next)) }
+        ensures during { V.tells site.new → LeavesOnly self.file (V.history site.old)
+            (V.history site.new) (Leaves (changes_of self.file (V.history site.old))) }
+        ensures dropped { V.tells site.new → (h : Header) (payloads : List (List ℕ))
+            (payload : List ℕ) → IsBodied (changes_of self.file (V.history site.old)) h payloads
+            payload self.gate self.next → AfterDrop (V.history site.new) h payloads payload result }
+        ensures opened { V.tells site.new → IfOk result
+            (λ found. found.settled
+            ≡ (slice_index (content_of self.file (V.history site.old)) self.gate == open_gate)) }
+        ensures place { IfOk result (λ found. (found.log.file ≡ self.file)
+            × MatchBool found.settled (found.log.gate ≡ self.next) (found.log.gate ≡ self.gate)) }
+        ensures broken { IfErr result (λ log. (log.file ≡ self.file) × (log.gate ≡ self.gate)
+            × (log.next ≡ self.next)) }
         ensures syncs { Syncs self.file (V.history site.old) (V.history site.new) result }
         ensures cause { HasCause (V.disk_faults site.old) (V.disk_faults site.new) result }
         ensures say_faults { V.say_faults site.new ≡ V.say_faults site.old }
@@ -83,12 +98,18 @@ impl Synced {
     /// Opens the log again before its gate was opened. The frame is dropped.
     pub fn reopen<V: Site>(self, site: &mut V) -> Result<Reopened, Broken>
         ensures tells { V.tells site.new → V.tells site.old }
-        ensures during { V.tells site.new → LeavesOnly self.file (V.history site.old) (V.history site.new) (Leaves (changes_of self.file (V.history site.old))) }
-        ensures dropped { V.tells site.new → (h : Header) (payloads : List (List ℕ)) (payload : List ℕ) → IsSynced (changes_of self.file (V.history site.old)) h payloads payload self.gate self.next
-            → AfterDrop (V.history site.new) h payloads payload result }
-        ensures opened { V.tells site.new → IfOk result (λ found. found.settled ≡ (slice_index (content_of self.file (V.history site.old)) self.gate == open_gate)) }
-        ensures place { IfOk result (λ found. (found.log.file ≡ self.file) × MatchBool found.settled (found.log.gate ≡ self.next) (found.log.gate ≡ self.gate)) }
-        ensures broken { IfErr result (λ log. (log.file ≡ self.file) × (log.gate ≡ self.gate) × (log.next ≡ self.next)) }
+        ensures during { V.tells site.new → LeavesOnly self.file (V.history site.old)
+            (V.history site.new) (Leaves (changes_of self.file (V.history site.old))) }
+        ensures dropped { V.tells site.new → (h : Header) (payloads : List (List ℕ))
+            (payload : List ℕ) → IsSynced (changes_of self.file (V.history site.old)) h payloads
+            payload self.gate self.next → AfterDrop (V.history site.new) h payloads payload result }
+        ensures opened { V.tells site.new → IfOk result
+            (λ found. found.settled
+            ≡ (slice_index (content_of self.file (V.history site.old)) self.gate == open_gate)) }
+        ensures place { IfOk result (λ found. (found.log.file ≡ self.file)
+            × MatchBool found.settled (found.log.gate ≡ self.next) (found.log.gate ≡ self.gate)) }
+        ensures broken { IfErr result (λ log. (log.file ≡ self.file) × (log.gate ≡ self.gate)
+            × (log.next ≡ self.next)) }
         ensures syncs { Syncs self.file (V.history site.old) (V.history site.new) result }
         ensures cause { HasCause (V.disk_faults site.old) (V.disk_faults site.new) result }
         ensures say_faults { V.say_faults site.new ≡ V.say_faults site.old }
@@ -102,12 +123,19 @@ impl Gated {
     /// Opens the log again before its gate was synced. Where the gate reads open the frame is settled, else dropped.
     pub fn reopen<V: Site>(self, site: &mut V) -> Result<Reopened, Broken>
         ensures tells { V.tells site.new → V.tells site.old }
-        ensures during { V.tells site.new → LeavesOnly self.file (V.history site.old) (V.history site.new) (Leaves (changes_of self.file (V.history site.old))) }
-        ensures after { V.tells site.new → (h : Header) (payloads : List (List ℕ)) (payload : List ℕ) → IsGated (changes_of self.file (V.history site.old)) h payloads payload self.gate self.next
+        ensures during { V.tells site.new → LeavesOnly self.file (V.history site.old)
+            (V.history site.new) (Leaves (changes_of self.file (V.history site.old))) }
+        ensures after { V.tells site.new → (h : Header) (payloads : List (List ℕ))
+            (payload : List ℕ) → IsGated (changes_of self.file (V.history site.old)) h payloads
+            payload self.gate self.next
             → AfterReopen (V.history site.new) h payloads payload result }
-        ensures opened { V.tells site.new → IfOk result (λ found. found.settled ≡ (slice_index (content_of self.file (V.history site.old)) self.gate == open_gate)) }
-        ensures place { IfOk result (λ found. (found.log.file ≡ self.file) × MatchBool found.settled (found.log.gate ≡ self.next) (found.log.gate ≡ self.gate)) }
-        ensures broken { IfErr result (λ log. (log.file ≡ self.file) × (log.gate ≡ self.gate) × (log.next ≡ self.next)) }
+        ensures opened { V.tells site.new → IfOk result
+            (λ found. found.settled
+            ≡ (slice_index (content_of self.file (V.history site.old)) self.gate == open_gate)) }
+        ensures place { IfOk result (λ found. (found.log.file ≡ self.file)
+            × MatchBool found.settled (found.log.gate ≡ self.next) (found.log.gate ≡ self.gate)) }
+        ensures broken { IfErr result (λ log. (log.file ≡ self.file) × (log.gate ≡ self.gate)
+            × (log.next ≡ self.next)) }
         ensures syncs { Syncs self.file (V.history site.old) (V.history site.new) result }
         ensures cause { HasCause (V.disk_faults site.old) (V.disk_faults site.new) result }
         ensures say_faults { V.say_faults site.new ≡ V.say_faults site.old }

@@ -194,7 +194,8 @@ fn write_spot(out: &mut Vec<u8>, spot: &Spot) -> Result<(), AllocError>
 }
 
 fn write_spots(out: &mut Vec<u8>, spots: &[Spot]) -> Result<(), AllocError>
-    ensures { OnOk result (out.new.items ≡ out.old.items ++ flat_map spell_spot (spots_of spots.now)) }
+    ensures { OnOk result (out.new.items
+        ≡ out.old.items ++ flat_map spell_spot (spots_of spots.now)) }
 {
     for spot in spots {
         write_spot(out, spot)?;
@@ -210,7 +211,8 @@ fn write_lock(
     index: u8,
 ) -> Result<(), AllocError>
     requires { length spots.now ≤ most_spots }
-    ensures { OnOk result (out.new.items ≡ out.old.items ++ spell_body (lock (id_of id.now) task (spots_of spots.now) index)) }
+    ensures { OnOk result (out.new.items
+        ≡ out.old.items ++ spell_body (lock (id_of id.now) task (spots_of spots.now) index)) }
 {
     out.push(LOCK)?;
     write_id(out, id)?;
@@ -268,7 +270,8 @@ pub fn write_body(out: &mut Vec<u8>, body: &Body) -> Result<(), AllocError>
 /// A message.
 pub fn write_message(out: &mut Vec<u8>, message: &Message) -> Result<(), AllocError>
     requires { CanSpellBody (body_of message.now.body) }
-    ensures { OnOk result (out.new.items ≡ out.old.items ++ spell_message (message_of message.now)) }
+    ensures { OnOk result (out.new.items
+        ≡ out.old.items ++ spell_message (message_of message.now)) }
 {
     write_id(out, &message.from)?;
     write_id(out, &message.to)?;

@@ -23,7 +23,8 @@ impl Model for Text {
 
     ghost view = { λ t. t.bytes.items };
 
-    ghost invariant = { λ t. (is_utf8 t.bytes.items ≡ true) × (length t.bytes.items ≤ most_text_bytes) };
+    ghost invariant = { λ t. (is_utf8 t.bytes.items ≡ true)
+        × (length t.bytes.items ≤ most_text_bytes) };
 }
 
 /// Why bytes gave no text.

@@ -30,8 +30,6 @@ use Rattle.site_model.proofs.Images.{torn_as_it_was}
 
 -- ---- images
 
-}
-
 -- a crash always leaves something
 some_left : (changes : List Change) → (image : List ℕ) × Leaves changes image
 some_left [] = ([], refl)

@@ -40,13 +40,22 @@ fn run_requests<V: Site, C: Clock, A: Activities>(
     ensures tells { V.tells result.site → V.tells site }
     ensures status { result.status ≡ status_of result.cause }
     ensures no_usage { result.cause ≢ Cause.Usage }
-    ensures answers { V.tells result.site → CauseHolds (λ file. content_of file (V.history site)) result.cause }
+    ensures answers { V.tells result.site → CauseHolds (λ file. content_of file (V.history site))
+        result.cause }
     ensures untouched { Untouched (V.history site) (V.history result.site) result.cause }
-    ensures refused { V.tells result.site → AreRefused (λ file. content_of file (V.history site)) → LeavesAll (V.history site) (V.history result.site) result.trail }
+    ensures refused { V.tells result.site → AreRefused (λ file. content_of file (V.history site))
+        → LeavesAll (V.history site) (V.history result.site) result.trail }
     ensures settles_nothing { IsRefusal result.cause → result.trail ≡ [] }
-    ensures headline { V.tells result.site → (job : Job) → AsksFor (λ file. content_of file (V.history site)) job
-        → Headline job (λ file. content_of file (V.history site)) (V.history site) (V.history result.site) result.trail (terms_of options A.gives (C.given clock) (C.given result.clock) (C.latest result.clock)) result.cause }
-    ensures faults { FaultsRise result.cause (faults_of (V.disk_faults site) (V.say_faults site) (C.clock_faults clock)) (faults_of (V.disk_faults result.site) (V.say_faults result.site) (C.clock_faults result.clock)) }
+    ensures headline { V.tells result.site → (job : Job)
+        → AsksFor (λ file. content_of file (V.history site)) job
+        → Headline job (λ file. content_of file (V.history site)) (V.history site)
+        (V.history result.site) result.trail
+        (terms_of options A.gives (C.given clock) (C.given result.clock) (C.latest result.clock))
+        result.cause }
+    ensures faults { FaultsRise result.cause
+        (faults_of (V.disk_faults site) (V.say_faults site) (C.clock_faults clock))
+        (faults_of (V.disk_faults result.site) (V.say_faults result.site)
+        (C.clock_faults result.clock)) }
 {
     match prepare(alloc, &mut site) {
         Ok(prepared) => go_named::<V, Brand, C, A>(alloc, site, clock, acts, prepared, options),
@@ -66,15 +75,21 @@ pub fn run_alone<V: Site, C: Clock, A: Activities>(
     ensures status { result.status ≡ status_of result.cause }
 
     // The words alone decide on a usage fault, and then nothing happens.
-    ensures usage { call_in words.now ≡ None → (result.cause ≡ Cause.Usage) ⊎ (result.cause ≡ Cause.Memory) }
+    ensures usage { call_in words.now ≡ None
+        → (result.cause ≡ Cause.Usage) ⊎ (result.cause ≡ Cause.Memory) }
     ensures only_usage { result.cause ≡ Cause.Usage → call_in words.now ≡ None }
 
     // All else, by what the words ask for: what every crash of a run leaves, what it answers and said, and what refusals leave.
-    ensures promises { Promises words.now (V.tells result.site) (V.history site) (V.history result.site)
-        (λ options. terms_of options A.gives (C.given clock) (C.given result.clock) (C.latest result.clock)) result.trail result.cause }
+    ensures promises { Promises words.now (V.tells result.site) (V.history site)
+        (V.history result.site)
+        (λ options. terms_of options A.gives (C.given clock) (C.given result.clock)
+        (C.latest result.clock)) result.trail result.cause }
 
     // A fault has its cause.
-    ensures faults { FaultsRise result.cause (faults_of (V.disk_faults site) (V.say_faults site) (C.clock_faults clock)) (faults_of (V.disk_faults result.site) (V.say_faults result.site) (C.clock_faults result.clock)) }
+    ensures faults { FaultsRise result.cause
+        (faults_of (V.disk_faults site) (V.say_faults site) (C.clock_faults clock))
+        (faults_of (V.disk_faults result.site) (V.say_faults result.site)
+        (C.clock_faults result.clock)) }
 {
     match read_words(alloc, words) {
         Ok(Call::Run(options)) => run_requests(alloc, site, clock, acts, options),
@@ -108,15 +123,21 @@ pub fn run<R: Threads + Wait + Sync, V: Site + Send, C: Clock + Send, A: Activit
     ensures status { result.status ≡ status_of result.cause }
 
     // The words alone decide on a usage fault, and then nothing happens.
-    ensures usage { call_in words.now ≡ None → (result.cause ≡ Cause.Usage) ⊎ (result.cause ≡ Cause.Memory) }
+    ensures usage { call_in words.now ≡ None
+        → (result.cause ≡ Cause.Usage) ⊎ (result.cause ≡ Cause.Memory) }
     ensures only_usage { result.cause ≡ Cause.Usage → call_in words.now ≡ None }
 
     // All else, by what the words ask for: what every crash of a run leaves, what it answers and said, and what refusals leave.
-    ensures promises { Promises words.now (V.tells result.site) (V.history site) (V.history result.site)
-        (λ options. terms_of options A.gives (C.given clock) (C.given result.clock) (C.latest result.clock)) result.trail result.cause }
+    ensures promises { Promises words.now (V.tells result.site) (V.history site)
+        (V.history result.site)
+        (λ options. terms_of options A.gives (C.given clock) (C.given result.clock)
+        (C.latest result.clock)) result.trail result.cause }
 
     // A fault has its cause.
-    ensures faults { FaultsRise result.cause (faults_of (V.disk_faults site) (V.say_faults site) (C.clock_faults clock)) (faults_of (V.disk_faults result.site) (V.say_faults result.site) (C.clock_faults result.clock)) }
+    ensures faults { FaultsRise result.cause
+        (faults_of (V.disk_faults site) (V.say_faults site) (C.clock_faults clock))
+        (faults_of (V.disk_faults result.site) (V.say_faults result.site)
+        (C.clock_faults result.clock)) }
 {
     let _ = rt;
     run_alone(alloc, words, site, clock, acts)

@@ -27,8 +27,10 @@ fn clashes(state: &PartState, request: &Request) -> Result<bool, AllocError>
 /// Of what was found first and a request the one that comes first, by its client's name and its number.
 fn earlier<'a>(first: Option<&'a Request>, request: &'a Request) -> &'a Request
     ensures one { (result.now ≡ request.now) ⊎ IsSomeAnd first.entry (λ one. result.now ≡ one.now) }
-    ensures new { no_later (result.now.client, result.now.number) (request.now.client, request.now.number) ≡ true }
-    ensures old { IfSome first.entry (λ one. no_later (result.now.client, result.now.number) (one.now.client, one.now.number) ≡ true) }
+    ensures new { no_later (result.now.client, result.now.number)
+        (request.now.client, request.now.number) ≡ true }
+    ensures old { IfSome first.entry (λ one.
+        no_later (result.now.client, result.now.number) (one.now.client, one.now.number) ≡ true) }
 {
     match first {
         Some(other)
@@ -44,8 +46,11 @@ fn first_clash<'a>(
     state: &PartState,
     requests: &'a [Request],
 ) -> Result<Option<&'a Request>, AllocError>
-    ensures none { IfOk result (λ found. IfNone found (NoClash (state_of state.now) (map request_of requests.now))) }
-    ensures some { IfOk result (λ found. IfSome found (λ r. IsClash (state_of state.now) (map request_of requests.now) r.now.client r.now.number)) }
+    ensures none { IfOk result (λ found.
+        IfNone found (NoClash (state_of state.now) (map request_of requests.now))) }
+    ensures some { IfOk result (λ found.
+        IfSome found (λ r. IsClash (state_of state.now) (map request_of requests.now) r.now.client
+        r.now.number)) }
 {
     let mut first: Option<&Request> = None;
     for request in requests {

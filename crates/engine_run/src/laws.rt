@@ -21,18 +21,24 @@ pub fn accepted_files()
 /// What a crash leaves of a run meets what the next run asks of its files.
 #[tactic(auto, using(crate::proofs::Lives::next_may_begin))]
 pub fn images_are_kept()
-    ensures { (rules : Rules) (latest digest : ℕ) (o : Origin) (steps : List Step) (trail : List Settled) (image : ℕ → List ℕ) → StandsOn rules latest digest o steps trail image → KeepsOn rules.flows digest (o.logs 0).entries image }
+    ensures { (rules : Rules) (latest digest : ℕ) (o : Origin) (steps : List Step)
+        (trail : List Settled) (image : ℕ → List ℕ)
+        → StandsOn rules latest digest o steps trail image
+        → KeepsOn rules.flows digest (o.logs 0).entries image }
 {}
 
 /// The history of recorded calls begins on a crash image where the program's files hold it, and are numbered as it numbers them.
 pub fn programs_begin_on_images()
-    ensures { (before : List Step) (files : ℕ → List ℕ) → IsImage before files → ((file : ℕ) → file_numbers ≤ file → files file ≡ []) → BeginsOn before (start_of files) }
+    ensures { (before : List Step) (files : ℕ → List ℕ) → IsImage before files
+        → ((file : ℕ) → file_numbers ≤ file → files file ≡ []) → BeginsOn before (start_of files) }
 {}
 
 /// Whatever number of calls there were, each begun on what a crash at any moment left of the one before: what a crash leaves of the
 /// last stands for one run, which extends the one at the start; and what any of them settled or said is that run's.
 #[tactic(auto, using(crate::proofs::Lives::lives_joined))]
 pub fn lives_are_joined()
-    ensures { (flows : Flows) (digest : ℕ) (first last : List Step) (entries : List Entry) (lives : List Life) → AllKeep flows digest entries first → Lives flows digest first lives last
-        → (image : ℕ → List ℕ) → IsImage last image → AreJoined flows digest entries lives image }
+    ensures { (flows : Flows) (digest : ℕ) (first last : List Step) (entries : List Entry)
+        (lives : List Life) → AllKeep flows digest entries first
+        → Lives flows digest first lives last → (image : ℕ → List ℕ) → IsImage last image
+        → AreJoined flows digest entries lives image }
 {}

@@ -31,7 +31,12 @@ impl Named for Brand {
 
     ghost steps = { [] };
 
-    ghost rules = { record { flows = record { flows = []; classes = [] }; begin = fresh 0; incarnation = 0; requests = [] } };
+    ghost rules = { record {
+      flows = record { flows = []; classes = [] };
+      begin = fresh 0;
+      incarnation = 0;
+      requests = [];
+    } };
 }
 
 /// The start of a store that goes on so.

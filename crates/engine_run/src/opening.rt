@@ -52,13 +52,18 @@ pub(crate) fn recover_logs<V: Site>(
     digest: u64,
 ) -> Result<Recovered, Cause>
     ensures tells { V.tells site.new → V.tells site.old }
-    ensures recovers { V.tells site.new → RecoversAs (flows_of flows.now) digest (λ file. content_of file (V.history site.old)) result }
+    ensures recovers { V.tells site.new → RecoversAs (flows_of flows.now) digest
+        (λ file. content_of file (V.history site.old)) result }
     ensures begins { IfOk result CanBegin }
     ensures early { IfErr result IsLogCause }
     ensures syncs { OnlySyncs (V.history site.old) (V.history site.new) }
     ensures synced { OnOk result (V.history site.new ≡ both_synced (V.history site.old)) }
-    ensures rests { V.tells site.new → IfOk result (λ r. IfSome r.log (λ log. RestsFor (V.history site.new) digest (logs_in (alone_with digest) (λ file. content_of file (V.history site.old))) log)) }
-    ensures fault { result ≡ Err Cause.SiteFault → HasRisen (V.disk_faults site.old) (V.disk_faults site.new) }
+    ensures rests { V.tells site.new → IfOk result
+        (λ r. IfSome r.log (λ log.
+        RestsFor (V.history site.new) digest
+        (logs_in (alone_with digest) (λ file. content_of file (V.history site.old))) log)) }
+    ensures fault { result ≡ Err Cause.SiteFault
+        → HasRisen (V.disk_faults site.old) (V.disk_faults site.new) }
     ensures later { V.disk_faults site.old ≤ V.disk_faults site.new }
     ensures say_faults { V.say_faults site.new ≡ V.say_faults site.old }
 {
@@ -76,10 +81,15 @@ pub(crate) fn open_log<V: Site>(
     digest: u64,
 ) -> Result<Resting, Cause>
     ensures tells { V.tells site.new → V.tells site.old }
-    ensures there { IfSome log (λ found. (result ≡ Ok found) × (V.history site.new ≡ V.history site.old)) }
-    ensures during { log ≡ None → V.tells site.new → IsKept (changes_of FIRST_LOG (V.history site.old))
-        → LeavesOnly FIRST_LOG (V.history site.old) (V.history site.new) (IsFormatting (content_of FIRST_LOG (V.history site.old)) (header_with digest)) }
-    ensures rests { log ≡ None → V.tells site.new → IsKept (changes_of FIRST_LOG (V.history site.old)) → IfOk result (RestsAs (V.history site.new) (header_with digest) []) }
+    ensures there { IfSome log (λ found. (result ≡ Ok found)
+        × (V.history site.new ≡ V.history site.old)) }
+    ensures during { log ≡ None → V.tells site.new
+        → IsKept (changes_of FIRST_LOG (V.history site.old))
+        → LeavesOnly FIRST_LOG (V.history site.old) (V.history site.new)
+        (IsFormatting (content_of FIRST_LOG (V.history site.old)) (header_with digest)) }
+    ensures rests { log ≡ None → V.tells site.new
+        → IsKept (changes_of FIRST_LOG (V.history site.old))
+        → IfOk result (RestsAs (V.history site.new) (header_with digest) []) }
     ensures place { log ≡ None → IfOk result (λ new. new.file ≡ FIRST_LOG) }
     ensures stops { OnErr result ((log ≡ None) × (result ≡ Err Cause.SiteFault)) }
     ensures fault { OnErr result (HasRisen (V.disk_faults site.old) (V.disk_faults site.new)) }

@@ -44,16 +44,23 @@ pub(crate) struct Prepared {
 /// than is asked for, nothing is opened.
 pub(crate) fn prepare<V: Site>(alloc: Global, site: &mut V) -> Result<Prepared, Cause>
     ensures tells { V.tells site.new → V.tells site.old }
-    ensures asks { V.tells site.new → IfOk result (λ p. AsksFor (λ file. content_of file (V.history site.old)) (job_of p)) }
-    ensures prepared { V.tells site.new → IfOk result (IsPrepared (λ file. content_of file (V.history site.old)) (V.history site.new)) }
+    ensures asks { V.tells site.new → IfOk result
+        (λ p. AsksFor (λ file. content_of file (V.history site.old)) (job_of p)) }
+    ensures prepared { V.tells site.new → IfOk result
+        (IsPrepared (λ file. content_of file (V.history site.old)) (V.history site.new)) }
     ensures no_clash { IfOk result (λ p. NoClash (state_of p.state) (job_of p).requests) }
     ensures can { IfOk result CanGoOn }
-    ensures answers { V.tells site.new → IfErr result (CauseHolds (λ file. content_of file (V.history site.old))) }
+    ensures answers { V.tells site.new → IfErr result
+        (CauseHolds (λ file. content_of file (V.history site.old))) }
     ensures early { IfErr result IsEarlyCause }
     ensures untouched { IfErr result (Untouched (V.history site.old) (V.history site.new)) }
-    ensures refused { V.tells site.new → AreRefused (λ file. content_of file (V.history site.old)) → OnlySyncs (V.history site.old) (V.history site.new) }
-    ensures opens { V.tells site.new → (job : Job) → AsksFor (λ file. content_of file (V.history site.old)) job → OpensOnly job (V.history site.old) (V.history site.new) }
-    ensures fault { result ≡ Err Cause.SiteFault → HasRisen (V.disk_faults site.old) (V.disk_faults site.new) }
+    ensures refused { V.tells site.new → AreRefused (λ file. content_of file (V.history site.old))
+        → OnlySyncs (V.history site.old) (V.history site.new) }
+    ensures opens { V.tells site.new → (job : Job)
+        → AsksFor (λ file. content_of file (V.history site.old)) job
+        → OpensOnly job (V.history site.old) (V.history site.new) }
+    ensures fault { result ≡ Err Cause.SiteFault
+        → HasRisen (V.disk_faults site.old) (V.disk_faults site.new) }
     ensures later { V.disk_faults site.old ≤ V.disk_faults site.new }
     ensures say_faults { V.say_faults site.new ≡ V.say_faults site.old }
 {

@@ -43,17 +43,25 @@ pub fn run_recorded<
     ensures status { result.status ≡ status_of result.cause }
 
     // The words alone decide on a usage fault, and then nothing happens.
-    ensures usage { call_in words.now ≡ None → (result.cause ≡ Cause.Usage) ⊎ (result.cause ≡ Cause.Memory) }
+    ensures usage { call_in words.now ≡ None
+        → (result.cause ≡ Cause.Usage) ⊎ (result.cause ≡ Cause.Memory) }
     ensures only_usage { result.cause ≡ Cause.Usage → call_in words.now ≡ None }
 
     // All else, by what the words ask for: what every crash of a run leaves, what it answers and said, and what refusals leave.
-    ensures promises { Promises words.now (Tells S.unseen (C.events (calls_of result.site))) (steps_before S.unseen) (steps_after S.unseen (C.events (calls_of result.site)))
-        (λ options. terms_of options A.gives (K.given clock) (K.given result.clock) (K.latest result.clock)) result.trail result.cause }
+    ensures promises { Promises words.now (Tells S.unseen (C.events (calls_of result.site)))
+        (steps_before S.unseen) (steps_after S.unseen (C.events (calls_of result.site)))
+        (λ options. terms_of options A.gives (K.given clock) (K.given result.clock)
+        (K.latest result.clock)) result.trail result.cause }
 
     // A fault has its cause: the count of its kind rose, and the record has a call of the system that failed.
-    ensures faults { FaultsRise result.cause (faults_of (disk_faults_of site) (say_faults_of site) (K.clock_faults clock)) (faults_of (disk_faults_of result.site) (say_faults_of result.site) (K.clock_faults result.clock)) }
-    ensures fault_call { result.cause ≡ Cause.SiteFault → 0 < disk_failures (C.events (calls_of result.site)) }
-    ensures say_fault_call { result.cause ≡ Cause.SayFault → 0 < say_failures (C.events (calls_of result.site)) }
+    ensures faults { FaultsRise result.cause
+        (faults_of (disk_faults_of site) (say_faults_of site) (K.clock_faults clock))
+        (faults_of (disk_faults_of result.site) (say_faults_of result.site)
+        (K.clock_faults result.clock)) }
+    ensures fault_call { result.cause ≡ Cause.SiteFault
+        → 0 < disk_failures (C.events (calls_of result.site)) }
+    ensures say_fault_call { result.cause ≡ Cause.SayFault
+        → 0 < say_failures (C.events (calls_of result.site)) }
 {
     run(rt, alloc, words, site, clock, acts)
 }

@@ -63,9 +63,11 @@ fn cause_of(stop: Stop) -> Cause
 
 /// Of what was found first and a client's request the one that comes first.
 fn earlier<'a>(first: Option<(&'a Name, u32)>, client: &'a Name, number: u32) -> (&'a Name, u32)
-    ensures one { ((result.0.now ≡ client.now) × (result.1 ≡ number)) ⊎ IsSomeAnd first.entry (λ one. (result.0.now ≡ one.0.now) × (result.1 ≡ one.1)) }
+    ensures one { ((result.0.now ≡ client.now) × (result.1 ≡ number))
+        ⊎ IsSomeAnd first.entry (λ one. (result.0.now ≡ one.0.now) × (result.1 ≡ one.1)) }
     ensures new { no_later (result.0.now, result.1) (client.now, number) ≡ true }
-    ensures old { IfSome first.entry (λ one. no_later (result.0.now, result.1) (one.0.now, one.1) ≡ true) }
+    ensures old { IfSome first.entry (λ one. no_later (result.0.now, result.1) (one.0.now, one.1)
+        ≡ true) }
 {
     match first {
         Some((other, least)) if comes_no_later(other, least, client, number) => (other, least),
@@ -125,7 +127,8 @@ fn drive_on<V: Site, N: Ruled, C: Clock, A: Activities>(
     requires short { incarnation < 2 ^ 62 }
     requires some { 0 < options.batch }
     requires few { options.batch ≤ 64 }
-    requires stands { StateStands N.rules (N.origin.logs 0) (of_part 0 (trail_in store.old)) (state_of state) }
+    requires stands { StateStands N.rules (N.origin.logs 0) (of_part 0 (trail_in store.old))
+        (state_of state) }
     requires own { IsOwnSound state }
     requires one { count_of state ≡ 1 }
     requires room { (state_of state).position < 2 ^ 63 }
@@ -137,11 +140,19 @@ fn drive_on<V: Site, N: Ruled, C: Clock, A: Activities>(
     ensures stamp { store.new.latest ≤ C.latest clock.new }
     ensures segment { store.new.segment ≡ store.old.segment }
     ensures whole { result ≢ Cause.SayFault → store.new.cut ≡ false }
-    ensures ends { V.tells store.new.site → RoundsEnd (N.may_follow (C.latest clock.new)) N.may_say N.rules (C.latest clock.new) N.origin (V.history store.new.site) (trail_in store.new) options result }
-    ensures goes { GoesByClock N.rules A.gives options.batch (clients_of N.rules.requests) (C.given clock.old) (of_part 0 (trail_in store.old)) (told_in store.old) (C.given clock.new) (of_part 0 (trail_in store.new)) (told_in store.new) }
-    ensures no_more { count_labels (of_part 0 (trail_in store.new)) < options.steps + options.batch }
+    ensures ends { V.tells store.new.site
+        → RoundsEnd (N.may_follow (C.latest clock.new)) N.may_say N.rules (C.latest clock.new)
+        N.origin (V.history store.new.site) (trail_in store.new) options result }
+    ensures goes { GoesByClock N.rules A.gives options.batch (clients_of N.rules.requests)
+        (C.given clock.old) (of_part 0 (trail_in store.old)) (told_in store.old) (C.given clock.new)
+        (of_part 0 (trail_in store.new)) (told_in store.new) }
+    ensures no_more { count_labels (of_part 0 (trail_in store.new))
+        < options.steps + options.batch }
     ensures late { IsLateCause result }
-    ensures faults { FaultsRise result (faults_of (V.disk_faults store.old.site) (V.say_faults store.old.site) (C.clock_faults clock.old)) (faults_of (V.disk_faults store.new.site) (V.say_faults store.new.site) (C.clock_faults clock.new)) }
+    ensures faults { FaultsRise result (faults_of (V.disk_faults store.old.site)
+        (V.say_faults store.old.site) (C.clock_faults clock.old))
+        (faults_of (V.disk_faults store.new.site) (V.say_faults store.new.site)
+        (C.clock_faults clock.new)) }
 {
     let machines = Machines::of(flows);
     match drive(
@@ -195,7 +206,8 @@ pub(crate) fn go<V: Site, N: Ruled, C: Clock, A: Activities>(
     requires few { options.batch ≤ 64 }
     requires fits { 0 < options.segment }
     requires short { options.segment ≤ 2 ^ 31 }
-    requires rules { N.rules ≡ rules_with (job_of prepared) (state_of prepared.state) prepared.incarnation }
+    requires rules { N.rules ≡ rules_with (job_of prepared) (state_of prepared.state)
+        prepared.incarnation }
     requires stands { StateStands N.rules (N.origin.logs 0) [] (state_of prepared.state) }
     requires origin { IsOrigin N.origin }
     requires asked { V.tells site → All IsRequest N.rules.requests }
@@ -203,8 +215,15 @@ pub(crate) fn go<V: Site, N: Ruled, C: Clock, A: Activities>(
     ensures tells { V.tells result.site → V.tells site }
     ensures status { result.status ≡ status_of result.cause }
     ensures late { IsLateCause result.cause }
-    ensures goes { V.tells result.site → GoesOn (N.may_follow (C.latest result.clock)) N.may_say N.rules (C.latest result.clock) N.origin (V.history result.site) result.trail (terms_of options A.gives (C.given clock) (C.given result.clock) (C.latest result.clock)) result.cause ⊎ Stays (V.history site) (V.history result.site) result.trail (state_of prepared.state).position result.cause }
-    ensures faults { FaultsRise result.cause (faults_of (V.disk_faults site) (V.say_faults site) (C.clock_faults clock)) (faults_of (V.disk_faults result.site) (V.say_faults result.site) (C.clock_faults result.clock)) }
+    ensures goes { V.tells result.site → GoesOn (N.may_follow (C.latest result.clock)) N.may_say
+        N.rules (C.latest result.clock) N.origin (V.history result.site) result.trail
+        (terms_of options A.gives (C.given clock) (C.given result.clock) (C.latest result.clock))
+        result.cause ⊎ Stays (V.history site) (V.history result.site) result.trail
+        (state_of prepared.state).position result.cause }
+    ensures faults { FaultsRise result.cause
+        (faults_of (V.disk_faults site) (V.say_faults site) (C.clock_faults clock))
+        (faults_of (V.disk_faults result.site) (V.say_faults result.site)
+        (C.clock_faults result.clock)) }
 {
     let Prepared {
         flows,
@@ -240,7 +259,16 @@ pub(crate) fn go<V: Site, N: Ruled, C: Clock, A: Activities>(
         }
     };
     let cause = drive_on(
-        alloc, &mut store, &mut clock, acts, &flows, &mut port, &clients, state, incarnation, options,
+        alloc,
+        &mut store,
+        &mut clock,
+        acts,
+        &flows,
+        &mut port,
+        &clients,
+        state,
+        incarnation,
+        options,
     );
     let Settled { site, trail } = store.end();
     end_with(cause, trail, site, clock)
@@ -260,16 +288,26 @@ pub(crate) fn go_named<V: Site, M: Named, C: Clock, A: Activities>(
     requires few { options.batch ≤ 64 }
     requires fits { 0 < options.segment }
     requires short { options.segment ≤ 2 ^ 31 }
-    requires rules { M.rules ≡ rules_with (job_of prepared) (state_of prepared.state) prepared.incarnation }
+    requires rules { M.rules ≡ rules_with (job_of prepared) (state_of prepared.state)
+        prepared.incarnation }
     requires stands { StateStands M.rules M.log [] (state_of prepared.state) }
     requires origin { IsOrigin (origin_with M.log M.steps) }
     requires asked { V.tells site → All IsRequest M.rules.requests }
-    requires begun { V.tells site → HasBegun (origin_with M.log M.steps) (V.history site) (prepared.log ∷ []) }
+    requires begun { V.tells site → HasBegun (origin_with M.log M.steps) (V.history site)
+        (prepared.log ∷ []) }
     ensures tells { V.tells result.site → V.tells site }
     ensures status { result.status ≡ status_of result.cause }
     ensures late { IsLateCause result.cause }
-    ensures goes { V.tells result.site → GoesOn (may_follow M.rules (C.latest result.clock)) (may_say M.rules) M.rules (C.latest result.clock) (origin_with M.log M.steps) (V.history result.site) result.trail (terms_of options A.gives (C.given clock) (C.given result.clock) (C.latest result.clock)) result.cause ⊎ Stays (V.history site) (V.history result.site) result.trail (state_of prepared.state).position result.cause }
-    ensures faults { FaultsRise result.cause (faults_of (V.disk_faults site) (V.say_faults site) (C.clock_faults clock)) (faults_of (V.disk_faults result.site) (V.say_faults result.site) (C.clock_faults result.clock)) }
+    ensures goes { V.tells result.site → GoesOn (may_follow M.rules (C.latest result.clock))
+        (may_say M.rules) M.rules (C.latest result.clock) (origin_with M.log M.steps)
+        (V.history result.site) result.trail
+        (terms_of options A.gives (C.given clock) (C.given result.clock) (C.latest result.clock))
+        result.cause ⊎ Stays (V.history site) (V.history result.site) result.trail
+        (state_of prepared.state).position result.cause }
+    ensures faults { FaultsRise result.cause
+        (faults_of (V.disk_faults site) (V.say_faults site) (C.clock_faults clock))
+        (faults_of (V.disk_faults result.site) (V.say_faults result.site)
+        (C.clock_faults result.clock)) }
 {
     go::<V, Going<M>, C, A>(alloc, site, clock, acts, prepared, options)
 }

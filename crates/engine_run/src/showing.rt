@@ -16,10 +16,13 @@ use std::alloc::Global;
 /// Reads the flows, recovers what the logs keep, and says the table of it.
 pub(crate) fn show<V: Site>(alloc: Global, site: &mut V) -> Cause
     ensures tells { V.tells site.new → V.tells site.old }
-    ensures shows { V.tells site.new → ShowsAs (λ file. content_of file (V.history site.old)) (tape (V.history site.old)) (tape (V.history site.new)) result }
+    ensures shows { V.tells site.new → ShowsAs (λ file. content_of file (V.history site.old))
+        (tape (V.history site.old)) (tape (V.history site.new)) result }
     ensures nothing { WritesNothing (V.history site.old) (V.history site.new) }
-    ensures fault { result ≡ Cause.SiteFault → HasRisen (V.disk_faults site.old) (V.disk_faults site.new) }
-    ensures say_fault { result ≡ Cause.SayFault → HasRisen (V.say_faults site.old) (V.say_faults site.new) }
+    ensures fault { result ≡ Cause.SiteFault
+        → HasRisen (V.disk_faults site.old) (V.disk_faults site.new) }
+    ensures say_fault { result ≡ Cause.SayFault
+        → HasRisen (V.say_faults site.old) (V.say_faults site.new) }
     ensures no_clock { result ≡ Cause.ClockFault → ⊥ }
     ensures no_usage { result ≡ Cause.Usage → ⊥ }
     ensures later { V.disk_faults site.old ≤ V.disk_faults site.new }

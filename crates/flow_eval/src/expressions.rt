@@ -42,7 +42,8 @@ pub fn to_scalars(alloc: Global, values: Vec<Value>) -> Result<Vec<Scalar>, Eval
 /// What an expression gives, or the fault that it throws.
 #[cycle(eval)]
 pub fn eval(alloc: Global, expression: &Expr, variables: &Variables) -> Result<Value, EvalError>
-    ensures { EvalGives (λ value. value) result (eval variables.now (expression_of expression.now)) }
+    ensures { EvalGives (λ value. value) result
+        (eval variables.now (expression_of expression.now)) }
 {
     match expression {
         Expr::Scalar(scalar) => Ok(value_of(copy_of(scalar)?)),
@@ -78,7 +79,8 @@ fn eval_list(alloc: Global, parts: &[Expr], variables: &Variables) -> Result<Val
 /// What parts give, from left to right.
 #[cycle(eval)]
 fn eval_parts(alloc: Global, parts: &[Expr], variables: &Variables) -> Result<Vec<Value>, EvalError>
-    ensures { EvalGives (λ values. values.items) result (eval_parts variables.now (parts_of parts.now)) }
+    ensures { EvalGives (λ values. values.items) result
+        (eval_parts variables.now (parts_of parts.now)) }
 {
     let mut values = Vec::with_capacity(alloc, parts.len())?;
     for part in parts {

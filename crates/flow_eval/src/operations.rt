@@ -57,7 +57,8 @@ pub fn apply_binary(
     first: &Value,
     second: &Value,
 ) -> Result<Value, EvalError>
-    ensures { EvalGives (λ value. value) result (apply_binary (binary_of operation) first.now second.now) }
+    ensures { EvalGives (λ value. value) result
+        (apply_binary (binary_of operation) first.now second.now) }
 {
     match operation {
         BinaryOp::Add => sum(to_integer(first)?, to_integer(second)?),

@@ -34,14 +34,17 @@ impl<'f> Machine<'f> {
     #[tactic(auto, using(crate::proofs::NoneKept::none_kept))]
     fn take_kept(&mut self, name: &Name) -> Option<Value>
         ensures value { result ≡ kept_value name.now (machine_of self.old).kept }
-        ensures some { IfSome result (λ _. machine_of self.new ≡ with_events (machine_of self.old) (without_kept name.now (machine_of self.old).kept)) }
+        ensures some { IfSome result (λ _. machine_of self.new
+            ≡ with_events (machine_of self.old)
+            (without_kept name.now (machine_of self.old).kept)) }
         ensures none { IfNone result (machine_of self.new ≡ machine_of self.old) }
     {
         self.kept.take(name)
     }
 
     pub(crate) fn step_event(&mut self, variable: &Name, name: &Name) -> Result<(), AllocError>
-        ensures { OnOk result (machine_of self.new ≡ (listens (machine_of self.old) variable.now name.now).machine) }
+        ensures { OnOk result (machine_of self.new
+            ≡ (listens (machine_of self.old) variable.now name.now).machine) }
     {
         let number = self.handle(variable)?;
         self.add_task(Kind::Event(copy_name(name)?))?;
@@ -58,7 +61,8 @@ impl<'f> Machine<'f> {
         made: &mut Made,
         fault: HandleFault,
     ) -> Result<(), AllocError>
-        ensures { OnOk result (ThrowsHandle made.old made.new self.new (machine_of self.old) fault) }
+        ensures { OnOk result (ThrowsHandle made.old made.new self.new (machine_of self.old)
+            fault) }
     {
         match fault {
             HandleFault::Handle => self.throw_word(alloc, made, "handle"),
@@ -74,7 +78,8 @@ impl<'f> Machine<'f> {
         variable: &Name,
         outcome: &Outcome,
     ) -> Result<(), AllocError>
-        ensures { OnOk result (Makes made.old made.new self.new (gets (machine_of self.old) variable.now outcome.now)) }
+        ensures { OnOk result (Makes made.old made.new self.new
+            (gets (machine_of self.old) variable.now outcome.now)) }
     {
         match outcome {
             Outcome::Done(value) => self.set(variable, copy_value(value)?),
@@ -89,7 +94,9 @@ impl<'f> Machine<'f> {
         variable: &Name,
         number: usize,
     ) -> Result<bool, AllocError>
-        ensures { IfOk result (λ went. Waits went made.old made.new self.new (machine_of self.old) (λ was. awaited was (machine_of self.old) variable.now (arrival_at (task_at (machine_of self.old).tasks number)))) }
+        ensures { IfOk result (λ went. Waits went made.old made.new self.new (machine_of self.old)
+            (λ was. awaited was (machine_of self.old) variable.now
+            (arrival_at (task_at (machine_of self.old).tasks number)))) }
     {
         let outcome = match self.tasks.arrival(number) {
             Some(arrival) => copy_outcome(&arrival.outcome)?,
@@ -108,7 +115,9 @@ impl<'f> Machine<'f> {
         variable: &Name,
         handle: &Expr,
     ) -> Result<bool, AllocError>
-        ensures { IfOk result (λ went. Waits went made.old made.new self.new (machine_of self.old) (λ was. statement_step was (machine_of self.old) (await variable.now (expression_of handle.now)))) }
+        ensures { IfOk result (λ went. Waits went made.old made.new self.new (machine_of self.old)
+            (λ was. statement_step was (machine_of self.old)
+            (await variable.now (expression_of handle.now)))) }
     {
         match self.handle_in(alloc, handle) {
             Ok(number) => self.await_task(made, variable, number),

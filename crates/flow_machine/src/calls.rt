@@ -52,7 +52,8 @@ impl<'f> Machine<'f> {
     /// A variable is the handle of the next task.
     pub(crate) fn handle(&mut self, variable: &Name) -> Result<u32, AllocError>
         ensures number { IfOk result (λ number. number ≡ length (machine_of self.old).tasks) }
-        ensures handle { OnOk result (machine_of self.new ≡ with_handle (machine_of self.old) variable.now) }
+        ensures handle { OnOk result (machine_of self.new
+            ≡ with_handle (machine_of self.old) variable.now) }
     {
         let number = self.next_task()?;
         self.variables
@@ -62,7 +63,8 @@ impl<'f> Machine<'f> {
 
     /// A new task.
     pub(crate) fn add_task(&mut self, kind: Kind) -> Result<(), AllocError>
-        ensures { OnOk result (machine_of self.new ≡ with_task (machine_of self.old) (kind_of kind)) }
+        ensures { OnOk result (machine_of self.new
+            ≡ with_task (machine_of self.old) (kind_of kind)) }
     {
         self.tasks.push(kind)
     }
@@ -73,7 +75,8 @@ impl<'f> Machine<'f> {
         activity: &Name,
         argument: &Value,
     ) -> Result<(), AllocError>
-        ensures { OnOk result (Makes made.old made.new self.new (scheduled (machine_of self.old) activity.now argument.now)) }
+        ensures { OnOk result (Makes made.old made.new self.new
+            (scheduled (machine_of self.old) activity.now argument.now)) }
     {
         let number = self.next_task()?;
         let asked = ask_for(number, activity, argument)?;
@@ -90,7 +93,10 @@ impl<'f> Machine<'f> {
         activity: &Name,
         argument: &Expr,
     ) -> Result<(), AllocError>
-        ensures { OnOk result (Goes made.old made.new self.new (having (machine_of self.old) (eval (machine_of self.old).variables (expression_of argument.now)) (scheduled (with_handle (machine_of self.old) variable.now) activity.now))) }
+        ensures { OnOk result (Goes made.old made.new self.new
+            (having (machine_of self.old)
+            (eval (machine_of self.old).variables (expression_of argument.now))
+            (scheduled (with_handle (machine_of self.old) variable.now) activity.now))) }
     {
         let number = self.next_task()?;
         match self.value(alloc, argument) {
@@ -112,7 +118,10 @@ impl<'f> Machine<'f> {
         activity: &Name,
         argument: &Expr,
     ) -> Result<(), AllocError>
-        ensures { OnOk result (Goes made.old made.new self.new (having (machine_of self.old) (eval (machine_of self.old).variables (expression_of argument.now)) (calls (machine_of self.old) variable.now activity.now))) }
+        ensures { OnOk result (Goes made.old made.new self.new
+            (having (machine_of self.old)
+            (eval (machine_of self.old).variables (expression_of argument.now))
+            (calls (machine_of self.old) variable.now activity.now))) }
     {
         let number = self.next_task()?;
         match self.value(alloc, argument) {
@@ -128,7 +137,9 @@ impl<'f> Machine<'f> {
 
     /// A key, and then an argument.
     fn pair(&self, alloc: Global, key: &Expr, argument: &Expr) -> Result<(Key, Value), EvalError>
-        ensures { EvalGives (λ p. (p.0, p.1)) result (pair_in (machine_of self.now).variables (expression_of key.now) (expression_of argument.now)) }
+        ensures { EvalGives (λ p. (p.0, p.1)) result
+            (pair_in (machine_of self.now).variables (expression_of key.now)
+            (expression_of argument.now)) }
     {
         let value = self.value(alloc, key)?;
         let key = to_key(alloc, &value);
@@ -139,7 +150,13 @@ impl<'f> Machine<'f> {
 
     /// Sends a message of its own.
     pub(crate) fn send(&self, made: &mut Made, to: Id, body: Body) -> Result<(), AllocError>
-        ensures { OnOk result (Makes made.old made.new self.now (record { machine = machine_of self.now; sent = says (machine_of self.now) (id_of to) (body_of body) ∷ []; asked = [] })) }
+        ensures { OnOk result (Makes made.old made.new self.now
+            (record {
+              machine = machine_of self.now;
+              sent = says (machine_of self.now) (id_of to)
+                  (body_of body) ∷ [];
+              asked = [];
+            })) }
     {
         let (from, (to, body)) = with(copy_id(&self.id), (to, body))?;
         made.messages.push(Message { from, to, body })?;
@@ -153,7 +170,8 @@ impl<'f> Machine<'f> {
         flow: &Name,
         pair: (Key, Value),
     ) -> Result<(), AllocError>
-        ensures { OnOk result (Makes made.old made.new self.new (starts (machine_of self.old) variable.now flow.now pair.0 pair.1)) }
+        ensures { OnOk result (Makes made.old made.new self.new
+            (starts (machine_of self.old) variable.now flow.now pair.0 pair.1)) }
     {
         let (number, pair) = with(self.handle(variable), pair)?;
         let (flow, (key, argument)) = with(copy_name(flow), pair)?;
@@ -171,8 +189,12 @@ impl<'f> Machine<'f> {
         key: &Expr,
         argument: &Expr,
     ) -> Result<(), AllocError>
-        ensures { OnOk result (Goes made.old made.new self.new (having (machine_of self.old) (pair_in (machine_of self.old).variables (expression_of key.now) (expression_of argument.now))
-            (λ p. by_rule (machine_of self.old) (may_start (machine_of self.old).section) (starts (machine_of self.old) variable.now flow.now p.0 p.1)))) }
+        ensures { OnOk result (Goes made.old made.new self.new
+            (having (machine_of self.old)
+            (pair_in (machine_of self.old).variables (expression_of key.now)
+            (expression_of argument.now))
+            (λ p. by_rule (machine_of self.old) (may_start (machine_of self.old).section)
+            (starts (machine_of self.old) variable.now flow.now p.0 p.1)))) }
     {
         match self.pair(alloc, key, argument) {
             Ok(pair) => {
@@ -196,7 +218,14 @@ impl<'f> Machine<'f> {
         argument: Value,
         reply: Reply,
     ) -> Result<(), AllocError>
-        ensures { OnOk result (Makes made.old made.new self.now (record { machine = machine_of self.now; sent = says (machine_of self.now) (at_spot (spot_of spot.now)) (operate operation.now argument (reply_of reply)) ∷ []; asked = [] })) }
+        ensures { OnOk result (Makes made.old made.new self.now
+            (record {
+              machine = machine_of self.now;
+              sent = says (machine_of self.now)
+                  (at_spot (spot_of spot.now)) (operate operation.now argument (reply_of reply))
+                  ∷ [];
+              asked = [];
+            })) }
     {
         let (operation, argument) = with(copy_name(operation), argument)?;
         let body = Body::Op(operation, argument, reply);
@@ -212,7 +241,8 @@ impl<'f> Machine<'f> {
         operation: &Name,
         argument: Value,
     ) -> Result<(), AllocError>
-        ensures { OnOk result (Makes made.old made.new self.new (asks (machine_of self.old) variable.now (spot_of spot) operation.now argument)) }
+        ensures { OnOk result (Makes made.old made.new self.new
+            (asks (machine_of self.old) variable.now (spot_of spot) operation.now argument)) }
     {
         let (number, (spot, argument)) = with(self.handle(variable), (spot, argument))?;
         let sent = self.operate(made, &spot, operation, argument, Reply::Task(number));
@@ -230,8 +260,14 @@ impl<'f> Machine<'f> {
         operation: &Name,
         argument: &Expr,
     ) -> Result<(), AllocError>
-        ensures { OnOk result (Goes made.old made.new self.new (having (machine_of self.old) (pair_in (machine_of self.old).variables (expression_of key.now) (expression_of argument.now))
-            (λ p. by_rule (machine_of self.old) (may_ask (machine_of self.old).section (spot_at class.now p.0) (machine_of self.old).tasks) (asks (machine_of self.old) variable.now (spot_at class.now p.0) operation.now p.1)))) }
+        ensures { OnOk result (Goes made.old made.new self.new
+            (having (machine_of self.old)
+            (pair_in (machine_of self.old).variables (expression_of key.now)
+            (expression_of argument.now))
+            (λ p. by_rule (machine_of self.old)
+            (may_ask (machine_of self.old).section (spot_at class.now p.0)
+            (machine_of self.old).tasks)
+            (asks (machine_of self.old) variable.now (spot_at class.now p.0) operation.now p.1)))) }
     {
         match self.pair(alloc, key, argument) {
             Ok(pair) => {
@@ -258,8 +294,13 @@ impl<'f> Machine<'f> {
         operation: &Name,
         argument: &Expr,
     ) -> Result<(), AllocError>
-        ensures { OnOk result (Goes made.old made.new self.new (having (machine_of self.old) (pair_in (machine_of self.old).variables (expression_of key.now) (expression_of argument.now))
-            (λ p. by_rule (machine_of self.old) (may_signal (machine_of self.old).section (spot_at class.now p.0)) (signals (machine_of self.old) (spot_at class.now p.0) operation.now p.1)))) }
+        ensures { OnOk result (Goes made.old made.new self.new
+            (having (machine_of self.old)
+            (pair_in (machine_of self.old).variables (expression_of key.now)
+            (expression_of argument.now))
+            (λ p. by_rule (machine_of self.old)
+            (may_signal (machine_of self.old).section (spot_at class.now p.0))
+            (signals (machine_of self.old) (spot_at class.now p.0) operation.now p.1)))) }
     {
         match self.pair(alloc, key, argument) {
             Ok(pair) => {

@@ -17,7 +17,8 @@ impl<'f> Machine<'f> {
     /// Leaves the section that it is inside of, with a release to each entity. After want of memory some of the releases may have been
     /// made, and it is still inside.
     pub fn leave(&mut self, made: &mut Made) -> Result<(), AllocError>
-        ensures makes { OnOk result (Makes made.old made.new self.new (leaving (machine_of self.old) (machine_of self.old).section)) }
+        ensures makes { OnOk result (Makes made.old made.new self.new
+            (leaving (machine_of self.old) (machine_of self.old).section)) }
         ensures rest { self.new.rest.items ≡ self.old.rest.items }
     {
         if let Section::Inside(set) = &self.section {
@@ -29,7 +30,14 @@ impl<'f> Machine<'f> {
 
     /// Tells its starter, where a task of it waits.
     fn answer_starter(&self, made: &mut Made, number: u32, answer: Answer) -> Result<(), AllocError>
-        ensures { OnOk result (Makes made.old made.new self.now (record { machine = machine_of self.now; sent = says (machine_of self.now) (machine_of self.now).starter (told (to_task number) (answer_of answer)) ∷ []; asked = [] })) }
+        ensures { OnOk result (Makes made.old made.new self.now
+            (record {
+              machine = machine_of self.now;
+              sent = says (machine_of self.now)
+                  (machine_of self.now).starter (told (to_task number) (answer_of answer))
+                  ∷ [];
+              asked = [];
+            })) }
     {
         let (to, answer) = with(copy_id(&self.starter), answer)?;
         self.send(made, to, Body::Result(Reply::Task(number), answer))
@@ -37,7 +45,13 @@ impl<'f> Machine<'f> {
 
     /// Tells the instance that waits for its end, where there is one, what it came to.
     fn tell(&self, made: &mut Made) -> Result<(), AllocError>
-        ensures { OnOk result (Makes made.old made.new self.now (record { machine = machine_of self.now; sent = telling (machine_of self.now) (machine_of self.now).reply (machine_of self.now).progress; asked = [] })) }
+        ensures { OnOk result (Makes made.old made.new self.now
+            (record {
+              machine = machine_of self.now;
+              sent = telling (machine_of self.now)
+                  (machine_of self.now).reply (machine_of self.now).progress;
+              asked = [];
+            })) }
     {
         let Reply::Task(number) = self.reply else {
             return Ok(());
@@ -55,7 +69,8 @@ impl<'f> Machine<'f> {
 
     /// Ends: it leaves its section, and then its starter is told. After want of memory it may have ended with its starter untold.
     pub fn end(&mut self, made: &mut Made, progress: Progress) -> Result<(), AllocError>
-        ensures { OnOk result (Makes made.old made.new self.new (ended (machine_of self.old) (progress_of progress))) }
+        ensures { OnOk result (Makes made.old made.new self.new
+            (ended (machine_of self.old) (progress_of progress))) }
     {
         self.rest.clear();
         put(&mut self.progress, progress);

@@ -21,7 +21,8 @@ impl<'f> Machine<'f> {
         handler: &'f [Stmt],
         fault: &Text,
     ) -> Result<(), AllocError>
-        ensures { OnOk result (machine_of self.new ≡ caught (machine_of self.old) variable.now (block_of handler.now) fault.now) }
+        ensures { OnOk result (machine_of self.new
+            ≡ caught (machine_of self.old) variable.now (block_of handler.now) fault.now) }
     {
         self.set(variable, Value::Text(copy_text(fault)?))?;
         self.plan(Todo::Body(handler))
@@ -30,7 +31,8 @@ impl<'f> Machine<'f> {
     /// A fault drops what is still to run up to and with the end of the nearest try, whose handler goes on; an end of a section
     /// that it passes is kept to. With no try the instance fails.
     pub(crate) fn throw(&mut self, made: &mut Made, fault: &Text) -> Result<(), AllocError>
-        ensures { OnOk result (Makes made.old made.new self.new (throws (machine_of self.old) fault.now)) }
+        ensures { OnOk result (Makes made.old made.new self.new
+            (throws (machine_of self.old) fault.now)) }
     {
         while let Some(todo) = self.rest.pop() {
             match todo {
@@ -50,7 +52,8 @@ impl<'f> Machine<'f> {
         word: &str,
     ) -> Result<(), AllocError>
         requires { length word.now ≤ 4096 }
-        ensures { OnOk result (Makes made.old made.new self.new (throws (machine_of self.old) word.now)) }
+        ensures { OnOk result (Makes made.old made.new self.new
+            (throws (machine_of self.old) word.now)) }
     {
         match Text::read(alloc, word.as_bytes()) {
             Ok(text) => self.throw(made, &text),

@@ -21,7 +21,8 @@ use std::alloc::{AllocError, Global};
 impl<'f> Machine<'f> {
     /// An entity that is to be locked.
     fn spot(&self, alloc: Global, one: &Locked) -> Result<Spot, EvalError>
-        ensures { EvalGives spot_of result (spot_in (machine_of self.now).variables (locked_of one.now)) }
+        ensures { EvalGives spot_of result
+            (spot_in (machine_of self.now).variables (locked_of one.now)) }
     {
         let value = self.value(alloc, &one.key)?;
         let key = to_key(alloc, &value);
@@ -32,7 +33,8 @@ impl<'f> Machine<'f> {
 
     /// The entities that are to be locked, in the order in which they are written.
     fn spots(&self, alloc: Global, entities: &[Locked]) -> Result<Vec<Spot>, EvalError>
-        ensures { EvalGives (λ v. spots_of v.items) result (eval_spots (machine_of self.now).variables (map locked_of entities.now)) }
+        ensures { EvalGives (λ v. spots_of v.items) result
+            (eval_spots (machine_of self.now).variables (map locked_of entities.now)) }
     {
         let mut spots = Vec::with_capacity(alloc, entities.len())?;
         for one in entities {
@@ -46,7 +48,8 @@ impl<'f> Machine<'f> {
 
     /// Waits for a set of entities, and then runs the body inside of the section.
     fn lock(&mut self, made: &mut Made, set: Spots, body: &'f [Stmt]) -> Result<(), AllocError>
-        ensures { OnOk result (Makes made.old made.new self.new (locks (machine_of self.old) (spots_of set) (block_of body.now))) }
+        ensures { OnOk result (Makes made.old made.new self.new
+            (locks (machine_of self.old) (spots_of set) (block_of body.now))) }
     {
         let number = self.next_task()?;
         self.ask_for(made, number, &set)?;
@@ -59,7 +62,13 @@ impl<'f> Machine<'f> {
 
     /// Sends the lock to the first entity of its set.
     fn ask_for(&self, made: &mut Made, number: u32, set: &Spots) -> Result<(), AllocError>
-        ensures { OnOk result (Makes made.old made.new self.now (record { machine = machine_of self.now; sent = locking (machine_of self.now) number (spots_of set.now) (entity_at (spots_of set.now) 0); asked = [] })) }
+        ensures { OnOk result (Makes made.old made.new self.now
+            (record {
+              machine = machine_of self.now;
+              sent = locking (machine_of self.now) number
+                  (spots_of set.now) (entity_at (spots_of set.now) 0);
+              asked = [];
+            })) }
     {
         if set.as_slice().is_empty() {
             return Ok(());
@@ -76,7 +85,12 @@ impl<'f> Machine<'f> {
         entities: &[Locked],
         body: &'f [Stmt],
     ) -> Result<(), AllocError>
-        ensures { OnOk result (Goes made.old made.new self.new (having (machine_of self.old) (eval_spots (machine_of self.old).variables (map locked_of entities.now)) (λ spots. by_rule (machine_of self.old) (may_lock (machine_of self.old).section (machine_of self.old).tasks) (locks (machine_of self.old) (set_of spots) (block_of body.now))))) }
+        ensures { OnOk result (Goes made.old made.new self.new
+            (having (machine_of self.old)
+            (eval_spots (machine_of self.old).variables (map locked_of entities.now))
+            (λ spots. by_rule (machine_of self.old)
+            (may_lock (machine_of self.old).section (machine_of self.old).tasks)
+            (locks (machine_of self.old) (set_of spots) (block_of body.now))))) }
     {
         match self.spots(alloc, entities) {
             Ok(spots) => {

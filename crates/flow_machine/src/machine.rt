@@ -75,7 +75,8 @@ pub struct Machine<'f> {
 impl<'f> Machine<'f> {
     /// The machine of an instance before its first event.
     pub fn new(alloc: Global, id: &Id, body: Option<&'f [Stmt]>) -> Result<Machine<'f>, AllocError>
-        ensures { IfOk result (λ m. machine_of m ≡ new_machine (id_of id.now) (option_map body_of body.entry)) }
+        ensures { IfOk result (λ m. machine_of m
+            ≡ new_machine (id_of id.now) (option_map body_of body.entry)) }
     {
         Ok(Machine {
             id: copy_id(id)?,
@@ -97,7 +98,8 @@ impl<'f> Machine<'f> {
     /// This is to run before all else. How much else is to run makes no difference in time.
     #[tactic(auto, using(crate::proofs::Thrown::rest_last))]
     pub fn plan(&mut self, todo: Todo<'f>) -> Result<(), AllocError>
-        ensures { OnOk result (machine_of self.new ≡ with_rest (machine_of self.old) (todos_of todo.entry ++ (machine_of self.old).rest)) }
+        ensures { OnOk result (machine_of self.new
+            ≡ with_rest (machine_of self.old) (todos_of todo.entry ++ (machine_of self.old).rest)) }
     {
         self.rest.push(todo)?;
         Ok(())

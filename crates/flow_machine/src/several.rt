@@ -35,7 +35,9 @@ impl<'f> Machine<'f> {
         variable: &Name,
         outcomes: &[Outcome],
     ) -> Result<(), AllocError>
-        ensures { OnOk result (Goes made.old made.new self.new (awaited_all (machine_of self.old) (machine_of self.old) variable.now (Some outcomes.now))) }
+        ensures { OnOk result (Goes made.old made.new self.new
+            (awaited_all (machine_of self.old) (machine_of self.old) variable.now
+            (Some outcomes.now))) }
     {
         match all_values(alloc, outcomes)? {
             Ok(values) => match list_given(alloc, values) {
@@ -54,7 +56,9 @@ impl<'f> Machine<'f> {
         variable: &Name,
         handles: &[usize],
     ) -> Result<bool, AllocError>
-        ensures { IfOk result (λ went. Waits went made.old made.new self.new (machine_of self.old) (λ was. awaited_all was (machine_of self.old) variable.now (all_arrived (machine_of self.old).tasks handles.now))) }
+        ensures { IfOk result (λ went. Waits went made.old made.new self.new (machine_of self.old)
+            (λ was. awaited_all was (machine_of self.old) variable.now
+            (all_arrived (machine_of self.old).tasks handles.now))) }
     {
         match self.tasks.all_arrived(alloc, handles)? {
             Some(outcomes) => {
@@ -73,7 +77,9 @@ impl<'f> Machine<'f> {
         variable: &Name,
         handles: &[usize],
     ) -> Result<bool, AllocError>
-        ensures { IfOk result (λ went. Waits went made.old made.new self.new (machine_of self.old) (λ was. awaited_any was (machine_of self.old) variable.now handles.now (first_arrived (machine_of self.old).tasks 0 handles.now))) }
+        ensures { IfOk result (λ went. Waits went made.old made.new self.new (machine_of self.old)
+            (λ was. awaited_any was (machine_of self.old) variable.now handles.now
+            (first_arrived (machine_of self.old).tasks 0 handles.now))) }
     {
         if handles.is_empty() {
             self.throw_word(alloc, made, "empty")?;
@@ -98,7 +104,9 @@ impl<'f> Machine<'f> {
         variable: &Name,
         handles: &Expr,
     ) -> Result<bool, AllocError>
-        ensures { IfOk result (λ went. Waits went made.old made.new self.new (machine_of self.old) (λ was. statement_step was (machine_of self.old) (await_all variable.now (expression_of handles.now)))) }
+        ensures { IfOk result (λ went. Waits went made.old made.new self.new (machine_of self.old)
+            (λ was. statement_step was (machine_of self.old)
+            (await_all variable.now (expression_of handles.now)))) }
     {
         match self.handles_in(alloc, handles) {
             Ok(handles) => self.await_tasks(alloc, made, variable, &handles),
@@ -116,7 +124,9 @@ impl<'f> Machine<'f> {
         variable: &Name,
         handles: &Expr,
     ) -> Result<bool, AllocError>
-        ensures { IfOk result (λ went. Waits went made.old made.new self.new (machine_of self.old) (λ was. statement_step was (machine_of self.old) (await_any variable.now (expression_of handles.now)))) }
+        ensures { IfOk result (λ went. Waits went made.old made.new self.new (machine_of self.old)
+            (λ was. statement_step was (machine_of self.old)
+            (await_any variable.now (expression_of handles.now)))) }
     {
         match self.handles_in(alloc, handles) {
             Ok(handles) => self.await_first(alloc, made, variable, &handles),
@@ -129,7 +139,9 @@ impl<'f> Machine<'f> {
 
     /// The task that an expression names. Each call computes the expression anew; whether the task has a result is not looked at.
     pub fn handle_in(&self, alloc: Global, handle: &Expr) -> Result<usize, AwaitError>
-        ensures { NamesTasks (λ n. n) result (handle_in (machine_of self.now).variables (machine_of self.now).tasks (expression_of handle.now)) }
+        ensures { NamesTasks (λ n. n) result
+            (handle_in (machine_of self.now).variables (machine_of self.now).tasks
+            (expression_of handle.now)) }
     {
         let value = match self.value(alloc, handle) {
             Ok(value) => value,
@@ -145,7 +157,9 @@ impl<'f> Machine<'f> {
 
     /// The tasks that an expression names. Each call computes the expression anew; whether they have results is not looked at.
     pub fn handles_in(&self, alloc: Global, handles: &Expr) -> Result<Vec<usize>, AwaitError>
-        ensures { NamesTasks (λ ns. ns.items) result (handles_in (machine_of self.now).variables (machine_of self.now).tasks (expression_of handles.now)) }
+        ensures { NamesTasks (λ ns. ns.items) result
+            (handles_in (machine_of self.now).variables (machine_of self.now).tasks
+            (expression_of handles.now)) }
     {
         let value = match self.value(alloc, handles) {
             Ok(value) => value,

@@ -20,14 +20,16 @@ use std::alloc::{AllocError, Global};
 impl<'f> Machine<'f> {
     /// What an expression gives with the machine's variables.
     pub(crate) fn value(&self, alloc: Global, expression: &Expr) -> Result<Value, EvalError>
-        ensures { EvalGives (λ value. value) result (eval (machine_of self.now).variables (expression_of expression.now)) }
+        ensures { EvalGives (λ value. value) result
+            (eval (machine_of self.now).variables (expression_of expression.now)) }
     {
         eval(alloc, expression, &self.variables)
     }
 
     /// Sets a variable to a value.
     pub(crate) fn set(&mut self, variable: &Name, value: Value) -> Result<(), AllocError>
-        ensures { OnOk result (machine_of self.new ≡ (sets (machine_of self.old) variable.now value).machine) }
+        ensures { OnOk result (machine_of self.new
+            ≡ (sets (machine_of self.old) variable.now value).machine) }
     {
         let (name, value) = with(copy_name(variable), value)?;
         self.variables.set(name, value)
@@ -40,7 +42,10 @@ impl<'f> Machine<'f> {
         variable: &Name,
         value: &Expr,
     ) -> Result<(), AllocError>
-        ensures { OnOk result (Goes made.old made.new self.new (having (machine_of self.old) (eval (machine_of self.old).variables (expression_of value.now)) (sets (machine_of self.old) variable.now))) }
+        ensures { OnOk result (Goes made.old made.new self.new
+            (having (machine_of self.old)
+            (eval (machine_of self.old).variables (expression_of value.now))
+            (sets (machine_of self.old) variable.now))) }
     {
         match self.value(alloc, value) {
             Ok(value) => self.set(variable, value),
@@ -50,7 +55,8 @@ impl<'f> Machine<'f> {
 
     /// Whether a test is true.
     fn test(&self, alloc: Global, test: &Expr) -> Result<bool, EvalError>
-        ensures { EvalGives (λ b. b) result (truth_in (machine_of self.now).variables (expression_of test.now)) }
+        ensures { EvalGives (λ b. b) result
+            (truth_in (machine_of self.now).variables (expression_of test.now)) }
     {
         let value = self.value(alloc, test)?;
         let truth = to_truth(&value);
@@ -66,7 +72,10 @@ impl<'f> Machine<'f> {
         yes: &'f [Stmt],
         no: &'f [Stmt],
     ) -> Result<(), AllocError>
-        ensures { OnOk result (Goes made.old made.new self.new (having (machine_of self.old) (truth_in (machine_of self.old).variables (expression_of test.now)) (λ b. branches (machine_of self.old) b (block_of yes.now) (block_of no.now)))) }
+        ensures { OnOk result (Goes made.old made.new self.new
+            (having (machine_of self.old)
+            (truth_in (machine_of self.old).variables (expression_of test.now))
+            (λ b. branches (machine_of self.old) b (block_of yes.now) (block_of no.now)))) }
     {
         match self.test(alloc, test) {
             Ok(true) => self.plan(Todo::Body(yes)),
@@ -84,8 +93,12 @@ impl<'f> Machine<'f> {
         body: &'f [Stmt],
         one: &'f [Stmt],
     ) -> Result<(), AllocError>
-        requires { block_of one.now ≡ first_then (while (expression_of test.now) (block_of body.now)) nothing }
-        ensures { OnOk result (Goes made.old made.new self.new (having (machine_of self.old) (truth_in (machine_of self.old).variables (expression_of test.now)) (λ b. loops (machine_of self.old) b (expression_of test.now) (block_of body.now)))) }
+        requires { block_of one.now ≡ first_then
+            (while (expression_of test.now) (block_of body.now)) nothing }
+        ensures { OnOk result (Goes made.old made.new self.new
+            (having (machine_of self.old)
+            (truth_in (machine_of self.old).variables (expression_of test.now))
+            (λ b. loops (machine_of self.old) b (expression_of test.now) (block_of body.now)))) }
     {
         match self.test(alloc, test) {
             Ok(true) => {
@@ -103,7 +116,10 @@ impl<'f> Machine<'f> {
         variable: &'f Name,
         handler: &'f [Stmt],
     ) -> Result<(), AllocError>
-        ensures { OnOk result (machine_of self.new ≡ with_rest (machine_of self.old) (todo (block_of body.now) ++ end_try variable.now (block_of handler.now) ∷ (machine_of self.old).rest)) }
+        ensures { OnOk result (machine_of self.new
+            ≡ with_rest (machine_of self.old)
+            (todo (block_of body.now) ++ end_try variable.now (block_of handler.now)
+            ∷ (machine_of self.old).rest)) }
     {
         self.plan(Todo::EndTry(variable, handler))?;
         self.plan(Todo::Body(body))
@@ -115,7 +131,10 @@ impl<'f> Machine<'f> {
         made: &mut Made,
         value: &Expr,
     ) -> Result<(), AllocError>
-        ensures { OnOk result (Goes made.old made.new self.new (having (machine_of self.old) (eval (machine_of self.old).variables (expression_of value.now)) (λ v. ended (machine_of self.old) (done v)))) }
+        ensures { OnOk result (Goes made.old made.new self.new
+            (having (machine_of self.old)
+            (eval (machine_of self.old).variables (expression_of value.now))
+            (λ v. ended (machine_of self.old) (done v)))) }
     {
         match self.value(alloc, value) {
             Ok(value) => self.end(made, Progress::Done(value)),
@@ -125,7 +144,8 @@ impl<'f> Machine<'f> {
 
     /// A text that an expression gives.
     fn text(&self, alloc: Global, text: &Expr) -> Result<Text, EvalError>
-        ensures { EvalGives (λ t. t) result (text_in (machine_of self.now).variables (expression_of text.now)) }
+        ensures { EvalGives (λ t. t) result
+            (text_in (machine_of self.now).variables (expression_of text.now)) }
     {
         let value = self.value(alloc, text)?;
         let copy = match to_text(&value) {
@@ -145,7 +165,10 @@ impl<'f> Machine<'f> {
         made: &mut Made,
         text: &Expr,
     ) -> Result<(), AllocError>
-        ensures { OnOk result (Goes made.old made.new self.new (having (machine_of self.old) (text_in (machine_of self.old).variables (expression_of text.now)) (throws (machine_of self.old)))) }
+        ensures { OnOk result (Goes made.old made.new self.new
+            (having (machine_of self.old)
+            (text_in (machine_of self.old).variables (expression_of text.now))
+            (throws (machine_of self.old)))) }
     {
         match self.text(alloc, text) {
             Ok(text) => self.throw(made, &text),

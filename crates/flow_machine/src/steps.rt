@@ -27,7 +27,9 @@ impl<'f> Machine<'f> {
     ) -> Result<(), AllocError>
         requires one { one.now ≡ statement.now ∷ [] }
         requires goes_on { NeverWaits (statement_of statement.now) }
-        ensures { OnOk result ((was : plain.Machine) → Goes made.old made.new self.new (statement_step was (machine_of self.old) (statement_of statement.now))) }
+        ensures { OnOk result ((was : plain.Machine)
+            → Goes made.old made.new self.new
+            (statement_step was (machine_of self.old) (statement_of statement.now))) }
     {
         match statement {
             Stmt::Let(x, value) => self.step_let(alloc, made, x, value),
@@ -63,7 +65,8 @@ impl<'f> Machine<'f> {
         one: &'f [Stmt],
     ) -> Result<bool, AllocError>
         requires { one.now ≡ statement.now ∷ [] }
-        ensures { IfOk result (λ went. Waits went made.old made.new self.new (machine_of self.old) (λ was. statement_step was (machine_of self.old) (statement_of statement.now))) }
+        ensures { IfOk result (λ went. Waits went made.old made.new self.new (machine_of self.old)
+            (λ was. statement_step was (machine_of self.old) (statement_of statement.now))) }
     {
         match statement {
             Stmt::Await(x, handle) => self.step_await(alloc, made, x, handle),
@@ -85,7 +88,9 @@ impl<'f> Machine<'f> {
         variable: &Name,
         number: u32,
     ) -> Result<bool, AllocError>
-        ensures { IfOk result (λ went. Waits went made.old made.new self.new (machine_of self.old) (λ was. statement_step was (machine_of self.old) (await variable.now (scalar (Int (pos number)))))) }
+        ensures { IfOk result (λ went. Waits went made.old made.new self.new (machine_of self.old)
+            (λ was. statement_step was (machine_of self.old)
+            (await variable.now (scalar (Int (pos number)))))) }
     {
         let number = number as usize;
         if number < self.tasks.len() {
@@ -104,7 +109,8 @@ impl<'f> Machine<'f> {
         todo: &Todo<'f>,
     ) -> Result<bool, AllocError>
         requires { length (todos_of todo.now) ≡ 1 }
-        ensures { IfOk result (λ went. Waits went made.old made.new self.new (machine_of self.old) (λ was. todo_step was (machine_of self.old) (todos_of todo.now))) }
+        ensures { IfOk result (λ went. Waits went made.old made.new self.new (machine_of self.old)
+            (λ was. todo_step was (machine_of self.old) (todos_of todo.now))) }
     {
         match todo {
             Todo::Body(body) => match body.first() {

@@ -18,7 +18,8 @@ use std::alloc::{AllocError, Global};
 
 impl<'f> Machine<'f> {
     fn integer(&self, alloc: Global, expression: &Expr) -> Result<i64, EvalError>
-        ensures { EvalGives (λ n. n) result (integer_in (machine_of self.now).variables (expression_of expression.now)) }
+        ensures { EvalGives (λ n. n) result
+            (integer_in (machine_of self.now).variables (expression_of expression.now)) }
     {
         let value = self.value(alloc, expression)?;
         let integer = to_integer(&value);
@@ -29,7 +30,8 @@ impl<'f> Machine<'f> {
     /// A timer that is due at this stamp.
     fn set_due(&mut self, made: &mut Made, variable: &Name, due: u64) -> Result<(), AllocError>
         requires { due < 2 ^ 63 }
-        ensures { OnOk result (Makes made.old made.new self.new (is_due_in_time (machine_of self.old) variable.now due)) }
+        ensures { OnOk result (Makes made.old made.new self.new
+            (is_due_in_time (machine_of self.old) variable.now due)) }
     {
         let number = self.handle(variable)?;
         self.add_task(Kind::Timer(due))?;
@@ -45,7 +47,8 @@ impl<'f> Machine<'f> {
         variable: &Name,
         delay: i64,
     ) -> Result<(), AllocError>
-        ensures { OnOk result (Makes made.old made.new self.new (sets_timer (machine_of self.old) variable.now delay)) }
+        ensures { OnOk result (Makes made.old made.new self.new
+            (sets_timer (machine_of self.old) variable.now delay)) }
     {
         if delay < 0 {
             return self.throw_word(alloc, made, "range");
@@ -63,7 +66,10 @@ impl<'f> Machine<'f> {
         variable: &Name,
         delay: &Expr,
     ) -> Result<(), AllocError>
-        ensures { OnOk result (Goes made.old made.new self.new (having (machine_of self.old) (integer_in (machine_of self.old).variables (expression_of delay.now)) (sets_timer (machine_of self.old) variable.now))) }
+        ensures { OnOk result (Goes made.old made.new self.new
+            (having (machine_of self.old)
+            (integer_in (machine_of self.old).variables (expression_of delay.now))
+            (sets_timer (machine_of self.old) variable.now))) }
     {
         match self.integer(alloc, delay) {
             Ok(delay) => self.set_timer(alloc, made, variable, delay),

@@ -19,7 +19,8 @@ pub fn entity_id(spot: &Spot) -> Result<Id, AllocError>
 
 /// Releases each of these entities.
 pub fn release_all(messages: &mut Vec<Message>, id: &Id, set: &[Spot]) -> Result<(), AllocError>
-    ensures { OnOk result (messages_of messages.new.items ≡ messages_of messages.old.items ++ releasing (id_of id.now) (spots_of set.now)) }
+    ensures { OnOk result (messages_of messages.new.items
+        ≡ messages_of messages.old.items ++ releasing (id_of id.now) (spots_of set.now)) }
 {
     for spot in set {
         let from = copy_id(id)?;
@@ -41,7 +42,8 @@ pub fn answer_reply(
     reply: &Reply,
     answer: Answer,
 ) -> Result<Vec<Message>, AllocError>
-    ensures { IfOk result (λ sent. messages_of sent.items ≡ answering (id_of from.now) (id_of to.now) (reply_of reply.now) (answer_of answer)) }
+    ensures { IfOk result (λ sent. messages_of sent.items
+        ≡ answering (id_of from.now) (id_of to.now) (reply_of reply.now) (answer_of answer)) }
 {
     let mut sent = Vec::new(alloc);
     match reply {
@@ -68,7 +70,9 @@ fn lock_at(
     set: &Spots,
     place: usize,
 ) -> Result<Message, AllocError>
-    ensures { IfOk result (λ message. message_of message ≡ lock_goes_on (id_of at.now) (id_of id.now) task (spots_of set.now) place (Some (at_spot (spot_of next.now)))) }
+    ensures { IfOk result (λ message. message_of message
+        ≡ lock_goes_on (id_of at.now) (id_of id.now) task (spots_of set.now) place
+        (Some (at_spot (spot_of next.now)))) }
 {
     let Ok(place) = u8::try_from(place) else {
         return Err(AllocError);
@@ -93,7 +97,9 @@ pub fn pass_on(
     set: &Spots,
     place: usize,
 ) -> Result<Message, AllocError>
-    ensures { IfOk result (λ message. message_of message ≡ lock_goes_on (id_of at.now) (id_of id.now) task (spots_of set.now) place (entity_at (spots_of set.now) place)) }
+    ensures { IfOk result (λ message. message_of message
+        ≡ lock_goes_on (id_of at.now) (id_of id.now) task (spots_of set.now) place
+        (entity_at (spots_of set.now) place)) }
 {
     match set.as_slice().get(place) {
         Some(next) => lock_at(at, next, id, task, set, place),

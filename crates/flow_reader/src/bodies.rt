@@ -46,7 +46,8 @@ fn locked_in(alloc: Global, value: &Tree<'_>) -> Result<Locked, PartError>
 /// The pairs of an array, from the first on.
 #[tactic(auto, using(crate::proofs::Pairs::goes_on, crate::proofs::Pairs::ends, crate::proofs::Pairs::begins, crate::proofs::Pairs::all))]
 fn pairs_from(alloc: Global, parts: &[Tree<'_>]) -> Result<Vec<Locked>, PartError>
-    ensures { PartGives (λ pairs. map locked_of pairs.items) result (pairs_from 0 (items_view parts.now)) }
+    ensures { PartGives (λ pairs. map locked_of pairs.items) result
+        (pairs_from 0 (items_view parts.now)) }
 {
     let mut pairs = Vec::with_capacity(alloc, parts.len())?;
     for (index, part) in parts.iter().enumerate() {
@@ -61,7 +62,8 @@ fn pairs_from(alloc: Global, parts: &[Tree<'_>]) -> Result<Vec<Locked>, PartErro
 /// 1 to 16 pairs.
 #[tactic(auto, using(flow_values::proofs::Scalars::count_of_items))]
 fn few_pairs(alloc: Global, parts: &[Tree<'_>]) -> Result<Vec<Locked>, PartError>
-    ensures { PartGives (λ pairs. map locked_of pairs.items) result (pairs_in (array (items_view parts.now))) }
+    ensures { PartGives (λ pairs. map locked_of pairs.items) result
+        (pairs_in (array (items_view parts.now))) }
 {
     if parts.len() >= 1 && parts.len() <= SPOTS_LIMIT {
         pairs_from(alloc, parts)
@@ -82,7 +84,8 @@ fn pairs_in(alloc: Global, value: &Tree<'_>) -> Result<Vec<Locked>, PartError>
 /// The pairs at a place of a statement.
 #[tactic(auto, using(flow_values::proofs::Parts::fails_under))]
 fn pairs_at(alloc: Global, value: &Tree<'_>, index: usize) -> Result<Vec<Locked>, PartError>
-    ensures { PartGives (λ pairs. map locked_of pairs.items) result (at (to_part index) (pairs_in (view value.now))) }
+    ensures { PartGives (λ pairs. map locked_of pairs.items) result
+        (at (to_part index) (pairs_in (view value.now))) }
 {
     match pairs_in(alloc, value) {
         Ok(pairs) => Ok(pairs),
@@ -105,7 +108,8 @@ pub(crate) fn body_in(alloc: Global, inside: bool, value: &Tree<'_>) -> Result<V
 #[cycle(statements)]
 #[tactic(auto, using(crate::proofs::Blocks::goes_on, crate::proofs::Blocks::ends, crate::proofs::Blocks::begins, crate::proofs::Blocks::all))]
 fn statements_in(alloc: Global, inside: bool, items: &[Tree<'_>]) -> Result<Vec<Stmt>, PartError>
-    ensures { PartGives (λ body. block_of body.items) result (statements_from inside 0 (items_view items.now)) }
+    ensures { PartGives (λ body. block_of body.items) result
+        (statements_from inside 0 (items_view items.now)) }
 {
     let mut statements = Vec::with_capacity(alloc, items.len())?;
     for (index, item) in items.iter().enumerate() {
@@ -126,7 +130,8 @@ fn body_at(
     value: &Tree<'_>,
     index: usize,
 ) -> Result<Vec<Stmt>, PartError>
-    ensures { PartGives (λ body. block_of body.items) result (at (to_part index) (body_in inside (view value.now))) }
+    ensures { PartGives (λ body. block_of body.items) result
+        (at (to_part index) (body_in inside (view value.now))) }
 {
     match body_in(alloc, inside, value) {
         Ok(body) => Ok(body),
@@ -212,7 +217,8 @@ fn of_word(alloc: Global, inside: bool, word: Word, items: &[Tree<'_>]) -> Resul
 #[tactic(auto, using(flow_values::proofs::Parts::ends_then, crate::proofs::Blocks::behind_two))]
 fn lock_in(alloc: Global, inside: bool, items: &[Tree<'_>]) -> Result<Stmt, PartError>
     requires { length items.now ≡ 3 }
-    ensures { PartGives statement_of result (of_word inside words.Lock (items_view (drop 1 items.now))) }
+    ensures { PartGives statement_of result
+        (of_word inside words.Lock (items_view (drop 1 items.now))) }
 {
     let (entities, body) = (&items[1], &items[2]);
     let entities = pairs_at(alloc, entities, 1)?;
@@ -225,7 +231,8 @@ fn lock_in(alloc: Global, inside: bool, items: &[Tree<'_>]) -> Result<Stmt, Part
 #[tactic(auto, using(flow_values::proofs::Parts::ends_then, crate::proofs::Blocks::behind_three, crate::proofs::Blocks::if_ends, crate::proofs::Blocks::if_ends_yes))]
 fn if_in(alloc: Global, inside: bool, items: &[Tree<'_>]) -> Result<Stmt, PartError>
     requires { length items.now ≡ 4 }
-    ensures { PartGives statement_of result (of_word inside words.If (items_view (drop 1 items.now))) }
+    ensures { PartGives statement_of result
+        (of_word inside words.If (items_view (drop 1 items.now))) }
 {
     let (test, yes, no) = (&items[1], &items[2], &items[3]);
     let test = expression_at(alloc, test, 1)?;
@@ -239,7 +246,8 @@ fn if_in(alloc: Global, inside: bool, items: &[Tree<'_>]) -> Result<Stmt, PartEr
 #[tactic(auto, using(flow_values::proofs::Parts::ends_then, crate::proofs::Blocks::behind_two, crate::proofs::Blocks::while_ends))]
 fn while_in(alloc: Global, inside: bool, items: &[Tree<'_>]) -> Result<Stmt, PartError>
     requires { length items.now ≡ 3 }
-    ensures { PartGives statement_of result (of_word inside words.While (items_view (drop 1 items.now))) }
+    ensures { PartGives statement_of result
+        (of_word inside words.While (items_view (drop 1 items.now))) }
 {
     let (test, body) = (&items[1], &items[2]);
     let test = expression_at(alloc, test, 1)?;
@@ -252,7 +260,8 @@ fn while_in(alloc: Global, inside: bool, items: &[Tree<'_>]) -> Result<Stmt, Par
 #[tactic(auto, using(flow_values::proofs::Parts::ends_then, crate::proofs::Blocks::behind_three, crate::proofs::Blocks::try_ends, crate::proofs::Blocks::try_ends_variable))]
 fn try_in(alloc: Global, inside: bool, items: &[Tree<'_>]) -> Result<Stmt, PartError>
     requires { length items.now ≡ 4 }
-    ensures { PartGives statement_of result (of_word inside words.Try (items_view (drop 1 items.now))) }
+    ensures { PartGives statement_of result
+        (of_word inside words.Try (items_view (drop 1 items.now))) }
 {
     let (body, variable, handler) = (&items[1], &items[2], &items[3]);
     let body = body_at(alloc, inside, body, 1)?;

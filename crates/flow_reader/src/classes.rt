@@ -39,7 +39,8 @@ fn body_under(
     name: &Name,
     value: &Tree<'_>,
 ) -> Result<Vec<Stmt>, PartError>
-    ensures { PartGives (λ body. block_of body.items) result (at (to_key name.now) (body_in inside (view value.now))) }
+    ensures { PartGives (λ body. block_of body.items) result
+        (at (to_key name.now) (body_in inside (view value.now))) }
 {
     match body_in(alloc, inside, value) {
         Ok(body) => Ok(body),
@@ -55,7 +56,8 @@ fn bodies_from(
     members: &[Member<'_>],
 ) -> Result<BTreeMap<Name, Vec<Stmt>>, PartError>
     requires { have_names (members_view members.now) ≡ true }
-    ensures { PartGives bodies_of result (named_after (body_in inside) [] (members_view members.now)) }
+    ensures { PartGives bodies_of result
+        (named_after (body_in inside) [] (members_view members.now)) }
 {
     let mut bodies = BTreeMap::new(alloc);
     for member in members {
@@ -73,7 +75,8 @@ fn bodies_of_members(
     inside: bool,
     members: &[Member<'_>],
 ) -> Result<BTreeMap<Name, Vec<Stmt>>, PartError>
-    ensures { PartGives bodies_of result (named_in (body_in inside) (object (members_view members.now))) }
+    ensures { PartGives bodies_of result
+        (named_in (body_in inside) (object (members_view members.now))) }
 {
     if have_names(members) {
         bodies_from(alloc, inside, members)
@@ -108,7 +111,8 @@ fn init_at(alloc: Global, value: &Tree<'_>) -> Result<Value, PartError>
 
 #[tactic(auto, using(flow_values::proofs::Parts::fails_under))]
 fn operations_at(alloc: Global, value: &Tree<'_>) -> Result<BTreeMap<Name, Vec<Stmt>>, PartError>
-    ensures { PartGives bodies_of result (at (to_key (codes "ops")) (named_in (body_in true) (view value.now))) }
+    ensures { PartGives bodies_of result
+        (at (to_key (codes "ops")) (named_in (body_in true) (view value.now))) }
 {
     match bodies_in(alloc, true, value) {
         Ok(operations) => Ok(operations),
@@ -125,7 +129,9 @@ fn class_of_two(
     second: &str,
     operations: &Tree<'_>,
 ) -> Result<Class, PartError>
-    ensures { PartGives class_of result (class_in (object (member first.now (view init.now) (member second.now (view operations.now) no_members)))) }
+    ensures { PartGives class_of result
+        (class_in (object (member first.now (view init.now)
+        (member second.now (view operations.now) no_members)))) }
 {
     if first == "init" && second == "ops" {
         let init = init_at(alloc, init)?;
@@ -174,7 +180,8 @@ fn class_under(alloc: Global, name: &Name, value: &Tree<'_>) -> Result<Class, Pa
 #[tactic(auto, using(crate::proofs::Members::put, crate::proofs::Members::ends, crate::proofs::Members::all, crate::proofs::Members::first_is_name, crate::proofs::Members::rest_are_names))]
 fn classes_from(alloc: Global, members: &[Member<'_>]) -> Result<BTreeMap<Name, Class>, PartError>
     requires { have_names (members_view members.now) ≡ true }
-    ensures { PartGives (λ classes. named_by class_of classes.entries) result (named_after class_in [] (members_view members.now)) }
+    ensures { PartGives (λ classes. named_by class_of classes.entries) result
+        (named_after class_in [] (members_view members.now)) }
 {
     let mut classes = BTreeMap::new(alloc);
     for member in members {
@@ -191,7 +198,8 @@ fn classes_of_members(
     alloc: Global,
     members: &[Member<'_>],
 ) -> Result<BTreeMap<Name, Class>, PartError>
-    ensures { PartGives (λ classes. named_by class_of classes.entries) result (named_in class_in (object (members_view members.now))) }
+    ensures { PartGives (λ classes. named_by class_of classes.entries) result
+        (named_in class_in (object (members_view members.now))) }
 {
     if have_names(members) {
         classes_from(alloc, members)
@@ -205,7 +213,8 @@ pub(crate) fn classes_in(
     alloc: Global,
     value: &Tree<'_>,
 ) -> Result<BTreeMap<Name, Class>, PartError>
-    ensures { PartGives (λ classes. named_by class_of classes.entries) result (named_in class_in (view value.now)) }
+    ensures { PartGives (λ classes. named_by class_of classes.entries) result
+        (named_in class_in (view value.now)) }
 {
     match value {
         Tree::Object(members) => classes_of_members(alloc, members),

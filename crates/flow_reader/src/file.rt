@@ -16,7 +16,8 @@ use std::collections::BTreeMap;
 
 #[tactic(auto, using(flow_values::proofs::Parts::fails_under))]
 fn classes_at(alloc: Global, value: &Tree<'_>) -> Result<BTreeMap<Name, Class>, PartError>
-    ensures { PartGives (λ classes. named_by class_of classes.entries) result (classes_in (view value.now)) }
+    ensures { PartGives (λ classes. named_by class_of classes.entries) result
+        (classes_in (view value.now)) }
 {
     match classes_in(alloc, value) {
         Ok(classes) => Ok(classes),
@@ -37,7 +38,8 @@ fn flows_at(alloc: Global, value: &Tree<'_>) -> Result<BTreeMap<Name, Vec<Stmt>>
 /// A file of one member.
 #[tactic(auto, using(flow_values::proofs::Parts::ends_then))]
 fn of_one(alloc: Global, key: &str, value: &Tree<'_>) -> Result<Flows, PartError>
-    ensures { PartGives flows_of result (file_in (object (member key.now (view value.now) no_members))) }
+    ensures { PartGives flows_of result
+        (file_in (object (member key.now (view value.now) no_members))) }
 {
     if key == "classes" {
         match classes_at(alloc, value) {
@@ -69,7 +71,9 @@ fn of_two(
     second: &str,
     flows: &Tree<'_>,
 ) -> Result<Flows, PartError>
-    ensures { PartGives flows_of result (file_in (object (member first.now (view classes.now) (member second.now (view flows.now) no_members)))) }
+    ensures { PartGives flows_of result
+        (file_in (object (member first.now (view classes.now)
+        (member second.now (view flows.now) no_members)))) }
 {
     if first == "classes" && second == "flows" {
         let classes = classes_at(alloc, classes)?;

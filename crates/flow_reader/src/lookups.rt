@@ -42,7 +42,8 @@ fn has_operation(file: &Flows, class: &Name, operation: &Name) -> bool
 /// The classes of pairs, from the first on.
 #[tactic(auto, using(crate::proofs::Known::pair_known, crate::proofs::Known::pair_unknown, crate::proofs::Known::no_pairs))]
 fn known_pairs(alloc: Global, file: &Flows, pairs: &[Locked]) -> Result<(), PartError>
-    ensures { PartGives (λ known. tt) result (known_pairs (flows_of file.now) 0 (map locked_of pairs.now)) }
+    ensures { PartGives (λ known. tt) result
+        (known_pairs (flows_of file.now) 0 (map locked_of pairs.now)) }
 {
     for (index, pair) in pairs.iter().enumerate() {
         match known_at(alloc, 0, has_class(file, &pair.class)) {
@@ -55,7 +56,8 @@ fn known_pairs(alloc: Global, file: &Flows, pairs: &[Locked]) -> Result<(), Part
 
 #[tactic(auto, using(flow_values::proofs::Parts::fails_under))]
 fn pairs_at(alloc: Global, file: &Flows, pairs: &[Locked], index: usize) -> Result<(), PartError>
-    ensures { PartGives (λ known. tt) result (at (to_part index) (known_pairs (flows_of file.now) 0 (map locked_of pairs.now))) }
+    ensures { PartGives (λ known. tt) result
+        (at (to_part index) (known_pairs (flows_of file.now) 0 (map locked_of pairs.now))) }
 {
     match known_pairs(alloc, file, pairs) {
         Ok(()) => Ok(()),
@@ -67,7 +69,8 @@ fn pairs_at(alloc: Global, file: &Flows, pairs: &[Locked], index: usize) -> Resu
 #[cycle(names)]
 #[tactic(auto, using(flow_values::proofs::Parts::ends_then))]
 fn known_in(alloc: Global, file: &Flows, statement: &Stmt) -> Result<(), PartError>
-    ensures { PartGives (λ known. tt) result (known_in (flows_of file.now) (statement_of statement.now)) }
+    ensures { PartGives (λ known. tt) result
+        (known_in (flows_of file.now) (statement_of statement.now)) }
 {
     match statement {
         Stmt::Sub(_, flow, _, _) => known_at(alloc, 2, file.body_of(flow).is_some()),
@@ -100,7 +103,8 @@ fn known_in(alloc: Global, file: &Flows, statement: &Stmt) -> Result<(), PartErr
 #[cycle(names)]
 #[tactic(auto, using(flow_values::proofs::Parts::fails_under))]
 fn block_at(alloc: Global, file: &Flows, block: &[Stmt], index: usize) -> Result<(), PartError>
-    ensures { PartGives (λ known. tt) result (at (to_part index) (known_block (flows_of file.now) 0 (block_of block.now))) }
+    ensures { PartGives (λ known. tt) result
+        (at (to_part index) (known_block (flows_of file.now) 0 (block_of block.now))) }
 {
     match known_block(alloc, file, block) {
         Ok(()) => Ok(()),
@@ -112,7 +116,8 @@ fn block_at(alloc: Global, file: &Flows, block: &[Stmt], index: usize) -> Result
 #[cycle(names)]
 #[tactic(auto, using(crate::proofs::Known::goes_on, crate::proofs::Known::ends, crate::proofs::Known::all))]
 fn known_block(alloc: Global, file: &Flows, block: &[Stmt]) -> Result<(), PartError>
-    ensures { PartGives (λ known. tt) result (known_block (flows_of file.now) 0 (block_of block.now)) }
+    ensures { PartGives (λ known. tt) result
+        (known_block (flows_of file.now) 0 (block_of block.now)) }
 {
     for (index, statement) in block.iter().enumerate() {
         match known_in(alloc, file, statement) {
@@ -126,7 +131,8 @@ fn known_block(alloc: Global, file: &Flows, block: &[Stmt]) -> Result<(), PartEr
 /// The names of a flow.
 #[tactic(auto, using(flow_values::proofs::Parts::fails_under))]
 fn known_under(alloc: Global, file: &Flows, name: &Name, block: &[Stmt]) -> Result<(), PartError>
-    ensures { PartGives (λ known. tt) result (at (to_key name.now) (known_block (flows_of file.now) 0 (block_of block.now))) }
+    ensures { PartGives (λ known. tt) result
+        (at (to_key name.now) (known_block (flows_of file.now) 0 (block_of block.now))) }
 {
     match known_block(alloc, file, block) {
         Ok(()) => Ok(()),
@@ -137,7 +143,8 @@ fn known_under(alloc: Global, file: &Flows, name: &Name, block: &[Stmt]) -> Resu
 /// The names of all flows.
 #[tactic(auto, using(crate::proofs::Known::flow_known, crate::proofs::Known::flow_unknown))]
 fn known_flows(alloc: Global, file: &Flows) -> Result<(), PartError>
-    ensures { PartGives (λ known. tt) result (known_flows (flows_of file.now) (flows_of file.now).flows) }
+    ensures { PartGives (λ known. tt) result
+        (known_flows (flows_of file.now) (flows_of file.now).flows) }
 {
     for (name, body) in file.flows.iter() {
         match known_under(alloc, file, name, body) {
@@ -151,7 +158,8 @@ fn known_flows(alloc: Global, file: &Flows) -> Result<(), PartError>
 /// The names of a whole file.
 #[tactic(auto, using(flow_values::proofs::Parts::fails_under))]
 pub(crate) fn known_file(alloc: Global, file: &Flows) -> Result<(), PartError>
-    ensures { PartGives (λ known. tt) result (at (to_key (codes "flows")) (known_flows (flows_of file.now) (flows_of file.now).flows)) }
+    ensures { PartGives (λ known. tt) result
+        (at (to_key (codes "flows")) (known_flows (flows_of file.now) (flows_of file.now).flows)) }
 {
     match known_flows(alloc, file) {
         Ok(()) => Ok(()),

@@ -30,7 +30,8 @@ fn one_part<'t, 'a>(parts: &'t [Tree<'a>]) -> Option<Part<'t, 'a>>
 
 #[tactic(auto, using(crate::proofs::Counts::two_there, crate::proofs::Counts::two_not_there))]
 pub(crate) fn two_parts<'t, 'a>(parts: &'t [Tree<'a>]) -> Option<(Part<'t, 'a>, Part<'t, 'a>)>
-    ensures { option_map (λ p. (view p.0.now, view p.1.now)) result ≡ two_parts (items_view parts.now) }
+    ensures { option_map (λ p. (view p.0.now, view p.1.now)) result
+        ≡ two_parts (items_view parts.now) }
 {
     if parts.len() == 2 {
         Some((&parts[0], &parts[1]))
@@ -41,7 +42,8 @@ pub(crate) fn two_parts<'t, 'a>(parts: &'t [Tree<'a>]) -> Option<(Part<'t, 'a>, 
 
 #[tactic(auto, using(crate::proofs::Counts::three_there, crate::proofs::Counts::three_not_there))]
 fn three_parts<'t, 'a>(parts: &'t [Tree<'a>]) -> Option<(Part<'t, 'a>, Part<'t, 'a>, Part<'t, 'a>)>
-    ensures { option_map (λ p. (view p.0.now, view p.1.now, view p.2.now)) result ≡ three_parts (items_view parts.now) }
+    ensures { option_map (λ p. (view p.0.now, view p.1.now, view p.2.now)) result
+        ≡ three_parts (items_view parts.now) }
 {
     if parts.len() == 3 {
         Some((&parts[0], &parts[1], &parts[2]))
@@ -54,7 +56,8 @@ fn three_parts<'t, 'a>(parts: &'t [Tree<'a>]) -> Option<(Part<'t, 'a>, Part<'t, 
 fn four_parts<'t, 'a>(
     parts: &'t [Tree<'a>],
 ) -> Option<(Part<'t, 'a>, Part<'t, 'a>, Part<'t, 'a>, Part<'t, 'a>)>
-    ensures { option_map (λ p. (view p.0.now, view p.1.now, view p.2.now, view p.3.now)) result ≡ four_parts (items_view parts.now) }
+    ensures { option_map (λ p. (view p.0.now, view p.1.now, view p.2.now, view p.3.now)) result
+        ≡ four_parts (items_view parts.now) }
 {
     if parts.len() == 4 {
         Some((&parts[0], &parts[1], &parts[2], &parts[3]))
@@ -75,7 +78,14 @@ fn five_parts<'t, 'a>(
         Part<'t, 'a>,
     ),
 >
-    ensures { option_map (λ p. (view p.0.now, view p.1.now, view p.2.now, view p.3.now, view p.4.now)) result ≡ five_parts (items_view parts.now) }
+    ensures { option_map (λ p. (
+      view p.0.now,
+      view p.1.now,
+      view p.2.now,
+      view p.3.now,
+      view
+          p.4.now,
+    )) result ≡ five_parts (items_view parts.now) }
 {
     if parts.len() == 5 {
         Some((&parts[0], &parts[1], &parts[2], &parts[3], &parts[4]))

@@ -20,7 +20,8 @@ use std::alloc::{AllocError, Global};
 
 /// Whether the wait for the task that an expression names blocks.
 fn await_blocks(machine: &Machine<'_>, alloc: Global, handle: &Expr) -> Result<bool, AllocError>
-    ensures { IfOk result (λ blocks. AwaitBlocks blocks (machine_of machine.now) (expression_of handle.now)) }
+    ensures { IfOk result (λ blocks.
+        AwaitBlocks blocks (machine_of machine.now) (expression_of handle.now)) }
 {
     match machine.handle_in(alloc, handle) {
         Ok(number) => Ok(machine.tasks.arrival(number).is_none()),
@@ -32,7 +33,8 @@ fn await_blocks(machine: &Machine<'_>, alloc: Global, handle: &Expr) -> Result<b
 
 /// Whether the wait for all tasks that an expression names blocks.
 fn all_blocks(machine: &Machine<'_>, alloc: Global, handles: &Expr) -> Result<bool, AllocError>
-    ensures { IfOk result (λ blocks. AllBlocks blocks (machine_of machine.now) (expression_of handles.now)) }
+    ensures { IfOk result (λ blocks.
+        AllBlocks blocks (machine_of machine.now) (expression_of handles.now)) }
 {
     match machine.handles_in(alloc, handles) {
         Ok(numbers) => Ok(machine.tasks.all_arrived(alloc, &numbers)?.is_none()),
@@ -44,7 +46,8 @@ fn all_blocks(machine: &Machine<'_>, alloc: Global, handles: &Expr) -> Result<bo
 
 /// Whether the wait for one of the tasks that an expression names blocks.
 fn any_blocks(machine: &Machine<'_>, alloc: Global, handles: &Expr) -> Result<bool, AllocError>
-    ensures { IfOk result (λ blocks. AnyBlocks blocks (machine_of machine.now) (expression_of handles.now)) }
+    ensures { IfOk result (λ blocks.
+        AnyBlocks blocks (machine_of machine.now) (expression_of handles.now)) }
 {
     match machine.handles_in(alloc, handles) {
         Ok(numbers) => {
@@ -62,7 +65,9 @@ pub(crate) fn blocks(
     alloc: Global,
     statement: &Stmt,
 ) -> Result<bool, AllocError>
-    ensures { IfOk result (λ blocks. Blocks blocks (λ was. statement_step was (machine_of machine.now) (statement_of statement.now))) }
+    ensures { IfOk result (λ blocks.
+        Blocks blocks (λ was. statement_step was (machine_of machine.now)
+        (statement_of statement.now))) }
 {
     match statement {
         Stmt::Await(_, handle) => await_blocks(machine, alloc, handle),
@@ -78,7 +83,8 @@ fn todo_blocks<'f>(
     alloc: Global,
     todo: &Todo<'f>,
 ) -> Result<bool, AllocError>
-    ensures { IfOk result (λ blocks. Blocks blocks (λ was. todo_step was (machine_of machine.now) (todos_of todo.now))) }
+    ensures { IfOk result (λ blocks.
+        Blocks blocks (λ was. todo_step was (machine_of machine.now) (todos_of todo.now))) }
 {
     match todo {
         Todo::Body(body) => match body.first() {
@@ -107,7 +113,8 @@ pub(crate) fn fail(
     word: &str,
 ) -> Result<(), AllocError>
     requires { length word.now ≤ 4096 }
-    ensures { OnOk result (Makes made.old made.new machine.new (ended (machine_of machine.old) (failed word.now))) }
+    ensures { OnOk result (Makes made.old made.new machine.new
+        (ended (machine_of machine.old) (failed word.now))) }
 {
     match Text::read(alloc, word.as_bytes()) {
         Ok(text) => machine.end(made, Progress::Failed(text)),
@@ -118,7 +125,9 @@ pub(crate) fn fail(
 
 /// What a machine that runs comes to where it has taken all its steps.
 fn stop_running(machine: &mut Machine<'_>, alloc: Global, made: &mut Made) -> Result<(), AllocError>
-    ensures { OnOk result (Makes made.old made.new machine.new (stopped (machine_of machine.old) (running_step (machine_of machine.old) (machine_of machine.old).rest))) }
+    ensures { OnOk result (Makes made.old made.new machine.new
+        (stopped (machine_of machine.old)
+        (running_step (machine_of machine.old) (machine_of machine.old).rest))) }
 {
     let Some(todo) = take_next(machine)? else {
         return machine.end(made, Progress::Done(Value::Null));
@@ -138,7 +147,8 @@ pub(crate) fn stop(
     alloc: Global,
     made: &mut Made,
 ) -> Result<(), AllocError>
-    ensures { OnOk result (Makes made.old made.new machine.new (stopped (machine_of machine.old) (next_of (machine_of machine.old)))) }
+    ensures { OnOk result (Makes made.old made.new machine.new
+        (stopped (machine_of machine.old) (next_of (machine_of machine.old)))) }
 {
     match machine.progress {
         Progress::Running => stop_running(machine, alloc, made),

@@ -29,7 +29,10 @@ fn run_operation<'f>(
     argument: &Value,
     body: &'f [Stmt],
 ) -> Result<(), AllocError>
-    ensures { OnOk result (machine_of machine.new ≡ (go most_steps (begun (machine_of machine.old) ((codes "self", value.now) ∷ (codes "arg", argument.now) ∷ []) (block_of body.now))).machine) }
+    ensures { OnOk result (machine_of machine.new
+        ≡ (go most_steps (begun (machine_of machine.old)
+        ((codes "self", value.now) ∷ (codes "arg", argument.now) ∷ [])
+        (block_of body.now))).machine) }
 {
     run_body(machine, alloc, body)?;
     give(machine, alloc, b"self", value)?;
@@ -53,7 +56,8 @@ fn end_answer(alloc: Global, progress: &Progress) -> Result<Answer, AllocError>
 
 /// An operation of a class, where both are known.
 fn operation_in<'f>(class: Option<&'f Class>, operation: &Name) -> Option<&'f [Stmt]>
-    ensures { option_map (λ b. block_of b.now) result ≡ operation_of (option_map shown_class class.entry) operation.now }
+    ensures { option_map (λ b. block_of b.now) result
+        ≡ operation_of (option_map shown_class class.entry) operation.now }
 {
     match class {
         Some(class) => class.operation(operation),
@@ -63,7 +67,11 @@ fn operation_in<'f>(class: Option<&'f Class>, operation: &Name) -> Option<&'f [S
 
 /// Its value is what the end of an operation's body makes of it: that of `self`, and after a fault what it was.
 fn keep(alloc: Global, entity: &mut Entity, end: &Machine<'_>) -> Result<(), AllocError>
-    ensures { OnOk result (entity_of entity.new ≡ record (entity_of entity.old) { value = new_value entity.old.value (machine_of end.now).variables (machine_of end.now).progress }) }
+    ensures { OnOk result (entity_of entity.new
+        ≡ record (entity_of entity.old) {
+          value = new_value entity.old.value (machine_of end.now).variables
+              (machine_of end.now).progress;
+        }) }
 {
     if let Progress::Done(_) = &end.progress {
         if let Some(value) = end.variables.get(&Name::of(alloc, b"self")?) {
@@ -81,7 +89,11 @@ fn finish<'f>(
     argument: &Value,
     body: &'f [Stmt],
 ) -> Result<Answer, AllocError>
-    ensures { IfOk result (λ answer. Finishes answer entity.new (entity_of entity.old) (go most_steps (begun (machine_of machine.old) ((codes "self", entity.old.value) ∷ (codes "arg", argument.now) ∷ []) (block_of body.now))).machine) }
+    ensures { IfOk result (λ answer.
+        Finishes answer entity.new (entity_of entity.old)
+        (go most_steps (begun (machine_of machine.old)
+        ((codes "self", entity.old.value) ∷ (codes "arg", argument.now) ∷ [])
+        (block_of body.now))).machine) }
 {
     run_operation(machine, alloc, &entity.value, argument, body)?;
     keep(alloc, entity, machine)?;
@@ -97,7 +109,9 @@ fn run(
     argument: &Value,
     body: &[Stmt],
 ) -> Result<Answer, AllocError>
-    ensures { IfOk result (λ answer. Finishes answer entity.new (entity_of entity.old) (body_run (id_of at.now) entity.old.value argument.now (block_of body.now))) }
+    ensures { IfOk result (λ answer.
+        Finishes answer entity.new (entity_of entity.old)
+        (body_run (id_of at.now) entity.old.value argument.now (block_of body.now))) }
 {
     let mut machine = Machine::new(alloc, at, None)?;
     let answer = finish(alloc, entity, &mut machine, argument, body);
@@ -115,7 +129,9 @@ fn operate(
     argument: &Value,
     reply: &Reply,
 ) -> Result<Vec<Message>, AllocError>
-    ensures { IfOk result (λ sent. Delivers sent.items entity.new (operated (entity_of entity.old) (id_of message.now.from) (id_of message.now.to) argument.now (reply_of reply.now) (option_map body_of body.entry))) }
+    ensures { IfOk result (λ sent. Delivers sent.items entity.new
+        (operated (entity_of entity.old) (id_of message.now.from) (id_of message.now.to)
+        argument.now (reply_of reply.now) (option_map body_of body.entry))) }
 {
     let answer = match body {
         Some(body) => run(alloc, entity, &message.to, argument, body)?,
@@ -132,7 +148,9 @@ fn tell_value(
     known: bool,
     number: u32,
 ) -> Result<Vec<Message>, AllocError>
-    ensures { IfOk result (λ sent. messages_of sent.items ≡ answering (id_of message.now.to) (id_of message.now.from) (to_request number) (if known then is_value entity.now.value else is_missing)) }
+    ensures { IfOk result (λ sent. messages_of sent.items
+        ≡ answering (id_of message.now.to) (id_of message.now.from) (to_request number)
+        (if known then is_value entity.now.value else is_missing)) }
 {
     let answer = if known {
         Answer::Value(copy_value(&entity.value)?)
@@ -158,7 +176,10 @@ fn take_operation(
     argument: &Value,
     reply: &Reply,
 ) -> Result<Vec<Message>, AllocError>
-    ensures { IfOk result (λ sent. Delivers sent.items entity.new (operated (entity_of entity.old) (id_of message.now.from) (id_of message.now.to) argument.now (reply_of reply.now) (operation_of (option_map shown_class class.entry) operation.now))) }
+    ensures { IfOk result (λ sent. Delivers sent.items entity.new
+        (operated (entity_of entity.old) (id_of message.now.from) (id_of message.now.to)
+        argument.now (reply_of reply.now)
+        (operation_of (option_map shown_class class.entry) operation.now))) }
 {
     let body = operation_in(class, operation);
     operate(alloc, entity, message, body, argument, reply)
@@ -174,7 +195,13 @@ fn take_lock(
     set: &Spots,
     index: u8,
 ) -> Result<Vec<Message>, AllocError>
-    ensures { IfOk result (λ sent. Delivers sent.items entity.new (record { entity = record (entity_of entity.old) { holder = Some (id_of id.now) }; sent = lock_goes_on (id_of at.now) (id_of id.now) task (spots_of set.now) (suc index) (entity_at (spots_of set.now) (suc index)) ∷ [] })) }
+    ensures { IfOk result (λ sent. Delivers sent.items entity.new
+        (record {
+          entity = record (entity_of entity.old) { holder = Some (id_of id.now) };
+          sent =
+              lock_goes_on (id_of at.now) (id_of id.now) task (spots_of set.now) (suc index)
+              (entity_at (spots_of set.now) (suc index)) ∷ [];
+        })) }
 {
     put(&mut entity.holder, Some(copy_id(id)?));
     let next = pass_on(at, id, task, set, index as usize + 1)?;
@@ -191,7 +218,9 @@ pub fn deliver(
     class: &Name,
     message: &Message,
 ) -> Result<Vec<Message>, AllocError>
-    ensures { IfOk result (λ sent. Delivers sent.items entity.new (deliver (flows_of flows.now) (entity_of entity.old) class.now (id_of message.now.from) (id_of message.now.to) (said_of message.now.body))) }
+    ensures { IfOk result (λ sent. Delivers sent.items entity.new
+        (deliver (flows_of flows.now) (entity_of entity.old) class.now (id_of message.now.from)
+        (id_of message.now.to) (said_of message.now.body))) }
 {
     let class = flows.class_of(class);
     match &message.body {

@@ -17,7 +17,8 @@ use std::alloc::{AllocError, Global};
 #[tactic(auto, using(flow_machine::proofs::Thrown::rest_last))]
 fn pop<'f>(machine: &mut Machine<'f>) -> Option<Todo<'f>>
     ensures pops { Pops (machine_of machine.old) (machine_of machine.new) result }
-    ensures shorter { IfSome result (λ _. length machine.new.rest.items < length machine.old.rest.items) }
+    ensures shorter { IfSome result (λ _. length machine.new.rest.items
+        < length machine.old.rest.items) }
 {
     machine.rest.pop()
 }
@@ -26,7 +27,8 @@ fn pop<'f>(machine: &mut Machine<'f>) -> Option<Todo<'f>>
 #[tactic(auto, using(crate::proofs::Taken::is_split, crate::proofs::Taken::is_one, crate::proofs::Taken::is_alone))]
 fn split<'f>(machine: &mut Machine<'f>, body: &'f [Stmt]) -> Result<&'f [Stmt], AllocError>
     requires { 0 < length body.now }
-    ensures { IfOk result (λ first. Splits (machine_of machine.old) (machine_of machine.new) body.now first.now) }
+    ensures { IfOk result (λ first. Splits (machine_of machine.old) (machine_of machine.new)
+        body.now first.now) }
 {
     if body.len() == 1 {
         return Ok(body);
@@ -58,7 +60,8 @@ fn step_running(
     alloc: Global,
     made: &mut Made,
 ) -> Result<bool, AllocError>
-    ensures { IfOk result (λ went. Moves went made.old made.new machine.new (running_step (machine_of machine.old) (machine_of machine.old).rest)) }
+    ensures { IfOk result (λ went. Moves went made.old made.new machine.new
+        (running_step (machine_of machine.old) (machine_of machine.old).rest)) }
 {
     let Some(todo) = take_next(machine)? else {
         machine.end(made, Progress::Done(Value::Null))?;
@@ -73,7 +76,8 @@ fn step_running(
 
 /// One step, and whether it went on.
 fn step(machine: &mut Machine<'_>, alloc: Global, made: &mut Made) -> Result<bool, AllocError>
-    ensures { IfOk result (λ went. Moves went made.old made.new machine.new (next_of (machine_of machine.old))) }
+    ensures { IfOk result (λ went. Moves went made.old made.new machine.new
+        (next_of (machine_of machine.old))) }
 {
     match machine.progress {
         Progress::Running => step_running(machine, alloc, made),
@@ -87,7 +91,8 @@ pub(crate) fn go(
     alloc: Global,
     made: &mut Made,
 ) -> Result<(), AllocError>
-    ensures { OnOk result (Makes made.old made.new machine.new (go most_steps (machine_of machine.old))) }
+    ensures { OnOk result (Makes made.old made.new machine.new
+        (go most_steps (machine_of machine.old))) }
 {
     for _ in 0..STEPS_LIMIT {
         let went = step(machine, alloc, made)?;

@@ -20,7 +20,9 @@ pub fn replay<'f>(
     body: Option<&'f [Stmt]>,
     history: &[Past],
 ) -> Result<Machine<'f>, AllocError>
-    ensures { IfOk result (λ m. machine_of m ≡ replayed (new_machine (id_of id.now) (option_map body_of body.entry)) (map past_of history.now)) }
+    ensures { IfOk result (λ m. machine_of m
+        ≡ replayed (new_machine (id_of id.now) (option_map body_of body.entry))
+        (map past_of history.now)) }
 {
     let mut machine = Machine::new(alloc, id, body)?;
     for past in history {

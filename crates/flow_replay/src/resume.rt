@@ -27,7 +27,8 @@ const EVENTS_LIMIT: u32 = 10_000;
 
 /// The result of a task arrives, where the answer is one.
 fn answer(machine: &mut Machine<'_>, task: u32, answer: &Answer) -> Result<(), AllocError>
-    ensures { OnOk result (machine_of machine.new ≡ with_answer (machine_of machine.old) task (outcome_of (answer_of answer.now))) }
+    ensures { OnOk result (machine_of machine.new
+        ≡ with_answer (machine_of machine.old) task (outcome_of (answer_of answer.now))) }
 {
     match answer {
         Answer::Done(value) => machine.arrive(task as usize, Outcome::Done(copy_value(value)?)),
@@ -38,7 +39,9 @@ fn answer(machine: &mut Machine<'_>, task: u32, answer: &Answer) -> Result<(), A
 
 /// An event reaches the oldest handle of its name that waits, or is kept.
 fn hear(machine: &mut Machine<'_>, name: &Name, value: &Value) -> Result<(), AllocError>
-    ensures { OnOk result (machine_of machine.new ≡ heard (machine_of machine.old) name.now value.now (oldest_listener name.now (machine_of machine.old).tasks)) }
+    ensures { OnOk result (machine_of machine.new
+        ≡ heard (machine_of machine.old) name.now value.now
+        (oldest_listener name.now (machine_of machine.old).tasks)) }
 {
     match machine.tasks.oldest_listener(name) {
         Some(number) => machine.arrive(number, Outcome::Done(copy_value(value)?)),
@@ -48,7 +51,8 @@ fn hear(machine: &mut Machine<'_>, name: &Name, value: &Value) -> Result<(), All
 
 /// A grant reaches the one task that waits for it, and the section begins.
 fn grant(machine: &mut Machine<'_>, task: u32) -> Result<(), AllocError>
-    ensures { OnOk result (machine_of machine.new ≡ granted_in (machine_of machine.old) task (machine_of machine.old).section) }
+    ensures { OnOk result (machine_of machine.new
+        ≡ granted_in (machine_of machine.old) task (machine_of machine.old).section) }
 {
     let set = match &machine.section {
         Section::Acquiring(waited, set) if *waited == task => copy_spots(set)?,
@@ -61,7 +65,8 @@ fn grant(machine: &mut Machine<'_>, task: u32) -> Result<(), AllocError>
 
 /// What an event changes in a machine that runs.
 fn record(machine: &mut Machine<'_>, event: &Event) -> Result<(), AllocError>
-    ensures { OnOk result (machine_of machine.new ≡ recorded (machine_of machine.old) (event_of event.now)) }
+    ensures { OnOk result (machine_of machine.new
+        ≡ recorded (machine_of machine.old) (event_of event.now)) }
 {
     match event {
         Event::Started(_, _, _) => Ok(()),
@@ -74,7 +79,8 @@ fn record(machine: &mut Machine<'_>, event: &Event) -> Result<(), AllocError>
 
 /// A grant that reaches a machine at its end: it leaves the section at once.
 fn grant_late(machine: &mut Machine<'_>, made: &mut Made, event: &Event) -> Result<(), AllocError>
-    ensures { OnOk result (Makes made.old made.new machine.new (granted_late (machine_of machine.old) (event_of event.now))) }
+    ensures { OnOk result (Makes made.old made.new machine.new
+        (granted_late (machine_of machine.old) (event_of event.now))) }
 {
     if let Event::Granted(task) = event {
         grant(machine, *task)?;
@@ -101,7 +107,8 @@ pub(crate) fn run_body<'f>(
     alloc: Global,
     body: &'f [Stmt],
 ) -> Result<(), AllocError>
-    ensures { OnOk result (machine_of machine.new ≡ begun (machine_of machine.old) [] (block_of body.now)) }
+    ensures { OnOk result (machine_of machine.new
+        ≡ begun (machine_of machine.old) [] (block_of body.now)) }
 {
     put(&mut machine.variables, Variables::new(alloc));
     machine.rest.clear();
@@ -117,7 +124,8 @@ pub(crate) fn give(
     value: &Value,
 ) -> Result<(), AllocError>
     requires { is_name name.now ≡ true }
-    ensures { OnOk result (machine_of machine.new ≡ (sets (machine_of machine.old) name.now value.now).machine) }
+    ensures { OnOk result (machine_of machine.new
+        ≡ (sets (machine_of machine.old) name.now value.now).machine) }
 {
     let name = Name::of(alloc, name)?;
     let (value, name) = with(copy_value(value), name)?;
@@ -131,7 +139,8 @@ fn begin(
     made: &mut Made,
     event: &Event,
 ) -> Result<(), AllocError>
-    ensures { OnOk result (Makes made.old made.new machine.new (begins (machine_of machine.old) (event_of event.now) (machine_of machine.old).body)) }
+    ensures { OnOk result (Makes made.old made.new machine.new
+        (begins (machine_of machine.old) (event_of event.now) (machine_of machine.old).body)) }
 {
     let Event::Started(sender, argument, reply) = event else {
         return fail(machine, alloc, made, "unknown");
@@ -155,7 +164,9 @@ fn take(
     made: &mut Made,
     event: &Event,
 ) -> Result<(), AllocError>
-    ensures { OnOk result (Makes made.old made.new machine.new (resumed_by (machine_of machine.old) (event_of event.now) (machine_of machine.old).progress)) }
+    ensures { OnOk result (Makes made.old made.new machine.new
+        (resumed_by (machine_of machine.old) (event_of event.now)
+        (machine_of machine.old).progress)) }
 {
     match machine.progress {
         Progress::Unborn => begin(machine, alloc, made, event),
@@ -174,7 +185,8 @@ pub fn advance(
     event: &Event,
     stamp: u64,
 ) -> Result<Made, AllocError>
-    ensures { IfOk result (λ made. Resumes made machine.new (resume (machine_of machine.old) (event_of event.now) stamp)) }
+    ensures { IfOk result (λ made. Resumes made machine.new
+        (resume (machine_of machine.old) (event_of event.now) stamp)) }
 {
     let mut made = Made::new(alloc);
     machine.last = stamp;

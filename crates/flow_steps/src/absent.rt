@@ -42,7 +42,11 @@ pub(crate) fn flow_in<'f>(flows: &'f Flows, id: &Id) -> Option<&'f [Stmt]>
 
 /// An instance that nobody waits for, before its first event.
 fn new_instance<'f>(alloc: Global, id: &Id, body: &'f [Stmt]) -> Result<Instance<'f>, AllocError>
-    ensures { IfOk result (λ o. instance_of o ≡ record { machine = new_machine (id_of id.now) (Some (body_of body.entry)); waiting = [] }) }
+    ensures { IfOk result (λ o. instance_of o
+        ≡ record {
+          machine = new_machine (id_of id.now) (Some (body_of body.entry));
+          waiting = [];
+        }) }
 {
     Ok(Instance {
         machine: Machine::new(alloc, id, Some(body))?,
@@ -52,7 +56,8 @@ fn new_instance<'f>(alloc: Global, id: &Id, body: &'f [Stmt]) -> Result<Instance
 
 /// The start of an instance.
 pub(crate) fn start_event(from: &Id, argument: &Value, reply: &Reply) -> Result<Event, AllocError>
-    ensures { IfOk result (λ event. event_of event ≡ started (id_of from.now) argument.now (reply_of reply.now)) }
+    ensures { IfOk result (λ event. event_of event
+        ≡ started (id_of from.now) argument.now (reply_of reply.now)) }
 {
     let (argument, from) = with(copy_value(argument), copy_id(from)?)?;
     Ok(Event::Started(from, argument, copy_reply(reply)))
@@ -67,7 +72,9 @@ fn begin_with<'f>(
     stamp: u64,
     body: &'f [Stmt],
 ) -> Result<Effect<'f>, AllocError>
-    ensures { IfOk result (λ e. effect_of e ≡ begun (id_of message.now.from) (id_of message.now.to) argument.now (reply_of reply.now) stamp (Some (body_of body.entry))) }
+    ensures { IfOk result (λ e. effect_of e
+        ≡ begun (id_of message.now.from) (id_of message.now.to) argument.now (reply_of reply.now)
+        stamp (Some (body_of body.entry))) }
 {
     let before = begin(alloc, &message.to, &message.from, reply)?;
     let event = start_event(&message.from, argument, reply)?;
@@ -87,7 +94,9 @@ fn begin_instance<'f>(
     reply: &Reply,
     stamp: u64,
 ) -> Result<Effect<'f>, AllocError>
-    ensures { IfOk result (λ e. effect_of e ≡ begun (id_of message.now.from) (id_of message.now.to) argument.now (reply_of reply.now) stamp (flow_of (flows_of flows.now) (id_of message.now.to))) }
+    ensures { IfOk result (λ e. effect_of e
+        ≡ begun (id_of message.now.from) (id_of message.now.to) argument.now (reply_of reply.now)
+        stamp (flow_of (flows_of flows.now) (id_of message.now.to))) }
 {
     match flow_in(flows, &message.to) {
         Some(body) => begin_with(alloc, message, argument, reply, stamp, body),
@@ -112,7 +121,9 @@ pub(crate) fn to_nothing<'f>(
     message: &Message,
     stamp: u64,
 ) -> Result<Effect<'f>, AllocError>
-    ensures { IfOk result (λ e. effect_of e ≡ to_absent (flows_of flows.now) (id_of message.now.from) (id_of message.now.to) stamp (said_of message.now.body)) }
+    ensures { IfOk result (λ e. effect_of e
+        ≡ to_absent (flows_of flows.now) (id_of message.now.from) (id_of message.now.to) stamp
+        (said_of message.now.body)) }
 {
     let sent = match &message.body {
         Body::Start(argument, reply) => {

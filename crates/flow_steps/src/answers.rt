@@ -18,7 +18,13 @@ pub(crate) fn answer_request(
     number: u32,
     answer: Answer,
 ) -> Result<Message, AllocError>
-    ensures { IfOk result (λ message. message_of message ≡ record { from = id_of from.now; to = id_of to.now; body = said_result (to_request number) (answer_of answer) }) }
+    ensures { IfOk result (λ message. message_of message
+        ≡ record {
+          from = id_of from.now;
+          to = id_of to.now;
+          body = said_result (to_request number)
+              (answer_of answer);
+        }) }
 {
     let (from, answer) = with(copy_id(from), answer)?;
     let (to, (from, answer)) = with(copy_id(to), (from, answer))?;
@@ -37,7 +43,8 @@ pub(crate) fn tell(
     number: u32,
     answer: Answer,
 ) -> Result<Vec<Message>, AllocError>
-    ensures { IfOk result (λ sent. messages_of sent.items ≡ telling (id_of from.now) (id_of to.now) number (answer_of answer)) }
+    ensures { IfOk result (λ sent. messages_of sent.items
+        ≡ telling (id_of from.now) (id_of to.now) number (answer_of answer)) }
 {
     let message = answer_request(from, to, number, answer)?;
     let mut sent = Vec::new(alloc);
@@ -54,7 +61,13 @@ fn fail_task(
     failure: &str,
 ) -> Result<Vec<Message>, AllocError>
     requires { length failure.now ≤ 4096 }
-    ensures { IfOk result (λ sent. messages_of sent.items ≡ record { from = id_of from.now; to = id_of to.now; body = said_result (to_task number) (has_failed failure.now) } ∷ []) }
+    ensures { IfOk result (λ sent. messages_of sent.items
+        ≡ record {
+          from = id_of from.now;
+          to = id_of to.now;
+          body = said_result (to_task number)
+              (has_failed failure.now);
+        } ∷ []) }
 {
     let answer = Answer::Failed(word_text(alloc, failure)?);
     let (from, answer) = with(copy_id(from), answer)?;
@@ -78,7 +91,9 @@ pub(crate) fn refuse(
     failure: &str,
 ) -> Result<Vec<Message>, AllocError>
     requires { length failure.now ≤ 4096 }
-    ensures { IfOk result (λ sent. messages_of sent.items ≡ refusing (id_of from.now) (id_of to.now) (reply_of reply.now) (answer_of answer) failure.now) }
+    ensures { IfOk result (λ sent. messages_of sent.items
+        ≡ refusing (id_of from.now) (id_of to.now) (reply_of reply.now) (answer_of answer)
+        failure.now) }
 {
     match reply {
         Reply::None => {
@@ -100,7 +115,8 @@ pub(crate) fn begin(
     to: &Id,
     reply: &Reply,
 ) -> Result<Vec<Message>, AllocError>
-    ensures { IfOk result (λ sent. messages_of sent.items ≡ beginning (id_of from.now) (id_of to.now) (reply_of reply.now)) }
+    ensures { IfOk result (λ sent. messages_of sent.items
+        ≡ beginning (id_of from.now) (id_of to.now) (reply_of reply.now)) }
 {
     let mut sent = Vec::new(alloc);
     if let Reply::Request(number) = reply {
@@ -117,7 +133,9 @@ pub(crate) fn answer_all(
     waiting: &[Waiting],
     answer: &Answer,
 ) -> Result<(), AllocError>
-    ensures { OnOk result (messages_of sent.new.items ≡ messages_of sent.old.items ++ answering_all (id_of from.now) (waits_of waiting.now) (answer_of answer.now)) }
+    ensures { OnOk result (messages_of sent.new.items
+        ≡ messages_of sent.old.items
+        ++ answering_all (id_of from.now) (waits_of waiting.now) (answer_of answer.now)) }
 {
     for one in waiting {
         sent.push(answer_request(from, &one.client, one.number, copy_answer(answer)?)?)?;

@@ -33,7 +33,9 @@ pub(crate) fn to_instance<'f>(
     message: &Message,
     stamp: u64,
 ) -> Result<Effect<'f>, AllocError>
-    ensures { IfOk result (λ e. effect_of e ≡ to_instance (flows_of flows.now) (option_map instance_of instance.entry) (id_of message.now.from) (id_of message.now.to) stamp (said_of message.now.body)) }
+    ensures { IfOk result (λ e. effect_of e
+        ≡ to_instance (flows_of flows.now) (option_map instance_of instance.entry)
+        (id_of message.now.from) (id_of message.now.to) stamp (said_of message.now.body)) }
 {
     match instance {
         Some(instance) => to_it(alloc, at(instance, stamp), message, stamp),
@@ -55,7 +57,8 @@ pub(crate) fn instance_of_row<'f>(
     id: &Id,
     row: &Row,
 ) -> Result<Instance<'f>, AllocError>
-    ensures { IfOk result (λ o. instance_of o ≡ instance_in (flows_of flows.now) (id_of id.now) (row_of row.now)) }
+    ensures { IfOk result (λ o. instance_of o
+        ≡ instance_in (flows_of flows.now) (id_of id.now) (row_of row.now)) }
 {
     let machine = replay(alloc, id, flow_in(flows, id), &row.history)?;
     let (waiting, mut machine) = with(copy_waiting(&row.waiting), machine)?;

@@ -18,7 +18,8 @@ use std::alloc::{AllocError, Global};
 
 /// What an instance that has come to its end is answered with.
 pub(crate) fn end_answer(progress: &Progress) -> Result<Option<Answer>, AllocError>
-    ensures { IfOk result (λ answer. option_map answer_of answer ≡ ending (progress_of progress.now)) }
+    ensures { IfOk result (λ answer. option_map answer_of answer
+        ≡ ending (progress_of progress.now)) }
 {
     match progress {
         Progress::Done(value) => Ok(Some(Answer::Done(copy_value(value)?))),
@@ -34,7 +35,8 @@ fn finish<'f>(
     mut sent: Vec<Message>,
     answer: &Answer,
 ) -> Result<Effect<'f>, AllocError>
-    ensures { IfOk result (λ e. effect_of e ≡ ended_with (instance_of instance.entry) (messages_of sent.items) (answer_of answer.now)) }
+    ensures { IfOk result (λ e. effect_of e
+        ≡ ended_with (instance_of instance.entry) (messages_of sent.items) (answer_of answer.now)) }
 {
     let answered = answer_all(&mut sent, &instance.machine.id, &instance.waiting, answer);
     let (_, mut instance) = with(answered, instance)?;
@@ -54,7 +56,9 @@ fn settle<'f>(
     sent: Vec<Message>,
     asked: Vec<Asked>,
 ) -> Result<Effect<'f>, AllocError>
-    ensures { IfOk result (λ e. effect_of e ≡ settled_with (instance_of instance.entry) (messages_of sent.items) (map asked_of asked.items) (ending (instance_of instance.entry).machine.progress)) }
+    ensures { IfOk result (λ e. effect_of e
+        ≡ settled_with (instance_of instance.entry) (messages_of sent.items)
+        (map asked_of asked.items) (ending (instance_of instance.entry).machine.progress)) }
 {
     let (answer, instance) = with(end_answer(&instance.machine.progress), instance)?;
     match answer {
@@ -74,7 +78,8 @@ fn settle<'f>(
 
 /// These messages, and then those.
 fn join(mut sent: Vec<Message>, mut more: Vec<Message>) -> Result<Vec<Message>, AllocError>
-    ensures { IfOk result (λ all. messages_of all.items ≡ messages_of sent.items ++ messages_of more.items) }
+    ensures { IfOk result (λ all. messages_of all.items
+        ≡ messages_of sent.items ++ messages_of more.items) }
 {
     sent.append(&mut more)?;
     Ok(sent)
@@ -89,7 +94,9 @@ pub(crate) fn go_on_from<'f>(
     stamp: u64,
     before: Vec<Message>,
 ) -> Result<Effect<'f>, AllocError>
-    ensures { IfOk result (λ e. effect_of e ≡ goes_on_from (instance_of instance.entry) (event_of event.now) stamp (messages_of before.items)) }
+    ensures { IfOk result (λ e. effect_of e
+        ≡ goes_on_from (instance_of instance.entry) (event_of event.now) stamp
+        (messages_of before.items)) }
 {
     let advanced = advance(&mut instance.machine, alloc, event, stamp);
     let (made, instance) = with(advanced, instance)?;

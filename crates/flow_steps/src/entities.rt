@@ -29,7 +29,9 @@ pub(crate) fn entity_at(
     kept: Option<Entity>,
     stamp: u64,
 ) -> Result<Entity, AllocError>
-    ensures { IfOk result (λ e. entity_of e ≡ record (entity_in (flows_of flows.now) class.now (option_map entity_of kept)) { last = stamp }) }
+    ensures { IfOk result (λ e. entity_of e
+        ≡ record (entity_in (flows_of flows.now) class.now (option_map entity_of kept))
+        { last = stamp }) }
 {
     match kept {
         Some(entity) => Ok(Entity {

@@ -19,7 +19,9 @@ use std::alloc::AllocError;
 
 /// The event that a message is to an instance that isn't there.
 fn event_of_absent(flows: &Flows, message: &Message) -> Result<Option<Event>, AllocError>
-    ensures { IfOk result (λ event. option_map seen event ≡ event_of (flows_of flows.now) None (id_of message.now.from) (id_of message.now.to) (said_of message.now.body)) }
+    ensures { IfOk result (λ event. option_map seen event
+        ≡ event_of (flows_of flows.now) None (id_of message.now.from) (id_of message.now.to)
+        (said_of message.now.body)) }
 {
     match &message.body {
         Body::Start(argument, reply) => match flow_in(flows, &message.to) {
@@ -32,7 +34,10 @@ fn event_of_absent(flows: &Flows, message: &Message) -> Result<Option<Event>, Al
 
 /// The event that a message is to an instance that is there.
 fn event_of_present(instance: &Instance<'_>, message: &Message) -> Result<Option<Event>, AllocError>
-    ensures { IfOk result (λ event. (flows : PlainFlows) → option_map seen event ≡ event_of flows (Some (instance_of instance.now)) (id_of message.now.from) (id_of message.now.to) (said_of message.now.body)) }
+    ensures { IfOk result (λ event. (flows : PlainFlows)
+        → option_map seen event
+        ≡ event_of flows (Some (instance_of instance.now)) (id_of message.now.from)
+        (id_of message.now.to) (said_of message.now.body)) }
 {
     let over = has_ended(&instance.machine.progress);
     match &message.body {
@@ -51,7 +56,9 @@ pub(crate) fn event_of(
     instance: &Option<Instance<'_>>,
     message: &Message,
 ) -> Result<Option<Event>, AllocError>
-    ensures { IfOk result (λ event. option_map seen event ≡ event_of (flows_of flows.now) (option_map instance_of instance.now) (id_of message.now.from) (id_of message.now.to) (said_of message.now.body)) }
+    ensures { IfOk result (λ event. option_map seen event
+        ≡ event_of (flows_of flows.now) (option_map instance_of instance.now)
+        (id_of message.now.from) (id_of message.now.to) (said_of message.now.body)) }
 {
     match instance {
         Some(instance) => {

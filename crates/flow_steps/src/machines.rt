@@ -39,7 +39,8 @@ impl<'f> Machines<'f> {
 
 /// Who waits for the end of an instance, which is let go of.
 fn waiting_of(instance: Option<Instance<'_>>) -> Option<Vec<Waiting>>
-    ensures { option_map (λ w. waits_of w.items) result ≡ option_map (λ o. o.waiting) (option_map instance_of instance.entry) }
+    ensures { option_map (λ w. waits_of w.items) result
+        ≡ option_map (λ o. o.waiting) (option_map instance_of instance.entry) }
 {
     match instance {
         Some(Instance { machine, waiting }) => {
@@ -70,7 +71,9 @@ fn instance_if<'f>(
     id: &Id,
     row: Option<&Row>,
 ) -> Result<Option<Instance<'f>>, AllocError>
-    ensures { IfOk result (λ o. option_map instance_of o ≡ option_map (λ r. instance_in (flows_of flows.now) (id_of id.now) (row_of r.now)) row.entry) }
+    ensures { IfOk result (λ o. option_map instance_of o
+        ≡ option_map (λ r. instance_in (flows_of flows.now) (id_of id.now) (row_of r.now))
+        row.entry) }
 {
     match row {
         Some(row) => {

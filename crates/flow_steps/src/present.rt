@@ -22,7 +22,8 @@ use std::alloc::{AllocError, Global};
 
 /// It stays as it is, and this is answered.
 fn stay<'f>(alloc: Global, instance: Instance<'f>, sent: Vec<Message>) -> Effect<'f>
-    ensures { effect_of result ≡ stays_so (instance_of instance.entry).machine (instance_of instance.entry).waiting (messages_of sent.items) }
+    ensures { effect_of result ≡ stays_so (instance_of instance.entry).machine
+        (instance_of instance.entry).waiting (messages_of sent.items) }
 {
     Effect {
         instance: Some(instance),
@@ -59,7 +60,9 @@ fn tell_end<'f>(
     number: u32,
     answer: Answer,
 ) -> Result<Effect<'f>, AllocError>
-    ensures { IfOk result (λ e. effect_of e ≡ waited (instance_of instance.entry).machine (instance_of instance.entry).waiting (id_of from.now) (id_of to.now) number (Some (answer_of answer))) }
+    ensures { IfOk result (λ e. effect_of e
+        ≡ waited (instance_of instance.entry).machine (instance_of instance.entry).waiting
+        (id_of from.now) (id_of to.now) number (Some (answer_of answer))) }
 {
     let (sent, instance) = with(tell(alloc, to, from, number, answer), instance)?;
     Ok(stay(alloc, instance, sent))
@@ -71,7 +74,8 @@ fn with_client(
     from: &Id,
     number: u32,
 ) -> Result<Vec<Waiting>, AllocError>
-    ensures { IfOk result (λ all. waits_of all.items ≡ waits_of waiting.items ++ (id_of from.now, number) ∷ []) }
+    ensures { IfOk result (λ all. waits_of all.items
+        ≡ waits_of waiting.items ++ (id_of from.now, number) ∷ []) }
 {
     let client = copy_id(from)?;
     waiting.push(Waiting { client, number })?;
@@ -85,7 +89,9 @@ fn await_end<'f>(
     from: &Id,
     number: u32,
 ) -> Result<Effect<'f>, AllocError>
-    ensures { IfOk result (λ e. effect_of e ≡ stays_so (instance_of instance.entry).machine ((instance_of instance.entry).waiting ++ (id_of from.now, number) ∷ []) []) }
+    ensures { IfOk result (λ e. effect_of e
+        ≡ stays_so (instance_of instance.entry).machine
+        ((instance_of instance.entry).waiting ++ (id_of from.now, number) ∷ []) []) }
 {
     let Instance { machine, waiting } = instance;
     let (waiting, machine) = with(with_client(waiting, from, number), machine)?;
@@ -100,7 +106,10 @@ fn wait<'f>(
     to: &Id,
     number: u32,
 ) -> Result<Effect<'f>, AllocError>
-    ensures { IfOk result (λ e. effect_of e ≡ waited (instance_of instance.entry).machine (instance_of instance.entry).waiting (id_of from.now) (id_of to.now) number (ending (instance_of instance.entry).machine.progress)) }
+    ensures { IfOk result (λ e. effect_of e
+        ≡ waited (instance_of instance.entry).machine (instance_of instance.entry).waiting
+        (id_of from.now) (id_of to.now) number
+        (ending (instance_of instance.entry).machine.progress)) }
 {
     let (answer, instance) = with(end_answer(&instance.machine.progress), instance)?;
     match answer {
@@ -124,7 +133,9 @@ fn raising(
     value: &Value,
     number: u32,
 ) -> Result<(Vec<Message>, Event), AllocError>
-    ensures { IfOk result (λ both. (messages_of both.0.items ≡ telling (id_of message.now.to) (id_of message.now.from) number was_raised) × (event_of both.1 ≡ raised_event name.now value.now)) }
+    ensures { IfOk result (λ both. (messages_of both.0.items
+        ≡ telling (id_of message.now.to) (id_of message.now.from) number was_raised)
+        × (event_of both.1 ≡ raised_event name.now value.now)) }
 {
     let told = tell(alloc, &message.to, &message.from, number, Answer::Raised);
     let before = told?;
@@ -142,7 +153,9 @@ fn raise<'f>(
     value: &Value,
     number: u32,
 ) -> Result<Effect<'f>, AllocError>
-    ensures { IfOk result (λ e. effect_of e ≡ raised_at (instance_of instance.entry) (id_of message.now.from) (id_of message.now.to) stamp name.now value.now number (is_over (instance_of instance.entry).machine.progress)) }
+    ensures { IfOk result (λ e. effect_of e
+        ≡ raised_at (instance_of instance.entry) (id_of message.now.from) (id_of message.now.to)
+        stamp name.now value.now number (is_over (instance_of instance.entry).machine.progress)) }
 {
     if has_ended(&instance.machine.progress) {
         let told = tell(alloc, &message.to, &message.from, number, Answer::Ended);
@@ -163,7 +176,8 @@ fn go_on<'f>(
     event: &Event,
     stamp: u64,
 ) -> Result<Effect<'f>, AllocError>
-    ensures { IfOk result (λ e. effect_of e ≡ goes_on_from (instance_of instance.entry) (event_of event.now) stamp []) }
+    ensures { IfOk result (λ e. effect_of e
+        ≡ goes_on_from (instance_of instance.entry) (event_of event.now) stamp []) }
 {
     go_on_from(alloc, instance, event, stamp, Vec::new(alloc))
 }
@@ -176,7 +190,9 @@ fn take_result<'f>(
     task: u32,
     answer: &Answer,
 ) -> Result<Effect<'f>, AllocError>
-    ensures { IfOk result (λ e. effect_of e ≡ result_at (instance_of instance.entry) stamp task (answer_of answer.now) (is_over (instance_of instance.entry).machine.progress)) }
+    ensures { IfOk result (λ e. effect_of e
+        ≡ result_at (instance_of instance.entry) stamp task (answer_of answer.now)
+        (is_over (instance_of instance.entry).machine.progress)) }
 {
     if has_ended(&instance.machine.progress) {
         return Ok(stay(alloc, instance, Vec::new(alloc)));
@@ -195,7 +211,8 @@ fn grant_late<'f>(
     stamp: u64,
     task: u32,
 ) -> Result<Effect<'f>, AllocError>
-    ensures { IfOk result (λ e. effect_of e ≡ granted_at (instance_of instance.entry) stamp task true) }
+    ensures { IfOk result (λ e. effect_of e
+        ≡ granted_at (instance_of instance.entry) stamp task true) }
 {
     let event = Event::Granted(task);
     let made = advance(&mut instance.machine, alloc, &event, stamp);
@@ -216,7 +233,9 @@ fn grant<'f>(
     stamp: u64,
     task: u32,
 ) -> Result<Effect<'f>, AllocError>
-    ensures { IfOk result (λ e. effect_of e ≡ granted_at (instance_of instance.entry) stamp task (is_over (instance_of instance.entry).machine.progress)) }
+    ensures { IfOk result (λ e. effect_of e
+        ≡ granted_at (instance_of instance.entry) stamp task
+        (is_over (instance_of instance.entry).machine.progress)) }
 {
     if has_ended(&instance.machine.progress) {
         return grant_late(alloc, instance, stamp, task);
@@ -235,7 +254,10 @@ fn start_again<'f>(
     to: &Id,
     reply: &Reply,
 ) -> Result<Effect<'f>, AllocError>
-    ensures { IfOk result (λ e. effect_of e ≡ stays_so (instance_of instance.entry).machine (instance_of instance.entry).waiting (refusing (id_of to.now) (id_of from.now) (reply_of reply.now) was_there (codes "exists"))) }
+    ensures { IfOk result (λ e. effect_of e
+        ≡ stays_so (instance_of instance.entry).machine (instance_of instance.entry).waiting
+        (refusing (id_of to.now) (id_of from.now) (reply_of reply.now) was_there
+        (codes "exists"))) }
 {
     let refusal = refuse(alloc, to, from, reply, Answer::Exists, "exists");
     let (sent, instance) = with(refusal, instance)?;
@@ -250,7 +272,8 @@ fn tell_standing(
     to: &Id,
     number: u32,
 ) -> Result<Vec<Message>, AllocError>
-    ensures { IfOk result (λ sent. messages_of sent.items ≡ telling (id_of to.now) (id_of from.now) number (standing (progress_of progress.now))) }
+    ensures { IfOk result (λ sent. messages_of sent.items
+        ≡ telling (id_of to.now) (id_of from.now) number (standing (progress_of progress.now))) }
 {
     let answer = stand(progress)?;
     tell(alloc, to, from, number, answer)
@@ -264,7 +287,10 @@ fn query<'f>(
     to: &Id,
     number: u32,
 ) -> Result<Effect<'f>, AllocError>
-    ensures { IfOk result (λ e. effect_of e ≡ stays_so (instance_of instance.entry).machine (instance_of instance.entry).waiting (telling (id_of to.now) (id_of from.now) number (standing (instance_of instance.entry).machine.progress))) }
+    ensures { IfOk result (λ e. effect_of e
+        ≡ stays_so (instance_of instance.entry).machine (instance_of instance.entry).waiting
+        (telling (id_of to.now) (id_of from.now) number
+        (standing (instance_of instance.entry).machine.progress))) }
 {
     let told = tell_standing(alloc, &instance.machine.progress, from, to, number);
     let (sent, instance) = with(told, instance)?;
@@ -278,7 +304,9 @@ pub(crate) fn to_it<'f>(
     message: &Message,
     stamp: u64,
 ) -> Result<Effect<'f>, AllocError>
-    ensures { IfOk result (λ e. effect_of e ≡ to_present (instance_of instance.entry) (id_of message.now.from) (id_of message.now.to) stamp (said_of message.now.body)) }
+    ensures { IfOk result (λ e. effect_of e
+        ≡ to_present (instance_of instance.entry) (id_of message.now.from) (id_of message.now.to)
+        stamp (said_of message.now.body)) }
 {
     let from = &message.from;
     let to = &message.to;

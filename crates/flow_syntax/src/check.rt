@@ -95,7 +95,8 @@ impl Flows {
     }
 
     fn has_classes(&self, entities: &[Locked]) -> bool
-        ensures { result ≡ list_all (λ one. is_some (class_in (flows_of self.now) one.class)) entities.now }
+        ensures { result ≡ list_all (λ one. is_some (class_in (flows_of self.now) one.class))
+            entities.now }
     {
         entities.iter().all(|one| self.has_class(one))
     }
@@ -115,7 +116,8 @@ impl Flows {
     }
 
     fn keeps(&self, rule: Rule, in_operation: bool, statement: &Stmt) -> bool
-        ensures { result ≡ keeps (flows_of self.now) rule (placed_in in_operation (statement_of statement.now)) }
+        ensures { result ≡ keeps (flows_of self.now) rule
+            (placed_in in_operation (statement_of statement.now)) }
     {
         match rule {
             Rule::Shape => has_shape(statement, in_operation),
@@ -132,7 +134,8 @@ impl Flows {
         block: &[Stmt],
         number: u64,
     ) -> Result<u64, u64>
-        ensures { result ≡ walk (flows_of self.now) rule number (statements in_operation (block_of block.now)) }
+        ensures { result ≡ walk (flows_of self.now) rule number
+            (statements in_operation (block_of block.now)) }
     {
         let mut next = number;
         for statement in block {
@@ -156,7 +159,8 @@ impl Flows {
         statement: &Stmt,
         number: u64,
     ) -> Result<u64, u64>
-        ensures { result ≡ walk (flows_of self.now) rule number (within in_operation (statement_of statement.now)) }
+        ensures { result ≡ walk (flows_of self.now) rule number
+            (within in_operation (statement_of statement.now)) }
     {
         match statement {
             Stmt::Lock(_, body) => self.walk_block(rule, in_operation, body, number),
@@ -182,7 +186,8 @@ impl Flows {
         bodies: &BTreeMap<Name, Vec<Stmt>>,
         number: u64,
     ) -> Result<u64, u64>
-        ensures { result ≡ walk (flows_of self.now) rule number (in_blocks in_operation (bodies_of bodies.now)) }
+        ensures { result ≡ walk (flows_of self.now) rule number
+            (in_blocks in_operation (bodies_of bodies.now)) }
     {
         let mut next = number;
         for body in bodies.values() {

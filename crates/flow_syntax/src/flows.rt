@@ -40,7 +40,8 @@ impl Class {
 
     /// An operation, in the place of one of the same name.
     pub fn add_operation(&mut self, name: Name, body: Vec<Stmt>) -> Result<(), AllocError>
-        ensures ok { OnOk result (class_of self.new ≡ with_operation (class_of self.old) name (block_of body.items)) }
+        ensures ok { OnOk result (class_of self.new
+            ≡ with_operation (class_of self.old) name (block_of body.items)) }
         ensures err { OnErr result (class_of self.new ≡ class_of self.old) }
     {
         drop(self.operations.insert(name, body)?);
@@ -49,7 +50,8 @@ impl Class {
 
     /// The body of an operation.
     pub fn operation(&self, name: &Name) -> Option<&[Stmt]>
-        ensures { option_map (λ b. block_of b.now) result ≡ look_up (class_of self.now).operations name.now }
+        ensures { option_map (λ b. block_of b.now) result
+            ≡ look_up (class_of self.now).operations name.now }
     {
         match self.operations.get(name) {
             Some(body) => Some(body),
@@ -71,7 +73,8 @@ impl Flows {
 
     /// A flow, in the place of one of the same name.
     pub fn add_flow(&mut self, name: Name, body: Vec<Stmt>) -> Result<(), AllocError>
-        ensures ok { OnOk result (flows_of self.new ≡ with_flow (flows_of self.old) name (block_of body.items)) }
+        ensures ok { OnOk result (flows_of self.new
+            ≡ with_flow (flows_of self.old) name (block_of body.items)) }
         ensures err { OnErr result (flows_of self.new ≡ flows_of self.old) }
     {
         drop(self.flows.insert(name, body)?);
@@ -80,7 +83,8 @@ impl Flows {
 
     /// A class, in the place of one of the same name.
     pub fn add_class(&mut self, name: Name, class: Class) -> Result<(), AllocError>
-        ensures ok { OnOk result (flows_of self.new ≡ with_class (flows_of self.old) name (class_of class)) }
+        ensures ok { OnOk result (flows_of self.new
+            ≡ with_class (flows_of self.old) name (class_of class)) }
         ensures err { OnErr result (flows_of self.new ≡ flows_of self.old) }
     {
         drop(self.classes.insert(name, class)?);
@@ -89,7 +93,8 @@ impl Flows {
 
     /// The body of a flow.
     pub fn body_of(&self, name: &Name) -> Option<&[Stmt]>
-        ensures { option_map (λ body. block_of body.now) result ≡ body_of (flows_of self.now) name.now }
+        ensures { option_map (λ body. block_of body.now) result
+            ≡ body_of (flows_of self.now) name.now }
     {
         match self.flows.get(name) {
             Some(body) => Some(body),

@@ -19,14 +19,16 @@ impl Expr {
 impl Stmt {
     /// Locks entities for as long as the body runs.
     pub fn lock(entities: Vec<Locked>, body: Vec<Stmt>) -> Stmt
-        ensures { statement_of result ≡ lock_in (map locked_of entities.items) (block_of body.items) }
+        ensures { statement_of result ≡ lock_in (map locked_of entities.items)
+            (block_of body.items) }
     {
         Stmt::Lock(entities, body)
     }
 
     /// One of two bodies, as the test is true or false.
     pub fn if_else(test: Expr, yes: Vec<Stmt>, no: Vec<Stmt>) -> Stmt
-        ensures { statement_of result ≡ if_then (expression_of test) (block_of yes.items) (block_of no.items) }
+        ensures { statement_of result ≡ if_then (expression_of test) (block_of yes.items)
+            (block_of no.items) }
     {
         Stmt::If(test, yes, no)
     }
@@ -40,7 +42,8 @@ impl Stmt {
 
     /// The body; a fault in it sets the variable and goes on with the handler.
     pub fn catch(body: Vec<Stmt>, variable: Name, handler: Vec<Stmt>) -> Stmt
-        ensures { statement_of result ≡ try (block_of body.items) variable (block_of handler.items) }
+        ensures { statement_of result ≡ try (block_of body.items) variable
+            (block_of handler.items) }
     {
         Stmt::Try(body, variable, handler)
     }

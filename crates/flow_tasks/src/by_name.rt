@@ -38,7 +38,8 @@ impl NumbersByName {
 
     /// A number comes behind those of its name.
     pub(crate) fn push(&mut self, name: Name, number: usize) -> Result<(), AllocError>
-        ensures ok { OnOk result (numbers_in self.new ≡ at_name (numbers_in self.old) name (numbers_in self.old name ++ number ∷ [])) }
+        ensures ok { OnOk result (numbers_in self.new
+            ≡ at_name (numbers_in self.old) name (numbers_in self.old name ++ number ∷ [])) }
         ensures err { OnErr result (numbers_in self.new ≡ numbers_in self.old) }
     {
         match self.queues.get_mut(&name) {
@@ -55,7 +56,8 @@ impl NumbersByName {
     /// Takes out the first number of a name.
     pub(crate) fn take_first(&mut self, name: &Name) -> Option<usize>
         ensures first { result ≡ slice_get (numbers_in self.old name.now) 0 }
-        ensures rest { numbers_in self.new ≡ at_name (numbers_in self.old) name.now (drop 1 (numbers_in self.old name.now)) }
+        ensures rest { numbers_in self.new ≡ at_name (numbers_in self.old) name.now
+            (drop 1 (numbers_in self.old name.now)) }
     {
         match self.queues.get_mut(name) {
             Some(queue) => queue.pop_front(),
@@ -65,7 +67,8 @@ impl NumbersByName {
 
     /// Takes out a number of a name, at once where it is the first.
     pub(crate) fn leave_out(&mut self, name: &Name, number: usize)
-        ensures { numbers_in self.new ≡ at_name (numbers_in self.old) name.now (without number (numbers_in self.old name.now)) }
+        ensures { numbers_in self.new ≡ at_name (numbers_in self.old) name.now
+            (without number (numbers_in self.old name.now)) }
     {
         if let Some(queue) = self.queues.get_mut(name) {
             leave_out(queue, number);

@@ -34,8 +34,12 @@ impl OpenTasks {
 
     /// A new task, which comes behind all others.
     pub(crate) fn push(&mut self, kind: &Kind, number: usize) -> Result<(), AllocError>
-        ensures ok { OnOk result ((tasks : List Task) → AreThose self.old tasks → number ≡ length tasks → AreThose self.new (tasks ++ record { kind = kind_of kind.now; arrival = None } ∷ [])) }
-        ensures err { OnErr result ((tasks : List Task) → AreThose self.old tasks → AreThose self.new tasks) }
+        ensures ok { OnOk result ((tasks : List Task) → AreThose self.old tasks
+            → number ≡ length tasks
+            → AreThose self.new (tasks ++ record { kind = kind_of kind.now; arrival = None }
+            ∷ [])) }
+        ensures err { OnErr result ((tasks : List Task) → AreThose self.old tasks
+            → AreThose self.new tasks) }
     {
         match kind {
             Kind::Flow | Kind::Entity(_) => {
@@ -49,7 +53,9 @@ impl OpenTasks {
 
     /// The result of a task arrives.
     pub(crate) fn leave_out(&mut self, kind: &Kind, number: usize)
-        ensures { (tasks : List Task) (arrival : Arrival) → AreThose self.old tasks → task_at tasks number ≡ Some (record { kind = kind_of kind.now; arrival = None }) → AreThose self.new (with_arrival tasks number arrival) }
+        ensures { (tasks : List Task) (arrival : Arrival) → AreThose self.old tasks
+            → task_at tasks number ≡ Some (record { kind = kind_of kind.now; arrival = None })
+            → AreThose self.new (with_arrival tasks number arrival) }
     {
         match kind {
             Kind::Flow | Kind::Entity(_) => {

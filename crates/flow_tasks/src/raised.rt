@@ -37,7 +37,8 @@ impl Model for KeptEvents {
 
     ghost view = { λ k. events_in k.slots.items };
 
-    ghost invariant = { λ k. (name : List ℕ) → numbers_in k.places name ≡ places_from name 0 k.slots.items };
+    ghost invariant = { λ k. (name : List ℕ)
+        → numbers_in k.places name ≡ places_from name 0 k.slots.items };
 }
 
 impl KeptEvents {
@@ -53,7 +54,8 @@ impl KeptEvents {
 
     /// An event is kept.
     pub fn push(&mut self, name: Name, value: Value) -> Result<(), AllocError>
-        ensures ok { OnOk result (map raised_of self.new ≡ map raised_of self.old ++ record { name = name; value = value } ∷ []) }
+        ensures ok { OnOk result (map raised_of self.new
+            ≡ map raised_of self.old ++ record { name = name; value = value } ∷ []) }
         ensures err { OnErr result (self.new ≡ self.old) }
     {
         let place = self.slots.len();

@@ -39,8 +39,10 @@ pub fn is_among(spot: &Spot, set: &[Spot]) -> bool
 #[tactic(auto, using(crate::proofs::Inserts::goes_here, crate::proofs::Inserts::stands_here))]
 fn place_in(set: &[Spot], spot: &Spot) -> Option<usize>
     ensures within { IfSome result (λ place. place ≤ length set.now) }
-    ensures place { IfSome result (λ place. inserted (spot_of spot.now) (spots_of set.now) ≡ insert (spots_of set.now) place (spot_of spot.now)) }
-    ensures there { IfNone result (inserted (spot_of spot.now) (spots_of set.now) ≡ spots_of set.now) }
+    ensures place { IfSome result (λ place. inserted (spot_of spot.now) (spots_of set.now)
+        ≡ insert (spots_of set.now) place (spot_of spot.now)) }
+    ensures there { IfNone result (inserted (spot_of spot.now) (spots_of set.now)
+        ≡ spots_of set.now) }
 {
     for (place, other) in set.iter().enumerate() {
         if is_before(spot, other) {
@@ -56,7 +58,8 @@ fn place_in(set: &[Spot], spot: &Spot) -> Option<usize>
 /// Puts an entity into a set in order, unless it is there.
 #[tactic(auto, using(crate::proofs::Inserts::put_in))]
 fn insert(set: &mut Vec<Spot>, spot: Spot) -> Result<(), AllocError>
-    ensures { OnOk result (spots_of set.new.items ≡ inserted (spot_of spot) (spots_of set.old.items)) }
+    ensures { OnOk result (spots_of set.new.items
+        ≡ inserted (spot_of spot) (spots_of set.old.items)) }
 {
     if let Some(place) = place_in(set, &spot) {
         set.insert(place, spot)?;

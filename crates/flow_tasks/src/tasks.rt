@@ -51,7 +51,8 @@ pub struct Task {
 impl Task {
     /// Its result arrives.
     fn settle(&mut self, outcome: Outcome, order: u64)
-        ensures { task_of self.new ≡ record (task_of self.old) { arrival = Some (record { outcome = outcome; order = order }) } }
+        ensures { task_of self.new ≡ record (task_of self.old)
+            { arrival = Some (record { outcome = outcome; order = order }) } }
     {
         self.arrival = Some(Arrival { outcome, order });
     }
@@ -112,7 +113,8 @@ impl Tasks {
 
     /// A new task, whose number is the next one.
     pub fn push(&mut self, kind: Kind) -> Result<(), AllocError>
-        ensures ok { OnOk result (tasks_of self.new ≡ tasks_of self.old ++ record { kind = kind_of kind; arrival = None } ∷ []) }
+        ensures ok { OnOk result (tasks_of self.new
+            ≡ tasks_of self.old ++ record { kind = kind_of kind; arrival = None } ∷ []) }
         ensures err { OnErr result (self.new ≡ self.old) }
     {
         let number = self.tasks.len();
@@ -129,7 +131,8 @@ impl Tasks {
 
     /// The result of a task, once it is there.
     pub fn arrival(&self, number: usize) -> Option<&Arrival>
-        ensures { option_map (λ a. arrival_of a.now) result ≡ arrival_at (task_at (tasks_of self.now) number) }
+        ensures { option_map (λ a. arrival_of a.now) result
+            ≡ arrival_at (task_at (tasks_of self.now) number) }
     {
         match self.tasks.get(number) {
             Some(task) => task.arrival.as_ref(),
@@ -151,7 +154,8 @@ impl Tasks {
     /// The result of a task arrives, if the task is there and has none yet.
     pub fn arrive(&mut self, number: usize, outcome: Outcome, order: u64) -> bool
         ensures arrives { result ≡ can_arrive (task_at (tasks_of self.old) number) }
-        ensures tasks { tasks_of self.new ≡ tasks_with (tasks_of self.old) number (record { outcome = outcome; order = order }) }
+        ensures tasks { tasks_of self.new ≡ tasks_with (tasks_of self.old) number
+            (record { outcome = outcome; order = order }) }
     {
         let arrives = self.can_arrive(number);
         if arrives {
@@ -167,7 +171,8 @@ impl Tasks {
         alloc: Global,
         handles: &[usize],
     ) -> Result<Option<Vec<Outcome>>, AllocError>
-        ensures { IfOk result (λ outcomes. option_map (λ v. v.items) outcomes ≡ all_arrived (tasks_of self.now) handles.now) }
+        ensures { IfOk result (λ outcomes. option_map (λ v. v.items) outcomes
+            ≡ all_arrived (tasks_of self.now) handles.now) }
     {
         let mut outcomes = Vec::new(alloc);
         for handle in handles {
@@ -181,7 +186,8 @@ impl Tasks {
 
     /// The place of the one of these tasks whose result came first, if one is there.
     pub fn first_arrived(&self, handles: &[usize]) -> Option<usize>
-        ensures { result ≡ option_map (λ c. c.place) (first_arrived (tasks_of self.now) 0 handles.now) }
+        ensures { result ≡ option_map (λ c. c.place)
+            (first_arrived (tasks_of self.now) 0 handles.now) }
     {
         let mut best: Option<Candidate> = None;
         let mut left = handles.len();
@@ -206,7 +212,8 @@ impl Tasks {
 
     /// Whether the task of a number is there, and an ask of this entity without a result.
     fn asks(&self, number: usize, spot: &Spot) -> bool
-        ensures { result ≡ passes_at (is_open_ask (spot_of spot.now)) (task_at (tasks_of self.now) number) }
+        ensures { result ≡ passes_at (is_open_ask (spot_of spot.now))
+            (task_at (tasks_of self.now) number) }
     {
         match self.tasks.get(number) {
             Some(task) => task.asks(spot),
@@ -243,7 +250,8 @@ struct Candidate {
 
 /// Of two results with their places the one that came first, the earlier place where they came at once.
 fn sooner(place: usize, arrival: &Arrival, best: Option<Candidate>) -> Candidate
-    ensures { Some (candidate_of result) ≡ sooner place (Some (arrival_of arrival.now)) (option_map candidate_of best) }
+    ensures { Some (candidate_of result)
+        ≡ sooner place (Some (arrival_of arrival.now)) (option_map candidate_of best) }
 {
     let here = Candidate {
         place,

@@ -77,7 +77,8 @@ fn binary_in(value: &Tree<'_>) -> Option<BinaryOp>
 }
 
 fn scalar_of(alloc: Global, value: &Tree<'_>) -> Result<Expr, PartError>
-    ensures { PartGives expression_of result (bind (scalar_in (view value.now)) (λ s. Ok (scalar s))) }
+    ensures { PartGives expression_of result
+        (bind (scalar_in (view value.now)) (λ s. Ok (scalar s))) }
 {
     match scalar_in(alloc, value) {
         Ok(scalar) => Ok(Expr::Scalar(scalar)),
@@ -119,7 +120,8 @@ fn object_in(alloc: Global, members: &[Member<'_>]) -> Result<Expr, PartError>
 #[cycle(expressions)]
 #[tactic(auto, using(crate::proofs::Parts::ends_under))]
 fn member_in(alloc: Global, key: &str, inside: &Tree<'_>) -> Result<Expr, PartError>
-    ensures { PartGives expression_of result (expression_in (object (member key.now (view inside.now) no_members))) }
+    ensures { PartGives expression_of result
+        (expression_in (object (member key.now (view inside.now) no_members))) }
 {
     if key == "v" {
         match name_in(alloc, inside) {
@@ -160,7 +162,8 @@ fn list_in(alloc: Global, value: &Tree<'_>) -> Result<Vec<Expr>, PartError>
 #[cycle(expressions)]
 #[tactic(auto, using(crate::proofs::Parts::goes_on, crate::proofs::Parts::ends, crate::proofs::Parts::begins, crate::proofs::Parts::all))]
 fn parts_in(alloc: Global, items: &[Tree<'_>]) -> Result<Vec<Expr>, PartError>
-    ensures { PartGives (λ parts. parts_of parts.items) result (expressions_from 0 (items_view items.now)) }
+    ensures { PartGives (λ parts. parts_of parts.items) result
+        (expressions_from 0 (items_view items.now)) }
 {
     let mut parts = Vec::with_capacity(alloc, items.len())?;
     for (index, item) in items.iter().enumerate() {

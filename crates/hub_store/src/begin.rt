@@ -37,7 +37,8 @@ impl<V: Site, N: Start> Store<V, N> {
         ensures back { IfErr result (λ back. back ≡ site) }
         ensures trail { IfOk result (λ store. trail_in store ≡ []) }
         ensures told { IfOk result (λ store. told_in store ≡ []) }
-        ensures rest { IfOk result (λ store. (part : ℕ) → part < N.origin.count → stage_at store part ≡ Stage.Resting) }
+        ensures rest { IfOk result (λ store. (part : ℕ) → part < N.origin.count
+            → stage_at store part ≡ Stage.Resting) }
         ensures going { IfOk result (λ store. store.halted ≡ false) }
         ensures whole { IfOk result (λ store. store.cut ≡ false) }
         ensures segment { IfOk result (λ store. store.segment ≡ segment) }

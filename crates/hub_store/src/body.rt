@@ -58,19 +58,30 @@ fn body_log<V: Site>(
     requires rests { V.tells site.old → Rests (changes_of log.file (V.history site.old)) log.gate }
     requires spelled { payload.now ≡ spell_frame (entries_of frame) }
     ensures tells { V.tells site.new → V.tells site.old }
-    ensures during { (h : Header) (payloads : List (List ℕ)) → IsResting (changes_of log.file (V.history site.old)) h payloads log.gate
-        → LeavesOnly log.file (V.history site.old) (V.history site.new) (HasFrames h payloads log.gate) }
-    ensures fits { (h : Header) (payloads : List (List ℕ)) → IsResting (changes_of log.file (V.history site.old)) h payloads log.gate
+    ensures during { (h : Header) (payloads : List (List ℕ))
+        → IsResting (changes_of log.file (V.history site.old)) h payloads log.gate
+        → LeavesOnly log.file (V.history site.old) (V.history site.new)
+        (HasFrames h payloads log.gate) }
+    ensures fits { (h : Header) (payloads : List (List ℕ))
+        → IsResting (changes_of log.file (V.history site.old)) h payloads log.gate
         → WayFits log.file h payloads (changes_of log.file (V.history site.new)) result.0 }
     ensures going { (going_in result.0 ≡ None) ⊎ (going_in result.0 ≡ Some (entries_of frame)) }
     ensures due { due_in result.0 ≤ length frame }
-    ensures short { (h : Header) (payloads : List (List ℕ)) → IsResting (changes_of log.file (V.history site.old)) h payloads log.gate → (result.0 ≡ Way.Resting log) ⊎ (reach_of result.0 < limit) }
+    ensures short { (h : Header) (payloads : List (List ℕ))
+        → IsResting (changes_of log.file (V.history site.old)) h payloads log.gate
+        → (result.0 ≡ Way.Resting log) ⊎ (reach_of result.0 < limit) }
     ensures there { result.0 ≢ Way.Away }
-    ensures ok { OnOk result.1 ((stage_of result.0 ≡ Stage.Bodied) × (going_in result.0 ≡ Some (entries_of frame))) }
-    ensures full { limit ≤ log.gate + 6 + length payload.now → result.1 ≡ Err (BodyRefusal.Full part (log.gate + 6 + length payload.now)) }
-    ensures untouched { (of n : ℕ) → result.1 ≡ Err (BodyRefusal.Full of n) → (of ≡ part) × (limit ≤ n) × (n ≡ log.gate + 6 + length payload.now) × (result.0 ≡ Way.Resting log) × (V.history site.new ≡ V.history site.old) }
-    ensures memory { result.1 ≡ Err BodyRefusal.Memory → (result.0 ≡ Way.Resting log) × (V.history site.new ≡ V.history site.old) }
-    ensures fault { result.1 ≡ Err BodyRefusal.SiteFault → HasRisen (V.disk_faults site.old) (V.disk_faults site.new) }
+    ensures ok { OnOk result.1 ((stage_of result.0 ≡ Stage.Bodied)
+        × (going_in result.0 ≡ Some (entries_of frame))) }
+    ensures full { limit ≤ log.gate + 6 + length payload.now
+        → result.1 ≡ Err (BodyRefusal.Full part (log.gate + 6 + length payload.now)) }
+    ensures untouched { (of n : ℕ) → result.1 ≡ Err (BodyRefusal.Full of n)
+        → (of ≡ part) × (limit ≤ n) × (n ≡ log.gate + 6 + length payload.now)
+        × (result.0 ≡ Way.Resting log) × (V.history site.new ≡ V.history site.old) }
+    ensures memory { result.1 ≡ Err BodyRefusal.Memory
+        → (result.0 ≡ Way.Resting log) × (V.history site.new ≡ V.history site.old) }
+    ensures fault { result.1 ≡ Err BodyRefusal.SiteFault
+        → HasRisen (V.disk_faults site.old) (V.disk_faults site.new) }
     ensures later { V.disk_faults site.old ≤ V.disk_faults site.new }
     ensures say_faults { V.say_faults site.new ≡ V.say_faults site.old }
 {
@@ -98,21 +109,32 @@ impl<V: Site, N: Start> Store<V, N> {
         requires going { self.old.halted ≡ false }
         requires place { part < N.origin.count }
         requires rests { stage_at self.old part ≡ Stage.Resting }
-        requires behind { GoesBehind (goes_on (N.origin.logs part) (of_part part (trail_in self.old))) (entries_of frame) }
+        requires behind { GoesBehind (goes_on (N.origin.logs part)
+            (of_part part (trail_in self.old))) (entries_of frame) }
         ensures tells { V.tells self.new.site → V.tells self.old.site }
         ensures sound { IsSound self.new }
-        ensures ok { OnOk result ((stage_at self.new part ≡ Stage.Bodied) × (going_at self.new part ≡ Some (entries_of frame))) }
+        ensures ok { OnOk result ((stage_at self.new part ≡ Stage.Bodied)
+            × (going_at self.new part ≡ Some (entries_of frame))) }
         ensures only { MovesOnly part self.old self.new }
-        ensures full { self.old.segment ≤ length_with (way_of self.old.ways.items part) (entries_of frame)
-            → (result ≡ Err BodyRefusal.Memory) ⊎ (result ≡ Err (BodyRefusal.Full part (length_with (way_of self.old.ways.items part) (entries_of frame)))) }
-        ensures room { (of n : ℕ) → result ≡ Err (BodyRefusal.Full of n) → (of ≡ part) × (self.old.segment ≤ n) × (n ≡ length_with (way_of self.old.ways.items part) (entries_of frame)) × (V.history self.new.site ≡ V.history self.old.site) × (way_of self.new.ways.items part ≡ way_of self.old.ways.items part) }
-        ensures memory { result ≡ Err BodyRefusal.Memory → (V.history self.new.site ≡ V.history self.old.site) × (stage_at self.new part ≡ Stage.Resting) }
+        ensures full { self.old.segment ≤ length_with (way_of self.old.ways.items part)
+            (entries_of frame) → (result ≡ Err BodyRefusal.Memory)
+            ⊎ (result ≡ Err (BodyRefusal.Full part
+            (length_with (way_of self.old.ways.items part) (entries_of frame)))) }
+        ensures room { (of n : ℕ) → result ≡ Err (BodyRefusal.Full of n)
+            → (of ≡ part) × (self.old.segment ≤ n)
+            × (n ≡ length_with (way_of self.old.ways.items part) (entries_of frame))
+            × (V.history self.new.site ≡ V.history self.old.site)
+            × (way_of self.new.ways.items part ≡ way_of self.old.ways.items part) }
+        ensures memory { result ≡ Err BodyRefusal.Memory
+            → (V.history self.new.site ≡ V.history self.old.site)
+            × (stage_at self.new part ≡ Stage.Resting) }
         ensures segment { self.new.segment ≡ self.old.segment }
         ensures latest { self.new.latest ≡ self.old.latest }
         ensures whole { self.new.cut ≡ self.old.cut }
         ensures halts { result ≡ Err BodyRefusal.SiteFault ↔ self.new.halted ≡ true }
         ensures still { OnOk result (self.new.halted ≡ false) }
-        ensures fault { self.new.halted ≡ true → HasRisen (V.disk_faults self.old.site) (V.disk_faults self.new.site) }
+        ensures fault { self.new.halted ≡ true
+            → HasRisen (V.disk_faults self.old.site) (V.disk_faults self.new.site) }
         ensures later { V.disk_faults self.old.site ≤ V.disk_faults self.new.site }
         ensures say_faults { V.say_faults self.new.site ≡ V.say_faults self.old.site }
     {

@@ -29,7 +29,8 @@ fn write<V: Site, N: Start>(
     requires going { store.old.halted ≡ false }
     requires part { part < N.origin.count }
     requires rests { stage_at store.old part ≡ Stage.Resting }
-    requires behind { GoesBehind (goes_on (N.origin.logs part) (of_part part (trail_in store.old))) (entries_of frame) }
+    requires behind { GoesBehind (goes_on (N.origin.logs part) (of_part part (trail_in store.old)))
+        (entries_of frame) }
     ensures tells { V.tells store.new.site → V.tells store.old.site }
     ensures sound { IsSound store.new }
     ensures stage { OnOk result (stage_at store.new part ≡ Stage.Synced) }
@@ -39,10 +40,17 @@ fn write<V: Site, N: Start>(
     ensures segment { store.new.segment ≡ store.old.segment }
     ensures latest { store.new.latest ≡ store.old.latest }
     ensures whole { store.new.cut ≡ store.old.cut }
-    ensures full { store.old.segment ≤ length_with (way_of store.old.ways.items part) (entries_of frame)
-        → (result ≡ Err BodyRefusal.Memory) ⊎ (result ≡ Err (BodyRefusal.Full part (length_with (way_of store.old.ways.items part) (entries_of frame)))) }
-    ensures room { (of n : ℕ) → result ≡ Err (BodyRefusal.Full of n) → (of ≡ part) × (store.old.segment ≤ n) × (n ≡ length_with (way_of store.old.ways.items part) (entries_of frame)) × (V.history store.new.site ≡ V.history store.old.site) × (way_of store.new.ways.items part ≡ way_of store.old.ways.items part) }
-    ensures fault { result ≡ Err BodyRefusal.SiteFault → HasRisen (V.disk_faults store.old.site) (V.disk_faults store.new.site) }
+    ensures full { store.old.segment ≤ length_with (way_of store.old.ways.items part)
+        (entries_of frame) → (result ≡ Err BodyRefusal.Memory)
+        ⊎ (result ≡ Err (BodyRefusal.Full part
+        (length_with (way_of store.old.ways.items part) (entries_of frame)))) }
+    ensures room { (of n : ℕ) → result ≡ Err (BodyRefusal.Full of n)
+        → (of ≡ part) × (store.old.segment ≤ n)
+        × (n ≡ length_with (way_of store.old.ways.items part) (entries_of frame))
+        × (V.history store.new.site ≡ V.history store.old.site)
+        × (way_of store.new.ways.items part ≡ way_of store.old.ways.items part) }
+    ensures fault { result ≡ Err BodyRefusal.SiteFault
+        → HasRisen (V.disk_faults store.old.site) (V.disk_faults store.new.site) }
     ensures later { V.disk_faults store.old.site ≤ V.disk_faults store.new.site }
     ensures say_faults { V.say_faults store.new.site ≡ V.say_faults store.old.site }
 {
@@ -59,11 +67,14 @@ fn open<V: Site, N: Start>(store: &mut Store<V, N>, part: u32) -> Result<(), Bod
     requires going { store.old.halted ≡ false }
     requires part { part < N.origin.count }
     requires safe { stage_at store.old part ≡ Stage.Synced }
-    requires follows { (going : List PlainEntry) → going_at store.old part ≡ Some going → N.may_follow store.old.latest (trail_in store.old) (told_in store.old) part going }
+    requires follows { (going : List PlainEntry) → going_at store.old part ≡ Some going
+        → N.may_follow store.old.latest (trail_in store.old) (told_in store.old) part going }
     ensures tells { V.tells store.new.site → V.tells store.old.site }
     ensures sound { IsSound store.new }
     ensures stage { OnOk result (stage_at store.new part ≡ Stage.Resting) }
-    ensures trail { OnOk result (Settles (V.tells store.new.site) (length (V.history store.new.site)) part (going_at store.old part) (trail_in store.old) (trail_in store.new)) }
+    ensures trail { OnOk result (Settles (V.tells store.new.site)
+        (length (V.history store.new.site)) part (going_at store.old part) (trail_in store.old)
+        (trail_in store.new)) }
     ensures no_trail { OnErr result (trail_in store.new ≡ trail_in store.old) }
     ensures said { told_in store.new ≡ told_in store.old }
     ensures others { KeepsOthers part store.old store.new }
@@ -72,7 +83,8 @@ fn open<V: Site, N: Start>(store: &mut Store<V, N>, part: u32) -> Result<(), Bod
     ensures latest { store.new.latest ≡ store.old.latest }
     ensures whole { store.new.cut ≡ store.old.cut }
     ensures stops { OnErr result (result ≡ Err BodyRefusal.SiteFault) }
-    ensures fault { OnErr result (HasRisen (V.disk_faults store.old.site) (V.disk_faults store.new.site)) }
+    ensures fault { OnErr result (HasRisen (V.disk_faults store.old.site)
+        (V.disk_faults store.new.site)) }
     ensures later { V.disk_faults store.old.site ≤ V.disk_faults store.new.site }
     ensures say_faults { V.say_faults store.new.site ≡ V.say_faults store.old.site }
 {
@@ -106,12 +118,15 @@ pub fn commit<V: Site, N: Start>(
     requires going { store.old.halted ≡ false }
     requires part { part < N.origin.count }
     requires rests { stage_at store.old part ≡ Stage.Resting }
-    requires behind { GoesBehind (goes_on (N.origin.logs part) (of_part part (trail_in store.old))) (entry_of entry ∷ []) }
-    requires follows { N.may_follow store.old.latest (trail_in store.old) (told_in store.old) part (entry_of entry ∷ []) }
+    requires behind { GoesBehind (goes_on (N.origin.logs part) (of_part part (trail_in store.old)))
+        (entry_of entry ∷ []) }
+    requires follows { N.may_follow store.old.latest (trail_in store.old) (told_in store.old) part
+        (entry_of entry ∷ []) }
     ensures tells { V.tells store.new.site → V.tells store.old.site }
     ensures sound { IsSound store.new }
     ensures stage { OnOk result (stage_at store.new part ≡ Stage.Resting) }
-    ensures trail { OnOk result (of_part part (trail_in store.new) ≡ of_part part (trail_in store.old) ++ entry_of entry ∷ []) }
+    ensures trail { OnOk result (of_part part (trail_in store.new)
+        ≡ of_part part (trail_in store.old) ++ entry_of entry ∷ []) }
     ensures no_trail { OnErr result (trail_in store.new ≡ trail_in store.old) }
     ensures said { told_in store.new ≡ told_in store.old }
     ensures others { KeepsOthers part store.old store.new }
@@ -119,10 +134,17 @@ pub fn commit<V: Site, N: Start>(
     ensures segment { store.new.segment ≡ store.old.segment }
     ensures latest { store.new.latest ≡ store.old.latest }
     ensures whole { store.new.cut ≡ store.old.cut }
-    ensures full { store.old.segment ≤ length_with (way_of store.old.ways.items part) (entry_of entry ∷ [])
-        → (result ≡ Err BodyRefusal.Memory) ⊎ (result ≡ Err (BodyRefusal.Full part (length_with (way_of store.old.ways.items part) (entry_of entry ∷ [])))) }
-    ensures room { (of n : ℕ) → result ≡ Err (BodyRefusal.Full of n) → (of ≡ part) × (store.old.segment ≤ n) × (n ≡ length_with (way_of store.old.ways.items part) (entry_of entry ∷ [])) × (V.history store.new.site ≡ V.history store.old.site) × (way_of store.new.ways.items part ≡ way_of store.old.ways.items part) }
-    ensures fault { result ≡ Err BodyRefusal.SiteFault → HasRisen (V.disk_faults store.old.site) (V.disk_faults store.new.site) }
+    ensures full { store.old.segment ≤ length_with (way_of store.old.ways.items part)
+        (entry_of entry ∷ []) → (result ≡ Err BodyRefusal.Memory)
+        ⊎ (result ≡ Err (BodyRefusal.Full part
+        (length_with (way_of store.old.ways.items part) (entry_of entry ∷ [])))) }
+    ensures room { (of n : ℕ) → result ≡ Err (BodyRefusal.Full of n)
+        → (of ≡ part) × (store.old.segment ≤ n)
+        × (n ≡ length_with (way_of store.old.ways.items part) (entry_of entry ∷ []))
+        × (V.history store.new.site ≡ V.history store.old.site)
+        × (way_of store.new.ways.items part ≡ way_of store.old.ways.items part) }
+    ensures fault { result ≡ Err BodyRefusal.SiteFault
+        → HasRisen (V.disk_faults store.old.site) (V.disk_faults store.new.site) }
     ensures later { V.disk_faults store.old.site ≤ V.disk_faults store.new.site }
     ensures say_faults { V.say_faults store.new.site ≡ V.say_faults store.old.site }
 {

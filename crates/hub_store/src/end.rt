@@ -27,9 +27,14 @@ impl<V: Site, N: Start> Store<V, N> {
         requires { IsSound self }
         ensures site { result.site ≡ self.site }
         ensures trail { result.trail ≡ trail_in self }
-        ensures whole { V.tells self.site → self.cut ≡ false → StandsWith (N.may_follow self.latest) N.may_say N.origin (V.history self.site) (trail_in self) (told_in self) [] }
-        ensures short { V.tells self.site → (partition : ℕ) → partition < N.origin.count → IsShort self.segment (of_part partition (trail_in self)) (content_of (N.origin.logs partition).file (V.history self.site)) }
-        ensures every { V.tells self.site → AtEveryMoment (N.may_follow self.latest) N.may_say N.origin (V.history self.site) (trail_in self) }
+        ensures whole { V.tells self.site → self.cut ≡ false
+            → StandsWith (N.may_follow self.latest) N.may_say N.origin (V.history self.site)
+            (trail_in self) (told_in self) [] }
+        ensures short { V.tells self.site → (partition : ℕ) → partition < N.origin.count
+            → IsShort self.segment (of_part partition (trail_in self))
+            (content_of (N.origin.logs partition).file (V.history self.site)) }
+        ensures every { V.tells self.site → AtEveryMoment (N.may_follow self.latest) N.may_say
+            N.origin (V.history self.site) (trail_in self) }
     {
         let Store {
             site,

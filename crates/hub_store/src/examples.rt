@@ -69,7 +69,10 @@ pub fn faults_counted()
 /// Of two stores.
 pub fn frames_moved<V: Site, N: Start>(old: &Store<V, N>, new: &Store<V, N>)
     ensures none { MovesOnly 0 old.now old.now }
-    ensures settled { trail_in new.now ≡ trail_in old.now ++ settled_when 0 → MovesOnly 0 old.now new.now → ⊥ }
-    ensures said { told_in new.now ≡ told_in old.now ++ request ∷ [] → MovesOnly 0 old.now new.now → ⊥ }
-    ensures another { way_of new.now.ways.items 1 ≢ way_of old.now.ways.items 1 → MovesOnly 0 old.now new.now → ⊥ }
+    ensures settled { trail_in new.now ≡ trail_in old.now ++ settled_when 0
+        → MovesOnly 0 old.now new.now → ⊥ }
+    ensures said { told_in new.now ≡ told_in old.now ++ request ∷ [] → MovesOnly 0 old.now new.now
+        → ⊥ }
+    ensures another { way_of new.now.ways.items 1 ≢ way_of old.now.ways.items 1
+        → MovesOnly 0 old.now new.now → ⊥ }
 {}

@@ -24,12 +24,19 @@ use site_model::Site;
 
 /// Opens the gate before a frame.
 fn gate_log<V: Site>(site: &mut V, log: Synced, frame: Frame) -> (Way, Result<(), Refusal>)
-    requires { V.tells site.old → IsSyncedThere (changes_of log.file (V.history site.old)) log.gate log.next }
+    requires { V.tells site.old → IsSyncedThere (changes_of log.file (V.history site.old)) log.gate
+        log.next }
     ensures tells { V.tells site.new → V.tells site.old }
-    ensures step { (bytes : List ℕ) × ((V.history site.new ≡ on log.file (wrote log.gate 1 bytes) ∷ V.history site.old) ⊎ (V.history site.new ≡ V.history site.old)) }
-    ensures during { (h : Header) (payloads : List (List ℕ)) (payload : List ℕ) → IsSynced (changes_of log.file (V.history site.old)) h payloads payload log.gate log.next
-        → LeavesOnly log.file (V.history site.old) (V.history site.new) (HasFramesOrOneMore h payloads payload log.gate log.next) }
-    ensures fits { (h : Header) (payloads : List (List ℕ)) → IsSynced (changes_of log.file (V.history site.old)) h payloads (spell_frame (entries_of frame)) log.gate log.next
+    ensures step { (bytes : List ℕ) × ((V.history site.new
+        ≡ on log.file (wrote log.gate 1 bytes) ∷ V.history site.old)
+        ⊎ (V.history site.new ≡ V.history site.old)) }
+    ensures during { (h : Header) (payloads : List (List ℕ)) (payload : List ℕ)
+        → IsSynced (changes_of log.file (V.history site.old)) h payloads payload log.gate log.next
+        → LeavesOnly log.file (V.history site.old) (V.history site.new)
+        (HasFramesOrOneMore h payloads payload log.gate log.next) }
+    ensures fits { (h : Header) (payloads : List (List ℕ))
+        → IsSynced (changes_of log.file (V.history site.old)) h payloads
+        (spell_frame (entries_of frame)) log.gate log.next
         → WayFits log.file h payloads (changes_of log.file (V.history site.new)) result.0 }
     ensures going { going_in result.0 ≡ Some (entries_of frame) }
     ensures due { due_in result.0 ≡ length frame }
@@ -52,7 +59,8 @@ impl<V: Site, N: Start> Store<V, N> {
         requires sound { IsSound self.old }
         requires going { self.old.halted ≡ false }
         requires place { part < N.origin.count }
-        requires follows { (going : List Entry) → going_at self.old part ≡ Some going → N.may_follow self.old.latest (trail_in self.old) (told_in self.old) part going }
+        requires follows { (going : List Entry) → going_at self.old part ≡ Some going
+            → N.may_follow self.old.latest (trail_in self.old) (told_in self.old) part going }
         ensures tells { V.tells self.new.site → V.tells self.old.site }
         ensures sound { IsSound self.new }
         ensures ok { OnOk result (stage_at self.new part ≡ Stage.Gated) }
@@ -65,7 +73,8 @@ impl<V: Site, N: Start> Store<V, N> {
         ensures whole { self.new.cut ≡ self.old.cut }
         ensures still { OnOk result (self.new.halted ≡ false) }
         ensures halts { result ≡ Err Refusal.SiteFault → self.new.halted ≡ true }
-        ensures halted { HasHalted (V.disk_faults self.old.site) (V.disk_faults self.new.site) self.new.halted }
+        ensures halted { HasHalted (V.disk_faults self.old.site) (V.disk_faults self.new.site)
+            self.new.halted }
         ensures say_faults { V.say_faults self.new.site ≡ V.say_faults self.old.site }
     {
         let place = part as usize;

@@ -9,5 +9,6 @@ ghost use Rattle.hub_store.specs.Frames.{GoesBehind};
 /// A frame within the limits of the format, whose entries are numbered on from where a log goes on, goes behind it.
 #[tactic(auto, using(crate::proofs::FramesGo::frame_goes))]
 pub fn frames_go_behind()
-    ensures { (next : Next) (going : List Entry) → FitsFrame going → IsNumbered next going → GoesBehind next going }
+    ensures { (next : Next) (going : List Entry) → FitsFrame going → IsNumbered next going
+        → GoesBehind next going }
 {}

@@ -37,11 +37,14 @@ fn reopen_log<V: Site>(site: &mut V, way: Way) -> (Result<Reopened, Broken>, Fra
     requires frame { stage_of way ≢ Stage.Resting }
     requires there { way ≢ Way.Away }
     ensures tells { V.tells site.new → V.tells site.old }
-    ensures reopens { V.tells site.new → (file : ℕ) (h : Header) (payloads : List (List ℕ)) → WayFits file h payloads (changes_of file (V.history site.old)) way
-        → Reopens file h payloads (spell_frame (entries_of result.1)) way (V.history site.old) (V.history site.new) result.0 }
+    ensures reopens { V.tells site.new → (file : ℕ) (h : Header) (payloads : List (List ℕ))
+        → WayFits file h payloads (changes_of file (V.history site.old)) way
+        → Reopens file h payloads (spell_frame (entries_of result.1)) way (V.history site.old)
+        (V.history site.new) result.0 }
     ensures going { going_in way ≡ Some (entries_of result.1) }
     ensures due { due_in way ≡ length result.1 }
-    ensures reach { MatchResult result.0 (λ found. found.log.gate + 1 ≤ reach_of way) (λ log. max log.gate log.next + 1 ≤ reach_of way) }
+    ensures reach { MatchResult result.0 (λ found. found.log.gate + 1 ≤ reach_of way)
+        (λ log. max log.gate log.next + 1 ≤ reach_of way) }
     ensures cause { HasCause (V.disk_faults site.old) (V.disk_faults site.new) result.0 }
     ensures say_faults { V.say_faults site.new ≡ V.say_faults site.old }
 {
@@ -62,15 +65,21 @@ impl<V: Site, N: Start> Store<V, N> {
         requires whole { self.old.cut ≡ false }
         requires place { part < N.origin.count }
         // Before its gate is opened a frame is only dropped.
-        requires follows { (going : List Entry) → going_at self.old part ≡ Some going → stage_at self.old part ≢ Stage.Bodied → stage_at self.old part ≢ Stage.Synced
+        requires follows { (going : List Entry) → going_at self.old part ≡ Some going
+            → stage_at self.old part ≢ Stage.Bodied → stage_at self.old part ≢ Stage.Synced
             → N.may_follow self.old.latest (trail_in self.old) (told_in self.old) part going }
         ensures tells { V.tells self.new.site → V.tells self.old.site }
         ensures sound { IsSound self.new }
         ensures ok { OnOk result (stage_at self.new part ≡ Stage.Resting) }
-        ensures settled { result ≡ Ok Reopening.Settled → Settles (V.tells self.new.site) (length (V.history self.new.site)) part (going_at self.old part) (trail_in self.old) (trail_in self.new) }
+        ensures settled { result ≡ Ok Reopening.Settled
+            → Settles (V.tells self.new.site) (length (V.history self.new.site)) part
+            (going_at self.old part) (trail_in self.old) (trail_in self.new) }
         ensures dropped { result ≡ Ok Reopening.Dropped → trail_in self.new ≡ trail_in self.old }
         ensures no_trail { OnErr result (trail_in self.new ≡ trail_in self.old) }
-        ensures opened { V.tells self.new.site → IfOk result (λ found. found ≡ Reopening.Settled ↔ slice_index (content_of (N.origin.logs part).file (V.history self.old.site)) (gate_of (way_of self.old.ways.items part)) ≡ open_gate) }
+        ensures opened { V.tells self.new.site
+            → IfOk result (λ found. found ≡ Reopening.Settled
+            ↔ slice_index (content_of (N.origin.logs part).file (V.history self.old.site))
+            (gate_of (way_of self.old.ways.items part)) ≡ open_gate) }
         ensures frame { OnErr result (going_at self.new part ≡ going_at self.old part) }
         ensures said { told_in self.new ≡ told_in self.old }
         ensures others { KeepsOthers part self.old self.new }
@@ -81,7 +90,8 @@ impl<V: Site, N: Start> Store<V, N> {
         ensures whole { self.new.cut ≡ self.old.cut }
         ensures still { OnOk result (self.new.halted ≡ false) }
         ensures halts { result ≡ Err Refusal.SiteFault → self.new.halted ≡ true }
-        ensures fault { result ≡ Err Refusal.SiteFault → HasRisen (V.disk_faults self.old.site) (V.disk_faults self.new.site) }
+        ensures fault { result ≡ Err Refusal.SiteFault
+            → HasRisen (V.disk_faults self.old.site) (V.disk_faults self.new.site) }
         ensures later { V.disk_faults self.old.site ≤ V.disk_faults self.new.site }
         ensures same { OnOk result (V.disk_faults self.new.site ≡ V.disk_faults self.old.site) }
         ensures say_faults { V.say_faults self.new.site ≡ V.say_faults self.old.site }

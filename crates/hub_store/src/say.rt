@@ -25,20 +25,24 @@ impl<V: Site, N: Start> Store<V, N> {
         requires sound { IsSound self.old }
         requires going { self.old.halted ≡ false }
         requires some { 0 < length line.now }
-        requires may { N.may_say (trail_in self.old) (told_in self.old) (asked client.now number) line.now }
+        requires may { N.may_say (trail_in self.old) (told_in self.old) (asked client.now number)
+            line.now }
         ensures tells { V.tells self.new.site → V.tells self.old.site }
         ensures sound { IsSound self.new }
-        ensures ok { OnOk result (told_in self.new ≡ told_in self.old ++ asked client.now number ∷ []) }
+        ensures ok { OnOk result (told_in self.new
+            ≡ told_in self.old ++ asked client.now number ∷ []) }
         ensures err { OnErr result (told_in self.new ≡ told_in self.old) }
         ensures trail { trail_in self.new ≡ trail_in self.old }
         ensures ways { self.new.ways ≡ self.old.ways }
-        ensures memory { result ≡ Err SayError.Memory → (self.new.site ≡ self.old.site) × (self.new.halted ≡ false) }
+        ensures memory { result ≡ Err SayError.Memory
+            → (self.new.site ≡ self.old.site) × (self.new.halted ≡ false) }
         ensures segment { self.new.segment ≡ self.old.segment }
         ensures latest { self.new.latest ≡ self.old.latest }
         ensures whole { result ≢ Err SayError.SayFault → self.new.cut ≡ self.old.cut }
         ensures still { OnOk result (self.new.halted ≡ false) }
         ensures halts { result ≡ Err SayError.SayFault → self.new.halted ≡ true }
-        ensures halted { HasHalted (V.say_faults self.old.site) (V.say_faults self.new.site) self.new.halted }
+        ensures halted { HasHalted (V.say_faults self.old.site) (V.say_faults self.new.site)
+            self.new.halted }
         ensures disk_faults { V.disk_faults self.new.site ≡ V.disk_faults self.old.site }
     {
         let client = copy_of(client)?;

@@ -18,11 +18,14 @@ impl<V: Site, N: Start> Store<V, N> {
         requires sound { IsSound self.old }
         requires going { self.old.halted ≡ false }
         requires place { part < N.origin.count }
-        requires follows { (going : List Entry) → going_at self.old part ≡ Some going → N.may_follow self.old.latest (trail_in self.old) (told_in self.old) part going }
+        requires follows { (going : List Entry) → going_at self.old part ≡ Some going
+            → N.may_follow self.old.latest (trail_in self.old) (told_in self.old) part going }
         ensures tells { V.tells self.new.site → V.tells self.old.site }
         ensures sound { IsSound self.new }
         ensures ok { OnOk result (stage_at self.new part ≡ Stage.Resting) }
-        ensures trail { OnOk result (Settles (V.tells self.new.site) (length (V.history self.new.site)) part (going_at self.old part) (trail_in self.old) (trail_in self.new)) }
+        ensures trail { OnOk result (Settles (V.tells self.new.site)
+            (length (V.history self.new.site)) part (going_at self.old part) (trail_in self.old)
+            (trail_in self.new)) }
         ensures no_trail { OnErr result (trail_in self.new ≡ trail_in self.old) }
         ensures frame { OnErr result (going_at self.new part ≡ going_at self.old part) }
         ensures said { told_in self.new ≡ told_in self.old }
@@ -34,7 +37,8 @@ impl<V: Site, N: Start> Store<V, N> {
         ensures whole { self.new.cut ≡ self.old.cut }
         ensures still { OnOk result (self.new.halted ≡ false) }
         ensures halts { result ≡ Err Refusal.SiteFault → self.new.halted ≡ true }
-        ensures halted { HasHalted (V.disk_faults self.old.site) (V.disk_faults self.new.site) self.new.halted }
+        ensures halted { HasHalted (V.disk_faults self.old.site) (V.disk_faults self.new.site)
+            self.new.halted }
         ensures say_faults { V.say_faults self.new.site ≡ V.say_faults self.old.site }
     {
         let place = part as usize;

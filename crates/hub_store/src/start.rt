@@ -19,11 +19,15 @@ pub trait Start: Drop {
     ghost may_say: { List Settled → List Said → Said → List ℕ → Type 0 };
 
     /// What may be committed may be committed still once more of other partitions was settled and more was said.
-    ghost still_follows: { (latest : ℕ) (trail more : List Settled) (told also : List Said) (partition : ℕ) (going : List Entry) → of_part partition more ≡ [] → may_follow latest trail told partition going
+    ghost still_follows: { (latest : ℕ) (trail more : List Settled) (told also : List Said)
+        (partition : ℕ) (going : List Entry) → of_part partition more ≡ []
+        → may_follow latest trail told partition going
         → may_follow latest (trail ++ more) (told ++ also) partition going };
 
     /// What may be committed up to a moment may be committed up to a later one.
-    ghost later_follows: { (latest later : ℕ) (trail : List Settled) (told : List Said) (partition : ℕ) (going : List Entry) → latest ≤ later → may_follow latest trail told partition going
+    ghost later_follows: { (latest later : ℕ) (trail : List Settled) (told : List Said)
+        (partition : ℕ) (going : List Entry) → latest ≤ later
+        → may_follow latest trail told partition going
         → may_follow later trail told partition going };
 }
 

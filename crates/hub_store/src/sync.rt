@@ -24,9 +24,13 @@ use site_model::Site;
 /// Makes a frame safe on the disk.
 fn sync_log<V: Site>(site: &mut V, log: Bodied, frame: Frame) -> (Way, Result<(), Refusal>)
     ensures tells { V.tells site.new → V.tells site.old }
-    ensures during { (h : Header) (payloads : List (List ℕ)) (payload : List ℕ) → IsBodied (changes_of log.file (V.history site.old)) h payloads payload log.gate log.next
-        → LeavesOnly log.file (V.history site.old) (V.history site.new) (HasFrames h payloads log.gate) }
-    ensures fits { (h : Header) (payloads : List (List ℕ)) → IsBodied (changes_of log.file (V.history site.old)) h payloads (spell_frame (entries_of frame)) log.gate log.next
+    ensures during { (h : Header) (payloads : List (List ℕ)) (payload : List ℕ)
+        → IsBodied (changes_of log.file (V.history site.old)) h payloads payload log.gate log.next
+        → LeavesOnly log.file (V.history site.old) (V.history site.new)
+        (HasFrames h payloads log.gate) }
+    ensures fits { (h : Header) (payloads : List (List ℕ))
+        → IsBodied (changes_of log.file (V.history site.old)) h payloads
+        (spell_frame (entries_of frame)) log.gate log.next
         → WayFits log.file h payloads (changes_of log.file (V.history site.new)) result.0 }
     ensures going { going_in result.0 ≡ Some (entries_of frame) }
     ensures due { due_in result.0 ≡ length frame }
@@ -61,7 +65,8 @@ impl<V: Site, N: Start> Store<V, N> {
         ensures whole { self.new.cut ≡ self.old.cut }
         ensures still { OnOk result (self.new.halted ≡ false) }
         ensures halts { result ≡ Err Refusal.SiteFault → self.new.halted ≡ true }
-        ensures halted { HasHalted (V.disk_faults self.old.site) (V.disk_faults self.new.site) self.new.halted }
+        ensures halted { HasHalted (V.disk_faults self.old.site) (V.disk_faults self.new.site)
+            self.new.halted }
         ensures say_faults { V.say_faults self.new.site ≡ V.say_faults self.old.site }
     {
         let place = part as usize;

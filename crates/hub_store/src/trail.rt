@@ -79,7 +79,8 @@ impl Trail {
 /// Puts the entries of a frame behind a trail that has room for them.
 pub(crate) fn settle_entries(trail: &mut Vec<Settled>, partition: u32, at: u64, frame: Frame)
     requires { vec_len trail.old + length frame ≤ vec_capacity trail.old }
-    ensures trail { trail_of trail.new.items ≡ trail_of trail.old.items ++ settling partition at (entries_of frame) }
+    ensures trail { trail_of trail.new.items
+        ≡ trail_of trail.old.items ++ settling partition at (entries_of frame) }
     ensures len { vec_len trail.new ≡ vec_len trail.old + length frame }
     ensures capacity { vec_capacity trail.new ≡ vec_capacity trail.old }
 {

@@ -30,7 +30,8 @@ fn keep_copy<K: Ord + Clone, V: Drop, F: Fn(&V) -> Result<V, AllocError>>(
 ) -> Result<(), AllocError>
     requires callable { F.IsAlwaysCallable copy.now }
     requires exact { AreExact K.cmp K.is_clone }
-    ensures { OnOk result (KeepsCopy K.cmp (λ value kept. FnReturnsAt F.Fn copy.now value (Ok kept)) copies.old copies.new key.now value.now) }
+    ensures { OnOk result (KeepsCopy K.cmp (λ value kept. FnReturnsAt F.Fn copy.now value (Ok kept))
+        copies.old copies.new key.now value.now) }
 {
     keep(copies, key.clone()?, copy(value)?)
 }
@@ -43,7 +44,8 @@ pub(crate) fn copy_entries<K: Ord + Clone, V: Drop, F: Fn(&V) -> Result<V, Alloc
 ) -> Result<BTreeMap<K, V>, AllocError>
     requires callable { F.IsAlwaysCallable copy.now }
     requires exact { AreExact K.cmp K.is_clone }
-    ensures { IfOk result (AreEntriesCopied K.cmp (λ value kept. FnReturnsAt F.Fn copy.now value (Ok kept)) entries.now) }
+    ensures { IfOk result (AreEntriesCopied K.cmp
+        (λ value kept. FnReturnsAt F.Fn copy.now value (Ok kept)) entries.now) }
 {
     let mut copies = BTreeMap::new(alloc);
     for (key, value) in entries {

@@ -40,8 +40,11 @@ impl<V> IdMap<V> {
     /// The first id behind the last one, or of all, that something is kept for, with what is kept.
     pub fn next(&self, last: Option<&Id>) -> Option<(&Id, &V)>
         ensures kept { IfSome result (λ one. by_id self.now (id_of one.0.now) ≡ Some one.1.now) }
-        ensures next { IfSome result (λ one. IsNextBehind (λ id. is_some (by_id self.now id)) (option_map (λ id. id_of id.now) last.entry) (id_of one.0.now)) }
-        ensures none { IfNone result (NoneBehind (λ id. is_some (by_id self.now id)) (option_map (λ id. id_of id.now) last.entry)) }
+        ensures next { IfSome result (λ one.
+            IsNextBehind (λ id. is_some (by_id self.now id))
+            (option_map (λ id. id_of id.now) last.entry) (id_of one.0.now)) }
+        ensures none { IfNone result (NoneBehind (λ id. is_some (by_id self.now id))
+            (option_map (λ id. id_of id.now) last.entry)) }
     {
         let from = match last {
             Some(id) => Bound::Excluded(id),
@@ -54,7 +57,8 @@ impl<V> IdMap<V> {
     pub fn put(&mut self, id: Id, value: V) -> Result<(), AllocError>
     where
         V: Drop,
-        ensures put { OnOk result (by_id self.new ≡ at_id (by_id self.old) (id_of id) (Some value)) }
+        ensures put { OnOk result (by_id self.new
+            ≡ at_id (by_id self.old) (id_of id) (Some value)) }
         ensures same { OnErr result (by_id self.new ≡ by_id self.old) }
     {
         keep(&mut self.entries, id, value)
@@ -77,7 +81,8 @@ impl<V> IdMap<V> {
     where
         V: Drop,
         requires { F.IsAlwaysCallable copy }
-        ensures { IfOk result (IsCopyById (λ value kept. FnReturnsAt F.Fn copy value (Ok kept)) self.now) }
+        ensures { IfOk result (IsCopyById (λ value kept. FnReturnsAt F.Fn copy value (Ok kept))
+            self.now) }
     {
         let entries = copy_entries(alloc, &self.entries, &copy)?;
         Ok(IdMap { entries })

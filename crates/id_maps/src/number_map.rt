@@ -23,7 +23,8 @@ pub fn copy_numbers<V: Drop, F: Fn(&V) -> Result<V, AllocError>>(
     copy: &F,
 ) -> Result<BTreeMap<u32, V>, AllocError>
     requires { F.IsAlwaysCallable copy.now }
-    ensures { IfOk result (AreNumbersCopied (λ value kept. FnReturnsAt F.Fn copy.now value (Ok kept)) numbers.now) }
+    ensures { IfOk result (AreNumbersCopied
+        (λ value kept. FnReturnsAt F.Fn copy.now value (Ok kept)) numbers.now) }
 {
     copy_entries(alloc, numbers, copy)
 }
@@ -32,7 +33,8 @@ pub fn copy_numbers<V: Drop, F: Fn(&V) -> Result<V, AllocError>>(
 #[tactic(auto, using(crate::proofs::Least::no_greater))]
 fn least<V>(numbers: &BTreeMap<u32, V>) -> Option<u32>
     ensures there { IfSome result (λ number. IsSome (get nat_cmp numbers.now number)) }
-    ensures least { IfSome result (λ number. (other : ℕ) → IsSome (get nat_cmp numbers.now other) → number ≤ other) }
+    ensures least { IfSome result (λ number. (other : ℕ) → IsSome (get nat_cmp numbers.now other)
+        → number ≤ other) }
     ensures none { IfNone result ((number : ℕ) → get nat_cmp numbers.now number ≡ None) }
 {
     match numbers.first_key_value() {
@@ -43,7 +45,8 @@ fn least<V>(numbers: &BTreeMap<u32, V>) -> Option<u32>
 
 /// Numbers of which this one alone has something.
 fn only<V: Drop>(alloc: Global, number: u32, value: V) -> Result<BTreeMap<u32, V>, AllocError>
-    ensures { IfOk result (λ numbers. (q : ℕ) → get nat_cmp numbers q ≡ (if is_at (nat_cmp number) q then Some value else None)) }
+    ensures { IfOk result (λ numbers. (q : ℕ)
+        → get nat_cmp numbers q ≡ (if is_at (nat_cmp number) q then Some value else None)) }
 {
     let mut numbers = BTreeMap::new(alloc);
     match keep(&mut numbers, number, value) {
@@ -80,9 +83,12 @@ impl<V> NumberMap<V> {
 
     /// The least number of this id that something is kept for.
     pub fn first_of(&self, id: &Id) -> Option<u32>
-        ensures there { IfSome result (λ number. IsSome (by_number self.now (id_of id.now) number)) }
-        ensures least { IfSome result (λ number. (other : ℕ) → IsSome (by_number self.now (id_of id.now) other) → number ≤ other) }
-        ensures none { IfNone result ((number : ℕ) → by_number self.now (id_of id.now) number ≡ None) }
+        ensures there { IfSome result (λ number.
+            IsSome (by_number self.now (id_of id.now) number)) }
+        ensures least { IfSome result (λ number. (other : ℕ)
+            → IsSome (by_number self.now (id_of id.now) other) → number ≤ other) }
+        ensures none { IfNone result ((number : ℕ)
+            → by_number self.now (id_of id.now) number ≡ None) }
     {
         match self.entries.get(id) {
             Some(numbers) => least(numbers),
@@ -93,8 +99,10 @@ impl<V> NumberMap<V> {
     /// The first id that something is kept for, and its least number.
     pub fn first(&self) -> Option<(&Id, u32)>
         ensures there { IfSome result (λ one. IsSome (by_number self.now (id_of one.0.now) one.1)) }
-        ensures first { IfSome result (λ one. IsFirst (λ id number. is_some (by_number self.now id number)) (id_of one.0.now) one.1) }
-        ensures none { IfNone result ((id : PlainId) (number : ℕ) → by_number self.now id number ≡ None) }
+        ensures first { IfSome result (λ one.
+            IsFirst (λ id number. is_some (by_number self.now id number)) (id_of one.0.now) one.1) }
+        ensures none { IfNone result ((id : PlainId) (number : ℕ)
+            → by_number self.now id number ≡ None) }
     {
         for (id, numbers) in &self.entries {
             if let Some(number) = least(numbers) {
@@ -108,7 +116,8 @@ impl<V> NumberMap<V> {
     pub fn put(&mut self, alloc: Global, id: Id, number: u32, value: V) -> Result<(), AllocError>
     where
         V: Drop,
-        ensures { OnOk result (by_number self.new ≡ at_number (by_number self.old) (id_of id) number (Some value)) }
+        ensures { OnOk result (by_number self.new
+            ≡ at_number (by_number self.old) (id_of id) number (Some value)) }
     {
         match self.entries.get_mut(&id) {
             Some(numbers) => {
@@ -130,8 +139,10 @@ impl<V> NumberMap<V> {
     where
         V: Drop,
         ensures value { result ≡ by_number self.old (id_of id.now) number }
-        ensures taken { by_number self.new ≡ at_number (by_number self.old) (id_of id.now) number None }
-        ensures count { count_of self.new (id_of id.now) + (if is_some result then 1 else 0) ≡ count_of self.old (id_of id.now) }
+        ensures taken { by_number self.new ≡ at_number (by_number self.old) (id_of id.now) number
+            None }
+        ensures count { count_of self.new (id_of id.now) + (if is_some result then 1 else 0)
+            ≡ count_of self.old (id_of id.now) }
     {
         let Some(numbers) = self.entries.get_mut(id) else {
             return None;
@@ -161,7 +172,8 @@ impl<V> NumberMap<V> {
     where
         V: Drop,
         requires { F.IsAlwaysCallable copy }
-        ensures { IfOk result (IsCopyByNumber (λ value kept. FnReturnsAt F.Fn copy value (Ok kept)) self.now) }
+        ensures { IfOk result (IsCopyByNumber (λ value kept. FnReturnsAt F.Fn copy value (Ok kept))
+            self.now) }
     {
         let entries = copy_entries(
             alloc,

@@ -113,7 +113,8 @@ fn items_in<'a>(
     reader: &mut Reader<'_>,
     levels: usize,
 ) -> Result<&'a [Tree<'a>], ReadError>
-    ensures taken { Takes (λ found. items_view found.now) result reader.new (items_in levels reader.old) }
+    ensures taken { Takes (λ found. items_view found.now) result reader.new
+        (items_in levels reader.old) }
     ensures shorter { OnOk result (length reader.new < length reader.old) }
 {
     let mut found = Vec::new(alloc);
@@ -133,7 +134,8 @@ fn members_in<'a>(
     reader: &mut Reader<'_>,
     levels: usize,
 ) -> Result<&'a [Member<'a>], ReadError>
-    ensures taken { Takes (λ found. members_view found.now) result reader.new (members_in levels reader.old) }
+    ensures taken { Takes (λ found. members_view found.now) result reader.new
+        (members_in levels reader.old) }
     ensures shorter { OnOk result (length reader.new < length reader.old) }
 {
     let mut found = BTreeMap::new(alloc);
@@ -152,7 +154,8 @@ fn put<'a>(
     member: Tree<'a>,
 ) -> Result<(), AllocError>
     ensures { IfOk result (λ _. found.new.entries
-        ≡ insert_entry (λ a b. slice_cmp nat_cmp a.now b.now) found.old.entries key.entry member.entry) }
+        ≡ insert_entry (λ a b. slice_cmp nat_cmp a.now b.now) found.old.entries key.entry
+        member.entry) }
 {
     drop(found.insert(key, member)?);
     Ok(())
@@ -164,8 +167,8 @@ fn entries_of<'a>(
     arena: &'a Bump,
     found: BTreeMap<&'a str, Tree<'a>>,
 ) -> Result<&'a [Member<'a>], ReadError>
-    ensures { MatchResult result
-        (λ members. members.now ≡ found.entry.entries) (λ e. e ≡ errors.Memory) }
+    ensures { MatchResult result (λ members. members.now ≡ found.entry.entries)
+        (λ e. e ≡ errors.Memory) }
 {
     let mut members = Vec::with_capacity(alloc, found.len())?;
     for (key, member) in &found {

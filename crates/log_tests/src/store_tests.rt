@@ -53,8 +53,10 @@ fn play_begun<N: Start, A: Abort>(
     requires begun { HasBegun N.origin (memory_history site) (log ∷ []) }
     requires log { (N.origin.logs 0).header ≡ header }
     requires empty { (N.origin.logs 0).entries ≡ [] }
-    requires follow { (latest : ℕ) (trail : List Settled) (told : List Said) (partition : ℕ) (going : List Entry) → N.may_follow latest trail told partition going }
-    requires say { (trail : List Settled) (told : List Said) (one : Said) (line : List ℕ) → N.may_say trail told one line }
+    requires follow { (latest : ℕ) (trail : List Settled) (told : List Said) (partition : ℕ)
+        (going : List Entry) → N.may_follow latest trail told partition going }
+    requires say { (trail : List Settled) (told : List Said) (one : Said) (line : List ℕ)
+        → N.may_say trail told one line }
 {
     let mut store: Store<MemorySite, N> = begun(rt, alloc, site, log, segment);
     play(rt, alloc, &mut store, text_of(rt, calls));

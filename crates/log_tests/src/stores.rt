@@ -60,8 +60,10 @@ pub(crate) fn begun<N: Start>(
     requires begun { HasBegun N.origin (memory_history site) (log ∷ []) }
     requires log { (N.origin.logs 0).header ≡ header }
     requires empty { (N.origin.logs 0).entries ≡ [] }
-    requires follow { (latest : ℕ) (trail : List Settled) (told : List Said) (partition : ℕ) (going : List plain) → N.may_follow latest trail told partition going }
-    requires say { (trail : List Settled) (told : List Said) (one : Said) (line : List ℕ) → N.may_say trail told one line }
+    requires follow { (latest : ℕ) (trail : List Settled) (told : List Said) (partition : ℕ)
+        (going : List plain) → N.may_follow latest trail told partition going }
+    requires say { (trail : List Settled) (told : List Said) (one : Said) (line : List ℕ)
+        → N.may_say trail told one line }
     ensures { IsGoing result 0 }
 {
     let logs = vec![in alloc; log].expect(rt, "memory");

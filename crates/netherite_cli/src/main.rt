@@ -50,9 +50,12 @@ fn run_call<T: Threads + Wait + Sync, S: Start + Send>(
     start: S,
 ) -> Result<Ran, CallError>
     ensures call { IfOk result (λ ran. given ≡ Ok ran.call) }
-    ensures usage { IfOk result (λ ran. call_in ran.call.words.items ≡ None → (ran.cause ≡ Cause.Usage) ⊎ (ran.cause ≡ Cause.Memory)) }
-    ensures only_usage { IfOk result (λ ran. ran.cause ≡ Cause.Usage → call_in ran.call.words.items ≡ None) }
-    ensures refused { IfErr result (λ error. MatchResult given (λ _. error ≡ CallError.Memory) (λ why. error ≡ why)) }
+    ensures usage { IfOk result (λ ran. call_in ran.call.words.items ≡ None
+        → (ran.cause ≡ Cause.Usage) ⊎ (ran.cause ≡ Cause.Memory)) }
+    ensures only_usage { IfOk result (λ ran. ran.cause ≡ Cause.Usage
+        → call_in ran.call.words.items ≡ None) }
+    ensures refused { IfErr result (λ error.
+        MatchResult given (λ _. error ≡ CallError.Memory) (λ why. error ≡ why)) }
 {
     let call = match given {
         Ok(call) => call,
@@ -76,7 +79,8 @@ fn run_call<T: Threads + Wait + Sync, S: Start + Send>(
 
 // Ends as a call did, or for why there was none.
 fn conclude(rt: &HostRuntime, ran: Result<Ran, CallError>) -> ExitCode
-    ensures { MatchResult ran (λ ran. exit_status result ≡ status_of ran.cause) (λ error. exit_status result ≡ status_of (cause_of error)) }
+    ensures { MatchResult ran (λ ran. exit_status result ≡ status_of ran.cause)
+        (λ error. exit_status result ≡ status_of (cause_of error)) }
 {
     match ran {
         Ok(ran) => finish(rt, &ran),

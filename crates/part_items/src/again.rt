@@ -15,31 +15,43 @@ ghost use Rattle.part_items.specs.Fits.{FitsScalar, FitsValue, FitsId, FitsReply
 /// Names, keys and texts are read again.
 #[tactic(auto, using(crate::proofs::Words::name_again, crate::proofs::Words::key_again, crate::proofs::Words::text_again))]
 pub fn words_again()
-    ensures name { (name rest : List ℕ) → is_name name ≡ true → name_at (spell_word name ++ rest) ≡ Ok (name, rest) }
-    ensures key { (key rest : List ℕ) → is_key key ≡ true → key_at (spell_word key ++ rest) ≡ Ok (key, rest) }
-    ensures text { (text rest : List ℕ) → IsText text → text_at (spell_text text ++ rest) ≡ Ok (text, rest) }
+    ensures name { (name rest : List ℕ) → is_name name ≡ true
+        → name_at (spell_word name ++ rest) ≡ Ok (name, rest) }
+    ensures key { (key rest : List ℕ) → is_key key ≡ true
+        → key_at (spell_word key ++ rest) ≡ Ok (key, rest) }
+    ensures text { (text rest : List ℕ) → IsText text
+        → text_at (spell_text text ++ rest) ≡ Ok (text, rest) }
 {}
 
 /// A scalar is read again, and so is a value.
 #[tactic(auto, using(crate::proofs::Values::scalar_again, crate::proofs::Values::value_again))]
 pub fn values_again()
-    ensures scalar { (scalar : Scalar) (rest : List ℕ) → FitsScalar scalar → scalar_at (spell_scalar scalar ++ rest) ≡ Ok (scalar, rest) }
-    ensures value { (value : Value) (rest : List ℕ) → FitsValue value → value_at (spell_value value ++ rest) ≡ Ok (value, rest) }
+    ensures scalar { (scalar : Scalar) (rest : List ℕ) → FitsScalar scalar
+        → scalar_at (spell_scalar scalar ++ rest) ≡ Ok (scalar, rest) }
+    ensures value { (value : Value) (rest : List ℕ) → FitsValue value
+        → value_at (spell_value value ++ rest) ≡ Ok (value, rest) }
 {}
 
 /// An id is read again, and so is who is answered.
 #[tactic(auto, using(crate::proofs::Ids::id_again, crate::proofs::Ids::reply_again))]
 pub fn ids_again()
-    ensures id { (id : Id) (rest : List ℕ) → FitsId id → id_at (spell_id id ++ rest) ≡ Ok (id, rest) }
-    ensures reply { (reply : Reply) (rest : List ℕ) → FitsReply reply → reply_at (spell_reply reply ++ rest) ≡ Ok (reply, rest) }
+    ensures id { (id : Id) (rest : List ℕ) → FitsId id
+        → id_at (spell_id id ++ rest) ≡ Ok (id, rest) }
+    ensures reply { (reply : Reply) (rest : List ℕ) → FitsReply reply
+        → reply_at (spell_reply reply ++ rest) ≡ Ok (reply, rest) }
 {}
 
 /// A message is read again, and so are its parts.
 #[tactic(auto, using(crate::proofs::Messages::answer_again, crate::proofs::Messages::outcome_again, crate::proofs::Messages::spot_again, crate::proofs::Messages::body_again, crate::proofs::Messages::message_again))]
 pub fn messages_again()
-    ensures answer { (answer : Answer) (rest : List ℕ) → FitsAnswer answer → answer_at (spell_answer answer ++ rest) ≡ Ok (answer, rest) }
-    ensures outcome { (outcome : Outcome) (rest : List ℕ) → FitsOutcome outcome → outcome_at (spell_outcome outcome ++ rest) ≡ Ok (outcome, rest) }
-    ensures spot { (spot : Spot) (rest : List ℕ) → FitsSpot spot → spot_at (spell_spot spot ++ rest) ≡ Ok (spot, rest) }
-    ensures body { (body : Body) (rest : List ℕ) → FitsBody body → body_at (spell_body body ++ rest) ≡ Ok (body, rest) }
-    ensures message { (message : Message) (rest : List ℕ) → FitsMessage message → message_at (spell_message message ++ rest) ≡ Ok (message, rest) }
+    ensures answer { (answer : Answer) (rest : List ℕ) → FitsAnswer answer
+        → answer_at (spell_answer answer ++ rest) ≡ Ok (answer, rest) }
+    ensures outcome { (outcome : Outcome) (rest : List ℕ) → FitsOutcome outcome
+        → outcome_at (spell_outcome outcome ++ rest) ≡ Ok (outcome, rest) }
+    ensures spot { (spot : Spot) (rest : List ℕ) → FitsSpot spot
+        → spot_at (spell_spot spot ++ rest) ≡ Ok (spot, rest) }
+    ensures body { (body : Body) (rest : List ℕ) → FitsBody body
+        → body_at (spell_body body ++ rest) ≡ Ok (body, rest) }
+    ensures message { (message : Message) (rest : List ℕ) → FitsMessage message
+        → message_at (spell_message message ++ rest) ≡ Ok (message, rest) }
 {}

@@ -12,8 +12,13 @@ ghost use Rattle.part_items.specs.ItemFits.{FitsFrame};
 /// numbered entries is read again.
 #[tactic(auto, using(crate::proofs::NumberedFrames::numbered_reads, crate::proofs::NumberedFrames::numbered_is, crate::proofs::NumberedFrames::numbered_only, crate::proofs::NumberedFrames::numbered_again))]
 pub fn next_frames()
-    ensures reads { (next : Next) (bytes : List ℕ) (entries : List Entry) → next_frame_in next bytes ≡ Ok entries → frame_in bytes ≡ Ok entries }
-    ensures numbered { (next : Next) (bytes : List ℕ) (entries : List Entry) → next_frame_in next bytes ≡ Ok entries → IsNumbered next entries }
-    ensures only { (next : Next) (bytes : List ℕ) (entries : List Entry) → frame_in bytes ≡ Ok entries → IsNumbered next entries → next_frame_in next bytes ≡ Ok entries }
-    ensures again { (next : Next) (entries : List Entry) → IsNumbered next entries → FitsFrame entries → next_frame_in next (spell_frame entries) ≡ Ok entries }
+    ensures reads { (next : Next) (bytes : List ℕ) (entries : List Entry)
+        → next_frame_in next bytes ≡ Ok entries → frame_in bytes ≡ Ok entries }
+    ensures numbered { (next : Next) (bytes : List ℕ) (entries : List Entry)
+        → next_frame_in next bytes ≡ Ok entries → IsNumbered next entries }
+    ensures only { (next : Next) (bytes : List ℕ) (entries : List Entry)
+        → frame_in bytes ≡ Ok entries → IsNumbered next entries
+        → next_frame_in next bytes ≡ Ok entries }
+    ensures again { (next : Next) (entries : List Entry) → IsNumbered next entries
+        → FitsFrame entries → next_frame_in next (spell_frame entries) ≡ Ok entries }
 {}

@@ -77,7 +77,8 @@ fn take_next_entry(alloc: Global, next: Next, bytes: &[u8]) -> Result<(Entry, &[
 /// No entry, where nothing is left of these bytes.
 fn nothing_left(rest: &[u8], bytes: &[u8]) -> Result<Option<Entry>, ReadError>
     ensures none { IfOk result (λ entry. (entry ≡ None) × (rest.now ≡ [])) }
-    ensures fault { OnErr result ((0 < length rest.now) × (result ≡ Err (fault_in bytes.now (FieldError.Bad (length rest.now))))) }
+    ensures fault { OnErr result ((0 < length rest.now)
+        × (result ≡ Err (fault_in bytes.now (FieldError.Bad (length rest.now))))) }
 {
     if rest.is_empty() {
         return Ok(None);
@@ -101,7 +102,12 @@ impl<'b> Model for FrameReader<'b> {
 
     ghost Value = { Coming };
 
-    ghost view = { λ r. record { next = next_of r.next; left = r.left; entries = to_come (next_of r.next) r.left r.bytes.now r.rest.now } };
+    ghost view = { λ r. record {
+      next = next_of r.next;
+      left = r.left;
+      entries = to_come
+          (next_of r.next) r.left r.bytes.now r.rest.now;
+    } };
 }
 
 impl<'b> FrameReader<'b> {

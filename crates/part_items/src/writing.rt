@@ -30,7 +30,8 @@ fn write_heading(
     incarnation: u64,
     count: u16,
 ) -> Result<(), AllocError>
-    ensures { OnOk result (out.new.items ≡ out.old.items ++ spell_heading position incarnation count) }
+    ensures { OnOk result (out.new.items
+        ≡ out.old.items ++ spell_heading position incarnation count) }
 {
     write_u64(out, position)?;
     write_u64(out, incarnation)?;
@@ -46,7 +47,8 @@ fn write_got(
     message: &Message,
 ) -> Result<(), AllocError>
     requires { CanSpellBody (body_of message.now.body) }
-    ensures { OnOk result (out.new.items ≡ out.old.items ++ spell_item (item_of (Item.Got src inc pos seq message.now))) }
+    ensures { OnOk result (out.new.items
+        ≡ out.old.items ++ spell_item (item_of (Item.Got src inc pos seq message.now))) }
 {
     out.push(GOT)?;
     write_u32(out, src)?;
@@ -55,7 +57,8 @@ fn write_got(
 }
 
 fn write_ran(out: &mut Vec<u8>, from: &Id, to: &Id, stamp: u64) -> Result<(), AllocError>
-    ensures { OnOk result (out.new.items ≡ out.old.items ++ spell_item (item_of (Item.Ran from.now to.now stamp))) }
+    ensures { OnOk result (out.new.items
+        ≡ out.old.items ++ spell_item (item_of (Item.Ran from.now to.now stamp))) }
 {
     out.push(RAN)?;
     write_id(out, from)?;
@@ -65,7 +68,8 @@ fn write_ran(out: &mut Vec<u8>, from: &Id, to: &Id, stamp: u64) -> Result<(), Al
 
 fn write_done(out: &mut Vec<u8>, id: &Id, task: u32, outcome: &Outcome) -> Result<(), AllocError>
     requires { CanSpellOutcome outcome.now }
-    ensures { OnOk result (out.new.items ≡ out.old.items ++ spell_item (item_of (Item.Done id.now task outcome.now))) }
+    ensures { OnOk result (out.new.items
+        ≡ out.old.items ++ spell_item (item_of (Item.Done id.now task outcome.now))) }
 {
     out.push(DONE)?;
     write_id(out, id)?;
@@ -74,7 +78,8 @@ fn write_done(out: &mut Vec<u8>, id: &Id, task: u32, outcome: &Outcome) -> Resul
 }
 
 fn write_fired(out: &mut Vec<u8>, id: &Id, task: u32, stamp: u64) -> Result<(), AllocError>
-    ensures { OnOk result (out.new.items ≡ out.old.items ++ spell_item (item_of (Item.Fired id.now task stamp))) }
+    ensures { OnOk result (out.new.items
+        ≡ out.old.items ++ spell_item (item_of (Item.Fired id.now task stamp))) }
 {
     out.push(FIRED)?;
     write_id(out, id)?;
@@ -83,7 +88,8 @@ fn write_fired(out: &mut Vec<u8>, id: &Id, task: u32, stamp: u64) -> Result<(), 
 }
 
 fn write_trim(out: &mut Vec<u8>, dst: u32, upto: u64, inc: u64, pos: u64) -> Result<(), AllocError>
-    ensures { OnOk result (out.new.items ≡ out.old.items ++ spell_item (item_of (Item.Trim dst upto inc pos))) }
+    ensures { OnOk result (out.new.items
+        ≡ out.old.items ++ spell_item (item_of (Item.Trim dst upto inc pos))) }
 {
     out.push(TRIM)?;
     write_u32(out, dst)?;
@@ -109,7 +115,8 @@ fn write_item(out: &mut Vec<u8>, item: &Item) -> Result<(), AllocError>
 
 fn write_items(out: &mut Vec<u8>, items: &[Item]) -> Result<(), AllocError>
     requires { All CanSpellItem (items_of items.now) }
-    ensures { OnOk result (out.new.items ≡ out.old.items ++ flat_map spell_item (items_of items.now)) }
+    ensures { OnOk result (out.new.items
+        ≡ out.old.items ++ flat_map spell_item (items_of items.now)) }
 {
     for item in items {
         write_item(out, item)?;
@@ -129,7 +136,8 @@ fn write_entry(out: &mut Vec<u8>, entry: &Entry) -> Result<(), AllocError>
 
 fn write_entries(out: &mut Vec<u8>, entries: &[Entry]) -> Result<(), AllocError>
     requires { All CanSpellEntry (entries_of entries.now) }
-    ensures { OnOk result (out.new.items ≡ out.old.items ++ flat_map spell_entry (entries_of entries.now)) }
+    ensures { OnOk result (out.new.items
+        ≡ out.old.items ++ flat_map spell_entry (entries_of entries.now)) }
 {
     for entry in entries {
         write_entry(out, entry)?;

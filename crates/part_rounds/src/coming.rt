@@ -46,14 +46,21 @@ pub(crate) fn take_next<R: Reactions, A: Activities, C: Clock>(
     requires one { count_of state ≡ 1 }
     requires begun { 0 < (state_of state).position }
     requires some { 0 < limit }
-    ensures fills { (rules : Rules) (told : List Said) → rules.flows ≡ R.flows reactions.now → HasSaid rules told port.now → IfOk result (λ next. FillsNext rules (pairs_of told) (state_of state) next) }
-    ensures comes { IfOk result (λ next. Comes (R.flows reactions.now) (state_of state) port.now clients.now limit next) }
-    ensures at { IfOk result (λ next. ComesAt (R.flows reactions.now) (λ name argument. A.gives name argument word) (state_of state) port.now clients.now (C.given clock.old) (C.given clock.new) next) }
-    ensures reads { HasRead (R.flows reactions.now) (state_of state) port.now clients.now (C.given clock.old) (C.given clock.new) }
+    ensures fills { (rules : Rules) (told : List Said) → rules.flows ≡ R.flows reactions.now
+        → HasSaid rules told port.now
+        → IfOk result (λ next. FillsNext rules (pairs_of told) (state_of state) next) }
+    ensures comes { IfOk result (λ next.
+        Comes (R.flows reactions.now) (state_of state) port.now clients.now limit next) }
+    ensures at { IfOk result (λ next. ComesAt (R.flows reactions.now)
+        (λ name argument. A.gives name argument word) (state_of state) port.now clients.now
+        (C.given clock.old) (C.given clock.new) next) }
+    ensures reads { HasRead (R.flows reactions.now) (state_of state) port.now clients.now
+        (C.given clock.old) (C.given clock.new) }
     ensures stamp { IfOk result (λ next. IsByNow (state_of state) (C.latest clock.new) next) }
     ensures latest { C.latest clock.old ≤ C.latest clock.new }
     ensures stops { IfErr result (λ stop. is_of_clock stop ≡ true) }
-    ensures fault { result ≡ Err Stop.ClockFault → HasRisen (C.clock_faults clock.old) (C.clock_faults clock.new) }
+    ensures fault { result ≡ Err Stop.ClockFault
+        → HasRisen (C.clock_faults clock.old) (C.clock_faults clock.new) }
     ensures later { C.clock_faults clock.old ≤ C.clock_faults clock.new }
 {
     let now = match clock.now() {

@@ -79,13 +79,19 @@ pub(crate) fn fill<R: Reactions>(
 ) -> Result<Filling, AllocError>
     requires way { IsUnderWay filling }
     requires room { length filling.items.items ≤ limit }
-    ensures goes_on { (rules : Rules) (told : Told) → rules.flows ≡ R.flows reactions.now → IfOk result (λ next. FillsOn rules told filling next) }
+    ensures goes_on { (rules : Rules) (told : Told) → rules.flows ≡ R.flows reactions.now
+        → IfOk result (λ next. FillsOn rules told filling next) }
     ensures under_way { IfOk result (λ next. IsUnderWay next) }
     ensures few { IfOk result (λ next. length next.items.items ≤ limit) }
-    ensures stamp { IfOk result (λ next. (state_of next.state).stamp ≤ max (state_of filling.state).stamp now) }
-    ensures at { (gives : Giving) → IfOk result (λ next. GoesOnAt (R.flows reactions.now) now gives filling next) }
-    ensures less { IfOk result (λ next. length next.items.items < limit → NoneEnabled (R.flows reactions.now) 1 (state_of next.state) (stamp_at (state_of next.state) now)) }
-    ensures still { IfOk result (λ next. length next.items.items ≡ length filling.items.items → state_of next.state ≡ state_of filling.state) }
+    ensures stamp { IfOk result (λ next. (state_of next.state).stamp
+        ≤ max (state_of filling.state).stamp now) }
+    ensures at { (gives : Giving) → IfOk result
+        (λ next. GoesOnAt (R.flows reactions.now) now gives filling next) }
+    ensures less { IfOk result (λ next. length next.items.items < limit
+        → NoneEnabled (R.flows reactions.now) 1 (state_of next.state)
+        (stamp_at (state_of next.state) now)) }
+    ensures still { IfOk result (λ next. length next.items.items ≡ length filling.items.items
+        → state_of next.state ≡ state_of filling.state) }
 {
     let Filling { state, mut items } = filling;
     let room = limit.saturating_sub(items.len() as u32);

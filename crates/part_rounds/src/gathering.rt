@@ -45,16 +45,26 @@ pub(crate) fn fill_on<R: Reactions>(
 ) -> Result<Filling, Stop>
     requires way { IsUnderWay filling }
     requires room { length filling.items.items ≤ limit }
-    ensures goes_on { (rules : Rules) (told : List Said) → rules.flows ≡ R.flows reactions.now → HasSaid rules told port.now → IfOk result (λ next. FillsOn rules (pairs_of told) filling next) }
+    ensures goes_on { (rules : Rules) (told : List Said) → rules.flows ≡ R.flows reactions.now
+        → HasSaid rules told port.now
+        → IfOk result (λ next. FillsOn rules (pairs_of told) filling next) }
     ensures few { IfOk result (λ next. length next.items.items ≤ limit) }
-    ensures at { (gives : Giving) → IfOk result (λ next. GoesOnAt (R.flows reactions.now) now gives filling next) }
-    ensures less { IfOk result (λ next. length next.items.items < limit → NoneEnabled (R.flows reactions.now) 1 (state_of next.state) (stamp_at (state_of next.state) now)) }
-    ensures stamp { IfOk result (λ next. (state_of next.state).stamp ≤ max (state_of filling.state).stamp now) }
+    ensures at { (gives : Giving) → IfOk result
+        (λ next. GoesOnAt (R.flows reactions.now) now gives filling next) }
+    ensures less { IfOk result (λ next. length next.items.items < limit
+        → NoneEnabled (R.flows reactions.now) 1 (state_of next.state)
+        (stamp_at (state_of next.state) now)) }
+    ensures stamp { IfOk result (λ next. (state_of next.state).stamp
+        ≤ max (state_of filling.state).stamp now) }
     ensures fit { IfOk result (λ next. All FitsItem (items_of next.items.items)) }
     ensures under_way { IfOk result (λ next. IsUnderWay next) }
     ensures longer { IfOk result (λ next. length filling.items.items ≤ length next.items.items) }
-    ensures none { length filling.items.items < limit → IfOk result (λ next. length next.items.items ≡ length filling.items.items → (state_of next.state ≡ state_of filling.state)
-        × All (λ name. CantTake (R.flows reactions.now) (state_of filling.state) port.now name) clients.now × NoneEnabled (R.flows reactions.now) 1 (state_of filling.state) (stamp_at (state_of filling.state) now)) }
+    ensures none { length filling.items.items < limit
+        → IfOk result (λ next. length next.items.items ≡ length filling.items.items
+        → (state_of next.state ≡ state_of filling.state)
+        × All (λ name. CantTake (R.flows reactions.now) (state_of filling.state) port.now name)
+        clients.now × NoneEnabled (R.flows reactions.now) 1 (state_of filling.state)
+        (stamp_at (state_of filling.state) now)) }
     ensures stops { IfErr result (λ stop. stop ≡ Stop.Memory) }
 {
     let taken = take_due(alloc, reactions, filling, port, clients, limit)?;
@@ -82,14 +92,22 @@ pub(crate) fn gather<R: Reactions, A: Activities>(
     requires one { count_of state ≡ 1 }
     requires begun { 0 < (state_of state).position }
     requires some { 0 < limit }
-    ensures fills { (rules : Rules) (told : List Said) → rules.flows ≡ R.flows reactions.now → HasSaid rules told port.now → IfOk result (λ next. Fills rules (pairs_of told) (state_of state) (items_of next.items.items) (state_of next.state)) }
+    ensures fills { (rules : Rules) (told : List Said) → rules.flows ≡ R.flows reactions.now
+        → HasSaid rules told port.now
+        → IfOk result (λ next. Fills rules (pairs_of told) (state_of state)
+        (items_of next.items.items) (state_of next.state)) }
     ensures under_way { IfOk result (λ next. IsUnderWay next) }
     ensures few { IfOk result (λ next. length next.items.items ≤ limit) }
-    ensures at { IfOk result (λ next. IsFilledAt (R.flows reactions.now) chance.now (λ name argument. A.gives name argument chance.word) (state_of state) next) }
-    ensures less { IfOk result (λ next. length next.items.items < limit → NoneEnabled (R.flows reactions.now) 1 (state_of next.state) (stamp_at (state_of next.state) chance.now)) }
-    ensures stamp { IfOk result (λ next. (state_of next.state).stamp ≤ max (state_of state).stamp chance.now) }
+    ensures at { IfOk result (λ next. IsFilledAt (R.flows reactions.now) chance.now
+        (λ name argument. A.gives name argument chance.word) (state_of state) next) }
+    ensures less { IfOk result (λ next. length next.items.items < limit
+        → NoneEnabled (R.flows reactions.now) 1 (state_of next.state)
+        (stamp_at (state_of next.state) chance.now)) }
+    ensures stamp { IfOk result (λ next. (state_of next.state).stamp
+        ≤ max (state_of state).stamp chance.now) }
     ensures fit { IfOk result (λ next. All FitsItem (items_of next.items.items)) }
-    ensures none { IfOk result (λ next. next.items.items ≡ [] → (state_of next.state ≡ state_of state)
+    ensures none { IfOk result (λ next. next.items.items ≡ []
+        → (state_of next.state ≡ state_of state)
         × IsIdle (R.flows reactions.now) (state_of state) port.now clients.now chance.now) }
     ensures stops { IfErr result (λ stop. stop ≡ Stop.Memory) }
 {

@@ -26,8 +26,10 @@ fn run<A: Activities>(
     activity: &Activity,
     word: u64,
 ) -> Result<Outcome, AllocError>
-    ensures given { IfOk result (λ outcome. outcome ≡ A.gives activity.now.name activity.now.argument word) }
-    ensures may { IfOk result (λ outcome. may activity.now.name activity.now.argument outcome ≡ true) }
+    ensures given { IfOk result (λ outcome. outcome
+        ≡ A.gives activity.now.name activity.now.argument word) }
+    ensures may { IfOk result (λ outcome. may activity.now.name activity.now.argument outcome
+        ≡ true) }
 {
     let Ok(name) = str::from_utf8(activity.name.as_bytes()) else {
         unreachable!()
@@ -42,8 +44,11 @@ fn outcome_of_pending<A: Activities>(
     state: &PartState,
     word: u64,
 ) -> Result<Option<Item>, AllocError>
-    ensures some { IfOk result (λ item. IfSome item (λ one. IsOfPending (state_of state.now) (item_of one))) }
-    ensures runs { IfOk result (λ item. IfSome item (λ one. IsRun (λ name argument. A.gives name argument word) (state_of state.now) (item_of one))) }
+    ensures some { IfOk result (λ item. IfSome item
+        (λ one. IsOfPending (state_of state.now) (item_of one))) }
+    ensures runs { IfOk result (λ item. IfSome item
+        (λ one. IsRun (λ name argument. A.gives name argument word) (state_of state.now)
+        (item_of one))) }
     ensures none { IfOk result (λ item. IfNone item (NoActivity (state_of state.now))) }
 {
     let Some((id, task)) = state.pending_task() else {
@@ -67,13 +72,19 @@ pub(crate) fn run_pending<R: Reactions, A: Activities>(
 ) -> Result<Filling, AllocError>
     requires way { IsUnderWay filling }
     requires empty { filling.items.items ≡ [] }
-    ensures goes_on { (rules : Rules) (told : Told) → rules.flows ≡ R.flows reactions.now → IfOk result (λ next. FillsOn rules told filling next) }
-    ensures at { (now : ℕ) → IfOk result (λ next. GoesOnAt (R.flows reactions.now) now (λ name argument. A.gives name argument word) filling next) }
+    ensures goes_on { (rules : Rules) (told : Told) → rules.flows ≡ R.flows reactions.now
+        → IfOk result (λ next. FillsOn rules told filling next) }
+    ensures at { (now : ℕ) → IfOk result
+        (λ next. GoesOnAt (R.flows reactions.now) now (λ name argument. A.gives name argument word)
+        filling next) }
     ensures few { IfOk result (λ next. length next.items.items ≤ 1) }
-    ensures stamp { IfOk result (λ next. (state_of next.state).stamp ≡ (state_of filling.state).stamp) }
-    ensures none { IfOk result (λ next. next.items.items ≡ [] → state_of next.state ≡ state_of filling.state) }
+    ensures stamp { IfOk result (λ next. (state_of next.state).stamp
+        ≡ (state_of filling.state).stamp) }
+    ensures none { IfOk result (λ next. next.items.items ≡ []
+        → state_of next.state ≡ state_of filling.state) }
     ensures idle { IfOk result (λ next. next.items.items ≡ [] → CantEnd (state_of filling.state)) }
-    ensures settled { IfOk result (λ next. All (IsOfPending (state_of filling.state)) (items_of next.items.items)) }
+    ensures settled { IfOk result (λ next.
+        All (IsOfPending (state_of filling.state)) (items_of next.items.items)) }
 {
     let pending = match outcome_of_pending(alloc, acts, &filling.state, word) {
         Ok(pending) => pending,

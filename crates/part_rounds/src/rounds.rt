@@ -75,7 +75,9 @@ fn settle_filling<V: Site, N: Ruled>(
     requires going { store.old.halted ≡ false }
     requires rests { stage_at store.old 0 ≡ Stage.Resting }
     requires room { position < 2 ^ 62 }
-    requires filled { IsFilledTo N.rules (N.origin.logs 0) store.old.latest (of_part 0 (trail_in store.old)) (pairs_of (told_in store.old)) position incarnation (items_of filling.items.items) (state_of filling.state) }
+    requires filled { IsFilledTo N.rules (N.origin.logs 0) store.old.latest
+        (of_part 0 (trail_in store.old)) (pairs_of (told_in store.old)) position incarnation
+        (items_of filling.items.items) (state_of filling.state) }
     requires way { IsUnderWay filling }
     requires said { HasSaid N.rules (told_in store.old) port.old }
     ensures tells { V.tells store.new.site → V.tells store.old.site }
@@ -86,14 +88,29 @@ fn settle_filling<V: Site, N: Ruled>(
     ensures stage { OnOk result (stage_at store.new 0 ≡ Stage.Resting) }
     ensures still { OnOk result (store.new.halted ≡ false) }
     ensures said { OnOk result (HasSaid N.rules (told_in store.new) port.new) }
-    ensures entered { IfOk result (λ state. Entered N.rules (N.origin.logs 0) store.new.latest (of_part 0 (trail_in store.new)) state) }
+    ensures entered { IfOk result (λ state.
+        Entered N.rules (N.origin.logs 0) store.new.latest (of_part 0 (trail_in store.new)) state) }
     ensures unsaid { IfOk result (λ state. NoneUnsaid (state_of state) port.new clients.now) }
-    ensures labels { OnOk result (count_labels (of_part 0 (trail_in store.new)) ≡ count_labels (of_part 0 (trail_in store.old)) + length filling.items.items) }
-    ensures settles { SettlesThenSays clients.now (record { position = position; incarnation = incarnation; items = items_of filling.items.items }) (of_part 0 (trail_in store.old)) (told_in store.old) (of_part 0 (trail_in store.new)) (told_in store.new) }
-    ensures no_more { count_labels (of_part 0 (trail_in store.new)) ≤ count_labels (of_part 0 (trail_in store.old)) + length filling.items.items }
-    ensures full { (of n : ℕ) → result ≡ Err (Stop.Full of n) → IsFull N.rules (length filling.items.items) store.new.latest (of_part 0 (trail_in store.new)) (pairs_of (told_in store.new)) store.new.segment (way_of store.new.ways.items 0) of n }
-    ensures fault { result ≡ Err Stop.SiteFault → HasRisen (V.disk_faults store.old.site) (V.disk_faults store.new.site) }
-    ensures say_fault { result ≡ Err Stop.SayFault → HasRisen (V.say_faults store.old.site) (V.say_faults store.new.site) }
+    ensures labels { OnOk result (count_labels (of_part 0 (trail_in store.new))
+        ≡ count_labels (of_part 0 (trail_in store.old)) + length filling.items.items) }
+    ensures settles { SettlesThenSays clients.now
+        (record {
+          position = position;
+          incarnation = incarnation;
+          items = items_of
+              filling.items.items;
+        }) (of_part 0 (trail_in store.old)) (told_in store.old)
+        (of_part 0 (trail_in store.new)) (told_in store.new) }
+    ensures no_more { count_labels (of_part 0 (trail_in store.new))
+        ≤ count_labels (of_part 0 (trail_in store.old)) + length filling.items.items }
+    ensures full { (of n : ℕ) → result ≡ Err (Stop.Full of n)
+        → IsFull N.rules (length filling.items.items) store.new.latest
+        (of_part 0 (trail_in store.new)) (pairs_of (told_in store.new)) store.new.segment
+        (way_of store.new.ways.items 0) of n }
+    ensures fault { result ≡ Err Stop.SiteFault
+        → HasRisen (V.disk_faults store.old.site) (V.disk_faults store.new.site) }
+    ensures say_fault { result ≡ Err Stop.SayFault
+        → HasRisen (V.say_faults store.old.site) (V.say_faults store.new.site) }
     ensures no_clock { result ≡ Err Stop.ClockFault → ⊥ }
     ensures no_spent { (of n : ℕ) → result ≡ Err (Stop.Spent of n) → ⊥ }
     ensures later { V.disk_faults store.old.site ≤ V.disk_faults store.new.site }
@@ -137,7 +154,8 @@ fn go_round<V: Site, N: Ruled, R: Reactions, A: Activities, C: Clock>(
     requires short { bounds.incarnation < 2 ^ 62 }
     requires some { 0 < bounds.limit }
     requires few { bounds.limit ≤ 64 }
-    requires entered { Entered N.rules (N.origin.logs 0) store.old.latest (of_part 0 (trail_in store.old)) state }
+    requires entered { Entered N.rules (N.origin.logs 0) store.old.latest
+        (of_part 0 (trail_in store.old)) state }
     requires unsaid { NoneUnsaid (state_of state) port.old clients.now }
     requires said { HasSaid N.rules (told_in store.old) port.old }
     ensures tells { V.tells store.new.site → V.tells store.old.site }
@@ -149,14 +167,25 @@ fn go_round<V: Site, N: Ruled, R: Reactions, A: Activities, C: Clock>(
     ensures stage { OnOk result (stage_at store.new 0 ≡ Stage.Resting) }
     ensures still { OnOk result (store.new.halted ≡ false) }
     ensures said { OnOk result (HasSaid N.rules (told_in store.new) port.new) }
-    ensures leaves { IfOk result (λ round. LeavesRound N.rules (N.origin.logs 0) store.new.latest (of_part 0 (trail_in store.old)) (of_part 0 (trail_in store.new)) port.new clients.now round) }
-    ensures goes { GoesByClock N.rules A.gives bounds.limit clients.now (C.given clock.old) (of_part 0 (trail_in store.old)) (told_in store.old) (C.given clock.new) (of_part 0 (trail_in store.new)) (told_in store.new) }
-    ensures no_more { count_labels (of_part 0 (trail_in store.new)) ≤ count_labels (of_part 0 (trail_in store.old)) + bounds.limit }
-    ensures spent { (of n : ℕ) → result ≡ Err (Stop.Spent of n) → IsSpent N.rules (of_part 0 (trail_in store.new)) (pairs_of (told_in store.new)) of n }
-    ensures full { (of n : ℕ) → result ≡ Err (Stop.Full of n) → IsFull N.rules bounds.limit store.new.latest (of_part 0 (trail_in store.new)) (pairs_of (told_in store.new)) store.new.segment (way_of store.new.ways.items 0) of n }
-    ensures fault { result ≡ Err Stop.SiteFault → HasRisen (V.disk_faults store.old.site) (V.disk_faults store.new.site) }
-    ensures say_fault { result ≡ Err Stop.SayFault → HasRisen (V.say_faults store.old.site) (V.say_faults store.new.site) }
-    ensures clock_fault { result ≡ Err Stop.ClockFault → HasRisen (C.clock_faults clock.old) (C.clock_faults clock.new) }
+    ensures leaves { IfOk result (λ round.
+        LeavesRound N.rules (N.origin.logs 0) store.new.latest (of_part 0 (trail_in store.old))
+        (of_part 0 (trail_in store.new)) port.new clients.now round) }
+    ensures goes { GoesByClock N.rules A.gives bounds.limit clients.now (C.given clock.old)
+        (of_part 0 (trail_in store.old)) (told_in store.old) (C.given clock.new)
+        (of_part 0 (trail_in store.new)) (told_in store.new) }
+    ensures no_more { count_labels (of_part 0 (trail_in store.new))
+        ≤ count_labels (of_part 0 (trail_in store.old)) + bounds.limit }
+    ensures spent { (of n : ℕ) → result ≡ Err (Stop.Spent of n)
+        → IsSpent N.rules (of_part 0 (trail_in store.new)) (pairs_of (told_in store.new)) of n }
+    ensures full { (of n : ℕ) → result ≡ Err (Stop.Full of n)
+        → IsFull N.rules bounds.limit store.new.latest (of_part 0 (trail_in store.new))
+        (pairs_of (told_in store.new)) store.new.segment (way_of store.new.ways.items 0) of n }
+    ensures fault { result ≡ Err Stop.SiteFault
+        → HasRisen (V.disk_faults store.old.site) (V.disk_faults store.new.site) }
+    ensures say_fault { result ≡ Err Stop.SayFault
+        → HasRisen (V.say_faults store.old.site) (V.say_faults store.new.site) }
+    ensures clock_fault { result ≡ Err Stop.ClockFault
+        → HasRisen (C.clock_faults clock.old) (C.clock_faults clock.new) }
     ensures later { V.disk_faults store.old.site ≤ V.disk_faults store.new.site }
     ensures say_later { V.say_faults store.old.site ≤ V.say_faults store.new.site }
     ensures clock_later { C.clock_faults clock.old ≤ C.clock_faults clock.new }
@@ -164,7 +193,15 @@ fn go_round<V: Site, N: Ruled, R: Reactions, A: Activities, C: Clock>(
     let position = state.position() - 1;
     let chance = word(bounds.incarnation, 0, position);
     match take_next(
-        alloc, reactions, acts, clock, state, port, clients, chance, bounds.limit,
+        alloc,
+        reactions,
+        acts,
+        clock,
+        state,
+        port,
+        clients,
+        chance,
+        bounds.limit,
     )? {
         Coming::Filled(filling, now) => {
             if position >= POSITION_LIMIT {
@@ -177,7 +214,13 @@ fn go_round<V: Site, N: Ruled, R: Reactions, A: Activities, C: Clock>(
             store.raise(now);
             let more = filling.items.len() as u64;
             let state = settle_filling(
-                alloc, store, port, clients, position, bounds.incarnation, filling,
+                alloc,
+                store,
+                port,
+                clients,
+                position,
+                bounds.incarnation,
+                filling,
             )?;
             Ok(Round::On(state, more))
         }
@@ -206,7 +249,8 @@ pub fn drive<V: Site, N: Ruled, R: Reactions, A: Activities, C: Clock>(
     requires short { bounds.incarnation < 2 ^ 62 }
     requires some { 0 < bounds.limit }
     requires few { bounds.limit ≤ 64 }
-    requires stands { StateStands N.rules (N.origin.logs 0) (of_part 0 (trail_in store.old)) (state_of state) }
+    requires stands { StateStands N.rules (N.origin.logs 0) (of_part 0 (trail_in store.old))
+        (state_of state) }
     requires new { trail_in store.old ≡ [] }
     requires own { IsOwnSound state }
     requires one { count_of state ≡ 1 }
@@ -221,14 +265,24 @@ pub fn drive<V: Site, N: Ruled, R: Reactions, A: Activities, C: Clock>(
     ensures stage { OnOk result (stage_at store.new 0 ≡ Stage.Resting) }
     ensures still { OnOk result (store.new.halted ≡ false) }
     ensures said { OnOk result (HasSaid N.rules (told_in store.new) port.new) }
-    ensures leaves { IfOk result (λ end. Leaves N.rules (N.origin.logs 0) store.new.latest (of_part 0 (trail_in store.new)) (pairs_of (told_in store.new)) port.new clients.now bounds.steps end) }
-    ensures goes { GoesByClock N.rules A.gives bounds.limit clients.now (C.given clock.old) (of_part 0 (trail_in store.old)) (told_in store.old) (C.given clock.new) (of_part 0 (trail_in store.new)) (told_in store.new) }
+    ensures leaves { IfOk result (λ end. Leaves N.rules (N.origin.logs 0) store.new.latest
+        (of_part 0 (trail_in store.new)) (pairs_of (told_in store.new)) port.new clients.now
+        bounds.steps end) }
+    ensures goes { GoesByClock N.rules A.gives bounds.limit clients.now (C.given clock.old)
+        (of_part 0 (trail_in store.old)) (told_in store.old) (C.given clock.new)
+        (of_part 0 (trail_in store.new)) (told_in store.new) }
     ensures no_more { count_labels (of_part 0 (trail_in store.new)) < bounds.steps + bounds.limit }
-    ensures spent { (of n : ℕ) → result ≡ Err (Stop.Spent of n) → IsSpent N.rules (of_part 0 (trail_in store.new)) (pairs_of (told_in store.new)) of n }
-    ensures full { (of n : ℕ) → result ≡ Err (Stop.Full of n) → IsFull N.rules bounds.limit store.new.latest (of_part 0 (trail_in store.new)) (pairs_of (told_in store.new)) store.new.segment (way_of store.new.ways.items 0) of n }
-    ensures fault { result ≡ Err Stop.SiteFault → HasRisen (V.disk_faults store.old.site) (V.disk_faults store.new.site) }
-    ensures say_fault { result ≡ Err Stop.SayFault → HasRisen (V.say_faults store.old.site) (V.say_faults store.new.site) }
-    ensures clock_fault { result ≡ Err Stop.ClockFault → HasRisen (C.clock_faults clock.old) (C.clock_faults clock.new) }
+    ensures spent { (of n : ℕ) → result ≡ Err (Stop.Spent of n)
+        → IsSpent N.rules (of_part 0 (trail_in store.new)) (pairs_of (told_in store.new)) of n }
+    ensures full { (of n : ℕ) → result ≡ Err (Stop.Full of n)
+        → IsFull N.rules bounds.limit store.new.latest (of_part 0 (trail_in store.new))
+        (pairs_of (told_in store.new)) store.new.segment (way_of store.new.ways.items 0) of n }
+    ensures fault { result ≡ Err Stop.SiteFault
+        → HasRisen (V.disk_faults store.old.site) (V.disk_faults store.new.site) }
+    ensures say_fault { result ≡ Err Stop.SayFault
+        → HasRisen (V.say_faults store.old.site) (V.say_faults store.new.site) }
+    ensures clock_fault { result ≡ Err Stop.ClockFault
+        → HasRisen (C.clock_faults clock.old) (C.clock_faults clock.new) }
     ensures later { V.disk_faults store.old.site ≤ V.disk_faults store.new.site }
     ensures say_later { V.say_faults store.old.site ≤ V.say_faults store.new.site }
     ensures clock_later { C.clock_faults clock.old ≤ C.clock_faults clock.new }

@@ -18,10 +18,14 @@ pub trait Ruled: Start {
     ghost one: { Self.origin.count ≡ 1 };
 
     /// What follows by the rules may be committed.
-    ghost follows: { (latest : ℕ) (trail : List Settled) (told : List Said) (going : List Entry) → Follows rules latest (of_part 0 trail) (pairs_of told) going → Self.may_follow latest trail told 0 going };
+    ghost follows: { (latest : ℕ) (trail : List Settled) (told : List Said) (going : List Entry)
+        → Follows rules latest (of_part 0 trail) (pairs_of told) going
+        → Self.may_follow latest trail told 0 going };
 
     /// What answers by the rules may be said.
-    ghost answers: { (trail : List Settled) (told : List Said) (one : Said) (line : List ℕ) → Answers rules (of_part 0 trail) (pairs_of told) one.client one.number line → Self.may_say trail told one line };
+    ghost answers: { (trail : List Settled) (told : List Said) (one : Said) (line : List ℕ)
+        → Answers rules (of_part 0 trail) (pairs_of told) one.client one.number line
+        → Self.may_say trail told one line };
 }
 
 /// The rules that a call picks: without a pick nobody asks for anything.
@@ -29,7 +33,12 @@ impl Ruled for Brand {
     ghost use Rattle.std.specs.Prelude.{[], refl};
     ghost use Rattle.dura_model.specs.Partition.{fresh};
 
-    ghost rules = { record { flows = record { flows = []; classes = [] }; begin = fresh 0; incarnation = 0; requests = [] } };
+    ghost rules = { record {
+      flows = record { flows = []; classes = [] };
+      begin = fresh 0;
+      incarnation = 0;
+      requests = [];
+    } };
 
     ghost one = { refl };
 

@@ -43,7 +43,8 @@ pub(crate) fn say_next<V: Site, N: Ruled>(
 ) -> Result<bool, Stop>
     requires sound { IsSound store.old }
     requires going { store.old.halted ≡ false }
-    requires made { placed N.rules.flows 1 N.rules.begin (of_part 0 (trail_in store.old)) ≡ Ok (state_of state.now) }
+    requires made { placed N.rules.flows 1 N.rules.begin (of_part 0 (trail_in store.old))
+        ≡ Ok (state_of state.now) }
     requires said { HasSaid N.rules (told_in store.old) port.old }
     ensures tells { V.tells store.new.site → V.tells store.old.site }
     ensures sound { IsSound store.new }
@@ -55,11 +56,15 @@ pub(crate) fn say_next<V: Site, N: Ruled>(
     ensures whole { result ≢ Err Stop.SayFault → store.new.cut ≡ false }
     ensures still { OnOk result (store.new.halted ≡ false) }
     ensures said { OnOk result (HasSaid N.rules (told_in store.new) port.new) }
-    ensures more { result ≡ Ok true → (count_told (pairs_of (told_in store.old)) client.now < length (requests_of client.now N.rules.requests))
-        × (count_told (pairs_of (told_in store.new)) client.now ≡ count_told (pairs_of (told_in store.old)) client.now + 1) }
-    ensures none { result ≡ Ok false → (next_answer (state_of state.now) port.old client.now ≡ None) × (port.new ≡ port.old) }
+    ensures more { result ≡ Ok true → (count_told (pairs_of (told_in store.old)) client.now
+        < length (requests_of client.now N.rules.requests))
+        × (count_told (pairs_of (told_in store.new)) client.now
+        ≡ count_told (pairs_of (told_in store.old)) client.now + 1) }
+    ensures none { result ≡ Ok false → (next_answer (state_of state.now) port.old client.now ≡ None)
+        × (port.new ≡ port.old) }
     ensures stops { IfErr result (λ stop. is_of_tape stop ≡ true) }
-    ensures fault { result ≡ Err Stop.SayFault → HasRisen (V.say_faults store.old.site) (V.say_faults store.new.site) }
+    ensures fault { result ≡ Err Stop.SayFault
+        → HasRisen (V.say_faults store.old.site) (V.say_faults store.new.site) }
     ensures later { V.say_faults store.old.site ≤ V.say_faults store.new.site }
     ensures disk_faults { V.disk_faults store.new.site ≡ V.disk_faults store.old.site }
     ensures others { OnOk result (KeepsDue client.now port.old port.new) }
@@ -92,7 +97,8 @@ fn say_all<V: Site, N: Ruled>(
 ) -> Result<(), Stop>
     requires sound { IsSound store.old }
     requires going { store.old.halted ≡ false }
-    requires made { placed N.rules.flows 1 N.rules.begin (of_part 0 (trail_in store.old)) ≡ Ok (state_of state.now) }
+    requires made { placed N.rules.flows 1 N.rules.begin (of_part 0 (trail_in store.old))
+        ≡ Ok (state_of state.now) }
     requires said { HasSaid N.rules (told_in store.old) port.old }
     ensures tells { V.tells store.new.site → V.tells store.old.site }
     ensures sound { IsSound store.new }
@@ -107,7 +113,8 @@ fn say_all<V: Site, N: Ruled>(
     ensures none { OnOk result (next_answer (state_of state.now) port.new client.now ≡ None) }
     ensures others { OnOk result (KeepsDue client.now port.old port.new) }
     ensures stops { IfErr result (λ stop. is_of_tape stop ≡ true) }
-    ensures fault { result ≡ Err Stop.SayFault → HasRisen (V.say_faults store.old.site) (V.say_faults store.new.site) }
+    ensures fault { result ≡ Err Stop.SayFault
+        → HasRisen (V.say_faults store.old.site) (V.say_faults store.new.site) }
     ensures later { V.say_faults store.old.site ≤ V.say_faults store.new.site }
     ensures disk_faults { V.disk_faults store.new.site ≡ V.disk_faults store.old.site }
 {
@@ -125,7 +132,8 @@ pub(crate) fn say_due<V: Site, N: Ruled>(
 ) -> Result<(), Stop>
     requires sound { IsSound store.old }
     requires going { store.old.halted ≡ false }
-    requires made { placed N.rules.flows 1 N.rules.begin (of_part 0 (trail_in store.old)) ≡ Ok (state_of state.now) }
+    requires made { placed N.rules.flows 1 N.rules.begin (of_part 0 (trail_in store.old))
+        ≡ Ok (state_of state.now) }
     requires said { HasSaid N.rules (told_in store.old) port.old }
     ensures tells { V.tells store.new.site → V.tells store.old.site }
     ensures sound { IsSound store.new }
@@ -137,9 +145,11 @@ pub(crate) fn say_due<V: Site, N: Ruled>(
     ensures whole { result ≢ Err Stop.SayFault → store.new.cut ≡ false }
     ensures still { OnOk result (store.new.halted ≡ false) }
     ensures said { OnOk result (HasSaid N.rules (told_in store.new) port.new) }
-    ensures none { OnOk result (All (λ name. next_answer (state_of state.now) port.new name ≡ None) clients.now) }
+    ensures none { OnOk result (All (λ name. next_answer (state_of state.now) port.new name ≡ None)
+        clients.now) }
     ensures stops { IfErr result (λ stop. is_of_tape stop ≡ true) }
-    ensures fault { result ≡ Err Stop.SayFault → HasRisen (V.say_faults store.old.site) (V.say_faults store.new.site) }
+    ensures fault { result ≡ Err Stop.SayFault
+        → HasRisen (V.say_faults store.old.site) (V.say_faults store.new.site) }
     ensures later { V.say_faults store.old.site ≤ V.say_faults store.new.site }
     ensures disk_faults { V.disk_faults store.new.site ≡ V.disk_faults store.old.site }
 {

@@ -25,7 +25,8 @@ use std::alloc::Global;
 fn is_pending(state: &PartState) -> bool
     requires { IsSound state.now }
     ensures pending { result ≡ true → IsPending (state_of state.now) }
-    ensures none { result ≡ false → NoActivity (state_of state.now) × NoTimer (state_of state.now).timers }
+    ensures none { result ≡ false → NoActivity (state_of state.now)
+        × NoTimer (state_of state.now).timers }
 {
     if let Some(_) = state.pending_task() {
         return true;
@@ -49,8 +50,11 @@ pub(crate) fn stop_at<R: Reactions>(
     requires sound { IsSound state }
     requires one { count_of state ≡ 1 }
     requires begun { 0 < (state_of state).position }
-    ensures comes { IfOk result (λ end. StopsAt (R.flows reactions.now) (state_of state) port.now clients.now labels end) }
-    ensures stirs { (rules : Rules) (told : List Said) → rules.flows ≡ R.flows reactions.now → HasSaid rules told port.now → IfOk result (λ end. StirsAt rules (pairs_of told) (state_of state) end) }
+    ensures comes { IfOk result (λ end. StopsAt (R.flows reactions.now) (state_of state) port.now
+        clients.now labels end) }
+    ensures stirs { (rules : Rules) (told : List Said) → rules.flows ≡ R.flows reactions.now
+        → HasSaid rules told port.now
+        → IfOk result (λ end. StirsAt rules (pairs_of told) (state_of state) end) }
     ensures stops { IfErr result (λ stop. stop ≡ Stop.Memory) }
 {
     if is_pending(&state) {

@@ -24,8 +24,12 @@ use std::alloc::{AllocError, Global};
 
 /// What is due of a client, unless it was taken.
 fn due_message(state: &PartState, port: &Port, client: &Name) -> Result<Option<Message>, AllocError>
-    ensures some { IfOk result (λ message. IfSome message (λ one. (r : Request) × (due_of client.now port.now ≡ Some r) × (message_of one ≡ r.message))) }
-    ensures none { IfOk result (λ message. IfNone message ((r : Request) → due_of client.now port.now ≡ Some r → is_some ((state_of state.now).taken (a_client client.now) r.number) ≡ true)) }
+    ensures some { IfOk result (λ message.
+        IfSome message (λ one. (r : Request) × (due_of client.now port.now ≡ Some r)
+        × (message_of one ≡ r.message))) }
+    ensures none { IfOk result (λ message.
+        IfNone message ((r : Request) → due_of client.now port.now ≡ Some r
+        → is_some ((state_of state.now).taken (a_client client.now) r.number) ≡ true)) }
 {
     let Some(request) = port.next_of(client) else {
         return Ok(None);
@@ -48,13 +52,19 @@ fn take_of<R: Reactions>(
     client: &Name,
 ) -> Result<Filling, AllocError>
     requires way { IsUnderWay filling }
-    ensures goes_on { (rules : Rules) (told : List Said) → rules.flows ≡ R.flows reactions.now → HasSaid rules told port.now → IfOk result (λ next. FillsOn rules (pairs_of told) filling next) }
-    ensures at { (now : ℕ) (gives : Giving) → IfOk result (λ next. GoesOnAt (R.flows reactions.now) now gives filling next) }
+    ensures goes_on { (rules : Rules) (told : List Said) → rules.flows ≡ R.flows reactions.now
+        → HasSaid rules told port.now
+        → IfOk result (λ next. FillsOn rules (pairs_of told) filling next) }
+    ensures at { (now : ℕ) (gives : Giving)
+        → IfOk result (λ next. GoesOnAt (R.flows reactions.now) now gives filling next) }
     ensures under_way { IfOk result (λ next. IsUnderWay next) }
     ensures longer { IfOk result (λ next. length filling.items.items ≤ length next.items.items) }
     ensures one { IfOk result (λ next. length next.items.items ≤ length filling.items.items + 1) }
-    ensures stamp { IfOk result (λ next. (state_of next.state).stamp ≡ (state_of filling.state).stamp) }
-    ensures none { IfOk result (λ next. length next.items.items ≡ length filling.items.items → (state_of next.state ≡ state_of filling.state) × CantTake (R.flows reactions.now) (state_of filling.state) port.now client.now) }
+    ensures stamp { IfOk result (λ next. (state_of next.state).stamp
+        ≡ (state_of filling.state).stamp) }
+    ensures none { IfOk result (λ next. length next.items.items ≡ length filling.items.items
+        → (state_of next.state ≡ state_of filling.state)
+        × CantTake (R.flows reactions.now) (state_of filling.state) port.now client.now) }
 {
     let due = match due_message(&filling.state, port, client) {
         Ok(due) => due,
@@ -83,14 +93,21 @@ pub(crate) fn take_due<R: Reactions>(
 ) -> Result<Filling, AllocError>
     requires way { IsUnderWay filling }
     requires room { length filling.items.items ≤ limit }
-    ensures goes_on { (rules : Rules) (told : List Said) → rules.flows ≡ R.flows reactions.now → HasSaid rules told port.now → IfOk result (λ next. FillsOn rules (pairs_of told) filling next) }
-    ensures at { (now : ℕ) (gives : Giving) → IfOk result (λ next. GoesOnAt (R.flows reactions.now) now gives filling next) }
+    ensures goes_on { (rules : Rules) (told : List Said) → rules.flows ≡ R.flows reactions.now
+        → HasSaid rules told port.now
+        → IfOk result (λ next. FillsOn rules (pairs_of told) filling next) }
+    ensures at { (now : ℕ) (gives : Giving)
+        → IfOk result (λ next. GoesOnAt (R.flows reactions.now) now gives filling next) }
     ensures under_way { IfOk result (λ next. IsUnderWay next) }
     ensures longer { IfOk result (λ next. length filling.items.items ≤ length next.items.items) }
     ensures few { IfOk result (λ next. length next.items.items ≤ limit) }
-    ensures stamp { IfOk result (λ next. (state_of next.state).stamp ≡ (state_of filling.state).stamp) }
-    ensures none { length filling.items.items < limit → IfOk result (λ next. length next.items.items ≡ length filling.items.items
-        → (state_of next.state ≡ state_of filling.state) × All (λ name. CantTake (R.flows reactions.now) (state_of filling.state) port.now name) clients.now) }
+    ensures stamp { IfOk result (λ next. (state_of next.state).stamp
+        ≡ (state_of filling.state).stamp) }
+    ensures none { length filling.items.items < limit
+        → IfOk result (λ next. length next.items.items ≡ length filling.items.items
+        → (state_of next.state ≡ state_of filling.state)
+        × All (λ name. CantTake (R.flows reactions.now) (state_of filling.state) port.now name)
+        clients.now) }
 {
     let mut filling = filling;
     for client in clients {

@@ -48,8 +48,10 @@ impl PartRows {
     /// The message that has waited longest of those that their receivers take.
     #[tactic(auto, using(crate::proofs::Opening::passed_over, crate::proofs::Opening::found_here, crate::proofs::Opening::found_nowhere, crate::proofs::Opening::is_there, crate::proofs::Opening::oldest_here, crate::proofs::Opening::oldest_nowhere))]
     pub fn first_open(&self) -> Option<&Message>
-        ensures oldest { option_map (λ m. message_of m.now) result ≡ oldest_open (part_of self.now) }
-        ensures some { IfSome result (λ m. IsOpen (part_of self.now) (id_of m.now.from) (id_of m.now.to)) }
+        ensures oldest { option_map (λ m. message_of m.now) result
+            ≡ oldest_open (part_of self.now) }
+        ensures some { IfSome result (λ m. IsOpen (part_of self.now) (id_of m.now.from)
+            (id_of m.now.to)) }
         ensures none { IfNone result (NoneOpen (part_of self.now)) }
     {
         let length = self.queue.len();
@@ -66,7 +68,9 @@ impl PartRows {
 
     /// An instance is kept.
     pub fn put_instance(&mut self, id: &Id, row: Row) -> Result<(), AllocError>
-        ensures put { OnOk result (part_of self.new ≡ record (part_of self.old) { instances = at_id (part_of self.old).instances (id_of id.now) (Some (row_of row)) }) }
+        ensures put { OnOk result (part_of self.new
+            ≡ record (part_of self.old)
+            { instances = at_id (part_of self.old).instances (id_of id.now) (Some (row_of row)) }) }
         ensures timers { self.new.timers ≡ self.old.timers }
         ensures partitions { self.new.partitions ≡ self.old.partitions }
     {
@@ -77,7 +81,10 @@ impl PartRows {
 
     /// An entity is kept.
     pub fn put_entity(&mut self, id: &Id, entity: Entity) -> Result<(), AllocError>
-        ensures put { OnOk result (part_of self.new ≡ record (part_of self.old) { entities = at_id (part_of self.old).entities (id_of id.now) (Some (entity_of entity)) }) }
+        ensures put { OnOk result (part_of self.new
+            ≡ record (part_of self.old) {
+              entities = at_id (part_of self.old).entities (id_of id.now) (Some (entity_of entity));
+            }) }
         ensures timers { self.new.timers ≡ self.old.timers }
         ensures partitions { self.new.partitions ≡ self.old.partitions }
     {
@@ -89,7 +96,8 @@ impl PartRows {
     /// An instance is taken out of its row.
     pub fn take_instance(&mut self, id: &Id) -> Option<Row>
         ensures row { option_map row_of result ≡ (part_of self.old).instances (id_of id.now) }
-        ensures taken { part_of self.new ≡ record (part_of self.old) { instances = at_id (part_of self.old).instances (id_of id.now) None } }
+        ensures taken { part_of self.new ≡ record (part_of self.old)
+            { instances = at_id (part_of self.old).instances (id_of id.now) None } }
         ensures timers { self.new.timers ≡ self.old.timers }
         ensures partitions { self.new.partitions ≡ self.old.partitions }
     {
@@ -99,7 +107,8 @@ impl PartRows {
     /// An entity is taken out of its row.
     pub fn take_entity(&mut self, id: &Id) -> Option<Entity>
         ensures entity { option_map entity_of result ≡ (part_of self.old).entities (id_of id.now) }
-        ensures taken { part_of self.new ≡ record (part_of self.old) { entities = at_id (part_of self.old).entities (id_of id.now) None } }
+        ensures taken { part_of self.new ≡ record (part_of self.old)
+            { entities = at_id (part_of self.old).entities (id_of id.now) None } }
         ensures timers { self.new.timers ≡ self.old.timers }
         ensures partitions { self.new.partitions ≡ self.old.partitions }
     {
@@ -108,7 +117,10 @@ impl PartRows {
 
     /// An instance is kept in the place of its row, or no longer where there is none.
     pub fn replace_instance(&mut self, id: &Id, row: Option<Row>) -> Result<(), AllocError>
-        ensures put { OnOk result (part_of self.new ≡ record (part_of self.old) { instances = at_id (part_of self.old).instances (id_of id.now) (option_map row_of row) }) }
+        ensures put { OnOk result (part_of self.new
+            ≡ record (part_of self.old) {
+              instances = at_id (part_of self.old).instances (id_of id.now) (option_map row_of row);
+            }) }
         ensures timers { self.new.timers ≡ self.old.timers }
         ensures partitions { self.new.partitions ≡ self.old.partitions }
     {

@@ -16,7 +16,8 @@ use std::alloc::AllocError;
 impl PartRows {
     /// Whether a stream comes from another partition.
     fn is_other(&self, partition: u32) -> bool
-        ensures { result ≡ (not (partition == self.now.number) && nat_lt partition self.now.partitions) }
+        ensures { result ≡ (not (partition == self.now.number) && nat_lt partition
+            self.now.partitions) }
     {
         partition != self.number && partition < self.partitions
     }
@@ -24,7 +25,13 @@ impl PartRows {
     /// The next message of a stream is taken in by the entry under way.
     #[tactic(auto, using(crate::proofs::Posting::joined))]
     fn take_in(&mut self, source: u32, number: u64, message: Message) -> Result<(), AllocError>
-        ensures taken { OnOk result (part_of self.new ≡ record (part_of self.old) { queue = (part_of self.old).queue ++ message_of message ∷ []; inboxes = with_inbox (part_of self.old).inboxes source (record { next = number + 1; reader = entry_of (part_of self.old) }) }) }
+        ensures taken { OnOk result (part_of self.new
+            ≡ record (part_of self.old) {
+              queue = (part_of self.old).queue ++ message_of message
+                  ∷ [];
+              inboxes = with_inbox (part_of self.old).inboxes source
+                  (record { next = number + 1; reader = entry_of (part_of self.old) });
+            }) }
         ensures timers { self.new.timers ≡ self.old.timers }
         ensures partitions { self.new.partitions ≡ self.old.partitions }
     {
@@ -41,7 +48,10 @@ impl PartRows {
     /// Whether it is the next message of a stream from another partition, to a receiver here.
     fn is_next(&self, source: u32, number: u64, message: &Message) -> bool
         requires { 0 < self.now.partitions }
-        ensures { result ≡ (not (source == self.now.number) && (nat_lt source self.now.partitions && (number == ((part_of self.now).inboxes source).next && home self.now.partitions (id_of message.now.to) == self.now.number))) }
+        ensures { result ≡ (not (source == self.now.number) &&
+            (nat_lt source self.now.partitions &&
+            (number == ((part_of self.now).inboxes source).next && home self.now.partitions
+            (id_of message.now.to) == self.now.number))) }
     {
         self.is_other(source)
             && number == self.inboxes.next(source)
@@ -56,7 +66,10 @@ impl PartRows {
         message: Message,
     ) -> Result<bool, AllocError>
         requires { 0 < self.old.partitions }
-        ensures accepts { IfOk result (λ yes. Accepts yes (part_of self.old) (part_of self.new) (got_in self.old.partitions (part_of self.old) (identity_of source.now) number (message_of message))) }
+        ensures accepts { IfOk result (λ yes.
+            Accepts yes (part_of self.old) (part_of self.new)
+            (got_in self.old.partitions (part_of self.old) (identity_of source.now) number
+            (message_of message))) }
         ensures timers { self.new.timers ≡ self.old.timers }
         ensures partitions { self.new.partitions ≡ self.old.partitions }
     {
@@ -70,7 +83,8 @@ impl PartRows {
 
     /// The stream to another partition begins later, not past its end; else this is refused.
     pub fn trim(&mut self, reader: &Identity, number: u64) -> bool
-        ensures accepts { Accepts result (part_of self.old) (part_of self.new) (trim_in self.old.partitions (part_of self.old) (identity_of reader.now) number) }
+        ensures accepts { Accepts result (part_of self.old) (part_of self.new)
+            (trim_in self.old.partitions (part_of self.old) (identity_of reader.now) number) }
         ensures timers { self.new.timers ≡ self.old.timers }
         ensures partitions { self.new.partitions ≡ self.old.partitions }
     {

@@ -135,7 +135,8 @@ impl PartRows {
     #[tactic(auto, using(crate::proofs::Posting::joined))]
     pub fn post(&mut self, alloc: Global, message: Message) -> Result<(), AllocError>
         requires { 0 < self.old.partitions }
-        ensures posted { OnOk result (part_of self.new ≡ post self.old.partitions (part_of self.old) (message_of message)) }
+        ensures posted { OnOk result (part_of self.new
+            ≡ post self.old.partitions (part_of self.old) (message_of message)) }
         ensures timers { self.new.timers ≡ self.old.timers }
         ensures partitions { self.new.partitions ≡ self.old.partitions }
     {
@@ -150,7 +151,8 @@ impl PartRows {
     /// Messages are posted one after the other.
     pub fn post_all(&mut self, alloc: Global, messages: Vec<Message>) -> Result<(), AllocError>
         requires { 0 < self.old.partitions }
-        ensures posted { OnOk result (part_of self.new ≡ post_all self.old.partitions (part_of self.old) (messages_of messages.items)) }
+        ensures posted { OnOk result (part_of self.new
+            ≡ post_all self.old.partitions (part_of self.old) (messages_of messages.items)) }
         ensures timers { self.new.timers ≡ self.old.timers }
         ensures partitions { self.new.partitions ≡ self.old.partitions }
     {

@@ -24,7 +24,11 @@ impl PartRows {
         task: u32,
         activity: Activity,
     ) -> Result<(), AllocError>
-        ensures put { OnOk result (part_of self.new ≡ record (part_of self.old) { activities = at_number (part_of self.old).activities (id_of id.now) task (Some (activity_of activity)) }) }
+        ensures put { OnOk result (part_of self.new
+            ≡ record (part_of self.old) {
+              activities = at_number (part_of self.old).activities (id_of id.now) task
+                  (Some (activity_of activity));
+            }) }
         ensures timers { self.new.timers ≡ self.old.timers }
         ensures partitions { self.new.partitions ≡ self.old.partitions }
     {
@@ -35,8 +39,10 @@ impl PartRows {
 
     /// A pending activity of an instance's task is taken out.
     pub fn take_activity(&mut self, id: &Id, task: u32) -> Option<Activity>
-        ensures activity { option_map activity_of result ≡ (part_of self.old).activities (id_of id.now) task }
-        ensures taken { part_of self.new ≡ record (part_of self.old) { activities = at_number (part_of self.old).activities (id_of id.now) task None } }
+        ensures activity { option_map activity_of result
+            ≡ (part_of self.old).activities (id_of id.now) task }
+        ensures taken { part_of self.new ≡ record (part_of self.old)
+            { activities = at_number (part_of self.old).activities (id_of id.now) task None } }
         ensures timers { self.new.timers ≡ self.old.timers }
         ensures partitions { self.new.partitions ≡ self.old.partitions }
     {
@@ -46,7 +52,9 @@ impl PartRows {
     /// A pending timer of an instance's task is taken out.
     pub fn take_timer(&mut self, id: &Id, task: u32) -> Result<(), AllocError>
         requires { InOrder self.old.timers }
-        ensures taken { OnOk result (part_of self.new ≡ record (part_of self.old) { timers = at_number (part_of self.old).timers (id_of id.now) task None }) }
+        ensures taken { OnOk result (part_of self.new
+            ≡ record (part_of self.old)
+            { timers = at_number (part_of self.old).timers (id_of id.now) task None }) }
         ensures order { OnOk result (InOrder self.new.timers) }
         ensures partitions { self.new.partitions ≡ self.old.partitions }
     {
@@ -56,7 +64,8 @@ impl PartRows {
 
     /// No activity of an instance is pending.
     fn clear_activities(&mut self, id: &Id)
-        ensures cleared { part_of self.new ≡ record (part_of self.old) { activities = cleared (part_of self.old).activities (id_of id.now) } }
+        ensures cleared { part_of self.new ≡ record (part_of self.old)
+            { activities = cleared (part_of self.old).activities (id_of id.now) } }
         ensures timers { self.new.timers ≡ self.old.timers }
         ensures partitions { self.new.partitions ≡ self.old.partitions }
     {
@@ -66,7 +75,8 @@ impl PartRows {
     /// An activity or a timer of an instance is pending.
     fn ask(&mut self, alloc: Global, id: &Id, asked: Asked) -> Result<(), AllocError>
         requires { InOrder self.old.timers }
-        ensures asked { OnOk result (part_of self.new ≡ asked_in (part_of self.old) (id_of id.now) (asked_of asked ∷ [])) }
+        ensures asked { OnOk result (part_of self.new
+            ≡ asked_in (part_of self.old) (id_of id.now) (asked_of asked ∷ [])) }
         ensures order { OnOk result (InOrder self.new.timers) }
         ensures partitions { self.new.partitions ≡ self.old.partitions }
     {
@@ -82,7 +92,8 @@ impl PartRows {
     /// What an instance asks for is pending.
     pub fn ask_all(&mut self, alloc: Global, id: &Id, asked: Vec<Asked>) -> Result<(), AllocError>
         requires { InOrder self.old.timers }
-        ensures asked { OnOk result (part_of self.new ≡ asked_in (part_of self.old) (id_of id.now) (map asked_of asked.items)) }
+        ensures asked { OnOk result (part_of self.new
+            ≡ asked_in (part_of self.old) (id_of id.now) (map asked_of asked.items)) }
         ensures order { OnOk result (InOrder self.new.timers) }
         ensures partitions { self.new.partitions ≡ self.old.partitions }
     {
@@ -95,7 +106,8 @@ impl PartRows {
     /// What is pending of an instance is given up.
     pub fn give_up(&mut self, id: &Id) -> Result<(), AllocError>
         requires { InOrder self.old.timers }
-        ensures given_up { OnOk result (part_of self.new ≡ given_up_in (part_of self.old) (id_of id.now) true) }
+        ensures given_up { OnOk result (part_of self.new
+            ≡ given_up_in (part_of self.old) (id_of id.now) true) }
         ensures order { OnOk result (InOrder self.new.timers) }
         ensures partitions { self.new.partitions ≡ self.old.partitions }
     {

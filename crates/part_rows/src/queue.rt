@@ -87,8 +87,10 @@ impl Queue {
     /// The first message from one to the other is taken out.
     #[tactic(auto, using(crate::proofs::Links::place_is_link, crate::proofs::Links::place_inside, crate::proofs::Links::place_said, crate::proofs::Links::place_gone, crate::proofs::Links::no_place_said, crate::proofs::Links::no_place_gone))]
     pub fn take_first(&mut self, from: &Id, to: &Id) -> Option<Message>
-        ensures first { said_in result ≡ first_in (messages_of self.old) (id_of from.now) (id_of to.now) }
-        ensures rest { messages_of self.new ≡ without_first (messages_of self.old) (id_of from.now) (id_of to.now) }
+        ensures first { said_in result ≡ first_in (messages_of self.old) (id_of from.now)
+            (id_of to.now) }
+        ensures rest { messages_of self.new
+            ≡ without_first (messages_of self.old) (id_of from.now) (id_of to.now) }
         ensures link { IfSome result (λ m. is_of_link (id_of from.now) (id_of to.now) m ≡ true) }
         ensures none { IfNone result (self.new ≡ self.old) }
     {

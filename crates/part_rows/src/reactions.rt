@@ -44,8 +44,14 @@ pub trait Reactions {
         message: &Message,
         stamp: u64,
     ) -> Result<Reaction, AllocError>
-        ensures { IfOk result (λ made. (o : Option Orchestration) → o ≡ option_map (λ r. instance_in (flows self.now) (id_of message.now.to) (row_of r.now)) row.entry
-            → reaction_of made ≡ reaction (event_of (flows self.now) o (id_of message.now.from) (id_of message.now.to) (said_of message.now.body)) (to_instance (flows self.now) o (id_of message.now.from) (id_of message.now.to) stamp (said_of message.now.body))) };
+        ensures { IfOk result (λ made. (o : Option Orchestration)
+            → o ≡ option_map (λ r.
+            instance_in (flows self.now) (id_of message.now.to) (row_of r.now)) row.entry
+            → reaction_of made ≡ reaction
+            (event_of (flows self.now) o (id_of message.now.from) (id_of message.now.to)
+            (said_of message.now.body))
+            (to_instance (flows self.now) o (id_of message.now.from) (id_of message.now.to) stamp
+            (said_of message.now.body))) };
 
     /// An event reaches the instance that has this row.
     fn go_on(
@@ -56,7 +62,10 @@ pub trait Reactions {
         event: Event,
         stamp: u64,
     ) -> Result<Reaction, AllocError>
-        ensures { IfOk result (λ made. reaction_of made ≡ reaction (Some (seen event)) (goes_on_from (instance_in (flows self.now) (id_of id.now) (row_of row.now)) (seen event) stamp [])) };
+        ensures { IfOk result (λ made. reaction_of made
+            ≡ reaction (Some (seen event))
+            (goes_on_from (instance_in (flows self.now) (id_of id.now) (row_of row.now))
+            (seen event) stamp [])) };
 
     /// A message reaches an entity of this class, as it is kept or as its class begins. What it is then comes back, with what it
     /// sends.
@@ -68,8 +77,14 @@ pub trait Reactions {
         message: &Message,
         stamp: u64,
     ) -> Result<(Entity, Vec<Message>), AllocError>
-        ensures entity { IfOk result (λ made. entity_of made.0 ≡ (delivered (flows self.now) class.now (option_map entity_of kept) (id_of message.now.from) (id_of message.now.to) stamp (said_of message.now.body)).entity) }
-        ensures sent { IfOk result (λ made. messages_of made.1.items ≡ (delivered (flows self.now) class.now (option_map entity_of kept) (id_of message.now.from) (id_of message.now.to) stamp (said_of message.now.body)).sent) };
+        ensures entity { IfOk result (λ made. entity_of made.0
+            ≡ (delivered (flows self.now) class.now (option_map entity_of kept)
+            (id_of message.now.from) (id_of message.now.to) stamp
+            (said_of message.now.body)).entity) }
+        ensures sent { IfOk result (λ made. messages_of made.1.items
+            ≡ (delivered (flows self.now) class.now (option_map entity_of kept)
+            (id_of message.now.from) (id_of message.now.to) stamp
+            (said_of message.now.body)).sent) };
 
     /// Whether there is a class of this name.
     fn has_class(&self, class: &Name) -> bool
@@ -77,5 +92,7 @@ pub trait Reactions {
 
     /// How the instance that has this row stands.
     fn standing(&self, alloc: Global, id: &Id, row: &Row) -> Result<Answer, AllocError>
-        ensures { IfOk result (λ answer. answer_of answer ≡ standing (instance_in (flows self.now) (id_of id.now) (row_of row.now)).machine.progress) };
+        ensures { IfOk result (λ answer. answer_of answer
+            ≡ standing (instance_in (flows self.now) (id_of id.now)
+            (row_of row.now)).machine.progress) };
 }

@@ -30,7 +30,11 @@ impl PartRows {
         number: u32,
         message: Message,
     ) -> Result<(), AllocError>
-        ensures put { OnOk result (part_of self.new ≡ record (part_of self.old) { taken = at_number (part_of self.old).taken (id_of client.now) number (Some (message_of message)) }) }
+        ensures put { OnOk result (part_of self.new
+            ≡ record (part_of self.old) {
+              taken = at_number (part_of self.old).taken (id_of client.now) number
+                  (Some (message_of message));
+            }) }
         ensures timers { self.new.timers ≡ self.old.timers }
         ensures partitions { self.new.partitions ≡ self.old.partitions }
     {
@@ -47,7 +51,11 @@ impl PartRows {
         number: u32,
         answer: Answer,
     ) -> Result<(), AllocError>
-        ensures put { OnOk result (part_of self.new ≡ record (part_of self.old) { answers = at_number (part_of self.old).answers (id_of client.now) number (Some (answer_of answer)) }) }
+        ensures put { OnOk result (part_of self.new
+            ≡ record (part_of self.old) {
+              answers = at_number (part_of self.old).answers (id_of client.now) number
+                  (Some (answer_of answer));
+            }) }
         ensures timers { self.new.timers ≡ self.old.timers }
         ensures partitions { self.new.partitions ≡ self.old.partitions }
     {
@@ -59,7 +67,9 @@ impl PartRows {
     /// A request of a client who lives here is taken, once; anything else is refused.
     pub fn take(&mut self, alloc: Global, message: &Message) -> Result<bool, AllocError>
         requires { 0 < self.old.partitions }
-        ensures accepts { IfOk result (λ yes. Accepts yes (part_of self.old) (part_of self.new) (accepted_request self.old.partitions (part_of self.old) (message_of message.now))) }
+        ensures accepts { IfOk result (λ yes.
+            Accepts yes (part_of self.old) (part_of self.new)
+            (accepted_request self.old.partitions (part_of self.old) (message_of message.now))) }
         ensures timers { self.new.timers ≡ self.old.timers }
         ensures partitions { self.new.partitions ≡ self.old.partitions }
     {
@@ -77,7 +87,8 @@ impl PartRows {
 
     /// A message reaches a client: the answer to a request that was taken is kept.
     pub fn receive(&mut self, alloc: Global, to: &Id, body: &Body) -> Result<(), AllocError>
-        ensures received { OnOk result (part_of self.new ≡ client_received (part_of self.old) (id_of to.now) (body_of body.now)) }
+        ensures received { OnOk result (part_of self.new
+            ≡ client_received (part_of self.old) (id_of to.now) (body_of body.now)) }
         ensures timers { self.new.timers ≡ self.old.timers }
         ensures partitions { self.new.partitions ≡ self.old.partitions }
     {
@@ -118,7 +129,8 @@ fn is_asking(body: &Body, to: &Id) -> bool
 
 /// Whether a message is a request of the client that sends it.
 fn is_request(message: &Message) -> bool
-    ensures { result ≡ is_request (id_of message.now.from) (number_in (body_of message.now.body)) (message_of message.now) }
+    ensures { result ≡ is_request (id_of message.now.from) (number_in (body_of message.now.body))
+        (message_of message.now) }
 {
     matches!(message.from, Id::Client(_))
         && is_asking(&message.body, &message.to)

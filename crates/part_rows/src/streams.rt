@@ -101,7 +101,8 @@ impl Outbox {
     /// It begins at a later number; one that it has begun at stays. A number past its end is refused.
     fn begin_at(&mut self, number: u64) -> bool
         ensures refused { result ≡ nat_le number (self.old.first + length self.old.messages.items) }
-        ensures begins { outbox_of self.new ≡ (if result then begins_at number (outbox_of self.old) else outbox_of self.old) }
+        ensures begins { outbox_of self.new ≡
+            (if result then begins_at number (outbox_of self.old) else outbox_of self.old) }
     {
         if number <= self.first {
             return true;
@@ -139,7 +140,8 @@ impl Outboxes {
     /// A message joins the stream to a partition. After an Err the streams are only dropped.
     #[tactic(auto, using(crate::proofs::Boxes::posted_written, crate::proofs::Boxes::posted_begun))]
     pub fn push(&mut self, alloc: Global, target: u32, posted: Posted) -> Result<(), AllocError>
-        ensures { OnOk result (outboxes_of self.new ≡ with_posted (outboxes_of self.old) target (posted_of posted)) }
+        ensures { OnOk result (outboxes_of self.new
+            ≡ with_posted (outboxes_of self.old) target (posted_of posted)) }
     {
         match self.boxes.get_mut(&target) {
             Some(outbox) => outbox.messages.push_back(posted)?,
@@ -155,8 +157,11 @@ impl Outboxes {
     /// The stream to a partition begins at a later number; one that it has begun at stays. A number past its end is refused.
     #[tactic(auto, using(crate::proofs::Boxes::begun_nowhere))]
     pub fn begin_at(&mut self, target: u32, number: u64) -> bool
-        ensures refused { result ≡ nat_le number ((outboxes_of self.old target).first + length (outboxes_of self.old target).messages) }
-        ensures begins { outboxes_of self.new ≡ (if result then with_first (outboxes_of self.old) target number else outboxes_of self.old) }
+        ensures refused { result ≡ nat_le number
+            ((outboxes_of self.old target).first + length (outboxes_of self.old target).messages) }
+        ensures begins { outboxes_of self.new
+            ≡ (if result then with_first (outboxes_of self.old) target number else outboxes_of
+            self.old) }
     {
         match self.boxes.get_mut(&target) {
             Some(outbox) => outbox.begin_at(number),
@@ -197,7 +202,8 @@ impl Inboxes {
     /// The stream from a partition was taken in as far as this.
     #[tactic(auto, using(crate::proofs::Boxes::inbox_changes))]
     pub fn put(&mut self, source: u32, inbox: Inbox) -> Result<(), AllocError>
-        ensures { OnOk result (inboxes_of self.new ≡ with_inbox (inboxes_of self.old) source (inbox_of inbox)) }
+        ensures { OnOk result (inboxes_of self.new
+            ≡ with_inbox (inboxes_of self.old) source (inbox_of inbox)) }
     {
         self.boxes.insert(source, inbox)?;
         Ok(())

@@ -43,7 +43,8 @@ impl TimerRow {
     /// Sets the timer of this task, in place of the one that it has.
     pub fn put(&mut self, alloc: Global, id: Id, task: u32, due: u64) -> Result<(), AllocError>
         requires { InOrder self.old }
-        ensures put { OnOk result (timers_in self.new ≡ at_number (timers_in self.old) (id_of id) task (Some due)) }
+        ensures put { OnOk result (timers_in self.new
+            ≡ at_number (timers_in self.old) (id_of id) task (Some due)) }
         ensures order { OnOk result (InOrder self.new) }
     {
         self.take(&id, task)?;
@@ -56,8 +57,11 @@ impl TimerRow {
     pub fn take(&mut self, id: &Id, task: u32) -> Result<Option<u64>, AllocError>
         requires { InOrder self.old }
         ensures due { IfOk result (λ due. due ≡ timers_in self.old (id_of id.now) task) }
-        ensures taken { OnOk result (timers_in self.new ≡ at_number (timers_in self.old) (id_of id.now) task None) }
-        ensures count { IfOk result (λ due. count_in self.new (id_of id.now) + (if is_some due then 1 else 0) ≡ count_in self.old (id_of id.now)) }
+        ensures taken { OnOk result (timers_in self.new
+            ≡ at_number (timers_in self.old) (id_of id.now) task None) }
+        ensures count { IfOk result (λ due.
+            count_in self.new (id_of id.now) + (if is_some due then 1 else 0)
+            ≡ count_in self.old (id_of id.now)) }
         ensures order { OnOk result (InOrder self.new) }
     {
         let Some(due) = self.stamps.take(id, task) else {
@@ -70,7 +74,8 @@ impl TimerRow {
     /// Takes out the timers of this instance.
     pub fn drop_of(&mut self, id: &Id) -> Result<(), AllocError>
         requires { InOrder self.old }
-        ensures dropped { OnOk result (timers_in self.new ≡ cleared (timers_in self.old) (id_of id.now)) }
+        ensures dropped { OnOk result (timers_in self.new
+            ≡ cleared (timers_in self.old) (id_of id.now)) }
         ensures order { OnOk result (InOrder self.new) }
     {
         while let Some(task) = self.stamps.first_of(id) {
@@ -82,7 +87,8 @@ impl TimerRow {
     /// The first timer that is due by now.
     pub fn due(&self, now: u64) -> Option<&Timer>
         requires { InOrder self.now }
-        ensures first { IfSome result (λ timer. IsFirstDue (timers_in self.now) now timer.now.due (id_of timer.now.id) timer.now.task) }
+        ensures first { IfSome result (λ timer.
+            IsFirstDue (timers_in self.now) now timer.now.due (id_of timer.now.id) timer.now.task) }
         ensures none { IfNone result (NoneDue (timers_in self.now) now) }
     {
         match self.order.first() {

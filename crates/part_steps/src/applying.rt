@@ -27,7 +27,8 @@ use std::alloc::{AllocError, Global};
 
 /// Outputs.
 fn outputs(sent: Vec<Message>, answers: Vec<Answered>) -> Outputs
-    ensures { outputs_of result ≡ record { sent = messages_of sent.items; answers = map answered_of answers.items } }
+    ensures { outputs_of result ≡ record
+        { sent = messages_of sent.items; answers = map answered_of answers.items } }
 {
     Outputs {
         messages: Messages::of(sent),
@@ -49,7 +50,10 @@ fn take(
     message: &Message,
 ) -> Result<Option<Outputs>, AllocError>
     requires { 0 < rows.old.partitions }
-    ensures applied { IfOk result (λ made. Applied made (part_of rows.old) (part_of rows.new) (accepted_request rows.old.partitions (part_of rows.old) (message_of message.now)) (record { sent = message_of message.now ∷ []; answers = [] })) }
+    ensures applied { IfOk result (λ made.
+        Applied made (part_of rows.old) (part_of rows.new)
+        (accepted_request rows.old.partitions (part_of rows.old) (message_of message.now))
+        (record { sent = message_of message.now ∷ []; answers = [] })) }
     ensures timers { rows.new.timers ≡ rows.old.timers }
     ensures partitions { rows.new.partitions ≡ rows.old.partitions }
 {
@@ -71,7 +75,10 @@ fn get(
     message: &Message,
 ) -> Result<Option<Outputs>, AllocError>
     requires { 0 < rows.old.partitions }
-    ensures applied { IfOk result (λ made. Applied made (part_of rows.old) (part_of rows.new) (got_in rows.old.partitions (part_of rows.old) (identity_of source) number (message_of message.now)) (record { sent = []; answers = [] })) }
+    ensures applied { IfOk result (λ made.
+        Applied made (part_of rows.old) (part_of rows.new)
+        (got_in rows.old.partitions (part_of rows.old) (identity_of source) number
+        (message_of message.now)) (record { sent = []; answers = [] })) }
     ensures timers { rows.new.timers ≡ rows.old.timers }
     ensures partitions { rows.new.partitions ≡ rows.old.partitions }
 {
@@ -83,7 +90,9 @@ fn get(
 
 /// A stream is let go of.
 fn let_go(alloc: Global, rows: &mut PartRows, reader: Identity, number: u64) -> Option<Outputs>
-    ensures applied { Applied result (part_of rows.old) (part_of rows.new) (trim_in rows.old.partitions (part_of rows.old) (identity_of reader) number) (record { sent = []; answers = [] }) }
+    ensures applied { Applied result (part_of rows.old) (part_of rows.new)
+        (trim_in rows.old.partitions (part_of rows.old) (identity_of reader) number)
+        (record { sent = []; answers = [] }) }
     ensures timers { rows.new.timers ≡ rows.old.timers }
     ensures partitions { rows.new.partitions ≡ rows.old.partitions }
 {
@@ -103,8 +112,17 @@ fn reach_first<R: Reactions>(
 ) -> Result<Outputs, AllocError>
     requires order { InOrder rows.old.timers }
     requires partitions { 0 < rows.old.partitions }
-    ensures outputs { IfOk result (λ made. outputs_of made ≡ record { sent = sent_to (R.flows reactions.now) (raised_to stamp (part_of rows.old)) (id_of message.now.from) (id_of message.now.to) stamp (said_of message.now.body); answers = answered_to (raised_to stamp (part_of rows.old)) (id_of message.now.to) (Some (said_of message.now.body)) }) }
-    ensures stands { OnOk result (part_of rows.new ≡ reached (R.flows reactions.now) rows.old.partitions (raised_to stamp (part_of rows.old)) (id_of message.now.from) (id_of message.now.to) stamp (said_of message.now.body)) }
+    ensures outputs { IfOk result (λ made. outputs_of made
+        ≡ record {
+          sent = sent_to (R.flows reactions.now) (raised_to stamp (part_of rows.old))
+              (id_of message.now.from) (id_of message.now.to) stamp (said_of message.now.body);
+          answers =
+              answered_to (raised_to stamp (part_of rows.old)) (id_of message.now.to)
+              (Some (said_of message.now.body));
+        }) }
+    ensures stands { OnOk result (part_of rows.new
+        ≡ reached (R.flows reactions.now) rows.old.partitions (raised_to stamp (part_of rows.old))
+        (id_of message.now.from) (id_of message.now.to) stamp (said_of message.now.body)) }
     ensures order { OnOk result (InOrder rows.new.timers) }
     ensures partitions { rows.new.partitions ≡ rows.old.partitions }
 {
@@ -125,7 +143,12 @@ fn run<R: Reactions>(
 ) -> Result<Option<Outputs>, AllocError>
     requires order { InOrder rows.old.timers }
     requires partitions { 0 < rows.old.partitions }
-    ensures applied { IfOk result (λ made. Applied made (part_of rows.old) (part_of rows.new) (accepted (R.flows reactions.now) rows.old.partitions (part_of rows.old) (ran (id_of from.now) (id_of to.now) stamp)) (outputs_by (R.flows reactions.now) (part_of rows.old) (ran (id_of from.now) (id_of to.now) stamp))) }
+    ensures applied { IfOk result (λ made.
+        Applied made (part_of rows.old) (part_of rows.new)
+        (accepted (R.flows reactions.now) rows.old.partitions (part_of rows.old)
+        (ran (id_of from.now) (id_of to.now) stamp))
+        (outputs_by (R.flows reactions.now) (part_of rows.old)
+        (ran (id_of from.now) (id_of to.now) stamp))) }
     ensures order { OnOk result (InOrder rows.new.timers) }
     ensures partitions { rows.new.partitions ≡ rows.old.partitions }
 {
@@ -150,8 +173,10 @@ fn keep_event(
 ) -> Result<Outputs, AllocError>
     requires order { InOrder rows.old.timers }
     requires partitions { 0 < rows.old.partitions }
-    ensures outputs { IfOk result (λ outputs. outputs_of outputs ≡ record { sent = (reaction_of made).sent; answers = [] }) }
-    ensures stands { OnOk result (part_of rows.new ≡ kept_in rows.old.partitions (part_of rows.old) (id_of id.now) stamp (reaction_of made)) }
+    ensures outputs { IfOk result (λ outputs. outputs_of outputs
+        ≡ record { sent = (reaction_of made).sent; answers = [] }) }
+    ensures stands { OnOk result (part_of rows.new
+        ≡ kept_in rows.old.partitions (part_of rows.old) (id_of id.now) stamp (reaction_of made)) }
     ensures order { OnOk result (InOrder rows.new.timers) }
     ensures partitions { rows.new.partitions ≡ rows.old.partitions }
 {
@@ -178,7 +203,8 @@ fn is_pending(rows: &PartRows, id: &Id, task: u32) -> bool
 
 /// An activity of an instance's task is no longer pending.
 fn drop_activity(rows: &mut PartRows, id: &Id, task: u32)
-    ensures dropped { part_of rows.new ≡ record (part_of rows.old) { activities = at_number (part_of rows.old).activities (id_of id.now) task None } }
+    ensures dropped { part_of rows.new ≡ record (part_of rows.old)
+        { activities = at_number (part_of rows.old).activities (id_of id.now) task None } }
     ensures timers { rows.new.timers ≡ rows.old.timers }
     ensures partitions { rows.new.partitions ≡ rows.old.partitions }
 {
@@ -196,7 +222,12 @@ fn finish<R: Reactions>(
 ) -> Result<Option<Outputs>, AllocError>
     requires order { InOrder rows.old.timers }
     requires partitions { 0 < rows.old.partitions }
-    ensures applied { IfOk result (λ made. Applied made (part_of rows.old) (part_of rows.new) (accepted (R.flows reactions.now) rows.old.partitions (part_of rows.old) (ended (id_of id.now) task outcome.now)) (outputs_by (R.flows reactions.now) (part_of rows.old) (ended (id_of id.now) task outcome.now))) }
+    ensures applied { IfOk result (λ made.
+        Applied made (part_of rows.old) (part_of rows.new)
+        (accepted (R.flows reactions.now) rows.old.partitions (part_of rows.old)
+        (ended (id_of id.now) task outcome.now))
+        (outputs_by (R.flows reactions.now) (part_of rows.old)
+        (ended (id_of id.now) task outcome.now))) }
     ensures order { OnOk result (InOrder rows.new.timers) }
     ensures partitions { rows.new.partitions ≡ rows.old.partitions }
 {
@@ -216,7 +247,8 @@ fn finish<R: Reactions>(
 
 /// Whether a timer of an instance's task is pending and due, and the instance's last stamp isn't later.
 fn may_fire(rows: &PartRows, id: &Id, task: u32, stamp: u64) -> bool
-    ensures { result ≡ fires_at ((part_of rows.now).instances (id_of id.now)) ((part_of rows.now).timers (id_of id.now) task) stamp }
+    ensures { result ≡ fires_at ((part_of rows.now).instances (id_of id.now))
+        ((part_of rows.now).timers (id_of id.now) task) stamp }
 {
     match (rows.instances.get(id), rows.timers.get(id, task)) {
         (Some(row), Some(due)) => due <= stamp && row.stamp <= stamp,
@@ -235,7 +267,11 @@ fn fire<R: Reactions>(
 ) -> Result<Option<Outputs>, AllocError>
     requires order { InOrder rows.old.timers }
     requires partitions { 0 < rows.old.partitions }
-    ensures applied { IfOk result (λ made. Applied made (part_of rows.old) (part_of rows.new) (accepted (R.flows reactions.now) rows.old.partitions (part_of rows.old) (fired (id_of id.now) task stamp)) (outputs_by (R.flows reactions.now) (part_of rows.old) (fired (id_of id.now) task stamp))) }
+    ensures applied { IfOk result (λ made.
+        Applied made (part_of rows.old) (part_of rows.new)
+        (accepted (R.flows reactions.now) rows.old.partitions (part_of rows.old)
+        (fired (id_of id.now) task stamp))
+        (outputs_by (R.flows reactions.now) (part_of rows.old) (fired (id_of id.now) task stamp))) }
     ensures order { OnOk result (InOrder rows.new.timers) }
     ensures partitions { rows.new.partitions ≡ rows.old.partitions }
 {
@@ -261,7 +297,10 @@ pub(crate) fn apply_item<R: Reactions>(
 ) -> Result<Option<Outputs>, AllocError>
     requires order { InOrder rows.old.timers }
     requires partitions { 0 < rows.old.partitions }
-    ensures applied { IfOk result (λ made. Applied made (part_of rows.old) (part_of rows.new) (accepted (R.flows reactions.now) rows.old.partitions (part_of rows.old) (item_of item.now)) (outputs_by (R.flows reactions.now) (part_of rows.old) (item_of item.now))) }
+    ensures applied { IfOk result (λ made.
+        Applied made (part_of rows.old) (part_of rows.new)
+        (accepted (R.flows reactions.now) rows.old.partitions (part_of rows.old) (item_of item.now))
+        (outputs_by (R.flows reactions.now) (part_of rows.old) (item_of item.now))) }
     ensures order { OnOk result (InOrder rows.new.timers) }
     ensures partitions { rows.new.partitions ≡ rows.old.partitions }
 {
@@ -287,7 +326,8 @@ pub(crate) fn apply_item<R: Reactions>(
 
 /// An entry of a partition.
 fn identity(partition: u32, incarnation: u64, position: u64) -> Identity
-    ensures { identity_of result ≡ record { partition = partition; incarnation = incarnation; position = position } }
+    ensures { identity_of result ≡ record
+        { partition = partition; incarnation = incarnation; position = position } }
 {
     Identity {
         partition,

@@ -32,7 +32,8 @@ fn add_event(
     stamp: u64,
     event: Option<Event>,
 ) -> Result<Vec<Past>, AllocError>
-    ensures { IfOk result (λ all. map past_of all.items ≡ with_event (map past_of history.items) stamp (option_map event_of event)) }
+    ensures { IfOk result (λ all. map past_of all.items
+        ≡ with_event (map past_of history.items) stamp (option_map event_of event)) }
 {
     if let Some(event) = event {
         history.push(Past { event, stamp })?;
@@ -48,7 +49,9 @@ fn next_row(
     event: Option<Event>,
     waiting: Vec<Waiting>,
 ) -> Result<Row, AllocError>
-    ensures { IfOk result (λ next. row_of next ≡ next_row (option_map row_of row) stamp (option_map event_of event) (waits_of waiting.items)) }
+    ensures { IfOk result (λ next. row_of next
+        ≡ next_row (option_map row_of row) stamp (option_map event_of event)
+        (waits_of waiting.items)) }
 {
     let (history, waiting) = with(add_event(history_in(alloc, row), stamp, event), waiting)?;
     Ok(Row {
@@ -66,7 +69,9 @@ fn next_or_none(
     event: Option<Event>,
     waiting: Option<Vec<Waiting>>,
 ) -> Result<Option<Row>, AllocError>
-    ensures { IfOk result (λ next. option_map row_of next ≡ option_map (next_row (option_map row_of row) stamp (option_map event_of event)) (option_map (λ w. waits_of w.items) waiting)) }
+    ensures { IfOk result (λ next. option_map row_of next
+        ≡ option_map (next_row (option_map row_of row) stamp (option_map event_of event))
+        (option_map (λ w. waits_of w.items) waiting)) }
 {
     match waiting {
         Some(waiting) => {
@@ -90,7 +95,12 @@ fn put_row(
     event: Option<Event>,
     waiting: Option<Vec<Waiting>>,
 ) -> Result<(), AllocError>
-    ensures put { OnOk result (part_of rows.new ≡ record (part_of rows.old) { instances = at_id (part_of rows.old).instances (id_of id.now) (option_map (next_row ((part_of rows.old).instances (id_of id.now)) stamp (option_map event_of event)) (option_map (λ w. waits_of w.items) waiting)) }) }
+    ensures put { OnOk result (part_of rows.new
+        ≡ record (part_of rows.old) {
+          instances = at_id (part_of rows.old).instances (id_of id.now)
+              (option_map (next_row ((part_of rows.old).instances (id_of id.now)) stamp
+              (option_map event_of event)) (option_map (λ w. waits_of w.items) waiting));
+        }) }
     ensures timers { rows.new.timers ≡ rows.old.timers }
     ensures partitions { rows.new.partitions ≡ rows.old.partitions }
 {
@@ -103,7 +113,8 @@ fn put_row(
 /// What is pending of an instance is given up, if so it is.
 fn give_up_if(rows: &mut PartRows, id: &Id, gives_up: bool) -> Result<(), AllocError>
     requires { InOrder rows.old.timers }
-    ensures given_up { OnOk result (part_of rows.new ≡ given_up_in (part_of rows.old) (id_of id.now) gives_up) }
+    ensures given_up { OnOk result (part_of rows.new
+        ≡ given_up_in (part_of rows.old) (id_of id.now) gives_up) }
     ensures order { OnOk result (InOrder rows.new.timers) }
     ensures partitions { rows.new.partitions ≡ rows.old.partitions }
 {
@@ -142,7 +153,8 @@ pub(crate) fn send(
 ) -> Result<Vec<Message>, AllocError>
     requires { 0 < rows.old.partitions }
     ensures sent { IfOk result (λ sent. messages_of sent.items ≡ messages_of messages.items) }
-    ensures posted { OnOk result (part_of rows.new ≡ post_all rows.old.partitions (part_of rows.old) (messages_of messages.items)) }
+    ensures posted { OnOk result (part_of rows.new
+        ≡ post_all rows.old.partitions (part_of rows.old) (messages_of messages.items)) }
     ensures timers { rows.new.timers ≡ rows.old.timers }
     ensures partitions { rows.new.partitions ≡ rows.old.partitions }
 {
@@ -162,7 +174,8 @@ pub(crate) fn keep(
     requires order { InOrder rows.old.timers }
     requires partitions { 0 < rows.old.partitions }
     ensures sent { IfOk result (λ sent. messages_of sent.items ≡ (reaction_of made).sent) }
-    ensures stands { OnOk result (part_of rows.new ≡ kept_in rows.old.partitions (part_of rows.old) (id_of id.now) stamp (reaction_of made)) }
+    ensures stands { OnOk result (part_of rows.new
+        ≡ kept_in rows.old.partitions (part_of rows.old) (id_of id.now) stamp (reaction_of made)) }
     ensures order { OnOk result (InOrder rows.new.timers) }
     ensures partitions { rows.new.partitions ≡ rows.old.partitions }
 {

@@ -24,9 +24,15 @@ fn standing_of_entity(entity: &Entity) -> Result<Answer, AllocError>
 impl PartState {
     /// The first entity behind the last one, or of all, with the answer that a query of it would get, whoever holds it.
     pub fn next_entity(&self, last: Option<&Id>) -> Result<Option<(&Id, Answer)>, AllocError>
-        ensures next { IfOk result (λ found. IfSome found (λ one. IsNextBehind (λ id. is_some ((state_of self.now).entities id)) (option_map (λ id. id_of id.now) last.entry) (id_of one.0.now))) }
-        ensures answer { IfOk result (λ found. IfSome found (λ one. entity_standing (state_of self.now) (id_of one.0.now) ≡ Some (answer_of one.1))) }
-        ensures none { IfOk result (λ found. IfNone found (NoneBehind (λ id. is_some ((state_of self.now).entities id)) (option_map (λ id. id_of id.now) last.entry))) }
+        ensures next { IfOk result (λ found.
+            IfSome found (λ one. IsNextBehind (λ id. is_some ((state_of self.now).entities id))
+            (option_map (λ id. id_of id.now) last.entry) (id_of one.0.now))) }
+        ensures answer { IfOk result (λ found.
+            IfSome found (λ one. entity_standing (state_of self.now) (id_of one.0.now)
+            ≡ Some (answer_of one.1))) }
+        ensures none { IfOk result (λ found.
+            IfNone found (NoneBehind (λ id. is_some ((state_of self.now).entities id))
+            (option_map (λ id. id_of id.now) last.entry))) }
     {
         match self.rows.entities.next(last) {
             Some((id, entity)) => {
@@ -44,9 +50,15 @@ impl PartState {
         reactions: &R,
         last: Option<&Id>,
     ) -> Result<Option<(&Id, Answer)>, AllocError>
-        ensures next { IfOk result (λ found. IfSome found (λ one. IsNextBehind (λ id. is_some ((state_of self.now).instances id)) (option_map (λ id. id_of id.now) last.entry) (id_of one.0.now))) }
-        ensures answer { IfOk result (λ found. IfSome found (λ one. instance_standing (R.flows reactions.now) (state_of self.now) (id_of one.0.now) ≡ Some (answer_of one.1))) }
-        ensures none { IfOk result (λ found. IfNone found (NoneBehind (λ id. is_some ((state_of self.now).instances id)) (option_map (λ id. id_of id.now) last.entry))) }
+        ensures next { IfOk result (λ found.
+            IfSome found (λ one. IsNextBehind (λ id. is_some ((state_of self.now).instances id))
+            (option_map (λ id. id_of id.now) last.entry) (id_of one.0.now))) }
+        ensures answer { IfOk result (λ found.
+            IfSome found (λ one. instance_standing (R.flows reactions.now) (state_of self.now)
+            (id_of one.0.now) ≡ Some (answer_of one.1))) }
+        ensures none { IfOk result (λ found.
+            IfNone found (NoneBehind (λ id. is_some ((state_of self.now).instances id))
+            (option_map (λ id. id_of id.now) last.entry))) }
     {
         match self.rows.instances.next(last) {
             Some((id, row)) => {

@@ -30,7 +30,8 @@ impl PartState {
     /// The request of a client that was taken under a number, if one was.
     #[tactic(auto, using(crate::proofs::Looking::seen_through))]
     pub fn taken(&self, client: &Id, number: u32) -> Option<&Message>
-        ensures { option_map (λ message. message_of message.now) result ≡ (state_of self.now).taken (id_of client.now) number }
+        ensures { option_map (λ message. message_of message.now) result
+            ≡ (state_of self.now).taken (id_of client.now) number }
     {
         self.rows.taken.get(client, number)
     }
@@ -38,7 +39,8 @@ impl PartState {
     /// The answer to a request of a client, if it came.
     #[tactic(auto, using(crate::proofs::Looking::seen_through))]
     pub fn answer(&self, client: &Id, number: u32) -> Option<&Answer>
-        ensures { option_map (λ answer. answer_of answer.now) result ≡ (state_of self.now).answers (id_of client.now) number }
+        ensures { option_map (λ answer. answer_of answer.now) result
+            ≡ (state_of self.now).answers (id_of client.now) number }
     {
         self.rows.answers.get(client, number)
     }
@@ -46,7 +48,8 @@ impl PartState {
     /// The activity of an instance's task, if it is pending.
     #[tactic(auto, using(crate::proofs::Looking::seen_through))]
     pub fn activity(&self, id: &Id, task: u32) -> Option<&Activity>
-        ensures { option_map (λ activity. activity_of activity.now) result ≡ (state_of self.now).activities (id_of id.now) task }
+        ensures { option_map (λ activity. activity_of activity.now) result
+            ≡ (state_of self.now).activities (id_of id.now) task }
     {
         self.rows.activities.get(id, task)
     }
@@ -54,8 +57,11 @@ impl PartState {
     /// The first instance that has a pending activity, and the least of its tasks that have one.
     #[tactic(auto, using(crate::proofs::Looking::seen_there, crate::proofs::Looking::seen_first, crate::proofs::Looking::seen_nowhere))]
     pub fn pending_task(&self) -> Option<(&Id, u32)>
-        ensures there { IfSome result (λ one. IsSome ((state_of self.now).activities (id_of one.0.now) one.1)) }
-        ensures first { IfSome result (λ one. IsFirst (λ id task. is_some ((state_of self.now).activities id task)) (id_of one.0.now) one.1) }
+        ensures there { IfSome result (λ one.
+            IsSome ((state_of self.now).activities (id_of one.0.now) one.1)) }
+        ensures first { IfSome result (λ one.
+            IsFirst (λ id task. is_some ((state_of self.now).activities id task)) (id_of one.0.now)
+            one.1) }
         ensures none { IfNone result (NoActivity (state_of self.now)) }
     {
         self.rows.activities.first()

@@ -34,8 +34,13 @@ fn reach_instance<R: Reactions>(
 ) -> Result<Vec<Message>, AllocError>
     requires order { InOrder rows.old.timers }
     requires partitions { 0 < rows.old.partitions }
-    ensures sent { IfOk result (λ sent. messages_of sent.items ≡ (to_instance (R.flows reactions.now) (instance_at (R.flows reactions.now) (part_of rows.old) (id_of message.now.to)) (id_of message.now.from) (id_of message.now.to) stamp (said_of message.now.body)).sent) }
-    ensures stands { OnOk result (part_of rows.new ≡ instance_reached (R.flows reactions.now) rows.old.partitions (part_of rows.old) (id_of message.now.from) (id_of message.now.to) stamp (said_of message.now.body)) }
+    ensures sent { IfOk result (λ sent. messages_of sent.items
+        ≡ (to_instance (R.flows reactions.now)
+        (instance_at (R.flows reactions.now) (part_of rows.old) (id_of message.now.to))
+        (id_of message.now.from) (id_of message.now.to) stamp (said_of message.now.body)).sent) }
+    ensures stands { OnOk result (part_of rows.new
+        ≡ instance_reached (R.flows reactions.now) rows.old.partitions (part_of rows.old)
+        (id_of message.now.from) (id_of message.now.to) stamp (said_of message.now.body)) }
     ensures order { OnOk result (InOrder rows.new.timers) }
     ensures partitions { rows.new.partitions ≡ rows.old.partitions }
 {
@@ -54,8 +59,15 @@ fn change_entity<R: Reactions>(
     message: &Message,
     stamp: u64,
 ) -> Result<Vec<Message>, AllocError>
-    ensures sent { IfOk result (λ sent. messages_of sent.items ≡ (delivered_at (R.flows reactions.now) (part_of rows.old) class.now (id_of message.now.from) (id_of message.now.to) stamp (said_of message.now.body)).sent) }
-    ensures kept { OnOk result (part_of rows.new ≡ record (part_of rows.old) { entities = at_id (part_of rows.old).entities (id_of message.now.to) (Some (delivered_at (R.flows reactions.now) (part_of rows.old) class.now (id_of message.now.from) (id_of message.now.to) stamp (said_of message.now.body)).entity) }) }
+    ensures sent { IfOk result (λ sent. messages_of sent.items
+        ≡ (delivered_at (R.flows reactions.now) (part_of rows.old) class.now
+        (id_of message.now.from) (id_of message.now.to) stamp (said_of message.now.body)).sent) }
+    ensures kept { OnOk result (part_of rows.new
+        ≡ record (part_of rows.old) {
+          entities = at_id (part_of rows.old).entities (id_of message.now.to)
+              (Some (delivered_at (R.flows reactions.now) (part_of rows.old) class.now
+              (id_of message.now.from) (id_of message.now.to) stamp (said_of message.now.body)).entity);
+        }) }
     ensures timers { rows.new.timers ≡ rows.old.timers }
     ensures partitions { rows.new.partitions ≡ rows.old.partitions }
 {
@@ -75,8 +87,12 @@ fn reach_entity<R: Reactions>(
     stamp: u64,
 ) -> Result<Vec<Message>, AllocError>
     requires partitions { 0 < rows.old.partitions }
-    ensures sent { IfOk result (λ sent. messages_of sent.items ≡ (delivered_at (R.flows reactions.now) (part_of rows.old) class.now (id_of message.now.from) (id_of message.now.to) stamp (said_of message.now.body)).sent) }
-    ensures stands { OnOk result (part_of rows.new ≡ entity_reached (R.flows reactions.now) rows.old.partitions (part_of rows.old) class.now (id_of message.now.from) (id_of message.now.to) stamp (said_of message.now.body)) }
+    ensures sent { IfOk result (λ sent. messages_of sent.items
+        ≡ (delivered_at (R.flows reactions.now) (part_of rows.old) class.now
+        (id_of message.now.from) (id_of message.now.to) stamp (said_of message.now.body)).sent) }
+    ensures stands { OnOk result (part_of rows.new
+        ≡ entity_reached (R.flows reactions.now) rows.old.partitions (part_of rows.old) class.now
+        (id_of message.now.from) (id_of message.now.to) stamp (said_of message.now.body)) }
     ensures timers { rows.new.timers ≡ rows.old.timers }
     ensures partitions { rows.new.partitions ≡ rows.old.partitions }
 {
@@ -92,7 +108,8 @@ pub(crate) fn answers_to(
     to: &Id,
     body: &Body,
 ) -> Result<Vec<Answered>, AllocError>
-    ensures { IfOk result (λ answers. map answered_of answers.items ≡ answered_to (part_of rows.now) (id_of to.now) (Some (said_of body.now))) }
+    ensures { IfOk result (λ answers. map answered_of answers.items
+        ≡ answered_to (part_of rows.now) (id_of to.now) (Some (said_of body.now))) }
 {
     let mut answers = Vec::new(alloc);
     let (Id::Client(name), Body::Result(Reply::Request(number), answer)) = (to, body) else {
@@ -118,8 +135,12 @@ pub(crate) fn reach<R: Reactions>(
 ) -> Result<Vec<Message>, AllocError>
     requires order { InOrder rows.old.timers }
     requires partitions { 0 < rows.old.partitions }
-    ensures sent { IfOk result (λ sent. messages_of sent.items ≡ sent_to (R.flows reactions.now) (part_of rows.old) (id_of message.now.from) (id_of message.now.to) stamp (said_of message.now.body)) }
-    ensures stands { OnOk result (part_of rows.new ≡ reached (R.flows reactions.now) rows.old.partitions (part_of rows.old) (id_of message.now.from) (id_of message.now.to) stamp (said_of message.now.body)) }
+    ensures sent { IfOk result (λ sent. messages_of sent.items
+        ≡ sent_to (R.flows reactions.now) (part_of rows.old) (id_of message.now.from)
+        (id_of message.now.to) stamp (said_of message.now.body)) }
+    ensures stands { OnOk result (part_of rows.new
+        ≡ reached (R.flows reactions.now) rows.old.partitions (part_of rows.old)
+        (id_of message.now.from) (id_of message.now.to) stamp (said_of message.now.body)) }
     ensures order { OnOk result (InOrder rows.new.timers) }
     ensures partitions { rows.new.partitions ≡ rows.old.partitions }
 {

@@ -85,7 +85,10 @@ impl PartState {
     ) -> Result<Verdict, AllocError>
         requires sound { IsSound self }
         requires begun { 0 < (state_of self).position }
-        ensures { IfOk result (λ verdict. Becomes verdict self (accepted (R.flows reactions.now) (count_of self) (state_of self) (item_of item.now)) (outputs_by (R.flows reactions.now) (state_of self) (item_of item.now))) }
+        ensures { IfOk result (λ verdict.
+            Becomes verdict self (accepted (R.flows reactions.now) (count_of self) (state_of self)
+            (item_of item.now)) (outputs_by (R.flows reactions.now) (state_of self)
+            (item_of item.now))) }
     {
         let mut rows = self.rows;
         let made = match apply_item(alloc, reactions, &mut rows, item) {
@@ -117,9 +120,17 @@ impl PartState {
     #[tactic(auto, using(crate::proofs::Enabling::none_enabled))]
     pub fn enabled(&self, now: u64) -> Result<Option<Item>, AllocError>
         requires { IsSound self.now }
-        ensures some { IfOk result (λ item. IfSome item (λ one. (flows : PlainFlows) → IsEnabled flows (count_of self.now) (state_of self.now) (stamp_at (state_of self.now) now) (item_of one))) }
-        ensures next { IfOk result (λ item. IfSome item (λ one. ComesNext (state_of self.now) (stamp_at (state_of self.now) now) (item_of one))) }
-        ensures none { IfOk result (λ item. IfNone item ((flows : PlainFlows) → NoneEnabled flows (count_of self.now) (state_of self.now) (stamp_at (state_of self.now) now))) }
+        ensures some { IfOk result (λ item.
+            IfSome item (λ one. (flows : PlainFlows)
+            → IsEnabled flows (count_of self.now) (state_of self.now)
+            (stamp_at (state_of self.now) now) (item_of one))) }
+        ensures next { IfOk result (λ item.
+            IfSome item (λ one. ComesNext (state_of self.now) (stamp_at (state_of self.now) now)
+            (item_of one))) }
+        ensures none { IfOk result (λ item.
+            IfNone item ((flows : PlainFlows)
+            → NoneEnabled flows (count_of self.now) (state_of self.now)
+            (stamp_at (state_of self.now) now))) }
     {
         let stamp = self.stamp(now);
         if let Some(message) = self.rows.first_open() {

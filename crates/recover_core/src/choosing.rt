@@ -27,7 +27,9 @@ fn late(file: u32) -> RecoverError
 #[tactic(auto, using(crate::proofs::Ties::one_late))]
 fn from_first_entry(file: u32, found: Found) -> Result<Found, RecoverError>
     ensures found { IfOk result (λ same. (same ≡ found) × (found.header.base ≡ 0)) }
-    ensures refused { (digest : ℕ) (entries : List Entry) → IfErr result (λ error. RefusesFiles digest error (late_base file (kept_as entries (LogFile.Log found)))) }
+    ensures refused { (digest : ℕ) (entries : List Entry)
+        → IfErr result (λ error.
+        RefusesFiles digest error (late_base file (kept_as entries (LogFile.Log found)))) }
     ensures no_fault { result ≡ Err RecoverError.SiteFault → ⊥ }
 {
     if found.header.base == 0 {
@@ -41,7 +43,10 @@ fn from_first_entry(file: u32, found: Found) -> Result<Found, RecoverError>
 /// Why there can't be a log in each file: without a checkpoint none begins behind the other.
 #[tactic(auto, using(crate::proofs::Ties::same_tied, crate::proofs::Ties::second_late, crate::proofs::Ties::first_late))]
 fn both_there(first: &Found, second: &Found) -> RecoverError
-    ensures refused { (digest : ℕ) (some more : List Entry) → RefusesFiles digest result (tied_fault (kept_as some (LogFile.Log first.now)) (kept_as more (LogFile.Log second.now))) }
+    ensures refused { (digest : ℕ) (some more : List Entry)
+        → RefusesFiles digest result
+        (tied_fault (kept_as some (LogFile.Log first.now))
+        (kept_as more (LogFile.Log second.now))) }
     ensures no_fault { result ≡ RecoverError.SiteFault → ⊥ }
 {
     if first.header.base == second.header.base {
@@ -56,7 +61,9 @@ fn both_there(first: &Found, second: &Found) -> RecoverError
 /// The log that two files have, each of which suits, if one of them has it.
 pub(crate) fn choose(first: LogFile, second: LogFile) -> Result<Option<Found>, RecoverError>
     ensures chosen { IfOk result (λ chosen. Chooses first second chosen) }
-    ensures refused { (digest : ℕ) (some more : List Entry) → IfErr result (λ error. RefusesFiles digest error (tied_fault (kept_as some first) (kept_as more second))) }
+    ensures refused { (digest : ℕ) (some more : List Entry)
+        → IfErr result (λ error.
+        RefusesFiles digest error (tied_fault (kept_as some first) (kept_as more second))) }
     ensures no_fault { result ≡ Err RecoverError.SiteFault → ⊥ }
 {
     match (first, second) {

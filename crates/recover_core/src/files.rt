@@ -52,11 +52,14 @@ fn read_file<V: Site, R: Reactions>(
     file: u32,
 ) -> Result<LogFile, FrameError>
     ensures tells { V.tells site.new → V.tells site.old }
-    ensures says { V.tells site.new → SaysFile (V.history site.new) (R.flows reactions.now) file result }
+    ensures says { V.tells site.new → SaysFile (V.history site.new) (R.flows reactions.now) file
+        result }
     ensures ready { IfOk result IsReadyFile }
-    ensures syncs { (V.history site.new ≡ on file synced ∷ V.history site.old) ⊎ (V.history site.new ≡ V.history site.old) }
+    ensures syncs { (V.history site.new ≡ on file synced ∷ V.history site.old)
+        ⊎ (V.history site.new ≡ V.history site.old) }
     ensures synced { OnOk result (V.history site.new ≡ on file synced ∷ V.history site.old) }
-    ensures fault { result ≡ Err FrameError.SiteFault → HasRisen (V.disk_faults site.old) (V.disk_faults site.new) }
+    ensures fault { result ≡ Err FrameError.SiteFault
+        → HasRisen (V.disk_faults site.old) (V.disk_faults site.new) }
     ensures later { V.disk_faults site.old ≤ V.disk_faults site.new }
     ensures say_faults { V.say_faults site.new ≡ V.say_faults site.old }
 {
@@ -80,7 +83,9 @@ fn read_file<V: Site, R: Reactions>(
 #[tactic(auto, using(crate::proofs::FilesFound::shape_fault, crate::proofs::FilesFound::flows_fault))]
 fn fit(header: Header, digest: u64) -> Result<(), RecoverError>
     ensures fits { OnOk result ((header.partitions ≡ 1) × (header.digest ≡ digest)) }
-    ensures refused { (file : ℕ) (entries : List Entry) (gate : ℕ) → IfErr result (λ error. RefusesFiles digest error (fault_of (alone_with digest) file (keeps header entries gate))) }
+    ensures refused { (file : ℕ) (entries : List Entry) (gate : ℕ)
+        → IfErr result (λ error.
+        RefusesFiles digest error (fault_of (alone_with digest) file (keeps header entries gate))) }
     ensures no_fault { result ≡ Err RecoverError.SiteFault → ⊥ }
 {
     if header.partitions != PARTITIONS {
@@ -107,11 +112,14 @@ pub(crate) fn open_file<V: Site, R: Reactions>(
     file: u32,
 ) -> Result<LogFile, RecoverError>
     ensures tells { V.tells site.new → V.tells site.old }
-    ensures says { V.tells site.new → SaysFits (V.history site.new) (R.flows reactions.now) digest file result }
+    ensures says { V.tells site.new → SaysFits (V.history site.new) (R.flows reactions.now) digest
+        file result }
     ensures ready { IfOk result IsReadyFile }
-    ensures syncs { (V.history site.new ≡ on file synced ∷ V.history site.old) ⊎ (V.history site.new ≡ V.history site.old) }
+    ensures syncs { (V.history site.new ≡ on file synced ∷ V.history site.old)
+        ⊎ (V.history site.new ≡ V.history site.old) }
     ensures synced { OnOk result (V.history site.new ≡ on file synced ∷ V.history site.old) }
-    ensures fault { result ≡ Err RecoverError.SiteFault → HasRisen (V.disk_faults site.old) (V.disk_faults site.new) }
+    ensures fault { result ≡ Err RecoverError.SiteFault
+        → HasRisen (V.disk_faults site.old) (V.disk_faults site.new) }
     ensures later { V.disk_faults site.old ≤ V.disk_faults site.new }
     ensures say_faults { V.say_faults site.new ≡ V.say_faults site.old }
 {

@@ -21,7 +21,9 @@ fn place_items<R: Reactions>(
 ) -> Result<Option<PartState>, AllocError>
     requires sound { IsSound state }
     requires begun { 0 < (state_of state).position }
-    ensures { IfOk result (λ made. Makes made state (all_accepted (R.flows reactions.now) (count_of state) (state_of state) (items_of items.now))) }
+    ensures { IfOk result (λ made. Makes made state
+        (all_accepted (R.flows reactions.now) (count_of state) (state_of state)
+        (items_of items.now))) }
 {
     let mut state = state;
     for item in items {
@@ -48,7 +50,8 @@ fn place_on<R: Reactions>(
 ) -> Result<Placing, AllocError>
     requires ready { IsReadyFor entry.now.incarnation placing }
     requires room { position_in placing < 2 ^ 62 }
-    ensures { IfOk result (λ new. GoesOnAs (R.flows reactions.now) (entry_of entry.now) placing new) }
+    ensures { IfOk result (λ new. GoesOnAs (R.flows reactions.now) (entry_of entry.now) placing
+        new) }
 {
     let state = match placing {
         Placing::Stuck(position) => return Ok(Placing::Stuck(position)),
@@ -71,7 +74,8 @@ pub(crate) fn place_entry<R: Reactions>(
     requires ready { IsReady progress }
     requires room { position_in progress.placing < 2 ^ 62 }
     requires next { IsNext (next_of progress.next) (entry_of entry) }
-    ensures { IfOk result (λ new. PlacesOn (R.flows reactions.now) (entry_of entry ∷ []) progress new) }
+    ensures { IfOk result (λ new. PlacesOn (R.flows reactions.now) (entry_of entry ∷ []) progress
+        new) }
 {
     let next = Next {
         position: entry.position + 1,

@@ -40,7 +40,8 @@ pub(crate) struct Progress {
 impl Progress {
     /// No entry of a log that begins at this position.
     pub fn new(alloc: Global, base: u64) -> Progress
-        ensures begins { (flows : Flows) → IsProgress flows (record { position = base; incarnation = 0 }) [] result }
+        ensures begins { (flows : Flows) → IsProgress flows
+            (record { position = base; incarnation = 0 }) [] result }
         ensures ready { IsReady result }
         ensures first { position_in result.placing ≡ 0 }
     {

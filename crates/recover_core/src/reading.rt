@@ -61,7 +61,8 @@ fn place_frame<R: Reactions>(
     requires ready { IsReady progress }
     requires room { position_in progress.placing ≤ 64 * gate }
     requires below { gate + 5 + length payload.now < 2 ^ 31 }
-    ensures { PlacesFrame (R.flows reactions.now) progress gate (next_frame_in (next_of progress.next) payload.now) result }
+    ensures { PlacesFrame (R.flows reactions.now) progress gate
+        (next_frame_in (next_of progress.next) payload.now) result }
 {
     let mut frame = match FrameReader::begin(progress.next, payload) {
         Ok(frame) => frame,
@@ -90,14 +91,21 @@ fn read_step<V: Site, R: Reactions>(
 ) -> Result<Turn, FrameError>
     requires { CanGoOn reading }
     ensures tells { V.tells site.new → V.tells site.old }
-    ensures reads { V.tells site.new → reading.reader.size ≡ length (content_of reading.reader.file (V.history site.old)) → (payloads : List (List ℕ)) (entries : List Entry)
-        → HasReadTo (R.flows reactions.now) (content_of reading.reader.file (V.history site.old)) reading.reader.header payloads entries reading.reader.gate reading.progress
-        → ReadsOn (R.flows reactions.now) (content_of reading.reader.file (V.history site.old)) reading.reader.header payloads entries result }
-    ensures rests { V.tells site.new → (payloads : List (List ℕ)) → HasRead (content_of reading.reader.file (V.history site.old)) reading.reader.header payloads reading.reader.gate
-        → IsKept (changes_of reading.reader.file (V.history site.old)) → RestsAfter (V.history site.new) reading.reader.header payloads result }
+    ensures reads { V.tells site.new → reading.reader.size
+        ≡ length (content_of reading.reader.file (V.history site.old))
+        → (payloads : List (List ℕ)) (entries : List Entry)
+        → HasReadTo (R.flows reactions.now) (content_of reading.reader.file (V.history site.old))
+        reading.reader.header payloads entries reading.reader.gate reading.progress
+        → ReadsOn (R.flows reactions.now) (content_of reading.reader.file (V.history site.old))
+        reading.reader.header payloads entries result }
+    ensures rests { V.tells site.new → (payloads : List (List ℕ))
+        → HasRead (content_of reading.reader.file (V.history site.old)) reading.reader.header
+        payloads reading.reader.gate → IsKept (changes_of reading.reader.file (V.history site.old))
+        → RestsAfter (V.history site.new) reading.reader.header payloads result }
     ensures there { StaysThere reading result }
     ensures unchanged { V.history site.new ≡ V.history site.old }
-    ensures fault { result ≡ Err FrameError.SiteFault → HasRisen (V.disk_faults site.old) (V.disk_faults site.new) }
+    ensures fault { result ≡ Err FrameError.SiteFault
+        → HasRisen (V.disk_faults site.old) (V.disk_faults site.new) }
     ensures later { V.disk_faults site.old ≤ V.disk_faults site.new }
     ensures say_faults { V.say_faults site.new ≡ V.say_faults site.old }
 {
@@ -126,11 +134,13 @@ pub(crate) fn read_on<V: Site, R: Reactions>(
     reader: LogReader,
 ) -> Result<(Resting, Progress), FrameError>
     ensures tells { V.tells site.new → V.tells site.old }
-    ensures reads { V.tells site.new → IsOpened (V.history site.old) reader → ReadsAll (V.history site.old) (R.flows reactions.now) reader result }
+    ensures reads { V.tells site.new → IsOpened (V.history site.old) reader
+        → ReadsAll (V.history site.old) (R.flows reactions.now) reader result }
     ensures there { IfOk result (λ end. end.0.file ≡ reader.file) }
     ensures ready { IfOk result (λ end. IsReady end.1) }
     ensures unchanged { V.history site.new ≡ V.history site.old }
-    ensures fault { result ≡ Err FrameError.SiteFault → HasRisen (V.disk_faults site.old) (V.disk_faults site.new) }
+    ensures fault { result ≡ Err FrameError.SiteFault
+        → HasRisen (V.disk_faults site.old) (V.disk_faults site.new) }
     ensures later { V.disk_faults site.old ≤ V.disk_faults site.new }
     ensures say_faults { V.say_faults site.new ≡ V.say_faults site.old }
 {

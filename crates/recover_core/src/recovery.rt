@@ -37,7 +37,9 @@ pub struct Recovered {
 
 /// What the entries of a log stand for.
 fn end(found: Found) -> Result<Recovered, RecoverError>
-    ensures ends { (flows : PlainFlows) (entries : List Entry) → Shows found.placing (placed flows 1 (fresh 0) entries) → found.incarnation ≡ next_incarnation entries → Ends flows entries found result }
+    ensures ends { (flows : PlainFlows) (entries : List Entry)
+        → Shows found.placing (placed flows 1 (fresh 0) entries)
+        → found.incarnation ≡ next_incarnation entries → Ends flows entries found result }
     ensures begins { IsReadyFor found.incarnation found.placing → IfOk result CanBegin }
     ensures no_fault { result ≡ Err RecoverError.SiteFault → ⊥ }
 {
@@ -81,12 +83,17 @@ pub fn recover<V: Site, R: Reactions>(
     digest: u64,
 ) -> Result<Recovered, RecoverError>
     ensures tells { V.tells site.new → V.tells site.old }
-    ensures recovers { V.tells site.new → Recovers (R.flows reactions.now) digest (λ file. content_of file (V.history site.old)) result }
+    ensures recovers { V.tells site.new → Recovers (R.flows reactions.now) digest
+        (λ file. content_of file (V.history site.old)) result }
     ensures begins { IfOk result CanBegin }
     ensures syncs { OnlySyncs (V.history site.old) (V.history site.new) }
     ensures synced { OnOk result (V.history site.new ≡ both_synced (V.history site.old)) }
-    ensures rests { V.tells site.new → IfOk result (λ r. IfSome r.log (λ log. RestsFor (V.history site.new) digest (logs_in (alone_with digest) (λ file. content_of file (V.history site.old))) log)) }
-    ensures fault { result ≡ Err RecoverError.SiteFault → HasRisen (V.disk_faults site.old) (V.disk_faults site.new) }
+    ensures rests { V.tells site.new → IfOk result
+        (λ r. IfSome r.log (λ log.
+        RestsFor (V.history site.new) digest
+        (logs_in (alone_with digest) (λ file. content_of file (V.history site.old))) log)) }
+    ensures fault { result ≡ Err RecoverError.SiteFault
+        → HasRisen (V.disk_faults site.old) (V.disk_faults site.new) }
     ensures later { V.disk_faults site.old ≤ V.disk_faults site.new }
     ensures say_faults { V.say_faults site.new ≡ V.say_faults site.old }
 {

@@ -37,7 +37,8 @@ fn has_state(id: &Id) -> bool
 }
 
 fn instance_at(alloc: Global, value: &Value, key: &str) -> Result<Id, ReadError>
-    ensures { LineGives id_of result (bind (id_at key.now (view value.now)) (where_it is_instance)) }
+    ensures { LineGives id_of result
+        (bind (id_at key.now (view value.now)) (where_it is_instance)) }
 {
     let id = json::id_at(alloc, value, key)?;
     if is_instance(&id) {
@@ -61,7 +62,8 @@ fn number_in(value: &Value) -> Option<u32>
 }
 
 fn start_in(alloc: Global, number: u32, value: &Value) -> Result<(Id, Body), ReadError>
-    ensures { LineGives (λ sent. (id_of sent.0, body_of sent.1)) result (start_in number (view value.now)) }
+    ensures { LineGives (λ sent. (id_of sent.0, body_of sent.1)) result
+        (start_in number (view value.now)) }
 {
     if !json::has_members(value, 3 + json::one_if_at(value, "arg")) {
         return Err(ReadError::Refused);
@@ -74,7 +76,8 @@ fn start_in(alloc: Global, number: u32, value: &Value) -> Result<(Id, Body), Rea
 }
 
 fn wait_in(alloc: Global, number: u32, value: &Value) -> Result<(Id, Body), ReadError>
-    ensures { LineGives (λ sent. (id_of sent.0, body_of sent.1)) result (wait_in number (view value.now)) }
+    ensures { LineGives (λ sent. (id_of sent.0, body_of sent.1)) result
+        (wait_in number (view value.now)) }
 {
     if !json::has_members(value, 3) {
         return Err(ReadError::Refused);
@@ -86,7 +89,8 @@ fn wait_in(alloc: Global, number: u32, value: &Value) -> Result<(Id, Body), Read
 }
 
 fn raise_in(alloc: Global, number: u32, value: &Value) -> Result<(Id, Body), ReadError>
-    ensures { LineGives (λ sent. (id_of sent.0, body_of sent.1)) result (raise_in number (view value.now)) }
+    ensures { LineGives (λ sent. (id_of sent.0, body_of sent.1)) result
+        (raise_in number (view value.now)) }
 {
     if !json::has_members(value, 4 + json::one_if_at(value, "value")) {
         return Err(ReadError::Refused);
@@ -100,7 +104,8 @@ fn raise_in(alloc: Global, number: u32, value: &Value) -> Result<(Id, Body), Rea
 }
 
 fn query_in(alloc: Global, number: u32, value: &Value) -> Result<(Id, Body), ReadError>
-    ensures { LineGives (λ sent. (id_of sent.0, body_of sent.1)) result (query_in number (view value.now)) }
+    ensures { LineGives (λ sent. (id_of sent.0, body_of sent.1)) result
+        (query_in number (view value.now)) }
 {
     if !json::has_members(value, 3) {
         return Err(ReadError::Refused);
@@ -114,7 +119,8 @@ fn query_in(alloc: Global, number: u32, value: &Value) -> Result<(Id, Body), Rea
 }
 
 fn sent_in(alloc: Global, number: u32, value: &Value) -> Result<(Id, Body), ReadError>
-    ensures { LineGives (λ sent. (id_of sent.0, body_of sent.1)) result (sent_in number (view value.now)) }
+    ensures { LineGives (λ sent. (id_of sent.0, body_of sent.1)) result
+        (sent_in number (view value.now)) }
 {
     if value.get("start").is_some() {
         start_in(alloc, number, value)
@@ -129,7 +135,8 @@ fn sent_in(alloc: Global, number: u32, value: &Value) -> Result<(Id, Body), Read
 
 /// What a client's request sends.
 fn message_by(client: &Name, sent: (Id, Body)) -> Result<Message, AllocError>
-    ensures { IfOk result (λ m. message_of m ≡ record { from = client_id client.now; to = id_of sent.0; body = body_of sent.1 }) }
+    ensures { IfOk result (λ m. message_of m
+        ≡ record { from = client_id client.now; to = id_of sent.0; body = body_of sent.1 }) }
 {
     let (client, (to, body)) = with(client.clone(), sent)?;
     let from = Id::Client(client);
@@ -138,8 +145,14 @@ fn message_by(client: &Name, sent: (Id, Body)) -> Result<Message, AllocError>
 
 /// The request of this client with this number.
 fn request_by(alloc: Global, client: Name, number: u32, value: &Value) -> Result<Request, ReadError>
-    ensures { LineGives request_of result (bind (sent_in number (view value.now)) (λ sent.
-        Some (record { client = client; number = number; message = record { from = client_id client; to = sent.0; body = sent.1 } }))) }
+    ensures { LineGives request_of result
+        (bind (sent_in number (view value.now))
+        (λ sent. Some (record {
+          client = client;
+          number = number;
+          message = record
+              { from = client_id client; to = sent.0; body = sent.1 };
+        }))) }
 {
     let (sent, client) = with(sent_in(alloc, number, value), client)?;
     match with(message_by(&client, sent), client) {

@@ -33,8 +33,10 @@ pub(crate) fn copy_of(name: &Name) -> Result<Name, AllocError>
 
 /// The request is its client's latest.
 fn note_latest(latest: &mut BTreeMap<Name, u32>, request: &Request) -> Result<(), AllocError>
-    ensures { OnOk result ((name : List ℕ) → get (slice_cmp nat_cmp) latest.new name
-        ≡ cond (is_eq (slice_cmp nat_cmp request.now.client name)) (Some request.now.number) (get (slice_cmp nat_cmp) latest.old name)) }
+    ensures { OnOk result ((name : List ℕ)
+        → get (slice_cmp nat_cmp) latest.new name
+        ≡ cond (is_eq (slice_cmp nat_cmp request.now.client name)) (Some request.now.number)
+        (get (slice_cmp nat_cmp) latest.old name)) }
 {
     let client = copy_of(&request.client)?;
     latest.insert(client, request.number)?;
@@ -47,8 +49,10 @@ fn note_place(
     request: &Request,
     place: usize,
 ) -> Result<(), AllocError>
-    ensures { OnOk result ((name : List ℕ) (n : ℕ) → get pair_cmp places.new (name, n)
-        ≡ cond (is_eq (pair_cmp (request.now.client, request.now.number) (name, n))) (Some place) (get pair_cmp places.old (name, n))) }
+    ensures { OnOk result ((name : List ℕ) (n : ℕ)
+        → get pair_cmp places.new (name, n)
+        ≡ cond (is_eq (pair_cmp (request.now.client, request.now.number) (name, n))) (Some place)
+        (get pair_cmp places.old (name, n))) }
 {
     let client = copy_of(&request.client)?;
     places.insert((client, request.number), place)?;
@@ -71,7 +75,8 @@ impl Progress {
     /// The request of this client and number.
     pub(crate) fn earlier(&self, pair: &(Name, u32)) -> Option<&Request>
         requires { RequestsStand self.now }
-        ensures { option_map (λ r. request_of r.now) result ≡ find (is_by pair.now.0 pair.now.1) (seen self.now) }
+        ensures { option_map (λ r. request_of r.now) result
+            ≡ find (is_by pair.now.0 pair.now.1) (seen self.now) }
     {
         match self.places.get(pair) {
             Some(place) => self.requests.get(*place),

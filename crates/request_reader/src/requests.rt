@@ -65,7 +65,8 @@ fn is_same(a: &Request, b: &Request) -> bool
 fn with_new(line: u64, progress: &mut Progress, request: Request) -> Result<(), RequestsError>
     requires stands { RequestsStand progress.old }
     requires unused { find (is_by request.client request.number) (seen progress.old) ≡ None }
-    ensures read { RequestsGive (λ _. seen progress.new) result (with_new line (seen progress.old) (request_of request)) }
+    ensures read { RequestsGive (λ _. seen progress.new) result
+        (with_new line (seen progress.old) (request_of request)) }
     ensures stands { OnOk result (RequestsStand progress.new) }
 {
     if progress.latest_of(&request.client) < request.number {
@@ -82,7 +83,9 @@ fn with_new(line: u64, progress: &mut Progress, request: Request) -> Result<(), 
 /// Whether the request was made by an earlier line, or is another one than that with its number.
 fn is_made(progress: &Progress, request: &Request) -> Result<Option<bool>, AllocError>
     requires stands { RequestsStand progress.now }
-    ensures { IfOk result (λ made. made ≡ option_map (λ r. request_eq r (request_of request.now)) (find (is_by request.now.client request.now.number) (seen progress.now))) }
+    ensures { IfOk result (λ made. made
+        ≡ option_map (λ r. request_eq r (request_of request.now))
+        (find (is_by request.now.client request.now.number) (seen progress.now))) }
 {
     let client = copy_of(&request.client)?;
     let pair = (client, request.number);
@@ -97,7 +100,8 @@ fn is_made(progress: &Progress, request: &Request) -> Result<Option<bool>, Alloc
 #[tactic(auto, using(crate::proofs::Used::used_same, crate::proofs::Used::used_other, crate::proofs::Used::unused, crate::proofs::Used::unused_new))]
 fn with_request(line: u64, progress: &mut Progress, request: Request) -> Result<(), RequestsError>
     requires { RequestsStand progress.old }
-    ensures read { RequestsGive (λ _. seen progress.new) result (with_request line (seen progress.old) (request_of request)) }
+    ensures read { RequestsGive (λ _. seen progress.new) result
+        (with_request line (seen progress.old) (request_of request)) }
     ensures stands { OnOk result (RequestsStand progress.new) }
 {
     match is_made(progress, &request) {
@@ -134,7 +138,8 @@ fn after_line(
     line: &[u8],
 ) -> Result<(), RequestsError>
     requires { RequestsStand progress.old }
-    ensures read { RequestsGive (λ _. seen progress.new) result (after_line number (seen progress.old) line.now) }
+    ensures read { RequestsGive (λ _. seen progress.new) result
+        (after_line number (seen progress.old) line.now) }
     ensures stands { OnOk result (RequestsStand progress.new) }
 {
     if is_blank(line) {
@@ -157,7 +162,8 @@ fn line_end(bytes: &[u8]) -> Option<usize>
 #[tactic(auto, using(crate::proofs::Lines::lines_none, crate::proofs::Lines::position_below))]
 fn first_line(bytes: &[u8]) -> (&[u8], Option<&[u8]>)
     ensures { MatchOption result.1 (lines_of bytes.now ≡ result.0.now ∷ [])
-        (λ rest. (lines_of bytes.now ≡ result.0.now ∷ lines_of rest.now) × (length rest.now < length bytes.now)) }
+        (λ rest. (lines_of bytes.now ≡ result.0.now ∷ lines_of rest.now)
+        × (length rest.now < length bytes.now)) }
 {
     match line_end(bytes) {
         Some(at) => (&bytes[..at], Some(&bytes[at + 1..])),
@@ -190,7 +196,8 @@ fn after_lines(alloc: Global, bytes: &[u8]) -> Result<Progress, RequestsError>
 /// that its lines can be counted.
 pub fn read_requests(alloc: Global, bytes: &[u8]) -> Result<Vec<Request>, RequestsError>
     requires { length bytes.now < 2 ^ 63 }
-    ensures { RequestsGive (λ requests. map request_of requests.items) result (requests_in bytes.now) }
+    ensures { RequestsGive (λ requests. map request_of requests.items) result
+        (requests_in bytes.now) }
 {
     match after_lines(alloc, bytes) {
         Ok(progress) => Ok(progress.requests),

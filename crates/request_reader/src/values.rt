@@ -52,7 +52,8 @@ fn scalar_in(alloc: Global, value: &Json) -> Result<Scalar, ReadError>
 
 /// The scalar that a part stands for comes behind the others.
 fn push_scalar(alloc: Global, scalars: &mut Vec<Scalar>, part: &Json) -> Result<(), ReadError>
-    ensures { LineGives (λ _. scalars.new.items) result (option_map (λ s. scalars.old.items ++ s ∷ []) (scalar_in (view part.now))) }
+    ensures { LineGives (λ _. scalars.new.items) result
+        (option_map (λ s. scalars.old.items ++ s ∷ []) (scalar_in (view part.now))) }
 {
     match scalar_in(alloc, part) {
         Ok(scalar) => Ok(scalars.push(scalar)?),

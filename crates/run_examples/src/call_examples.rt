@@ -39,9 +39,13 @@ pub fn files_ask()
 /// A log without entries keeps none, where nothing happened: not under another digest, not where a byte is another, and no entry more.
 pub fn logs_keep()
     ensures none { FilesKeep nothing_asked (two_files empty_log []) [] (fresh 0) }
-    ensures damaged { (entries : List Entry) (state : Partition) → FilesKeep nothing_asked (two_files (slice_set empty_log 3 0) []) entries state → ⊥ }
-    ensures other_digest { (entries : List Entry) (state : Partition) → FilesKeep (record nothing_asked { digest = 0 }) (two_files empty_log []) entries state → ⊥ }
-    ensures one_more { (state : Partition) → FilesKeep nothing_asked (two_files empty_log []) (taking 0 ∷ []) state → ⊥ }
+    ensures damaged { (entries : List Entry) (state : Partition)
+        → FilesKeep nothing_asked (two_files (slice_set empty_log 3 0) []) entries state → ⊥ }
+    ensures other_digest { (entries : List Entry) (state : Partition)
+        → FilesKeep (record nothing_asked { digest = 0 }) (two_files empty_log []) entries state
+        → ⊥ }
+    ensures one_more { (state : Partition) → FilesKeep nothing_asked (two_files empty_log [])
+        (taking 0 ∷ []) state → ⊥ }
 {}
 
 /// A request clashes where another was taken under its client's name and its number: not where none was, nor where it was itself.
@@ -50,7 +54,8 @@ pub fn requests_clash()
     ensures not_taken { NoClash (fresh 0) (waiting ∷ []) }
     ensures same { NoClash request_taken (starting ∷ []) }
     ensures others_clash { NoClash request_taken (waiting ∷ []) → ⊥ }
-    ensures none_clashes { (name : List ℕ) (number : ℕ) → IsClash (fresh 0) (waiting ∷ []) name number → ⊥ }
+    ensures none_clashes { (name : List ℕ) (number : ℕ)
+        → IsClash (fresh 0) (waiting ∷ []) name number → ⊥ }
 {}
 
 /// A refusal of an input leaves all as it was. One of the logs may have synced them, and wrote nothing.
@@ -63,10 +68,13 @@ pub fn refusals_touch_nothing()
 
 /// A call isn't ended by words that were wrong once it reads files, nor by another fault of them than theirs.
 pub fn causes_of_files()
-    ensures theirs { CauseHolds (three_files (codes "{}") [] (codes "{}")) (causes.BadPlan places.Whole) }
-    ensures other { CauseHolds (three_files (codes "{}") [] (codes "{}")) (causes.BadFlows faults.NotJson) → ⊥ }
+    ensures theirs { CauseHolds (three_files (codes "{}") [] (codes "{}"))
+        (causes.BadPlan places.Whole) }
+    ensures other { CauseHolds (three_files (codes "{}") [] (codes "{}"))
+        (causes.BadFlows faults.NotJson) → ⊥ }
     ensures usage { (files : ℕ → List ℕ) → CauseHolds files causes.Usage → ⊥ }
-    ensures waiting { CauseHolds (three_files (codes "{}") [] (codes "{}")) (causes.Waiting (codes "a") 1) → ⊥ }
+    ensures waiting { CauseHolds (three_files (codes "{}") [] (codes "{}"))
+        (causes.Waiting (codes "a") 1) → ⊥ }
 {}
 
 /// Before the logs are opened nothing is said. Where nothing happened nothing was settled.
@@ -87,20 +95,26 @@ pub fn answers_untold()
     ensures one { IsFirstUntold (rules_for (starting ∷ [])) [] (codes "a") 1 }
     ensures not_all { AreAllTold (rules_for (starting ∷ [])) [] → ⊥ }
     ensures other_number { IsFirstUntold (rules_for (starting ∷ [])) [] (codes "a") 2 → ⊥ }
-    ensures another_before { IsFirstUntold (rules_for (starting ∷ asking_too ∷ [])) [] (codes "b") 1 → ⊥ }
-    ensures none { (number : ℕ) → IsFirstUntold (rules_for (starting ∷ [])) told_once (codes "a") number → ⊥ }
+    ensures another_before { IsFirstUntold (rules_for (starting ∷ asking_too ∷ [])) [] (codes "b") 1
+        → ⊥ }
+    ensures none { (number : ℕ) → IsFirstUntold (rules_for (starting ∷ [])) told_once (codes "a")
+        number → ⊥ }
 {}
 
 /// A run ends with as many labels as may be, and as were settled: with no other number, with no fewer, and by no cause of its input. Where
 /// it ends so, or for want of room in the log or of a number, something is left to do.
 pub fn runs_end()
-    ensures labels { (latest : ℕ) → RunEndsAs (rules_for (starting ∷ [])) latest nowhere [] [] (by_steps 0) (causes.Long 0) }
+    ensures labels { (latest : ℕ) → RunEndsAs (rules_for (starting ∷ [])) latest nowhere [] []
+        (by_steps 0) (causes.Long 0) }
     ensures left { HasServed (rules_for (starting ∷ [])) [] (causes.Long 0) }
     ensures none_left { HasServed (rules_for []) [] (causes.Full 0 100) → ⊥ }
     ensures spent { (number : ℕ) → HasServed (rules_for []) [] (causes.Spent 0 number) → ⊥ }
-    ensures other_number { (rules : Rules) (latest : ℕ) (o : Origin) (steps : List Step) → RunEndsAs rules latest o steps [] (by_steps 0) (causes.Long 3) → ⊥ }
-    ensures too_few { (rules : Rules) (latest : ℕ) (o : Origin) (steps : List Step) → RunEndsAs rules latest o steps [] (by_steps 1) (causes.Long 0) → ⊥ }
-    ensures input { (begin : Partition) (steps : List Step) (trail : List Settled) (latest : ℕ) → RunsOn nothing_asked [] begin [] steps trail (terms_by 1 latest) causes.Usage → ⊥ }
+    ensures other_number { (rules : Rules) (latest : ℕ) (o : Origin) (steps : List Step)
+        → RunEndsAs rules latest o steps [] (by_steps 0) (causes.Long 3) → ⊥ }
+    ensures too_few { (rules : Rules) (latest : ℕ) (o : Origin) (steps : List Step)
+        → RunEndsAs rules latest o steps [] (by_steps 1) (causes.Long 0) → ⊥ }
+    ensures input { (begin : Partition) (steps : List Step) (trail : List Settled) (latest : ℕ)
+        → RunsOn nothing_asked [] begin [] steps trail (terms_by 1 latest) causes.Usage → ⊥ }
 {}
 
 /// The run in which nothing happens is orderly; one in which a task is ended twice isn't.
@@ -116,7 +130,8 @@ pub fn shows()
     ensures written { WritesNothing [] (on 16 (wrote 0 1 (0 ∷ [])) ∷ []) → ⊥ }
     ensures fault { (files : ℕ → List ℕ) → ShowsAs files [] [] causes.SiteFault }
     ensures shown { (files : ℕ → List ℕ) → ShowsAs files [] (97 ∷ []) causes.SiteFault → ⊥ }
-    ensures waiting { (files : ℕ → List ℕ) (number : ℕ) → ShowsAs files [] [] (causes.Waiting (codes "a") number) → ⊥ }
+    ensures waiting { (files : ℕ → List ℕ) (number : ℕ)
+        → ShowsAs files [] [] (causes.Waiting (codes "a") number) → ⊥ }
 {}
 
 /// A request is its client's under its number, and under no other. What is due of a client was taken, or it wasn't.
@@ -131,9 +146,12 @@ pub fn requests_taken()
 
 /// A run may end within a line only where saying failed.
 pub fn lines_whole()
-    ensures whole { SaysWhole MayFollow MaySay nowhere spoken (settled_when 0) (asking ∷ []) causes.Memory }
-    ensures half { (told : List Said) → SaysWhole MayFollow MaySay nowhere speaking (settled_when 0) told causes.Memory → ⊥ }
-    ensures failed { SaysWhole MayFollow MaySay nowhere speaking (settled_when 0) [] causes.SayFault }
+    ensures whole { SaysWhole MayFollow MaySay nowhere spoken (settled_when 0) (asking ∷ [])
+        causes.Memory }
+    ensures half { (told : List Said) → SaysWhole MayFollow MaySay nowhere speaking (settled_when 0)
+        told causes.Memory → ⊥ }
+    ensures failed { SaysWhole MayFollow MaySay nowhere speaking (settled_when 0) []
+        causes.SayFault }
 {}
 
 /// Where nobody asks all is served, and where who asked was answered, unless an activity is pending; else the first request without an
@@ -145,8 +163,10 @@ pub fn requests_served()
     ensures pending { IsServed (rules_for []) (shown_by no_flows adding) → ⊥ }
     ensures waits { IsFirstOpen (rules_for (starting ∷ [])) empty (codes "a") 1 }
     ensures other_number { IsFirstOpen (rules_for (starting ∷ [])) empty (codes "a") 2 → ⊥ }
-    ensures another_before { IsFirstOpen (rules_for (starting ∷ asking_too ∷ [])) empty (codes "b") 1 → ⊥ }
-    ensures none_open { (number : ℕ) → IsFirstOpen (rules_for (starting ∷ [])) answered (codes "a") number → ⊥ }
+    ensures another_before { IsFirstOpen (rules_for (starting ∷ asking_too ∷ [])) empty (codes "b")
+        1 → ⊥ }
+    ensures none_open { (number : ℕ) → IsFirstOpen (rules_for (starting ∷ [])) answered (codes "a")
+        number → ⊥ }
     ensures done { HasServed (rules_for []) [] causes.Done }
     ensures not_done { HasServed (rules_for (starting ∷ [])) [] causes.Done → ⊥ }
 {}
@@ -154,13 +174,18 @@ pub fn requests_served()
 /// A run waits for an answer only where nothing is left to do: where the client's next request is due it doesn't wait. That one is due
 /// once each in front of it was answered, and not yet once the last of them was.
 pub fn runs_wait()
-    ensures unanswered { Awaits (rules_for (starting ∷ [])) (shown_by no_flows held_back) (codes "a") 1 }
+    ensures unanswered { Awaits (rules_for (starting ∷ [])) (shown_by no_flows held_back)
+        (codes "a") 1 }
     ensures due { (number : ℕ) → Awaits (rules_for (starting ∷ [])) empty (codes "a") number → ⊥ }
-    ensures out_of_turn { Awaits (rules_for (starting ∷ second ∷ third ∷ [])) out_of_turn (codes "a") 1 }
-    ensures in_turn { (number : ℕ) → Awaits (rules_for (starting ∷ third ∷ [])) answered (codes "a") number → ⊥ }
-    ensures waiting { HasServed (record (rules_for (starting ∷ [])) { begin = held_back }) [] (causes.Waiting (codes "a") 1) }
+    ensures out_of_turn { Awaits (rules_for (starting ∷ second ∷ third ∷ [])) out_of_turn
+        (codes "a") 1 }
+    ensures in_turn { (number : ℕ) → Awaits (rules_for (starting ∷ third ∷ [])) answered (codes "a")
+        number → ⊥ }
+    ensures waiting { HasServed (record (rules_for (starting ∷ [])) { begin = held_back }) []
+        (causes.Waiting (codes "a") 1) }
     ensures not_waiting { HasServed (rules_for []) [] (causes.Waiting (codes "a") 1) → ⊥ }
-    ensures still_due { HasServed (rules_for (starting ∷ [])) [] (causes.Waiting (codes "a") 1) → ⊥ }
+    ensures still_due { HasServed (rules_for (starting ∷ [])) [] (causes.Waiting (codes "a") 1)
+        → ⊥ }
 {}
 
 /// A request that was taken stays so, and one that was answered; and only what was taken is answered.

@@ -31,6 +31,7 @@ pub fn lives_of_calls()
 pub fn lives_come_to_one_run()
     ensures nothing { AreJoined no_flows digest [] (idle_life ∷ []) (two_files empty_log []) }
     ensures start { AreJoined no_flows digest (taking 0 ∷ []) [] (two_files empty_log []) → ⊥ }
-    ensures settled { AreJoined no_flows digest [] (settled_life ∷ []) (two_files empty_log []) → ⊥ }
+    ensures settled { AreJoined no_flows digest [] (settled_life ∷ []) (two_files empty_log [])
+        → ⊥ }
     ensures said { AreJoined no_flows digest [] (spoken_life ∷ []) (two_files empty_log []) → ⊥ }
 {}

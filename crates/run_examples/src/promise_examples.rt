@@ -19,16 +19,31 @@ ghost use Rattle.site_model.specs.History.{Step, on, synced, wrote, content_of};
 /// that ends with a fault of the words, that syncs where the plan is refused, that settles something where the files are refused, or settles
 /// something where they keep entries and the clock was never read; and a `show` that waits for an answer, or that writes.
 pub fn promises_kept()
-    ensures nothing { (words : List (List ℕ)) → call_in words ≡ None → Keeps words [] [] [] causes.Usage }
-    ensures busy { (words : List (List ℕ)) → call_in words ≡ None → Keeps words [] (on 16 synced ∷ []) [] causes.Usage → ⊥ }
-    ensures settled { (words : List (List ℕ)) → call_in words ≡ None → Keeps words [] [] settled_once causes.Usage → ⊥ }
-    ensures usage { (words : List (List ℕ)) (options : RunOptions) → call_in words ≡ Some (calls.Run options) → Keeps words [] [] [] causes.Usage → ⊥ }
-    ensures touched { (words : List (List ℕ)) (options : RunOptions) → call_in words ≡ Some (calls.Run options) → KeepsUntold words [] (on 16 synced ∷ []) [] (causes.BadPlan places.Whole) → ⊥ }
-    ensures refused { (words : List (List ℕ)) (options : RunOptions) (old : List Step) → call_in words ≡ Some (calls.Run options) → AreRefused (λ file. content_of file old) → Keeps words old old settled_once causes.Memory → ⊥ }
-    ensures unread { (words : List (List ℕ)) (options : RunOptions) (old : List Step) (job : Job) (entries : List Entry) (begin : Partition) → call_in words ≡ Some (calls.Run options)
-        → AsksFor (λ file. content_of file old) job → FilesKeep job (λ file. content_of file old) entries begin → AreGivenIn job entries → Keeps words old old settled_once causes.Memory → ⊥ }
-    ensures waiting { (words : List (List ℕ)) (partitions : ℕ) → call_in words ≡ Some (calls.Show partitions) → Keeps words [] [] [] (causes.Waiting (codes "a") 1) → ⊥ }
-    ensures written { (words : List (List ℕ)) (partitions : ℕ) → call_in words ≡ Some (calls.Show partitions) → KeepsUntold words [] (on 16 (wrote 0 1 (0 ∷ [])) ∷ []) [] causes.Memory → ⊥ }
+    ensures nothing { (words : List (List ℕ)) → call_in words ≡ None
+        → Keeps words [] [] [] causes.Usage }
+    ensures busy { (words : List (List ℕ)) → call_in words ≡ None
+        → Keeps words [] (on 16 synced ∷ []) [] causes.Usage → ⊥ }
+    ensures settled { (words : List (List ℕ)) → call_in words ≡ None
+        → Keeps words [] [] settled_once causes.Usage → ⊥ }
+    ensures usage { (words : List (List ℕ)) (options : RunOptions)
+        → call_in words ≡ Some (calls.Run options) → Keeps words [] [] [] causes.Usage → ⊥ }
+    ensures touched { (words : List (List ℕ)) (options : RunOptions)
+        → call_in words ≡ Some (calls.Run options)
+        → KeepsUntold words [] (on 16 synced ∷ []) [] (causes.BadPlan places.Whole) → ⊥ }
+    ensures refused { (words : List (List ℕ)) (options : RunOptions) (old : List Step)
+        → call_in words ≡ Some (calls.Run options) → AreRefused (λ file. content_of file old)
+        → Keeps words old old settled_once causes.Memory → ⊥ }
+    ensures unread { (words : List (List ℕ)) (options : RunOptions) (old : List Step) (job : Job)
+        (entries : List Entry) (begin : Partition) → call_in words ≡ Some (calls.Run options)
+        → AsksFor (λ file. content_of file old) job
+        → FilesKeep job (λ file. content_of file old) entries begin → AreGivenIn job entries
+        → Keeps words old old settled_once causes.Memory → ⊥ }
+    ensures waiting { (words : List (List ℕ)) (partitions : ℕ)
+        → call_in words ≡ Some (calls.Show partitions)
+        → Keeps words [] [] [] (causes.Waiting (codes "a") 1) → ⊥ }
+    ensures written { (words : List (List ℕ)) (partitions : ℕ)
+        → call_in words ≡ Some (calls.Show partitions)
+        → KeepsUntold words [] (on 16 (wrote 0 1 (0 ∷ [])) ∷ []) [] causes.Memory → ⊥ }
 {}
 
 /// A fault comes where its count rose, and no count falls.

@@ -25,7 +25,8 @@ pub fn calls_begin()
     ensures fresh { FilesKeep one_asked good_files [] (fresh 0) }
     ensures fresh_given { AreGivenIn one_asked [] }
     ensures earlier_asks { AsksFor (directory requests_bytes earlier_log) one_asked }
-    ensures earlier { FilesKeep one_asked (directory requests_bytes earlier_log) (taking 0 ∷ []) request_taken }
+    ensures earlier { FilesKeep one_asked (directory requests_bytes earlier_log) (taking 0 ∷ [])
+        request_taken }
     ensures earlier_given { AreGivenIn one_asked (taking 0 ∷ []) }
     ensures torn { FilesKeep one_asked (directory requests_bytes torn_log) [] (fresh 0) }
     ensures other_state { FilesKeep one_asked good_files [] request_taken → ⊥ }
@@ -61,8 +62,10 @@ pub fn refusals_leave_all()
     ensures settled { LeavesAll [] [] settled_once → ⊥ }
     ensures usage { SettlesNothing None causes.Usage }
     ensures show { (partitions : ℕ) → SettlesNothing (Some (calls.Show partitions)) causes.Done }
-    ensures refusal { (options : RunOptions) → SettlesNothing (Some (calls.Run options)) (causes.BadRequests 1) }
-    ensures done { (options : RunOptions) → SettlesNothing (Some (calls.Run options)) causes.Done → ⊥ }
+    ensures refusal { (options : RunOptions)
+        → SettlesNothing (Some (calls.Run options)) (causes.BadRequests 1) }
+    ensures done { (options : RunOptions) → SettlesNothing (Some (calls.Run options)) causes.Done
+        → ⊥ }
     ensures fault { IsRefusal causes.SiteFault → ⊥ }
     ensures memory { IsRefusal causes.Memory → ⊥ }
 {}
@@ -73,9 +76,11 @@ pub fn refusals_touch_nothing()
     ensures flows { Untouched [] (on 16 synced ∷ []) (causes.BadFlows faults.NotJson) → ⊥ }
     ensures requests { Untouched [] (on 16 synced ∷ []) (causes.BadRequests 1) → ⊥ }
     ensures long { Untouched [] (on 16 synced ∷ []) (causes.TooLong 0) → ⊥ }
-    ensures clash { Untouched [] (on 16 (wrote 0 1 (0 ∷ [])) ∷ []) (causes.Clash (codes "a") 1) → ⊥ }
+    ensures clash { Untouched [] (on 16 (wrote 0 1 (0 ∷ [])) ∷ []) (causes.Clash (codes "a") 1)
+        → ⊥ }
     ensures shape { Untouched [] (on 16 (wrote 0 1 (0 ∷ [])) ∷ []) (causes.OtherShape 2 1) → ⊥ }
-    ensures other_flows { Untouched [] (on 16 (wrote 0 1 (0 ∷ [])) ∷ []) (causes.OtherFlows 1 2) → ⊥ }
+    ensures other_flows { Untouched [] (on 16 (wrote 0 1 (0 ∷ [])) ∷ []) (causes.OtherFlows 1 2)
+        → ⊥ }
     ensures illegal { Untouched [] (on 16 (wrote 0 1 (0 ∷ [])) ∷ []) (causes.Illegal 0 1) → ⊥ }
 {}
 
@@ -94,7 +99,8 @@ pub fn causes_of_files()
     ensures spent { CauseHolds good_files (causes.Spent 0 0) → ⊥ }
     ensures unclosed { (files : ℕ → List ℕ) → CauseHolds files (causes.Unclosed 0 0 0 0) → ⊥ }
     ensures done { CauseHolds (directory requests_bytes empty_log) causes.Done → ⊥ }
-    ensures waiting { CauseHolds (directory requests_bytes empty_log) (causes.Waiting (codes "a") 1) → ⊥ }
+    ensures waiting { CauseHolds (directory requests_bytes empty_log) (causes.Waiting (codes "a") 1)
+        → ⊥ }
     ensures many { CauseHolds (directory requests_bytes empty_log) (causes.Long 1) → ⊥ }
     ensures full { CauseHolds (directory requests_bytes empty_log) (causes.Full 0 4096) → ⊥ }
     ensures say_fault { CauseHolds (directory requests_bytes empty_log) causes.SayFault → ⊥ }

@@ -59,8 +59,10 @@ pub fn none_enabled()
 #[tactic(auto, using(crate::proofs::Moves::no_items, crate::proofs::Moves::one_item, crate::proofs::Moves::only_none))]
 pub fn makes()
     ensures none { Makes no_flows 1 0 begun [] [] begun }
-    ensures one { (made : List Outputs) × (q : Partition) × Makes no_flows 1 0 asked (ran asker sum 0 ∷ []) made q }
-    ensures only_none { (items : List Item) (made : List Outputs) (q : Partition) → Makes no_flows 1 0 begun items made q → items ≡ [] }
+    ensures one { (made : List Outputs) × (q : Partition)
+        × Makes no_flows 1 0 asked (ran asker sum 0 ∷ []) made q }
+    ensures only_none { (items : List Item) (made : List Outputs) (q : Partition)
+        → Makes no_flows 1 0 begun items made q → items ≡ [] }
 {}
 
 /// A partition is quiet where nothing is on its way or pending, and where an entity that another holds is asked.

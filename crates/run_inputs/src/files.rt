@@ -15,11 +15,13 @@ const INPUT_LIMIT: u64 = 16_777_216;
 /// The length of a file, unless it is too long.
 pub(crate) fn input_length<V: Site>(site: &mut V, file: u32) -> Result<u64, Cause>
     ensures tells { V.tells site.new → V.tells site.old }
-    ensures reads { V.tells site.new → LengthRead (content_of file (V.history site.old)) file result }
+    ensures reads { V.tells site.new → LengthRead (content_of file (V.history site.old)) file
+        result }
     ensures file_cause { IfErr result IsFileCause }
     ensures unchanged { V.history site.new ≡ V.history site.old }
     ensures later { V.disk_faults site.old ≤ V.disk_faults site.new }
-    ensures fault { result ≡ Err Cause.SiteFault → HasRisen (V.disk_faults site.old) (V.disk_faults site.new) }
+    ensures fault { result ≡ Err Cause.SiteFault
+        → HasRisen (V.disk_faults site.old) (V.disk_faults site.new) }
     ensures say_faults { V.say_faults site.new ≡ V.say_faults site.old }
 {
     match site.length(file) {
@@ -41,7 +43,8 @@ pub(crate) fn read_file<V: Site>(alloc: Global, site: &mut V, file: u32) -> Resu
     ensures file_cause { IfErr result IsFileCause }
     ensures unchanged { V.history site.new ≡ V.history site.old }
     ensures later { V.disk_faults site.old ≤ V.disk_faults site.new }
-    ensures fault { result ≡ Err Cause.SiteFault → HasRisen (V.disk_faults site.old) (V.disk_faults site.new) }
+    ensures fault { result ≡ Err Cause.SiteFault
+        → HasRisen (V.disk_faults site.old) (V.disk_faults site.new) }
     ensures say_faults { V.say_faults site.new ≡ V.say_faults site.old }
 {
     let length = input_length(site, file)?;

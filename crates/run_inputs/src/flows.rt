@@ -45,11 +45,13 @@ fn flow_file_of(alloc: Global, bytes: &[u8]) -> Result<FlowFile, Cause>
 /// Reads file 0, its length first.
 pub fn read_flow_file<V: Site>(alloc: Global, site: &mut V) -> Result<FlowFile, Cause>
     ensures tells { V.tells site.new → V.tells site.old }
-    ensures reads { V.tells site.new → ReadsFlowFile (λ file. content_of file (V.history site.old)) result }
+    ensures reads { V.tells site.new → ReadsFlowFile (λ file. content_of file (V.history site.old))
+        result }
     ensures flows_cause { IfErr result IsFlowsCause }
     ensures unchanged { V.history site.new ≡ V.history site.old }
     ensures later { V.disk_faults site.old ≤ V.disk_faults site.new }
-    ensures fault { result ≡ Err Cause.SiteFault → HasRisen (V.disk_faults site.old) (V.disk_faults site.new) }
+    ensures fault { result ≡ Err Cause.SiteFault
+        → HasRisen (V.disk_faults site.old) (V.disk_faults site.new) }
     ensures say_faults { V.say_faults site.new ≡ V.say_faults site.old }
 {
     let bytes = read_file(alloc, site, FLOWS)?;

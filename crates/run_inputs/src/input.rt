@@ -44,11 +44,13 @@ fn requests_of(alloc: Global, bytes: &[u8]) -> Result<Vec<Request>, Cause>
 /// The requests of file 1.
 fn read_request_file<V: Site>(alloc: Global, site: &mut V) -> Result<Vec<Request>, Cause>
     ensures tells { V.tells site.new → V.tells site.old }
-    ensures reads { V.tells site.new → ReadsRequestFile (content_of REQUESTS (V.history site.old)) result }
+    ensures reads { V.tells site.new → ReadsRequestFile (content_of REQUESTS (V.history site.old))
+        result }
     ensures input_cause { IfErr result IsInputCause }
     ensures unchanged { V.history site.new ≡ V.history site.old }
     ensures later { V.disk_faults site.old ≤ V.disk_faults site.new }
-    ensures fault { result ≡ Err Cause.SiteFault → HasRisen (V.disk_faults site.old) (V.disk_faults site.new) }
+    ensures fault { result ≡ Err Cause.SiteFault
+        → HasRisen (V.disk_faults site.old) (V.disk_faults site.new) }
     ensures say_faults { V.say_faults site.new ≡ V.say_faults site.old }
 {
     let bytes = read_file(alloc, site, REQUESTS)?;
@@ -62,7 +64,8 @@ fn check_plan<V: Site>(site: &mut V) -> Result<(), Cause>
     ensures input_cause { IfErr result IsInputCause }
     ensures unchanged { V.history site.new ≡ V.history site.old }
     ensures later { V.disk_faults site.old ≤ V.disk_faults site.new }
-    ensures fault { result ≡ Err Cause.SiteFault → HasRisen (V.disk_faults site.old) (V.disk_faults site.new) }
+    ensures fault { result ≡ Err Cause.SiteFault
+        → HasRisen (V.disk_faults site.old) (V.disk_faults site.new) }
     ensures say_faults { V.say_faults site.new ≡ V.say_faults site.old }
 {
     if input_length(site, PLAN)? == 0 {
@@ -77,11 +80,13 @@ fn check_plan<V: Site>(site: &mut V) -> Result<(), Cause>
 /// The requests of file 1, if file 2 is empty.
 fn read_rest<V: Site>(alloc: Global, site: &mut V) -> Result<Vec<Request>, Cause>
     ensures tells { V.tells site.new → V.tells site.old }
-    ensures reads { V.tells site.new → ReadsRest (λ file. content_of file (V.history site.old)) result }
+    ensures reads { V.tells site.new → ReadsRest (λ file. content_of file (V.history site.old))
+        result }
     ensures input_cause { IfErr result IsInputCause }
     ensures unchanged { V.history site.new ≡ V.history site.old }
     ensures later { V.disk_faults site.old ≤ V.disk_faults site.new }
-    ensures fault { result ≡ Err Cause.SiteFault → HasRisen (V.disk_faults site.old) (V.disk_faults site.new) }
+    ensures fault { result ≡ Err Cause.SiteFault
+        → HasRisen (V.disk_faults site.old) (V.disk_faults site.new) }
     ensures say_faults { V.say_faults site.new ≡ V.say_faults site.old }
 {
     let requests = read_request_file(alloc, site)?;
@@ -92,11 +97,13 @@ fn read_rest<V: Site>(alloc: Global, site: &mut V) -> Result<Vec<Request>, Cause
 /// Reads files 0 and 1 in this order, each one's length first, and looks at the length of file 2.
 pub fn read_input<V: Site>(alloc: Global, site: &mut V) -> Result<Input, Cause>
     ensures tells { V.tells site.new → V.tells site.old }
-    ensures reads { V.tells site.new → ReadsInput (λ file. content_of file (V.history site.old)) result }
+    ensures reads { V.tells site.new → ReadsInput (λ file. content_of file (V.history site.old))
+        result }
     ensures input_cause { IfErr result IsInputCause }
     ensures unchanged { V.history site.new ≡ V.history site.old }
     ensures later { V.disk_faults site.old ≤ V.disk_faults site.new }
-    ensures fault { result ≡ Err Cause.SiteFault → HasRisen (V.disk_faults site.old) (V.disk_faults site.new) }
+    ensures fault { result ≡ Err Cause.SiteFault
+        → HasRisen (V.disk_faults site.old) (V.disk_faults site.new) }
     ensures say_faults { V.say_faults site.new ≡ V.say_faults site.old }
 {
     let file = read_flow_file(alloc, site)?;

@@ -16,20 +16,27 @@ pub fn no_overlap()
 
 /// Who waits for an entity holds only smaller ones.
 pub fn waits_in_order()
-    ensures { (flows : Flows) (run : List Label) (w : World) → Legal flows run w → (id : Id) (shared smaller : Spot) → Waits w id shared → Holds w id smaller → spot_before smaller shared ≡ true }
+    ensures { (flows : Flows) (run : List Label) (w : World) → Legal flows run w
+        → (id : Id) (shared smaller : Spot) → Waits w id shared → Holds w id smaller
+        → spot_before smaller shared ≡ true }
 {}
 
 /// Nobody waits in a circle.
 pub fn no_circle()
-    ensures { (flows : Flows) (run : List Label) (w : World) → Legal flows run w → (id : Id) → Blocks w id id → ⊥ }
+    ensures { (flows : Flows) (run : List Label) (w : World) → Legal flows run w → (id : Id)
+        → Blocks w id id → ⊥ }
 {}
 
 /// An entity with a holder has a cause, so no lock is left behind.
 pub fn no_lock_left()
-    ensures { (flows : Flows) (run : List Label) (w : World) → Legal flows run w → (id : Id) (spot : Spot) → holder_of (w.entities (at_spot spot)) ≡ Some id → Because w id spot }
+    ensures { (flows : Flows) (run : List Label) (w : World) → Legal flows run w
+        → (id : Id) (spot : Spot) → holder_of (w.entities (at_spot spot)) ≡ Some id
+        → Because w id spot }
 {}
 
 /// Once no message is under way, an entity with a holder is held by an instance that runs inside a section with it.
 pub fn held_inside()
-    ensures { (flows : Flows) (run : List Label) (w : World) → Legal flows run w → ((from to : Id) → w.links from to ≡ []) → (id : Id) (spot : Spot) → holder_of (w.entities (at_spot spot)) ≡ Some id → RunsInside w id spot }
+    ensures { (flows : Flows) (run : List Label) (w : World) → Legal flows run w
+        → ((from to : Id) → w.links from to ≡ []) → (id : Id) (spot : Spot)
+        → holder_of (w.entities (at_spot spot)) ≡ Some id → RunsInside w id spot }
 {}

@@ -24,9 +24,12 @@ pub fn requests_due()
 /// where nobody asks.
 pub fn entries_following()
     ensures first { (flows : Flows) → Follows (rules_with flows) 0 [] [] (taking 0 ∷ []) }
-    ensures twice { (flows : Flows) (latest : ℕ) (told : Told) → Follows (rules_with flows) latest (taking 0 ∷ []) told (taking 1 ∷ []) → ⊥ }
-    ensures later { (flows : Flows) (latest : ℕ) (told : Told) → Follows (later_rules flows) latest [] told (taking 0 ∷ []) → ⊥ }
-    ensures unasked { (flows : Flows) (latest : ℕ) (told : Told) → Follows (silent_rules flows) latest [] told (taking 0 ∷ []) → ⊥ }
+    ensures twice { (flows : Flows) (latest : ℕ) (told : Told)
+        → Follows (rules_with flows) latest (taking 0 ∷ []) told (taking 1 ∷ []) → ⊥ }
+    ensures later { (flows : Flows) (latest : ℕ) (told : Told)
+        → Follows (later_rules flows) latest [] told (taking 0 ∷ []) → ⊥ }
+    ensures unasked { (flows : Flows) (latest : ℕ) (told : Told)
+        → Follows (silent_rules flows) latest [] told (taking 0 ∷ []) → ⊥ }
 {}
 
 /// A timer that fires at a stamp is of no later one than that, and of a later one than any before.
@@ -42,14 +45,20 @@ pub fn stamps_of_items()
 pub fn outcomes_of_pending()
     ensures there { (outcome : Outcome) → EndPending adding (ending 0 outcome ∷ []) }
     ensures other { (outcome : Outcome) → EndsPending adding (ended summing 4 outcome) → ⊥ }
-    ensures early { (outcome : Outcome) → EndPending (fresh 0) (taking 0 ∷ ending 1 outcome ∷ []) → ⊥ }
+    ensures early { (outcome : Outcome) → EndPending (fresh 0) (taking 0 ∷ ending 1 outcome ∷ [])
+        → ⊥ }
     ensures taken { EndPending (fresh 0) (taking 0 ∷ []) }
 {}
 
 /// The line of the answer that is there may be said, once, and no other line, nor where there is no answer.
 pub fn lines_answering()
-    ensures there { (flows : Flows) → Answers (answering_rules flows) [] [] (codes "a") 1 (line_of (codes "a") 1 was_started) }
-    ensures only { (flows : Flows) (line : List ℕ) → Answers (answering_rules flows) [] [] (codes "a") 1 line → line ≡ line_of (codes "a") 1 was_started }
-    ensures again { (flows : Flows) (line : List ℕ) → Answers (answering_rules flows) [] told_once (codes "a") 1 line → ⊥ }
-    ensures nowhere { (flows : Flows) (line : List ℕ) → Answers (rules_with flows) [] [] (codes "a") 1 line → ⊥ }
+    ensures there { (flows : Flows) → Answers (answering_rules flows) [] [] (codes "a") 1
+        (line_of (codes "a") 1 was_started) }
+    ensures only { (flows : Flows) (line : List ℕ)
+        → Answers (answering_rules flows) [] [] (codes "a") 1 line
+        → line ≡ line_of (codes "a") 1 was_started }
+    ensures again { (flows : Flows) (line : List ℕ)
+        → Answers (answering_rules flows) [] told_once (codes "a") 1 line → ⊥ }
+    ensures nowhere { (flows : Flows) (line : List ℕ)
+        → Answers (rules_with flows) [] [] (codes "a") 1 line → ⊥ }
 {}

@@ -27,14 +27,17 @@ pub fn entries_ours()
 /// Entries follow behind some that make a state, in which they are accepted.
 pub fn entries_accepted()
     ensures first { (flows : Flows) → Follows (rules_with flows) 0 [] [] (taking 0 ∷ []) }
-    ensures unmade { (flows : Flows) → Follows (rules_with flows) 0 (taking 0 ∷ taking 1 ∷ []) [] (taking 0 ∷ []) → ⊥ }
-    ensures refused { (flows : Flows) → Follows (rules_with flows) 0 (taking 0 ∷ []) [] (taking 1 ∷ []) → ⊥ }
+    ensures unmade { (flows : Flows) → Follows (rules_with flows) 0 (taking 0 ∷ taking 1 ∷ []) []
+        (taking 0 ∷ []) → ⊥ }
+    ensures refused { (flows : Flows) → Follows (rules_with flows) 0 (taking 0 ∷ []) []
+        (taking 1 ∷ []) → ⊥ }
 {}
 
 /// An outcome is one that its activity may give.
 pub fn outcomes_given()
     ensures failed { (flows : Flows) → Follows (asking_rules flows) 0 [] [] (ending 0 no_sum ∷ []) }
-    ensures done { (flows : Flows) → Follows (asking_rules flows) 0 [] [] (ending 0 (outcomes.Done values.Null) ∷ []) → ⊥ }
+    ensures done { (flows : Flows) → Follows (asking_rules flows) 0 [] []
+        (ending 0 (outcomes.Done values.Null) ∷ []) → ⊥ }
 {}
 
 /// The activity ran once the entry was settled that asks for it, and not in one frame with it.
@@ -45,6 +48,8 @@ pub fn outcomes_settled()
 
 /// A line answers the next request, by its number, once entries are settled that make a state.
 pub fn lines_next()
-    ensures unmade { (flows : Flows) (line : List ℕ) → Answers (answering_rules flows) (taking 0 ∷ taking 1 ∷ []) [] (codes "a") 1 line → ⊥ }
-    ensures number { (flows : Flows) (line : List ℕ) → Answers (answered_rules flows) [] [] (codes "a") 2 line → ⊥ }
+    ensures unmade { (flows : Flows) (line : List ℕ)
+        → Answers (answering_rules flows) (taking 0 ∷ taking 1 ∷ []) [] (codes "a") 1 line → ⊥ }
+    ensures number { (flows : Flows) (line : List ℕ)
+        → Answers (answered_rules flows) [] [] (codes "a") 2 line → ⊥ }
 {}

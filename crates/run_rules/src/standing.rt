@@ -17,15 +17,20 @@ ghost use Rattle.run_rules.specs.Stands.{state_next, FilesStand};
 /// Entries that are accepted one after another make of the world that the one partition shows what their labels do, where each
 /// outcome is one that its activity may give; and the log goes on behind them.
 pub fn entries_are_labels()
-    ensures { (flows : Flows) (p q : Partition) (entries : List Entry) → AreShown 1 (λ place. p) → IsNumbered (state_next p) entries → AllGiven flows 1 p entries → placed flows 1 p entries ≡ Ok q
-        → (after_from flows (shown_by flows p) (labels_in entries) ≡ Some (shown_by flows q)) × AreShown 1 (λ place. q) × (state_next q ≡ behind_all (state_next p) entries) }
+    ensures { (flows : Flows) (p q : Partition) (entries : List Entry) → AreShown 1 (λ place. p)
+        → IsNumbered (state_next p) entries → AllGiven flows 1 p entries
+        → placed flows 1 p entries ≡ Ok q
+        → (after_from flows (shown_by flows p) (labels_in entries) ≡ Some (shown_by flows q))
+        × AreShown 1 (λ place. q) × (state_next q ≡ behind_all (state_next p) entries) }
 {}
 
 /// Files whose entries are accepted one after another stand for the labels of these, where each outcome is one that its activity
 /// may give.
 pub fn labels_stand()
-    ensures { (flows : Flows) (digest : ℕ) (files : ℕ → List ℕ) (entries : List Entry) (q : Partition) → entries_in (logs_in (alone_with digest) files) ≡ Some entries → placed flows 1 (fresh 0) entries ≡ Ok q
-        → AllGiven flows 1 (fresh 0) entries → FilesStand flows digest files (labels_in entries) }
+    ensures { (flows : Flows) (digest : ℕ) (files : ℕ → List ℕ) (entries : List Entry)
+        (q : Partition) → entries_in (logs_in (alone_with digest) files) ≡ Some entries
+        → placed flows 1 (fresh 0) entries ≡ Ok q → AllGiven flows 1 (fresh 0) entries
+        → FilesStand flows digest files (labels_in entries) }
 {}
 
 /// A request is taken once.
@@ -38,6 +43,8 @@ pub fn requests_taken()
 /// are refused stand for none.
 pub fn files_stand()
     ensures empty { (flows : Flows) → FilesStand flows digest (two_files empty_log []) [] }
-    ensures taken { (flows : Flows) → FilesStand flows digest (two_files taking_log []) (take request.from 1 request ∷ []) }
-    ensures refused { (flows : Flows) (run : List Label) → FilesStand flows digest (two_files (slice_set empty_log 3 0) []) run → ⊥ }
+    ensures taken { (flows : Flows) → FilesStand flows digest (two_files taking_log [])
+        (take request.from 1 request ∷ []) }
+    ensures refused { (flows : Flows) (run : List Label)
+        → FilesStand flows digest (two_files (slice_set empty_log 3 0) []) run → ⊥ }
 {}

@@ -106,9 +106,9 @@ fn state_text(rt: &impl Abort, alloc: Global, recovered: Recovered) -> String {
     };
     assert!(rt; recovered.log.is_some() == (file != 0));
     drop(recovered);
-    format!(in alloc; "log {file} to {gate}, incarnation {incarnation}, taken {first} {second}").expect(
-        rt, "memory",
-    )
+    format!(in alloc;
+        "log {file} to {gate}, incarnation {incarnation}, taken {first} {second}"
+    ).expect(rt, "memory")
 }
 
 /// What was recovered, or why nothing was.
@@ -151,7 +151,8 @@ fn check(rt: &impl Abort, alloc: Global, lines: &str) {
 const NOTHING_YET: &str = "empty | empty | log 0 to 0, incarnation 0, taken false false
 byte 0, byte 1, byte 2 | byte 195 | log 0 to 0, incarnation 0, taken false false";
 
-const ONE_ENTRY: &str = "header, entry, byte 0 | empty | log 16 to 76, incarnation 1, taken true false
+const ONE_ENTRY: &str =
+    "header, entry, byte 0 | empty | log 16 to 76, incarnation 1, taken true false
 byte 0 | header, entry, byte 0 | log 17 to 76, incarnation 1, taken true false";
 
 const LIFE_BEHIND_THE_LAST: &str =

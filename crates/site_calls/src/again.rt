@@ -21,8 +21,8 @@ fn is_cut_off<T>(answer: &io::Result<T>) -> bool
 /// Looks whether a file is there.
 pub(crate) fn find_file<C: Calls>(calls: &mut C, file: u32) -> io::Result<bool>
     ensures tells { StaysHonest (C.events calls.old) (C.events calls.new) }
-    ensures noted { MatchResult result
-        (λ is_there. IsNoted (found file is_there) (C.events calls.old) (C.events calls.new))
+    ensures noted { MatchResult result (λ is_there.
+        IsNoted (found file is_there) (C.events calls.old) (C.events calls.new))
         (λ _. StandsStill (C.events calls.old) (C.events calls.new)) }
     ensures failure { FailsByCall is_disk_failure (C.events calls.old) (C.events calls.new) result }
 {
@@ -39,8 +39,8 @@ pub(crate) fn find_file<C: Calls>(calls: &mut C, file: u32) -> io::Result<bool>
 /// How many bytes a file has that was found or made.
 pub(crate) fn measure_file<C: Calls>(calls: &mut C, file: u32) -> io::Result<u64>
     ensures tells { StaysHonest (C.events calls.old) (C.events calls.new) }
-    ensures noted { MatchResult result
-        (λ size. IsNoted (measured file size) (C.events calls.old) (C.events calls.new))
+    ensures noted { MatchResult result (λ size.
+        IsNoted (measured file size) (C.events calls.old) (C.events calls.new))
         (λ _. StandsStill (C.events calls.old) (C.events calls.new)) }
     ensures failure { FailsByCall is_disk_failure (C.events calls.old) (C.events calls.new) result }
 {
@@ -66,8 +66,9 @@ pub(crate) fn read_some<C: Calls>(
     ensures tells { StaysHonest (C.events calls.old) (C.events calls.new) }
     ensures front { take done out.new ≡ take done out.old }
     ensures count { IfOk result (λ count. done + count ≤ length out.old) }
-    ensures noted { MatchResult result
-        (λ count. IsNoted (got file at (length out.old) count (take (done + count) out.new)) (C.events calls.old) (C.events calls.new))
+    ensures noted { MatchResult result (λ count.
+        IsNoted (got file at (length out.old) count (take (done + count) out.new))
+        (C.events calls.old) (C.events calls.new))
         (λ _. StandsStill (C.events calls.old) (C.events calls.new)) }
     ensures failure { FailsByCall is_disk_failure (C.events calls.old) (C.events calls.new) result }
 {
@@ -93,8 +94,10 @@ pub(crate) fn write_some<C: Calls>(
     ensures tells { StaysHonest (C.events calls.old) (C.events calls.new) }
     ensures some { IfOk result (λ count. 0 < count) }
     ensures count { IfOk result (λ count. done + count ≤ length bytes.now) }
-    ensures writing { (unseen : Unseen) (start : Standing) → IsWriting file at bytes.now done start (replay unseen (C.events calls.old)) → MatchResult result
-        (λ count. IsWriting file at bytes.now (done + count) start (replay unseen (C.events calls.new)))
+    ensures writing { (unseen : Unseen) (start : Standing)
+        → IsWriting file at bytes.now done start (replay unseen (C.events calls.old))
+        → MatchResult result (λ count.
+        IsWriting file at bytes.now (done + count) start (replay unseen (C.events calls.new)))
         (λ _. IsWriting file at bytes.now done start (replay unseen (C.events calls.new))) }
     ensures failure { FailsByCall is_disk_failure (C.events calls.old) (C.events calls.new) result }
 {
@@ -114,9 +117,9 @@ pub(crate) fn print_some<C: Calls>(calls: &mut C, done: usize, line: &[u8]) -> i
     ensures tells { StaysHonest (C.events calls.old) (C.events calls.new) }
     ensures some { IfOk result (λ count. 0 < count) }
     ensures count { IfOk result (λ count. done + count ≤ length line.now) }
-    ensures noted { MatchResult result
-        (λ count. IsNoted (printed (take count (drop done line.now))) (C.events calls.old) (C.events calls.new))
-        (λ _. StandsStill (C.events calls.old) (C.events calls.new)) }
+    ensures noted { MatchResult result (λ count.
+        IsNoted (printed (take count (drop done line.now))) (C.events calls.old)
+        (C.events calls.new)) (λ _. StandsStill (C.events calls.old) (C.events calls.new)) }
     ensures failure { FailsByCall is_say_failure (C.events calls.old) (C.events calls.new) result }
 {
     let mut answer = calls.print_some(done, line);

@@ -16,20 +16,19 @@ pub trait Calls {
     /// Looks whether a file is there, and opens it if it is. What it holds is safe then, and so is its name. Only where
     /// the system says that there is no such file it isn't there.
     fn find(&mut self, file: u32) -> io::Result<bool>
-        ensures noted { MatchResult result
-            (λ is_there. events self.new ≡ found file is_there ∷ events self.old)
+        ensures noted { MatchResult result (λ is_there. events self.new
+            ≡ found file is_there ∷ events self.old)
             (λ _. events self.new ≡ failed file ∷ events self.old) };
 
     /// Makes a file that isn't there.
     fn make(&mut self, file: u32) -> io::Result<()>
-        ensures noted { MatchResult result
-            (λ _. events self.new ≡ made file ∷ events self.old)
+        ensures noted { MatchResult result (λ _. events self.new ≡ made file ∷ events self.old)
             (λ _. events self.new ≡ failed file ∷ events self.old) };
 
     /// How many bytes a file has that was found or made.
     fn measure(&mut self, file: u32) -> io::Result<u64>
-        ensures noted { MatchResult result
-            (λ size. events self.new ≡ measured file size ∷ events self.old)
+        ensures noted { MatchResult result (λ size. events self.new
+            ≡ measured file size ∷ events self.old)
             (λ _. events self.new ≡ failed file ∷ events self.old) };
 
     /// Goes on with a read of `out.len()` bytes from offset `at` on, of which `done` have come.
@@ -37,8 +36,8 @@ pub trait Calls {
         requires { done < length out.old }
         ensures front { take done out.new ≡ take done out.old }
         ensures count { IfOk result (λ count. done + count ≤ length out.old) }
-        ensures noted { MatchResult result
-            (λ count. events self.new ≡ got file at (length out.old) count (take (done + count) out.new) ∷ events self.old)
+        ensures noted { MatchResult result (λ count. events self.new
+            ≡ got file at (length out.old) count (take (done + count) out.new) ∷ events self.old)
             (λ _. events self.new ≡ failed file ∷ events self.old) };
 
     /// Notes that a write of so many bytes at this offset begins. It makes no call.
@@ -51,8 +50,8 @@ pub trait Calls {
         requires { done < length bytes.now }
         ensures some { IfOk result (λ count. 0 < count) }
         ensures count { IfOk result (λ count. done + count ≤ length bytes.now) }
-        ensures noted { MatchResult result
-            (λ count. events self.new ≡ put (take (done + count) bytes.now) ∷ events self.old)
+        ensures noted { MatchResult result (λ count. events self.new
+            ≡ put (take (done + count) bytes.now) ∷ events self.old)
             (λ _. events self.new ≡ lost (take done bytes.now) ∷ events self.old) };
 
     /// Makes safe what a file holds that was found or made.
@@ -78,8 +77,8 @@ pub trait Calls {
         requires { done < length line.now }
         ensures some { IfOk result (λ count. 0 < count) }
         ensures count { IfOk result (λ count. done + count ≤ length line.now) }
-        ensures noted { MatchResult result
-            (λ count. events self.new ≡ printed (take count (drop done line.now)) ∷ events self.old)
+        ensures noted { MatchResult result (λ count. events self.new
+            ≡ printed (take count (drop done line.now)) ∷ events self.old)
             (λ _. events self.new ≡ unprinted ∷ events self.old) };
 }
 

@@ -27,7 +27,8 @@ pub struct Fault {
 pub fn counted<T>(outcome: io::Result<T>, faults: &mut u64) -> Result<T, Failed>
     ensures cause { HasCause faults.old faults.new result }
     ensures same { IfOk result (λ value. outcome ≡ Ok value) }
-    ensures once { MatchResult outcome (λ _. faults.new ≡ faults.old) (λ _. faults.new ≤ faults.old + 1) }
+    ensures once { MatchResult outcome (λ _. faults.new ≡ faults.old)
+        (λ _. faults.new ≤ faults.old + 1) }
 {
     match outcome {
         Ok(value) => Ok(value),
@@ -40,7 +41,8 @@ pub fn counted<T>(outcome: io::Result<T>, faults: &mut u64) -> Result<T, Failed>
 
 /// The outcome with the place of its error.
 pub(crate) fn placed<T>(place: FaultPlace, outcome: io::Result<T>) -> Result<T, Fault>
-    ensures { MatchResult result (λ value. outcome ≡ Ok value) (λ fault. (outcome ≡ Err fault.error) × (fault.place ≡ place)) }
+    ensures { MatchResult result (λ value. outcome ≡ Ok value)
+        (λ fault. (outcome ≡ Err fault.error) × (fault.place ≡ place)) }
 {
     match outcome {
         Ok(value) => Ok(value),
@@ -56,7 +58,8 @@ pub(crate) fn noted<T>(
 ) -> Result<T, Failed>
     ensures cause { HasCause faults.old faults.new result }
     ensures same { IfOk result (λ value. outcome ≡ Ok value) }
-    ensures once { MatchResult outcome (λ _. faults.new ≡ faults.old) (λ _. faults.new ≤ faults.old + 1) }
+    ensures once { MatchResult outcome (λ _. faults.new ≡ faults.old)
+        (λ _. faults.new ≤ faults.old + 1) }
     ensures last { MatchResult outcome (λ _. last.new ≡ last.old) (λ fault. last.new ≡ Some fault) }
 {
     match outcome {

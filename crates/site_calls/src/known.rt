@@ -31,7 +31,8 @@ impl Known {
     }
 
     pub(crate) fn count_steps(&mut self, count: u64)
-        ensures { self.new ≡ record self.old { moment = min (self.old.moment + count) (2 ^ 64 - 1) } }
+        ensures { self.new ≡ record self.old
+            { moment = min (self.old.moment + count) (2 ^ 64 - 1) } }
     {
         self.moment = self.moment.saturating_add(count);
     }

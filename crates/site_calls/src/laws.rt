@@ -7,8 +7,10 @@ ghost use Rattle.site_calls.specs.Laws.{failed_events, answered_events, HasHones
 
 /// Before the first call each file reads as it was held at the start, and behind the last number there is none.
 pub fn a_file_reads_as_it_was_held()
-    ensures held { (files : ℕ → List ℕ) (file : ℕ) → file < file_numbers → content_of file (start_of files) ≡ files file }
-    ensures none { (files : ℕ → List ℕ) (file : ℕ) → file_numbers ≤ file → content_of file (start_of files) ≡ [] }
+    ensures held { (files : ℕ → List ℕ) (file : ℕ) → file < file_numbers
+        → content_of file (start_of files) ≡ files file }
+    ensures none { (files : ℕ → List ℕ) (file : ℕ) → file_numbers ≤ file
+        → content_of file (start_of files) ≡ [] }
 {}
 
 /// No history shuts out that the next answer agrees with it.
@@ -28,7 +30,8 @@ pub fn a_wrong_answer_is_seen()
 
 /// Answers that agreed do so whatever follows, and those that didn't never will.
 pub fn the_past_stays()
-    ensures { (unseen : Unseen) (later events : List Event) → IsHonest unseen (later ++ events) → IsHonest unseen events }
+    ensures { (unseen : Unseen) (later events : List Event) → IsHonest unseen (later ++ events)
+        → IsHonest unseen events }
 {}
 
 /// Each call that failed counts once, and no other counts.
@@ -40,21 +43,28 @@ pub fn just_failed_calls_count()
 /// An error comes with a call more that failed, and not with another one, nor may a call be taken back.
 pub fn an_error_has_its_call()
     ensures has { (error : ℕ) → FailsByCall {T = ℕ} is_disk_failure [] (failed 0 ∷ []) (Err error) }
-    ensures has_not { (error : ℕ) → FailsByCall {T = ℕ} is_disk_failure (failed 0 ∷ []) (found 0 true ∷ failed 0 ∷ []) (Err error) → ⊥ }
-    ensures taken_back { (value : ℕ) → FailsByCall {E = ℕ} is_disk_failure (failed 0 ∷ []) [] (Ok value) → ⊥ }
+    ensures has_not { (error : ℕ) → FailsByCall {T = ℕ} is_disk_failure (failed 0 ∷ [])
+        (found 0 true ∷ failed 0 ∷ []) (Err error) → ⊥ }
+    ensures taken_back { (value : ℕ) → FailsByCall {E = ℕ} is_disk_failure (failed 0 ∷ []) []
+        (Ok value) → ⊥ }
 {}
 
 /// A sync counts only where every name is safe and no sync has failed.
 pub fn a_sync_counts_where_names_are_safe()
-    ensures counts { (unseen : Unseen) (events : List Event) (file : ℕ) → SyncCounts file unseen events }
-    ensures made { (unseen : Unseen) (events : List Event) (file : ℕ) → (replay unseen (made file ∷ events)).loose ≡ true }
-    ensures named { (unseen : Unseen) (events : List Event) → (replay unseen (named true ∷ events)).loose ≡ false }
+    ensures counts { (unseen : Unseen) (events : List Event) (file : ℕ)
+        → SyncCounts file unseen events }
+    ensures made { (unseen : Unseen) (events : List Event) (file : ℕ)
+        → (replay unseen (made file ∷ events)).loose ≡ true }
+    ensures named { (unseen : Unseen) (events : List Event)
+        → (replay unseen (named true ∷ events)).loose ≡ false }
 {}
 
 /// After a sync that failed, of a file or of the names, no later one counts.
 pub fn a_failed_sync_stays()
-    ensures file { (unseen : Unseen) (later events : List Event) (file : ℕ) → (replay unseen (later ++ flushed file false ∷ events)).broken ≡ true }
-    ensures names { (unseen : Unseen) (later events : List Event) → (replay unseen (later ++ named false ∷ events)).broken ≡ true }
+    ensures file { (unseen : Unseen) (later events : List Event) (file : ℕ)
+        → (replay unseen (later ++ flushed file false ∷ events)).broken ≡ true }
+    ensures names { (unseen : Unseen) (later events : List Event)
+        → (replay unseen (later ++ named false ∷ events)).broken ≡ true }
 {}
 
 /// What a write that failed leaves is not told by any answer. It stays within what was asked for, and the bytes that
@@ -62,6 +72,8 @@ pub fn a_failed_sync_stays()
 pub fn a_lost_write_leaves_what_was_unseen()
     ensures content { (unseen : Unseen) (events : List Event) → LeavesUnseen unseen events }
     ensures within { (bytes left : List ℕ) (size : ℕ) → length (left_by bytes size left) ≤ size }
-    ensures front { (bytes left : List ℕ) (size : ℕ) → length bytes ≤ size → take (length bytes) (left_by bytes size left) ≡ bytes }
-    ensures behind { (bytes left : List ℕ) (size : ℕ) → length bytes ≤ size → drop (length bytes) (left_by bytes size left) ≡ drop (length bytes) (take size left) }
+    ensures front { (bytes left : List ℕ) (size : ℕ) → length bytes ≤ size
+        → take (length bytes) (left_by bytes size left) ≡ bytes }
+    ensures behind { (bytes left : List ℕ) (size : ℕ) → length bytes ≤ size
+        → drop (length bytes) (left_by bytes size left) ≡ drop (length bytes) (take size left) }
 {}

@@ -13,8 +13,10 @@ use std::io;
 /// Prints a whole line.
 pub(crate) fn print_line<C: Calls>(calls: &mut C, known: &mut Known, line: &[u8]) -> io::Result<()>
     ensures tells { StaysHonest (C.events calls.old) (C.events calls.new) }
-    ensures known { (unseen : Unseen) → Knows known.old (replay unseen (C.events calls.old)) → Knows known.new (replay unseen (C.events calls.new)) }
-    ensures done { (unseen : Unseen) → Says line.now (replay unseen (C.events calls.old)).steps (replay unseen (C.events calls.new)).steps result }
+    ensures known { (unseen : Unseen) → Knows known.old (replay unseen (C.events calls.old))
+        → Knows known.new (replay unseen (C.events calls.new)) }
+    ensures done { (unseen : Unseen) → Says line.now (replay unseen (C.events calls.old)).steps
+        (replay unseen (C.events calls.new)).steps result }
     ensures failure { FailsByCall is_say_failure (C.events calls.old) (C.events calls.new) result }
 {
     let mut done = 0;

@@ -15,7 +15,8 @@ pub(crate) fn length_of<C: Calls>(calls: &mut C, file: u32) -> io::Result<u64>
     ensures tells { StaysHonest (C.events calls.old) (C.events calls.new) }
     ensures still { StandsStill (C.events calls.old) (C.events calls.new) }
     ensures value { (unseen : Unseen) → IsHonest unseen (C.events calls.new)
-        → IfOk result (λ size. size ≡ length (content_of file (replay unseen (C.events calls.old)).steps)) }
+        → IfOk result (λ size. size
+        ≡ length (content_of file (replay unseen (C.events calls.old)).steps)) }
     ensures failure { FailsByCall is_disk_failure (C.events calls.old) (C.events calls.new) result }
 {
     if find_file(calls, file)? {
@@ -36,7 +37,8 @@ pub(crate) fn read_file<C: Calls>(
     ensures still { StandsStill (C.events calls.old) (C.events calls.new) }
     ensures count { IfOk result (λ count. count ≤ length out.old) }
     ensures value { (unseen : Unseen) → IsHonest unseen (C.events calls.new)
-        → IfOk result (Reads (content_of file (replay unseen (C.events calls.old)).steps) at out.old out.new) }
+        → IfOk result (Reads (content_of file (replay unseen (C.events calls.old)).steps) at out.old
+        out.new) }
     ensures failure { FailsByCall is_disk_failure (C.events calls.old) (C.events calls.new) result }
 {
     if find_file(calls, file)? {
@@ -52,7 +54,8 @@ fn read_on<C: Calls>(calls: &mut C, file: u32, at: u64, out: &mut [u8]) -> io::R
     ensures still { StandsStill (C.events calls.old) (C.events calls.new) }
     ensures count { IfOk result (λ count. count ≤ length out.old) }
     ensures value { (unseen : Unseen) → IsHonest unseen (C.events calls.new)
-        → IfOk result (Reads (content_of file (replay unseen (C.events calls.old)).steps) at out.old out.new) }
+        → IfOk result (Reads (content_of file (replay unseen (C.events calls.old)).steps) at out.old
+        out.new) }
     ensures failure { FailsByCall is_disk_failure (C.events calls.old) (C.events calls.new) result }
 {
     let mut done = 0;

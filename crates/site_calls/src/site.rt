@@ -29,7 +29,8 @@ pub struct CalledSite<C: Calls, S: Start> {
     fault: Option<Fault>,
     start: PhantomData<S>,
     ghost knows: { Knows known (replay S.unseen (C.events calls)) } by { Prim.hlevel props },
-    ghost inside: { Tells S.unseen (C.events calls) → (file : ℕ) → writes_inside (changes_of file (replay S.unseen (C.events calls)).steps) ≡ true } by { Prim.hlevel props },
+    ghost inside: { Tells S.unseen (C.events calls) → (file : ℕ)
+        → writes_inside (changes_of file (replay S.unseen (C.events calls)).steps) ≡ true } by { Prim.hlevel props },
     // each fault has a call of its own that failed
     pub ghost disk_calls: { disk_faults ≤ disk_failures (C.events calls) } by { Prim.hlevel props },
     pub ghost say_calls: { say_faults ≤ say_failures (C.events calls) } by { Prim.hlevel props },

@@ -16,9 +16,11 @@ use std::io;
 pub(crate) fn sync_file<C: Calls>(calls: &mut C, known: &mut Known, file: u32) -> Result<(), Fault>
     requires { (unseen : Unseen) × Knows known.old (replay unseen (C.events calls.old)) }
     ensures tells { StaysHonest (C.events calls.old) (C.events calls.new) }
-    ensures known { (unseen : Unseen) → Knows known.old (replay unseen (C.events calls.old)) → Knows known.new (replay unseen (C.events calls.new)) }
+    ensures known { (unseen : Unseen) → Knows known.old (replay unseen (C.events calls.old))
+        → Knows known.new (replay unseen (C.events calls.new)) }
     ensures done { (unseen : Unseen) → Knows known.old (replay unseen (C.events calls.old))
-        → Syncs file (replay unseen (C.events calls.old)).steps (replay unseen (C.events calls.new)).steps result }
+        → Syncs file (replay unseen (C.events calls.old)).steps
+        (replay unseen (C.events calls.new)).steps result }
     ensures failure { FailsByCall is_disk_failure (C.events calls.old) (C.events calls.new) result }
 {
     match find_file(calls, file) {
@@ -40,9 +42,11 @@ pub(crate) fn sync_file<C: Calls>(calls: &mut C, known: &mut Known, file: u32) -
 fn make_safe<C: Calls>(calls: &mut C, known: &mut Known, file: u32) -> Result<(), Fault>
     requires { (unseen : Unseen) × Knows known.old (replay unseen (C.events calls.old)) }
     ensures tells { StaysHonest (C.events calls.old) (C.events calls.new) }
-    ensures known { (unseen : Unseen) → Knows known.old (replay unseen (C.events calls.old)) → Knows known.new (replay unseen (C.events calls.new)) }
+    ensures known { (unseen : Unseen) → Knows known.old (replay unseen (C.events calls.old))
+        → Knows known.new (replay unseen (C.events calls.new)) }
     ensures done { (unseen : Unseen) → Knows known.old (replay unseen (C.events calls.old))
-        → Syncs file (replay unseen (C.events calls.old)).steps (replay unseen (C.events calls.new)).steps result }
+        → Syncs file (replay unseen (C.events calls.old)).steps
+        (replay unseen (C.events calls.new)).steps result }
     ensures failure { FailsByCall is_disk_failure (C.events calls.old) (C.events calls.new) result }
 {
     if known.is_broken {
@@ -59,8 +63,10 @@ fn make_safe<C: Calls>(calls: &mut C, known: &mut Known, file: u32) -> Result<()
 /// Makes the names safe where one is loose.
 fn secure_names<C: Calls>(calls: &mut C, known: &mut Known) -> Result<(), Fault>
     ensures tells { StaysHonest (C.events calls.old) (C.events calls.new) }
-    ensures known { (unseen : Unseen) → Knows known.old (replay unseen (C.events calls.old)) → Knows known.new (replay unseen (C.events calls.new)) }
-    ensures same { (unseen : Unseen) → (replay unseen (C.events calls.new)).steps ≡ (replay unseen (C.events calls.old)).steps }
+    ensures known { (unseen : Unseen) → Knows known.old (replay unseen (C.events calls.old))
+        → Knows known.new (replay unseen (C.events calls.new)) }
+    ensures same { (unseen : Unseen) → (replay unseen (C.events calls.new)).steps
+        ≡ (replay unseen (C.events calls.old)).steps }
     ensures safe { OnOk result (known.new ≡ record known.old { is_loose = false }) }
     ensures failure { FailsByCall is_disk_failure (C.events calls.old) (C.events calls.new) result }
 {
@@ -80,9 +86,11 @@ fn flush_file<C: Calls>(calls: &mut C, known: &mut Known, file: u32) -> Result<(
     requires named { known.old.is_loose ≡ false }
     requires unbroken { known.old.is_broken ≡ false }
     ensures tells { StaysHonest (C.events calls.old) (C.events calls.new) }
-    ensures known { (unseen : Unseen) → Knows known.old (replay unseen (C.events calls.old)) → Knows known.new (replay unseen (C.events calls.new)) }
+    ensures known { (unseen : Unseen) → Knows known.old (replay unseen (C.events calls.old))
+        → Knows known.new (replay unseen (C.events calls.new)) }
     ensures done { (unseen : Unseen) → Knows known.old (replay unseen (C.events calls.old))
-        → Syncs file (replay unseen (C.events calls.old)).steps (replay unseen (C.events calls.new)).steps result }
+        → Syncs file (replay unseen (C.events calls.old)).steps
+        (replay unseen (C.events calls.new)).steps result }
     ensures failure { FailsByCall is_disk_failure (C.events calls.old) (C.events calls.new) result }
 {
     match calls.flush(file) {

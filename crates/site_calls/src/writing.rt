@@ -20,8 +20,11 @@ pub(crate) fn write_file<C: Calls>(
     bytes: &[u8],
 ) -> io::Result<()>
     ensures tells { StaysHonest (C.events calls.old) (C.events calls.new) }
-    ensures known { (unseen : Unseen) → Knows known.old (replay unseen (C.events calls.old)) → Knows known.new (replay unseen (C.events calls.new)) }
-    ensures done { (unseen : Unseen) → Writes file at bytes.now (replay unseen (C.events calls.old)).steps (replay unseen (C.events calls.new)).steps result }
+    ensures known { (unseen : Unseen) → Knows known.old (replay unseen (C.events calls.old))
+        → Knows known.new (replay unseen (C.events calls.new)) }
+    ensures done { (unseen : Unseen) → Writes file at bytes.now
+        (replay unseen (C.events calls.old)).steps (replay unseen (C.events calls.new)).steps
+        result }
     ensures failure { FailsByCall is_disk_failure (C.events calls.old) (C.events calls.new) result }
 {
     find_or_make(calls, known, file)?;
@@ -32,8 +35,10 @@ pub(crate) fn write_file<C: Calls>(
 /// Makes a file where it isn't there.
 fn find_or_make<C: Calls>(calls: &mut C, known: &mut Known, file: u32) -> io::Result<()>
     ensures tells { StaysHonest (C.events calls.old) (C.events calls.new) }
-    ensures known { (unseen : Unseen) → Knows known.old (replay unseen (C.events calls.old)) → Knows known.new (replay unseen (C.events calls.new)) }
-    ensures same { (unseen : Unseen) → (replay unseen (C.events calls.new)).steps ≡ (replay unseen (C.events calls.old)).steps }
+    ensures known { (unseen : Unseen) → Knows known.old (replay unseen (C.events calls.old))
+        → Knows known.new (replay unseen (C.events calls.new)) }
+    ensures same { (unseen : Unseen) → (replay unseen (C.events calls.new)).steps
+        ≡ (replay unseen (C.events calls.old)).steps }
     ensures failure { FailsByCall is_disk_failure (C.events calls.old) (C.events calls.new) result }
 {
     if !find_file(calls, file)? {
@@ -46,7 +51,8 @@ fn find_or_make<C: Calls>(calls: &mut C, known: &mut Known, file: u32) -> io::Re
 /// Begins a write, and goes on until all bytes are written.
 fn write_on<C: Calls>(calls: &mut C, file: u32, at: u64, bytes: &[u8]) -> io::Result<()>
     ensures tells { StaysHonest (C.events calls.old) (C.events calls.new) }
-    ensures done { (unseen : Unseen) → WritesOnce file at bytes.now (replay unseen (C.events calls.old)) (replay unseen (C.events calls.new)) result }
+    ensures done { (unseen : Unseen) → WritesOnce file at bytes.now
+        (replay unseen (C.events calls.old)) (replay unseen (C.events calls.new)) result }
     ensures failure { FailsByCall is_disk_failure (C.events calls.old) (C.events calls.new) result }
 {
     calls.begin_write(file, at, bytes.len());

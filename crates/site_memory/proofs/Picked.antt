@@ -11,8 +11,6 @@ use Rattle.site_memory.specs.declared.pick.Pick.TheVariants.{Stable, All, Torn a
 use Rattle.site_memory.specs.Record.{grown}
 use Rattle.site_memory.specs.Picked.{filled, after_write, torn, picked}
 
-}
-
 length-front : (byte at end : ℕ) (old : List ℕ) → at ≤ end → length (take at old ++ replicate (end - min at (length old)) byte) ≡ end
 length-front byte at end old order =
     omega (arith, length-append (take at old) (replicate (end - min at (length old)) byte), length-take at old, length-replicate (end - min at (length old)) byte)

@@ -14,9 +14,13 @@ use std::alloc::{AllocError, Global};
 /// The record of a site that starts from such an image of these entries, and from their tape.
 pub(crate) fn image_of(alloc: Global, kept: &[Kept], pick: Pick) -> Result<Vec<Kept>, AllocError>
     requires { AllInside (history_of kept.now) }
-    ensures picked { IfOk result (λ made. (file : ℕ) → content_of file (history_of made.items) ≡ picked pick (changes_of file (history_of kept.now))) }
-    ensures image { IfOk result (λ made. IsImage (history_of kept.now) (λ file. content_of file (history_of made.items))) }
-    ensures kept { IfOk result (λ made. (file : ℕ) → IsKept (changes_of file (history_of made.items))) }
+    ensures picked { IfOk result (λ made. (file : ℕ)
+        → content_of file (history_of made.items)
+        ≡ picked pick (changes_of file (history_of kept.now))) }
+    ensures image { IfOk result (λ made.
+        IsImage (history_of kept.now) (λ file. content_of file (history_of made.items))) }
+    ensures kept { IfOk result (λ made. (file : ℕ)
+        → IsKept (changes_of file (history_of made.items))) }
     ensures tape { IfOk result (λ made. tape (history_of made.items) ≡ tape (history_of kept.now)) }
     ensures inside { IfOk result (λ made. AllInside (history_of made.items)) }
 {
@@ -26,7 +30,8 @@ pub(crate) fn image_of(alloc: Global, kept: &[Kept], pick: Pick) -> Result<Vec<K
 }
 
 fn add_tape(alloc: Global, made: &mut Vec<Kept>, kept: &[Kept]) -> Result<(), AllocError>
-    ensures { OnOk result (history_of made.new.items ≡ saying (tape (history_of kept.now)) (history_of made.old.items)) }
+    ensures { OnOk result (history_of made.new.items
+        ≡ saying (tape (history_of kept.now)) (history_of made.old.items)) }
 {
     let line = tape_in(alloc, kept)?;
     made.reserve(line.len())?;
@@ -36,7 +41,8 @@ fn add_tape(alloc: Global, made: &mut Vec<Kept>, kept: &[Kept]) -> Result<(), Al
 
 // A record of the files alone, each with one image.
 fn files_of(alloc: Global, kept: &[Kept], pick: Pick) -> Result<Vec<Kept>, AllocError>
-    ensures { IfOk result (λ made. IsStart pick (history_of kept.now) (history_of kept.now) (history_of made.items)) }
+    ensures { IfOk result (λ made. IsStart pick (history_of kept.now) (history_of kept.now)
+        (history_of made.items)) }
 {
     let mut made = Vec::new(alloc);
     for entry in kept {
@@ -53,7 +59,8 @@ fn add_changed(
     entry: Kept,
     pick: Pick,
 ) -> Result<(), AllocError>
-    ensures { OnOk result ((walked : List Step) → IsStart pick (history_of kept.now) walked (history_of made.old.items)
+    ensures { OnOk result ((walked : List Step)
+        → IsStart pick (history_of kept.now) walked (history_of made.old.items)
         → IsStart pick (history_of kept.now) (next entry walked) (history_of made.new.items)) }
 {
     match entry {
@@ -78,8 +85,10 @@ fn add_once(
     file: u32,
     pick: Pick,
 ) -> Result<(), AllocError>
-    ensures { OnOk result ((walked : List Step) (change : Change) → IsStart pick (history_of kept.now) walked (history_of made.old.items)
-        → IsStart pick (history_of kept.now) (on file change ∷ walked) (history_of made.new.items)) }
+    ensures { OnOk result ((walked : List Step) (change : Change)
+        → IsStart pick (history_of kept.now) walked (history_of made.old.items)
+        → IsStart pick (history_of kept.now) (on file change ∷ walked)
+        (history_of made.new.items)) }
 {
     if count_changes(made, file) > 0 {
         return Ok(());
@@ -90,7 +99,9 @@ fn add_once(
 }
 
 fn add_file(made: &mut Vec<Kept>, file: u32, bytes: &[u8]) -> Result<(), AllocError>
-    ensures { OnOk result (history_of made.new.items ≡ on file synced ∷ on file (wrote 0 (length bytes.now) bytes.now) ∷ history_of made.old.items) }
+    ensures { OnOk result (history_of made.new.items
+        ≡ on file synced ∷ on file (wrote 0 (length bytes.now) bytes.now)
+        ∷ history_of made.old.items) }
 {
     let Some(room) = bytes.len().checked_add(1) else {
         return Err(AllocError);

@@ -65,13 +65,16 @@ impl MemorySite {
     /// room for the bytes and two calls.
     pub fn prepare(&mut self, file: u32, at: u64, bytes: &[u8]) -> Result<(), Failed>
         requires { at ≤ length (content_of file (memory_history self.old)) }
-        ensures done { OnOk result (memory_history self.new ≡ on file synced ∷ on file (wrote at (length bytes.now) bytes.now) ∷ memory_history self.old) }
+        ensures done { OnOk result (memory_history self.new
+            ≡ on file synced ∷ on file (wrote at (length bytes.now) bytes.now)
+            ∷ memory_history self.old) }
         ensures bytes { OnOk result (bytes_left self.new + length bytes.now ≡ bytes_left self.old) }
         ensures calls { OnOk result (calls_left self.new + 2 ≡ calls_left self.old) }
         ensures disk_faults { memory_disk_faults self.new ≡ memory_disk_faults self.old }
         ensures say_faults { memory_say_faults self.new ≡ memory_say_faults self.old }
         ensures no_calls { (kind : Kind) → calls_of kind self.new ≡ calls_of kind self.old }
-        ensures no_room { OnErr result ((bytes_left self.old < length bytes.now) ⊎ (calls_left self.old < 2)) }
+        ensures no_room { OnErr result ((bytes_left self.old < length bytes.now)
+            ⊎ (calls_left self.old < 2)) }
         ensures unchanged { OnErr result (self.new ≡ self.old) }
     {
         self.record.prepare(file, at, bytes)
@@ -94,10 +97,16 @@ impl MemorySite {
     /// A site that starts from what a crash at this moment may leave, with the tape of that moment. It has as much
     /// room behind that as this one was made with, and no call of it fails.
     pub fn image(&self, alloc: Global, moment: u64, pick: Pick) -> Result<MemorySite, AllocError>
-        ensures picked { IfOk result (λ site. (file : ℕ) → content_of file (memory_history site) ≡ picked pick (changes_of file (back_to moment (memory_history self.now)))) }
-        ensures image { IfOk result (λ site. IsImage (back_to moment (memory_history self.now)) (λ file. content_of file (memory_history site))) }
-        ensures kept { IfOk result (λ site. (file : ℕ) → IsKept (changes_of file (memory_history site))) }
-        ensures tape { IfOk result (λ site. tape (memory_history site) ≡ tape (back_to moment (memory_history self.now))) }
+        ensures picked { IfOk result (λ site. (file : ℕ)
+            → content_of file (memory_history site)
+            ≡ picked pick (changes_of file (back_to moment (memory_history self.now)))) }
+        ensures image { IfOk result (λ site.
+            IsImage (back_to moment (memory_history self.now))
+            (λ file. content_of file (memory_history site))) }
+        ensures kept { IfOk result (λ site. (file : ℕ)
+            → IsKept (changes_of file (memory_history site))) }
+        ensures tape { IfOk result (λ site. tape (memory_history site)
+            ≡ tape (back_to moment (memory_history self.now))) }
         ensures disk_faults { IfOk result (λ site. memory_disk_faults site ≡ 0) }
         ensures say_faults { IfOk result (λ site. memory_say_faults site ≡ 0) }
         ensures bytes { IfOk result (λ site. bytes_left site ≡ bytes_at_first self.now) }

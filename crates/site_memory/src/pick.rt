@@ -26,7 +26,8 @@ pub(crate) fn picked_in(
     file: u32,
     pick: Pick,
 ) -> Result<Vec<u8>, AllocError>
-    ensures { IfOk result (λ bytes. bytes.items ≡ picked pick (changes_of file (history_of kept.now))) }
+    ensures { IfOk result (λ bytes. bytes.items
+        ≡ picked pick (changes_of file (history_of kept.now))) }
 {
     match pick {
         Pick::All => {
@@ -45,7 +46,8 @@ pub(crate) fn picked_in(
 }
 
 fn torn_in(alloc: Global, kept: &[Kept], file: u32, fill: Option<u8>) -> Result<Vec<u8>, AllocError>
-    ensures { IfOk result (λ bytes. bytes.items ≡ torn fill (changes_of file (history_of kept.now))) }
+    ensures { IfOk result (λ bytes. bytes.items
+        ≡ torn fill (changes_of file (history_of kept.now))) }
 {
     let mut image = Vec::new(alloc);
     for (i, entry) in kept.iter().enumerate() {
@@ -117,8 +119,10 @@ fn fill_range(image: &mut Vec<u8>, at: u64, end: u64, byte: u8) -> Result<(), Al
 }
 
 fn overwrite(image: &mut [u8], at: u64, end: u64, byte: u8)
-    ensures inside { (k : ℕ) → at ≤ k → k < end → k < length image.old → slice_index image.new k ≡ byte }
-    ensures outside { (k : ℕ) → (k < at) ⊎ (end ≤ k) → slice_index image.new k ≡ slice_index image.old k }
+    ensures inside { (k : ℕ) → at ≤ k → k < end → k < length image.old
+        → slice_index image.new k ≡ byte }
+    ensures outside { (k : ℕ) → (k < at) ⊎ (end ≤ k)
+        → slice_index image.new k ≡ slice_index image.old k }
 {
     for (i, place) in image.iter_mut().enumerate() {
         if at <= i as u64 && (i as u64) < end {

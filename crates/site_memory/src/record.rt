@@ -48,11 +48,16 @@ impl Record {
     /// Err only without room.
     pub(crate) fn write(&mut self, file: u32, at: u64, bytes: &[u8]) -> Result<(), Failed>
         requires { at ≤ length (content_of file (history_of self.old.kept.items)) }
-        ensures kept { OnOk result (history_of self.new.kept.items ≡ on file (wrote at (length bytes.now) bytes.now) ∷ history_of self.old.kept.items) }
-        ensures either { (history_of self.new.kept.items ≡ on file (wrote at (length bytes.now) bytes.now) ∷ history_of self.old.kept.items) ⊎ (history_of self.new.kept.items ≡ history_of self.old.kept.items) }
-        ensures room { OnOk result ((self.new.bytes + length bytes.now ≡ self.old.bytes) × (self.new.calls + 1 ≡ self.old.calls)) }
+        ensures kept { OnOk result (history_of self.new.kept.items
+            ≡ on file (wrote at (length bytes.now) bytes.now) ∷ history_of self.old.kept.items) }
+        ensures either { (history_of self.new.kept.items
+            ≡ on file (wrote at (length bytes.now) bytes.now) ∷ history_of self.old.kept.items)
+            ⊎ (history_of self.new.kept.items ≡ history_of self.old.kept.items) }
+        ensures room { OnOk result ((self.new.bytes + length bytes.now ≡ self.old.bytes)
+            × (self.new.calls + 1 ≡ self.old.calls)) }
         ensures unchanged { OnErr result (self.new ≡ self.old) }
-        ensures no_room { OnErr result ((self.old.bytes < length bytes.now) ⊎ (self.old.calls ≡ 0)) }
+        ensures no_room { OnErr result ((self.old.bytes < length bytes.now)
+            ⊎ (self.old.calls ≡ 0)) }
     {
         if self.bytes < bytes.len() as u64 || self.calls == 0 {
             return Err(Failed);
@@ -66,10 +71,14 @@ impl Record {
     /// Writes and syncs, or Err without room for both.
     pub(crate) fn prepare(&mut self, file: u32, at: u64, bytes: &[u8]) -> Result<(), Failed>
         requires { at ≤ length (content_of file (history_of self.old.kept.items)) }
-        ensures kept { OnOk result (history_of self.new.kept.items ≡ on file synced ∷ on file (wrote at (length bytes.now) bytes.now) ∷ history_of self.old.kept.items) }
-        ensures room { OnOk result ((self.new.bytes + length bytes.now ≡ self.old.bytes) × (self.new.calls + 2 ≡ self.old.calls)) }
+        ensures kept { OnOk result (history_of self.new.kept.items
+            ≡ on file synced ∷ on file (wrote at (length bytes.now) bytes.now)
+            ∷ history_of self.old.kept.items) }
+        ensures room { OnOk result ((self.new.bytes + length bytes.now ≡ self.old.bytes)
+            × (self.new.calls + 2 ≡ self.old.calls)) }
         ensures unchanged { OnErr result (self.new ≡ self.old) }
-        ensures no_room { OnErr result ((self.old.bytes < length bytes.now) ⊎ (self.old.calls < 2)) }
+        ensures no_room { OnErr result ((self.old.bytes < length bytes.now)
+            ⊎ (self.old.calls < 2)) }
     {
         if self.calls < 2 {
             return Err(Failed);
@@ -83,8 +92,10 @@ impl Record {
 
     /// Err only without room.
     pub(crate) fn sync(&mut self, file: u32) -> Result<(), Failed>
-        ensures kept { OnOk result (history_of self.new.kept.items ≡ on file synced ∷ history_of self.old.kept.items) }
-        ensures room { OnOk result ((self.new.bytes ≡ self.old.bytes) × (self.new.calls + 1 ≡ self.old.calls)) }
+        ensures kept { OnOk result (history_of self.new.kept.items
+            ≡ on file synced ∷ history_of self.old.kept.items) }
+        ensures room { OnOk result ((self.new.bytes ≡ self.old.bytes)
+            × (self.new.calls + 1 ≡ self.old.calls)) }
         ensures unchanged { OnErr result (self.new ≡ self.old) }
         ensures no_room { OnErr result (self.old.calls ≡ 0) }
     {
@@ -97,7 +108,8 @@ impl Record {
 
     fn sync_with_room(&mut self, file: u32)
         requires { 0 < self.old.calls }
-        ensures kept { history_of self.new.kept.items ≡ on file synced ∷ history_of self.old.kept.items }
+        ensures kept { history_of self.new.kept.items
+            ≡ on file synced ∷ history_of self.old.kept.items }
         ensures bytes { self.new.bytes ≡ self.old.bytes }
         ensures calls { self.new.calls + 1 ≡ self.old.calls }
     {
@@ -107,8 +119,10 @@ impl Record {
 
     /// Err only without room.
     pub(crate) fn say(&mut self, line: &[u8]) -> Result<(), Failed>
-        ensures kept { OnOk result (history_of self.new.kept.items ≡ saying line.now (history_of self.old.kept.items)) }
-        ensures room { OnOk result ((self.new.bytes + length line.now ≡ self.old.bytes) × (self.new.calls + 1 ≡ self.old.calls)) }
+        ensures kept { OnOk result (history_of self.new.kept.items
+            ≡ saying line.now (history_of self.old.kept.items)) }
+        ensures room { OnOk result ((self.new.bytes + length line.now ≡ self.old.bytes)
+            × (self.new.calls + 1 ≡ self.old.calls)) }
         ensures unchanged { OnErr result (self.new ≡ self.old) }
         ensures no_room { OnErr result ((self.old.bytes < length line.now) ⊎ (self.old.calls ≡ 0)) }
     {
@@ -124,7 +138,8 @@ impl Record {
 
 pub(crate) fn keep_write(kept: &mut Vec<Kept>, file: u32, at: u64, bytes: &[u8])
     requires { vec_len kept.old + length bytes.now + 1 ≤ vec_capacity kept.old }
-    ensures history { history_of kept.new.items ≡ on file (wrote at (length bytes.now) bytes.now) ∷ history_of kept.old.items }
+    ensures history { history_of kept.new.items
+        ≡ on file (wrote at (length bytes.now) bytes.now) ∷ history_of kept.old.items }
     ensures len { vec_len kept.new ≡ vec_len kept.old + length bytes.now + 1 }
     ensures capacity { vec_capacity kept.new ≡ vec_capacity kept.old }
 {

@@ -32,8 +32,10 @@ pub(crate) fn replay(kept: &[Kept], file: u32, at: u64, out: &mut [u8]) -> u64
 fn step(place: Place, entry: Kept, file: u32, at: u64, out: &mut [u8]) -> Place
     requires room { place.length < u64.MAX }
     requires within { IfSome place.cursor (λ c. c ≤ place.length) }
-    ensures place { (steps : List Step) → IsPlace place file steps → IsPlace result file (next entry steps) }
-    ensures shows { (steps : List Step) → IsPlace place file steps → Shows (content_of file steps) at out.old
+    ensures place { (steps : List Step) → IsPlace place file steps
+        → IsPlace result file (next entry steps) }
+    ensures shows { (steps : List Step) → IsPlace place file steps
+        → Shows (content_of file steps) at out.old
         → Shows (content_of file (next entry steps)) at out.new }
     ensures longer { result.length ≤ place.length + 1 }
 {
@@ -71,8 +73,10 @@ fn step(place: Place, entry: Kept, file: u32, at: u64, out: &mut [u8]) -> Place
 fn follow(place: Place, byte: u8, at: u64, out: &mut [u8]) -> Place
     requires room { place.length < u64.MAX }
     requires within { IfSome place.cursor (λ c. c ≤ place.length) }
-    ensures place { MatchOption place.cursor (result ≡ place) (λ c. (result.length ≡ max place.length (c + 1)) × (result.cursor ≡ Some (c + 1))) }
-    ensures out { MatchOption place.cursor (out.new ≡ out.old) (λ c. IsShown at c byte out.old out.new) }
+    ensures place { MatchOption place.cursor (result ≡ place)
+        (λ c. (result.length ≡ max place.length (c + 1)) × (result.cursor ≡ Some (c + 1))) }
+    ensures out { MatchOption place.cursor (out.new ≡ out.old)
+        (λ c. IsShown at c byte out.old out.new) }
     ensures longer { result.length ≤ place.length + 1 }
 {
     let Some(cursor) = place.cursor else {

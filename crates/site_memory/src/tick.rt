@@ -96,7 +96,8 @@ impl Clock for TickClock {
         ensures reached { IfOk result (λ t. stamp ≤ t) }
         ensures range { IfOk result (λ t. t ≤ LAST_STAMP) }
         ensures latest { IfOk result (λ t. tick_latest self.new ≡ max (tick_latest self.old) t) }
-        ensures given { IfOk result (λ t. tick_given self.new ≡ waited stamp t ∷ tick_given self.old) }
+        ensures given { IfOk result (λ t. tick_given self.new
+            ≡ waited stamp t ∷ tick_given self.old) }
         ensures failed { OnErr result (tick_latest self.new ≡ tick_latest self.old) }
         ensures gave_none { OnErr result (tick_given self.new ≡ tick_given self.old) }
         ensures cause { HasCause (tick_faults self.old) (tick_faults self.new) result }

@@ -41,7 +41,8 @@ pub(crate) fn count_changes(kept: &[Kept], file: u32) -> u64
 }
 
 fn changes_in(entry: Kept, file: u32) -> u64
-    ensures changes { (steps : List Step) → length (changes_of file (next entry steps)) ≡ length (changes_of file steps) + result }
+    ensures changes { (steps : List Step) → length (changes_of file (next entry steps))
+        ≡ length (changes_of file steps) + result }
     ensures bound { result ≤ 1 }
 {
     match entry {
@@ -69,7 +70,8 @@ pub(crate) fn tape_in(alloc: Global, kept: &[Kept]) -> Result<Vec<u8>, AllocErro
 }
 
 fn push_said(bytes: &mut Vec<u8>, entry: Kept) -> Result<(), AllocError>
-    ensures { OnOk result ((steps : List Step) → bytes.old.items ≡ tape steps → bytes.new.items ≡ tape (next entry steps)) }
+    ensures { OnOk result ((steps : List Step) → bytes.old.items ≡ tape steps
+        → bytes.new.items ≡ tape (next entry steps)) }
 {
     match entry {
         Kept::Said(byte) => {

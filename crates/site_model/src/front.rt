@@ -23,10 +23,12 @@ pub fn read_front<V: Site>(
     most: u64,
 ) -> Result<Vec<u8>, FrontError>
     ensures tells { V.tells site.new → V.tells site.old }
-    ensures front { V.tells site.new → IfOk result (λ v. v.items ≡ take most (content_of file (V.history site.old))) }
+    ensures front { V.tells site.new → IfOk result
+        (λ v. v.items ≡ take most (content_of file (V.history site.old))) }
     ensures unchanged { V.history site.new ≡ V.history site.old }
     ensures later { V.disk_faults site.old ≤ V.disk_faults site.new }
-    ensures failed { result ≡ Err FrontError.Failed → HasRisen (V.disk_faults site.old) (V.disk_faults site.new) }
+    ensures failed { result ≡ Err FrontError.Failed
+        → HasRisen (V.disk_faults site.old) (V.disk_faults site.new) }
     ensures say_faults { V.say_faults site.new ≡ V.say_faults site.old }
 {
     let mut bytes = match vec![in alloc; 0; most as usize] {

@@ -43,7 +43,8 @@ pub trait Site {
     /// How many bytes a file has.
     fn length(&mut self, file: u32) -> Result<u64, Failed>
         ensures tells { tells self.new → tells self.old }
-        ensures value { tells self.new → IfOk result (λ n. n ≡ length (content_of file (history self.old))) }
+        ensures value { tells self.new → IfOk result
+            (λ n. n ≡ length (content_of file (history self.old))) }
         ensures unchanged { history self.new ≡ history self.old }
         ensures cause { HasCause (disk_faults self.old) (disk_faults self.new) result }
         ensures say_faults { say_faults self.new ≡ say_faults self.old };
@@ -53,7 +54,8 @@ pub trait Site {
     fn read(&mut self, file: u32, at: u64, out: &mut [u8]) -> Result<usize, Failed>
         ensures tells { tells self.new → tells self.old }
         ensures count { IfOk result (λ n. n ≤ length out.old) }
-        ensures value { tells self.new → IfOk result (Reads (content_of file (history self.old)) at out.old out.new) }
+        ensures value { tells self.new → IfOk result
+            (Reads (content_of file (history self.old)) at out.old out.new) }
         ensures unchanged { history self.new ≡ history self.old }
         ensures cause { HasCause (disk_faults self.old) (disk_faults self.new) result }
         ensures say_faults { say_faults self.new ≡ say_faults self.old };
@@ -84,5 +86,6 @@ pub trait Site {
         ensures disk_faults { disk_faults self.new ≡ disk_faults self.old };
 
     /// Each write began inside its file, so what a read gives is one of the crash images.
-    ghost inside: { (site : Self) (file : ℕ) → tells site → writes_inside (changes_of file (history site)) ≡ true };
+    ghost inside: { (site : Self) (file : ℕ) → tells site
+        → writes_inside (changes_of file (history site)) ≡ true };
 }

@@ -9,7 +9,8 @@ ghost use Rattle.state_lines.specs.Table.{IsTable};
 /// Where nothing happened the table is empty.
 pub fn empty_tables()
     ensures empty { (flows : Flows) → IsTable flows (fresh 0) [] }
-    ensures some { (flows : Flows) → IsTable flows (fresh 0) (codes "@Account/A value 90" ++ 10 ∷ []) → ⊥ }
+    ensures some { (flows : Flows) → IsTable flows (fresh 0)
+        (codes "@Account/A value 90" ++ 10 ∷ []) → ⊥ }
 {}
 
 /// A state with one entity has just its line: no other id, no other value, and no line without its line feed.
@@ -24,7 +25,9 @@ pub fn tables_with_one_entity()
 
 /// Entities come before instances, and none of them is left out.
 pub fn tables_with_both()
-    ensures both { IsTable accounts both_kinds (codes "@Account/A value 90" ++ 10 ∷ codes "Sum/x running" ++ 10 ∷ []) }
-    ensures other_order { IsTable accounts both_kinds (codes "Sum/x running" ++ 10 ∷ codes "@Account/A value 90" ++ 10 ∷ []) → ⊥ }
+    ensures both { IsTable accounts both_kinds
+        (codes "@Account/A value 90" ++ 10 ∷ codes "Sum/x running" ++ 10 ∷ []) }
+    ensures other_order { IsTable accounts both_kinds
+        (codes "Sum/x running" ++ 10 ∷ codes "@Account/A value 90" ++ 10 ∷ []) → ⊥ }
     ensures left_out { IsTable accounts both_kinds (codes "@Account/A value 90" ++ 10 ∷ []) → ⊥ }
 {}

@@ -26,11 +26,24 @@ fn say_next<'a, V: Site, R: Reactions>(
     last: Option<&Id>,
 ) -> Result<Option<&'a Id>, ShowError>
     ensures tells { V.tells site.new → V.tells site.old }
-    ensures said { IfOk result (λ found. IfSome found (λ id. SaysNext (has_instance (state_of state.now)) (instance_standing (R.flows reactions.now) (state_of state.now)) (option_map (λ id. id_of id.now) last.entry) (id_of id.now) (tape (V.history site.old)) (tape (V.history site.new)))) }
-    ensures none { IfOk result (λ found. IfNone found (SaysNone (has_instance (state_of state.now)) (option_map (λ id. id_of id.now) last.entry) (tape (V.history site.old)) (tape (V.history site.new)))) }
-    ensures part { IfErr result (λ error. StopsAtNext (has_instance (state_of state.now)) (instance_standing (R.flows reactions.now) (state_of state.now)) (option_map (λ id. id_of id.now) last.entry) error (tape (V.history site.old)) (tape (V.history site.new))) }
-    ensures files { (file : ℕ) → changes_of file (V.history site.new) ≡ changes_of file (V.history site.old) }
-    ensures fault { result ≡ Err ShowError.SayFault → HasRisen (V.say_faults site.old) (V.say_faults site.new) }
+    ensures said { IfOk result (λ found.
+        IfSome found (λ id. SaysNext (has_instance (state_of state.now))
+        (instance_standing (R.flows reactions.now) (state_of state.now))
+        (option_map (λ id. id_of id.now) last.entry) (id_of id.now) (tape (V.history site.old))
+        (tape (V.history site.new)))) }
+    ensures none { IfOk result (λ found.
+        IfNone found (SaysNone (has_instance (state_of state.now))
+        (option_map (λ id. id_of id.now) last.entry) (tape (V.history site.old))
+        (tape (V.history site.new)))) }
+    ensures part { IfErr result (λ error.
+        StopsAtNext (has_instance (state_of state.now))
+        (instance_standing (R.flows reactions.now) (state_of state.now))
+        (option_map (λ id. id_of id.now) last.entry) error (tape (V.history site.old))
+        (tape (V.history site.new))) }
+    ensures files { (file : ℕ) → changes_of file (V.history site.new)
+        ≡ changes_of file (V.history site.old) }
+    ensures fault { result ≡ Err ShowError.SayFault
+        → HasRisen (V.say_faults site.old) (V.say_faults site.new) }
     ensures later { V.say_faults site.old ≤ V.say_faults site.new }
     ensures disk_faults { V.disk_faults site.new ≡ V.disk_faults site.old }
 {
@@ -54,10 +67,17 @@ pub(crate) fn say_instances<V: Site, R: Reactions>(
     state: &PartState,
 ) -> Result<(), ShowError>
     ensures tells { V.tells site.new → V.tells site.old }
-    ensures said { OnOk result (SaysAll (has_instance (state_of state.now)) (instance_standing (R.flows reactions.now) (state_of state.now)) (tape (V.history site.old)) (tape (V.history site.new))) }
-    ensures part { IfErr result (λ error. StopsAt (has_instance (state_of state.now)) (instance_standing (R.flows reactions.now) (state_of state.now)) error (tape (V.history site.old)) (tape (V.history site.new))) }
-    ensures files { (file : ℕ) → changes_of file (V.history site.new) ≡ changes_of file (V.history site.old) }
-    ensures fault { result ≡ Err ShowError.SayFault → HasRisen (V.say_faults site.old) (V.say_faults site.new) }
+    ensures said { OnOk result (SaysAll (has_instance (state_of state.now))
+        (instance_standing (R.flows reactions.now) (state_of state.now)) (tape (V.history site.old))
+        (tape (V.history site.new))) }
+    ensures part { IfErr result (λ error.
+        StopsAt (has_instance (state_of state.now))
+        (instance_standing (R.flows reactions.now) (state_of state.now)) error
+        (tape (V.history site.old)) (tape (V.history site.new))) }
+    ensures files { (file : ℕ) → changes_of file (V.history site.new)
+        ≡ changes_of file (V.history site.old) }
+    ensures fault { result ≡ Err ShowError.SayFault
+        → HasRisen (V.say_faults site.old) (V.say_faults site.new) }
     ensures later { V.say_faults site.old ≤ V.say_faults site.new }
     ensures disk_faults { V.disk_faults site.new ≡ V.disk_faults site.old }
 {

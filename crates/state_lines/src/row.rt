@@ -15,7 +15,8 @@ use std::alloc::{AllocError, Global};
 
 /// The line of an id, with its line feed.
 fn table_line(alloc: Global, id: &Id, answer: &Answer) -> Result<Vec<u8>, AllocError>
-    ensures line { IfOk result (λ line. line.items ≡ table_line (id_of id.now) (Some (answer_of answer.now))) }
+    ensures line { IfOk result (λ line. line.items
+        ≡ table_line (id_of id.now) (Some (answer_of answer.now))) }
     ensures there { IfOk result (λ line. 0 < length line.items) }
 {
     let mut line = Vec::new(alloc);
@@ -35,10 +36,15 @@ pub(crate) fn say_line<V: Site>(
     answer: &Answer,
 ) -> Result<(), ShowError>
     ensures tells { V.tells site.new → V.tells site.old }
-    ensures said { OnOk result (tape (V.history site.new) ≡ tape (V.history site.old) ++ table_line (id_of id.now) (Some (answer_of answer.now))) }
-    ensures part { IfErr result (λ error. SaysPart (table_line (id_of id.now) (Some (answer_of answer.now))) error (tape (V.history site.old)) (tape (V.history site.new))) }
-    ensures files { (file : ℕ) → changes_of file (V.history site.new) ≡ changes_of file (V.history site.old) }
-    ensures fault { result ≡ Err ShowError.SayFault → HasRisen (V.say_faults site.old) (V.say_faults site.new) }
+    ensures said { OnOk result (tape (V.history site.new)
+        ≡ tape (V.history site.old) ++ table_line (id_of id.now) (Some (answer_of answer.now))) }
+    ensures part { IfErr result (λ error.
+        SaysPart (table_line (id_of id.now) (Some (answer_of answer.now))) error
+        (tape (V.history site.old)) (tape (V.history site.new))) }
+    ensures files { (file : ℕ) → changes_of file (V.history site.new)
+        ≡ changes_of file (V.history site.old) }
+    ensures fault { result ≡ Err ShowError.SayFault
+        → HasRisen (V.say_faults site.old) (V.say_faults site.new) }
     ensures later { V.say_faults site.old ≤ V.say_faults site.new }
     ensures disk_faults { V.disk_faults site.new ≡ V.disk_faults site.old }
 {

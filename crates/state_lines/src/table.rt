@@ -26,13 +26,18 @@ pub fn say_table<V: Site, R: Reactions>(
     ensures tells { V.tells site.new → V.tells site.old }
 
     // The table was said, or its first lines and, where the tape failed, a part of the next one.
-    ensures said { OnOk result (SaysTable (R.flows reactions.now) (state_of state.now) (tape (V.history site.old)) (tape (V.history site.new))) }
-    ensures part { IfErr result (λ error. StopsInTable (R.flows reactions.now) (state_of state.now) error (tape (V.history site.old)) (tape (V.history site.new))) }
+    ensures said { OnOk result (SaysTable (R.flows reactions.now) (state_of state.now)
+        (tape (V.history site.old)) (tape (V.history site.new))) }
+    ensures part { IfErr result (λ error.
+        StopsInTable (R.flows reactions.now) (state_of state.now) error (tape (V.history site.old))
+        (tape (V.history site.new))) }
 
     // Nothing happened but to the tape.
-    ensures files { (file : ℕ) → changes_of file (V.history site.new) ≡ changes_of file (V.history site.old) }
+    ensures files { (file : ℕ) → changes_of file (V.history site.new)
+        ≡ changes_of file (V.history site.old) }
 
-    ensures fault { result ≡ Err ShowError.SayFault → HasRisen (V.say_faults site.old) (V.say_faults site.new) }
+    ensures fault { result ≡ Err ShowError.SayFault
+        → HasRisen (V.say_faults site.old) (V.say_faults site.new) }
     ensures later { V.say_faults site.old ≤ V.say_faults site.new }
     ensures disk_faults { V.disk_faults site.new ≡ V.disk_faults site.old }
 {

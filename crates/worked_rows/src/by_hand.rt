@@ -29,20 +29,28 @@ pub fn waits()
 pub fn founded()
     ensures first { Founded [] (committed (entry 0 0 0) [] ∷ []) }
     ensures behind { Founded (entry 0 1 4 ∷ []) (committed (entry 0 1 5) [] ∷ []) }
-    ensures takes_in { Founded (entry 1 0 0 ∷ []) (committed (entry 0 0 0) (got (entry 1 0 0) 0 message ∷ trim (entry 1 0 0) 1 ∷ []) ∷ []) }
+    ensures takes_in { Founded (entry 1 0 0 ∷ [])
+        (committed (entry 0 0 0) (got (entry 1 0 0) 0 message ∷ trim (entry 1 0 0) 1 ∷ []) ∷ []) }
     ensures gap { Founded (entry 0 1 3 ∷ []) (committed (entry 0 1 5) [] ∷ []) → ⊥ }
     ensures nothing_before { Founded [] (committed (entry 0 0 1) [] ∷ []) → ⊥ }
     ensures earlier_life { Founded (entry 0 9 4 ∷ []) (committed (entry 0 1 5) [] ∷ []) → ⊥ }
-    ensures from_nobody { Founded (entry 1 0 0 ∷ []) (committed (entry 0 0 0) (got (entry 1 1 0) 0 message ∷ []) ∷ []) → ⊥ }
-    ensures let_go_for_nobody { Founded [] (committed (entry 0 0 0) (trim (entry 1 0 0) 1 ∷ []) ∷ []) → ⊥ }
+    ensures from_nobody { Founded (entry 1 0 0 ∷ [])
+        (committed (entry 0 0 0) (got (entry 1 1 0) 0 message ∷ []) ∷ []) → ⊥ }
+    ensures let_go_for_nobody { Founded [] (committed (entry 0 0 0) (trim (entry 1 0 0) 1 ∷ [])
+        ∷ []) → ⊥ }
 {}
 
 /// A later incarnation of the partition gave up what stands at its floor or above.
 pub fn lost()
-    ensures at_the_floor { Lost (record { partition = 0; incarnation = 2; from = 5 } ∷ []) (entry 0 1 5) }
-    ensures below_it { Lost (record { partition = 0; incarnation = 2; from = 5 } ∷ []) (entry 0 1 4) → ⊥ }
-    ensures of_that_life { Lost (record { partition = 0; incarnation = 2; from = 5 } ∷ []) (entry 0 2 5) → ⊥ }
-    ensures of_another { Lost (record { partition = 1; incarnation = 2; from = 5 } ∷ []) (entry 0 1 5) → ⊥ }
-    ensures ready { Ready (λ p. 5) (record { partition = 0; incarnation = 2; from = 5 } ∷ []) (entry 0 1 4) }
+    ensures at_the_floor { Lost (record { partition = 0; incarnation = 2; from = 5 } ∷ [])
+        (entry 0 1 5) }
+    ensures below_it { Lost (record { partition = 0; incarnation = 2; from = 5 } ∷ []) (entry 0 1 4)
+        → ⊥ }
+    ensures of_that_life { Lost (record { partition = 0; incarnation = 2; from = 5 } ∷ [])
+        (entry 0 2 5) → ⊥ }
+    ensures of_another { Lost (record { partition = 1; incarnation = 2; from = 5 } ∷ [])
+        (entry 0 1 5) → ⊥ }
+    ensures ready { Ready (λ p. 5) (record { partition = 0; incarnation = 2; from = 5 } ∷ [])
+        (entry 0 1 4) }
     ensures not_settled { Ready (λ p. 4) [] (entry 0 1 4) → ⊥ }
 {}

@@ -21,7 +21,8 @@ pub fn ids_are_compared()
 #[tactic(auto, using(crate::proofs::Order::in_order))]
 pub fn ids_are_in_order()
     ensures { (a b : Given) → has_form (id_of a) ≡ true → has_form (id_of b) ≡ true
-        → ⟦<dura_value::Id as Ord>⟧.cmp a b ≡ slice_cmp nat_cmp (written (id_of a)) (written (id_of b)) }
+        → ⟦<dura_value::Id as Ord>⟧.cmp a b
+        ≡ slice_cmp nat_cmp (written (id_of a)) (written (id_of b)) }
 {}
 
 /// The offset of a fault of reading a name, a key or an id is the length of the longest prefix that begins one.
@@ -35,5 +36,6 @@ pub fn faults_are_where_prefixes_end()
 /// An id is read where its written form stands, and nothing else is read.
 pub fn ids_are_read_back()
     ensures written { (id : Id) → has_form id ≡ true → id_in (written id) ≡ Ok id }
-    ensures read { (bytes : List ℕ) (id : Id) → id_in bytes ≡ Ok id → (has_form id ≡ true) × (written id ≡ bytes) }
+    ensures read { (bytes : List ℕ) (id : Id) → id_in bytes ≡ Ok id
+        → (has_form id ≡ true) × (written id ≡ bytes) }
 {}

@@ -7,31 +7,60 @@ ghost use Rattle.worked_rows.specs.Readings.{asked_by, requests_of};
 /// Files of requests: how many are read, or the line or the number that is refused.
 #[tactic(auto, using(crate::proofs::Worked::request_files_clash, crate::proofs::Worked::request_files_second, crate::proofs::Worked::request_files_repeated, crate::proofs::Worked::request_files_other_argument, crate::proofs::Worked::request_files_below, crate::proofs::Worked::request_files_other_client, crate::proofs::Worked::request_files_first_decides, crate::proofs::Worked::request_files_blank, crate::proofs::Worked::request_files_zero, crate::proofs::Worked::request_files_too_great, crate::proofs::Worked::request_files_greatest, crate::proofs::Worked::request_files_no_integer, crate::proofs::Worked::request_files_further, crate::proofs::Worked::request_files_two_kinds, crate::proofs::Worked::request_files_last_counts, crate::proofs::Worked::request_files_entity_started, crate::proofs::Worked::request_files_client_queried, crate::proofs::Worked::request_files_entity_queried, crate::proofs::Worked::request_files_no_event, crate::proofs::Worked::request_files_raised, crate::proofs::Worked::request_files_minus_zero, crate::proofs::Worked::request_files_exponent, crate::proofs::Worked::request_files_too_large, crate::proofs::Worked::request_files_least, crate::proofs::Worked::request_files_nested))]
 pub fn request_files()
-    ensures of_clash { requests_of (codes "{\"client\":\"a\",\"n\":1,\"start\":\"Sum/x\"}" ∷ codes "{\"client\":\"a\",\"n\":1,\"wait\":\"Sum/x\"}" ∷ []) ≡ codes "clash a 1" }
-    ensures of_second { requests_of (codes "{\"client\":\"a\",\"n\":1,\"start\":\"Sum/x\"}" ∷ codes "{}" ∷ []) ≡ codes "line 2" }
-    ensures of_repeated { requests_of (codes "{\"client\":\"a\",\"n\":1,\"start\":\"Sum/x\"}" ∷ codes " {\"arg\":null, \"start\":\"Sum/x\",\"n\":1,\"client\":\"a\"} " ∷ codes "" ∷ []) ≡ codes "read 1" }
-    ensures of_other_argument { requests_of (codes "{\"client\":\"a\",\"n\":1,\"start\":\"Sum/x\"}" ∷ codes "{\"client\":\"a\",\"n\":1,\"start\":\"Sum/x\",\"arg\":0}" ∷ []) ≡ codes "clash a 1" }
-    ensures of_below { requests_of (codes "{\"client\":\"a\",\"n\":2,\"start\":\"Sum/x\"}" ∷ codes "{\"client\":\"a\",\"n\":1,\"start\":\"Sum/x\"}" ∷ []) ≡ codes "line 2" }
-    ensures of_other_client { requests_of (codes "{\"client\":\"a\",\"n\":2,\"start\":\"Sum/x\"}" ∷ codes "{\"client\":\"b\",\"n\":1,\"wait\":\"Sum/x\"}" ∷ []) ≡ codes "read 2" }
-    ensures of_first_decides { requests_of (codes "{\"client\":\"a\",\"n\":1,\"start\":\"Sum/x\"}" ∷ codes "{\"client\":\"a\",\"n\":1,\"wait\":\"Sum/x\"}" ∷ codes "{}" ∷ []) ≡ codes "clash a 1" }
+    ensures of_clash { requests_of (codes "{\"client\":\"a\",\"n\":1,\"start\":\"Sum/x\"}"
+        ∷ codes "{\"client\":\"a\",\"n\":1,\"wait\":\"Sum/x\"}" ∷ []) ≡ codes "clash a 1" }
+    ensures of_second { requests_of (codes "{\"client\":\"a\",\"n\":1,\"start\":\"Sum/x\"}"
+        ∷ codes "{}" ∷ []) ≡ codes "line 2" }
+    ensures of_repeated { requests_of (codes "{\"client\":\"a\",\"n\":1,\"start\":\"Sum/x\"}"
+        ∷ codes " {\"arg\":null, \"start\":\"Sum/x\",\"n\":1,\"client\":\"a\"} " ∷ codes "" ∷ [])
+        ≡ codes "read 1" }
+    ensures of_other_argument { requests_of (codes "{\"client\":\"a\",\"n\":1,\"start\":\"Sum/x\"}"
+        ∷ codes "{\"client\":\"a\",\"n\":1,\"start\":\"Sum/x\",\"arg\":0}" ∷ [])
+        ≡ codes "clash a 1" }
+    ensures of_below { requests_of (codes "{\"client\":\"a\",\"n\":2,\"start\":\"Sum/x\"}"
+        ∷ codes "{\"client\":\"a\",\"n\":1,\"start\":\"Sum/x\"}" ∷ []) ≡ codes "line 2" }
+    ensures of_other_client { requests_of (codes "{\"client\":\"a\",\"n\":2,\"start\":\"Sum/x\"}"
+        ∷ codes "{\"client\":\"b\",\"n\":1,\"wait\":\"Sum/x\"}" ∷ []) ≡ codes "read 2" }
+    ensures of_first_decides { requests_of (codes "{\"client\":\"a\",\"n\":1,\"start\":\"Sum/x\"}"
+        ∷ codes "{\"client\":\"a\",\"n\":1,\"wait\":\"Sum/x\"}" ∷ codes "{}" ∷ [])
+        ≡ codes "clash a 1" }
     ensures of_blank { requests_of (codes "" ∷ codes "  " ∷ codes "{}" ∷ []) ≡ codes "line 3" }
-    ensures of_zero { requests_of (codes "{\"client\":\"a\",\"n\":0,\"start\":\"Sum/x\"}" ∷ []) ≡ codes "line 1" }
-    ensures of_too_great { requests_of (codes "{\"client\":\"a\",\"n\":4294967296,\"start\":\"Sum/x\"}" ∷ []) ≡ codes "line 1" }
-    ensures of_greatest { requests_of (codes "{\"client\":\"a\",\"n\":4294967295,\"start\":\"Sum/x\"}" ∷ []) ≡ codes "read 1" }
-    ensures of_no_integer { requests_of (codes "{\"client\":\"a\",\"n\":1.0,\"start\":\"Sum/x\"}" ∷ []) ≡ codes "line 1" }
-    ensures of_further { requests_of (codes "{\"client\":\"a\",\"n\":1,\"start\":\"Sum/x\",\"value\":0}" ∷ []) ≡ codes "line 1" }
-    ensures of_two_kinds { requests_of (codes "{\"client\":\"a\",\"n\":1,\"start\":\"Sum/x\",\"wait\":\"Sum/x\"}" ∷ []) ≡ codes "line 1" }
-    ensures of_last_counts { requests_of (codes "{\"client\":\"a\",\"n\":1,\"start\":\"Sum/\",\"start\":\"Sum/x\"}" ∷ []) ≡ codes "read 1" }
-    ensures of_entity_started { requests_of (codes "{\"client\":\"a\",\"n\":1,\"start\":\"@A/x\"}" ∷ []) ≡ codes "line 1" }
-    ensures of_client_queried { requests_of (codes "{\"client\":\"a\",\"n\":1,\"query\":\"#a\"}" ∷ []) ≡ codes "line 1" }
-    ensures of_entity_queried { requests_of (codes "{\"client\":\"a\",\"n\":1,\"query\":\"@A/x\"}" ∷ []) ≡ codes "read 1" }
-    ensures of_no_event { requests_of (codes "{\"client\":\"a\",\"n\":1,\"raise\":\"G/x\",\"value\":1}" ∷ []) ≡ codes "line 1" }
-    ensures of_raised { requests_of (codes "{\"client\":\"a\",\"n\":1,\"raise\":\"G/x\",\"event\":\"go\"}" ∷ []) ≡ codes "read 1" }
-    ensures of_minus_zero { requests_of (codes "{\"client\":\"a\",\"n\":1,\"start\":\"S/x\",\"arg\":-0}" ∷ []) ≡ codes "line 1" }
-    ensures of_exponent { requests_of (codes "{\"client\":\"a\",\"n\":1,\"start\":\"S/x\",\"arg\":1e2}" ∷ []) ≡ codes "line 1" }
-    ensures of_too_large { requests_of (codes "{\"client\":\"a\",\"n\":1,\"start\":\"S/x\",\"arg\":9223372036854775808}" ∷ []) ≡ codes "line 1" }
-    ensures of_least { requests_of (codes "{\"client\":\"a\",\"n\":1,\"start\":\"S/x\",\"arg\":-9223372036854775808}" ∷ []) ≡ codes "read 1" }
-    ensures of_nested { requests_of (codes "{\"client\":\"a\",\"n\":1,\"start\":\"S/x\",\"arg\":[[]]}" ∷ []) ≡ codes "line 1" }
+    ensures of_zero { requests_of (codes "{\"client\":\"a\",\"n\":0,\"start\":\"Sum/x\"}" ∷ [])
+        ≡ codes "line 1" }
+    ensures of_too_great { requests_of (codes
+        "{\"client\":\"a\",\"n\":4294967296,\"start\":\"Sum/x\"}" ∷ []) ≡ codes "line 1" }
+    ensures of_greatest { requests_of (codes
+        "{\"client\":\"a\",\"n\":4294967295,\"start\":\"Sum/x\"}" ∷ []) ≡ codes "read 1" }
+    ensures of_no_integer { requests_of (codes "{\"client\":\"a\",\"n\":1.0,\"start\":\"Sum/x\"}"
+        ∷ []) ≡ codes "line 1" }
+    ensures of_further { requests_of (codes
+        "{\"client\":\"a\",\"n\":1,\"start\":\"Sum/x\",\"value\":0}" ∷ []) ≡ codes "line 1" }
+    ensures of_two_kinds { requests_of (codes
+        "{\"client\":\"a\",\"n\":1,\"start\":\"Sum/x\",\"wait\":\"Sum/x\"}" ∷ []) ≡ codes "line 1" }
+    ensures of_last_counts { requests_of (codes
+        "{\"client\":\"a\",\"n\":1,\"start\":\"Sum/\",\"start\":\"Sum/x\"}" ∷ []) ≡ codes "read 1" }
+    ensures of_entity_started { requests_of (codes "{\"client\":\"a\",\"n\":1,\"start\":\"@A/x\"}"
+        ∷ []) ≡ codes "line 1" }
+    ensures of_client_queried { requests_of (codes "{\"client\":\"a\",\"n\":1,\"query\":\"#a\"}"
+        ∷ []) ≡ codes "line 1" }
+    ensures of_entity_queried { requests_of (codes "{\"client\":\"a\",\"n\":1,\"query\":\"@A/x\"}"
+        ∷ []) ≡ codes "read 1" }
+    ensures of_no_event { requests_of (codes
+        "{\"client\":\"a\",\"n\":1,\"raise\":\"G/x\",\"value\":1}" ∷ []) ≡ codes "line 1" }
+    ensures of_raised { requests_of (codes
+        "{\"client\":\"a\",\"n\":1,\"raise\":\"G/x\",\"event\":\"go\"}" ∷ []) ≡ codes "read 1" }
+    ensures of_minus_zero { requests_of (codes
+        "{\"client\":\"a\",\"n\":1,\"start\":\"S/x\",\"arg\":-0}" ∷ []) ≡ codes "line 1" }
+    ensures of_exponent { requests_of (codes
+        "{\"client\":\"a\",\"n\":1,\"start\":\"S/x\",\"arg\":1e2}" ∷ []) ≡ codes "line 1" }
+    ensures of_too_large { requests_of (codes
+        "{\"client\":\"a\",\"n\":1,\"start\":\"S/x\",\"arg\":9223372036854775808}" ∷ [])
+        ≡ codes "line 1" }
+    ensures of_least { requests_of (codes
+        "{\"client\":\"a\",\"n\":1,\"start\":\"S/x\",\"arg\":-9223372036854775808}" ∷ [])
+        ≡ codes "read 1" }
+    ensures of_nested { requests_of (codes
+        "{\"client\":\"a\",\"n\":1,\"start\":\"S/x\",\"arg\":[[]]}" ∷ []) ≡ codes "line 1" }
 {}
 
 /// Words: what they ask for, or that the command refuses them.
@@ -40,26 +69,40 @@ pub fn words()
     ensures of_none { asked_by ([]) ≡ codes "usage" }
     ensures of_run { asked_by (codes "run" ∷ []) ≡ codes "run 1 16 1048576 2147483648" }
     ensures of_show { asked_by (codes "show" ∷ []) ≡ codes "show 1" }
-    ensures of_all { asked_by (codes "run" ∷ codes "--segment=4096" ∷ codes "--steps" ∷ codes "7" ∷ codes "--batch" ∷ codes "64" ∷ codes "--partitions" ∷ codes "1" ∷ []) ≡ codes "run 1 64 7 4096" }
-    ensures of_many_partitions { asked_by (codes "run" ∷ codes "--partitions" ∷ codes "33" ∷ []) ≡ codes "usage" }
-    ensures of_no_partition { asked_by (codes "show" ∷ codes "--partitions" ∷ codes "0" ∷ []) ≡ codes "usage" }
-    ensures of_leading_zero { asked_by (codes "run" ∷ codes "--batch" ∷ codes "08" ∷ []) ≡ codes "usage" }
+    ensures of_all { asked_by (codes "run" ∷ codes "--segment=4096" ∷ codes "--steps" ∷ codes "7"
+        ∷ codes "--batch" ∷ codes "64" ∷ codes "--partitions" ∷ codes "1" ∷ [])
+        ≡ codes "run 1 64 7 4096" }
+    ensures of_many_partitions { asked_by (codes "run" ∷ codes "--partitions" ∷ codes "33" ∷ [])
+        ≡ codes "usage" }
+    ensures of_no_partition { asked_by (codes "show" ∷ codes "--partitions" ∷ codes "0" ∷ [])
+        ≡ codes "usage" }
+    ensures of_leading_zero { asked_by (codes "run" ∷ codes "--batch" ∷ codes "08" ∷ [])
+        ≡ codes "usage" }
     ensures of_sign { asked_by (codes "run" ∷ codes "--batch" ∷ codes "+8" ∷ []) ≡ codes "usage" }
-    ensures of_batch_above { asked_by (codes "run" ∷ codes "--batch" ∷ codes "65" ∷ []) ≡ codes "usage" }
-    ensures of_segment_below { asked_by (codes "run" ∷ codes "--segment" ∷ codes "4095" ∷ []) ≡ codes "usage" }
-    ensures of_steps_none { asked_by (codes "run" ∷ codes "--steps" ∷ codes "0" ∷ []) ≡ codes "usage" }
-    ensures of_twice { asked_by (codes "run" ∷ codes "--batch" ∷ codes "8" ∷ codes "--batch" ∷ codes "8" ∷ []) ≡ codes "usage" }
+    ensures of_batch_above { asked_by (codes "run" ∷ codes "--batch" ∷ codes "65" ∷ [])
+        ≡ codes "usage" }
+    ensures of_segment_below { asked_by (codes "run" ∷ codes "--segment" ∷ codes "4095" ∷ [])
+        ≡ codes "usage" }
+    ensures of_steps_none { asked_by (codes "run" ∷ codes "--steps" ∷ codes "0" ∷ [])
+        ≡ codes "usage" }
+    ensures of_twice { asked_by (codes "run" ∷ codes "--batch" ∷ codes "8" ∷ codes "--batch"
+        ∷ codes "8" ∷ []) ≡ codes "usage" }
     ensures of_no_value { asked_by (codes "run" ∷ codes "--batch" ∷ []) ≡ codes "usage" }
     ensures of_unknown { asked_by (codes "run" ∷ codes "--seed" ∷ codes "1" ∷ []) ≡ codes "usage" }
     ensures of_of_run { asked_by (codes "show" ∷ codes "--batch" ∷ codes "8" ∷ []) ≡ codes "usage" }
     ensures of_further { asked_by (codes "run" ∷ codes "on" ∷ []) ≡ codes "usage" }
     ensures of_no_help { asked_by (codes "help" ∷ []) ≡ codes "usage" }
     ensures of_no_version { asked_by (codes "--version" ∷ []) ≡ codes "usage" }
-    ensures of_one_partition { asked_by (codes "run" ∷ codes "--partitions" ∷ codes "1" ∷ []) ≡ codes "run 1 16 1048576 2147483648" }
-    ensures of_most_batch { asked_by (codes "run" ∷ codes "--batch" ∷ codes "64" ∷ []) ≡ codes "run 1 64 1048576 2147483648" }
-    ensures of_steps { asked_by (codes "run" ∷ codes "--steps" ∷ codes "7" ∷ []) ≡ codes "run 1 16 7 2147483648" }
-    ensures of_segment { asked_by (codes "run" ∷ codes "--segment=4096" ∷ []) ≡ codes "run 1 16 1048576 4096" }
-    ensures of_shown_partition { asked_by (codes "show" ∷ codes "--partitions" ∷ codes "1" ∷ []) ≡ codes "show 1" }
+    ensures of_one_partition { asked_by (codes "run" ∷ codes "--partitions" ∷ codes "1" ∷ [])
+        ≡ codes "run 1 16 1048576 2147483648" }
+    ensures of_most_batch { asked_by (codes "run" ∷ codes "--batch" ∷ codes "64" ∷ [])
+        ≡ codes "run 1 64 1048576 2147483648" }
+    ensures of_steps { asked_by (codes "run" ∷ codes "--steps" ∷ codes "7" ∷ [])
+        ≡ codes "run 1 16 7 2147483648" }
+    ensures of_segment { asked_by (codes "run" ∷ codes "--segment=4096" ∷ [])
+        ≡ codes "run 1 16 1048576 4096" }
+    ensures of_shown_partition { asked_by (codes "show" ∷ codes "--partitions" ∷ codes "1" ∷ [])
+        ≡ codes "show 1" }
     ensures of_help_of_run { asked_by (codes "run" ∷ codes "--help" ∷ []) ≡ codes "usage" }
     ensures of_stop { asked_by (codes "stop" ∷ []) ≡ codes "usage" }
 {}

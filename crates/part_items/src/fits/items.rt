@@ -20,7 +20,8 @@ fn count_fits(number: u64) -> bool
 
 /// An entry of another partition: its number of 32 bits can't pass a limit.
 fn identity_fits(partition: u32, incarnation: u64, position: u64) -> bool
-    ensures { Decides result (FitsIdentity (record { partition = partition; incarnation = incarnation; position = position })) }
+    ensures { Decides result (FitsIdentity
+        (record { partition = partition; incarnation = incarnation; position = position })) }
 {
     count_fits(incarnation) && count_fits(position)
 }
