@@ -8,7 +8,6 @@ use Rattle.std.proofs.lemmas.List.{map-append, append-nil}
 use Rattle.std.proofs.lemmas.List.Elements.{filter-append}
 use Rattle.std.proofs.lemmas.List.Sums.{fold-append}
 use Rattle.std.proofs.lemmas.Map.Keys.{IsDistinct-head, IsDistinct-tail, IsDistinct-push}
-use Rattle.std.proofs.lemmas.Slice.Eq.{bytes_eq-Decides}
 use Rattle.request_reader.specs.Line.{Request}
 use Rattle.client_port.specs.Clients.{clients_of, queue_for, requests_of, with_client}
 use Rattle.client_port.specs.Ports.{at_client, is_of, queues_of, with_last, with_request}

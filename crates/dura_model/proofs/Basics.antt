@@ -1,6 +1,5 @@
 -- Small facts on options and tests.
 use Rattle.std.proofs.Common.{◌≡◌, ◌==◌, ℕ, Bool, true, false, cond, Option, Some, None, refl, sym, ◌∙◌, eq-eqb}
-use Rattle.std.specs.Prelude.{not}
 use Rattle.dura_value.proofs.Basics.{some_same}
 
 -- what a test lets through

@@ -1,12 +1,12 @@
 -- A state that takes in of a stream, lets go of one, or begins an entry still belongs where it did.
-use Rattle.std.proofs.Common.{◌≡◌, ◌≤◌, ◌<◌, ◌+◌, ◌-◌, ◌==◌, ◌&&◌, ◌⊎◌, inl, inr, ℕ, length, drop, Bool, true, false, cond, List, [], ◌∷◌, ◌++◌, Option, Some, None, refl, sym, ap, subst, ◌∙◌, arith}
+use Rattle.std.proofs.Common.{◌≡◌, ◌≤◌, ◌<◌, ◌+◌, ◌-◌, ◌==◌, ◌&&◌, ◌⊎◌, inl, ℕ, length, drop, Bool, true, false, cond, [], ◌∷◌, ◌++◌, Some, refl, sym, subst, ◌∙◌, arith}
 use Rattle.std.specs.Prelude.{nat_le, nat_lt, not}
 use Rattle.std.specs.List.{Contains}
 use Rattle.std.proofs.lemmas.Bool.{eqb-true, ltb-true, and_parts, not-true}
 use Rattle.dura_value.specs.Ids.{home}
-use Rattle.dura_value.specs.Items.{Identity}
+use Rattle.dura_value.specs.Items.{Identity, Posted}
 use Rattle.dura_value.specs.Messages.{Message}
-use Rattle.dura_model.specs.Partition.{enter, Posted, Outbox, Inbox, Partition, entry_of, with_inbox, begins_at, with_first, got_in, trim_in}
+use Rattle.dura_model.specs.Partition.{enter, Outbox, Inbox, Partition, entry_of, with_inbox, begins_at, with_first, got_in, trim_in}
 use Rattle.dura_model.specs.Placed.{IsBehind, IsOther, Belongs}
 use Rattle.dura_model.proofs.Basics.{passed, eqb_apart}
 use Rattle.dura_model.proofs.Shown.{dropped_in}

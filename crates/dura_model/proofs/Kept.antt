@@ -2,11 +2,11 @@
 use Rattle.std.proofs.Common.{◌≡◌, ◌≤◌, ◌<◌, ◌+◌, ◌-◌, ◌==◌, ◌&&◌, ◌⊎◌, inl, inr, ℕ, length, drop, Bool, true, false, cond, List, [], ◌∷◌, ◌++◌, Option, Some, None, refl, sym, ap, subst, ◌∙◌, arith}
 use Rattle.std.specs.Prelude.{option_map, nat_le, nat_lt, not, is_some}
 use Rattle.std.specs.List.{Contains}
-use Rattle.std.proofs.lemmas.Bool.{eqb-true, leb-true, leb-false, ltb-true, and_parts, not-true}
+use Rattle.std.proofs.lemmas.Bool.{eqb-true, leb-true, leb-false, ltb-true, and_parts}
 use Rattle.std.proofs.lemmas.List.{length-drop}
 use Rattle.dura_value.specs.declared.outcome.Outcome.{Outcome}
 use Rattle.dura_value.specs.Ids.{Id, orchestration, entity, client, home}
-use Rattle.dura_value.specs.Items.{Identity, Item, took, got, ran, ended, fired, trim}
+use Rattle.dura_value.specs.Items.{Identity, Item, took, got, ran, ended, fired, trim, Posted}
 use Rattle.dura_value.specs.Messages.{Reply, to_nobody, to_task, to_request, Answer, Body, start, raise, query, wait, result, operate, lock, granted, release, Message}
 use Rattle.flow_syntax.specs.Syntax.{Flows, Block, class_of}
 use Rattle.flow_syntax.specs.Machine.{resulted}
@@ -16,14 +16,14 @@ use Rattle.dura_model.specs.World.{empty, Activity}
 use Rattle.dura_value.specs.ById.{at_id, at_number}
 use Rattle.dura_model.specs.Deliveries.{goes_on_from, to_instance}
 use Rattle.dura_model.specs.Steps.{is_request, number_in, entity_of, answer_of}
-use Rattle.dura_model.specs.Partition.{label_in, enter, fresh, shown, Row, Posted, Outbox, Inbox, Partition, entry_of, instance_in, instance_at, event_of, raised_to, first_in, without_first, last_in, answered_in, client_received, entity_received, received_in, delivered_in, taken_in, ended_in, fired_in, with_inbox, begins_at, with_first, post, post_all, stands_in, accepted, with_part}
-use Rattle.dura_model.specs.Placed.{IsBehind, IsOther, IsStreamed, Belongs, AreShown, happens_at, IsOfStreams, IsSameEntry}
-use Rattle.dura_model.proofs.Basics.{passes, passed, eqb_apart}
+use Rattle.dura_model.specs.Partition.{label_in, enter, fresh, shown, Row, Outbox, Inbox, Partition, entry_of, instance_in, instance_at, event_of, raised_to, first_in, without_first, last_in, answered_in, client_received, entity_received, received_in, delivered_in, taken_in, ended_in, fired_in, with_inbox, begins_at, with_first, post, post_all, stands_in, accepted, with_part}
+use Rattle.dura_model.specs.Placed.{IsOther, IsStreamed, Belongs, AreShown, happens_at, IsOfStreams, IsSameEntry}
+use Rattle.dura_model.proofs.Basics.{passes, passed}
 use Rattle.dura_model.proofs.Rows.{instance_suits, row_goes_on}
 use Rattle.dura_model.proofs.Items.{entity_from}
-use Rattle.dura_model.proofs.Shown.{home_below, dropped_in, silent}
+use Rattle.dura_model.proofs.Shown.{home_below, silent}
 use Rattle.dura_model.proofs.Belonging.{got_belongs, trim_belongs, enter_belongs}
-use Rattle.dura_model.proofs.Keeping.{Follows, follows_then, taken_follows, answers_follows, activities_follows, timers_follows, raised_follows, entity_follows, queue_follows, queued_lives, post_follows, post_all_follows, stands_follows, without_contained, first_lives}
+use Rattle.dura_model.proofs.Keeping.{Follows, follows_then, taken_follows, answers_follows, activities_follows, timers_follows, raised_follows, entity_follows, queue_follows, post_follows, post_all_follows, stands_follows, without_contained, first_lives}
 use Rattle.dura_value.proofs.Basics.{some_same}
 
 -- an entity that was delivered to is at the stamp that it was at

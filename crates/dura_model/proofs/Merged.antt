@@ -12,9 +12,10 @@ use Rattle.dura_model.specs.World.{World, Orchestration, Activity, at_link}
 use Rattle.dura_value.specs.ById.{at_id, at_number, cleared}
 use Rattle.dura_model.specs.Deliveries.{Effect}
 use Rattle.dura_model.specs.Steps.{sent, asked, given_up, stands_as}
-use Rattle.dura_model.specs.Partition.{Row, Posted, Outbox, Inbox, Partition, instance_in, instance_at, with_posted, post, post_all, asked_in, given_up_in, row_after, stands_in, entry_of, link_in, messages_in, under_way, shown, with_part}
+use Rattle.dura_model.specs.Partition.{Row, Outbox, Inbox, Partition, instance_in, instance_at, with_posted, post, post_all, asked_in, given_up_in, row_after, stands_in, entry_of, link_in, messages_in, under_way, shown, with_part}
 use Rattle.dura_value.proofs.Ids.{id_same, id_self, and_true}
 use Rattle.dura_model.proofs.Sending.{AllFrom}
+use Rattle.dura_value.specs.Items.{Posted}
 
 pub worlds_same : (w v : World) → w.orchestrations ≡ v.orchestrations → w.entities ≡ v.entities → w.links ≡ v.links → w.activities ≡ v.activities → w.timers ≡ v.timers → w.taken ≡ v.taken → w.answers ≡ v.answers → w ≡ v
 worlds_same w v a b c d e f g = λ i. record { orchestrations = a i; entities = b i; links = c i; activities = d i; timers = e i; taken = f i; answers = g i }

@@ -6,12 +6,12 @@ use Rattle.std.proofs.lemmas.List.{take-append-drop}
 use Rattle.std.proofs.lemmas.List.Elements.{Contains-append_right}
 use Rattle.std.proofs.lemmas.Bool.{ltb-true}
 use Rattle.dura_value.specs.Ids.{Id, home}
-use Rattle.dura_value.specs.Items.{Identity, Item, took, got, ran, ended, fired, trim}
+use Rattle.dura_value.specs.Items.{Identity, Item, took, got, ran, ended, fired, trim, Posted}
 use Rattle.dura_value.specs.Messages.{Body, Message}
 use Rattle.flow_syntax.specs.Syntax.{Flows}
 use Rattle.dura_model.specs.World.{World}
 use Rattle.dura_model.specs.Steps.{Label, take as take_in, deliver, finish, fire, number_in, step}
-use Rattle.dura_model.specs.Partition.{Posted, Outbox, Partition, first_in, delivered_in, accepted, label_in, shown, with_part}
+use Rattle.dura_model.specs.Partition.{Outbox, Partition, first_in, delivered_in, accepted, label_in, shown, with_part}
 use Rattle.dura_model.specs.Placed.{IsOther, IsStreamed, AreShown, happens_at, IsGiven, IsOfStreams, IsLabelled, ShowsNothing}
 use Rattle.dura_model.proofs.Merged.{merged, IsReady, shown_merged, merged_shown}
 use Rattle.dura_model.proofs.Items.{took_as, fired_as, ended_as, ran_as}

@@ -4,11 +4,11 @@ use Rattle.std.specs.Prelude.{nat_le, nat_lt, not}
 use Rattle.std.proofs.lemmas.Bool.{eqb-true, leb-false, and_parts, not-true}
 use Rattle.std.proofs.lemmas.List.{append_assoc, drop-drop}
 use Rattle.dura_value.specs.Ids.{Id, home, id_eq}
-use Rattle.dura_value.specs.Items.{Identity, got, trim}
+use Rattle.dura_value.specs.Items.{Identity, got, trim, Posted}
 use Rattle.dura_value.specs.Messages.{Message}
 use Rattle.flow_syntax.specs.Syntax.{Flows}
 use Rattle.dura_model.specs.World.{World}
-use Rattle.dura_model.specs.Partition.{Posted, Outbox, Inbox, Partition, entry_of, with_inbox, begins_at, with_first, accepted, link_in, messages_in}
+use Rattle.dura_model.specs.Partition.{Outbox, Inbox, Partition, entry_of, with_inbox, begins_at, with_first, accepted, link_in, messages_in}
 use Rattle.dura_model.specs.Placed.{IsStreamed}
 use Rattle.dura_value.proofs.Ids.{id_same}
 use Rattle.dura_model.proofs.Basics.{passed}

@@ -1,7 +1,7 @@
 -- Which entries an entry depends on, and which of them are lost.
 use Rattle.std.specs.Prelude.{◌≡◌, ◌⊎◌, ℕ, ◌+◌, ◌<◌, ◌≤◌, ◌==◌, List, [], ◌∷◌, ◌++◌, map, if◌then◌else◌, Option, Some, None, MatchOption}
 use Rattle.std.specs.List.{All, Contains}
-use Rattle.dura_value.specs.Items.{Identity, Item, got, trim}
+use Rattle.dura_value.specs.Items.{Identity, Item, got, trim, Floor}
 
 -- an entry that is committed: who it is, and its items
 pub record Committed : Type 0 where
@@ -46,12 +46,6 @@ pub record IsFounded (known : List Identity) (e : Committed) : Type 0 where
 pub data Founded (recovered : List Identity) : List Committed → Type 0 where
   none : Founded recovered []
   one_more : {entries : List Committed} (e : Committed) → Founded recovered entries → IsFounded (recovered ++ names_of entries) e → Founded recovered (entries ++ e ∷ [])
-
--- a incarnation of a partition began, and gave up all entries of earlier ones from this position on
-pub record Floor : Type 0 where
-  pub partition : ℕ
-  pub incarnation : ℕ
-  pub from : ℕ
 
 -- an entry was given up by a later incarnation of its partition
 pub record Lost (floors : List Floor) (e : Identity) : Type 0 where

@@ -2,7 +2,7 @@
 use Rattle.std.specs.Prelude.{ℕ, ◌+◌, ◌-◌, ◌==◌, ◌&&◌, List, [], ◌∷◌, ◌++◌, length, drop, map, Bool, true, false, not, nat_le, nat_lt, if◌then◌else◌, Option, Some, None, option_map}
 use Rattle.dura_value.specs.declared.outcome.Outcome.{Outcome}
 use Rattle.dura_value.specs.Ids.{Id, orchestration, entity, client, id_eq, home}
-use Rattle.dura_value.specs.Items.{Identity, Item, took, got, ran, ended, fired, trim}
+use Rattle.dura_value.specs.Items.{Identity, Item, took, got, ran, ended, fired, trim, Posted}
 use Rattle.dura_value.specs.Messages.{to_task, to_request, Answer, Body, start, raise, result, granted, Message}
 use Rattle.flow_syntax.specs.Syntax.{Flows}
 use Rattle.flow_syntax.specs.Machine.{new_machine, Event, started, resulted, was_raised, was_granted, Past, replayed, Asked, an_activity, a_timer}
@@ -20,11 +20,6 @@ pub record Row : Type 0 where
   pub stamp : ℕ
   pub history : List Past
   pub waiting : List (Id × ℕ)
-
--- a message to another partition, and the entry that sends it
-pub record Posted : Type 0 where
-  pub entry : Identity
-  pub message : Message
 
 -- what is left of the stream to another partition: the number of its first message, and the messages
 pub record Outbox : Type 0 where

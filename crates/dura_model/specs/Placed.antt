@@ -3,14 +3,14 @@ use Rattle.std.specs.Prelude.{◌≡◌, ◌⊎◌, ℕ, ◌+◌, ◌-◌, ◌<�
 use Rattle.std.specs.List.{Contains}
 use Rattle.activity_table.specs.Table.{may}
 use Rattle.dura_value.specs.Ids.{Id, home}
-use Rattle.dura_value.specs.Items.{Identity, Item, took, got, ran, ended, fired, trim}
+use Rattle.dura_value.specs.Items.{Identity, Item, took, got, ran, ended, fired, trim, Posted}
 use Rattle.dura_value.specs.Messages.{Answer, Message}
 use Rattle.flow_syntax.specs.Syntax.{Flows}
 use Rattle.flow_syntax.specs.Machine.{Past}
 use Rattle.flow_syntax.specs.Entity.{Entity}
 use Rattle.dura_model.specs.World.{Activity}
 use Rattle.dura_model.specs.Steps.{Label, step}
-use Rattle.dura_model.specs.Partition.{Row, Posted, Outbox, Inbox, Partition, first_in, accepted, shown, with_part}
+use Rattle.dura_model.specs.Partition.{Row, Outbox, Inbox, Partition, first_in, accepted, shown, with_part}
 
 -- an entry of this partition, before this position and of no later incarnation than this
 pub record IsBehind (place position incarnation : ℕ) (entry : Identity) : Type 0 where

@@ -7,3 +7,5 @@ pub mod Counted
 pub mod Texts
 pub mod Words
 pub mod Optional
+pub mod Same
+pub mod SameViews

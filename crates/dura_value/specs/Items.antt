@@ -26,3 +26,14 @@ pub record Entry : Type 0 where
   pub position : ℕ
   pub incarnation : ℕ
   pub items : List Item
+
+-- a message to another partition, and the entry that sends it
+pub record Posted : Type 0 where
+  pub entry : Identity
+  pub message : Message
+
+-- an incarnation of a partition began, and gave up all entries of earlier ones from this position on
+pub record Floor : Type 0 where
+  pub partition : ℕ
+  pub incarnation : ℕ
+  pub from : ℕ

@@ -8,6 +8,7 @@ pub mod Messages
 pub mod Names
 pub mod Optional
 pub mod Reading
+pub mod Same
 pub mod Text
 pub mod Values
 pub mod Views

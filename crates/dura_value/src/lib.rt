@@ -4,6 +4,7 @@
 //! - `text` is a bounded text, `data` the values that flows compute with, and `names` short words.
 //! - `messages` is what instances, entities and clients say, `outputs` what a step makes of it, and `outcome` what an activity or
 //!   an instance came to.
+//! - `same_messages` tells whether two messages are the same.
 //! - `digest` is a digest of 64 bits.
 //! - `carrying` has a value go along with a step that may fail.
 //! - `limits` has the limits of the format, which `specs/Limits` states, and `sizes` holds lists against them.
@@ -22,6 +23,7 @@ mod outcome;
 mod outputs;
 mod reading;
 mod same_lists;
+mod same_messages;
 mod same_spots;
 mod sizes;
 mod spots;

@@ -7,7 +7,7 @@ use crate::spots::Spots;
 use crate::text::Text;
 
 /// Who is answered.
-#[derive(Clone, Drop)]
+#[derive(Clone, Drop, PartialEq, Eq)]
 pub enum Reply {
     /// Nobody.
     None,
@@ -18,7 +18,7 @@ pub enum Reply {
 }
 
 /// What a task or a request came to.
-#[derive(Clone, Drop)]
+#[derive(Clone, Drop, PartialEq, Eq)]
 pub enum Answer {
     /// The instance or operation ended with a value.
     Done(Value),
@@ -43,7 +43,7 @@ pub enum Answer {
 }
 
 /// What a message says.
-#[derive(Drop)]
+#[derive(Drop, PartialEq, Eq)]
 pub enum Body {
     /// Start an instance with an argument.
     Start(Value, Reply),
@@ -66,7 +66,7 @@ pub enum Body {
 }
 
 /// A message.
-#[derive(Drop)]
+#[derive(Drop, PartialEq, Eq)]
 pub struct Message {
     /// Who sends it.
     pub from: Id,

@@ -1,8 +1,8 @@
 -- The request of a line is one of the failure-free machine.
-use Rattle.std.proofs.Common.{◌≡◌, ◌⊎◌, inl, inr, ℕ, List, Bool, true, false, ◌&&◌, ◌+◌, Option, Some, None, codes, cond, refl, sym, ◌∙◌, ap, subst}
+use Rattle.std.proofs.Common.{◌≡◌, ◌⊎◌, inl, inr, ℕ, List, Bool, true, false, ◌&&◌, ◌+◌, Option, Some, codes, cond, refl, sym, ◌∙◌, ap, subst}
 use Rattle.std.specs.Prelude.{is_some}
 use Rattle.std.proofs.lemmas.Bool.{eq-eqb}
-use Rattle.dura_model.specs.Steps.{number_in, is_asking, is_request}
+use Rattle.dura_model.specs.Steps.{number_in, is_asking}
 use Rattle.dura_model.specs.Steps as steps
 use Rattle.dura_value.specs.Ids.{Id, orchestration, entity, client}
 use Rattle.dura_value.specs.Messages.{start, raise, query, wait, to_request}

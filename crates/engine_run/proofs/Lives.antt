@@ -1,8 +1,8 @@
 -- Calls one after another come to one run.
-use Rattle.std.proofs.Common.{◌≡◌, ◌≤◌, ◌-◌, ◌⊎◌, inl, inr, ℕ, ◌+◌, suc, min, List, [], ◌∷◌, ◌++◌, length, take, drop, Some, refl, sym, ◌∙◌, ap, subst, arith, append_assoc}
+use Rattle.std.proofs.Common.{◌≡◌, ◌≤◌, ◌-◌, ◌⊎◌, inl, inr, ℕ, ◌+◌, suc, List, [], ◌∷◌, ◌++◌, length, drop, Some, refl, sym, ◌∙◌, ap, subst, arith, append_assoc}
 use Rattle.std.proofs.lemmas.Bool.{cases_lt}
-use Rattle.std.proofs.lemmas.List.{append-nil, take_all}
-use Rattle.std.proofs.lemmas.List.Elements.{All-append, All-from_recursion, All-push}
+use Rattle.std.proofs.lemmas.List.{append-nil}
+use Rattle.std.proofs.lemmas.List.Elements.{All-push}
 use Rattle.std.specs.List.{All}
 use Rattle.dura_model.specs.Partition.{fresh}
 use Rattle.dura_model.proofs.Outcomes.{never_twice}
@@ -23,7 +23,7 @@ use Rattle.run_laws.proofs.Ordered.{never_overlaps}
 use Rattle.run_laws.specs.Leaves.{IsAnswered, AllAnswered, IsHalfSaid, StandsOn}
 use Rattle.run_laws.specs.Leaves.AllAnswered.{nothing_said, one_more as one_line}
 use Rattle.run_rules.specs.Rules.{Rules}
-use Rattle.site_model.specs.History.{Change, wrote, synced, reads, Step, changes_of, content_of, back_to, Torn, Leaves, IsImage}
+use Rattle.site_model.specs.History.{Change, wrote, synced, reads, Step, changes_of, content_of, back_to, Leaves, IsImage}
 use Rattle.site_model.specs.Moments.{Always, begins, goes_on}
 use Rattle.site_model.proofs.Paths.{each_moment, last, no_shorter}
 use Rattle.site_model.proofs.Images.{torn_as_it_was}

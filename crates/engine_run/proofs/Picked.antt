@@ -1,6 +1,5 @@
 -- Where a run goes on that a call picks.
-use Rattle.std.proofs.Common.{◌≡◌, ◌≤◌, ◌<◌, ◌+◌, ◌==◌, ℕ, Bool, true, false, List, [], ◌∷◌, Option, Some, None, Result, Ok, Err, nat_le, refl, sym, ◌∙◌, ap, subst, arith, eqb-true}
-use Rattle.std.specs.Option.{option_and_then}
+use Rattle.std.proofs.Common.{◌≡◌, ◌≤◌, ◌<◌, ◌+◌, ◌==◌, ℕ, Bool, true, false, List, [], ◌∷◌, Some, Result, Ok, Err, nat_le, refl, sym, ◌∙◌, ap, subst, arith, eqb-true}
 use Rattle.std.proofs.lemmas.Bool.{eq-eqb, leb-true, le-leb, and_parts}
 use Rattle.std.proofs.lemmas.List.{append-nil}
 use Rattle.commit_log.specs.Segment.{first_gate, segment, reading_of}

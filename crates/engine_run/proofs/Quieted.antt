@@ -4,14 +4,14 @@ use Rattle.std.specs.Prelude.{option_map, is_some}
 use Rattle.std.proofs.lemmas.List.{append-nil}
 use Rattle.client_port.specs.Ports.{Queue}
 use Rattle.dura_model.specs.Legal.{Quiet}
-use Rattle.dura_model.specs.Partition.{Partition, Outbox, Posted, enter, accepted, first_in, link_in, messages_in, shown, with_part}
+use Rattle.dura_model.specs.Partition.{Partition, Outbox, enter, accepted, first_in, link_in, messages_in, shown, with_part}
 use Rattle.dura_model.specs.Placed.{Belongs, AreShown, AreOfInstances}
 use Rattle.dura_model.specs.Steps.{step, deliver, delivered}
 use Rattle.dura_model.specs.World.{Activity}
 use Rattle.dura_model.proofs.Kept.{enter_keeps}
 use Rattle.dura_model.proofs.Shown.{item_labelled}
 use Rattle.dura_value.specs.Ids.{Id, id_eq, home}
-use Rattle.dura_value.specs.Items.{ran}
+use Rattle.dura_value.specs.Items.{ran, Posted}
 use Rattle.dura_value.specs.Messages.{Body, Message}
 use Rattle.flow_syntax.specs.Syntax.{Flows}
 use Rattle.dura_model.specs.Entries.{shown_by}

@@ -1,5 +1,3 @@
-pub mod Copies
-pub mod Orders
 pub mod Parts
 pub mod Places
 pub mod Sequences

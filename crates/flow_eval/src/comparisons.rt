@@ -10,7 +10,7 @@ use crate::fault::{EvalError, Fault};
 use crate::kinds::truth;
 use dura_value::Value;
 
-#[tactic(auto, using(crate::proofs::Orders::less_bytes))]
+#[tactic(auto, using(dura_value::proofs::Bytes::less_bytes))]
 fn comes_before(first: &[u8], second: &[u8]) -> bool
     ensures { result ≡ bytes_before first.now second.now }
 {

@@ -20,7 +20,7 @@ pub fn list_of(parts: Vec<Scalar>) -> Result<Value, EvalError>
 }
 
 /// A copy.
-#[tactic(auto, using(crate::proofs::Copies::same_scalar))]
+#[tactic(auto, using(dura_value::proofs::Copies::same_scalar))]
 pub(crate) fn copy_of(scalar: &Scalar) -> Result<Scalar, AllocError>
     ensures { IfOk result (λ copy. copy ≡ scalar.now) }
 {

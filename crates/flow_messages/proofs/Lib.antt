@@ -1,4 +1,3 @@
 pub mod AllValues
 pub mod Places
 pub mod Releases
-pub mod SameIds

@@ -20,7 +20,7 @@ pub struct Entity {
 
 impl Entity {
     /// Whether it takes what this sender sends: with a holder it takes only what the holder sends.
-    #[tactic(auto, using(crate::proofs::SameIds::derived_id_eq))]
+    #[tactic(auto, using(dura_value::proofs::Ids::derived_id_eq))]
     pub fn takes(&self, sender: &Id) -> bool
         ensures { result ≡ takes (entity_of self.now).holder (id_of sender.now) }
     {

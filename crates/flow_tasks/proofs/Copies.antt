@@ -1,17 +1,14 @@
 -- A copy of a result is the same result.
 use Rattle.std.proofs.Common.{◌≡◌, ◌∙◌, ap, sym, rules}
 use Rattle.std.specs.List.{each_same}
-use Rattle.std.proofs.lemmas.List.Elements.{same_from_all_zip}
-use Rattle.dura_value.specs.declared.data.Scalar.{Scalar}
 use Rattle.dura_value.specs.declared.data.Scalar.TheVariants as scalars
-use Rattle.dura_value.specs.declared.data.Value.{Value}
 use Rattle.dura_value.specs.declared.data.Value.TheVariants as values
 use Rattle.dura_value.specs.declared.outcome.Outcome.{Outcome}
 use Rattle.dura_value.specs.declared.outcome.Outcome.TheVariants as outcomes
 use Rattle.dura_value.specs.contracts.data.ScalarClone.TheImpl as scalar_clone
 use Rattle.dura_value.specs.contracts.data.ValueClone.TheImpl as value_clone
 use Rattle.dura_value.specs.contracts.outcome.OutcomeClone.TheImpl as outcome_clone
-use Rattle.dura_value.proofs.Copies.{same_scalar, same_value}
+use Rattle.dura_value.proofs.Copies.{same_value}
 
 pub same_outcome : (a b : Outcome) → outcome_clone.by_variants a b → b ≡ a
 same_outcome (outcomes.Done a) (outcomes.Done b) h = ap outcomes.Done (same_value a b h)

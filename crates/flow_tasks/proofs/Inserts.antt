@@ -1,14 +1,10 @@
 -- Entities that are put into a set one after the other.
 use Rattle.std.proofs.Common.{◌≡◌, ◌∙◌, ◌<◌, ℕ, zero, suc, List, [], ◌∷◌, ◌++◌, length, get_or, take, drop, Bool, true, false, if◌then◌else◌, refl, ap, sym, arith}
 use Rattle.std.specs.List.{insert}
-use Rattle.std.specs.Ordering.{nat_cmp, is_lt}
-use Rattle.std.specs.Cmp.Lexicographic.{slice_cmp}
-use Rattle.dura_value.specs.Bytes.{bytes_before}
 use Rattle.dura_value.specs.Messages.{spot_before, spot_eq, inserted, set_of}
 use Rattle.dura_value.specs.Messages as plain
 use Rattle.dura_value.specs.Views.{spot_of, spots_of}
 use Rattle.dura_value.specs.declared.spots.Spot.{Spot}
-use Rattle.dura_value.proofs.Bytes.{is_lt-slice_cmp}
 
 -- it goes before the first one that it comes before
 pub goes_here : (set : List Spot) (place : ℕ) (spot : plain.Spot) (at : Spot) → place < length set → at ≡ get_or set place at → spot_before spot (spot_of at) ≡ true

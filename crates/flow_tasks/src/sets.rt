@@ -16,7 +16,7 @@ pub fn are_same(a: &Spot, b: &Spot) -> bool
 }
 
 /// Whether one comes before the other: by class, then by key.
-#[tactic(auto, using(crate::proofs::Inserts::less_bytes))]
+#[tactic(auto, using(dura_value::proofs::Bytes::less_bytes))]
 fn is_before(a: &Spot, b: &Spot) -> bool
     ensures { result ≡ spot_before (spot_of a.now) (spot_of b.now) }
 {

@@ -1,13 +1,12 @@
 -- Reading the parts of a list one after another, and how many bytes they take.
-use Rattle.std.proofs.Common.{◌≡◌, ℕ, ◌+◌, ◌<◌, ◌≤◌, List, [], ◌∷◌, ◌++◌, length, drop, get_or, Result, Ok, Err, refl, sym, ◌∙◌, ap, arith, append_assoc, add-one}
-use Rattle.std.proofs.Math.Seq.{drop-cons}
+use Rattle.std.proofs.Common.{◌≡◌, ℕ, ◌+◌, ◌<◌, ◌≤◌, List, [], ◌∷◌, ◌++◌, length, drop, get_or, Result, Ok, Err, refl, sym, ◌∙◌, ap, arith, append_assoc}
 use Rattle.std.proofs.lemmas.List.{append-nil, drop_all}
-use Rattle.serde_json.specs.Data.{Items, item}
+use Rattle.serde_json.specs.Data.{Items}
 use Rattle.json_tree.specs.View.{view, items_view}
 use Rattle.json_tree.specs.declared.tree.Tree.{Tree}
 use Rattle.dura_value.specs.declared.data.Scalar.{Scalar}
 use Rattle.flow_values.specs.Answers.{PartFails, IsUnder}
-use Rattle.flow_values.specs.Faults.{Path, at, to_part, ◌>>=◌}
+use Rattle.flow_values.specs.Faults.{Path, to_part, ◌>>=◌}
 use Rattle.flow_values.specs.Values.{count, scalar_in, scalars_from}
 use Rattle.flow_values.specs.declared.faults.PartError.{PartError}
 use Rattle.flow_values.specs.declared.faults.PartError.TheVariants.{Misshapen, Memory}

@@ -1,13 +1,11 @@
 -- Why no frame was written, and why a commit stops.
-use Rattle.std.proofs.Common.{◌≡◌, inl, inr, ℕ, ◌≤◌, List, Result, Ok, Err, ap, subst, arith}
+use Rattle.std.proofs.Common.{◌≡◌, inl, inr, ℕ, ◌≤◌, List, Result, Ok, Err, ap, subst}
 use Rattle.std.specs.Prelude.{◌⊎◌, IsErrAnd, OnOk, OnErr}
-use Rattle.std.proofs.lemmas.Bool.{cases_lt}
 use Rattle.dura_value.specs.Items.{Entry}
 use Rattle.hub_store.specs.Frames.{length_with}
 use Rattle.hub_store.specs.declared.refusal.BodyRefusal.{BodyRefusal}
 use Rattle.hub_store.specs.declared.refusal.BodyRefusal.TheVariants.{Full, SiteFault, Memory}
 use Rattle.hub_store.specs.declared.way.Way.{Way}
-use Rattle.site_model.specs.Calls.{HasRisen}
 use Rattle.commit_log.proofs.Causes.{ok_apart}
 
 -- ---- answers

@@ -5,7 +5,7 @@ use Rattle.site_model.specs.History.{Change, Step, said, saying, tape, changes_o
 use Rattle.site_model.specs.Calls.{Says}
 use Rattle.site_model.specs.Moments.{Always}
 use Rattle.site_model.specs.Moments.Always.{begins, goes_on}
-use Rattle.site_model.proofs.Tape.{tape-saying, changes_of-saying, says_no_file}
+use Rattle.site_model.proofs.Tape.{tape-saying, says_no_file}
 use Rattle.dura_value.specs.Items.{Entry}
 use Rattle.hub_store.specs.declared.way.Way.{Way}
 use Rattle.hub_store.specs.Origin.{Log, Origin}

@@ -6,7 +6,7 @@ use Rattle.json.specs.Json as json
 use Rattle.json.specs.Reads.{token_of}
 use Rattle.json.specs.declared.token.Token.{Token as Read}
 use Rattle.json.specs.declared.token.Token.TheVariants as read
-use Rattle.json.specs.Json.{Parse, parse_map}
+use Rattle.json.specs.Json.{parse_map}
 use Rattle.json.proofs.Grammar.{value_is, value-begin_array, value-begin_object}
 use Rattle.serde_json.specs.Data.{array, object, no_members}
 use Rattle.serde_json.specs.Read.{converted, of_items, of_json, of_members}

@@ -1,6 +1,5 @@
 -- A frame is read with its numbering exactly where it is read without and its entries are numbered.
-use Rattle.std.proofs.Common.{◌≡◌, ℕ, zero, suc, ◌≤◌, List, [], ◌∷◌, ◌==◌, true, Ok, Err, refl, ap, ◌∙◌, sym, subst, eqb-true, leb-true, arith}
-use Rattle.std.proofs.lemmas.Bool.Decides.{nat_tests}
+use Rattle.std.proofs.Common.{◌≡◌, ℕ, zero, suc, ◌≤◌, List, [], ◌∷◌, true, Ok, Err, refl, ap, ◌∙◌, sym, subst, eqb-true, leb-true}
 use Rattle.dura_value.specs.Items.{Entry}
 use Rattle.dura_codec.specs.Fields.{Read, count_at, several_at}
 use Rattle.part_items.specs.Grammar.{members_at, entry_items_at, entry_at, frame_at, whole, frame_in}

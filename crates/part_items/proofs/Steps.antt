@@ -6,7 +6,6 @@ use Rattle.std.proofs.lemmas.Nat.{be_bytes_2, be_bytes_4, be_bytes_8}
 use Rattle.std.proofs.lemmas.List.Elements.{All-drop, All-take}
 use Rattle.std.proofs.lemmas.Bool.Decides.{nat_tests}
 use Rattle.std.proofs.Math.Seq.{drop-append_seam}
-use Rattle.dura_value.specs.Reading.{◌>>=◌}
 use Rattle.part_items.specs.Fits.{AreBytes}
 use Rattle.dura_codec.specs.Fields.{Read, byte_at, number_at, count_at, request_number_at, run_at, several_at}
 use Rattle.dura_value.proofs.Basics.{both_ok, passed_ok}

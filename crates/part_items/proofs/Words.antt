@@ -1,5 +1,5 @@
 -- Names, keys and texts are read again.
-use Rattle.std.proofs.Common.{◌≡◌, ℕ, ◌<◌, ◌≤◌, List, [], ◌∷◌, ◌++◌, length, Bool, true, false, ◌&&◌, Ok, refl, arith, leb-true}
+use Rattle.std.proofs.Common.{◌≡◌, ℕ, ◌<◌, ◌≤◌, List, [], ◌∷◌, ◌++◌, length, Bool, true, Ok, refl, arith, leb-true}
 use Rattle.std.specs.Str.{is_utf8}
 use Rattle.dura_value.specs.Names.{is_name, is_key}
 use Rattle.dura_value.specs.Text.{IsText}

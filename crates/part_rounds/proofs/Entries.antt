@@ -1,9 +1,8 @@
 -- An entry that was filled may follow, and stands where its log goes on.
-use Rattle.std.proofs.Common.{◌≡◌, ℕ, suc, ◌+◌, ◌<◌, List, [], ◌∷◌, ◌++◌, length, Option, Some, None, Ok, refl, sym, ◌∙◌, ap, subst, append_assoc, arith}
+use Rattle.std.proofs.Common.{◌≡◌, ℕ, suc, ◌+◌, ◌<◌, List, [], ◌∷◌, ◌++◌, length, Option, Some, Ok, refl, sym, ◌∙◌, ap, subst, append_assoc, arith}
 use Rattle.std.proofs.lemmas.List.{length-append}
 use Rattle.std.proofs.lemmas.List.Elements.{All-cons}
 use Rattle.std.specs.List.{All}
-use Rattle.std.specs.Option.{option_and_then}
 use Rattle.std.specs.Prelude.{max}
 use Rattle.dura_value.specs.Reading.{◌>>=◌}
 use Rattle.dura_model.specs.Partition.{Partition, enter, accepted, with_part}

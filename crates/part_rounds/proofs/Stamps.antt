@@ -1,7 +1,6 @@
 -- How far the greatest stamp of a state goes.
 use Rattle.std.proofs.Common.{◌≡◌, inl, inr, ◌≤◌, ◌&&◌, ℕ, Bool, true, false, List, [], ◌∷◌, ◌++◌, cond, Option, Some, None, refl, sym, ◌∙◌, ap, subst, arith}
 use Rattle.std.specs.List.{All}
-use Rattle.std.specs.Option.{option_and_then}
 use Rattle.std.specs.Prelude.{not, nat_le, nat_lt, max, length, ◌==◌, ◌+◌, option_map}
 use Rattle.std.proofs.lemmas.Bool.{eqb-true}
 use Rattle.std.proofs.lemmas.List.Elements.{All-cons}

@@ -3,7 +3,7 @@ use Rattle.std.proofs.Common.{◌≡◌, ◌∙◌, ℕ, ◌+◌, ◌<◌, ◌�
 use Rattle.std.specs.List.{All}
 use Rattle.std.proofs.Math.Seq.{take-suc}
 use Rattle.std.proofs.lemmas.List.{get_or-map, length-map, map_more, take_all}
-use Rattle.std.proofs.lemmas.List.Elements.{All-append, All-cons, All-push}
+use Rattle.std.proofs.lemmas.List.Elements.{All-push}
 
 pub all_none : {X : Type 0} (P : X → Type 0) → All P []
 all_none P = λ k d inside. absurd (omega (arith, inside))

@@ -3,16 +3,14 @@ use Rattle.std.specs.Prelude.{ℕ, [], map, Option, Some, None}
 use Rattle.std.specs.BTreeMap.{get}
 use Rattle.std.specs.Ordering.{nat_cmp}
 use Rattle.dura_value.specs.Ids as ids
-use Rattle.dura_value.specs.Items as items
-use Rattle.dura_value.specs.Views.{id_of, message_of}
+use Rattle.part_items.specs.Plain.{identity_of, posted_of}
+use Rattle.dura_value.specs.Views.{id_of}
 use Rattle.flow_messages.specs.Views.{past_of}
 use Rattle.dura_model.specs.World as world
 use Rattle.dura_model.specs.Partition as plain
 use Rattle.part_rows.specs.declared.rows.Waiting.{Waiting}
 use Rattle.part_rows.specs.declared.rows.Row.{Row}
 use Rattle.part_rows.specs.declared.rows.Activity.{Activity}
-use Rattle.part_rows.specs.declared.streams.Identity.{Identity}
-use Rattle.part_rows.specs.declared.streams.Posted.{Posted}
 use Rattle.part_rows.specs.declared.streams.Outbox.{Outbox}
 use Rattle.part_rows.specs.declared.streams.Inbox.{Inbox}
 use Rattle.part_rows.specs.declared.streams.Outboxes.{Outboxes}
@@ -26,12 +24,6 @@ row_of row = record { stamp = row.stamp; history = map past_of row.history.items
 
 abbrev pub activity_of : Activity → world.Activity
 activity_of one = record { name = one.name; argument = one.argument }
-
-abbrev pub identity_of : Identity → items.Identity
-identity_of i = record { partition = i.partition; incarnation = i.incarnation; position = i.position }
-
-abbrev pub posted_of : Posted → plain.Posted
-posted_of posted = record { entry = identity_of posted.entry; message = message_of posted.message }
 
 abbrev pub outbox_of : Outbox → plain.Outbox
 outbox_of box = record { first = box.first; messages = map posted_of box.messages.items }

@@ -4,17 +4,18 @@ ghost use Rattle.std.specs.Prelude.{◌≡◌, ◌<◌, IfOk, OnOk};
 ghost use Rattle.dura_value.specs.Views.{message_of, messages_of};
 ghost use Rattle.part_rows.specs.Timers.{InOrder};
 ghost use Rattle.dura_model.specs.Partition.{fresh, entry_of, post, post_all};
-ghost use Rattle.part_rows.specs.Views.{identity_of};
+ghost use Rattle.part_items.specs.Plain.{identity_of};
 ghost use Rattle.part_rows.specs.Parts.{part_of};
 
 use crate::copies::{copy_activity, copy_answer, copy_entity, copy_message, copy_row};
 use crate::queue::Queue;
 use crate::rows::{Activity, Row};
-use crate::streams::{Identity, Inboxes, Outboxes, Posted};
+use crate::streams::{Inboxes, Outboxes};
 use crate::timers::TimerRow;
 use dura_value::{Answer, Message, home, with};
 use flow_messages::Entity;
 use id_maps::{IdMap, NumberMap};
+use part_items::{Identity, Posted};
 use std::alloc::{AllocError, Global};
 
 /// What a partition among so many knows. After an Err, which is want of memory, it is only dropped.

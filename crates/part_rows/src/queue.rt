@@ -61,7 +61,7 @@ impl Queue {
     }
 
     /// Where the first message from one to the other is.
-    #[tactic(auto, using(flow_messages::proofs::SameIds::derived_id_eq))]
+    #[tactic(auto, using(dura_value::proofs::Ids::derived_id_eq))]
     fn place_of(&self, from: &Id, to: &Id) -> Option<usize>
         ensures { result ≡ position (is_of_link (id_of from.now) (id_of to.now)) self.now }
     {

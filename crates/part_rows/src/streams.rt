@@ -2,33 +2,15 @@
 
 ghost use Rattle.std.specs.Prelude.{◌≡◌, ◌+◌, ◌++◌, length, nat_le, ◌≤◌, if◌then◌else◌, IfOk, OnOk};
 ghost use Rattle.dura_model.specs.Partition.{with_posted, with_inbox, begins_at, with_first};
-ghost use Rattle.part_rows.specs.Views.{posted_of, inbox_of, outbox_of, inboxes_of, outboxes_of, no_outbox, no_inbox};
+ghost use Rattle.part_items.specs.Plain.{posted_of};
+ghost use Rattle.part_rows.specs.Views.{inbox_of, outbox_of, inboxes_of, outboxes_of, no_outbox, no_inbox};
 
 use crate::copies::copy_message;
 use dura_value::{Message, with};
 use id_maps::copy_numbers;
+use part_items::{Identity, Posted};
 use std::alloc::{AllocError, Global};
 use std::collections::{BTreeMap, VecDeque};
-
-/// An entry by its partition, the incarnation of the partition that made it, and its position there.
-#[derive(Clone, Copy)]
-pub struct Identity {
-    /// The partition.
-    pub partition: u32,
-    /// Its incarnation.
-    pub incarnation: u64,
-    /// The entry's position.
-    pub position: u64,
-}
-
-/// A message to another partition, and the entry that sends it.
-#[derive(Drop)]
-pub struct Posted {
-    /// The entry.
-    pub entry: Identity,
-    /// The message.
-    pub message: Message,
-}
 
 /// What is left of the stream to another partition.
 #[derive(Drop)]
@@ -60,16 +42,14 @@ pub struct Outboxes {
     boxes: BTreeMap<u32, Outbox>,
 }
 
-impl Posted {
-    /// The same message of the same entry.
-    fn copy(&self) -> Result<Posted, AllocError>
-        ensures { IfOk result (λ copy. copy ≡ self.now) }
-    {
-        Ok(Posted {
-            entry: self.entry,
-            message: copy_message(&self.message)?,
-        })
-    }
+/// The same message of the same entry.
+fn copy_posted(posted: &Posted) -> Result<Posted, AllocError>
+    ensures { IfOk result (λ copy. copy ≡ posted.now) }
+{
+    Ok(Posted {
+        entry: posted.entry,
+        message: copy_message(&posted.message)?,
+    })
 }
 
 /// Copies of these messages come behind the others.
@@ -78,7 +58,7 @@ fn add_copies(copies: &mut VecDeque<Posted>, messages: &VecDeque<Posted>) -> Res
     ensures { OnOk result (copies.new.items ≡ copies.old.items ++ messages.now.items) }
 {
     for posted in messages.iter() {
-        let copy = posted.copy()?;
+        let copy = copy_posted(posted)?;
         copies.push_back(copy)?;
     }
     Ok(())

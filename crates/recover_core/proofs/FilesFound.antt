@@ -1,7 +1,6 @@
 -- What was read of a file is what it keeps.
-use Rattle.std.proofs.Common.{◌≡◌, ◌≢◌, ◌∙◌, inl, inr, ℕ, List, [], ◌∷◌, length, true, false, ◌==◌, Some, None, Ok, Err, refl, sym, ap, subst, eqb-true, arith}
+use Rattle.std.proofs.Common.{◌≡◌, ◌≢◌, ◌∙◌, inl, inr, ℕ, List, [], ◌∷◌, length, true, false, ◌==◌, Some, None, Ok, Err, refl, sym, ap, subst, eqb-true}
 use Rattle.std.proofs.lemmas.Bool.{cases_Bool, eq-eqb}
-use Rattle.std.proofs.lemmas.Bool.Decides.{nat_tests}
 use Rattle.site_model.specs.History.{Step, on, synced, reads, changes_of, content_of, IsKept}
 use Rattle.site_model.proofs.Paths.{own_change}
 use Rattle.commit_log.specs.declared.header.Header.{Header}

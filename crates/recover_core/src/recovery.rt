@@ -74,8 +74,8 @@ fn end(found: Found) -> Result<Recovered, RecoverError>
 
 /// Opens the log of the one partition, and says what its two files stand for. A file is synced before it is read, and
 /// nothing is written. Of each file the bytes are looked at first, then of how many partitions and of which flows it is;
-/// then whether both can stand; then the entries, one after another; and then whether a incarnation is left.
-#[tactic(auto, using(crate::proofs::LogsFound::risen_later))]
+/// then whether both can stand; then the entries, one after another; and then whether an incarnation is left.
+#[tactic(auto, using(site_model::proofs::Faults::risen_later))]
 pub fn recover<V: Site, R: Reactions>(
     alloc: Global,
     site: &mut V,

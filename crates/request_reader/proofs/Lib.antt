@@ -1,5 +1,4 @@
 pub mod Counted
-pub mod Ids
 pub mod Lines
 pub mod Places
 pub mod Scalars

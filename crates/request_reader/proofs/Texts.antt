@@ -1,8 +1,6 @@
 -- Which bytes are a text.
-use Rattle.std.proofs.Common.{◌≡◌, ℕ, ◌<◌, ◌≤◌, List, length, true, false, Bool, Some, None, refl, arith}
-use Rattle.std.specs.Prelude.{nat_le, ◌&&◌}
+use Rattle.std.proofs.Common.{◌≡◌, ℕ, ◌<◌, List, length, false, Some, None, refl}
 use Rattle.std.specs.Str.{is_utf8, IsUtf8, IsValidUpTo}
-use Rattle.std.proofs.lemmas.Bool.Decides.{nat_tests}
 use Rattle.std.proofs.Math.Seq.{take-length}
 use Rattle.dura_value.specs.Text.{IsText}
 use Rattle.dura_value.specs.Optional.{where_it}

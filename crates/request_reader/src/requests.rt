@@ -14,7 +14,7 @@ use crate::progress::{Progress, copy_of};
 use dura_value::{Body, Id, Message, Request};
 use std::alloc::{AllocError, Global};
 
-#[tactic(auto, using(crate::proofs::Ids::derived_id_eq))]
+#[tactic(auto, using(dura_value::proofs::Ids::derived_id_eq))]
 fn is_same_id(a: &Id, b: &Id) -> bool
     ensures { result ≡ id_eq (id_of a.now) (id_of b.now) }
 {

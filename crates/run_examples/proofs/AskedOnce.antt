@@ -1,5 +1,5 @@
 -- An entry for which the clock was asked.
-use Rattle.std.proofs.Common.{ℕ, List, [], ◌∷◌, Some, refl, arith}
+use Rattle.std.proofs.Common.{List, [], ◌∷◌, Some, refl, arith}
 use Rattle.std.proofs.lemmas.List.Elements.{All-from_recursion}
 use Rattle.activity_table.specs.Chance.{word_of}
 use Rattle.client_port.specs.Clients.{clients_of}

@@ -1,5 +1,5 @@
 -- A run that finds a log without entries, and does nothing.
-use Rattle.std.proofs.Common.{◌≡◌, ◌≤◌, inl, ℕ, List, [], refl, ap, subst, arith}
+use Rattle.std.proofs.Common.{◌≡◌, inl, ℕ, List, [], refl, ap, subst, arith}
 use Rattle.commit_log.specs.Segment.{header_at}
 use Rattle.dura_model.specs.Partition.{fresh}
 use Rattle.engine_run.specs.Ends.{RunEndsAs}

@@ -2,7 +2,7 @@
 use Rattle.std.proofs.Common.{◌≡◌, true, false, ◌||◌, cond, ℕ, ◌+◌, ◌-◌, ◌≤◌, min, List, [], ◌∷◌, ◌++◌, length, take, drop, sym, refl, ◌∙◌, ap, subst, arith, length-take, length-drop}
 use Rattle.std.proofs.Math.Seq.{take-append_seam, drop-append_seam}
 use Rattle.std.proofs.lemmas.List.{take-take, drop-take}
-use Rattle.site_model.specs.History.{Step, Change, on, wrote, synced, content_of, reads}
+use Rattle.site_model.specs.History.{Step, on, wrote, synced, content_of, reads}
 use Rattle.site_model.specs.History as history
 use Rattle.site_model.proofs.Paths.{own_change}
 use Rattle.site_calls.specs.Events.{Event, Unseen, Standing, found, made, measured, got, begun, put, lost, flushed, named, absent, printed, failed, unprinted, after, replay, IsHonest, Tells, start_of}

@@ -1,8 +1,8 @@
 -- Each write of each file began inside it.
-use Rattle.std.proofs.Common.{◌≡◌, inl, inr, ℕ, ◌≤◌, Bool, true, ◌&&◌, List, ◌∷◌, length, ◌∙◌, ap}
-use Rattle.std.proofs.lemmas.Bool.{cases_eq, le-leb}
-use Rattle.site_model.specs.History.{Step, Change, on, wrote, synced, changes_of, content_of, writes_inside, saying, AllInside}
-use Rattle.site_model.proofs.Paths.{own_change, other_change, inside_on, and_true}
+use Rattle.std.proofs.Common.{ℕ, ◌≤◌, List, ◌∷◌, length, ◌∙◌, ap}
+use Rattle.std.proofs.lemmas.Bool.{le-leb}
+use Rattle.site_model.specs.History.{Step, on, wrote, synced, changes_of, content_of, writes_inside, saying, AllInside}
+use Rattle.site_model.proofs.Paths.{inside_on, and_true}
 use Rattle.site_model.proofs.Tape.{changes_of-saying}
 
 pub inside_wrote : (file at size : ℕ) (bytes : List ℕ) (steps : List Step) → at ≤ length (content_of file steps) → length bytes ≤ size

@@ -1,9 +1,9 @@
 -- How the history of a record goes on with one more entry.
-use Rattle.std.proofs.Common.{◌≡◌, inl, inr, ℕ, ◌+◌, ◌-◌, ◌<◌, ◌≤◌, Bool, true, ◌&&◌, List, [], ◌∷◌, ◌++◌, length, take, drop, get_or, refl, sym, ◌∙◌, ap, arith}
-use Rattle.std.proofs.lemmas.Bool.{cases_eq, le-leb}
+use Rattle.std.proofs.Common.{◌≡◌, ℕ, ◌+◌, ◌-◌, ◌<◌, ◌≤◌, List, [], ◌∷◌, ◌++◌, length, take, drop, get_or, refl, sym, ◌∙◌, ap, arith}
+use Rattle.std.proofs.lemmas.Bool.{le-leb}
 use Rattle.std.proofs.lemmas.List.{take_more, take-append-drop, drop_more, drop-drop}
-use Rattle.site_model.specs.History.{Step, Change, on, said, wrote, synced, changes_of, content_of, writes_inside, saying, tape, back_to, AllInside}
-use Rattle.site_model.proofs.Paths.{own_change, other_change, inside_on, and_true}
+use Rattle.site_model.specs.History.{Step, on, said, wrote, synced, changes_of, content_of, writes_inside, saying, tape, back_to, AllInside}
+use Rattle.site_model.proofs.Paths.{inside_on, and_true}
 use Rattle.site_memory.specs.declared.kept.Kept.{Kept}
 use Rattle.site_memory.specs.declared.kept.Kept.TheVariants.{Wrote, Byte, Synced, Said}
 use Rattle.site_memory.specs.Record.{grown, next, replayed, history_of}

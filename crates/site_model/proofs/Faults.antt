@@ -1,5 +1,5 @@
 -- Counts of faults that only rise.
-use Rattle.std.proofs.Common.{◌≡◌, ◌⊎◌, inl, inr, ℕ, ◌≤◌, arith}
+use Rattle.std.proofs.Common.{inl, inr, ℕ, ◌≤◌, arith}
 use Rattle.std.proofs.lemmas.Bool.{cases_lt}
 use Rattle.site_model.specs.Calls.{HasRisen}
 

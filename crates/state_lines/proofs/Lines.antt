@@ -2,9 +2,9 @@
 use Rattle.std.proofs.Common.{◌≡◌, ◌∙◌, ℕ, List, [], ◌++◌, take, drop, Result, Ok, Err, IfErr, refl, sym, ap, subst}
 use Rattle.std.proofs.lemmas.List.{take-append-drop, append-nil}
 use Rattle.std.specs.Result.{IsErrAnd}
-use Rattle.site_model.specs.History.{Step, saying, tape, changes_of}
+use Rattle.site_model.specs.History.{Step, saying, tape}
 use Rattle.site_model.specs.Calls.{Says}
-use Rattle.site_model.proofs.Tape.{tape-saying, changes_of-saying}
+use Rattle.site_model.proofs.Tape.{tape-saying}
 use Rattle.state_lines.specs.declared.error.ShowError.{ShowError}
 use Rattle.state_lines.specs.declared.error.ShowError.TheVariants.{SayFault, Memory}
 use Rattle.state_lines.specs.Steps.{SaysPart}

@@ -2,13 +2,13 @@
 use Rattle.std.specs.Prelude.{◌≡◌, ℕ, List, [], ◌∷◌, codes, Option, Some, None}
 use Rattle.dura_value.specs.declared.data.Value.TheVariants as values
 use Rattle.dura_value.specs.Ids.{Id, orchestration, entity, client}
-use Rattle.dura_value.specs.Items.{Identity, Item, took, got, ran, trim}
+use Rattle.dura_value.specs.Items.{Identity, Item, took, got, ran, trim, Floor}
 use Rattle.dura_value.specs.Messages.{Spot, at_spot, wait, lock, release, Message}
 use Rattle.flow_syntax.specs.Machine.{Machine, Section, outside, acquiring, inside, running, new_machine, spot_of}
 use Rattle.flow_syntax.specs.Entity.{Entity}
 use Rattle.dura_model.specs.World.{World, Orchestration, empty, at_link}
 use Rattle.dura_value.specs.ById.{at_id}
-use Rattle.dura_model.specs.Dependencies.{Committed, Floor}
+use Rattle.dura_model.specs.Dependencies.{Committed}
 
 -- ---- sections
 

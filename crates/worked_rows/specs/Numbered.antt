@@ -35,7 +35,7 @@ next_rows =
     ∷ []
 
 -- the example at another place, and in a later incarnation; a second entry at the place of the first one whose tag is none either, and
--- one whose tag alone is none; a second entry of a incarnation before the first one's
+-- one whose tag alone is none; a second entry of an incarnation before the first one's
 abbrev pub next_faults : List (Log × ℕ)
 next_faults =
     (log 1 0 example_bytes, 2)

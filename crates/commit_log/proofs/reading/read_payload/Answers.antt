@@ -1,6 +1,6 @@
-use Rattle.std.proofs.Common.{◌≡◌, ℕ, Result, Ok, Err, refl}
+use Rattle.std.proofs.Common.{◌≡◌, Result, Ok, Err, refl}
 use Rattle.commit_log.specs.declared.reader.FrameError.{FrameError}
-use Rattle.commit_log.specs.declared.reader.FrameError.TheVariants.{Damaged, SiteFault, Memory}
+use Rattle.commit_log.specs.declared.reader.FrameError.TheVariants.{SiteFault, Memory}
 use Rattle.commit_log.proofs.reading.read_payload.Goals as goal
 use Rattle.commit_log.proofs.Causes.{ok_apart, damaged_fault}
 

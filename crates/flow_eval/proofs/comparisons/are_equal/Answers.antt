@@ -1,5 +1,5 @@
 use Rattle.std.proofs.Common.{◌∙◌}
-use Rattle.flow_eval.proofs.Orders.{value_eq_is}
+use Rattle.dura_value.proofs.SameViews.{value_eq_is}
 use Rattle.flow_eval.proofs.comparisons.are_equal.Goals as goal
 
 pub returns : goal.returns

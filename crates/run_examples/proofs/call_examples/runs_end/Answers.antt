@@ -1,4 +1,4 @@
-use Rattle.std.proofs.Common.{◌≡◌, true, false, [], ◌∷◌, refl, arith}
+use Rattle.std.proofs.Common.{◌≡◌, true, false, [], refl, arith}
 use Rattle.dura_model.specs.Partition.{fresh}
 use Rattle.hub_store.specs.Moments.SaidSoFar.{silent}
 use Rattle.part_items.specs.Examples.{request}

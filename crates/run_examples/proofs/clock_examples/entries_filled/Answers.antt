@@ -1,4 +1,4 @@
-use Rattle.std.proofs.Common.{◌≡◌, [], ◌∷◌, Some, None, sym, subst, arith}
+use Rattle.std.proofs.Common.{◌≡◌, [], Some, None, sym, subst, arith}
 use Rattle.dura_model.specs.Partition.{Partition, accepted}
 use Rattle.dura_value.specs.Items.{ran, ended}
 use Rattle.part_items.specs.Examples.{request}

@@ -1,5 +1,4 @@
-use Rattle.std.proofs.Common.{◌≡◌, inl, inr, ℕ, refl, arith}
-use Rattle.run_causes.specs.declared.cause.Cause.{Cause}
+use Rattle.std.proofs.Common.{◌≡◌, inl, inr, refl, arith}
 use Rattle.run_causes.specs.declared.cause.Cause.TheVariants.{SiteFault, SayFault, ClockFault}
 use Rattle.run_examples.proofs.promise_examples.faults_risen.Goals as goal
 use Rattle.site_model.specs.Calls.{HasRisen}

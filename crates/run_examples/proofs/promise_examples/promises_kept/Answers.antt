@@ -1,4 +1,4 @@
-use Rattle.std.proofs.Common.{◌≡◌, ◌∙◌, inl, inr, List, [], ◌∷◌, Option, Some, None, refl, sym, ap, subst}
+use Rattle.std.proofs.Common.{◌≡◌, ◌∙◌, inl, inr, List, Option, Some, None, refl, sym, ap, subst}
 use Rattle.command_words.specs.declared.words.Call.{Call}
 use Rattle.engine_run.specs.Causes.{SettlesNothing}
 use Rattle.run_causes.specs.declared.cause.Cause.TheVariants.{Usage}

@@ -1,8 +1,8 @@
 use Rattle.std.proofs.Common.{◌∷◌, [], refl, arith}
 use Rattle.dura_value.specs.Messages.{at_spot, lock}
-use Rattle.dura_model.specs.Legal.{Waits, Holds, Blocks}
+use Rattle.dura_model.specs.Legal.{Waits, Blocks}
 use Rattle.dura_model.specs.Legal as legal
-use Rattle.worked_rows.specs.ByHand.{one, other, k, waiting_world}
+use Rattle.worked_rows.specs.ByHand.{one, k, waiting_world}
 use Rattle.worked_rows.proofs.by_hand.waits.Goals as goal
 
 waits_there : Waits waiting_world one k

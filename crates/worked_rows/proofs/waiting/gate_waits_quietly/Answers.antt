@@ -1,10 +1,9 @@
-use Rattle.std.proofs.Common.{◌≡◌, ◌&&◌, Bool, true, false, cond, ℕ, List, [], ◌∷◌, ◌++◌, refl, ap, sym, subst, Option, None}
+use Rattle.std.proofs.Common.{◌≡◌, ◌&&◌, Bool, true, false, cond, List, [], ◌∷◌, ◌++◌, refl, ap, subst}
 use Rattle.dura_value.specs.Ids.{Id, id_eq}
 use Rattle.dura_value.specs.Messages.{Message}
 use Rattle.flow_syntax.specs.Machine.{go_on}
 use Rattle.dura_model.specs.Legal.{is_due}
 use Rattle.dura_model.specs.Steps.{delivered}
-use Rattle.dura_model.specs.World.{World}
 use Rattle.worked_rows.specs.Runs.GateWaits.{flows}
 use Rattle.worked_rows.specs.Waiting.{a, gate, first, second, waiting}
 use Rattle.worked_rows.proofs.waiting.gate_waits_quietly.Goals as goal
