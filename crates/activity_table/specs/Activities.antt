@@ -1,6 +1,5 @@
 -- What an activity may give.
-use Rattle.std.specs.Prelude.{ℤ, Bool, ◌+ℤ◌, List, [], ◌∷◌, codes, if◌then◌else◌}
-use Rattle.std.specs.Prelude.{pos, negsuc, ◌^◌, nat_lt}
+use Rattle.std.specs.Prelude.{ℤ, Bool, ◌+ℤ◌, List, [], ◌∷◌, codes, if◌then◌else◌, pos, negsuc, ◌^◌, nat_lt}
 use Rattle.dura_value.specs.declared.data.Scalar.{Scalar}
 use Rattle.dura_value.specs.declared.data.Scalar.TheVariants as scalars
 use Rattle.dura_value.specs.declared.data.Value.{Value}

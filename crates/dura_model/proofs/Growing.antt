@@ -1,7 +1,6 @@
 -- A machine's tasks grow, and the activities that it asks for are new tasks.
-use Rattle.std.proofs.Common.{◌≡◌, ◌≤◌, ◌<◌, ◌+◌, ◌==◌, ℕ, zero, suc, length, Bool, true, false, cond, List, [], ◌∷◌, ◌++◌, Option, Some, None, Result, Ok, Err, refl, sym, ap, subst, ◌∙◌, arith}
+use Rattle.std.proofs.Common.{◌≡◌, ◌≤◌, ◌<◌, ◌+◌, ◌==◌, ℕ, zero, suc, length, Bool, true, false, cond, List, [], ◌∷◌, ◌++◌, Option, Some, None, Result, Ok, Err, refl, sym, ap, subst, ◌∙◌, arith, length-append}
 use Rattle.std.specs.Prelude.{ℤ, pos, negsuc, codes, nat_lt}
-use Rattle.std.proofs.Common.{length-append}
 use Rattle.dura_value.specs.declared.data.Value.{Value}
 use Rattle.dura_value.specs.declared.data.Value.TheVariants as values
 use Rattle.dura_value.specs.declared.outcome.Outcome.{Outcome}
@@ -9,8 +8,7 @@ use Rattle.dura_value.specs.declared.outcome.Outcome.TheVariants as outcomes
 use Rattle.dura_value.specs.Messages.{set_of}
 use Rattle.flow_syntax.specs.Syntax.{Expression, Statement, let_be, spawn, call, subflow, ask, timer, event as next_event, await, await_all, await_any, signal, lock_in, if_then, while, try, return, fail, Block}
 use Rattle.flow_syntax.specs.Eval.{◌>>=◌, eval, to_integer, to_truth, to_text, to_key, to_scalars, list_of}
-use Rattle.flow_syntax.specs.Machine.{Machine, Task, Arrival, Section, outside, acquiring, inside, Todo, run, wait_lock, unlock, end_try, Progress, unborn, running, done, failed, Asked, an_activity, a_timer, Resumed, only, and_then, leaving, ended, thrown, task_at, arrival_of, with_arrival, settled_once, settled, arrived, of_activity, of_timer, of_event, with_task, with_handle, to_handle, to_handles, all_arrived, all_values, Candidate, first_arrived, may_ask, may_signal, may_start, may_lock, spot_of, eval_spots, Next, stays, goes, throws, having, by_rule, scheduled, calls, starts, asks, signals, end_of_time, sets_timer, kept_value, with_kept, listens, sets, gets, awaited, awaited_all, awaited_any, waits_for, locks, branches, loops, statement_step, lock_step, running_step, step_of, next_of, most_steps, go_on, go, Event, started, resulted, fired, was_granted, outcome_of, with_answer, oldest_listener, heard, granted_in, recorded, granted_late, most_events, goes_on, begins, resumed_by, resume}
-use Rattle.flow_syntax.specs.Machine.{was_raised as was_an_event}
+use Rattle.flow_syntax.specs.Machine.{Machine, Task, Arrival, Section, outside, acquiring, inside, Todo, run, wait_lock, unlock, end_try, Progress, unborn, running, done, failed, Asked, an_activity, a_timer, Resumed, only, and_then, leaving, ended, thrown, task_at, arrival_of, with_arrival, settled_once, settled, arrived, of_activity, of_timer, of_event, with_task, with_handle, to_handle, to_handles, all_arrived, all_values, Candidate, first_arrived, may_ask, may_signal, may_start, may_lock, spot_of, eval_spots, Next, stays, goes, throws, having, by_rule, scheduled, calls, starts, asks, signals, end_of_time, sets_timer, kept_value, with_kept, listens, sets, gets, awaited, awaited_all, awaited_any, waits_for, locks, branches, loops, statement_step, lock_step, running_step, step_of, next_of, most_steps, go_on, go, Event, started, resulted, fired, was_granted, outcome_of, with_answer, oldest_listener, heard, granted_in, recorded, granted_late, most_events, goes_on, begins, resumed_by, resume, was_raised as was_an_event}
 
 -- the activities asked for have numbers from the one on and below the other
 abbrev pub AllNew : ℕ → ℕ → List Asked → Type 0

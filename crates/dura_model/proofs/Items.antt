@@ -8,8 +8,7 @@ use Rattle.dura_value.specs.Ids.{Id, orchestration, entity, client, home, id_eq}
 use Rattle.dura_value.specs.Items.{took, ran, ended, fired}
 use Rattle.dura_value.specs.Messages.{Reply, to_nobody, to_task, to_request, Answer, Spot, entity_at, Body, start, raise, query, wait, result, operate, lock, granted, release, Message}
 use Rattle.flow_syntax.specs.Syntax.{Flows, Block, class_of}
-use Rattle.flow_syntax.specs.Machine.{resulted}
-use Rattle.flow_syntax.specs.Machine.{fired as timer_fired}
+use Rattle.flow_syntax.specs.Machine.{resulted, fired as timer_fired}
 use Rattle.flow_syntax.specs.Entity.{Entity, answering, operated, operation_of, value_answer, lock_goes_on, takes, deliver as deliver_to}
 use Rattle.dura_model.specs.World.{World, Orchestration, Activity, at_link}
 use Rattle.dura_value.specs.ById.{at_id, at_number}

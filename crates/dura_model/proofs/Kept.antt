@@ -9,8 +9,7 @@ use Rattle.dura_value.specs.Ids.{Id, orchestration, entity, client, home}
 use Rattle.dura_value.specs.Items.{Identity, Item, took, got, ran, ended, fired, trim, Posted}
 use Rattle.dura_value.specs.Messages.{Reply, to_nobody, to_task, to_request, Answer, Body, start, raise, query, wait, result, operate, lock, granted, release, Message}
 use Rattle.flow_syntax.specs.Syntax.{Flows, Block, class_of}
-use Rattle.flow_syntax.specs.Machine.{resulted}
-use Rattle.flow_syntax.specs.Machine.{fired as timer_fired}
+use Rattle.flow_syntax.specs.Machine.{resulted, fired as timer_fired}
 use Rattle.flow_syntax.specs.Entity.{Entity, operated, operation_of, takes, deliver as deliver_to}
 use Rattle.dura_model.specs.World.{empty, Activity}
 use Rattle.dura_value.specs.ById.{at_id, at_number}

@@ -7,14 +7,13 @@ use Rattle.activity_table.specs.Table.{may}
 use Rattle.dura_value.specs.declared.data.Value.{Value}
 use Rattle.dura_value.specs.declared.outcome.Outcome.{Outcome}
 use Rattle.dura_value.specs.Ids.{Id, orchestration, entity, client, id_eq}
-use Rattle.dura_value.specs.Messages.{Reply, to_nobody, to_task, to_request, Answer, Body, start, raise, query, wait, result, operate, lock, granted, release, Message}
+use Rattle.dura_value.specs.Messages.{Reply, to_nobody, to_task, to_request, Answer, Body, start, raise, query, wait, result, operate, lock, granted, release, Message, was_raised as is_raised}
 use Rattle.flow_syntax.specs.Syntax.{Flows, Block}
 use Rattle.flow_syntax.specs.Machine.{Machine, new_machine, Asked, an_activity, a_timer, Resumed, Event, started, resulted, was_raised, fired, was_granted, resume}
 use Rattle.flow_syntax.specs.Entity.{Entity, takes, deliver as deliver_to}
 use Rattle.dura_model.specs.World.{World, Orchestration, Activity, at_link, empty}
 use Rattle.dura_value.specs.ById.{at_id, at_number}
 use Rattle.dura_model.specs.Deliveries.{Effect, ending, at_end, goes_on_from, begun, flow_of, beginning, to_absent, to_present, is_over, waited, raised_at, result_at, granted_at, at_stamp, to_instance, telling}
-use Rattle.dura_value.specs.Messages.{was_raised as is_raised}
 use Rattle.dura_model.specs.Steps.{Label, take, deliver, finish, fire, sent, asked, given_up, stands_as, is_request, taken, last_of, entity_of, to_entity, answered, to_client, received, delivered, answer_of, finished, timed, step}
 use Rattle.dura_model.specs.Legal.{Legal, after_from, is_finish, finishes}
 use Rattle.dura_value.proofs.Ids.{id_same, id_self, and_true}

@@ -4,11 +4,9 @@ use Rattle.std.specs.Prelude.{option_map, nat_le, nat_lt, not, is_some}
 use Rattle.dura_value.specs.declared.outcome.Outcome.{Outcome}
 use Rattle.dura_value.specs.Ids.{Id, orchestration, entity, client, id_eq, home}
 use Rattle.dura_value.specs.Items.{Item, took, got, ran, ended, fired, trim}
-use Rattle.dura_value.specs.Messages.{Reply, to_nobody, to_task, to_request, Answer, Body, start, raise, query, wait, result, operate, lock, granted, release, Message}
-use Rattle.dura_value.specs.Messages.{was_raised as is_raised}
+use Rattle.dura_value.specs.Messages.{Reply, to_nobody, to_task, to_request, Answer, Body, start, raise, query, wait, result, operate, lock, granted, release, Message, was_raised as is_raised}
 use Rattle.flow_syntax.specs.Syntax.{Flows, Block}
-use Rattle.flow_syntax.specs.Machine.{new_machine, Event, started, resulted, was_raised, was_granted, resume, Resumed, Asked, an_activity, a_timer}
-use Rattle.flow_syntax.specs.Machine.{fired as timer_fired}
+use Rattle.flow_syntax.specs.Machine.{new_machine, Event, started, resulted, was_raised, was_granted, resume, Resumed, Asked, an_activity, a_timer, fired as timer_fired}
 use Rattle.flow_syntax.specs.Entity.{takes, deliver as deliver_to}
 use Rattle.dura_model.specs.World.{Orchestration, Activity}
 use Rattle.dura_value.specs.ById.{at_id, at_number, cleared}

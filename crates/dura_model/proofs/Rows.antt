@@ -3,8 +3,7 @@ use Rattle.std.proofs.Common.{◌≡◌, ℕ, Bool, true, false, List, [], ◌�
 use Rattle.std.specs.Prelude.{option_map, codes}
 use Rattle.dura_value.specs.declared.data.Value.{Value}
 use Rattle.dura_value.specs.Ids.{Id}
-use Rattle.dura_value.specs.Messages.{Reply, to_nobody, to_task, to_request, Answer, was_there, is_unknown, Body, start, raise, query, wait, result, operate, lock, granted, release, Message}
-use Rattle.dura_value.specs.Messages.{was_raised as is_raised}
+use Rattle.dura_value.specs.Messages.{Reply, to_nobody, to_task, to_request, Answer, was_there, is_unknown, Body, start, raise, query, wait, result, operate, lock, granted, release, Message, was_raised as is_raised}
 use Rattle.flow_syntax.specs.Syntax.{Flows, Block}
 use Rattle.flow_syntax.specs.Machine.{Machine, new_machine, Event, started, resulted, was_raised, was_granted, resume, Past, replayed}
 use Rattle.dura_model.specs.World.{Orchestration}

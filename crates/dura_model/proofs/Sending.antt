@@ -9,8 +9,7 @@ use Rattle.dura_value.specs.Ids.{Id}
 use Rattle.dura_value.specs.Messages.{Spot, set_of, entity_at, Reply, to_nobody, to_task, to_request, Message}
 use Rattle.flow_syntax.specs.Syntax.{Expression, Statement, let_be, spawn, call, subflow, ask, timer, event as next_event, await, await_all, await_any, signal, lock_in, if_then, while, try, return, fail, Block}
 use Rattle.flow_syntax.specs.Eval.{◌>>=◌, eval, to_integer, to_truth, to_text, to_key, to_scalars, list_of}
-use Rattle.flow_syntax.specs.Machine.{Machine, Task, Arrival, Section, outside, acquiring, inside, Todo, run, wait_lock, unlock, end_try, Progress, unborn, running, done, failed, Asked, a_timer, releasing, telling, locking, without_kept, todo, Resumed, only, and_then, leaving, ended, thrown, task_at, arrival_of, settled_once, settled, arrived, of_timer, of_event, with_task, with_handle, to_handle, to_handles, all_arrived, all_values, Candidate, first_arrived, may_ask, may_signal, may_start, may_lock, spot_of, eval_spots, Next, stays, goes, throws, having, by_rule, scheduled, calls, starts, asks, signals, end_of_time, sets_timer, kept_value, with_kept, listens, sets, gets, awaited, awaited_all, awaited_any, waits_for, locks, branches, loops, statement_step, lock_step, running_step, step_of, next_of, most_steps, go_on, go, Event, started, resulted, fired, was_granted, outcome_of, with_answer, oldest_listener, heard, granted_in, recorded, granted_late, most_events, goes_on, begins, resumed_by, resume}
-use Rattle.flow_syntax.specs.Machine.{was_raised as was_an_event}
+use Rattle.flow_syntax.specs.Machine.{Machine, Task, Arrival, Section, outside, acquiring, inside, Todo, run, wait_lock, unlock, end_try, Progress, unborn, running, done, failed, Asked, a_timer, releasing, telling, locking, without_kept, todo, Resumed, only, and_then, leaving, ended, thrown, task_at, arrival_of, settled_once, settled, arrived, of_timer, of_event, with_task, with_handle, to_handle, to_handles, all_arrived, all_values, Candidate, first_arrived, may_ask, may_signal, may_start, may_lock, spot_of, eval_spots, Next, stays, goes, throws, having, by_rule, scheduled, calls, starts, asks, signals, end_of_time, sets_timer, kept_value, with_kept, listens, sets, gets, awaited, awaited_all, awaited_any, waits_for, locks, branches, loops, statement_step, lock_step, running_step, step_of, next_of, most_steps, go_on, go, Event, started, resulted, fired, was_granted, outcome_of, with_answer, oldest_listener, heard, granted_in, recorded, granted_late, most_events, goes_on, begins, resumed_by, resume, was_raised as was_an_event}
 
 -- all of these are sent by this one
 abbrev pub AllFrom : Id → List Message → Type 0

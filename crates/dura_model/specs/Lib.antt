@@ -1,5 +1,4 @@
 pub mod Deliveries
-pub mod Dependencies
 pub mod Entries
 pub mod Legal
 pub mod Partition

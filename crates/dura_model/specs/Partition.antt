@@ -5,8 +5,7 @@ use Rattle.dura_value.specs.Ids.{Id, orchestration, entity, client, id_eq, home}
 use Rattle.dura_value.specs.Items.{Identity, Item, took, got, ran, ended, fired, trim, Posted}
 use Rattle.dura_value.specs.Messages.{to_task, to_request, Answer, Body, start, raise, result, granted, Message}
 use Rattle.flow_syntax.specs.Syntax.{Flows}
-use Rattle.flow_syntax.specs.Machine.{new_machine, Event, started, resulted, was_raised, was_granted, Past, replayed, Asked, an_activity, a_timer}
-use Rattle.flow_syntax.specs.Machine.{fired as timer_fired}
+use Rattle.flow_syntax.specs.Machine.{new_machine, Event, started, resulted, was_raised, was_granted, Past, replayed, Asked, an_activity, a_timer, fired as timer_fired}
 use Rattle.flow_syntax.specs.Entity.{Entity, Delivered, takes, deliver as deliver_to}
 use Rattle.dura_model.specs.World.{World, Orchestration, Activity}
 use Rattle.dura_value.specs.ById.{at_id, at_number, cleared}

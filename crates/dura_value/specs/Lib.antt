@@ -1,5 +1,6 @@
 pub mod ById
 pub mod Bytes
+pub mod Dependencies
 pub mod Digest
 pub mod Ids
 pub mod Items

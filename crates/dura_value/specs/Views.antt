@@ -11,7 +11,11 @@ use Rattle.dura_value.specs.declared.messages.Body.TheVariants as bodies
 use Rattle.dura_value.specs.declared.messages.Message.{Message}
 use Rattle.dura_value.specs.declared.outputs.Answered.{Answered}
 use Rattle.dura_value.specs.declared.outputs.Outputs.{Outputs}
+use Rattle.dura_value.specs.declared.identity.Identity.{Identity}
+use Rattle.dura_value.specs.declared.identity.Posted.{Posted}
+use Rattle.dura_value.specs.declared.identity.Floor.{Floor}
 use Rattle.dura_value.specs.declared.spots.Spot.{Spot}
+use Rattle.dura_value.specs.Items as items
 use Rattle.dura_value.specs.Ids as plain
 use Rattle.dura_value.specs.Messages as said
 
@@ -65,3 +69,14 @@ answered_of one = record { client = plain.client one.client; number = one.number
 
 abbrev pub outputs_of : Outputs → said.Outputs
 outputs_of made = record { sent = messages_of made.messages; answered = map answered_of made.answers }
+
+-- ---- entries by who they are
+
+abbrev pub identity_of : Identity → items.Identity
+identity_of i = record { partition = i.partition; incarnation = i.incarnation; position = i.position }
+
+abbrev pub posted_of : Posted → items.Posted
+posted_of posted = record { entry = identity_of posted.entry; message = message_of posted.message }
+
+abbrev pub floor_of : Floor → items.Floor
+floor_of floor = record { partition = floor.partition; incarnation = floor.incarnation; from = floor.from }

@@ -4,6 +4,7 @@
 //! - `text` is a bounded text, `data` the values that flows compute with, and `names` short words.
 //! - `messages` is what instances, entities and clients say, `outputs` what a step makes of it, and `outcome` what an activity or
 //!   an instance came to.
+//! - `identity` is an entry by its partition, incarnation and position, a message that it sent, and where an incarnation began.
 //! - `same_messages` tells whether two messages are the same.
 //! - `digest` is a digest of 64 bits.
 //! - `carrying` has a value go along with a step that may fail.
@@ -16,6 +17,7 @@ mod compare;
 mod data;
 mod digest;
 mod faults;
+mod identity;
 mod limits;
 mod messages;
 mod names;
@@ -34,6 +36,7 @@ pub use carrying::with;
 pub use data::{Scalar, Scalars, Value};
 pub use digest::fnv1a_64;
 pub use faults::ReadError;
+pub use identity::{Floor, Identity, Posted, is_same_entry};
 pub use limits::{
     NUMBER_LIMIT, SCALARS_BYTES_LIMIT, SCALARS_LIMIT, SPOTS_LIMIT, TEXT_BYTES_LIMIT,
     VALUE_BYTES_LIMIT, WORD_BYTES_LIMIT,

@@ -4,8 +4,7 @@ use Rattle.std.specs.Prelude.{IfSome}
 use Rattle.commit_log.specs.declared.header.Header.{Header}
 use Rattle.commit_log.specs.declared.states.Resting.{Resting}
 use Rattle.commit_log.specs.Outcomes.{RestsAs}
-use Rattle.commit_log.specs.Segment.{first_gate}
-use Rattle.commit_log.specs.Segment.{◌>>=◌}
+use Rattle.commit_log.specs.Segment.{first_gate, ◌>>=◌}
 use Rattle.commit_log.specs.States.{IsFormatting}
 use Rattle.dura_value.specs.Items.{Entry}
 use Rattle.engine_run.specs.Job.{Job}

@@ -1,6 +1,6 @@
 -- Where nothing is possible any more, the world is quiet without requests.
 use Rattle.std.proofs.Common.{◌≡◌, ◌∙◌, ◌<◌, ◌-◌, inl, inr, ℕ, zero, suc, ◌≤◌, Bool, true, false, cond, ◌&&◌, List, [], ◌∷◌, ◌++◌, drop, Option, Some, None, refl, sym, ap, subst, arith}
-use Rattle.std.specs.Prelude.{option_map, is_some}
+use Rattle.std.specs.Prelude.{option_map, is_some, nat_le}
 use Rattle.std.proofs.lemmas.List.{append-nil}
 use Rattle.client_port.specs.Ports.{Queue}
 use Rattle.dura_model.specs.Legal.{Quiet}
@@ -23,7 +23,6 @@ use Rattle.part_steps.specs.Enabled.{stamp_at, NoneEnabled}
 use Rattle.part_steps.proofs.Delivering.{not_taken}
 use Rattle.part_steps.proofs.Enabling.{open_enabled}
 use Rattle.run_rules.specs.Rules.{Rules}
-use Rattle.std.specs.Prelude.{nat_le}
 
 -- ---- links of one partition
 

@@ -1,8 +1,7 @@
 -- A map that changes at one key changes as a function at one id.
-use Rattle.std.specs.Cmp.{unsigned_ties}
+use Rattle.std.specs.Cmp.{unsigned_ties, both_tied}
 use Rattle.std.proofs.Common.{true, false, ◌≡◌, ◌&&◌, ◌==◌, ◌∙◌, ℕ, List, Bool, Option, Some, None, IsSome, refl, ap, sym, subst, cond}
 use Rattle.std.specs.Ordering.{is_eq, nat_cmp, ordering_then}
-use Rattle.std.specs.Cmp.{both_tied}
 use Rattle.std.specs.Cmp.Lexicographic.{slice_cmp}
 use Rattle.std.specs.Str.{bytes_eq}
 use Rattle.std.specs.BTreeMap.{BTreeMap, get, is_at, UpdatesBy}

@@ -3,9 +3,6 @@ use Rattle.std.specs.Prelude.{List, map}
 use Rattle.part_items.specs.declared.items.Item.{Item}
 use Rattle.part_items.specs.declared.items.Item.TheVariants.{Took, Got, Ran, Done, Fired, Trim}
 use Rattle.part_items.specs.declared.frames.Entry.{Entry}
-use Rattle.part_items.specs.declared.identity.Identity.{Identity}
-use Rattle.part_items.specs.declared.identity.Posted.{Posted}
-use Rattle.part_items.specs.declared.identity.Floor.{Floor}
 use Rattle.part_items.specs.declared.numbered.Next.{Next}
 use Rattle.dura_value.specs.Views.{id_of, message_of}
 use Rattle.dura_value.specs.Items as plain
@@ -30,14 +27,3 @@ entries_of = map entry_of
 
 abbrev pub next_of : Next → numbered.Next
 next_of next = record { position = next.position; incarnation = next.incarnation }
-
--- ---- entries by who they are
-
-abbrev pub identity_of : Identity → plain.Identity
-identity_of i = record { partition = i.partition; incarnation = i.incarnation; position = i.position }
-
-abbrev pub posted_of : Posted → plain.Posted
-posted_of posted = record { entry = identity_of posted.entry; message = message_of posted.message }
-
-abbrev pub floor_of : Floor → plain.Floor
-floor_of floor = record { partition = floor.partition; incarnation = floor.incarnation; from = floor.from }

@@ -3,7 +3,6 @@
 //!
 //! - `items` and `frames` are what is written; `writing` writes it, `reading` reads it, and `numbered` reads a log's next frame,
 //!   entry by entry. `tags` are the first bytes of items.
-//! - `identity` is an entry by its partition, incarnation and position, a message that it sent, and where an incarnation began.
 //! - `fits` looks at whether an item is within the limits of the format.
 //! - `specs/Grammar` and `specs/Spelling` are the format, `specs/Fits` and `specs/ItemFits` what is within its limits.
 //! - `again` says that values, ids, messages and their parts are read again, `apart` that their spellings stand apart, and
@@ -18,7 +17,6 @@ mod apart;
 mod fits;
 mod frames;
 mod frames_again;
-mod identity;
 mod items;
 mod kept;
 mod kept_examples;
@@ -32,7 +30,6 @@ mod writing;
 
 pub use fits::item_fits;
 pub use frames::{Entry, Frame, Items};
-pub use identity::{Floor, Identity, Posted, is_same_entry};
 pub use items::{Item, Packet};
 pub use numbered::{FrameReader, Next};
 pub use reading::read_frame;

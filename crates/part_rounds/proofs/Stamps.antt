@@ -14,8 +14,7 @@ use Rattle.dura_value.specs.Items.{Item, took, got, ran, ended, fired, trim}
 use Rattle.dura_value.specs.Messages.{to_nobody, to_task, to_request, Answer, Body, start, raise, query, wait, result, operate, lock, granted, release, Message}
 use Rattle.dura_value.specs.declared.outcome.Outcome.{Outcome}
 use Rattle.flow_syntax.specs.Entity.{Entity, Delivered, takes, deliver as deliver_to}
-use Rattle.flow_syntax.specs.Machine.{Event, Asked, an_activity, a_timer, resulted}
-use Rattle.flow_syntax.specs.Machine.{fired as timer_fired}
+use Rattle.flow_syntax.specs.Machine.{Event, Asked, an_activity, a_timer, resulted, fired as timer_fired}
 use Rattle.flow_syntax.specs.Syntax.{Flows}
 use Rattle.dura_model.specs.Entries.{all_accepted}
 use Rattle.part_steps.specs.Enabled.{Makes, is_at, stamp_at}

@@ -8,11 +8,11 @@ use Rattle.id_maps.specs.Copies.{AreCopied, AreNumbersCopied}
 use Rattle.id_maps.proofs.Changes.{number_same}
 use Rattle.dura_model.specs.Partition as plain
 use Rattle.dura_value.specs.Items as items
-use Rattle.part_items.specs.declared.identity.Posted.{Posted}
+use Rattle.dura_value.specs.declared.identity.Posted.{Posted}
 use Rattle.part_rows.specs.declared.streams.Outbox.{Outbox}
 use Rattle.part_rows.specs.declared.streams.Outboxes.{Outboxes}
 use Rattle.part_rows.specs.declared.streams.Inbox.{Inbox}
-use Rattle.part_items.specs.Plain.{posted_of}
+use Rattle.dura_value.specs.Views.{posted_of}
 use Rattle.part_rows.specs.Views.{outbox_of, inbox_of, outboxes_of, outbox_or_new, inbox_or_new}
 
 inbox_at : (b : Bool) (box : Inbox) (was : Option Inbox) → inbox_or_new (cond b (Some box) was) ≡ cond b (inbox_of box) (inbox_or_new was)

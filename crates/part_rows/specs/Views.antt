@@ -3,8 +3,7 @@ use Rattle.std.specs.Prelude.{ℕ, [], map, Option, Some, None}
 use Rattle.std.specs.BTreeMap.{get}
 use Rattle.std.specs.Ordering.{nat_cmp}
 use Rattle.dura_value.specs.Ids as ids
-use Rattle.part_items.specs.Plain.{identity_of, posted_of}
-use Rattle.dura_value.specs.Views.{id_of}
+use Rattle.dura_value.specs.Views.{identity_of, posted_of, id_of}
 use Rattle.flow_messages.specs.Views.{past_of}
 use Rattle.dura_model.specs.World as world
 use Rattle.dura_model.specs.Partition as plain

@@ -2,16 +2,14 @@
 
 ghost use Rattle.std.specs.Prelude.{◌≡◌, ◌<◌, ◌==◌, ◌&&◌, ◌+◌, ◌++◌, ◌∷◌, [], not, nat_lt, IfOk, OnOk};
 ghost use Rattle.dura_value.specs.Ids.{home};
-ghost use Rattle.dura_value.specs.Views.{id_of, message_of};
+ghost use Rattle.dura_value.specs.Views.{id_of, message_of, identity_of};
 ghost use Rattle.dura_model.specs.Partition.{entry_of, with_inbox, got_in, trim_in};
-ghost use Rattle.part_items.specs.Plain.{identity_of};
 ghost use Rattle.part_rows.specs.Parts.{part_of};
 ghost use Rattle.part_rows.specs.Accepts.{Accepts};
 
 use crate::parts::PartRows;
 use crate::streams::Inbox;
-use dura_value::{Message, home};
-use part_items::Identity;
+use dura_value::{Identity, Message, home};
 use std::alloc::AllocError;
 
 impl PartRows {

@@ -1,10 +1,9 @@
 //! All that a partition knows.
 
 ghost use Rattle.std.specs.Prelude.{◌≡◌, ◌<◌, IfOk, OnOk};
-ghost use Rattle.dura_value.specs.Views.{message_of, messages_of};
+ghost use Rattle.dura_value.specs.Views.{message_of, messages_of, identity_of};
 ghost use Rattle.part_rows.specs.Timers.{InOrder};
 ghost use Rattle.dura_model.specs.Partition.{fresh, entry_of, post, post_all};
-ghost use Rattle.part_items.specs.Plain.{identity_of};
 ghost use Rattle.part_rows.specs.Parts.{part_of};
 
 use crate::copies::{copy_activity, copy_answer, copy_entity, copy_message, copy_row};
@@ -12,10 +11,9 @@ use crate::queue::Queue;
 use crate::rows::{Activity, Row};
 use crate::streams::{Inboxes, Outboxes};
 use crate::timers::TimerRow;
-use dura_value::{Answer, Message, home, with};
+use dura_value::{Answer, Identity, Message, Posted, home, with};
 use flow_messages::Entity;
 use id_maps::{IdMap, NumberMap};
-use part_items::{Identity, Posted};
 use std::alloc::{AllocError, Global};
 
 /// What a partition among so many knows. After an Err, which is want of memory, it is only dropped.

@@ -2,13 +2,12 @@
 
 ghost use Rattle.std.specs.Prelude.{◌≡◌, ◌+◌, ◌++◌, length, nat_le, ◌≤◌, if◌then◌else◌, IfOk, OnOk};
 ghost use Rattle.dura_model.specs.Partition.{with_posted, with_inbox, begins_at, with_first};
-ghost use Rattle.part_items.specs.Plain.{posted_of};
+ghost use Rattle.dura_value.specs.Views.{posted_of};
 ghost use Rattle.part_rows.specs.Views.{inbox_of, outbox_of, inboxes_of, outboxes_of, no_outbox, no_inbox};
 
 use crate::copies::copy_message;
-use dura_value::{Message, with};
+use dura_value::{Identity, Posted, with};
 use id_maps::copy_numbers;
-use part_items::{Identity, Posted};
 use std::alloc::{AllocError, Global};
 use std::collections::{BTreeMap, VecDeque};
 

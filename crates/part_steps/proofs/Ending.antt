@@ -6,8 +6,7 @@ use Rattle.dura_value.specs.Ids.{Id}
 use Rattle.dura_value.specs.Items.{ended, fired}
 use Rattle.dura_value.specs.Messages.{Answer, Message}
 use Rattle.flow_syntax.specs.Syntax.{Flows}
-use Rattle.flow_syntax.specs.Machine.{resulted}
-use Rattle.flow_syntax.specs.Machine.{fired as timer_fired}
+use Rattle.flow_syntax.specs.Machine.{resulted, fired as timer_fired}
 use Rattle.dura_model.specs.World.{Orchestration, Activity}
 use Rattle.dura_value.specs.ById.{at_number}
 use Rattle.dura_model.specs.Deliveries.{goes_on_from}

@@ -8,8 +8,7 @@ use Rattle.dura_value.specs.Views.{answer_of as seen, messages_of}
 use Rattle.dura_value.specs.declared.outputs.Answered as seen_answers
 use Rattle.dura_value.specs.declared.outputs.Outputs as seen_outputs
 use Rattle.flow_syntax.specs.Syntax.{Flows}
-use Rattle.flow_syntax.specs.Machine.{resulted}
-use Rattle.flow_syntax.specs.Machine.{fired as timer_fired}
+use Rattle.flow_syntax.specs.Machine.{resulted, fired as timer_fired}
 use Rattle.flow_syntax.specs.Entity.{deliver as deliver_to}
 use Rattle.dura_model.specs.World.{Orchestration}
 use Rattle.dura_model.specs.Deliveries.{goes_on_from, to_instance}

@@ -2,9 +2,9 @@
 
 ghost use Rattle.std.specs.Prelude.{◌≡◌, ◌<◌, ◌∷◌, [], Some, None, is_some, map, IfOk, OnOk};
 ghost use Rattle.dura_value.specs.Items.{ran, ended, fired};
-ghost use Rattle.dura_value.specs.Views.{id_of, answer_of, body_of as said_of, message_of, messages_of};
+ghost use Rattle.dura_value.specs.Views.{id_of, answer_of, body_of as said_of, message_of, messages_of, identity_of};
 ghost use Rattle.part_rows.specs.Timers.{InOrder};
-ghost use Rattle.part_items.specs.Plain.{item_of, identity_of};
+ghost use Rattle.part_items.specs.Plain.{item_of};
 ghost use Rattle.dura_model.specs.Steps.{answer_of as answer_to};
 ghost use Rattle.dura_model.specs.Partition.{raised_to, got_in, trim_in, accepted};
 ghost use Rattle.dura_value.specs.ById.{at_number};
@@ -18,9 +18,9 @@ ghost use Rattle.part_steps.specs.Reached.{fires_at, reached};
 
 use crate::keeping::keep;
 use crate::reaching::{answers_to, reach, takes_at};
-use dura_value::{Answer, Answered, Answers, Id, Message, Messages, Outcome, Outputs, with};
+use dura_value::{Answer, Answered, Answers, Id, Identity, Message, Messages, Outcome, Outputs, with};
 use flow_messages::{Event, copy_text, copy_value};
-use part_items::{Identity, Item};
+use part_items::Item;
 use part_rows::{PartRows, Reaction, Reactions, copy_message};
 use std::alloc::{AllocError, Global};
 

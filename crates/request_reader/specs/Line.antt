@@ -3,9 +3,8 @@ use Rattle.std.specs.Prelude.{ℕ, ◌+◌, ◌^◌, ◌&&◌, List, codes, Bool
 use Rattle.serde_json.specs.Data.{Data}
 use Rattle.serde_json.specs.Find.{get, as_number, as_u64}
 use Rattle.dura_value.specs.Ids.{Id, orchestration, entity, client}
-use Rattle.dura_value.specs.Messages.{Body, start, raise, query, wait, to_request}
+use Rattle.dura_value.specs.Messages.{Body, start, raise, query, wait, to_request, Message}
 use Rattle.dura_value.specs.declared.messages.Request.{Request as OwnRequest}
-use Rattle.dura_value.specs.Messages.{Message}
 use Rattle.dura_value.specs.Views.{message_of}
 use Rattle.request_reader.specs.Json.{data_of, has_members, one_if, name_at, id_at}
 use Rattle.dura_value.specs.Optional.{◌>>=◌, guard, where_it}

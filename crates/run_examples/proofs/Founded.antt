@@ -1,6 +1,6 @@
 -- That what came is founded follows from the rest of what stands on an image.
 use Rattle.std.proofs.Common.{◌≡◌, ◌∙◌, ℕ, List, ◌++◌, Option, Some, Ok, sym, subst}
-use Rattle.dura_model.specs.Dependencies.{Founded, names_of}
+use Rattle.dura_value.specs.Dependencies.{Founded, names_of}
 use Rattle.dura_model.specs.Partition.{fresh}
 use Rattle.dura_model.specs.Steps.{Label}
 use Rattle.dura_value.specs.Items.{Entry}

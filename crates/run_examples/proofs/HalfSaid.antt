@@ -3,8 +3,7 @@ use Rattle.std.proofs.Common.{◌≡◌, ◌∙◌, ◌≤◌, ◌<◌, ◌==◌
 use Rattle.std.proofs.lemmas.Bool.Decides.{nat_tests}
 use Rattle.std.proofs.lemmas.List.{length-append, append-nil}
 use Rattle.client_port.specs.Lines.{line_of, answer_text}
-use Rattle.commit_log.specs.Segment.{header_at}
-use Rattle.commit_log.specs.Segment.{frame_at as framed_at}
+use Rattle.commit_log.specs.Segment.{header_at, frame_at as framed_at}
 use Rattle.std.specs.Fmt.{decimal}
 use Rattle.std.specs.Str.{is_utf8, chars}
 use lib.Utf8.{encode}

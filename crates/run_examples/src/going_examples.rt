@@ -3,7 +3,7 @@
 ghost use Rattle.std.specs.Prelude.{◌≡◌, ◌≤◌, ◌+◌, ℕ, slice_set, IsSome, Some, List, [], ◌∷◌, ◌++◌};
 ghost use Rattle.commit_log.specs.Segment.{segment, reading_of};
 ghost use Rattle.commit_log.specs.declared.header.Header.{Header};
-ghost use Rattle.dura_model.specs.Dependencies.{Founded, names_of};
+ghost use Rattle.dura_value.specs.Dependencies.{Founded, names_of};
 ghost use Rattle.dura_model.specs.Partition.{Partition, fresh};
 ghost use Rattle.dura_model.specs.Steps.{Label};
 ghost use Rattle.dura_value.specs.Items.{Entry};

@@ -6,8 +6,7 @@ use Rattle.dura_value.specs.declared.data.Value.{Value}
 use Rattle.dura_value.specs.Ids.{Id}
 use Rattle.dura_value.specs.Messages.{Reply, to_nobody, to_task, to_request, Answer, was_there, was_raised, is_unknown, Spot, Body, start, raise, query, wait, result, operate, lock, granted, release, Message}
 use Rattle.flow_syntax.specs.Syntax.{Block, Flows}
-use Rattle.flow_syntax.specs.Machine.{Section, outside, acquiring, inside, new_machine, Event, started, resulted, was_granted, resume, Resumed}
-use Rattle.flow_syntax.specs.Machine.{was_raised as raised}
+use Rattle.flow_syntax.specs.Machine.{Section, outside, acquiring, inside, new_machine, Event, started, resulted, was_granted, resume, Resumed, was_raised as raised}
 use Rattle.dura_model.specs.World.{Orchestration}
 use Rattle.dura_model.specs.Deliveries.{Effect, stays_away, stays_so, ending, answering_all, at_end, goes_on_from, refusing, beginning, telling, flow_of, begun, to_absent, is_over, waited, raised_at, result_at, granted_at, to_present, at_stamp, to_instance}
 use Rattle.dura_model.specs.Steps.{is_instance}

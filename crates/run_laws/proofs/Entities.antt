@@ -5,8 +5,7 @@ use Rattle.dura_value.specs.Ids.{Id, client}
 use Rattle.dura_value.specs.Messages.{Reply, to_nobody, to_task, to_request, Answer, Spot, entity_at, Body, start, raise, query, wait, result, operate, lock, granted, release, Message}
 use Rattle.flow_syntax.specs.Syntax.{Block, Flows, class_of}
 use Rattle.flow_syntax.specs.Machine.{Section, outside, acquiring, inside}
-use Rattle.flow_syntax.specs.Entity.{Entity, Delivered, takes, answering, operated, operation_of, lock_goes_on}
-use Rattle.flow_syntax.specs.Entity.{deliver as deliver_to}
+use Rattle.flow_syntax.specs.Entity.{Entity, Delivered, takes, answering, operated, operation_of, lock_goes_on, deliver as deliver_to}
 use Rattle.dura_model.specs.World.{World, at_link}
 use Rattle.dura_value.specs.ById.{at_id}
 use Rattle.dura_model.specs.Steps.{is_instance, entity_of, answered, to_client}

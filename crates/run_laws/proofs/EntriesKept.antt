@@ -2,8 +2,7 @@
 use Rattle.std.proofs.Common.{◌≡◌, [], ◌∷◌, Some, refl, arith}
 use Rattle.std.specs.Str.{is_utf8, chars}
 use lib.Utf8.{encode}
-use Rattle.commit_log.specs.Segment.{header_at}
-use Rattle.commit_log.specs.Segment.{frame_at as framed_at}
+use Rattle.commit_log.specs.Segment.{header_at, frame_at as framed_at}
 use Rattle.dura_codec.specs.Fields.{request_number_at, several_at, run_at, count_at}
 use Rattle.dura_codec.specs.Grammar.{word_size_at, name_at, key_at, text_at, scalar_at, scalars_at, value_front, value_at, id_at, reply_at, answer_at, spot_at, spot_count_at, lock_at, start_at, raise_at, query_at, wait_at, result_at, operate_at, granted_at, body_at, message_at, outcome_at}
 use Rattle.dura_model.specs.Partition.{fresh}

@@ -4,8 +4,8 @@ use Rattle.std.specs.List.{All, Contains}
 use Rattle.std.specs.Prelude.{MatchOption}
 use Rattle.std.proofs.lemmas.List.{append-nil, map-append}
 use Rattle.dura_value.specs.Reading.{◌>>=◌}
-use Rattle.dura_model.specs.Dependencies.{Committed, names_of, named_by, newest_of, or_later, IsRightBefore, FollowsIn, Founded}
-use Rattle.dura_model.specs.Dependencies.Founded.{none, one_more}
+use Rattle.dura_value.specs.Dependencies.{Committed, names_of, named_by, newest_of, or_later, IsRightBefore, FollowsIn, Founded}
+use Rattle.dura_value.specs.Dependencies.Founded.{none, one_more}
 use Rattle.dura_model.specs.Partition.{Partition, fresh, enter, accepted, label_in, with_part}
 use Rattle.dura_model.specs.Placed.{AreShown}
 use Rattle.dura_model.specs.Steps.{Label}

@@ -11,10 +11,7 @@ use Rattle.dura_value.specs.Ids.{Id, orchestration}
 use Rattle.dura_value.specs.Messages.{Reply, to_nobody, to_task, to_request, Spot, at_spot, set_of, Body, start, operate, Message}
 use Rattle.flow_syntax.specs.Syntax.{Expression, Statement, let_be, spawn, call, subflow, ask, timer, event, await, await_all, await_any, signal, lock_in, if_then, while, try, return, fail, Block}
 use Rattle.flow_syntax.specs.Eval.{eval, to_key, to_integer, to_truth, to_text, ◌>>=◌, to_scalars, list_of}
-use Rattle.flow_syntax.specs.Machine.{Machine, Section, outside, acquiring, inside, Todo, run, wait_lock, unlock, end_try, Progress, unborn, running, done, failed, Resumed, Asked, only, and_then, says, releasing, leaving, telling, ended, thrown, Next, stays, goes, throws, having, by_rule, Task, task_at, Arrival, arrival_of, Candidate}
-use Rattle.flow_syntax.specs.Machine.{may_start, may_ask, may_signal, may_lock, spot_of, eval_spots, scheduled, with_handle, calls, starts, asks, signals, sets_timer, end_of_time, listens, sets, gets, awaited, awaited_all, awaited_any, waits_for, to_handle, to_handles, all_arrived, all_values, first_arrived}
-use Rattle.flow_syntax.specs.Machine.{locks, branches, loops, statement_step, lock_step, running_step, step_of, next_of, go_on, go, most_steps, most_events, goes_on, begins, resumed_by, resume, recorded, granted_late, granted_in, todo, Event, started, resulted, was_raised, fired, was_granted}
-use Rattle.flow_syntax.specs.Machine.{with_task, with_kept, kept_value, without_kept, of_event, arrived, settled, settled_once, heard, with_answer, outcome_of, oldest_listener}
+use Rattle.flow_syntax.specs.Machine.{Machine, Section, outside, acquiring, inside, Todo, run, wait_lock, unlock, end_try, Progress, unborn, running, done, failed, Resumed, Asked, only, and_then, says, releasing, leaving, telling, ended, thrown, Next, stays, goes, throws, having, by_rule, Task, task_at, Arrival, arrival_of, Candidate, may_start, may_ask, may_signal, may_lock, spot_of, eval_spots, scheduled, with_handle, calls, starts, asks, signals, sets_timer, end_of_time, listens, sets, gets, awaited, awaited_all, awaited_any, waits_for, to_handle, to_handles, all_arrived, all_values, first_arrived, locks, branches, loops, statement_step, lock_step, running_step, step_of, next_of, go_on, go, most_steps, most_events, goes_on, begins, resumed_by, resume, recorded, granted_late, granted_in, todo, Event, started, resulted, was_raised, fired, was_granted, with_task, with_kept, kept_value, without_kept, of_event, arrived, settled, settled_once, heard, with_answer, outcome_of, oldest_listener}
 use Rattle.dura_model.specs.Deliveries.{is_over}
 use Rattle.run_laws.proofs.MessageKinds.{kind_of, is_other}
 use Rattle.run_laws.proofs.Does.{Does, rests, sends, enters, stalls, leaves, ends, Plain, plain_does, does_settled, not_over_settled, IsSettled}

@@ -9,8 +9,7 @@ use Rattle.dura_value.specs.Items.{Item, took, got, ran, ended, fired, trim, Ent
 use Rattle.dura_value.specs.Messages.{to_nobody, to_task, to_request, Answer, Body, start, raise, query, wait, result, operate, lock, granted, release, Message}
 use Rattle.dura_value.proofs.Ids.{id_same}
 use Rattle.flow_syntax.specs.Syntax.{Flows}
-use Rattle.flow_syntax.specs.Machine.{Event, resulted, Asked, an_activity, a_timer}
-use Rattle.flow_syntax.specs.Machine.{fired as timer_fired}
+use Rattle.flow_syntax.specs.Machine.{Event, resulted, Asked, an_activity, a_timer, fired as timer_fired}
 use Rattle.flow_syntax.specs.Entity.{takes, deliver as deliver_to}
 use Rattle.dura_model.specs.World.{Orchestration, Activity}
 use Rattle.dura_value.specs.ById.{at_id, at_number}

@@ -8,8 +8,7 @@ use Rattle.dura_value.specs.Ids.{Id, orchestration, entity, client, id_eq}
 use Rattle.dura_value.specs.Messages.{Body, start, raise, query, wait, result, operate, lock, granted, release, Message}
 use Rattle.flow_syntax.specs.Syntax.{Flows}
 use Rattle.flow_syntax.specs.Machine.{resulted, fired, Event}
-use Rattle.flow_syntax.specs.Entity.{takes}
-use Rattle.flow_syntax.specs.Entity.{deliver as deliver_to}
+use Rattle.flow_syntax.specs.Entity.{takes, deliver as deliver_to}
 use Rattle.dura_model.specs.World.{World, Orchestration, Activity, empty, at_link}
 use Rattle.dura_value.specs.ById.{at_id, at_number}
 use Rattle.dura_model.specs.Deliveries.{to_instance, goes_on_from, is_over}

@@ -2,7 +2,7 @@
 use Rattle.std.specs.Prelude.{◌≡◌, ◌⊎◌, ℕ, max, List, [], ◌∷◌, ◌++◌, map, Some, Ok}
 use Rattle.std.specs.List.{All}
 use Rattle.client_port.specs.Lines.{line_of}
-use Rattle.dura_model.specs.Dependencies.{Committed, names_of, Founded}
+use Rattle.dura_value.specs.Dependencies.{Committed, names_of, Founded}
 use Rattle.dura_model.specs.Legal.{Legal}
 use Rattle.dura_model.specs.Partition.{Partition, fresh}
 use Rattle.dura_model.specs.World.{World}

@@ -8,7 +8,7 @@ use Rattle.flow_syntax.specs.Machine.{Machine, Section, outside, acquiring, insi
 use Rattle.flow_syntax.specs.Entity.{Entity}
 use Rattle.dura_model.specs.World.{World, Orchestration, empty, at_link}
 use Rattle.dura_value.specs.ById.{at_id}
-use Rattle.dura_model.specs.Dependencies.{Committed}
+use Rattle.dura_value.specs.Dependencies.{Committed}
 
 -- ---- sections
 

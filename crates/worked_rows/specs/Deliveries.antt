@@ -6,8 +6,7 @@ use Rattle.dura_value.specs.declared.data.Value.TheVariants as values
 use Rattle.dura_value.specs.Ids.{Id, orchestration, entity, client}
 use Rattle.dura_value.specs.Messages.{Reply, to_nobody, to_task, to_request, Answer, is_done, has_failed, was_started, was_there, is_unknown, was_raised, has_ended, is_missing, is_running, is_value, Spot, Body, start, raise, query, wait, result, operate, lock, granted, release, Message}
 use Rattle.flow_syntax.specs.Syntax.{scalar, variable, binary, add, let_be, spawn, event, await, return, fail, lock_in, nothing, first_then, Flows}
-use Rattle.flow_syntax.specs.Machine.{Machine, Event, outside, Progress, running, done, failed, new_machine, resume, started, resulted, fired, was_granted, spot_of, Resumed}
-use Rattle.flow_syntax.specs.Machine.{was_raised as raised}
+use Rattle.flow_syntax.specs.Machine.{Machine, Event, outside, Progress, running, done, failed, new_machine, resume, started, resulted, fired, was_granted, spot_of, Resumed, was_raised as raised}
 use Rattle.flow_syntax.specs.Entity.{Entity, Delivered, takes, deliver}
 use Rattle.dura_model.specs.World.{World, Orchestration, empty}
 use Rattle.dura_value.specs.ById.{at_number}

@@ -4,7 +4,7 @@ ghost use Rattle.dura_value.specs.Items.{got, trim};
 ghost use Rattle.flow_syntax.specs.Machine.{inside, outside};
 ghost use Rattle.dura_model.specs.World.{empty};
 ghost use Rattle.dura_model.specs.Legal.{Overlap, Waits, Holds, Blocks};
-ghost use Rattle.dura_model.specs.Dependencies.{Founded, Lost, Ready};
+ghost use Rattle.dura_value.specs.Dependencies.{Founded, Lost, Ready};
 ghost use Rattle.worked_rows.specs.ByHand.{one, other, k, m, two_in, overlapping, waiting_world, entry, message, committed};
 
 /// Two instances inside sections that share an entity overlap. Two that share none don't, nor does one alone.

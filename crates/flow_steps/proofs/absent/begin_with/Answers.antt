@@ -4,8 +4,7 @@ use Rattle.flow_syntax.specs.Machine.{new_machine, Event, started}
 use Rattle.flow_messages.specs.Views.{event_of}
 use Rattle.flow_machine.specs.Views.{body_of}
 use Rattle.dura_model.specs.World.{Orchestration}
-use Rattle.dura_model.specs.Deliveries.{goes_on_from}
-use Rattle.dura_model.specs.Deliveries.{Effect}
+use Rattle.dura_model.specs.Deliveries.{goes_on_from, Effect}
 use Rattle.flow_steps.specs.Views.{instance_of, effect_of}
 use Rattle.flow_steps.proofs.absent.begin_with.Goals as goal
 

@@ -1,6 +1,6 @@
 use Rattle.std.proofs.Common.{inl, [], refl, arith}
 use Rattle.commit_log.specs.Segment.{header_at}
-use Rattle.dura_model.specs.Dependencies.Founded.{none}
+use Rattle.dura_value.specs.Dependencies.Founded.{none}
 use Rattle.dura_model.specs.Partition.{fresh}
 use Rattle.part_items.specs.Kept.{entries_from}
 use Rattle.run_laws.specs.Leaves.AllAnswered.{nothing_said}

@@ -1,6 +1,6 @@
 use Rattle.std.proofs.Common.{◌∷◌, [], refl, arith, rules}
 use Rattle.dura_value.specs.Items.{got, trim}
-use Rattle.dura_model.specs.Dependencies.{none, one_more}
+use Rattle.dura_value.specs.Dependencies.{none, one_more}
 use Rattle.worked_rows.specs.ByHand.{entry, message, committed}
 use Rattle.worked_rows.proofs.by_hand.founded.Goals as goal
 

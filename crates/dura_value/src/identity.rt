@@ -2,9 +2,9 @@
 
 ghost use Rattle.std.specs.Prelude.{◌≡◌};
 ghost use Rattle.dura_value.specs.Same.{identity_eq};
-ghost use Rattle.part_items.specs.Plain.{identity_of};
+ghost use Rattle.dura_value.specs.Views.{identity_of};
 
-use dura_value::Message;
+use crate::messages::Message;
 
 /// An entry by its partition, the incarnation of the partition that made it, and its position there.
 #[derive(Clone, Copy, PartialEq, Eq)]
