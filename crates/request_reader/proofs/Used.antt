@@ -4,7 +4,7 @@ use Rattle.std.specs.Prelude.{option_map, nat_lt}
 use Rattle.std.specs.List.{find}
 use Rattle.std.proofs.lemmas.Bool.Decides.{nat_tests}
 use Rattle.request_reader.specs.Line.{Request}
-use Rattle.request_reader.specs.Requests.{bad_line, latest, request_eq, is_by, with_new, with_request}
+use Rattle.request_reader.specs.Requests.{bad_line, clash, latest, request_eq, is_by, with_new, with_request}
 
 found : (f : Request → Bool) (o : Option Request) (b : Bool) → Some b ≡ option_map f o → (r : Request) × (o ≡ Some r) × (f r ≡ b)
 found f (Some r) b is = (r, refl, cc)
