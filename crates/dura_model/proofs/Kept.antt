@@ -122,7 +122,7 @@ module _ (flows : Flows) (count p : ℕ) where
       let noted : Partition = record q { entities = at_id q.entities to (Some d.entity) } in
       let after = post_all count noted d.sent in
       let last_is = entity_last flows was class from to body in
-      let one = entity_follows count p q to d.entity here b begun (omega (arith, stamp, low)) in
+      let one = entity_follows count p q to d.entity here b begun (omega (arith, last_is, low)) in
       let two = post_all_follows count p noted to d.sent (λ other. home_below count p other below) here (entity_from flows was class from to body) one.belongs one.begun in
       then_is q after next (follows_then count p q noted after one two) (passed (takes e.holder from && nat_le e.last stamp) after next is).1
 

@@ -49,7 +49,7 @@ module _ (flows : Flows) (id : Id) where
       let r = (resume m event stamp).machine in
       let now : Machine = record r { last = stamp } in
       let last_is : now ≡ r = λ i. record r { last = sym (resume_keeps m event stamp).stamp i } in
-      ap (λ (n : Machine). instance_of waiting (record n { last = stamp })) is ∙ ap (instance_of waiting) stamp
+      ap (λ (n : Machine). instance_of waiting (record n { last = stamp })) is ∙ ap (instance_of waiting) last_is
     where
       instance_of : List (Id × ℕ) → Machine → Orchestration
       instance_of left n = record { machine = n; waiting = left }
