@@ -1,9 +1,4 @@
 pub mod FlowRows
-pub mod IdFronts
-pub mod IdsBack
-pub mod Order
-pub mod PairFronts
 pub mod Timers
 pub mod Told
-pub mod WordFronts
 pub mod Worked

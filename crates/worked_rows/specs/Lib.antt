@@ -1,8 +1,6 @@
-pub mod Begins
 pub mod ByHand
 pub mod Deliveries
 pub mod Flows
-pub mod Forms
 pub mod Frames
 pub mod Homes
 pub mod Ids

@@ -8,8 +8,6 @@
 //! - `tables` are tables of what instances look at (tasks, sections, sets, kept events), of histories, of activities, and of files
 //!   that are checked.
 //! - `waiting` is a quiet world.
-//! - `id_laws` are laws of ids: how they are compared, that their written forms are read back, that their order is that of their
-//!   written forms, and that the offset of a fault is where the longest prefix ends that begins one.
 //! - `homes` has digests, ids with their homes, and texts that are no ids.
 //! - `spellings` has tables of bytes with what they stand for, and of bytes that can't be read with the offset of the fault.
 //! - `flow_files` has rows of flows files, `readings` of request files, of words and of what clients are told.
@@ -19,7 +17,6 @@ mod by_hand;
 mod deliveries;
 mod flow_files;
 mod homes;
-mod id_laws;
 mod readings;
 mod runs;
 mod spellings;

@@ -9,7 +9,7 @@ use Rattle.std.specs.Char.{is_ascii_alphabetic}
 use Rattle.dura_value.specs.Names.{goes_on_name, stands_in_key}
 use Rattle.dura_value.specs.Reading.{name_front, key_front}
 use Rattle.dura_value.proofs.Ids.{and_true}
-use Rattle.worked_rows.specs.Begins.{IsName, IsKey, Begins, StopsAt}
+use Rattle.id_laws.specs.Begins.{IsName, IsKey, Begins, StopsAt}
 
 -- the first ones pass
 pub front_passes : (p : ℕ → Bool) (n : ℕ) (xs : List ℕ) → n ≤ prefix_len p xs → list_all p (take n xs) ≡ true

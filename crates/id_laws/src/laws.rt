@@ -7,8 +7,8 @@ ghost use Rattle.dura_value.specs.declared.addresses.Id.{Id as Given};
 ghost use Rattle.dura_value.specs.Ids.{Id, id_eq, written};
 ghost use Rattle.dura_value.specs.Reading.{name_at, key_at, id_in};
 ghost use Rattle.dura_value.specs.Views.{id_of};
-ghost use Rattle.worked_rows.specs.Begins.{IsName, IsKey, IsWritten, StopsAt};
-ghost use Rattle.worked_rows.specs.Forms.{has_form};
+ghost use Rattle.id_laws.specs.Begins.{IsName, IsKey, IsWritten, StopsAt};
+ghost use Rattle.id_laws.specs.Forms.{has_form};
 
 /// Ids that are compared as the same are the same, and each is the same as itself.
 #[tactic(auto, using(dura_value::proofs::Ids::id_same, dura_value::proofs::Ids::id_self))]

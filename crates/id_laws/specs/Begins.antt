@@ -2,7 +2,7 @@
 use Rattle.std.specs.Prelude.{◌≡◌, ℕ, suc, ◌<◌, List, ◌++◌, length, take, true}
 use Rattle.dura_value.specs.Ids.{Id, written}
 use Rattle.dura_value.specs.Names.{is_name, is_key}
-use Rattle.worked_rows.specs.Forms.{has_form}
+use Rattle.id_laws.specs.Forms.{has_form}
 
 abbrev pub IsName : List ℕ → Type 0
 IsName bytes = is_name bytes ≡ true

@@ -1,5 +1,5 @@
-use Rattle.worked_rows.proofs.IdsBack.{written_is_read, read_is_written}
-use Rattle.worked_rows.proofs.id_laws.ids_are_read_back.Goals as goal
+use Rattle.id_laws.proofs.IdsBack.{written_is_read, read_is_written}
+use Rattle.id_laws.proofs.laws.ids_are_read_back.Goals as goal
 
 pub returns-clause-written : goal.returns-clause-written
 returns-clause-written c = written_is_read

@@ -9,9 +9,9 @@ use Rattle.std.specs.Char.{is_ascii_alphabetic}
 use Rattle.dura_value.specs.Names.{is_name, is_key, goes_on_name}
 use Rattle.dura_value.specs.Reading.{◌>>=◌, name_front, key_front, key_at, is_slash, pair_at}
 use Rattle.dura_value.proofs.Ids.{and_true}
-use Rattle.worked_rows.specs.Begins.{IsName, IsKey, StopsAt}
-use Rattle.worked_rows.proofs.Order.{above_slash, name_goes_on}
-use Rattle.worked_rows.proofs.WordFronts.{front_passes, name_stops, key_stops}
+use Rattle.id_laws.specs.Begins.{IsName, IsKey, StopsAt}
+use Rattle.id_laws.proofs.Order.{above_slash, name_goes_on}
+use Rattle.id_laws.proofs.WordFronts.{front_passes, name_stops, key_stops}
 
 -- a name, a slash and a key
 abbrev pub IsPair : List ℕ → Type 0

@@ -16,7 +16,7 @@ use Rattle.dura_value.specs.Views.{id_of}
 use Rattle.dura_value.specs.Names.{is_name, is_key, goes_on_name}
 use Rattle.dura_value.specs.Limits.{most_word_bytes}
 use Rattle.dura_value.proofs.Ids.{and_true}
-use Rattle.worked_rows.specs.Forms.{has_form}
+use Rattle.id_laws.specs.Forms.{has_form}
 
 less_by : (a b : ℕ) → a < b → nat_cmp a b ≡ Less
 less_by a b h = rw (lt-ltb a b h)

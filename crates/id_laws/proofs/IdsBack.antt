@@ -9,9 +9,9 @@ use Rattle.dura_value.specs.Limits.{most_word_bytes}
 use Rattle.dura_value.specs.Names.{is_name, is_key, goes_on_name}
 use Rattle.dura_value.specs.Reading.{◌>>=◌, name_front, key_front, name_at, key_at, pair_at, id_in}
 use Rattle.dura_value.proofs.Ids.{and_true}
-use Rattle.worked_rows.specs.Forms.{has_form}
-use Rattle.worked_rows.proofs.Order.{above_marks}
-use Rattle.worked_rows.proofs.PairFronts.{no_slash, name_has_none, parts_of}
+use Rattle.id_laws.specs.Forms.{has_form}
+use Rattle.id_laws.proofs.Order.{above_marks}
+use Rattle.id_laws.proofs.PairFronts.{no_slash, name_has_none, parts_of}
 
 place_behind : (x k : List ℕ) → list_all no_slash x ≡ true → prefix_len no_slash (x ++ 47 ∷ k) ≡ length x
 place_behind [] k none = refl

@@ -8,10 +8,10 @@ use Rattle.dura_value.specs.Limits.{most_word_bytes}
 use Rattle.dura_value.specs.Names.{is_name, is_key, goes_on_name}
 use Rattle.dura_value.specs.Reading.{◌>>=◌, name_front, key_front, name_at, key_at, pair_at, id_in}
 use Rattle.dura_value.proofs.Ids.{and_true}
-use Rattle.worked_rows.specs.Forms.{has_form}
-use Rattle.worked_rows.specs.Begins.{IsName, IsKey, IsWritten, StopsAt}
-use Rattle.worked_rows.proofs.WordFronts.{name_stops, key_stops}
-use Rattle.worked_rows.proofs.PairFronts.{IsPair, pair_stops}
+use Rattle.id_laws.specs.Forms.{has_form}
+use Rattle.id_laws.specs.Begins.{IsName, IsKey, IsWritten, StopsAt}
+use Rattle.id_laws.proofs.WordFronts.{name_stops, key_stops}
+use Rattle.id_laws.proofs.PairFronts.{IsPair, pair_stops}
 
 -- ---- names and keys
 
