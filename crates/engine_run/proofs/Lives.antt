@@ -17,7 +17,7 @@ use Rattle.hub_store.specs.Origin.{Origin}
 use Rattle.hub_store.specs.Trail.{Settled, Said, of_part, settled_at}
 use Rattle.part_items.specs.Logs.{logs_in, entries_in, alone_with}
 use Rattle.dura_model.specs.Entries.{placed, next_incarnation, labels_in, AllGiven, shown_by}
-use Rattle.run_rules.specs.Stands.{FilesStand}
+use Rattle.many_logs.specs.Stands.{FilesStand}
 use Rattle.run_rules.proofs.LabelsStand.{labels_stand}
 use Rattle.run_laws.proofs.Ordered.{never_overlaps}
 use Rattle.run_laws.specs.Leaves.{IsAnswered, AllAnswered, IsHalfSaid, StandsOn}
@@ -255,7 +255,7 @@ lives_joined flows digest first last entries lives keep all image left =
         keeps = subst (λ (l : List Entry). FilesKeep (asking_nothing flows digest) image l kept.state) run kept.keeps;
         given = subst (AreGivenIn (asking_nothing flows digest)) run kept.given;
       };
-      stands = subst (λ (l : List Entry). FilesStand flows digest image (labels_in l)) run stands;
+      stands = subst (λ (l : List Entry). FilesStand flows 1 digest image (labels_in l)) run stands;
       orderly = subst (λ (l : List Entry). IsOrderly flows (labels_in l)) run (record {
         once = λ id task. never_twice flows (labels_in (then.entries ++ kept.more)) (shown_by flows stands.state) stands.legal id task;
         apart = λ front rest world split legal overlap. never_overlaps flows front world legal overlap;

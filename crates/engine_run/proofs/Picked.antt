@@ -15,7 +15,7 @@ use Rattle.hub_store.specs.Frames.{goes_on}
 use Rattle.hub_store.specs.Opened.{IsOrigin}
 use Rattle.hub_store.specs.Origin.{Log}
 use Rattle.part_items.specs.Kept.{first_of, decoded}
-use Rattle.run_rules.specs.Stands.{state_next}
+use Rattle.many_logs.specs.Labels.{state_next}
 use Rattle.dura_model.specs.Entries.{all_accepted, entry_accepted, placed}
 use Rattle.dura_model.proofs.Alone.{are_shown_alone, accepted_is_step}
 use Rattle.dura_model.proofs.Appending.{both_placed}

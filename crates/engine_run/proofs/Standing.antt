@@ -14,7 +14,7 @@ use Rattle.hub_store.specs.Opened.{HasBegun}
 use Rattle.hub_store.specs.Origin.{Log}
 use Rattle.part_items.specs.Kept.{first_of}
 use Rattle.dura_model.specs.Entries.{placed, AllGiven}
-use Rattle.run_rules.specs.Stands.{state_next}
+use Rattle.many_logs.specs.Labels.{state_next}
 use Rattle.dura_model.proofs.Alone.{are_shown_alone}
 use Rattle.part_items.proofs.PayloadsDecoded.{decoded_numbered}
 use Rattle.part_items.specs.Numbered.{behind_all}

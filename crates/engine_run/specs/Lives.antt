@@ -11,7 +11,7 @@ use Rattle.flow_syntax.specs.Syntax.{Flows}
 use Rattle.hub_store.specs.Origin.{Origin}
 use Rattle.hub_store.specs.Trail.{Settled, Said, of_part, settled_at}
 use Rattle.dura_model.specs.Entries.{next_incarnation, labels_in}
-use Rattle.run_rules.specs.Stands.{FilesStand}
+use Rattle.many_logs.specs.Stands.{FilesStand}
 use Rattle.run_causes.specs.declared.cause.Cause.{Cause}
 use Rattle.run_laws.specs.Leaves.{AllAnswered, IsHalfSaid}
 use Rattle.site_model.specs.History.{Step, content_of, tape, back_to, IsImage}
@@ -104,7 +104,7 @@ pub record IsSettledIn (entries : List Entry) (life : Life) : Type 0 where
 -- critical sections overlap. What each of the lives settled is in it, and what each said is its. The next call may begin on these files.
 pub record AreJoined (flows : Flows) (digest : ℕ) (entries : List Entry) (lives : List Life) (files : ℕ → List ℕ) : Type 0 where
   pub kept : KeepsOn flows digest entries files
-  pub stands : FilesStand flows digest files (labels_in (entries ++ kept.more))
+  pub stands : FilesStand flows 1 digest files (labels_in (entries ++ kept.more))
   pub orderly : IsOrderly flows (labels_in (entries ++ kept.more))
   pub settled : All (IsSettledIn (entries ++ kept.more)) lives
   pub said : All (IsSaidBy (entries ++ kept.more)) lives

@@ -9,7 +9,7 @@ use Rattle.engine_run.specs.Job.{Job, FilesKeep, AreGivenIn}
 use Rattle.part_items.specs.Kept.{nothing, kept_in, first_of, decoded}
 use Rattle.part_items.specs.Logs.{first_log, second_log, logs_in, entries_in, alone_with}
 use Rattle.dura_model.specs.Entries.{labels_in}
-use Rattle.run_rules.specs.Stands.{FilesStand}
+use Rattle.many_logs.specs.Stands.{FilesStand}
 use Rattle.run_laws.specs.Begins.{header_with}
 use Rattle.site_model.specs.History.{Step, changes_of, content_of, tape, Leaves, IsImage}
 use Rattle.site_model.specs.Moments.{Always}
@@ -17,7 +17,7 @@ use Rattle.site_model.specs.Moments.{Always}
 -- The files keep just these entries, and stand for their run.
 pub record StandsBy (job : Job) (entries : List Entry) (files : ℕ → List ℕ) : Type 0 where
   pub kept : entries_in (logs_in (alone_with job.digest) files) ≡ Some entries
-  pub stands : FilesStand job.flows job.digest files (labels_in entries)
+  pub stands : FilesStand job.flows 1 job.digest files (labels_in entries)
 
 -- Until the logs are opened nothing is said, and a crash leaves what it could have left at the start, or files that stand for the run
 -- at the start, by these entries. Nothing happens to a file that is no log's.

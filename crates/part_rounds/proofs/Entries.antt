@@ -17,7 +17,7 @@ use Rattle.hub_store.proofs.FramesGo.{frame_goes}
 use Rattle.hub_store.specs.Origin.{Log}
 use Rattle.part_items.specs.Kept.{first_of}
 use Rattle.dura_model.specs.Entries.{placed, or_place, all_accepted, and_label, labels_of, labels_in}
-use Rattle.run_rules.specs.Stands.{state_next}
+use Rattle.many_logs.specs.Labels.{state_next}
 use Rattle.dura_model.proofs.Alone.{are_shown_alone, accepted_is_step}
 use Rattle.part_items.proofs.Behind.{behind_both}
 use Rattle.dura_model.proofs.Appending.{labels_both}

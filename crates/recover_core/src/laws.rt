@@ -3,7 +3,7 @@
 ghost use Rattle.std.specs.Prelude.{ℕ, List, Result};
 ghost use Rattle.flow_syntax.specs.Syntax.{Flows};
 ghost use Rattle.dura_model.specs.Steps.{Label};
-ghost use Rattle.run_rules.specs.Stands.{FilesStand};
+ghost use Rattle.many_logs.specs.Stands.{FilesStand};
 ghost use Rattle.recover_core.specs.declared.error.RecoverError.{RecoverError};
 ghost use Rattle.recover_core.specs.declared.recovery.Recovered.{Recovered};
 ghost use Rattle.recover_core.specs.Recovering.{Recovers, IsNotRefused, ShowsRun};
@@ -12,9 +12,9 @@ ghost use Rattle.recover_core.specs.Recovering.{Recovers, IsNotRefused, ShowsRun
 #[tactic(auto, using(crate::proofs::Standing::never_refused, crate::proofs::Standing::shows_run))]
 pub fn what_stands_is_recovered()
     ensures never_refused { (flows : Flows) (digest : ℕ) (files : ℕ → List ℕ) (run : List Label)
-        (result : Result Recovered RecoverError) → FilesStand flows digest files run
+        (result : Result Recovered RecoverError) → FilesStand flows 1 digest files run
         → Recovers flows digest files result → IsNotRefused result }
     ensures shows_run { (flows : Flows) (digest : ℕ) (files : ℕ → List ℕ) (run : List Label)
-        (result : Result Recovered RecoverError) → FilesStand flows digest files run
+        (result : Result Recovered RecoverError) → FilesStand flows 1 digest files run
         → Recovers flows digest files result → ShowsRun flows run result }
 {}

@@ -18,7 +18,7 @@ ghost use Rattle.part_items.specs.Examples.{digest, two_files, empty_log, taking
 ghost use Rattle.run_rules.specs.Examples.{request_taken, rules_with};
 ghost use Rattle.part_items.specs.Logs.{logs_in, entries_in, alone_with};
 ghost use Rattle.dura_model.specs.Entries.{placed, AllGiven};
-ghost use Rattle.run_rules.specs.Stands.{FilesStand};
+ghost use Rattle.many_logs.specs.Stands.{FilesStand};
 ghost use Rattle.request_reader.specs.Line.{Request};
 ghost use Rattle.run_causes.specs.declared.cause.Cause.{Cause};
 ghost use Rattle.run_causes.specs.declared.cause.Cause.TheVariants as causes;
@@ -35,7 +35,7 @@ ghost use Rattle.site_model.specs.History.{Step, on, said, synced, content_of};
 pub fn what_stands_is_founded()
     ensures { (flows : Flows) (digest : ℕ) (recovered more : List Entry) (files : ℕ → List ℕ)
         (run : List Label) → entries_in (logs_in (alone_with digest) files)
-        ≡ Some (recovered ++ more) → FilesStand flows digest files run
+        ≡ Some (recovered ++ more) → FilesStand flows 1 digest files run
         → AllGiven flows 1 (fresh 0) (recovered ++ more)
         → Founded (names_of (committed_in recovered)) (committed_in more) }
 {}

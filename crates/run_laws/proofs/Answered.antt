@@ -12,7 +12,7 @@ use Rattle.hub_store.specs.Origin.{Origin}
 use Rattle.hub_store.specs.Trail.{Settled, Said, of_part, settling}
 use Rattle.hub_store.proofs.Settling.{of_part-append}
 use Rattle.dura_model.specs.Entries.{labels_in, shown_by}
-use Rattle.run_rules.specs.Stands.{state_next}
+use Rattle.many_logs.specs.Labels.{state_next}
 use Rattle.dura_model.proofs.Alone.{are_shown_alone}
 use Rattle.dura_model.proofs.Appending.{labels_both}
 use Rattle.part_items.proofs.Behind.{numbered_both}

@@ -13,12 +13,13 @@ use Rattle.part_items.specs.Examples.{digest, two_files, empty_log, taking_log, 
 use Rattle.run_rules.specs.Examples.{request_taken}
 use Rattle.part_items.specs.Kept.{entries_from}
 use Rattle.part_items.specs.Logs.{logs_in, entries_in, alone_with}
-use Rattle.run_rules.specs.Stands.{FilesStand}
+use Rattle.many_logs.specs.Stands.{FilesStand}
 use Rattle.dura_model.proofs.Alone.{are_shown_alone}
 use Rattle.run_rules.proofs.EntriesLead.{entries_lead}
 use Rattle.part_items.specs.Grammar.{took_at, item_at, members_at, entry_items_at}
 use Rattle.part_items.specs.Numbered.{position_at, incarnation_at, next_entry_at, next_entries_at, next_frame_at}
 use Rattle.run_laws.specs.Examples.{twice_log}
+use Rattle.run_rules.proofs.OneOfMany.{stands_among}
 
 pub none_kept : entries_in (logs_in (alone_with digest) (two_files empty_log [])) ≡ Some []
 unfolding header_at entries_from
@@ -32,11 +33,11 @@ pub twice_kept : entries_in (logs_in (alone_with digest) (two_files twice_log []
 unfolding is_utf8 chars encode request_number_at several_at run_at word_size_at name_at key_at text_at scalar_at scalars_at value_front value_at id_at reply_at answer_at spot_at spot_count_at lock_at start_at raise_at query_at wait_at result_at operate_at granted_at body_at message_at count_at outcome_at took_at item_at members_at entry_items_at position_at incarnation_at next_entry_at next_entries_at next_frame_at header_at framed_at entries_from
 twice_kept = refl
 
-pub once_stands : (flows : Flows) → FilesStand flows digest (two_files taking_log []) (take request.from 1 request ∷ [])
-once_stands flows = record {
+pub once_stands : (flows : Flows) → FilesStand flows 1 digest (two_files taking_log []) (take request.from 1 request ∷ [])
+once_stands flows = stands_among flows digest _ _ (record {
   entries = taking 0 ∷ [];
   kept = once_kept;
   state = request_taken;
   all = refl;
   legal = (entries_lead flows (fresh 0) request_taken (taking 0 ∷ []) (are_shown_alone fresh (fresh 0) refl (fresh_shown 1)) (refl, omega arith, tt) ((tt, λ next is. tt), λ next is. tt) refl).0;
-}
+})

@@ -12,7 +12,7 @@ use Rattle.dura_model.specs.Steps.{Label}
 use Rattle.dura_model.proofs.Kept.{fresh_shown, item_keeps, item_stands, enter_keeps}
 use Rattle.dura_value.specs.Items.{Identity, Item, took, got, ran, ended, fired, trim, Entry}
 use Rattle.flow_syntax.specs.Syntax.{Flows}
-use Rattle.run_rules.specs.Stands.{state_next}
+use Rattle.many_logs.specs.Labels.{state_next}
 use Rattle.dura_model.specs.Entries.{or_place, all_accepted, entry_accepted, placed, AllGiven}
 use Rattle.dura_model.proofs.Alone.{are_shown_alone, accepted_is_step}
 use Rattle.dura_model.proofs.Appending.{both_placed}

@@ -12,7 +12,8 @@ use Rattle.hub_store.specs.Trail.{Settled, of_part}
 use Rattle.part_items.specs.Kept.{Kept, keeps, nothing, kept_in}
 use Rattle.part_items.specs.Logs.{Refusal, other_flows, fault_of, or_else, unless, log_in, logs_of, logs_in, entries_in, first_log, second_log, alone_with}
 use Rattle.dura_model.specs.Entries.{labels_in}
-use Rattle.run_rules.specs.Stands.{state_next, FilesStand}
+use Rattle.many_logs.specs.Labels.{state_next}
+use Rattle.many_logs.specs.Stands.{FilesStand}
 use Rattle.dura_model.proofs.Appending.{labels_both}
 use Rattle.part_items.proofs.Behind.{numbered_both}
 use Rattle.run_rules.proofs.LabelsStand.{labels_stand}
@@ -62,10 +63,10 @@ module _ (o : Origin) (rules : Rules) (latest digest : ℕ) (begins : BeginsAlon
 
   -- the run that it stands for
   image_stands : (files : ℕ → List ℕ) (entries : List Entry) → Goes rules latest entries → LogKeeps (o.logs 0) entries (files (o.logs 0).file) → kept_in 0 (files begins.other) ≡ nothing
-      → FilesStand rules.flows digest files (labels_in (o.logs 0).entries ++ labels_in entries)
+      → FilesStand rules.flows 1 digest files (labels_in (o.logs 0).entries ++ labels_in entries)
   image_stands files entries goes kept none =
       let all = whole o rules latest digest begins entries goes in
-      subst (FilesStand rules.flows digest files) (labels_both (o.logs 0).entries entries)
+      subst (FilesStand rules.flows 1 digest files) (labels_both (o.logs 0).entries entries)
       (labels_stand rules.flows digest files ((o.logs 0).entries ++ entries) goes.state (kept_entries files entries kept none) all.0 all.1)
 
   labels_split : (before going : List Entry) → labels_in (o.logs 0).entries ++ labels_in (before ++ going) ≡ labels_in (o.logs 0).entries ++ labels_in before ++ labels_in going
@@ -95,7 +96,7 @@ module _ (o : Origin) (rules : Rules) (latest digest : ℕ) (begins : BeginsAlon
       record {
         going = going;
         kept = kept_entries files (of_part 0 trail ++ going) kept none;
-        stands = subst (FilesStand rules.flows digest files) (labels_split (of_part 0 trail) going) (image_stands files (of_part 0 trail ++ going) goes kept none);
+        stands = subst (FilesStand rules.flows 1 digest files) (labels_split (of_part 0 trail) going) (image_stands files (of_part 0 trail ++ going) goes kept none);
         writing = writing;
         given = (whole o rules latest digest begins (of_part 0 trail ++ going) goes).1;
         ran = goes.ran;

@@ -14,7 +14,7 @@ use Rattle.hub_store.specs.Origin.{Origin}
 use Rattle.hub_store.specs.Trail.{Settled, Said, of_part}
 use Rattle.part_items.specs.Logs.{logs_in, entries_in, alone_with}
 use Rattle.dura_model.specs.Entries.{labels_in, placed, AllGiven}
-use Rattle.run_rules.specs.Stands.{FilesStand}
+use Rattle.many_logs.specs.Stands.{FilesStand}
 use Rattle.request_reader.specs.Line.{Request}
 use Rattle.run_laws.specs.Begins.{pairs_of}
 use Rattle.run_rules.specs.Rules.{Rules, count_told, request_at, IsBy, EndPending}
@@ -74,7 +74,7 @@ pub data AllRan (rules : Rules) : List Entry → Type 0 where
 pub record StandsOn (rules : Rules) (latest digest : ℕ) (o : Origin) (steps : List Step) (trail : List Settled) (files : ℕ → List ℕ) : Type 0 where
   pub going : List Entry
   pub kept : entries_in (logs_in (alone_with digest) files) ≡ Some ((o.logs 0).entries ++ (of_part 0 trail ++ going))
-  pub stands : FilesStand rules.flows digest files (labels_in (o.logs 0).entries ++ labels_in (of_part 0 trail) ++ labels_in going)
+  pub stands : FilesStand rules.flows 1 digest files (labels_in (o.logs 0).entries ++ labels_in (of_part 0 trail) ++ labels_in going)
   pub writing : (going ≡ []) ⊎ WroteGate (o.logs 0) (of_part 0 trail) (changes_of (o.logs 0).file steps)
   pub given : AllGiven rules.flows 1 (fresh 0) ((o.logs 0).entries ++ (of_part 0 trail ++ going))
   pub ran : AllRan rules (of_part 0 trail ++ going)

@@ -12,7 +12,7 @@ use Rattle.dura_model.specs.World.{World}
 use Rattle.dura_model.proofs.Shown.{item_labelled}
 use Rattle.dura_model.proofs.Kept.{item_keeps, item_stands, enter_keeps}
 use Rattle.part_items.specs.Numbered.{Next, behind, behind_all, IsNumbered}
-use Rattle.run_rules.specs.Stands.{state_next}
+use Rattle.many_logs.specs.Labels.{state_next}
 use Rattle.dura_model.specs.Entries.{all_accepted, entry_accepted, placed, and_label, labels_of, labels_in, AreGiven, AllGiven, shown_by}
 use Rattle.dura_model.proofs.Appending.{both_placed}
 use Rattle.dura_model.proofs.Alone.{home_alone, shown_alone, are_shown_alone, IsStep, accepted_is_step}

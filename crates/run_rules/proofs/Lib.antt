@@ -3,3 +3,4 @@ pub mod EntriesLead
 pub mod FirstEntry
 pub mod Going
 pub mod LabelsStand
+pub mod OneOfMany

@@ -1,4 +1,3 @@
 pub mod Examples
 pub mod FieldExamples
 pub mod Rules
-pub mod Stands

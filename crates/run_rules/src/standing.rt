@@ -12,7 +12,8 @@ ghost use Rattle.part_items.specs.Examples.{digest, empty_log, two_files, reques
 ghost use Rattle.part_items.specs.Logs.{alone_with, logs_in, entries_in};
 ghost use Rattle.part_items.specs.Numbered.{behind_all, IsNumbered};
 ghost use Rattle.run_rules.specs.Examples.{request_taken};
-ghost use Rattle.run_rules.specs.Stands.{state_next, FilesStand};
+ghost use Rattle.many_logs.specs.Labels.{state_next};
+ghost use Rattle.many_logs.specs.Stands.{FilesStand};
 
 /// Entries that are accepted one after another make of the world that the one partition shows what their labels do, where each
 /// outcome is one that its activity may give; and the log goes on behind them.
@@ -30,7 +31,7 @@ pub fn labels_stand()
     ensures { (flows : Flows) (digest : ℕ) (files : ℕ → List ℕ) (entries : List Entry)
         (q : Partition) → entries_in (logs_in (alone_with digest) files) ≡ Some entries
         → placed flows 1 (fresh 0) entries ≡ Ok q → AllGiven flows 1 (fresh 0) entries
-        → FilesStand flows digest files (labels_in entries) }
+        → FilesStand flows 1 digest files (labels_in entries) }
 {}
 
 /// A request is taken once.
@@ -42,9 +43,9 @@ pub fn requests_taken()
 /// A log without entries stands for the run of no label, and one where a request was taken for the run of its label. Files that
 /// are refused stand for none.
 pub fn files_stand()
-    ensures empty { (flows : Flows) → FilesStand flows digest (two_files empty_log []) [] }
-    ensures taken { (flows : Flows) → FilesStand flows digest (two_files taking_log [])
+    ensures empty { (flows : Flows) → FilesStand flows 1 digest (two_files empty_log []) [] }
+    ensures taken { (flows : Flows) → FilesStand flows 1 digest (two_files taking_log [])
         (take request.from 1 request ∷ []) }
     ensures refused { (flows : Flows) (run : List Label)
-        → FilesStand flows digest (two_files (slice_set empty_log 3 0) []) run → ⊥ }
+        → FilesStand flows 1 digest (two_files (slice_set empty_log 3 0) []) run → ⊥ }
 {}

@@ -3,7 +3,7 @@ use Rattle.std.specs.Prelude.{◌≡◌, Bool, true, false, ℕ, List, [], ◌�
 use Rattle.dura_value.specs.declared.data.Scalar.TheVariants as scalars
 use Rattle.dura_value.specs.declared.data.Value.TheVariants as values
 use Rattle.dura_value.specs.declared.outcome.Outcome.TheVariants as outcomes
-use Rattle.dura_value.specs.Ids.{orchestration, entity, client}
+use Rattle.dura_value.specs.Ids.{Id, orchestration, entity, client}
 use Rattle.dura_value.specs.Messages.{Answer, is_done, has_failed, was_started, was_there, is_unknown, was_raised, has_ended, is_missing, is_running, is_value, start, raise, query, wait, to_request}
 use Rattle.flow_syntax.specs.Syntax.{not_of, length_of, text_of, add, sub, mul, div, rem, equal, less, both, either, join, at, push, scalar, variable, list, unary, binary, no_parts, part, let_be, spawn, call, subflow, ask, timer, event, await, await_all, await_any, signal, lock_in, if_then, while, try, return, fail, nothing, first_then, Flows}
 use Rattle.dura_model.specs.Steps.{Label, take, deliver, finish, fire}
@@ -181,10 +181,17 @@ bad_front =
     finish (orchestration (codes "F1") (codes "sub2")) 2 (outcomes.Done (values.Int (pos 5))) ∷
     []
 
+-- the requests, and their answers
+abbrev pub asked : List (Id × ℕ)
+asked = ((client (codes "a"), 1) ∷ (client (codes "a"), 2) ∷ (client (codes "a"), 3) ∷ (client (codes "a"), 4) ∷ (client (codes "a"), 5) ∷ (client (codes "a"), 8) ∷ (client (codes "a"), 9) ∷ (client (codes "a"), 10) ∷ (client (codes "a"), 11) ∷ [])
+
+abbrev pub answers : List (Option Answer)
+answers = (Some was_started ∷ Some was_started ∷ Some was_started ∷ Some was_raised ∷ Some was_raised ∷ Some has_ended ∷ Some (is_done (values.Int (pos 5))) ∷ Some (has_failed (codes "type")) ∷ None ∷ [])
+
 -- what the run answers, and how all stand after it, and where the other one stops
 abbrev pub Agrees : Type 0
 Agrees =
-    (option_map (answers_in ((client (codes "a"), 1) ∷ (client (codes "a"), 2) ∷ (client (codes "a"), 3) ∷ (client (codes "a"), 4) ∷ (client (codes "a"), 5) ∷ (client (codes "a"), 8) ∷ (client (codes "a"), 9) ∷ (client (codes "a"), 10) ∷ (client (codes "a"), 11) ∷ [])) (after flows run) ≡ Some (Some was_started ∷ Some was_started ∷ Some was_started ∷ Some was_raised ∷ Some was_raised ∷ Some has_ended ∷ Some (is_done (values.Int (pos 5))) ∷ Some (has_failed (codes "type")) ∷ None ∷ []))
+    (option_map (answers_in asked) (after flows run) ≡ Some answers)
     × (option_map (stands_in flows ((entity (codes "C0") (codes "A")) ∷ (entity (codes "C0") (codes "B")) ∷ (entity (codes "C0") (codes "k1")) ∷ (orchestration (codes "F0") (codes "x")) ∷ (orchestration (codes "F1") (codes "k")) ∷ (orchestration (codes "F1") (codes "sub1")) ∷ (orchestration (codes "F1") (codes "sub2")) ∷ [])) (after flows run) ≡ Some (Some (is_value (values.Int (pos 100))) ∷ Some (is_value (values.Int (pos 100))) ∷ Some (is_value (values.Int (pos 100))) ∷ Some is_running ∷ Some (has_failed (codes "type")) ∷ Some (is_done (values.Int (pos 5))) ∷ Some is_running ∷ []))
     × (is_some (after flows good_front) ≡ true)
     × (is_none (after flows bad_front) ≡ true)

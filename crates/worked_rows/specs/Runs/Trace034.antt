@@ -3,7 +3,7 @@ use Rattle.std.specs.Prelude.{◌≡◌, Bool, true, false, ℕ, List, [], ◌�
 use Rattle.dura_value.specs.declared.data.Scalar.TheVariants as scalars
 use Rattle.dura_value.specs.declared.data.Value.TheVariants as values
 use Rattle.dura_value.specs.declared.outcome.Outcome.TheVariants as outcomes
-use Rattle.dura_value.specs.Ids.{orchestration, entity, client}
+use Rattle.dura_value.specs.Ids.{Id, orchestration, entity, client}
 use Rattle.dura_value.specs.Messages.{Answer, is_done, has_failed, was_started, was_there, is_unknown, was_raised, has_ended, is_missing, is_running, is_value, start, raise, query, wait, to_request}
 use Rattle.flow_syntax.specs.Syntax.{not_of, length_of, text_of, add, sub, mul, div, rem, equal, less, both, either, join, at, push, scalar, variable, list, unary, binary, no_parts, part, let_be, spawn, call, subflow, ask, timer, event, await, await_all, await_any, signal, lock_in, if_then, while, try, return, fail, nothing, first_then, Flows}
 use Rattle.dura_model.specs.Steps.{Label, take, deliver, finish, fire}
@@ -129,10 +129,17 @@ bad_front =
     take (client (codes "c1")) 7 (message (client (codes "c1")) (orchestration (codes "F1") (codes "sub1")) (wait 7)) ∷
     []
 
+-- the requests, and their answers
+abbrev pub asked : List (Id × ℕ)
+asked = ((client (codes "a"), 3) ∷ (client (codes "c1"), 1) ∷ (client (codes "c1"), 2) ∷ (client (codes "c1"), 3) ∷ (client (codes "a"), 4) ∷ (client (codes "c1"), 4) ∷ (client (codes "c1"), 7) ∷ (client (codes "c1"), 8) ∷ (client (codes "a"), 5) ∷ (client (codes "c1"), 9) ∷ [])
+
+abbrev pub answers : List (Option Answer)
+answers = (Some was_started ∷ Some was_started ∷ Some was_started ∷ Some was_started ∷ Some (is_done (values.Int (pos 0))) ∷ Some (is_done (values.Int (pos 0))) ∷ Some (is_done (values.Int (negsuc 31))) ∷ Some (is_done (values.Int (pos 0))) ∷ Some (is_value (values.Int (pos 0))) ∷ Some (is_done (values.Int (pos 0))) ∷ [])
+
 -- what the run answers, and how all stand after it, and where the other one stops
 abbrev pub Agrees : Type 0
 Agrees =
-    (option_map (answers_in ((client (codes "a"), 3) ∷ (client (codes "c1"), 1) ∷ (client (codes "c1"), 2) ∷ (client (codes "c1"), 3) ∷ (client (codes "a"), 4) ∷ (client (codes "c1"), 4) ∷ (client (codes "c1"), 7) ∷ (client (codes "c1"), 8) ∷ (client (codes "a"), 5) ∷ (client (codes "c1"), 9) ∷ [])) (after flows run) ≡ Some (Some was_started ∷ Some was_started ∷ Some was_started ∷ Some was_started ∷ Some (is_done (values.Int (pos 0))) ∷ Some (is_done (values.Int (pos 0))) ∷ Some (is_done (values.Int (negsuc 31))) ∷ Some (is_done (values.Int (pos 0))) ∷ Some (is_value (values.Int (pos 0))) ∷ Some (is_done (values.Int (pos 0))) ∷ []))
+    (option_map (answers_in asked) (after flows run) ≡ Some answers)
     × (option_map (stands_in flows ((entity (codes "C0") (codes "A")) ∷ (entity (codes "C0") (codes "B")) ∷ (entity (codes "C1") (codes "A")) ∷ (entity (codes "C1") (codes "B")) ∷ (orchestration (codes "F0") (codes "k")) ∷ (orchestration (codes "F0") (codes "y")) ∷ (orchestration (codes "F1") (codes "sub1")) ∷ (orchestration (codes "F2") (codes "sub1")) ∷ [])) (after flows run) ≡ Some (Some (is_value (values.Int (pos 0))) ∷ Some (is_value (values.Int (pos 0))) ∷ Some (is_value (values.Int (pos 10))) ∷ Some (is_value (values.Int (pos 10))) ∷ Some (is_done (values.Int (pos 0))) ∷ Some (is_done (values.Int (pos 0))) ∷ Some (is_done (values.Int (negsuc 31))) ∷ Some (is_done (values.Int (pos 0))) ∷ []))
     × (is_some (after flows good_front) ≡ true)
     × (option_map (λ w. is_due w ((message (client (codes "a")) (orchestration (codes "F0") (codes "k")) (start (values.Int (pos 1)) (to_request 3))) ∷ (message (client (codes "c1")) (orchestration (codes "F2") (codes "sub1")) (start (values.Int (pos 1)) (to_request 1))) ∷ (message (client (codes "c1")) (orchestration (codes "F1") (codes "sub1")) (start (values.Int (negsuc 0)) (to_request 2))) ∷ (message (client (codes "c1")) (orchestration (codes "F0") (codes "y")) (start (values.Int (pos 5)) (to_request 3))) ∷ (message (client (codes "a")) (orchestration (codes "F0") (codes "k")) (wait 4)) ∷ (message (client (codes "c1")) (orchestration (codes "F2") (codes "sub1")) (wait 4)) ∷ []) (message (client (codes "c1")) (orchestration (codes "F1") (codes "sub1")) (wait 7))) (after flows good_front) ≡ Some false)

@@ -1,16 +1,18 @@
 -- Made by tools/theorems from tools/runs/values.json.
-use Rattle.std.specs.Prelude.{◌≡◌, Bool, true, false, ℕ, List, [], ◌∷◌, codes, pos, negsuc, is_some, is_none, Option, Some, None, option_map, Result, Ok, Err}
+use Rattle.std.specs.Prelude.{◌≡◌, Bool, true, false, ℕ, List, [], ◌∷◌, codes, pos, negsuc, is_some, is_none, Option, Some, None, option_map}
 use Rattle.dura_value.specs.declared.data.Scalar.TheVariants as scalars
 use Rattle.dura_value.specs.declared.data.Value.TheVariants as values
 use Rattle.dura_value.specs.declared.outcome.Outcome.TheVariants as outcomes
-use Rattle.dura_value.specs.Ids.{orchestration, entity, client}
+use Rattle.dura_value.specs.Ids.{Id, orchestration, entity, client}
 use Rattle.dura_value.specs.Messages.{Answer, is_done, has_failed, was_started, was_there, is_unknown, was_raised, has_ended, is_missing, is_running, is_value, start, raise, query, wait, to_request}
 use Rattle.flow_syntax.specs.Syntax.{not_of, length_of, text_of, add, sub, mul, div, rem, equal, less, both, either, join, at, push, scalar, variable, list, unary, binary, no_parts, part, let_be, spawn, call, Expression, Block, subflow, ask, timer, event, await, await_all, await_any, signal, lock_in, if_then, while, try, return, fail, nothing, first_then, Flows}
 use Rattle.dura_model.specs.Steps.{Label, take, deliver, finish, fire}
 use Rattle.dura_model.specs.Legal.{after, is_due}
-use Rattle.worked_rows.specs.Made.{named, class_with, locked, message, answers_in, stands_in, values_of, ends_of, ends_inside}
+use Rattle.worked_rows.specs.Made.{named, class_with, locked, message, answers_in, stands_in}
+use Rattle.std.specs.Prelude.{Result, Ok, Err}
 use Rattle.dura_value.specs.declared.data.Value.{Value}
 use Rattle.flow_syntax.specs.Machine.{Progress, running, done, failed}
+use Rattle.worked_rows.specs.Made.{values_of, ends_of, ends_inside}
 
 abbrev pub given : List Expression
 given =

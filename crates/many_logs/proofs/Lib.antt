@@ -1,0 +1,17 @@
+pub mod Acked
+pub mod Apart
+pub mod Basics
+pub mod Checkpoints
+pub mod Frames
+pub mod Gates
+pub mod Given
+pub mod Leads
+pub mod Moving
+pub mod Names
+pub mod Orders
+pub mod OrdersStand
+pub mod Own
+pub mod Runs
+pub mod Streams
+pub mod Stuck
+pub mod Unplaced

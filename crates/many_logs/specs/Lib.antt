@@ -1,0 +1,7 @@
+pub mod Examples
+pub mod Gates
+pub mod Labels
+pub mod Names
+pub mod Placing
+pub mod Stands
+pub mod Unplaced

@@ -1,0 +1,8 @@
+//! What is known of which entries are settled and which are lost, and what follows for an entry that another depends on.
+//!
+//! - `marks`: what is known (`Marks`), and the verdict on an entry.
+#![tactic(auto)]
+
+mod marks;
+
+pub use marks::{Dep, Marks, Read, Verdict};
