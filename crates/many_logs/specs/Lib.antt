@@ -1,4 +1,3 @@
-pub mod Examples
 pub mod Gates
 pub mod Labels
 pub mod Names

@@ -4,7 +4,7 @@ use Rattle.dura_model.specs.Legal.{Legal, after_from}
 use Rattle.dura_model.specs.Partition.{Partition, fresh, shown}
 use Rattle.dura_model.specs.Steps.{Label}
 use Rattle.dura_model.proofs.Kept.{fresh_shown}
-use Rattle.hub_store.specs.Moments.{Told, SaysNext}
+use Rattle.hub_store.specs.Moments.{SaidSoFar, SaysNext}
 use Rattle.hub_store.specs.Moments.SaidSoFar.{silent, settles, says}
 use Rattle.hub_store.specs.Origin.{Origin}
 use Rattle.hub_store.specs.Trail.{Settled, Said, settling}

@@ -6,7 +6,7 @@ use Rattle.commit_log.specs.declared.header.Header.{Header}
 use Rattle.dura_model.specs.Partition.{Partition, fresh}
 use Rattle.dura_model.specs.Steps.{Label}
 use Rattle.dura_value.specs.Items.{Entry}
-use Rattle.hub_store.specs.Moments.{WroteGate, Keeps, Stands as StandsAt}
+use Rattle.hub_store.specs.Moments.{WroteGate, LogKeeps, StoreStands as StandsAt}
 use Rattle.hub_store.specs.Origin.{Origin, IsNoLog}
 use Rattle.hub_store.specs.Trail.{Settled, of_part}
 use Rattle.many_logs.specs.Placing.{Commit, of_partition, AllBelow, frames_in_order}
@@ -66,7 +66,7 @@ module _ (rules : Rules) (latest : ℕ) where
   record Frame (o : Origin) (states : ℕ → Partition) (steps : List Step) (trail : List Settled) (files : ℕ → List ℕ) (partition : ℕ) (going : List Entry) : Type 0 where
     goes : GoesFrom rules (known_of rules trail) states partition going
     own : All (IsOfCall (rules_at rules partition) latest) going
-    keeps_it : Keeps (o.logs partition) (of_part partition trail ++ going) (files (o.logs partition).file)
+    keeps_it : LogKeeps (o.logs partition) (of_part partition trail ++ going) (files (o.logs partition).file)
     writing : (going ≡ []) ⊎ WroteGate (o.logs partition) (of_part partition trail) (changes_of (o.logs partition).file steps)
 
   module _ (o : Origin) (digest : ℕ) (begins : Begins o rules digest) where
@@ -103,7 +103,7 @@ module _ (rules : Rules) (latest : ℕ) where
           record {
             goes = record { accepted = (goes_so.states, refl); given = tt; pending = λ k d inside. absurd (omega (arith, inside)); named = λ k d inside. absurd (omega (arith, inside)) };
             own = λ k d inside. absurd (omega (arith, inside));
-            keeps_it = subst (λ (l : List Entry). Keeps (o.logs partition) l (files (o.logs partition).file)) (sym (append-nil (of_part partition trail))) kept;
+            keeps_it = subst (λ (l : List Entry). LogKeeps (o.logs partition) l (files (o.logs partition).file)) (sym (append-nil (of_part partition trail))) kept;
             writing = inl refl;
           },
         )
@@ -174,7 +174,13 @@ module _ (rules : Rules) (latest : ℕ) where
                 (orders_stand flows rules.count digest files whole frames.after below kept
                 (put_then flows rules.count fresh rules.begin frames.after rules.recovered (commits_of trail ++ frames_in_order rules.count going_in) begins.made tail_made) given);
             writing = λ partition low. (its partition low).writing;
-            given = given;
+            kept = record {
+              below = below;
+              kept = kept;
+              states = frames.after;
+              made = put_then flows rules.count fresh rules.begin frames.after rules.recovered (commits_of trail ++ frames_in_order rules.count going_in) begins.made tail_made;
+              given = given;
+            };
             ran = frames_ran rules latest (known_of rules trail) rules.count (commits_of trail) goes_so.states going_in goes_so.ran goes_so.made (λ partition low. (its partition low).goes);
             own = λ partition low. All-append (IsOfCall (rules_at rules partition) latest) (of_part partition trail) (going_in partition) (goes_so.own partition) (its partition low).own;
             founded = all_founded rules.recovered (commits_of trail ++ frames_in_order rules.count going_in) numbered

@@ -1,4 +1,4 @@
--- What may be committed may be committed still once more of other partitions was settled and more was said, and up to a later moment.
+-- What may be committed may be committed still once more of other partitions was settled and more was said, and up to a later stamp.
 use Rattle.std.proofs.Common.{◌≡◌, ◌≤◌, ◌==◌, ℕ, cond, List, [], ◌∷◌, ◌++◌, Some, refl, get_or, sym, ap, subst, ◌∙◌, append_assoc}
 use Rattle.std.proofs.lemmas.List.Elements.{Contains-append_left}
 use Rattle.dura_model.specs.Partition.{Partition}

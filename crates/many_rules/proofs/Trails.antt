@@ -6,7 +6,7 @@ use Rattle.dura_model.specs.Partition.{Partition, fresh}
 use Rattle.dura_model.specs.Steps.{Label}
 use Rattle.dura_model.proofs.Basics.{eqb_apart}
 use Rattle.dura_value.specs.Items.{Identity, Entry}
-use Rattle.hub_store.specs.Moments.{Told as StoreTold}
+use Rattle.hub_store.specs.Moments.{SaidSoFar as StoreTold}
 use Rattle.hub_store.specs.Moments.SaidSoFar.{silent, settles, says}
 use Rattle.hub_store.specs.Trail.{Settled, Said, of_part, settling}
 use Rattle.hub_store.proofs.Settling.{of_part-append, own_part, no_part}

@@ -15,7 +15,7 @@ use Rattle.hub_store.specs.Origin.{Origin}
 use Rattle.hub_store.specs.Trail.{Settled, Said, of_part}
 use Rattle.many_logs.specs.Placing.{Commit, states_after, of_partition, AllBelow, commits_at, frames_in_order}
 use Rattle.many_logs.specs.Labels.{labels_of_commits, AllGiven}
-use Rattle.many_logs.specs.Stands.{FilesStand}
+use Rattle.many_logs.specs.Stands.{FilesStand, AreKept}
 use Rattle.many_rules.specs.Rules.{Rules, rules_at, commits_of, pairs_of}
 use Rattle.many_logs.specs.Names.{identities_in, committed_in}
 use Rattle.part_items.specs.Kept.{nothing, kept_in}
@@ -63,7 +63,7 @@ pub data AllAnswered (rules : Rules) (settled : List Commit) : List Said → Lis
   one_more : {told : List Said} {lines : List ℕ} → AllAnswered rules settled told lines → (one : Said) (line : List ℕ) → IsAnswered rules settled told one line
       → AllAnswered rules settled (told ++ one ∷ []) (lines ++ line)
 
--- a front of one further line, while it is being said or after that failed
+-- a prefix of one further line, while it is being said or after that failed
 pub record IsHalfSaid (rules : Rules) (settled : List Commit) (told : List Said) (steps : List Step) (part : List ℕ) : Type 0 where
   pub speaking : IsSpeaking steps
   pub one : Said
@@ -71,7 +71,7 @@ pub record IsHalfSaid (rules : Rules) (settled : List Commit) (told : List Said)
   pub answered : IsAnswered rules settled told one line
   pub front : IsPrefix part line
 
--- An entry of this call: of its incarnation, and of no later moment than both its log's entries at the beginning and the clock's latest.
+-- An entry of this call: of its incarnation, and of no later stamp than both its log's entries at the beginning and the clock's latest.
 pub record IsOfCall (rules : one.Rules) (latest : ℕ) (entry : Entry) : Type 0 where
   pub incarnation : entry.incarnation ≡ rules.incarnation
   pub timely : All (IsBy (max rules.begin.stamp latest)) entry.items
@@ -84,14 +84,15 @@ pub data AllRan (rules : Rules) : List Commit → Type 0 where
       → AllRan rules (settled ++ commits_at partition going)
 
 -- The files stand for the run at the start, then what was settled, in its order, then no more than one frame of each partition, whose
--- gate was being written, in the partitions' order. Each outcome in it is one that its activity may give, and that ran once its task was
--- settled; each entry that came is of this call, and founded on entries before it. The tape goes on by lines that answer requests as that
--- run does by what is settled, then no more than a front of one further.
+-- gate was being written, in the partitions' order; and just these entries are kept in them, accepted in this order, so that the next
+-- call may begin with them. Each outcome in it is one that its activity may give, and that ran once its task was settled; each entry
+-- that came is of this call, and founded on entries before it. The tape goes on by lines that answer requests as that run does by what
+-- is settled, then no more than a prefix of one further.
 pub record StandsOn (rules : Rules) (latest digest : ℕ) (o : Origin) (steps : List Step) (trail : List Settled) (files : ℕ → List ℕ) : Type 0 where
   pub going : ℕ → List Entry
   pub stands : FilesStand rules.flows rules.count digest files (labels_of_commits rules.recovered ++ labels_of_commits (commits_of trail) ++ labels_of_commits (frames_in_order rules.count going))
   pub writing : (partition : ℕ) → partition < rules.count → (going partition ≡ []) ⊎ WroteGate (o.logs partition) (of_part partition trail) (changes_of (o.logs partition).file steps)
-  pub given : AllGiven rules.flows rules.count fresh (rules.recovered ++ (commits_of trail ++ frames_in_order rules.count going))
+  pub kept : AreKept rules.flows rules.count digest files (rules.recovered ++ (commits_of trail ++ frames_in_order rules.count going))
   pub ran : AllRan rules (commits_of trail ++ frames_in_order rules.count going)
   pub own : (partition : ℕ) → partition < rules.count → All (IsOfCall (rules_at rules partition) latest) (of_part partition trail ++ going partition)
   pub founded : Founded (identities_in rules.recovered) (committed_in (commits_of trail ++ frames_in_order rules.count going))

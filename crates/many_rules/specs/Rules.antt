@@ -51,7 +51,7 @@ pub record GoesFrom (rules : Rules) (known : List Identity) (states : ℕ → Pa
 abbrev pub known_of : Rules → List Settled → List Identity
 known_of rules trail = identities_in rules.recovered ++ identities_in (commits_of trail)
 
--- Entries of a partition that may be committed behind these, where the clock gave no later moment than this: they are this call's, and they
+-- Entries of a partition that may be committed behind these, where the clock gave no later stamp than this: they are this call's, and they
 -- go on from the states that these make.
 pub record Follows (rules : Rules) (latest : ℕ) (trail : List Settled) (told : List Said) (partition : ℕ) (going : List Entry) : Type 0 where
   pub below : partition < rules.count

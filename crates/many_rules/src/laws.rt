@@ -1,4 +1,4 @@
-//! Laws.
+//! Laws. The functions do nothing.
 
 ghost use Rattle.std.specs.Prelude.{◌≡◌, ◌≤◌, ℕ, List, [], ◌++◌, length, Some};
 ghost use Rattle.dura_value.specs.Items.{Entry};
@@ -14,20 +14,33 @@ ghost use Rattle.site_model.specs.History.{Step, IsImage, back_to};
 
 /// What may be committed may be committed still once more of other partitions was settled and more was said, and up to a later moment.
 pub fn still_follows()
-    ensures still { (rules : Rules) (latest : ℕ) (trail more : List Settled) (told also : List Said) (partition : ℕ) (going : List Entry) → of_part partition more ≡ [] → Follows rules latest trail told partition going → Follows rules latest (trail ++ more) (told ++ also) partition going }
-    ensures later { (rules : Rules) (latest later : ℕ) (trail : List Settled) (told : List Said) (partition : ℕ) (going : List Entry) → latest ≤ later → Follows rules latest trail told partition going → Follows rules later trail told partition going }
+    ensures still { (rules : Rules) (latest : ℕ) (trail more : List Settled) (told also : List Said)
+        (partition : ℕ) (going : List Entry) → of_part partition more ≡ []
+        → Follows rules latest trail told partition going
+        → Follows rules latest (trail ++ more) (told ++ also) partition going }
+    ensures later { (rules : Rules) (latest later : ℕ) (trail : List Settled) (told : List Said)
+        (partition : ℕ) (going : List Entry) → latest ≤ later
+        → Follows rules latest trail told partition going
+        → Follows rules later trail told partition going }
 {}
 
 /// What is known of a frame by its own partition and by the test before its gate is enough.
 pub fn what_passes_goes()
-    ensures { (rules : Rules) (trail : List Settled) (partition : ℕ) (going : List Entry) → states_after rules.flows rules.count fresh rules.recovered ≡ Some rules.begin → AreNumbered fresh (rules.recovered ++ commits_of trail) → Passes rules trail partition going
-        → (states : ℕ → Partition) → states_after rules.flows rules.count rules.begin (commits_of trail) ≡ Some states → GoesFrom rules (known_of rules trail) states partition going }
+    ensures { (rules : Rules) (trail : List Settled) (partition : ℕ) (going : List Entry)
+        → states_after rules.flows rules.count fresh rules.recovered ≡ Some rules.begin
+        → AreNumbered fresh (rules.recovered ++ commits_of trail)
+        → Passes rules trail partition going → (states : ℕ → Partition)
+        → states_after rules.flows rules.count rules.begin (commits_of trail) ≡ Some states
+        → GoesFrom rules (known_of rules trail) states partition going }
 {}
 
 /// At each moment of a call of many partitions that commits only what it may, a crash leaves files that stand for the run at the start,
 /// then what was settled by then, then no more than one frame of each partition whose gate was being written.
 pub fn each_crash_leaves_a_run()
-    ensures { (o : Origin) (rules : Rules) (latest digest : ℕ) (now : List Step) (trail : List Settled) → Begins o rules digest
-        → AtEveryMoment (Follows rules latest) (Answers rules) o now trail
-        → (moment : ℕ) → length o.steps ≤ moment → moment ≤ length now → (files : ℕ → List ℕ) → IsImage (back_to moment now) files → StandsOn rules latest digest o (back_to moment now) (settled_at moment trail) files }
+    ensures { (o : Origin) (rules : Rules) (latest digest : ℕ) (now : List Step)
+        (trail : List Settled) → Begins o rules digest
+        → AtEveryMoment (Follows rules latest) (Answers rules) o now trail → (moment : ℕ)
+        → length o.steps ≤ moment → moment ≤ length now → (files : ℕ → List ℕ)
+        → IsImage (back_to moment now) files
+        → StandsOn rules latest digest o (back_to moment now) (settled_at moment trail) files }
 {}

@@ -29,8 +29,8 @@ never_lost floors e none lost =
     let inside : k < length floors = let many = length-map floors floor_of in let lt = lost.there.1 in omega (arith, many, lt) in
     let same : floor_of (get_or floors k d) ≡ lost.floor = sym (get_or-map floor_of floors k d lost.floor inside) ∙ lost.there.2 in
     let holds : gives_up (floor_of (get_or floors k d)) e ≡ true =
-        and_true _ _
-        (and_true _ _ (eq-eqb _ _ (ap (λ (f : PlainFloor). f.partition) same ∙ lost.partition)) (lt-ltb _ _ (let at = ap (λ (f : PlainFloor). f.incarnation) same in let later = lost.later in omega (arith, at, later))))
-        (le-leb _ _ (let at = ap (λ (f : PlainFloor). f.from) same in let below = lost.below in omega (arith, at, below))) in
+    and_true _ _
+    (and_true _ _ (eq-eqb _ _ (ap (λ (f : PlainFloor). f.partition) same ∙ lost.partition)) (lt-ltb _ _ (let at = ap (λ (f : PlainFloor). f.incarnation) same in let later = lost.later in omega (arith, at, later))))
+    (le-leb _ _ (let at = ap (λ (f : PlainFloor). f.from) same in let below = lost.below in omega (arith, at, below))) in
     let wrong : true ≡ false = sym holds ∙ none k d inside in
     cc wrong
