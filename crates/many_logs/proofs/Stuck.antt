@@ -12,15 +12,15 @@ use Rattle.many_logs.proofs.Orders.{Took, lowest_took, lowest_takes}
 
 none_of_size : (most : ℕ) (left : ℕ → List Entry) → count_entries most left ≤ 0 → (partition : ℕ) → partition < most → left partition ≡ []
 none_of_size zero left few partition below = absurd (omega arith)
-none_of_size (suc most) left few partition below = by (partition == most) refl
+none_of_size (suc most) left few partition below = by (partition == most) refl (none_of_size most left (omega (arith, few)) partition)
   where
     empty : (entries : List Entry) → length entries ≤ 0 → entries ≡ []
     empty [] few = refl
     empty (entry ∷ entries) few = absurd (omega arith)
 
-    by : (test : Bool) → (partition == most) ≡ test → left partition ≡ []
-    by true is = subst (λ (p : ℕ). left p ≡ []) (sym (eqb-true partition most is)) (empty (left most) (omega (arith, few)))
-    by false apart = none_of_size most left (omega (arith, few)) partition (let off = eqb_apart partition most apart in omega (arith, below, off))
+    by : (test : Bool) → (partition == most) ≡ test → (partition < most → left partition ≡ []) → left partition ≡ []
+    by true is lower = subst (λ (p : ℕ). left p ≡ []) (sym (eqb-true partition most is)) (empty (left most) (omega (arith, few)))
+    by false apart lower = lower (let off = eqb_apart partition most apart in omega (arith, below, off))
 
 module _ (left : ℕ → List Entry) (partition : ℕ) (entry : Entry) (entries : List Entry) (first : left partition ≡ entry ∷ entries) where
   same_below : (n : ℕ) → n ≤ partition → count_entries n (with_left left partition entries) ≡ count_entries n left
@@ -31,17 +31,17 @@ module _ (left : ℕ → List Entry) (partition : ℕ) (entry : Entry) (entries 
 
   count_less : (most : ℕ) → partition < most → suc (count_entries most (with_left left partition entries)) ≡ count_entries most left
   count_less zero below = absurd (omega arith)
-  count_less (suc most) below = by (partition == most) refl
+  count_less (suc most) below = by (partition == most) refl (count_less most)
     where
-      by : (test : Bool) → (partition == most) ≡ test → suc (count_entries most (with_left left partition entries) + length (with_left left partition entries most)) ≡ count_entries most left + length (left most)
-      by true is =
+      by : (test : Bool) → (partition == most) ≡ test → (partition < most → suc (count_entries most (with_left left partition entries)) ≡ count_entries most left) → suc (count_entries most (with_left left partition entries) + length (with_left left partition entries most)) ≡ count_entries most left + length (left most)
+      by true is earlier =
           let at : partition ≡ most = eqb-true partition most is in
           let lower = same_below most (omega (arith, at)) in
           let here = ap (λ (b : Bool). length (cond b entries (left most))) is in
           let all : length (left most) ≡ suc (length entries) = ap (λ (l : List Entry). length l) (subst (λ (p : ℕ). left p ≡ entry ∷ entries) at first) in
           omega (arith, lower, here, all)
-      by false apart =
-          let lower = count_less most (let off = eqb_apart partition most apart in omega (arith, below, off)) in
+      by false apart earlier =
+          let lower = earlier (let off = eqb_apart partition most apart in omega (arith, below, off)) in
           let here = ap (λ (b : Bool). length (cond b entries (left most))) apart in
           omega (arith, lower, here)
 
@@ -56,7 +56,7 @@ module _ (flows : Flows) (count : ℕ) where
       by (Some state) is = absurd (lowest_takes flows count count s partition entry entries state below left is none)
 
   stuck_in : (often : ℕ) (s : Placing) → count_entries count s.left ≤ often → IsStuck flows count (placed_in flows count often s).states (placed_in flows count often s).left
-  stuck_in zero s few partition below entry entries left =
+  stuck_in zero s few = λ partition below entry entries left.
       let none : [] ≡ entry ∷ entries = sym (none_of_size count s.left few partition below) ∙ left in absurd (cc none)
   stuck_in (suc often) s few = by (lowest flows count count s) refl (stuck_in often)
     where

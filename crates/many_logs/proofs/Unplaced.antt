@@ -15,17 +15,18 @@ use Rattle.many_logs.proofs.Stuck.{placed_stuck}
 -- an item is refused, or all are accepted
 module _ (flows : Flows) (count : ℕ) (parts : ℕ → Partition) (partition : ℕ) where
   all_pass : (items : List Item) (p : Partition) → first_refused flows count parts partition p items ≡ None → (are_ready parts partition items ≡ true) × ((next : Partition) × (all_accepted flows count p items ≡ Some next))
-  all_pass [] p none = (refl, p, refl)
-  all_pass (item ∷ items) p none = by (is_ready parts partition item) (accepted flows count p item) refl refl none
+  all_pass [] p none = (refl, (p, refl))
+  all_pass (item ∷ items) p none = by (is_ready parts partition item) (accepted flows count p item) refl refl none (all_pass items)
     where
       by : (ready : Bool) (o : Option Partition) → is_ready parts partition item ≡ ready → accepted flows count p item ≡ o
           → (if ready then or_behind item o (λ next. first_refused flows count parts partition next items) else Some item) ≡ None
+          → ((q : Partition) → first_refused flows count parts partition q items ≡ None → (are_ready parts partition items ≡ true) × ((next : Partition) × (all_accepted flows count q items ≡ Some next)))
           → (is_ready parts partition item && are_ready parts partition items ≡ true) × ((next : Partition) × (option_and_then (λ next. all_accepted flows count next items) (accepted flows count p item) ≡ Some next))
-      by true (Some next) ready made is =
-          let rest = all_pass items next is in
-          (ap (λ (b : Bool). b && are_ready parts partition items) ready ∙ rest.0, rest.1.0, ap (option_and_then (λ next. all_accepted flows count next items)) made ∙ rest.1.1)
-      by true None ready made is = absurd (cc is)
-      by false o ready made is = absurd (cc is)
+      by true (Some next) ready made is behind =
+          let rest = behind next is in
+          (ap (λ (b : Bool). b && are_ready parts partition items) ready ∙ rest.0, (rest.1.0, ap (option_and_then (λ next. all_accepted flows count next items)) made ∙ rest.1.1))
+      by true None ready made is behind = absurd (cc is)
+      by false o ready made is behind = absurd (cc is)
 
   refused_has_item : (entry : Entry) → commit_accepted flows count parts partition entry ≡ None → first_refused flows count parts partition (enter entry.incarnation (parts partition)) entry.items ≡ None → ⊥
   refused_has_item entry refused none =
@@ -63,11 +64,11 @@ next_some s partition one (entry ∷ behind) left is = subst (Leaves s (suc part
 
 lowest_leaves : (most : ℕ) (s : Placing) (one : Commit) → lowest_left most s ≡ Some one → Leaves s most one
 lowest_leaves zero s one is = absurd (cc is)
-lowest_leaves (suc most) s one is = by (lowest_left most s) refl is
+lowest_leaves (suc most) s one is = by (lowest_left most s) refl is (lowest_leaves most s one)
   where
-    by : (o : Option Commit) → lowest_left most s ≡ o → or_else o (next_of most (s.left most)) ≡ Some one → Leaves s (suc most) one
-    by (Some first) found same = let lower = lowest_leaves most s one (found ∙ same) in record { below = omega (arith, lower.below); behind = lower.behind; left = lower.left }
-    by None found same = next_some s most one (s.left most) refl same
+    by : (o : Option Commit) → lowest_left most s ≡ o → or_else o (next_of most (s.left most)) ≡ Some one → (lowest_left most s ≡ Some one → Leaves s most one) → Leaves s (suc most) one
+    by (Some first) found same earlier = let lower = earlier (found ∙ same) in record { below = omega (arith, lower.below); behind = lower.behind; left = lower.left }
+    by None found same earlier = next_some s most one (s.left most) refl same
 
 no_item : (f : Item → Unplaced) (o : Option Item) → option_map f o ≡ None → o ≡ None
 no_item f None is = refl
