@@ -49,7 +49,7 @@ module _ (o : Origin) (rules : Rules) (latest digest : ℕ) (begins : Begins o r
   }
 
   -- all that were said
-  pub all_answered : {trail : List Settled} {told : List Said} {lines : List ℕ} → Told (Follows rules latest) (Answers rules) trail told lines → (behind : List Commit) → settled ≡ commits_of trail ++ behind → AllAnswered rules settled told lines
+  pub all_answered : {trail : List Settled} {told : List Said} {lines : List ℕ} → SaidSoFar (Follows rules latest) (Answers rules) trail told lines → (behind : List Commit) → settled ≡ commits_of trail ++ behind → AllAnswered rules settled told lines
   all_answered silent behind front = nothing_said
   all_answered (settles {trail} before partition at going follows) behind front =
       let more = commits_of (settling partition at going) in

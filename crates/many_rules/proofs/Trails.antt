@@ -11,7 +11,7 @@ use Rattle.hub_store.specs.Moments.SaidSoFar.{silent, settles, says}
 use Rattle.hub_store.specs.Trail.{Settled, Said, of_part, settling}
 use Rattle.hub_store.proofs.Settling.{of_part-append, own_part, no_part}
 use Rattle.dura_model.specs.Entries.{labels_of}
-use Rattle.dura_model.proofs.Appending.{numbered_both}
+use Rattle.part_items.proofs.Behind.{numbered_both}
 use Rattle.part_items.specs.Numbered.{IsNumbered}
 use Rattle.std.proofs.lemmas.Bool.{eqb-true}
 use Rattle.many_logs.specs.Placing.{Commit, states_after, of_partition, AllBelow, commits_at, frames_in_order}

@@ -38,7 +38,7 @@ module _ (rules : Rules) (latest : ℕ) (told more : Told) where
   asked_still (fired id task stamp) asked = asked
   asked_still (trim reader number) asked = asked
 
-  ours_still : (entry : Entry) → IsOurs rules latest told entry → IsOurs rules latest (told ++ more) entry
+  pub ours_still : (entry : Entry) → IsOurs rules latest told entry → IsOurs rules latest (told ++ more) entry
   ours_still entry ours = record { incarnation = ours.incarnation; asked = λ k d inside. asked_still _ (ours.asked k d inside); timely = ours.timely }
 
   pub follows_still : (settled going : List Entry) → Follows rules latest settled told going → Follows rules latest settled (told ++ more) going
@@ -61,7 +61,7 @@ by_later now later above (ended id task outcome) low = low
 by_later now later above (fired id task stamp) low = omega (arith, above, low)
 by_later now later above (trim reader number) low = low
 
-ours_later : (rules : Rules) (latest later : ℕ) (told : Told) → latest ≤ later → (entry : Entry) → IsOurs rules latest told entry → IsOurs rules later told entry
+pub ours_later : (rules : Rules) (latest later : ℕ) (told : Told) → latest ≤ later → (entry : Entry) → IsOurs rules latest told entry → IsOurs rules later told entry
 ours_later rules latest later told above entry ours = record {
   incarnation = ours.incarnation;
   asked = ours.asked;
