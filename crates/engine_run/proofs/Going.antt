@@ -31,7 +31,7 @@ in_order : (rules : Rules) (latest digest : ℕ) (o : Origin) (steps : List Step
 in_order rules latest digest o steps trail image on = record {
   on = on;
   orderly = record {
-    once = λ id task. never_twice rules.flows (labels_in (o.logs 0).entries ++ labels_in (of_part 0 trail) ++ labels_in on.going) (shown_by rules.flows on.stands.state) on.stands.legal id task;
+    once = λ id task. never_twice rules.flows (labels_in (o.logs 0).entries ++ labels_in (of_part 0 trail) ++ labels_in on.going) _ on.stands.legal id task;
     apart = λ front rest world split legal overlap. never_overlaps rules.flows front world legal overlap;
   };
 }

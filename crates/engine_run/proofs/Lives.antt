@@ -27,6 +27,7 @@ use Rattle.site_model.specs.History.{Change, wrote, synced, reads, Step, changes
 use Rattle.site_model.specs.Moments.{Always, begins, goes_on}
 use Rattle.site_model.proofs.Paths.{each_moment, last, no_shorter}
 use Rattle.site_model.proofs.Images.{torn_as_it_was}
+use Rattle.run_rules.proofs.OneOfMany.{stands_alone}
 
 -- ---- images
 
@@ -52,10 +53,11 @@ earlier_moment {P} {old} (goes_on {new} {step} path here) moment low =
 -- what a crash leaves of a run is kept on
 pub next_may_begin : (rules : Rules) (latest digest : ℕ) (o : Origin) (steps : List Step) (trail : List Settled) (image : ℕ → List ℕ) → StandsOn rules latest digest o steps trail image → KeepsOn rules.flows digest (o.logs 0).entries image
 next_may_begin rules latest digest o steps trail image on =
-    let same : on.stands.entries ≡ (o.logs 0).entries ++ (of_part 0 trail ++ on.going) = cc (on.stands.kept, on.kept) in record {
+    let stood = stands_alone rules.flows digest image _ on.stands in
+    let same : stood.entries ≡ (o.logs 0).entries ++ (of_part 0 trail ++ on.going) = cc (stood.kept, on.kept) in record {
       more = of_part 0 trail ++ on.going;
-      state = on.stands.state;
-      keeps = record { kept = on.kept; made = ap (placed rules.flows 1 (fresh 0)) (sym same) ∙ on.stands.all };
+      state = stood.state;
+      keeps = record { kept = on.kept; made = ap (placed rules.flows 1 (fresh 0)) (sym same) ∙ stood.all };
       given = on.given;
     }
 
@@ -183,12 +185,13 @@ module _ (flows : Flows) (digest : ℕ) (entries : List Entry) (before : List St
         ap (λ (l : List Entry). l ++ (settled_then life ++ on.going)) kept_is
         ∙ sym (append_assoc own_entries (settled_then life) on.going)
         ∙ ap (λ (l : List Entry). l ++ on.going) (append_assoc entries first_kept.more (settled_then life)) in
-        let same : on.stands.entries ≡ (runs.origin.logs 0).entries ++ (settled_then life ++ on.going) = cc (on.stands.kept, on.kept) in record {
+        let stood = stands_alone life.job.flows life.job.digest image _ on.stands in
+        let same : stood.entries ≡ (runs.origin.logs 0).entries ++ (settled_then life ++ on.going) = cc (stood.kept, on.kept) in record {
           more = on.going;
-          state = on.stands.state;
+          state = stood.state;
           keeps = record {
             kept = subst (λ (n : ℕ). entries_in (logs_in (alone_with n) image) ≡ Some ((entries ++ (first_kept.more ++ settled_then life)) ++ on.going)) is.same_digest (on.kept ∙ ap (λ (l : List Entry). Some l) all);
-            made = ap (λ (f : Flows). placed f 1 (fresh 0) ((entries ++ (first_kept.more ++ settled_then life)) ++ on.going)) (sym is.same_flows) ∙ ap (placed life.job.flows 1 (fresh 0)) (sym (same ∙ all)) ∙ on.stands.all;
+            made = ap (λ (f : Flows). placed f 1 (fresh 0) ((entries ++ (first_kept.more ++ settled_then life)) ++ on.going)) (sym is.same_flows) ∙ ap (placed life.job.flows 1 (fresh 0)) (sym (same ∙ all)) ∙ stood.all;
           };
           given = subst (λ (f : Flows). AllGiven f 1 (fresh 0) ((entries ++ (first_kept.more ++ settled_then life)) ++ on.going)) is.same_flows (subst (AllGiven life.job.flows 1 (fresh 0)) all on.given);
         };
@@ -257,7 +260,7 @@ lives_joined flows digest first last entries lives keep all image left =
       };
       stands = subst (λ (l : List Entry). FilesStand flows 1 digest image (labels_in l)) run stands;
       orderly = subst (λ (l : List Entry). IsOrderly flows (labels_in l)) run (record {
-        once = λ id task. never_twice flows (labels_in (then.entries ++ kept.more)) (shown_by flows stands.state) stands.legal id task;
+        once = λ id task. never_twice flows (labels_in (then.entries ++ kept.more)) _ stands.legal id task;
         apart = λ front rest world split legal overlap. never_overlaps flows front world legal overlap;
       });
       settled = subst (λ (l : List Entry). All (IsSettledIn l) lives) run (all_with (IsSettledIn then.entries) (IsSettledIn (then.entries ++ kept.more)) lives (settled_still then.entries kept.more) then.settled);

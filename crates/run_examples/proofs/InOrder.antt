@@ -18,7 +18,7 @@ each_in_order rules digest o new alone every moment low high image is =
     let on = moment_stands o rules 0 digest alone (back_to moment new) [] image (every moment low high) is in record {
       on = on;
       orderly = record {
-        once = λ id task. never_twice rules.flows (labels_in (o.logs 0).entries ++ labels_in (of_part 0 []) ++ labels_in on.going) (shown_by rules.flows on.stands.state) on.stands.legal id task;
+        once = λ id task. never_twice rules.flows (labels_in (o.logs 0).entries ++ labels_in (of_part 0 []) ++ labels_in on.going) _ on.stands.legal id task;
         apart = λ front rest world split legal overlap. never_overlaps rules.flows front world legal overlap;
       };
     }

@@ -22,7 +22,7 @@ returns-clause-nothing c =
       kept = record { more = []; state = fresh 0; keeps = record { kept = none_kept; made = refl }; given = tt };
       stands = stands;
       orderly = record {
-        once = λ id task. never_twice no_flows [] (shown_by no_flows stands.state) stands.legal id task;
+        once = λ id task. never_twice no_flows [] _ stands.legal id task;
         apart = λ front rest world split legal overlap. never_overlaps no_flows front world legal overlap;
       };
       settled = All-from_recursion (IsSettledIn []) (idle_life ∷ []) (record { front = []; rest = []; run = refl }, tt);

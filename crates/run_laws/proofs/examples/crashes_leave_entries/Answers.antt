@@ -15,6 +15,8 @@ use Rattle.run_laws.proofs.NothingAnswered.{no_answer, nothing_settled}
 use Rattle.run_rules.specs.Examples.{rules_with}
 use Rattle.run_rules.specs.Rules.{EndsPending, IsBy}
 use Rattle.run_laws.proofs.examples.crashes_leave_entries.Goals as goal
+use Rattle.run_rules.proofs.OneOfMany.{stands_alone}
+use Rattle.part_items.specs.Examples.{digest}
 
 pub returns-clause-taken : goal.returns-clause-taken
 returns-clause-taken c = λ flows. record {
@@ -42,8 +44,9 @@ returns-clause-kept c = λ flows left. cc (none_kept, left.kept)
 
 pub returns-clause-accepted : goal.returns-clause-accepted
 returns-clause-accepted c = λ flows left.
-    let entries : taking 0 ∷ taking 1 ∷ [] ≡ left.stands.entries = cc (twice_kept, left.stands.kept) in
-    let wrong : Err 1 ≡ Ok left.stands.state = ap (placed flows 1 (fresh 0)) entries ∙ left.stands.all in
+    let stood = stands_alone flows digest _ _ left.stands in
+    let entries : taking 0 ∷ taking 1 ∷ [] ≡ stood.entries = cc (twice_kept, stood.kept) in
+    let wrong : Err 1 ≡ Ok stood.state = ap (placed flows 1 (fresh 0)) entries ∙ stood.all in
     cc wrong
 
 pub returns-clause-of_call : goal.returns-clause-of_call
