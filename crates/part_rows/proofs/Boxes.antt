@@ -7,7 +7,7 @@ use Rattle.std.specs.BTreeMap.{BTreeMap, get, UpdatesBy}
 use Rattle.id_maps.specs.Copies.{AreCopied, AreNumbersCopied}
 use Rattle.id_maps.proofs.Changes.{number_same}
 use Rattle.dura_model.specs.Partition as plain
-use Rattle.dura_value.specs.Items as items
+use Rattle.dura_value.specs.Items.{Posted as PlainPosted}
 use Rattle.dura_value.specs.declared.identity.Posted.{Posted}
 use Rattle.part_rows.specs.declared.streams.Outbox.{Outbox}
 use Rattle.part_rows.specs.declared.streams.Outboxes.{Outboxes}
@@ -48,7 +48,7 @@ behind posted box = record box { messages = box.messages ++ posted_of posted ∷
 grown : (was now : Outbox) (posted : Posted) → now.first ≡ was.first → now.messages.items ≡ was.messages.items ++ posted ∷ [] → outbox_of now ≡ behind posted (outbox_of was)
 grown was now posted first items =
     ap (λ (n : ℕ). record { first = n; messages = map posted_of now.messages.items }) first
-    ∙ ap (λ (ps : List items.Posted). record { first = was.first; messages = ps }) (ap (map posted_of) items ∙ map-append posted_of was.messages.items (posted ∷ []))
+    ∙ ap (λ (ps : List PlainPosted). record { first = was.first; messages = ps }) (ap (map posted_of) items ∙ map-append posted_of was.messages.items (posted ∷ []))
 
 pub posted_written : (m n : BTreeMap ℕ Outbox) (target : ℕ) (was now : Outbox) (posted : Posted) → get nat_cmp m target ≡ Some was → (IsSome (get nat_cmp m target) → UpdatesBy nat_cmp (nat_cmp target) m n (Some now))
     → now.first ≡ was.first → now.messages.items ≡ was.messages.items ++ posted ∷ []
@@ -76,7 +76,7 @@ past_it number first less = lt-leb number first less
 one_less : (number first : ℕ) → first < number → number - first ≡ suc (number - (first + 1))
 one_less number first less = omega (arith, less)
 
-at_next : (b : Bool) (number first : ℕ) (rest : List items.Posted) → nat_le number (first + 1) ≡ b → first < number
+at_next : (b : Bool) (number first : ℕ) (rest : List PlainPosted) → nat_le number (first + 1) ≡ b → first < number
     → record { first = number; messages = drop (number - (first + 1)) rest } ≡ begins_by b number (record { first = first + 1; messages = rest })
 at_next true number first rest is less =
     let inside = leb-true number (first + 1) is in
@@ -86,7 +86,7 @@ at_next true number first rest is less =
 at_next false number first rest is less = refl
 
 -- one message less, and the next number
-pub one_gone : (number first : ℕ) (posted : items.Posted) (rest : List items.Posted) → first < number
+pub one_gone : (number first : ℕ) (posted : PlainPosted) (rest : List PlainPosted) → first < number
     → plain.begins_at number (record { first = first; messages = posted ∷ rest }) ≡ plain.begins_at number (record { first = first + 1; messages = rest })
 one_gone number first posted rest less =
     ap (λ (b : Bool). begins_by b number (record { first = first; messages = posted ∷ rest })) (past_it number first less)
