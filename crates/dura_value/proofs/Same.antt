@@ -111,4 +111,3 @@ identity_same a b is =
     let incarnation = eqb-true a.incarnation b.incarnation q.0 in
     let position = eqb-true a.position b.position q.1 in
     λ i. record { partition = partition i; incarnation = incarnation i; position = position i }
-

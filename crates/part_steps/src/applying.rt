@@ -18,7 +18,9 @@ ghost use Rattle.part_steps.specs.Reached.{fires_at, reached};
 
 use crate::keeping::keep;
 use crate::reaching::{answers_to, reach, takes_at};
-use dura_value::{Answer, Answered, Answers, Id, Identity, Message, Messages, Outcome, Outputs, with};
+use dura_value::{
+    Answer, Answered, Answers, Id, Identity, Message, Messages, Outcome, Outputs, with,
+};
 use flow_messages::{Event, copy_text, copy_value};
 use part_items::Item;
 use part_rows::{PartRows, Reaction, Reactions, copy_message};
