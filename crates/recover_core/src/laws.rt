@@ -9,7 +9,6 @@ ghost use Rattle.recover_core.specs.declared.recovery.Recovered.{Recovered};
 ghost use Rattle.recover_core.specs.Recovering.{Recovers, IsNotRefused, ShowsRun};
 
 /// Files that stand for a run are never refused, and what is recovered of them shows the world after that run.
-#[tactic(auto, using(crate::proofs::Standing::never_refused, crate::proofs::Standing::shows_run))]
 pub fn what_stands_is_recovered()
     ensures never_refused { (flows : Flows) (digest : ℕ) (files : ℕ → List ℕ) (run : List Label)
         (result : Result Recovered RecoverError) → FilesStand flows 1 digest files run
