@@ -9,9 +9,11 @@ use Rattle.dura_codec.specs.Grammar.{word_size_at, name_at, key_at, text_at, sca
 use Rattle.dura_model.specs.Partition.{Partition, fresh}
 use Rattle.dura_value.specs.Items.{Identity, Entry}
 use Rattle.flow_syntax.specs.Syntax.{Flows}
-use Rattle.many_examples.specs.Placings.{one_file, taken_of, taking_x}
+use Rattle.many_examples.specs.Placings.{states_of, one_file, taken_of, taking_x}
 use Rattle.many_logs.specs.Placing.{of_partition, placed, HasPlaced, IsStuck}
-use Rattle.many_logs.specs.Stands.{asked_at}
+use Rattle.many_logs.specs.Stands.{asked_at, FilesStand, AreKept}
+use Rattle.many_logs.specs.Labels.{labels_of_commits}
+use Rattle.many_logs.proofs.OrdersStand.{orders_stand}
 use Rattle.many_logs.proofs.Orders.{any_order_so_far}
 use Rattle.part_items.specs.Examples.{digest, taking}
 use Rattle.part_items.specs.Grammar.{took_at, item_at, members_at, entry_items_at}
@@ -39,13 +41,36 @@ first_kept : entries_in (logs_in (asked_at 2 digest 0) (one_file 20 (taken_of 1)
 unfolding header_at entries_from
 first_kept = refl
 
-second_kept : entries_in (logs_in (asked_at 2 digest 1) (one_file 20 (taken_of 1))) ≡ Some (taking 0 ∷ [])
+-- the log of partition 1 keeps the request
+pub second_kept : entries_in (logs_in (asked_at 2 digest 1) (one_file 20 (taken_of 1))) ≡ Some (taking 0 ∷ [])
 unfolding is_utf8 chars encode request_number_at several_at run_at word_size_at name_at key_at text_at scalar_at scalars_at value_front value_at id_at reply_at answer_at spot_at spot_count_at lock_at start_at raise_at query_at wait_at result_at operate_at granted_at body_at message_at count_at outcome_at took_at item_at members_at entry_items_at position_at incarnation_at next_entry_at next_entries_at next_frame_at header_at framed_at entries_from
 second_kept = refl
 
 -- of the request that its own partition took, each keeps its own
 pub taken_kept : (partition : ℕ) → partition < 2 → entries_in (logs_in (asked_at 2 digest partition) (one_file 20 (taken_of 1))) ≡ Some (of_partition partition (taking_x ∷ []))
 taken_kept = of_two _ first_kept second_kept
+
+pub taken_are_kept : (flows : Flows) → AreKept flows 2 digest (one_file 20 (taken_of 1)) (taking_x ∷ [])
+taken_are_kept flows = record {
+  below = (omega arith, tt);
+  kept = taken_kept;
+  states = states_of flows (taking_x ∷ []);
+  made = refl;
+  given = ((tt, λ next is. tt), λ next is. tt);
+}
+
+-- they stand for the run in which it is taken
+pub taken_stands : (flows : Flows) → FilesStand flows 2 digest (one_file 20 (taken_of 1)) (labels_of_commits (taking_x ∷ []))
+taken_stands flows =
+    let kept = taken_are_kept flows in
+    orders_stand flows 2 digest _ (taking_x ∷ []) kept.states kept.below kept.kept kept.made kept.given
+
+-- files that aren't there stand for a run in which nothing happened
+pub none_stand : (flows : Flows) → FilesStand flows 2 digest (λ file. []) []
+none_stand flows = record { logs = λ partition. []; kept = λ partition below. refl; none_left = λ partition below. refl; legal = refl }
+
+pub none_are_kept : (flows : Flows) → AreKept flows 2 digest (λ file. []) []
+none_are_kept flows = record { below = tt; kept = λ partition below. refl; states = fresh; made = refl; given = tt }
 
 -- partition 0 keeps a request of a client of partition 1
 pub astray_kept : entries_in (logs_in (asked_at 2 digest 0) (one_file 16 (taken_of 0))) ≡ Some (taking 0 ∷ [])

@@ -8,22 +8,21 @@ use Rattle.dura_value.specs.Ids.{client, orchestration}
 use Rattle.dura_value.specs.Items.{Entry, took, ran, ended, fired}
 use Rattle.dura_value.specs.Messages.{Message, start, wait, to_request, was_started}
 use Rattle.dura_value.specs.declared.data.Value.TheVariants as values
-use Rattle.dura_value.specs.declared.data.Scalar.TheVariants as scalars
-use Rattle.dura_value.specs.declared.outcome.Outcome.{Outcome}
+use Rattle.dura_value.specs.declared.outcome.Outcome.TheVariants as outcomes
 use Rattle.flow_syntax.specs.Syntax.{Flows}
 use Rattle.hub_store.specs.Origin.{Log, Origin}
 use Rattle.hub_store.specs.Trail.{Settled, Said}
 use Rattle.many_examples.specs.Pairs.{asks, request, entry_at, taking, coming_in, letting_go}
-use Rattle.many_examples.specs.Placings.{asking_states}
+use Rattle.many_examples.specs.Placings.{states_of, asking_states}
 use Rattle.many_logs.specs.Labels.{labels_of_commits}
-use Rattle.many_logs.specs.Placing.{Commit}
+use Rattle.many_logs.specs.Placing.{Commit, of_partition}
 use Rattle.many_rules.specs.Leaves.{header_at}
 use Rattle.many_rules.specs.Rules.{Rules}
 use Rattle.part_items.specs.Examples.{digest}
 use Rattle.part_items.specs.Logs.{first_log}
 use Rattle.request_reader.specs.Line.{Request}
 use Rattle.run_rules.specs.Examples.{summing}
-use Rattle.run_rules.specs.FieldExamples.{starting}
+use Rattle.run_rules.specs.FieldExamples.{starting, sum_flows}
 
 -- ---- what is asked
 
@@ -95,6 +94,16 @@ empty_log partition = record { file = first_log partition; header = header_at 2 
 
 abbrev pub empty_origin : Origin
 empty_origin = record { count = 2; logs = empty_log; steps = [] }
+
+-- the sum of null was asked for, and then it was done
+abbrev pub sum_done : List Commit
+sum_done = starting_sum ∷ record { partition = 1; entry = record { position = 1; incarnation = 0; items = ended summing 0 (outcomes.Done values.Null) ∷ [] } } ∷ []
+
+abbrev pub sum_done_origin : Origin
+sum_done_origin = record empty_origin { logs = λ partition. record (empty_log partition) { entries = of_partition partition sum_done } }
+
+abbrev pub sum_done_rules : Rules
+sum_done_rules = record (rules_with sum_flows) { recovered = sum_done; begin = states_of sum_flows sum_done }
 
 -- ---- what a crash leaves
 

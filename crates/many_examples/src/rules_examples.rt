@@ -1,7 +1,7 @@
 //! Examples of what a call of two partitions may commit and say, of where it begins, and of what a crash leaves of it: in each all facts
 //! hold, or all but one. They are said of the definitions alone: the functions do nothing.
 
-ghost use Rattle.std.specs.Prelude.{◌≡◌, ℕ, List, [], ◌∷◌, codes};
+ghost use Rattle.std.specs.Prelude.{◌≡◌, ℕ, List, [], ◌∷◌, codes, slice_set};
 ghost use Rattle.client_port.specs.Lines.{line_of};
 ghost use Rattle.dura_model.specs.Partition.{fresh};
 ghost use Rattle.dura_value.specs.Items.{took};
@@ -13,10 +13,10 @@ ghost use Rattle.flow_syntax.specs.Syntax.{Flows};
 ghost use Rattle.hub_store.specs.Trail.{Said};
 ghost use Rattle.many_examples.specs.Pairs.{request, entry_at, first_entry, taking, coming_in, letting_go};
 ghost use Rattle.many_examples.specs.Placings.{states_of, asking_states, ending_sum, one_file, none_of, taken_of, taking_x};
-ghost use Rattle.many_examples.specs.RulesBy.{rules_with, later_rules, silent_rules, asking_rules, answering_rules, taken_once, settled, firing, first_said, empty_origin, empty_log, unknown_rules, answering, answering_at, starting_sum};
+ghost use Rattle.many_examples.specs.RulesBy.{rules_with, later_rules, silent_rules, asking_rules, answering_rules, taken_once, settled, firing, first_said, empty_origin, empty_log, unknown_rules, answering, answering_at, starting_sum, sum_done_origin, sum_done_rules};
 ghost use Rattle.many_logs.specs.Placing.{Commit};
 ghost use Rattle.many_rules.specs.Leaves.{Begins, IsAnswered, AllAnswered, IsHalfSaid, IsOfCall, AllRan, StandsOn};
-ghost use Rattle.many_rules.specs.Rules.{rules_at, GoesFrom, Follows, Answers};
+ghost use Rattle.many_rules.specs.Rules.{rules_at, known_of, GoesFrom, Follows, Answers, Passes};
 ghost use Rattle.part_items.specs.Examples.{digest};
 ghost use Rattle.run_rules.specs.FieldExamples.{no_sum, sum_flows, starting, ending_first};
 ghost use Rattle.site_model.specs.History.{on, wrote, said};
@@ -80,7 +80,8 @@ pub fn lines_answering()
 {}
 
 /// A call over two logs without entries begins where nothing happened: not over one log, not under another digest, nor with entries that no log
-/// has, nor of a partition that isn't there, nor in other states, nor in other files.
+/// has, nor of a partition that isn't there, nor in other states, nor in other files. No recovered outcome is one that its activity may not give, and
+/// none of the logs' other files keeps anything.
 pub fn calls_begin()
     ensures empty { (flows : Flows) → Begins empty_origin (rules_with flows) digest }
     ensures count { (flows : Flows)
@@ -96,6 +97,10 @@ pub fn calls_begin()
     ensures files { (flows : Flows) → Begins
         (record empty_origin { logs = λ partition. record (empty_log partition) { file = 16 } })
         (rules_with flows) digest → ⊥ }
+    ensures given { Begins sum_done_origin sum_done_rules digest → ⊥ }
+    ensures other { (flows : Flows) → Begins
+        (record empty_origin { steps = on 17 (wrote 0 34 (none_of 0)) ∷ [] }) (rules_with flows)
+        digest → ⊥ }
 {}
 
 /// An entry of this call is of its partition's incarnation, and of no later stamp than the clock's.
@@ -130,4 +135,39 @@ pub fn answers_of_a_run()
         → line ≡ [] }
     ensures half { IsHalfSaid unknown_rules (answering ∷ []) [] (said 97 ∷ []) (97 ∷ []) }
     ensures silent { (part : List ℕ) → IsHalfSaid unknown_rules (answering ∷ []) [] [] part → ⊥ }
+{}
+
+/// A crash of a call that did nothing leaves no files, and one of a call that took a request a log with it.
+/// It doesn't leave files without what was settled, nor with an entry whose gate wasn't written, nor damaged ones, nor an entry of another incarnation;
+/// the tape isn't shorter than it was, and what stands on it answers somebody.
+pub fn crashes_leave()
+    ensures empty { (flows : Flows) → StandsOn (rules_with flows) 0 digest empty_origin [] []
+        (λ file. []) }
+    ensures taken { (flows : Flows) → StandsOn (rules_with flows) 0 digest empty_origin []
+        (settled taking_x ∷ []) (one_file 20 (taken_of 1)) }
+    ensures lost { (flows : Flows) → StandsOn (rules_with flows) 0 digest empty_origin []
+        (settled taking_x ∷ []) (λ file. []) → ⊥ }
+    ensures damaged { (flows : Flows) → StandsOn (rules_with flows) 0 digest empty_origin [] []
+        (one_file 20 (slice_set (none_of 1) 3 0)) → ⊥ }
+    ensures of_call { (flows : Flows)
+        → StandsOn (record (rules_with flows) { incarnations = λ partition. 1 }) 0 digest
+        empty_origin [] (settled taking_x ∷ []) (one_file 20 (taken_of 1)) → ⊥ }
+    ensures unwritten { (flows : Flows) → StandsOn (rules_with flows) 0 digest empty_origin [] []
+        (one_file 20 (taken_of 1)) → ⊥ }
+    ensures unsaid { (flows : Flows) → StandsOn (rules_with flows) 0 digest
+        (record empty_origin { steps = said 97 ∷ [] }) [] [] (λ file. []) → ⊥ }
+    ensures answering { (flows : Flows) → StandsOn (rules_with flows) 0 digest empty_origin
+        (said 97 ∷ []) [] (λ file. []) → ⊥ }
+{}
+
+/// What comes in passes where it stands in the stream in memory, and the entry that sent it is settled; so it goes on. It doesn't pass while
+/// that entry is under way.
+pub fn gates_passed()
+    ensures settled { (flows : Flows) → Passes (rules_with flows) taken_once 0
+        ((coming_in 0).entry ∷ []) }
+    ensures under_way { (flows : Flows) → Passes (rules_with flows) [] 0
+        ((coming_in 0).entry ∷ []) → ⊥ }
+    ensures goes { (flows : Flows) → GoesFrom (rules_with flows)
+        (known_of (rules_with flows) taken_once) (states_of flows (taking ∷ [])) 0
+        ((coming_in 0).entry ∷ []) }
 {}

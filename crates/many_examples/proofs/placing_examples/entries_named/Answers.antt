@@ -1,4 +1,4 @@
-use Rattle.std.proofs.Common.{◌≡◌, ℕ, ap, arith}
+use Rattle.std.proofs.Common.{◌≡◌, ap, arith}
 use Rattle.dura_value.specs.Items.{Identity}
 use Rattle.many_examples.specs.Pairs.{coming_in, first_entry}
 use Rattle.many_examples.proofs.Placings.{only}

@@ -1,24 +1,22 @@
 use Rattle.std.proofs.Common.{◌≡◌, ◌∙◌, ℕ, List, [], ◌∷◌, Option, Some, None, codes, refl, sym, ap, subst, arith}
 use Rattle.std.specs.Prelude.{option_map}
-use Rattle.dura_model.specs.Legal.{Legal, after}
+use Rattle.dura_model.specs.Legal.{Legal}
 use Rattle.dura_model.specs.Partition.{Partition, fresh, shown}
 use Rattle.dura_model.specs.Steps.{Label, take}
 use Rattle.dura_model.specs.World.{World}
 use Rattle.dura_value.specs.Ids.{client}
 use Rattle.dura_value.specs.Items.{Entry}
 use Rattle.dura_value.specs.Messages.{Message}
-use Rattle.many_examples.specs.Placings.{states_of, taking_x}
-use Rattle.many_examples.proofs.Placings.{of_two, taken_kept, astray_kept, none_beside, stays}
+use Rattle.many_examples.proofs.Placings.{of_two, none_stand, taken_stands, astray_kept, none_beside, stays}
 use Rattle.many_logs.specs.Placing.{commit_accepted}
-use Rattle.many_logs.proofs.OrdersStand.{orders_stand}
-use Rattle.part_items.specs.Examples.{digest, taking, request}
+use Rattle.part_items.specs.Examples.{taking, request}
 use Rattle.many_examples.proofs.placing_examples.files_standing.Goals as goal
 
 pub returns-clause-none : goal.returns-clause-none
-returns-clause-none c = λ flows. record { logs = λ partition. []; kept = λ partition below. refl; none_left = λ partition below. refl; legal = refl }
+returns-clause-none c = none_stand
 
 pub returns-clause-taken : goal.returns-clause-taken
-returns-clause-taken c = λ flows. orders_stand flows 2 digest _ (taking_x ∷ []) (states_of flows (taking_x ∷ [])) (omega arith, tt) taken_kept refl ((tt, λ next is. tt), λ next is. tt)
+returns-clause-taken c = taken_stands
 
 -- a partition's next entry where it has none
 never : {X : Type 0} (entries more : List Entry) (entry : Entry) → entries ≡ [] → entries ≡ entry ∷ more → X

@@ -1,4 +1,4 @@
-use Rattle.std.proofs.Common.{◌≡◌, ℕ, ap, refl, arith}
+use Rattle.std.proofs.Common.{◌≡◌, ap, refl, arith}
 use Rattle.dura_value.specs.Items.{Identity}
 use Rattle.many_examples.specs.Pairs.{first_entry}
 use Rattle.many_examples.specs.Placings.{first_posted}

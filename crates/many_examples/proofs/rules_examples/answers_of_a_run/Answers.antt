@@ -1,4 +1,4 @@
-use Rattle.std.proofs.Common.{◌≡◌, List, [], ◌∷◌, ◌++◌, drop, Some, codes, refl, ◌∙◌, ap, subst, arith}
+use Rattle.std.proofs.Common.{◌≡◌, List, [], ◌∷◌, ◌++◌, drop, Some, codes, refl, ◌∙◌, ap, subst}
 use Rattle.client_port.specs.Lines.{line_of}
 use Rattle.dura_model.specs.Legal.{Legal}
 use Rattle.dura_model.specs.World.{World, empty}

@@ -1,12 +1,10 @@
 use Rattle.std.proofs.Common.{◌≡◌, ℕ, [], ◌∷◌, codes, refl, subst, arith}
 use Rattle.std.proofs.lemmas.List.Elements.{All-from_recursion}
 use Rattle.dura_model.specs.Partition.{Partition, fresh}
-use Rattle.flow_syntax.specs.Syntax.{Flows}
 use Rattle.many_examples.specs.Pairs.{first_entry, taking, coming_in}
 use Rattle.many_examples.specs.Placings.{states_of}
 use Rattle.many_examples.specs.RulesBy.{rules_with, first_asked}
 use Rattle.many_examples.proofs.RulesBy.{comes_in, takes}
-use Rattle.many_logs.specs.Placing.{GoesThrough}
 use Rattle.many_rules.specs.Rules.{rules_at, GoesFrom}
 use Rattle.run_rules.specs.Rules.{IsAsked, IsBy, IsOurs}
 use Rattle.many_examples.proofs.rules_examples.entries_following.Goals as goal

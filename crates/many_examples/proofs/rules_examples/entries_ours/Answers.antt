@@ -1,13 +1,13 @@
-use Rattle.std.proofs.Common.{◌≡◌, ℕ, [], ◌∷◌, codes, refl, subst, arith}
+use Rattle.std.proofs.Common.{◌≡◌, ℕ, [], ◌∷◌, Option, Some, None, codes, refl, subst, arith}
 use Rattle.std.specs.List.{All, Contains}
 use Rattle.std.proofs.lemmas.List.Elements.{All-from_recursion}
-use Rattle.dura_model.specs.Partition.{Partition, fresh}
+use Rattle.dura_model.specs.Entries.{AreGiven}
+use Rattle.dura_model.specs.Partition.{Partition, fresh, enter, accepted}
 use Rattle.dura_value.specs.Dependencies.{named_by}
 use Rattle.dura_value.specs.Ids.{client}
-use Rattle.dura_value.specs.Items.{Entry, took, ran}
-use Rattle.flow_syntax.specs.Syntax.{Flows}
+use Rattle.dura_value.specs.Items.{Item, Entry, took, ran}
 use Rattle.many_examples.specs.Pairs.{asks, request, taking, coming_in}
-use Rattle.many_examples.specs.RulesBy.{later_rules, first_asked, unknown_rules, answering_at}
+use Rattle.many_examples.specs.RulesBy.{later_rules, first_asked, no_flows, unknown_rules, answering_at}
 use Rattle.many_rules.specs.Rules.{rules_at, GoesFrom}
 use Rattle.run_rules.specs.Examples.{summing}
 use Rattle.run_rules.specs.Rules.{IsAsked, IsBy, IsOurs, EndsPending}
@@ -38,10 +38,32 @@ returns-clause-other c = λ flows. record {
 pub returns-clause-asked : goal.returns-clause-asked
 returns-clause-asked c = λ flows follows. cc ((follows.ours 0 taking.entry (omega arith)).asked 0 (took (request 1)) (omega arith)).asked
 
+-- the state that an item makes, where it makes one
+abbrev made_by : Option Partition → Partition
+made_by None = fresh 1
+made_by (Some p) = p
+
+abbrev first_ran : Item
+first_ran = ran (client (codes "a")) summing 5
+
+abbrev then_ran : Item
+then_ran = ran summing (client (codes "a")) 5
+
+-- once the request is taken, and once it is delivered
+abbrev has_taken : Partition
+has_taken = made_by (accepted no_flows 2 (enter 0 (fresh 1)) (took (asks (codes "a") (codes "x") 1)))
+
+abbrev has_delivered : Partition
+has_delivered = made_by (accepted no_flows 2 has_taken first_ran)
+
 goes_then : GoesFrom unknown_rules [] fresh 1 ((answering_at 5).entry ∷ [])
 goes_then = record {
   accepted = (_, refl);
-  given = ((tt, λ next is. (tt, λ next is. (tt, λ next is. tt))), λ next is. tt);
+  given = ((tt, λ next is.
+    let taken : has_taken ≡ next = cc is in
+    subst (λ (p : Partition). AreGiven no_flows 2 p (first_ran ∷ then_ran ∷ [])) taken (λ none. cc none, λ after made.
+    let delivered : has_delivered ≡ after = cc made in
+    subst (λ (p : Partition). AreGiven no_flows 2 p (then_ran ∷ [])) delivered (λ none. cc none, λ last all. tt))), λ next is. tt);
   pending = All-from_recursion (λ (entry : Entry). All (EndsPending (fresh 1)) entry.items) ((answering_at 5).entry ∷ [])
       (All-from_recursion (EndsPending (fresh 1)) (answering_at 5).entry.items (tt, (tt, (tt, tt))), tt);
   named = All-from_recursion (λ (entry : Entry). All (Contains []) (named_by entry.items)) ((answering_at 5).entry ∷ []) (λ k d inside. absurd (omega (arith, inside)), tt);

@@ -1,8 +1,8 @@
-use Rattle.std.proofs.Common.{◌≡◌, ◌∙◌, [], ◌∷◌, true, false, Some, codes, refl, sym, ap, arith}
+use Rattle.std.proofs.Common.{◌≡◌, ◌∙◌, [], ◌∷◌, true, false, Some, codes, refl, sym, arith}
 use Rattle.std.specs.List.{All, Contains}
 use Rattle.std.proofs.lemmas.List.Elements.{All-from_recursion}
 use Rattle.dura_model.specs.Placed.{IsGiven}
-use Rattle.dura_model.specs.Partition.{Partition, fresh}
+use Rattle.dura_model.specs.Partition.{Partition}
 use Rattle.dura_value.specs.Dependencies.{named_by}
 use Rattle.dura_value.specs.Items.{Entry, ended}
 use Rattle.dura_value.specs.declared.data.Value.TheVariants as values

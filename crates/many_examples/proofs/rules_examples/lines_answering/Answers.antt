@@ -1,7 +1,4 @@
-use Rattle.std.proofs.Common.{◌≡◌, ℕ, Some, codes, refl, sym, ◌∙◌, ap}
-use Rattle.client_port.specs.Lines.{line_of}
-use Rattle.dura_model.specs.Partition.{Partition}
-use Rattle.dura_value.specs.Ids.{client}
+use Rattle.std.proofs.Common.{refl}
 use Rattle.dura_value.specs.Messages.{was_started}
 use Rattle.many_examples.specs.RulesBy.{answered_in, first_asked}
 use Rattle.many_examples.proofs.rules_examples.lines_answering.Goals as goal
