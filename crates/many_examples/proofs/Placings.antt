@@ -1,12 +1,12 @@
 -- What one list has, and what the files of two partitions keep.
-use Rattle.std.proofs.Common.{◌≡◌, ◌<◌, ℕ, zero, suc, List, [], ◌∷◌, Some, refl, subst, ap, ◌∙◌, sym, arith}
+use Rattle.std.proofs.Common.{◌≡◌, ◌<◌, ℕ, zero, suc, List, [], ◌∷◌, Some, refl, subst, arith}
 use Rattle.std.specs.List.{Contains, slice_index_or}
 use Rattle.std.specs.Str.{is_utf8, chars}
 use lib.Utf8.{encode}
 use Rattle.commit_log.specs.Segment.{header_at, frame_at as framed_at}
 use Rattle.dura_codec.specs.Fields.{request_number_at, several_at, run_at, count_at}
 use Rattle.dura_codec.specs.Grammar.{word_size_at, name_at, key_at, text_at, scalar_at, scalars_at, value_front, value_at, id_at, reply_at, answer_at, spot_at, spot_count_at, lock_at, start_at, raise_at, query_at, wait_at, result_at, operate_at, granted_at, body_at, message_at, outcome_at}
-use Rattle.dura_model.specs.Partition.{Partition, fresh}
+use Rattle.dura_model.specs.Partition.{fresh}
 use Rattle.dura_value.specs.Items.{Identity, Entry}
 use Rattle.flow_syntax.specs.Syntax.{Flows}
 use Rattle.many_examples.specs.Placings.{states_of, one_file, taken_of, taking_x}

@@ -1,17 +1,16 @@
 -- What goes on from states of two partitions, and whose requests are due.
-use Rattle.std.proofs.Common.{◌≡◌, [], ◌∷◌, codes, refl, sym, ◌∙◌, arith}
+use Rattle.std.proofs.Common.{[], ◌∷◌, refl, arith}
 use Rattle.std.specs.List.{All, Contains}
 use Rattle.std.proofs.lemmas.List.Elements.{All-from_recursion}
 use Rattle.dura_model.specs.Partition.{fresh}
 use Rattle.dura_value.specs.Dependencies.{named_by}
-use Rattle.dura_value.specs.Items.{Identity, Entry, took, got, ended}
+use Rattle.dura_value.specs.Items.{Entry}
 use Rattle.flow_syntax.specs.Syntax.{Flows}
-use Rattle.many_examples.specs.Pairs.{request, first_entry, taking, coming_in}
+use Rattle.many_examples.specs.Pairs.{first_entry, taking, coming_in}
 use Rattle.many_examples.specs.Placings.{states_of}
-use Rattle.many_examples.specs.RulesBy.{rules_with, first_asked}
-use Rattle.many_logs.specs.Names.{AreNamed}
-use Rattle.many_rules.specs.Rules.{Rules, rules_at, GoesFrom}
-use Rattle.run_rules.specs.Rules.{IsAsked, IsBy, IsOurs, EndsPending, EndPending}
+use Rattle.many_examples.specs.RulesBy.{rules_with}
+use Rattle.many_rules.specs.Rules.{GoesFrom}
+use Rattle.run_rules.specs.Rules.{EndsPending}
 
 -- the message comes in where it was sent
 pub comes_in : (flows : Flows) → GoesFrom (rules_with flows) (first_entry 1 ∷ []) (states_of flows (taking ∷ [])) 0 ((coming_in 0).entry ∷ [])

@@ -1,7 +1,7 @@
 -- States, entries and files of two partitions, by example.
 use Rattle.std.specs.Prelude.{ℕ, List, [], ◌∷◌, ◌==◌, slice_set, if◌then◌else◌, Option, Some, None}
 use Rattle.dura_model.specs.Partition.{Partition, fresh, with_part}
-use Rattle.dura_value.specs.Items.{Item, Entry, took, got, ended, Posted}
+use Rattle.dura_value.specs.Items.{Entry, got, ended, Posted}
 use Rattle.dura_value.specs.declared.outcome.Outcome.{Outcome}
 use Rattle.flow_syntax.specs.Syntax.{Flows}
 use Rattle.many_examples.specs.Pairs.{request, entry_at, commit_at, first_entry}

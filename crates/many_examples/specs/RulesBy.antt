@@ -6,13 +6,13 @@ use Rattle.dura_model.specs.World.{World, empty}
 use Rattle.dura_value.specs.ById.{at_number}
 use Rattle.dura_value.specs.Ids.{client, orchestration}
 use Rattle.dura_value.specs.Items.{Entry, took, ran, ended, fired}
-use Rattle.dura_value.specs.Messages.{Message, start, wait, to_request, was_started}
+use Rattle.dura_value.specs.Messages.{wait, was_started}
 use Rattle.dura_value.specs.declared.data.Value.TheVariants as values
 use Rattle.dura_value.specs.declared.outcome.Outcome.TheVariants as outcomes
 use Rattle.flow_syntax.specs.Syntax.{Flows}
 use Rattle.hub_store.specs.Origin.{Log, Origin}
 use Rattle.hub_store.specs.Trail.{Settled, Said}
-use Rattle.many_examples.specs.Pairs.{asks, request, entry_at, taking, coming_in, letting_go}
+use Rattle.many_examples.specs.Pairs.{asks, request, entry_at, taking}
 use Rattle.many_examples.specs.Placings.{states_of, asking_states}
 use Rattle.many_logs.specs.Labels.{labels_of_commits}
 use Rattle.many_logs.specs.Placing.{Commit, of_partition}

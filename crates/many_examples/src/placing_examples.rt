@@ -114,9 +114,9 @@ pub fn commits_numbered()
     ensures again { AreNumbered fresh (taking ∷ coming_in 0 ∷ coming_in 0 ∷ []) → ⊥ }
 {}
 
-/// Files that aren't there stand for the run in which nothing happened, and a log of partition 1 with a request of its client for the one in which
-/// that is taken. None stand for a label that no log has, nor damaged ones for anything, nor such from which an entry is left: a request of a
-/// client who lives elsewhere.
+/// Files that aren't there stand for the run in which nothing happened, and a log of partition 1 with a request of its client for the one
+/// in which that is taken. None stand for a label that no log has, nor damaged ones for anything, nor such from which an entry is left: a
+/// request of a client who lives elsewhere.
 pub fn files_standing()
     ensures none { (flows : Flows) → FilesStand flows 2 digest (λ file. []) [] }
     ensures taken { (flows : Flows) → FilesStand flows 2 digest (one_file 20 (taken_of 1))

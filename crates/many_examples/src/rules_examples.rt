@@ -11,10 +11,9 @@ ghost use Rattle.dura_value.specs.declared.outcome.Outcome.{Outcome};
 ghost use Rattle.dura_value.specs.declared.outcome.Outcome.TheVariants as outcomes;
 ghost use Rattle.flow_syntax.specs.Syntax.{Flows};
 ghost use Rattle.hub_store.specs.Trail.{Said};
-ghost use Rattle.many_examples.specs.Pairs.{request, entry_at, first_entry, taking, coming_in, letting_go};
+ghost use Rattle.many_examples.specs.Pairs.{first_entry, taking, coming_in};
 ghost use Rattle.many_examples.specs.Placings.{states_of, asking_states, ending_sum, one_file, none_of, taken_of, taking_x};
 ghost use Rattle.many_examples.specs.RulesBy.{rules_with, later_rules, silent_rules, asking_rules, answering_rules, taken_once, settled, firing, first_said, empty_origin, empty_log, unknown_rules, answering, answering_at, starting_sum, sum_done_origin, sum_done_rules};
-ghost use Rattle.many_logs.specs.Placing.{Commit};
 ghost use Rattle.many_rules.specs.Leaves.{Begins, IsAnswered, AllAnswered, IsHalfSaid, IsOfCall, AllRan, StandsOn};
 ghost use Rattle.many_rules.specs.Rules.{rules_at, known_of, GoesFrom, Follows, Answers, Passes};
 ghost use Rattle.part_items.specs.Examples.{digest};
@@ -40,8 +39,8 @@ pub fn frames_going()
         (states_of flows (taking ∷ [])) 0 ((coming_in 0).entry ∷ []) → ⊥ }
 {}
 
-/// What is settled of one partition comes in at another. No frame is of a partition that isn't there, even an empty one; none goes on where what it
-/// takes in wasn't sent.
+/// What is settled of one partition comes in at another. No frame is of a partition that isn't there, even an empty one; none goes on where
+/// what it takes in wasn't sent.
 pub fn entries_following()
     ensures coming { (flows : Flows) → Follows (rules_with flows) 0 taken_once [] 0
         ((coming_in 0).entry ∷ []) }
@@ -79,9 +78,9 @@ pub fn lines_answering()
         → Answers (answering_rules flows 1) (settled (coming_in 0) ∷ []) [] first_said line → ⊥ }
 {}
 
-/// A call over two logs without entries begins where nothing happened: not over one log, not under another digest, nor with entries that no log
-/// has, nor of a partition that isn't there, nor in other states, nor in other files. No recovered outcome is one that its activity may not give, and
-/// none of the logs' other files keeps anything.
+/// A call over two logs without entries begins where nothing happened: not over one log, not under another digest, nor with entries that no
+/// log has, nor of a partition that isn't there, nor in other states, nor in other files. No recovered outcome is one that its activity
+/// may not give, and none of the logs' other files keeps anything.
 pub fn calls_begin()
     ensures empty { (flows : Flows) → Begins empty_origin (rules_with flows) digest }
     ensures count { (flows : Flows)
@@ -91,8 +90,8 @@ pub fn calls_begin()
         (record (rules_with flows) { recovered = record taking { partition = 2 } ∷ [] }) digest
         → ⊥ }
     ensures theirs { (flows : Flows) → Begins empty_origin
-        (record (rules_with flows) { recovered = taking ∷ []; begin = states_of flows (taking ∷ []) })
-        digest → ⊥ }
+        (record (rules_with flows) {
+        recovered = taking ∷ []; begin = states_of flows (taking ∷ []) }) digest → ⊥ }
     ensures made { (flows : Flows) → Begins empty_origin (answering_rules flows 1) digest → ⊥ }
     ensures files { (flows : Flows) → Begins
         (record empty_origin { logs = λ partition. record (empty_log partition) { file = 16 } })
@@ -105,7 +104,8 @@ pub fn calls_begin()
 
 /// An entry of this call is of its partition's incarnation, and of no later stamp than the clock's.
 pub fn entries_of_call()
-    ensures coming { (flows : Flows) → IsOfCall (rules_at (rules_with flows) 0) 0 (coming_in 0).entry }
+    ensures coming { (flows : Flows)
+        → IsOfCall (rules_at (rules_with flows) 0) 0 (coming_in 0).entry }
     ensures fired { (flows : Flows) → IsOfCall (rules_at (rules_with flows) 1) 5 (firing 5) }
     ensures incarnation { (flows : Flows)
         → IsOfCall (rules_at (later_rules flows) 0) 0 (coming_in 0).entry → ⊥ }
@@ -137,9 +137,9 @@ pub fn answers_of_a_run()
     ensures silent { (part : List ℕ) → IsHalfSaid unknown_rules (answering ∷ []) [] [] part → ⊥ }
 {}
 
-/// A crash of a call that did nothing leaves no files, and one of a call that took a request a log with it.
-/// It doesn't leave files without what was settled, nor with an entry whose gate wasn't written, nor damaged ones, nor an entry of another incarnation;
-/// the tape isn't shorter than it was, and what stands on it answers somebody.
+/// A crash of a call that did nothing leaves no files, and one of a call that took a request a log with it. It doesn't leave files without
+/// what was settled, nor with an entry whose gate wasn't written, nor damaged ones, nor an entry of another incarnation; the tape isn't
+/// shorter than it was, and what stands on it answers somebody.
 pub fn crashes_leave()
     ensures empty { (flows : Flows) → StandsOn (rules_with flows) 0 digest empty_origin [] []
         (λ file. []) }
