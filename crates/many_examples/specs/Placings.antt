@@ -54,3 +54,7 @@ taken_of partition = slice_set (slice_set taking_log 12 partition) 16 2
 -- it is taken by the partition in which the client lives
 abbrev pub taking_x : Commit
 taking_x = record { partition = 1; entry = taking 0 }
+
+-- an entry without items of a partition that isn't there
+abbrev pub beyond : Commit
+beyond = record { partition = 2; entry = record { position = 0; incarnation = 0; items = [] } }

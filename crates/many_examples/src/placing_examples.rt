@@ -10,7 +10,7 @@ ghost use Rattle.dura_value.specs.declared.data.Value.TheVariants as values;
 ghost use Rattle.dura_value.specs.declared.outcome.Outcome.TheVariants as outcomes;
 ghost use Rattle.flow_syntax.specs.Syntax.{Flows};
 ghost use Rattle.many_examples.specs.Pairs.{asks, request, entry_at, first_entry, logs_with, taking, coming_in, letting_go};
-ghost use Rattle.many_examples.specs.Placings.{states_of, first_posted, other_coming, asking_states, ending_sum, log_of, one_file, none_of, taken_of, taking_x};
+ghost use Rattle.many_examples.specs.Placings.{states_of, first_posted, other_coming, asking_states, ending_sum, log_of, one_file, none_of, taken_of, taking_x, beyond};
 ghost use Rattle.many_logs.specs.Gates.{frame_passes, FrameLetsGo};
 ghost use Rattle.many_logs.specs.Labels.{AllGiven, AreNumbered};
 ghost use Rattle.many_logs.specs.Names.{AreOf, AreNamed, TrimsNamed};
@@ -137,7 +137,7 @@ pub fn commits_kept()
         (taking_x ∷ []) }
     ensures unkept { (flows : Flows) → AreKept flows 2 digest (λ file. []) (taking_x ∷ []) → ⊥ }
     ensures above { (flows : Flows) → AreKept flows 2 digest (λ file. [])
-        (record taking_x { partition = 2 } ∷ []) → ⊥ }
+        (beyond ∷ []) → ⊥ }
     ensures refused { (flows : Flows) → AreKept flows 2 digest (one_file 16 (taken_of 0))
         (record taking_x { partition = 0 } ∷ []) → ⊥ }
     ensures damaged { (flows : Flows) (commits : List Commit)

@@ -12,7 +12,7 @@ ghost use Rattle.dura_value.specs.declared.outcome.Outcome.TheVariants as outcom
 ghost use Rattle.flow_syntax.specs.Syntax.{Flows};
 ghost use Rattle.hub_store.specs.Trail.{Said};
 ghost use Rattle.many_examples.specs.Pairs.{first_entry, taking, coming_in};
-ghost use Rattle.many_examples.specs.Placings.{states_of, asking_states, ending_sum, one_file, none_of, taken_of, taking_x};
+ghost use Rattle.many_examples.specs.Placings.{states_of, asking_states, ending_sum, one_file, none_of, taken_of, taking_x, beyond};
 ghost use Rattle.many_examples.specs.RulesBy.{rules_with, later_rules, silent_rules, asking_rules, answering_rules, taken_once, settled, firing, first_said, empty_origin, empty_log, unknown_rules, answering, answering_at, starting_sum, sum_done_origin, sum_done_rules};
 ghost use Rattle.many_rules.specs.Leaves.{Begins, IsAnswered, AllAnswered, IsHalfSaid, IsOfCall, AllRan, StandsOn};
 ghost use Rattle.many_rules.specs.Rules.{rules_at, known_of, GoesFrom, Follows, Answers, Passes};
@@ -87,8 +87,8 @@ pub fn calls_begin()
         → Begins (record empty_origin { count = 1 }) (rules_with flows) digest → ⊥ }
     ensures headers { (flows : Flows) → Begins empty_origin (rules_with flows) 0 → ⊥ }
     ensures below { (flows : Flows) → Begins empty_origin
-        (record (rules_with flows) { recovered = record taking { partition = 2 } ∷ [] }) digest
-        → ⊥ }
+        (record (rules_with flows) {
+        recovered = beyond ∷ []; begin = states_of flows (beyond ∷ []) }) digest → ⊥ }
     ensures theirs { (flows : Flows) → Begins empty_origin
         (record (rules_with flows) {
         recovered = taking ∷ []; begin = states_of flows (taking ∷ []) }) digest → ⊥ }
