@@ -1,2 +1,4 @@
 pub mod Pairs
+pub mod Placings
+pub mod RulesBy
 pub mod Splits

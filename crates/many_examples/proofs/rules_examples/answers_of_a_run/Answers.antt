@@ -1,0 +1,54 @@
+use Rattle.std.proofs.Common.{◌≡◌, List, [], ◌∷◌, ◌++◌, drop, Some, codes, refl, ◌∙◌, ap, subst}
+use Rattle.client_port.specs.Lines.{line_of}
+use Rattle.dura_model.specs.Legal.{Legal}
+use Rattle.dura_model.specs.World.{World, empty}
+use Rattle.dura_value.specs.Ids.{client}
+use Rattle.dura_value.specs.Messages.{is_unknown}
+use Rattle.many_examples.specs.Pairs.{asks}
+use Rattle.many_examples.specs.RulesBy.{no_flows, unknown_rules, answering, answered_world, first_said}
+use Rattle.many_logs.specs.Labels.{labels_of_commits}
+use Rattle.many_logs.specs.Placing.{Commit}
+use Rattle.many_rules.specs.Leaves.{IsAnswered}
+use Rattle.many_rules.specs.Leaves.AllAnswered.{nothing_said, one_more}
+use Rattle.many_examples.proofs.rules_examples.answers_of_a_run.Goals as goal
+
+answered : IsAnswered unknown_rules (answering ∷ []) [] first_said (line_of (codes "a") 1 is_unknown)
+answered = record {
+  request = record { client = codes "a"; number = 1; message = asks (codes "a") (codes "x") 1 };
+  next = refl;
+  number_is = refl;
+  before = answering ∷ [];
+  behind = [];
+  front = refl;
+  world = answered_world;
+  legal = refl;
+  answer = is_unknown;
+  has = refl;
+  line_is = refl;
+}
+
+pub returns-clause-settled : goal.returns-clause-settled
+returns-clause-settled c = answered
+
+nothing_before : (before behind : List Commit) → [] ≡ before ++ behind → before ≡ []
+nothing_before [] behind is = refl
+nothing_before (one ∷ before) behind is = cc is
+
+pub returns-clause-early : goal.returns-clause-early
+returns-clause-early c = λ one line it.
+    let legal : Legal no_flows [] it.world = subst (λ (l : List Commit). Legal no_flows ([] ++ labels_of_commits l) it.world) (nothing_before it.before it.behind it.front) it.legal in
+    let world_is : empty ≡ it.world = cc legal in
+    let has : empty.answers (client one.client) one.number ≡ Some it.answer = ap (λ (w : World). w.answers (client one.client) one.number) world_is ∙ it.has in
+    cc has
+
+pub returns-clause-all : goal.returns-clause-all
+returns-clause-all c = one_more nothing_said first_said (line_of (codes "a") 1 is_unknown) answered
+
+pub returns-clause-half : goal.returns-clause-half
+returns-clause-half c = record {
+  speaking = (97, [], refl);
+  one = first_said;
+  line = line_of (codes "a") 1 is_unknown;
+  answered = answered;
+  front = (drop 1 (line_of (codes "a") 1 is_unknown), refl);
+}
