@@ -74,7 +74,7 @@ at_keeps log position alone = record { kept = refl; alone = alone }
 
 -- it goes on at this position, in no later incarnation
 pub record GoesOnAt (log : Log) (position incarnation : ℕ) : Type 0 where
-  pub place : (goes_on log []).position ≡ position
+  pub at : (goes_on log []).position ≡ position
   pub follows : (goes_on log []).incarnation ≤ incarnation
 
 pub record IsPicked (log : Log) (file position incarnation : ℕ) : Type 0 where
@@ -91,7 +91,7 @@ from_picked log position incarnation own = by (goes_on_at log position incarnati
       goes = let parts = and_parts ((goes_on log []).position == position) (nat_le (goes_on log []).incarnation incarnation) is in record { place = eqb-true (goes_on log []).position position parts.0; follows = leb-true (goes_on log []).incarnation incarnation parts.1 };
       file_is = refl;
     })
-    by false is = rw is (record { own = at_keeps log position own.alone; goes = record { position = refl; follows = omega arith }; file_is = refl })
+    by false is = rw is (record { own = at_keeps log position own.alone; goes = record { at = refl; follows = omega arith }; file_is = refl })
 
 with_file : (digest file : ℕ) (payloads : List (List ℕ)) (read : Result (List Entry) ℕ) → (log_of digest file payloads read).file ≡ file
 with_file digest file payloads (Ok entries) = refl

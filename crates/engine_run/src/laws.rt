@@ -19,7 +19,6 @@ pub fn accepted_files()
 {}
 
 /// What a crash leaves of a run meets what the next run asks of its files.
-#[tactic(auto, using(crate::proofs::Lives::next_may_begin))]
 pub fn images_are_kept()
     ensures { (rules : Rules) (latest digest : ℕ) (o : Origin) (steps : List Step)
         (trail : List Settled) (image : ℕ → List ℕ)

@@ -38,7 +38,7 @@ go_named-requires-clause-stands g c =
     record {
       made = refl;
       shown = shown_alone state (subst (λ (n : ℕ). Belongs 1 n state) first (subst (λ (n : ℕ). Belongs n p.state.rows.number state) can.alone can.sound.belongs));
-      position = here.goes.position;
+      position = here.goes.at;
       follows = here.goes.follows;
       younger = can.younger;
     }

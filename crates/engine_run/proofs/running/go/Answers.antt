@@ -101,7 +101,7 @@ returns-then-position-ge-POSITION_LIMIT g c =
     let site_is = c.end_with.ensures.site in
     let wanting = c.end_with.ensures.cause in
     let reaches = c.if-position-ge-POSITION_LIMIT.true in record {
-      told = λ tells. subst g.V.Site.tells site_is tells;
+      tells = λ tells. subst g.V.Site.tells site_is tells;
       status = c.end_with.ensures.status ∙ ap status_of (sym wanting);
       late = subst IsLateCause (sym wanting) (refl, reaches);
       goes = λ tells. inr (record { same = ap g.V.Site.history site_is; nothing = c.end_with.ensures.trail ∙ c.none-nothing.ensures; wanting = subst (IsWanting (state_of c.args.prepared.state).position) (sym wanting) (refl, c.position-position.ensures, reaches) });
@@ -119,7 +119,7 @@ pub returns-in_default : goal.returns-in_default
 returns-in_default g c =
     let site_is = c.end_with-in_default.ensures.site in
     let wanting = c.end_with-in_default.ensures.cause in record {
-      told = λ tells. subst g.V.Site.tells site_is tells;
+      tells = λ tells. subst g.V.Site.tells site_is tells;
       status = c.end_with-in_default.ensures.status ∙ ap status_of (sym wanting);
       late = subst IsLateCause (sym wanting) tt;
       goes = λ tells. inr (record { same = ap g.V.Site.history site_is; nothing = c.end_with-in_default.ensures.trail ∙ c.none-nothing.ensures; wanting = subst (IsWanting (state_of c.args.prepared.state).position) (sym wanting) tt });
@@ -137,7 +137,7 @@ pub returns-in_default-vec : goal.returns-in_default-vec
 returns-in_default-vec g c =
     let site_is = c.end_with-in_default-vec.ensures.site in
     let wanting = c.end_with-in_default-vec.ensures.cause in record {
-      told = λ tells. subst g.V.Site.tells site_is tells;
+      tells = λ tells. subst g.V.Site.tells site_is tells;
       status = c.end_with-in_default-vec.ensures.status ∙ ap status_of (sym wanting);
       late = subst IsLateCause (sym wanting) tt;
       goes = λ tells. inr (record { same = ap g.V.Site.history site_is; nothing = c.end_with-in_default-vec.ensures.trail ∙ c.none-nothing.ensures; wanting = subst (IsWanting (state_of c.args.prepared.state).position) (sym wanting) tt });
@@ -155,7 +155,7 @@ pub returns-in-Err : goal.returns-in-Err
 returns-in-Err g c =
     let site_is = c.end_with-in-Err.ensures.site ∙ c.in-Err.ensures.back in
     let wanting = c.end_with-in-Err.ensures.cause in record {
-      told = λ tells. subst g.V.Site.tells site_is tells;
+      tells = λ tells. subst g.V.Site.tells site_is tells;
       status = c.end_with-in-Err.ensures.status ∙ ap status_of (sym wanting);
       late = subst IsLateCause (sym wanting) tt;
       goes = λ tells. inr (record { same = ap g.V.Site.history site_is; nothing = c.end_with-in-Err.ensures.trail ∙ c.none-nothing.ensures; wanting = subst (IsWanting (state_of c.args.prepared.state).position) (sym wanting) tt });
@@ -176,7 +176,7 @@ returns g c =
     let begun_is = c.in-Ok-begin.ensures.site in
     let site_is = end.site ∙ c.end-site.ensures.site in
     let now = c.drive_on-cause.new.store.site in record {
-      told = λ tells. subst g.V.Site.tells begun_is (driven.tells (subst g.V.Site.tells site_is tells));
+      tells = λ tells. subst g.V.Site.tells begun_is (driven.tells (subst g.V.Site.tells site_is tells));
       status = end.status ∙ ap status_of (sym end.cause);
       late = subst IsLateCause (sym end.cause) driven.late;
       goes = λ tells.
