@@ -88,7 +88,7 @@ from_picked log position incarnation own = by (goes_on_at log position incarnati
     by : (test : Bool) → goes_on_at log position incarnation ≡ test → IsPicked (log_from log position incarnation) log.file position incarnation
     by true is = rw is (record {
       own = own;
-      goes = let parts = and_parts ((goes_on log []).position == position) (nat_le (goes_on log []).incarnation incarnation) is in record { place = eqb-true (goes_on log []).position position parts.0; follows = leb-true (goes_on log []).incarnation incarnation parts.1 };
+      goes = let parts = and_parts ((goes_on log []).position == position) (nat_le (goes_on log []).incarnation incarnation) is in record { at = eqb-true (goes_on log []).position position parts.0; follows = leb-true (goes_on log []).incarnation incarnation parts.1 };
       file_is = refl;
     })
     by false is = rw is (record { own = at_keeps log position own.alone; goes = record { at = refl; follows = omega arith }; file_is = refl })

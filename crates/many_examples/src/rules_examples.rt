@@ -88,10 +88,14 @@ pub fn calls_begin()
     ensures headers { (flows : Flows) → Begins empty_origin (rules_with flows) 0 → ⊥ }
     ensures below { (flows : Flows) → Begins empty_origin
         (record (rules_with flows) {
-        recovered = beyond ∷ []; begin = states_of flows (beyond ∷ []) }) digest → ⊥ }
+          recovered = beyond ∷ [];
+          begin = states_of flows (beyond ∷ []);
+        }) digest → ⊥ }
     ensures theirs { (flows : Flows) → Begins empty_origin
         (record (rules_with flows) {
-        recovered = taking ∷ []; begin = states_of flows (taking ∷ []) }) digest → ⊥ }
+          recovered = taking ∷ [];
+          begin = states_of flows (taking ∷ []);
+        }) digest → ⊥ }
     ensures made { (flows : Flows) → Begins empty_origin (answering_rules flows 1) digest → ⊥ }
     ensures files { (flows : Flows) → Begins
         (record empty_origin { logs = λ partition. record (empty_log partition) { file = 16 } })

@@ -42,8 +42,8 @@ returns-clause-left c = λ flows run stands.
     let first : taking 0 ∷ [] ≡ stands.logs 0 = cc (astray_kept, stands.kept 0 (omega arith)) in
     let second : [] ≡ stands.logs 1 = cc (none_beside, stands.kept 1 (omega arith)) in
     let refused : (entry : Entry) (more : List Entry) → stands.logs 0 ≡ entry ∷ more → commit_accepted flows 2 fresh 0 entry ≡ None = λ entry more is.
-        let same : taking 0 ≡ entry = cc (first, is) in
-        subst (λ (e : Entry). commit_accepted flows 2 fresh 0 e ≡ None) same refl in
+    let same : taking 0 ≡ entry = cc (first, is) in
+    subst (λ (e : Entry). commit_accepted flows 2 fresh 0 e ≡ None) same refl in
     let placed = stays flows stands.logs (of_two _ refused (λ entry more is. never (stands.logs 1) more entry (sym second) is)) in
     let left : stands.logs 0 ≡ [] = sym (placed.left 0 (omega arith)) ∙ stands.none_left 0 (omega arith) in
     cc (first, left)

@@ -81,7 +81,7 @@ returns-clause-unwritten c = λ flows left.
     let first = nothing_under_way 0 (left.going 0) (left.writing 0 (omega arith)) in
     let second = nothing_under_way 1 (left.going 1) (left.writing 1 (omega arith)) in
     let none : of_partition 1 (commits_at 0 (left.going 0) ++ commits_at 1 (left.going 1)) ≡ [] =
-        ap (λ (l : List Entry). of_partition 1 (commits_at 0 l ++ commits_at 1 (left.going 1))) first ∙ ap (λ (l : List Entry). of_partition 1 (commits_at 1 l)) second in
+    ap (λ (l : List Entry). of_partition 1 (commits_at 0 l ++ commits_at 1 (left.going 1))) first ∙ ap (λ (l : List Entry). of_partition 1 (commits_at 1 l)) second in
     let kept : Some (taking 0 ∷ []) ≡ Some (of_partition 1 (commits_at 0 (left.going 0) ++ commits_at 1 (left.going 1))) = sym second_kept ∙ left.kept.kept 1 (omega arith) in
     cc (kept, none)
 

@@ -21,8 +21,8 @@ returns-clause-coming c = λ flows. record {
     tt,
   );
   goes = λ states all.
-    let is : states_of flows (taking ∷ []) ≡ states = cc all in
-    subst (λ (s : ℕ → Partition). GoesFrom (rules_with flows) (first_entry 1 ∷ []) s 0 ((coming_in 0).entry ∷ [])) is (comes_in flows);
+      let is : states_of flows (taking ∷ []) ≡ states = cc all in
+      subst (λ (s : ℕ → Partition). GoesFrom (rules_with flows) (first_entry 1 ∷ []) s 0 ((coming_in 0).entry ∷ [])) is (comes_in flows);
 }
 
 pub returns-clause-first : goal.returns-clause-first
@@ -38,8 +38,8 @@ returns-clause-first c = λ flows. record {
     tt,
   );
   goes = λ states all.
-    let is : fresh ≡ states = cc all in
-    subst (λ (s : ℕ → Partition). GoesFrom (rules_with flows) [] s 1 (taking.entry ∷ [])) is (takes flows);
+      let is : fresh ≡ states = cc all in
+      subst (λ (s : ℕ → Partition). GoesFrom (rules_with flows) [] s 1 (taking.entry ∷ [])) is (takes flows);
 }
 
 pub returns-clause-goes : goal.returns-clause-goes

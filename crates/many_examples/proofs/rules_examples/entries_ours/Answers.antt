@@ -30,9 +30,9 @@ returns-clause-other c = λ flows. record {
     tt,
   );
   goes = λ states all.
-    let is : fresh ≡ states = cc all in
-    let goes = takes flows in
-    subst (λ (s : ℕ → Partition). GoesFrom (later_rules flows) [] s 1 (taking.entry ∷ [])) is (record { accepted = goes.accepted; given = goes.given; pending = goes.pending; named = goes.named });
+      let is : fresh ≡ states = cc all in
+      let goes = takes flows in
+      subst (λ (s : ℕ → Partition). GoesFrom (later_rules flows) [] s 1 (taking.entry ∷ [])) is (record { accepted = goes.accepted; given = goes.given; pending = goes.pending; named = goes.named });
 }
 
 pub returns-clause-asked : goal.returns-clause-asked
@@ -59,11 +59,20 @@ has_delivered = made_by (accepted no_flows 2 has_taken first_ran)
 goes_then : GoesFrom unknown_rules [] fresh 1 ((answering_at 5).entry ∷ [])
 goes_then = record {
   accepted = (_, refl);
-  given = ((tt, λ next is.
-    let taken : has_taken ≡ next = cc is in
-    subst (λ (p : Partition). AreGiven no_flows 2 p (first_ran ∷ then_ran ∷ [])) taken (λ none. cc none, λ after made.
-    let delivered : has_delivered ≡ after = cc made in
-    subst (λ (p : Partition). AreGiven no_flows 2 p (then_ran ∷ [])) delivered (λ none. cc none, λ last all. tt))), λ next is. tt);
+  given = (
+    (
+      tt,
+      λ next is.
+          let taken : has_taken ≡ next = cc is in
+          subst (λ (p : Partition). AreGiven no_flows 2 p (first_ran ∷ then_ran ∷ [])) taken (
+            λ none. cc none,
+            λ after made.
+                let delivered : has_delivered ≡ after = cc made in
+                subst (λ (p : Partition). AreGiven no_flows 2 p (then_ran ∷ [])) delivered (λ none. cc none, λ last all. tt),
+          ),
+    ),
+    λ next is. tt,
+  );
   pending = All-from_recursion (λ (entry : Entry). All (EndsPending (fresh 1)) entry.items) ((answering_at 5).entry ∷ [])
       (All-from_recursion (EndsPending (fresh 1)) (answering_at 5).entry.items (tt, (tt, (tt, tt))), tt);
   named = All-from_recursion (λ (entry : Entry). All (Contains []) (named_by entry.items)) ((answering_at 5).entry ∷ []) (λ k d inside. absurd (omega (arith, inside)), tt);
@@ -82,8 +91,8 @@ returns-clause-by_then c = record {
     tt,
   );
   goes = λ states all.
-    let is : fresh ≡ states = cc all in
-    subst (λ (s : ℕ → Partition). GoesFrom unknown_rules [] s 1 ((answering_at 5).entry ∷ [])) is goes_then;
+      let is : fresh ≡ states = cc all in
+      subst (λ (s : ℕ → Partition). GoesFrom unknown_rules [] s 1 ((answering_at 5).entry ∷ [])) is goes_then;
 }
 
 pub returns-clause-timely : goal.returns-clause-timely
