@@ -33,7 +33,7 @@ pub fn founded()
         (committed (entry 0 0 0) (got (entry 1 0 0) 0 message ∷ trim (entry 1 0 0) 1 ∷ []) ∷ []) }
     ensures gap { Founded (entry 0 1 3 ∷ []) (committed (entry 0 1 5) [] ∷ []) → ⊥ }
     ensures nothing_before { Founded [] (committed (entry 0 0 1) [] ∷ []) → ⊥ }
-    ensures earlier_life { Founded (entry 0 9 4 ∷ []) (committed (entry 0 1 5) [] ∷ []) → ⊥ }
+    ensures earlier_incarnation { Founded (entry 0 9 4 ∷ []) (committed (entry 0 1 5) [] ∷ []) → ⊥ }
     ensures from_nobody { Founded (entry 1 0 0 ∷ [])
         (committed (entry 0 0 0) (got (entry 1 1 0) 0 message ∷ []) ∷ []) → ⊥ }
     ensures let_go_for_nobody { Founded [] (committed (entry 0 0 0) (trim (entry 1 0 0) 1 ∷ [])
@@ -46,7 +46,7 @@ pub fn lost()
         (entry 0 1 5) }
     ensures below_it { Lost (record { partition = 0; incarnation = 2; from = 5 } ∷ []) (entry 0 1 4)
         → ⊥ }
-    ensures of_that_life { Lost (record { partition = 0; incarnation = 2; from = 5 } ∷ [])
+    ensures of_that_incarnation { Lost (record { partition = 0; incarnation = 2; from = 5 } ∷ [])
         (entry 0 2 5) → ⊥ }
     ensures of_another { Lost (record { partition = 1; incarnation = 2; from = 5 } ∷ [])
         (entry 0 1 5) → ⊥ }

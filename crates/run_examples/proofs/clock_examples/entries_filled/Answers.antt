@@ -12,7 +12,7 @@ use Rattle.run_examples.proofs.clock_examples.entries_filled.Goals as goal
 pub returns-clause-taken : goal.returns-clause-taken
 returns-clause-taken c = taking_fills []
 
-pub returns-clause-other_position : goal.returns-clause-other_place
+pub returns-clause-other_position : goal.returns-clause-other_position
 returns-clause-other_position c = λ fills. let place = fills.position in omega (arith, place)
 
 pub returns-clause-other_incarnation : goal.returns-clause-other_incarnation
