@@ -85,7 +85,7 @@ fn with_subcommand<'a>(
     }
 }
 
-/// The command.
+/// The command as `clap` knows it, with its options.
 pub(crate) fn netherite<'a>(alloc: Global) -> Result<Command<'a>, AllocError>
     ensures { IfOk result (λ c. app_of c ≡ netherite) }
 {

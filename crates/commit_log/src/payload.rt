@@ -27,7 +27,7 @@ impl Payload {
         Ok(Payload { bytes })
     }
 
-    /// The bytes.
+    /// The payload's bytes, where they lie.
     pub fn as_bytes(&self) -> &[u8]
         ensures { result.now ≡ self.now }
     {

@@ -10,7 +10,7 @@ use crate::words::{take_key, take_name};
 use dura_value::{Id, Reply};
 use std::alloc::Global;
 
-/// An id.
+/// Reads an id from the front of these bytes.
 #[tactic(auto, unfolding(crate::specs::Grammar::id_at))]
 pub fn take_id(alloc: Global, bytes: &[u8]) -> Result<(Id, &[u8]), FieldError>
     ensures { Takes id_of result (id_at bytes.now) }

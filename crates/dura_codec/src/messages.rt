@@ -33,7 +33,7 @@ fn word_of(tag: u8) -> Option<Answer>
     }
 }
 
-/// An answer.
+/// Reads an answer from the front of these bytes.
 #[tactic(auto, unfolding(crate::specs::Grammar::answer_at))]
 pub fn take_answer(alloc: Global, bytes: &[u8]) -> Result<(Answer, &[u8]), FieldError>
     ensures { Takes answer_of result (answer_at bytes.now) }
@@ -226,7 +226,7 @@ pub fn take_body(alloc: Global, bytes: &[u8]) -> Result<(Body, &[u8]), FieldErro
     }
 }
 
-/// A message.
+/// Reads a message from the front of these bytes.
 #[tactic(auto, unfolding(crate::specs::Grammar::message_at))]
 pub fn take_message(alloc: Global, bytes: &[u8]) -> Result<(Message, &[u8]), FieldError>
     ensures { Takes message_of result (message_at bytes.now) }

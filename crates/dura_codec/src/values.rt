@@ -11,7 +11,7 @@ use crate::words::take_text;
 use dura_value::{SCALARS_BYTES_LIMIT, SCALARS_LIMIT, Scalar, Scalars, Value};
 use std::alloc::Global;
 
-/// A scalar.
+/// Reads a scalar from the front of these bytes.
 #[tactic(auto, unfolding(crate::specs::Grammar::scalar_at))]
 pub fn take_scalar(alloc: Global, bytes: &[u8]) -> Result<(Scalar, &[u8]), FieldError>
     ensures takes { Takes (λ x. x) result (scalar_at bytes.now) }

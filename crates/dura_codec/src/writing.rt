@@ -102,7 +102,7 @@ pub fn write_value(out: &mut Vec<u8>, value: &Value) -> Result<(), AllocError>
     }
 }
 
-/// An id.
+/// Writes an id behind what is there.
 pub fn write_id(out: &mut Vec<u8>, id: &Id) -> Result<(), AllocError>
     ensures { OnOk result (out.new.items ≡ out.old.items ++ spell_id (id_of id.now)) }
 {
@@ -141,7 +141,7 @@ pub fn write_reply(out: &mut Vec<u8>, reply: &Reply) -> Result<(), AllocError>
     }
 }
 
-/// An answer.
+/// Writes an answer behind what is there.
 pub fn write_answer(out: &mut Vec<u8>, answer: &Answer) -> Result<(), AllocError>
     requires { CanSpellAnswer (answer_of answer.now) }
     ensures { OnOk result (out.new.items ≡ out.old.items ++ spell_answer (answer_of answer.now)) }
@@ -267,7 +267,7 @@ pub fn write_body(out: &mut Vec<u8>, body: &Body) -> Result<(), AllocError>
     }
 }
 
-/// A message.
+/// Writes a message behind what is there.
 pub fn write_message(out: &mut Vec<u8>, message: &Message) -> Result<(), AllocError>
     requires { CanSpellBody (body_of message.now.body) }
     ensures { OnOk result (out.new.items

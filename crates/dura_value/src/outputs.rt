@@ -22,7 +22,7 @@ impl Model for Messages {
 }
 
 impl Messages {
-    /// These messages.
+    /// A list of these messages, in this order.
     pub fn of(items: Vec<Message>) -> Messages
         ensures { result ≡ items.items }
     {
@@ -64,7 +64,7 @@ impl Model for Answers {
 }
 
 impl Answers {
-    /// These answers.
+    /// A list of these answers, in this order.
     pub fn of(items: Vec<Answered>) -> Answers
         ensures { result ≡ items.items }
     {

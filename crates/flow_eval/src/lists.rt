@@ -19,7 +19,7 @@ pub fn list_of(parts: Vec<Scalar>) -> Result<Value, EvalError>
     Ok(Value::List(Scalars::of(parts)))
 }
 
-/// A copy.
+/// The same scalar once more.
 #[tactic(auto, using(dura_value::proofs::Copies::same_scalar))]
 pub(crate) fn copy_of(scalar: &Scalar) -> Result<Scalar, AllocError>
     ensures { IfOk result (λ copy. copy ≡ scalar.now) }

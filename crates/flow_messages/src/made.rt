@@ -24,7 +24,7 @@ pub struct Made {
 }
 
 impl Made {
-    /// Nothing.
+    /// Nothing was sent, and nothing asked for.
     pub fn new(alloc: Global) -> Made
         ensures messages { result.messages.items ≡ [] }
         ensures asked { result.asked.items ≡ [] }

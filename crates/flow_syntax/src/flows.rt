@@ -102,7 +102,7 @@ impl Flows {
         }
     }
 
-    /// A class.
+    /// The class of this name, if there is one.
     pub fn class_of(&self, name: &Name) -> Option<&Class>
         ensures { option_map (λ c. class_of c.now) result ≡ class_in (flows_of self.now) name.now }
     {

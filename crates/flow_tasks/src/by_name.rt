@@ -16,7 +16,7 @@ pub(crate) struct NumbersByName {
 }
 
 impl NumbersByName {
-    /// None.
+    /// No numbers under any name.
     pub(crate) fn new(alloc: Global) -> NumbersByName
         ensures { numbers_in result ≡ no_number }
     {
@@ -92,7 +92,7 @@ fn leave_out(numbers: &mut VecDeque<usize>, number: usize)
     }
 }
 
-/// A copy.
+/// The same name once more.
 pub(crate) fn copy_name(name: &Name) -> Result<Name, AllocError>
     ensures { IfOk result (λ copy. copy ≡ name.now) }
 {

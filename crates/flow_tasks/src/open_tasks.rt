@@ -22,7 +22,7 @@ pub(crate) struct OpenTasks {
 }
 
 impl OpenTasks {
-    /// None.
+    /// No tasks are open.
     pub(crate) fn new(alloc: Global) -> OpenTasks
         ensures { AreThose result [] }
     {

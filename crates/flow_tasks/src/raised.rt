@@ -42,7 +42,7 @@ impl Model for KeptEvents {
 }
 
 impl KeptEvents {
-    /// None.
+    /// No events are kept.
     pub fn new(alloc: Global) -> KeptEvents
         ensures { result ≡ [] }
     {

@@ -263,7 +263,7 @@ fn sooner(place: usize, arrival: &Arrival, best: Option<Candidate>) -> Candidate
     }
 }
 
-/// A copy.
+/// The same outcome once more.
 #[tactic(auto, using(crate::proofs::Copies::same_outcome))]
 fn copy_of(outcome: &Outcome) -> Result<Outcome, AllocError>
     ensures { IfOk result (λ copy. copy ≡ outcome.now) }

@@ -21,7 +21,7 @@ pub struct IdMap<V> {
 }
 
 impl<V> IdMap<V> {
-    /// Nothing.
+    /// A map without ids.
     pub fn new(alloc: Global) -> IdMap<V>
         ensures { by_id result ≡ nothing }
     {

@@ -62,7 +62,7 @@ pub struct NumberMap<V> {
 }
 
 impl<V> NumberMap<V> {
-    /// Nothing.
+    /// A map without numbers.
     pub fn new(alloc: Global) -> NumberMap<V>
         ensures { by_number result ≡ no_number }
     {

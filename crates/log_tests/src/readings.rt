@@ -63,7 +63,7 @@ pub(crate) const NEXT: [u8; 3] = [0xC3, 0x00, 0xC3];
 /// The room of a site, and the device call that fails, counted from 0.
 pub(crate) type Trouble = (u64, u64);
 
-/// Ample room.
+/// Room for more bytes than these tests write.
 const ROOM: u64 = 1000;
 
 /// The number of no device call.

@@ -138,7 +138,7 @@ fn gate<N: Start>(store: &mut Store<MemorySite, N>, position: u64) -> Given
     }
 }
 
-/// Settles it.
+/// Settles the frame that is under way.
 fn settle<N: Start>(store: &mut Store<MemorySite, N>, position: u64) -> Given
     requires going { IsGoing store.old position }
     requires position { position < 2 ^ 63 }

@@ -47,6 +47,15 @@ pub fn commits_are_labels()
         ≡ Some (shown flows count later)) × AreShown count later }
 {}
 
+/// An entry that is accepted stays so, and comes to the same state, whatever another partition commits before it.
+pub fn accepted_entries_stay()
+    ensures { (flows : Flows) (count : ℕ) (parts : ℕ → Partition) (partition other : ℕ)
+        (entry more : Entry) (next also : Partition) → (partition ≡ other → ⊥)
+        → commit_accepted flows count parts partition entry ≡ Some next
+        → commit_accepted flows count parts other more ≡ Some also
+        → commit_accepted flows count (with_part parts other also) partition entry ≡ Some next }
+{}
+
 /// Frames of different partitions, each of which is accepted in the same states, are accepted one after another.
 pub fn frames_go_together()
     ensures { (flows : Flows) (count : ℕ) (states : ℕ → Partition) (going : ℕ → List Entry)

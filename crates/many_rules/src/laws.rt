@@ -5,14 +5,14 @@ ghost use Rattle.dura_value.specs.Items.{Entry};
 ghost use Rattle.hub_store.specs.Moments.{AtEveryMoment};
 ghost use Rattle.hub_store.specs.Origin.{Origin};
 ghost use Rattle.hub_store.specs.Trail.{Settled, Said, of_part, settled_at};
-ghost use Rattle.many_logs.specs.Placing.{Commit, states_after};
+ghost use Rattle.many_logs.specs.Placing.{states_after};
 ghost use Rattle.many_rules.specs.Rules.{Rules, Follows, Answers, Passes, GoesFrom, commits_of, known_of};
 ghost use Rattle.dura_model.specs.Partition.{Partition, fresh};
 ghost use Rattle.many_logs.specs.Labels.{AreNumbered};
 ghost use Rattle.many_rules.specs.Leaves.{Begins, StandsOn};
 ghost use Rattle.site_model.specs.History.{Step, IsImage, back_to};
 
-/// What may be committed may be committed still once more of other partitions was settled and more was said, and up to a later moment.
+/// What may be committed may be committed still once more of other partitions was settled and more was said, and up to a later stamp.
 pub fn still_follows()
     ensures still { (rules : Rules) (latest : ℕ) (trail more : List Settled) (told also : List Said)
         (partition : ℕ) (going : List Entry) → of_part partition more ≡ []

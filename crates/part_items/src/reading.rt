@@ -88,7 +88,7 @@ fn take_trim(bytes: &[u8]) -> Result<(Item, &[u8]), FieldError>
     }
 }
 
-/// An item.
+/// Reads an item from the front of these bytes.
 #[tactic(auto, unfolding(crate::specs::Grammar::item_at))]
 fn take_item(alloc: Global, bytes: &[u8]) -> Result<(Item, &[u8]), FieldError>
     ensures { Takes item_of result (item_at bytes.now) }
@@ -142,7 +142,7 @@ pub(crate) fn take_entry_items(alloc: Global, bytes: &[u8]) -> Result<(Items, &[
     }
 }
 
-/// An entry.
+/// Reads an entry from the front of these bytes.
 #[tactic(auto, unfolding(crate::specs::Grammar::entry_at))]
 fn take_entry(alloc: Global, bytes: &[u8]) -> Result<(Entry, &[u8]), FieldError>
     ensures { Takes entry_of result (entry_at bytes.now) }

@@ -43,7 +43,7 @@ impl Model for Queue {
 }
 
 impl Queue {
-    /// No messages.
+    /// A queue without messages.
     pub fn new(alloc: Global) -> Queue
         ensures { result ≡ [] }
     {

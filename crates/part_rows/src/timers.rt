@@ -22,7 +22,7 @@ pub struct TimerRow {
 }
 
 impl TimerRow {
-    /// No timers.
+    /// A row without timers.
     pub fn new(alloc: Global) -> TimerRow
         ensures none { timers_in result ≡ no_number }
         ensures order { InOrder result }

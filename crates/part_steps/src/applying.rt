@@ -26,7 +26,7 @@ use part_items::Item;
 use part_rows::{PartRows, Reaction, Reactions, copy_message};
 use std::alloc::{AllocError, Global};
 
-/// Outputs.
+/// What a step sends and which requests it answers, as one value.
 fn outputs(sent: Vec<Message>, answers: Vec<Answered>) -> Outputs
     ensures { outputs_of result ≡ record
         { sent = messages_of sent.items; answers = map answered_of answers.items } }

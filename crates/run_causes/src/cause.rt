@@ -60,7 +60,7 @@ pub enum Cause {
     },
     /// File 2, the plan.
     BadPlan {
-        /// Where.
+        /// Where the fault is.
         place: PlanPlace,
     },
     /// An input file of too many bytes.
@@ -77,7 +77,7 @@ pub enum Cause {
     },
     /// The run took as many steps as it may.
     Long {
-        /// How many.
+        /// How many labels were settled.
         labels: u64,
     },
     /// A length, a read, a write or a sync failed.
@@ -113,7 +113,7 @@ pub enum Cause {
     },
     /// The logs are of another number of partitions.
     OtherShape {
-        /// Theirs.
+        /// How many partitions the logs are of.
         found: u32,
         /// The one asked for.
         asked: u32,

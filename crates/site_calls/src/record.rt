@@ -48,7 +48,7 @@ impl Model for Record {
 unsafe impl Send for Record {}
 
 impl Record {
-    /// No calls.
+    /// A record without calls.
     pub fn new() -> Record
         ensures { result.events ≡ [] }
     {

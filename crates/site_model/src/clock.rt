@@ -1,4 +1,5 @@
-// The clock.
+//! What a program sees of a clock.
+
 ghost use Rattle.std.specs.Prelude.{◌≡◌, ◌≤◌, ◌∷◌, ℕ, List, max, IfOk, OnErr};
 ghost use Rattle.site_model.specs.Calls.{HasCause};
 ghost use Rattle.site_model.specs.Readings.{Reading, asked, waited};

@@ -20,7 +20,7 @@ impl Model for Readings {
 unsafe impl Send for Readings {}
 
 impl Readings {
-    /// No stamp.
+    /// A list without stamps.
     pub fn new() -> Readings
         ensures { result.stamps ≡ [] }
     {

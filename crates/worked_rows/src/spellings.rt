@@ -50,7 +50,7 @@ pub fn bodies()
     ensures faults { Faults body_at body_faults }
 {}
 
-/// Messages.
+/// How messages are spelled.
 pub fn messages()
     ensures read { Reads message_at message_rows }
     ensures spelled { Spells spell_message message_rows }
