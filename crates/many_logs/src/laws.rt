@@ -3,7 +3,7 @@
 ghost use Rattle.dura_value.specs.Items.{Posted, Identity, Entry};
 ghost use Rattle.dura_model.specs.Entries as alone;
 ghost use Rattle.dura_model.specs.Partition.{with_part, shown, Partition, fresh};
-ghost use Rattle.many_logs.specs.Placing.{AllReady, commits_at, stands_at, message_at, GoesThrough, frames_in_order, Commit, states_after, of_partition, placed_from, placed, AllBelow, HasPlaced, IsStuck};
+ghost use Rattle.many_logs.specs.Placing.{AllReady, commits_at, stands_at, message_at, GoesThrough, frames_in_order, Commit, commit_accepted, states_after, of_partition, placed_from, placed, AllBelow, HasPlaced, IsStuck};
 ghost use Rattle.std.specs.Prelude.{◌≡◌, ◌<◌, ◌≤◌, ◌↔◌, Ok, ℕ, List, [], ◌++◌, Some, None, true};
 ghost use Rattle.dura_model.specs.Steps.{Label};
 ghost use Rattle.many_logs.specs.Stands.{FilesStand, AreKept};
