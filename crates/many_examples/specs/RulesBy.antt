@@ -66,6 +66,10 @@ answered_in partition = with_part fresh partition (record (fresh partition) { an
 abbrev pub answering_rules : Flows → (partition : ℕ) → Rules
 answering_rules flows partition = record (rules_with flows) { begin = answered_in partition }
 
+-- one that finds an answer to the second request, though the first is still to be answered
+abbrev pub second_rules : Flows → Rules
+second_rules flows = record (rules_with flows) { begin = with_part fresh 1 (record (fresh 1) { answers = at_number (fresh 1).answers (client (codes "a")) 2 (Some was_started) }) }
+
 -- ---- what comes
 
 -- an entry of a partition is settled
@@ -81,6 +85,9 @@ firing stamp = entry_at 0 (fired summing 3 stamp)
 
 abbrev pub first_said : Said
 first_said = record { client = codes "a"; number = 1 }
+
+abbrev pub second_said : Said
+second_said = record { client = codes "a"; number = 2 }
 
 -- the entry of partition 1 in which Sum/x is started, and asks for the sum by its task 0
 abbrev pub starting_sum : Commit

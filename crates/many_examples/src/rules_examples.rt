@@ -13,7 +13,7 @@ ghost use Rattle.flow_syntax.specs.Syntax.{Flows};
 ghost use Rattle.hub_store.specs.Trail.{Said};
 ghost use Rattle.many_examples.specs.Pairs.{first_entry, taking, coming_in};
 ghost use Rattle.many_examples.specs.Placings.{states_of, asking_states, ending_sum, one_file, none_of, taken_of, taking_x, beyond};
-ghost use Rattle.many_examples.specs.RulesBy.{rules_with, later_rules, silent_rules, asking_rules, answering_rules, taken_once, settled, firing, first_said, empty_origin, empty_log, unknown_rules, answering, answering_at, starting_sum, sum_done_origin, sum_done_rules};
+ghost use Rattle.many_examples.specs.RulesBy.{rules_with, later_rules, silent_rules, asking_rules, answering_rules, taken_once, settled, firing, first_said, second_said, second_rules, empty_origin, empty_log, unknown_rules, answering, answering_at, starting_sum, sum_done_origin, sum_done_rules};
 ghost use Rattle.many_rules.specs.Leaves.{Begins, IsAnswered, AllAnswered, IsHalfSaid, IsOfCall, AllRan, StandsOn};
 ghost use Rattle.many_rules.specs.Rules.{rules_at, known_of, GoesFrom, Follows, Answers, Passes};
 ghost use Rattle.part_items.specs.Examples.{digest};
@@ -62,8 +62,8 @@ pub fn entries_ours()
     ensures timely { Follows unknown_rules 4 [] [] 1 ((answering_at 5).entry ∷ []) → ⊥ }
 {}
 
-/// The line of the answer that the client's home has may be said, once, and no other line; not that of another partition, nor one of another
-/// number, nor where the settled entries make no states.
+/// The line of the answer that the client's home has may be said, once, and no other line; not that of another partition, nor where the
+/// settled entries make no states, nor one that is there of another number than the client's next.
 pub fn lines_answering()
     ensures there { (flows : Flows) → Answers (answering_rules flows 1) [] [] first_said
         (line_of (codes "a") 1 was_started) }
@@ -76,6 +76,8 @@ pub fn lines_answering()
         → Answers (answering_rules flows 1) [] (first_said ∷ []) first_said line → ⊥ }
     ensures unmade { (flows : Flows) (line : List ℕ)
         → Answers (answering_rules flows 1) (settled (coming_in 0) ∷ []) [] first_said line → ⊥ }
+    ensures number { (flows : Flows) (line : List ℕ)
+        → Answers (second_rules flows) [] [] second_said line → ⊥ }
 {}
 
 /// A call over two logs without entries begins where nothing happened: not over one log, not under another digest, nor with entries that no
@@ -131,6 +133,8 @@ pub fn answers_of_a_run()
     ensures settled { IsAnswered unknown_rules (answering ∷ []) [] first_said
         (line_of (codes "a") 1 is_unknown) }
     ensures early { (one : Said) (line : List ℕ) → IsAnswered unknown_rules [] [] one line → ⊥ }
+    ensures only { (line : List ℕ) → IsAnswered unknown_rules (answering ∷ []) [] first_said line
+        → line ≡ line_of (codes "a") 1 is_unknown }
     ensures again { (line : List ℕ) → IsAnswered unknown_rules (answering ∷ []) (first_said ∷ [])
         first_said line → ⊥ }
     ensures all { AllAnswered unknown_rules (answering ∷ []) (first_said ∷ [])

@@ -1,9 +1,9 @@
-use Rattle.std.proofs.Common.{◌≡◌, List, [], ◌∷◌, ◌++◌, drop, Some, codes, refl, ◌∙◌, ap, subst}
+use Rattle.std.proofs.Common.{◌≡◌, ◌⊎◌, inl, inr, ℕ, List, [], ◌∷◌, ◌++◌, drop, Some, codes, refl, sym, ◌∙◌, ap, subst}
 use Rattle.client_port.specs.Lines.{line_of}
 use Rattle.dura_model.specs.Legal.{Legal}
 use Rattle.dura_model.specs.World.{World, empty}
 use Rattle.dura_value.specs.Ids.{client}
-use Rattle.dura_value.specs.Messages.{is_unknown}
+use Rattle.dura_value.specs.Messages.{Answer, is_unknown}
 use Rattle.many_examples.specs.Pairs.{asks}
 use Rattle.many_examples.specs.RulesBy.{no_flows, unknown_rules, answering, answered_world, first_said}
 use Rattle.many_logs.specs.Labels.{labels_of_commits}
@@ -40,6 +40,35 @@ returns-clause-early c = λ one line it.
     let world_is : empty ≡ it.world = cc legal in
     let has : empty.answers (client one.client) one.number ≡ Some it.answer = ap (λ (w : World). w.answers (client one.client) one.number) world_is ∙ it.has in
     cc has
+
+nothing_more : (one : Commit) (before behind : List Commit) → one ∷ [] ≡ before ++ behind → (before ≡ []) ⊎ (before ≡ one ∷ [])
+nothing_more one [] behind is = inl refl
+nothing_more one (first ∷ before) behind is =
+    let same : first ≡ one = cc is in
+    let others : [] ≡ before ++ behind = cc is in
+    inr (ap (λ (l : List Commit). first ∷ l) (nothing_before before behind others) ∙ ap (λ (a : Commit). a ∷ []) same)
+
+no_answer : (line : List ℕ) (it : IsAnswered unknown_rules (answering ∷ []) [] first_said line) → it.before ≡ [] → ⊥
+no_answer line it is =
+    let legal : Legal no_flows [] it.world = subst (λ (l : List Commit). Legal no_flows ([] ++ labels_of_commits l) it.world) is it.legal in
+    let world_is : empty ≡ it.world = cc legal in
+    let has : empty.answers (client (codes "a")) 1 ≡ Some it.answer = ap (λ (w : World). w.answers (client (codes "a")) 1) world_is ∙ it.has in
+    cc has
+
+one_answer : (line : List ℕ) (it : IsAnswered unknown_rules (answering ∷ []) [] first_said line) → it.before ≡ answering ∷ [] → line ≡ line_of (codes "a") 1 is_unknown
+one_answer line it is =
+    let legal : Legal no_flows (labels_of_commits (answering ∷ [])) it.world = subst (λ (l : List Commit). Legal no_flows ([] ++ labels_of_commits l) it.world) is it.legal in
+    let world_is : answered_world ≡ it.world = cc legal in
+    let has : answered_world.answers (client (codes "a")) 1 ≡ Some it.answer = ap (λ (w : World). w.answers (client (codes "a")) 1) world_is ∙ it.has in
+    let answer_is : is_unknown ≡ it.answer = cc has in
+    it.line_is ∙ ap (λ (a : Answer). line_of (codes "a") 1 a) (sym answer_is)
+
+pub returns-clause-only : goal.returns-clause-only
+returns-clause-only c = λ line it.
+    elim (nothing_more answering it.before it.behind it.front) [
+      | inl is ↦ absurd (no_answer line it is)
+      | inr is ↦ one_answer line it is
+    ]
 
 pub returns-clause-all : goal.returns-clause-all
 returns-clause-all c = one_more nothing_said first_said (line_of (codes "a") 1 is_unknown) answered
