@@ -1,18 +1,18 @@
 -- Calls of two partitions, by example: client a lives in partition 1, and so does Sum/x; Sum/y lives in 0.
-use Rattle.std.specs.Prelude.{ℕ, List, [], ◌∷◌, ◌==◌, codes, if◌then◌else◌, Option, Some, None}
+use Rattle.std.specs.Prelude.{ℕ, List, [], ◌∷◌, ◌++◌, ◌==◌, codes, if◌then◌else◌, Option, Some, None}
 use Rattle.dura_model.specs.Legal.{after}
 use Rattle.dura_model.specs.Partition.{Partition, fresh, with_part}
 use Rattle.dura_model.specs.World.{World, empty}
 use Rattle.dura_value.specs.ById.{at_number}
 use Rattle.dura_value.specs.Ids.{client, orchestration}
-use Rattle.dura_value.specs.Items.{Entry, took, ran, ended, fired}
+use Rattle.dura_value.specs.Items.{Entry, took, ran, ended, fired, trim}
 use Rattle.dura_value.specs.Messages.{wait, was_started}
 use Rattle.dura_value.specs.declared.data.Value.TheVariants as values
 use Rattle.dura_value.specs.declared.outcome.Outcome.TheVariants as outcomes
 use Rattle.flow_syntax.specs.Syntax.{Flows}
 use Rattle.hub_store.specs.Origin.{Log, Origin}
 use Rattle.hub_store.specs.Trail.{Settled, Said}
-use Rattle.many_examples.specs.Pairs.{asks, request, entry_at, taking}
+use Rattle.many_examples.specs.Pairs.{asks, request, entry_at, commit_at, first_entry, taking}
 use Rattle.many_examples.specs.Placings.{states_of, asking_states}
 use Rattle.many_logs.specs.Labels.{labels_of_commits}
 use Rattle.many_logs.specs.Placing.{Commit, of_partition}
@@ -22,7 +22,7 @@ use Rattle.part_items.specs.Examples.{digest}
 use Rattle.part_items.specs.Logs.{first_log}
 use Rattle.request_reader.specs.Line.{Request}
 use Rattle.run_rules.specs.Examples.{summing}
-use Rattle.run_rules.specs.FieldExamples.{starting, sum_flows}
+use Rattle.run_rules.specs.FieldExamples.{no_sum, starting, sum_flows}
 
 -- ---- what is asked
 
@@ -92,6 +92,14 @@ second_said = record { client = codes "a"; number = 2 }
 -- the entry of partition 1 in which Sum/x is started, and asks for the sum by its task 0
 abbrev pub starting_sum : Commit
 starting_sum = record { partition = 1; entry = starting }
+
+-- the same entry, in which the activity ends as well
+abbrev pub at_once : Commit
+at_once = record { partition = 1; entry = record starting { items = starting.items ++ ended summing 0 no_sum ∷ [] } }
+
+-- partition 1 lets go of nothing, as read by an entry of partition 0 that never was
+abbrev pub letting_unknown : Commit
+letting_unknown = commit_at 1 0 (trim (first_entry 0) 0)
 
 -- ---- where a call begins
 

@@ -13,7 +13,9 @@ ghost use Rattle.flow_syntax.specs.Syntax.{Flows};
 ghost use Rattle.hub_store.specs.Trail.{Said};
 ghost use Rattle.many_examples.specs.Pairs.{first_entry, taking, coming_in};
 ghost use Rattle.many_examples.specs.Placings.{states_of, asking_states, ending_sum, one_file, none_of, taken_of, taking_x, beyond};
-ghost use Rattle.many_examples.specs.RulesBy.{rules_with, later_rules, silent_rules, asking_rules, answering_rules, taken_once, settled, firing, first_said, second_said, second_rules, empty_origin, empty_log, unknown_rules, answering, answering_at, starting_sum, sum_done_origin, sum_done_rules};
+ghost use Rattle.many_examples.specs.RulesBy.{rules_with, later_rules, silent_rules, asking_rules, answering_rules, taken_once, settled, firing, first_said, second_said, second_rules, empty_origin, empty_log, unknown_rules, answering, answering_at, starting_sum, at_once, letting_unknown, sum_done, sum_done_origin, sum_done_rules};
+ghost use Rattle.many_logs.specs.Placing.{GoesThrough};
+ghost use Rattle.many_logs.specs.Stands.{AreKept};
 ghost use Rattle.many_rules.specs.Leaves.{Begins, IsAnswered, AllAnswered, IsHalfSaid, IsOfCall, AllRan, StandsOn};
 ghost use Rattle.many_rules.specs.Rules.{rules_at, known_of, GoesFrom, Follows, Answers, Passes};
 ghost use Rattle.part_items.specs.Examples.{digest};
@@ -119,12 +121,14 @@ pub fn entries_of_call()
 {}
 
 /// What is sent by one partition and comes in at another may come frame by frame; an activity that no settled entry asked for didn't
-/// run.
+/// run, nor one that is asked for and ends in one frame, though its entry is accepted.
 pub fn activities_ran()
     ensures coming { (flows : Flows) → AllRan (rules_with flows) (taking ∷ coming_in 0 ∷ []) }
     ensures pending { (flows : Flows) → AllRan (asking_rules flows) (ending_sum no_sum ∷ []) }
     ensures early { (flows : Flows) (outcome : Outcome)
         → AllRan (rules_with flows) (ending_sum outcome ∷ []) → ⊥ }
+    ensures accepted { GoesThrough sum_flows 2 fresh 1 (at_once.entry ∷ []) }
+    ensures at_once { AllRan (rules_with sum_flows) (at_once ∷ []) → ⊥ }
 {}
 
 /// The answer to a start of a flow that isn't there is the run's once it was settled, and not before; and it is the first that is
@@ -143,6 +147,18 @@ pub fn answers_of_a_run()
         → line ≡ [] }
     ensures half { IsHalfSaid unknown_rules (answering ∷ []) [] (said 97 ∷ []) (97 ∷ []) }
     ensures silent { (part : List ℕ) → IsHalfSaid unknown_rules (answering ∷ []) [] [] part → ⊥ }
+{}
+
+/// Whatever is in the files, they don't keep an outcome that its activity may not give. No crash leaves an outcome that came in the frame
+/// that asks for it, nor an entry that names one which never was, though each of these entries is accepted.
+pub fn crashes_leave_no_such_entry()
+    ensures given { (files : ℕ → List ℕ) → AreKept sum_flows 2 digest files sum_done → ⊥ }
+    ensures ran { (files : ℕ → List ℕ) → StandsOn (rules_with sum_flows) 5 digest empty_origin []
+        (settled at_once ∷ []) files → ⊥ }
+    ensures unfounded { (flows : Flows) → GoesThrough flows 2 fresh 1
+        (letting_unknown.entry ∷ []) }
+    ensures founded { (flows : Flows) (files : ℕ → List ℕ) → StandsOn (rules_with flows) 0 digest
+        empty_origin [] (settled letting_unknown ∷ []) files → ⊥ }
 {}
 
 /// A crash of a call that did nothing leaves no files, and one of a call that took a request a log with it. It doesn't leave files without

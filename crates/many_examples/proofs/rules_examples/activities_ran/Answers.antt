@@ -4,16 +4,18 @@ use Rattle.std.proofs.lemmas.List.Elements.{All-from_recursion}
 use Rattle.dura_model.specs.Partition.{Partition, fresh}
 use Rattle.dura_value.specs.Items.{Entry, ended}
 use Rattle.dura_value.specs.declared.outcome.Outcome.{Outcome}
+use Rattle.flow_syntax.specs.Machine as machine
 use Rattle.flow_syntax.specs.Syntax.{Flows}
 use Rattle.many_examples.specs.Pairs.{taking, coming_in}
 use Rattle.many_examples.specs.Placings.{states_of, asking_states, ending_sum}
-use Rattle.many_examples.specs.RulesBy.{rules_with}
+use Rattle.many_examples.specs.RulesBy.{rules_with, at_once}
 use Rattle.many_examples.proofs.RulesBy.{comes_in, takes}
+use Rattle.many_examples.proofs.AtOnce.{single, ended_at_once}
 use Rattle.many_logs.specs.Placing.{Commit, commits_at}
 use Rattle.many_rules.specs.Leaves.{AllRan}
 use Rattle.many_rules.specs.Leaves.AllRan.{nothing_ran, frame_more}
 use Rattle.run_rules.specs.Examples.{summing}
-use Rattle.run_rules.specs.FieldExamples.{no_sum}
+use Rattle.run_rules.specs.FieldExamples.{no_sum, sum_flows}
 use Rattle.run_rules.specs.Rules.{EndsPending, EndPending}
 use Rattle.many_examples.proofs.rules_examples.activities_ran.Goals as goal
 
@@ -24,11 +26,6 @@ pub returns-clause-pending : goal.returns-clause-pending
 returns-clause-pending c = λ flows. frame_more nothing_ran asking_states refl 1 ((ending_sum no_sum).entry ∷ [])
     (All-from_recursion (λ (entry : Entry). All (EndsPending (asking_states 1)) entry.items) ((ending_sum no_sum).entry ∷ [])
     (All-from_recursion (EndsPending (asking_states 1)) (ending_sum no_sum).entry.items (refl, tt), tt))
-
--- the first of entries that come together, where they are one
-single : (more going : List Commit) (first last : Commit) → first ∷ (more ++ going) ≡ last ∷ [] → first ∷ more ≡ last ∷ []
-single [] going first last is = let same : first ≡ last = cc is in ap (λ (one : Commit). one ∷ []) same
-single (next ∷ more) going first last is = absurd (cc is)
 
 -- an outcome at the front of a frame
 in_front : (partition : ℕ) (outcome : Outcome) (going : List Entry) → EndPending (fresh partition) going → commits_at partition going ≡ ending_sum outcome ∷ [] → ⊥
@@ -50,3 +47,10 @@ ran_early flows outcome (frame_more {settled = first ∷ more} before states mad
 
 pub returns-clause-early : goal.returns-clause-early
 returns-clause-early c = λ flows outcome ran. ran_early flows outcome ran refl
+
+pub returns-clause-accepted : goal.returns-clause-accepted
+unfolding machine.go_on
+returns-clause-accepted c = (states_of sum_flows (at_once ∷ []), refl)
+
+pub returns-clause-at_once : goal.returns-clause-at_once
+returns-clause-at_once c = ended_at_once

@@ -1,0 +1,64 @@
+use Rattle.std.proofs.Common.{◌≡◌, ◌⊎◌, inl, inr, ℕ, List, [], ◌∷◌, ◌++◌, Some, true, false, refl, ◌∙◌, ap, subst, arith}
+use Rattle.std.specs.List.{All, Contains}
+use Rattle.dura_value.specs.Dependencies.{Committed, Founded, named_by}
+use Rattle.dura_value.specs.Dependencies.Founded.{none, one_more}
+use Rattle.dura_value.specs.Items.{Identity, Entry}
+use Rattle.flow_syntax.specs.Machine as machine
+use Rattle.hub_store.specs.Moments.{WroteGate}
+use Rattle.many_examples.specs.Pairs.{first_entry}
+use Rattle.many_examples.specs.Placings.{states_of}
+use Rattle.many_examples.specs.RulesBy.{rules_with, empty_log, at_once, letting_unknown, starting_sum}
+use Rattle.many_examples.proofs.AtOnce.{ended_at_once}
+use Rattle.many_logs.specs.Names.{committed_in}
+use Rattle.many_logs.specs.Placing.{Commit, commits_at, frames_in_order}
+use Rattle.many_rules.specs.Leaves.{AllRan}
+use Rattle.run_rules.specs.FieldExamples.{sum_flows}
+use Rattle.run_rules.proofs.AskedSum.{sum_of_null}
+use Rattle.many_examples.proofs.rules_examples.crashes_leave_no_such_entry.Goals as goal
+
+pub returns-clause-given : goal.returns-clause-given
+unfolding machine.go_on
+returns-clause-given c = λ files kept.
+    let later = kept.given.1 (states_of sum_flows (starting_sum ∷ []) 1) refl in
+    let wrong : false ≡ true = later.0.0 sum_of_null refl in
+    cc wrong
+
+pub returns-clause-unfounded : goal.returns-clause-unfounded
+returns-clause-unfounded c = λ flows. (_, refl)
+
+-- without a write of a gate nothing is under way
+nothing_under_way : (partition : ℕ) (before going : List Entry) → (going ≡ []) ⊎ WroteGate (empty_log partition) before [] → going ≡ []
+nothing_under_way partition before going writing = elim writing [
+  | inl nothing ↦ nothing
+  | inr gate ↦ cc gate.last
+]
+
+no_frames : (going : ℕ → List Entry) → going 0 ≡ [] → going 1 ≡ [] → frames_in_order 2 going ≡ []
+no_frames going first second =
+    ap (λ (l : List Entry). commits_at 0 l ++ commits_at 1 (going 1)) first ∙ ap (λ (l : List Entry). commits_at 1 l) second
+
+pub returns-clause-ran : goal.returns-clause-ran
+returns-clause-ran c = λ files left.
+    let first = nothing_under_way 0 [] (left.going 0) (left.writing 0 (omega arith)) in
+    let second = nothing_under_way 1 (at_once.entry ∷ []) (left.going 1) (left.writing 1 (omega arith)) in
+    ended_at_once (subst (λ (l : List Commit). AllRan (rules_with sum_flows) (at_once ∷ l)) (no_frames left.going first second) left.ran)
+
+-- the only entry that came names entries that were recovered, of which there are none
+not_one : (first last e : Committed) (more : List Committed) → first ∷ (more ++ last ∷ []) ≡ e ∷ [] → ⊥
+not_one first last e [] is = cc is
+not_one first last e (next ∷ more) is = cc is
+
+one_founded : {entries : List Committed} → Founded [] entries → (e : Committed) → entries ≡ e ∷ [] → All (Contains []) (named_by e.items)
+one_founded none e is = absurd (cc is)
+one_founded (one_more {entries = []} last before it) e is = let same : last ≡ e = cc is in subst (λ (x : Committed). All (Contains []) (named_by x.items)) same it.named
+one_founded (one_more {entries = first ∷ more} last before it) e is = absurd (not_one first last e more is)
+
+nowhere : (one : Identity) → Contains [] one → ⊥
+nowhere one inside = absurd (omega (arith, inside.1))
+
+pub returns-clause-founded : goal.returns-clause-founded
+returns-clause-founded c = λ flows files left.
+    let first = nothing_under_way 0 [] (left.going 0) (left.writing 0 (omega arith)) in
+    let second = nothing_under_way 1 (letting_unknown.entry ∷ []) (left.going 1) (left.writing 1 (omega arith)) in
+    let founded : Founded [] (committed_in (letting_unknown ∷ [])) = subst (λ (l : List Commit). Founded [] (committed_in (letting_unknown ∷ l))) (no_frames left.going first second) left.founded in
+    nowhere (first_entry 0) (one_founded founded _ refl 0 (first_entry 0) (omega arith))
