@@ -1,3 +1,4 @@
 pub mod AtOnce
 pub mod Placings
 pub mod RulesBy
+pub mod UnderWay

@@ -1,4 +1,4 @@
-use Rattle.std.proofs.Common.{◌≡◌, ◌⊎◌, inl, inr, ℕ, List, [], ◌∷◌, ◌++◌, Some, refl, sym, ◌∙◌, ap, subst, arith}
+use Rattle.std.proofs.Common.{◌≡◌, inl, inr, ℕ, List, [], ◌∷◌, ◌++◌, Some, refl, sym, ◌∙◌, ap, subst, arith}
 use Rattle.std.specs.List.{All}
 use Rattle.std.proofs.lemmas.List.Elements.{All-from_recursion}
 use Rattle.commit_log.specs.Segment.{header_at}
@@ -9,10 +9,10 @@ use Rattle.dura_value.specs.Dependencies.Founded.{none, one_more}
 use Rattle.dura_value.specs.Ids.{client}
 use Rattle.dura_value.specs.Items.{Entry}
 use Rattle.flow_syntax.specs.Syntax.{Flows}
-use Rattle.hub_store.specs.Moments.{WroteGate}
 use Rattle.hub_store.specs.Trail.{Said}
-use Rattle.many_examples.specs.RulesBy.{rules_with, empty_log}
+use Rattle.many_examples.specs.RulesBy.{rules_with}
 use Rattle.many_examples.proofs.Placings.{of_two, second_kept, none_stand, none_are_kept, taken_stands, taken_are_kept}
+use Rattle.many_examples.proofs.UnderWay.{nothing_under_way}
 use Rattle.many_logs.specs.Labels.{labels_of_commits}
 use Rattle.many_logs.specs.Placing.{Commit, of_partition, commits_at}
 use Rattle.many_rules.specs.Leaves.{IsOfCall, IsAnswered, AllAnswered}
@@ -69,17 +69,10 @@ returns-clause-damaged c = λ flows left. cc (left.kept.kept 1 (omega arith))
 pub returns-clause-of_call : goal.returns-clause-of_call
 returns-clause-of_call c = λ flows left. let incarnation : 0 ≡ 1 = (left.own 1 (omega arith) 0 (taking 0) (omega arith)).incarnation in omega (arith, incarnation)
 
--- without a write of a gate nothing is under way
-nothing_under_way : (partition : ℕ) (going : List Entry) → (going ≡ []) ⊎ WroteGate (empty_log partition) [] [] → going ≡ []
-nothing_under_way partition going writing = elim writing [
-  | inl nothing ↦ nothing
-  | inr gate ↦ cc gate.last
-]
-
 pub returns-clause-unwritten : goal.returns-clause-unwritten
 returns-clause-unwritten c = λ flows left.
-    let first = nothing_under_way 0 (left.going 0) (left.writing 0 (omega arith)) in
-    let second = nothing_under_way 1 (left.going 1) (left.writing 1 (omega arith)) in
+    let first = nothing_under_way 0 [] (left.going 0) (left.writing 0 (omega arith)) in
+    let second = nothing_under_way 1 [] (left.going 1) (left.writing 1 (omega arith)) in
     let none : of_partition 1 (commits_at 0 (left.going 0) ++ commits_at 1 (left.going 1)) ≡ [] =
     ap (λ (l : List Entry). of_partition 1 (commits_at 0 l ++ commits_at 1 (left.going 1))) first ∙ ap (λ (l : List Entry). of_partition 1 (commits_at 1 l)) second in
     let kept : Some (taking 0 ∷ []) ≡ Some (of_partition 1 (commits_at 0 (left.going 0) ++ commits_at 1 (left.going 1))) = sym second_kept ∙ left.kept.kept 1 (omega arith) in

@@ -1,16 +1,16 @@
-use Rattle.std.proofs.Common.{◌≡◌, ◌⊎◌, inl, inr, ℕ, List, [], ◌∷◌, ◌++◌, Some, true, false, refl, ◌∙◌, ap, subst, arith}
+use Rattle.std.proofs.Common.{◌≡◌, List, [], ◌∷◌, ◌++◌, true, false, refl, subst, arith}
 use Rattle.std.specs.List.{All, Contains}
 use Rattle.dura_value.specs.Dependencies.{Committed, Founded, named_by}
 use Rattle.dura_value.specs.Dependencies.Founded.{none, one_more}
-use Rattle.dura_value.specs.Items.{Identity, Entry}
+use Rattle.dura_value.specs.Items.{Identity}
 use Rattle.flow_syntax.specs.Machine as machine
-use Rattle.hub_store.specs.Moments.{WroteGate}
 use Rattle.many_examples.specs.Pairs.{first_entry}
 use Rattle.many_examples.specs.Placings.{states_of}
-use Rattle.many_examples.specs.RulesBy.{rules_with, empty_log, at_once, letting_unknown, starting_sum}
+use Rattle.many_examples.specs.RulesBy.{rules_with, at_once, letting_unknown, starting_sum}
 use Rattle.many_examples.proofs.AtOnce.{ended_at_once}
+use Rattle.many_examples.proofs.UnderWay.{nothing_under_way, no_frames}
 use Rattle.many_logs.specs.Names.{committed_in}
-use Rattle.many_logs.specs.Placing.{Commit, commits_at, frames_in_order}
+use Rattle.many_logs.specs.Placing.{Commit}
 use Rattle.many_rules.specs.Leaves.{AllRan}
 use Rattle.run_rules.specs.FieldExamples.{sum_flows}
 use Rattle.run_rules.proofs.AskedSum.{sum_of_null}
@@ -25,17 +25,6 @@ returns-clause-given c = λ files kept.
 
 pub returns-clause-unfounded : goal.returns-clause-unfounded
 returns-clause-unfounded c = λ flows. (_, refl)
-
--- without a write of a gate nothing is under way
-nothing_under_way : (partition : ℕ) (before going : List Entry) → (going ≡ []) ⊎ WroteGate (empty_log partition) before [] → going ≡ []
-nothing_under_way partition before going writing = elim writing [
-  | inl nothing ↦ nothing
-  | inr gate ↦ cc gate.last
-]
-
-no_frames : (going : ℕ → List Entry) → going 0 ≡ [] → going 1 ≡ [] → frames_in_order 2 going ≡ []
-no_frames going first second =
-    ap (λ (l : List Entry). commits_at 0 l ++ commits_at 1 (going 1)) first ∙ ap (λ (l : List Entry). commits_at 1 l) second
 
 pub returns-clause-ran : goal.returns-clause-ran
 returns-clause-ran c = λ files left.
