@@ -6,7 +6,7 @@ use Rattle.std.proofs.lemmas.List.{get_or-set_same}
 use Rattle.commit_log.specs.declared.states.Broken.{Broken}
 use Rattle.commit_log.specs.declared.states.Resting.{Resting}
 use Rattle.dura_value.specs.Items.{Entry}
-use Rattle.part_items.specs.declared.frames.Entry as rows
+use Rattle.log_items.specs.declared.frames.Entry as rows
 use Rattle.part_items.specs.Spelling.{spell_frame}
 use Rattle.hub_store.specs.declared.refusal.BodyRefusal.{BodyRefusal}
 use Rattle.hub_store.specs.declared.refusal.BodyRefusal.TheVariants.{Full, SiteFault, Memory}

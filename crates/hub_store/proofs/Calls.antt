@@ -15,8 +15,8 @@ use Rattle.commit_log.specs.Segment.{first_gate}
 use Rattle.commit_log.specs.States.{Rests, IsResting, IsBroken, IsBodied, IsSynced, IsSyncedThere, IsGated, HasFrames, HasFramesOrOneMore}
 use Rattle.commit_log.proofs.Steps.{synced_images}
 use Rattle.dura_value.specs.Items.{Entry}
-use Rattle.part_items.specs.declared.frames.Entry as rows
-use Rattle.part_items.specs.Plain.{entries_of}
+use Rattle.log_items.specs.declared.frames.Entry as rows
+use Rattle.log_items.specs.Plain.{entries_of}
 use Rattle.part_items.specs.Numbered.{behind_all, next_frame_in}
 use Rattle.part_items.specs.Spelling.{spell_frame}
 use Rattle.part_items.specs.Kept.{first_of, decoded}

@@ -16,8 +16,8 @@ use Rattle.commit_log.specs.Outcomes.{RestsAs, AfterReopen, AfterDrop}
 use Rattle.commit_log.specs.Segment.{open_gate}
 use Rattle.commit_log.specs.States.{IsResting, IsBroken, IsBodied, IsSynced, IsGated}
 use Rattle.dura_value.specs.Items.{Entry}
-use Rattle.part_items.specs.declared.frames.Entry as rows
-use Rattle.part_items.specs.Plain.{entries_of}
+use Rattle.log_items.specs.declared.frames.Entry as rows
+use Rattle.log_items.specs.Plain.{entries_of}
 use Rattle.part_items.specs.Spelling.{spell_frame}
 use Rattle.hub_store.specs.declared.reopen.Reopening.TheVariants as answers
 use Rattle.hub_store.specs.declared.way.Way.{Way}

@@ -14,7 +14,7 @@ use Rattle.hub_store.specs.Trail.{Settled, of_part}
 use Rattle.hub_store.specs.Ways.{way_of, going_in, WayFits}
 use Rattle.hub_store.specs.declared.way.Way.{Way}
 use Rattle.hub_store.specs.declared.way.Way.TheVariants.{Resting, Bodied, Synced, Gated, Broken, Away}
-use Rattle.part_items.specs.Plain.{entries_of}
+use Rattle.log_items.specs.Plain.{entries_of}
 use Rattle.part_items.specs.Spelling.{spell_frame}
 use Rattle.site_model.specs.History.{Change, reads}
 

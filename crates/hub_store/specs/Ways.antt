@@ -5,7 +5,7 @@ use Rattle.commit_log.specs.declared.header.Header.{Header}
 use Rattle.commit_log.specs.Segment.{first_gate, segment, reading_of}
 use Rattle.commit_log.specs.States.{IsResting, IsBodied, IsSynced, IsGated, IsBroken}
 use Rattle.dura_value.specs.Items.{Entry}
-use Rattle.part_items.specs.Plain.{entries_of}
+use Rattle.log_items.specs.Plain.{entries_of}
 use Rattle.part_items.specs.Spelling.{spell_frame}
 use Rattle.part_items.specs.Kept.{first_of, decoded}
 use Rattle.hub_store.specs.declared.way.Way.{Way}

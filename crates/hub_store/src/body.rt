@@ -6,7 +6,7 @@ ghost use Rattle.site_model.specs.Calls.{HasRisen};
 ghost use Rattle.site_model.specs.Moments.{LeavesOnly};
 ghost use Rattle.commit_log.specs.declared.header.Header.{Header};
 ghost use Rattle.commit_log.specs.States.{IsResting, Rests, HasFrames};
-ghost use Rattle.part_items.specs.Plain.{entries_of};
+ghost use Rattle.log_items.specs.Plain.{entries_of};
 ghost use Rattle.part_items.specs.Spelling.{spell_frame, CanSpellFrame};
 ghost use Rattle.hub_store.specs.Changes.{stage_at, going_at, trail_in, MovesOnly};
 ghost use Rattle.hub_store.specs.Frames.{goes_on, GoesBehind, length_with};
@@ -20,7 +20,8 @@ use crate::start::Start;
 use crate::store::Store;
 use crate::way::{Stage, Way, due, put_way, take_way};
 use commit_log::{BodyError, Resting};
-use part_items::{Frame, write_frame};
+use log_items::Frame;
+use part_items::write_frame;
 use site_model::Site;
 use std::alloc::{AllocError, Global};
 

@@ -3,7 +3,7 @@
 ghost use Rattle.std.specs.Prelude.{◌≡◌, ◌⊎◌, ◌≤◌, ◌<◌, ℕ, List, [], ◌∷◌, ◌++◌, false, Some, Err, IfOk, OnOk, OnErr, length};
 ghost use Rattle.dura_value.specs.Items.{Entry as PlainEntry};
 ghost use Rattle.site_model.specs.Calls.{HasRisen};
-ghost use Rattle.part_items.specs.Plain.{entry_of, entries_of};
+ghost use Rattle.log_items.specs.Plain.{entry_of, entries_of};
 ghost use Rattle.hub_store.specs.Changes.{stage_at, going_at, trail_in, told_in, KeepsOthers, MovesOnly, Settles};
 ghost use Rattle.hub_store.specs.Frames.{goes_on, GoesBehind, length_with};
 ghost use Rattle.hub_store.specs.Sound.{IsSound};
@@ -14,7 +14,7 @@ use crate::refusal::BodyRefusal;
 use crate::start::Start;
 use crate::store::Store;
 use crate::way::Stage;
-use part_items::{Entry, Frame};
+use log_items::{Entry, Frame};
 use site_model::Site;
 use std::alloc::{AllocError, Global};
 

@@ -7,7 +7,7 @@ ghost use Rattle.site_model.specs.Moments.{LeavesOnly};
 ghost use Rattle.commit_log.specs.declared.header.Header.{Header};
 ghost use Rattle.commit_log.specs.States.{IsSynced, IsSyncedThere, HasFramesOrOneMore};
 ghost use Rattle.dura_value.specs.Items.{Entry};
-ghost use Rattle.part_items.specs.Plain.{entries_of};
+ghost use Rattle.log_items.specs.Plain.{entries_of};
 ghost use Rattle.part_items.specs.Spelling.{spell_frame};
 ghost use Rattle.hub_store.specs.Changes.{stage_at, going_at, trail_in, told_in, MovesOnly, HasHalted};
 ghost use Rattle.hub_store.specs.Short.{reach_of};
@@ -19,7 +19,7 @@ use crate::start::Start;
 use crate::store::Store;
 use crate::way::{Stage, Way, put_way, reached, take_way};
 use commit_log::Synced;
-use part_items::Frame;
+use log_items::Frame;
 use site_model::Site;
 
 /// Opens the gate before a frame.

@@ -6,7 +6,7 @@ ghost use Rattle.site_model.specs.Calls.{HasRisen, HasCause};
 ghost use Rattle.commit_log.specs.declared.header.Header.{Header};
 ghost use Rattle.commit_log.specs.Segment.{open_gate};
 ghost use Rattle.dura_value.specs.Items.{Entry};
-ghost use Rattle.part_items.specs.Plain.{entries_of};
+ghost use Rattle.log_items.specs.Plain.{entries_of};
 ghost use Rattle.part_items.specs.Spelling.{spell_frame};
 ghost use Rattle.hub_store.specs.Changes.{stage_at, going_at, trail_in, told_in, KeepsOthers, Settles};
 ghost use Rattle.hub_store.specs.OpenedAgain.{Reopens};
@@ -20,7 +20,7 @@ use crate::store::Store;
 use crate::trail::settle_entries;
 use crate::way::{Stage, Way, put_way, reached, take_way};
 use commit_log::{Broken, Reopened};
-use part_items::Frame;
+use log_items::Frame;
 use site_model::Site;
 
 /// What became of the frame that was under way.

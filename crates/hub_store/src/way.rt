@@ -4,7 +4,7 @@ ghost use Rattle.std.specs.Prelude.{◌≡◌, ◌<◌, length, slice_set};
 ghost use Rattle.hub_store.specs.Ways.{stage_of, way_of, due_in};
 
 use commit_log::{Bodied, Broken, Gated, Resting, Synced};
-use part_items::Frame;
+use log_items::Frame;
 use std::mem;
 
 /// How far the frame of a partition has come.

@@ -4,7 +4,7 @@ ghost use Rattle.std.specs.Prelude.{◌≡◌, ◌+◌, ◌≤◌, ◌<◌, ◌^
 ghost use Rattle.site_memory.specs.Memory.{memory_history};
 ghost use Rattle.commit_log.specs.Outcomes.{RestsAs};
 ghost use Rattle.dura_value.specs.Items.{Entry as plain};
-ghost use Rattle.part_items.specs.Plain.{entries_of};
+ghost use Rattle.log_items.specs.Plain.{entries_of};
 ghost use Rattle.hub_store.specs.Opened.{IsOrigin, HasBegun};
 ghost use Rattle.hub_store.specs.Trail.{Settled, Said};
 ghost use Rattle.log_tests.specs.Stores.{header, trimming, IsGoing, HasFailed, IsAt};
@@ -12,7 +12,7 @@ ghost use Rattle.log_tests.specs.Stores.{header, trimming, IsGoing, HasFailed, I
 use commit_log::{Header, Resting};
 use dura_value::Name;
 use hub_store::{BodyRefusal, Refusal, Reopening, SayError, Start, Store};
-use part_items::{Entry, Frame, Item, Items};
+use log_items::{Entry, Frame, Item, Items};
 use site_memory::MemorySite;
 use std::alloc::{AllocError, Global};
 use std::process::Abort;

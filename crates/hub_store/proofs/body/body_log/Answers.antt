@@ -4,7 +4,7 @@ use Rattle.site_model.specs.History.{changes_of}
 use Rattle.commit_log.specs.declared.states.BodyError.{BodyError}
 use Rattle.commit_log.specs.Outcomes.{AfterBody}
 use Rattle.commit_log.specs.States.{IsBodied, IsBroken}
-use Rattle.part_items.specs.Plain.{entries_of}
+use Rattle.log_items.specs.Plain.{entries_of}
 use Rattle.part_items.specs.Spelling.{spell_frame}
 use Rattle.hub_store.proofs.Bodies.{full_memory, full_fault, memory_fault, rests_there}
 use Rattle.hub_store.proofs.Shortness.{next_gate}

@@ -2,7 +2,7 @@ use Rattle.std.proofs.Common.{refl, inl, ◌∙◌, ap, le_trans, le_refl}
 use Rattle.hub_store.specs.Changes.{trail_in}
 use Rattle.hub_store.specs.Frames.{length_with}
 use Rattle.hub_store.specs.Ways.{way_of}
-use Rattle.part_items.specs.Plain.{entry_of}
+use Rattle.log_items.specs.Plain.{entry_of}
 use Rattle.hub_store.proofs.Refusals.{fault_not_full, full_as, memory_not_fault, memory_not_full, of_err, ok_no_refusal, on_err, on_ok, residual_is, residual_on_err, residual_on_ok, same_either, same_refusal}
 use Rattle.hub_store.proofs.Trails.{settled_one}
 use Rattle.hub_store.proofs.commits.commit.Goals as goal

@@ -4,7 +4,7 @@ use Rattle.site_model.specs.History.{wrote, reads, changes_of}
 use Rattle.site_model.proofs.Paths.{own_change}
 use Rattle.commit_log.specs.Segment.{open_gate, segment, reading_of}
 use Rattle.commit_log.specs.States.{IsGated, IsBroken}
-use Rattle.part_items.specs.Plain.{entries_of}
+use Rattle.log_items.specs.Plain.{entries_of}
 use Rattle.part_items.specs.Spelling.{spell_frame}
 use Rattle.hub_store.proofs.Payloads.{synced_reads}
 use Rattle.hub_store.proofs.gate.gate_log.Goals as goal

@@ -3,8 +3,8 @@ use Rattle.site_model.specs.History.{Step, changes_of}
 use Rattle.commit_log.specs.declared.header.Header.{Header}
 use Rattle.commit_log.specs.declared.states.Broken.{Broken}
 use Rattle.commit_log.specs.declared.states.Reopened.{Reopened}
-use Rattle.part_items.specs.declared.frames.Entry as rows
-use Rattle.part_items.specs.Plain.{entries_of}
+use Rattle.log_items.specs.declared.frames.Entry as rows
+use Rattle.log_items.specs.Plain.{entries_of}
 use Rattle.part_items.specs.Spelling.{spell_frame}
 use Rattle.hub_store.specs.declared.way.Way.{Way}
 use Rattle.hub_store.specs.OpenedAgain.{Reopens}

@@ -2,7 +2,7 @@ use Rattle.hub_store.proofs.Bodies.{reach_is}
 use Rattle.std.proofs.Common.{ℕ, subst, refl}
 use Rattle.site_model.specs.History.{changes_of}
 use Rattle.commit_log.specs.States.{IsBroken}
-use Rattle.part_items.specs.Plain.{entries_of}
+use Rattle.log_items.specs.Plain.{entries_of}
 use Rattle.part_items.specs.Spelling.{spell_frame}
 use Rattle.hub_store.proofs.sync.sync_log.Goals as goal
 

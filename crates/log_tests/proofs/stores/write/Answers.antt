@@ -1,7 +1,7 @@
 use Rattle.std.proofs.Common.{◌≡◌, [], ◌∷◌, Result, Err, IfOk, sym, ap, subst, ◌∙◌}
 use Rattle.std.specs.declared.alloc.AllocError.{AllocError}
-use Rattle.part_items.specs.Plain.{entries_of}
-use Rattle.part_items.specs.declared.frames.Frame.{Frame}
+use Rattle.log_items.specs.Plain.{entries_of}
+use Rattle.log_items.specs.declared.frames.Frame.{Frame}
 use Rattle.hub_store.specs.Changes.{trail_in}
 use Rattle.hub_store.specs.Frames.{goes_on}
 use Rattle.hub_store.specs.Trail.{of_part}

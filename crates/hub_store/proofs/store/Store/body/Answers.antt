@@ -7,7 +7,7 @@ use Rattle.hub_store.specs.Plain.{trail_of, told_of}
 use Rattle.hub_store.specs.Trail.{of_part}
 use Rattle.hub_store.specs.Short.{KeepsShort}
 use Rattle.hub_store.specs.Ways.{LogFits, stage_of, due_in, going_in}
-use Rattle.part_items.specs.Plain.{entries_of}
+use Rattle.log_items.specs.Plain.{entries_of}
 use Rattle.hub_store.specs.declared.refusal.BodyRefusal.TheVariants.{Memory}
 use Rattle.hub_store.proofs.Bodies.{full_of, way_put, true_apart, full_memory, memory_fault, within, length_is, grown_due, none_ok, is_memory}
 use Rattle.hub_store.proofs.Calls.{resting_there, body_goes}

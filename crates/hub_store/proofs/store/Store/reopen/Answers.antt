@@ -6,7 +6,7 @@ use Rattle.dura_value.specs.Items.{Entry}
 use Rattle.site_model.specs.History.{changes_of}
 use Rattle.hub_store.specs.declared.way.Way.{Way}
 use Rattle.hub_store.specs.declared.way.Way.TheVariants as ways
-use Rattle.part_items.specs.Plain.{entries_of}
+use Rattle.log_items.specs.Plain.{entries_of}
 use Rattle.part_items.specs.Spelling.{spell_frame}
 use Rattle.hub_store.specs.OpenedAgain.{Reopens}
 use Rattle.hub_store.specs.Plain.{trail_of, told_of}

@@ -1,12 +1,10 @@
 -- The plain data that items, entries and frames stand for.
 use Rattle.std.specs.Prelude.{List, map}
-use Rattle.part_items.specs.declared.items.Item.{Item}
-use Rattle.part_items.specs.declared.items.Item.TheVariants.{Took, Got, Ran, Done, Fired, Trim}
-use Rattle.part_items.specs.declared.frames.Entry.{Entry}
-use Rattle.part_items.specs.declared.numbered.Next.{Next}
+use Rattle.log_items.specs.declared.items.Item.{Item}
+use Rattle.log_items.specs.declared.items.Item.TheVariants.{Took, Got, Ran, Done, Fired, Trim}
+use Rattle.log_items.specs.declared.frames.Entry.{Entry}
 use Rattle.dura_value.specs.Views.{id_of, message_of}
 use Rattle.dura_value.specs.Items as plain
-use Rattle.part_items.specs.Numbered as numbered
 
 abbrev pub item_of : Item → plain.Item
 item_of (Took message) = plain.took (message_of message)
@@ -24,6 +22,3 @@ entry_of entry = record { position = entry.position; incarnation = entry.incarna
 
 abbrev pub entries_of : List Entry → List plain.Entry
 entries_of = map entry_of
-
-abbrev pub next_of : Next → numbered.Next
-next_of next = record { position = next.position; incarnation = next.incarnation }

@@ -13,7 +13,7 @@ pub struct Items {
 
 impl Model for Items {
     ghost use Rattle.std.specs.Prelude.{List};
-    ghost use Rattle.part_items.specs.declared.items.Item.{Item};
+    ghost use Rattle.log_items.specs.declared.items.Item.{Item};
 
     ghost Value = { List Item };
 
@@ -62,7 +62,7 @@ pub struct Frame {
 
 impl Model for Frame {
     ghost use Rattle.std.specs.Prelude.{List};
-    ghost use Rattle.part_items.specs.declared.frames.Entry.{Entry};
+    ghost use Rattle.log_items.specs.declared.frames.Entry.{Entry};
 
     ghost Value = { List Entry };
 
