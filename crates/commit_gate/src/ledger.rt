@@ -1,6 +1,6 @@
 //! What others see of a partition.
 
-ghost use Rattle.std.specs.Prelude.{◌≡◌, ◌≤◌, ◌<◌, ◌+◌, ◌^◌, ℕ, [], length};
+ghost use Rattle.std.specs.Prelude.{◌≤◌, ◌<◌, ◌+◌, ◌^◌, length};
 
 use dura_value::{Floor, Posted};
 use std::collections::VecDeque;

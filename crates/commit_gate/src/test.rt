@@ -41,11 +41,11 @@ impl Stream {
         if number < self.first {
             return false;
         }
-        let index = number - self.first;
-        if self.settled as u64 <= index {
+        let behind = number - self.first;
+        if self.settled as u64 <= behind {
             return false;
         }
-        is_posted(&self.messages[index as usize], entry, message)
+        is_posted(&self.messages[behind as usize], entry, message)
     }
 }
 
