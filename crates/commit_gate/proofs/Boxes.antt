@@ -8,11 +8,14 @@ use Rattle.std.proofs.lemmas.List.{length-map, map-set, get_or-set_same, get_or-
 use Rattle.std.proofs.lemmas.List.{get_or-map as get_mapped}
 use Rattle.log_items.specs.Streams as plain
 use Rattle.dura_value.specs.Items as items
+use Rattle.dura_value.specs.Items.{Identity}
+use Rattle.dura_value.specs.declared.identity.Identity as identities
 use Rattle.dura_value.specs.declared.identity.Posted.{Posted}
 use Rattle.commit_gate.specs.declared.ledger.Stream.{Stream}
 use Rattle.commit_gate.specs.Ledgers as ledgers
-use Rattle.dura_value.specs.Views.{posted_of}
-use Rattle.commit_gate.specs.Views.{box_of, whole_box, no_box, boxes_by}
+use Rattle.commit_gate.specs.Ledgers.{with_reader}
+use Rattle.dura_value.specs.Views.{posted_of, identity_of}
+use Rattle.commit_gate.specs.Views.{box_of, whole_box, no_box, boxes_by, nobody, readers_by}
 
 abbrev pub made : (recovered newest : ℕ) → List ℕ → (ℕ → ℕ) → (ℕ → plain.Outbox) → ledgers.Ledger
 made recovered newest incarnations nexts boxes = record { recovered = recovered; newest = newest; incarnations = incarnations; nexts = nexts; boxes = boxes }
@@ -104,3 +107,14 @@ below_set v w boxes i s low here below k under d = elim (cases_eq k i) [
   | inl is ↦ subst (λ (n : ℕ). v (get_or (set boxes i s) n d) ≡ w (get_or (set boxes i s) n d)) (sym is) (subst (λ (x : Stream). v x ≡ w x) (sym (get_or-set_same boxes i s d low)) here)
   | inr apart ↦ subst (λ (x : Stream). v x ≡ w x) (sym (get_or-set_other boxes i k s d apart)) (below k (omega arith) d)
 ]
+
+-- another entry took in the last message of a stream
+reader_at : (readers : List identities.Identity) (i : ℕ) (reader : identities.Identity) (other : ℕ) (test : Bool) → (i == other) ≡ test → i < length readers → readers_by (set readers i reader) other ≡ cond test (identity_of reader) (readers_by readers other)
+reader_at readers i reader other true is low =
+    subst (λ (k : ℕ). get_or (map identity_of (set readers i reader)) k nobody ≡ identity_of reader) (eqb-true i other is)
+    (ap (λ (l : List Identity). get_or l i nobody) (map-set identity_of readers i reader) ∙ get_or-set_same (map identity_of readers) i (identity_of reader) nobody (omega (arith, length-map readers identity_of)))
+reader_at readers i reader other false is low =
+    ap (λ (l : List Identity). get_or l other nobody) (map-set identity_of readers i reader) ∙ get_or-set_other (map identity_of readers) i other (identity_of reader) nobody (λ same. eqb-false i other is (sym same))
+
+pub reader_set : (readers : List identities.Identity) (i : ℕ) (reader : identities.Identity) → i < length readers → readers_by (set readers i reader) ≡ with_reader (readers_by readers) i (identity_of reader)
+reader_set readers i reader low = λ t other. reader_at readers i reader other (i == other) refl low t

@@ -6,12 +6,12 @@ use Rattle.std.proofs.lemmas.List.{get_or-map as get_mapped}
 use Rattle.std.proofs.lemmas.List.Elements.{All-nil, All-cons, All-head, All-tail}
 use Rattle.std.proofs.lemmas.Grind.{flat_map-append}
 use Rattle.std.proofs.lemmas.List.Concat.{flat_map-cons}
-use Rattle.dura_value.specs.Items.{Item, Entry, took, got, ran, ended, fired, trim}
+use Rattle.dura_value.specs.Items.{Identity, Item, Entry, took, got, ran, ended, fired, trim}
 use Rattle.log_items.specs.Streams.{Outbox, with_posted, with_first}
 use Rattle.log_items.specs.declared.items.Item as item_rows
 use Rattle.log_items.specs.declared.frames.Entry as entry_rows
 use Rattle.log_items.specs.Plain.{item_of, items_of, entry_of, entries_of}
-use Rattle.commit_gate.specs.Ledgers.{Ledger, Sent, with_sent, with_next, nexts_after, boxes_after, after_items, items_in, incarnations_in}
+use Rattle.commit_gate.specs.Ledgers.{Ledger, Sent, with_sent, with_next, nexts_after, with_reader, readers_after, boxes_after, after_items, items_in, incarnations_in}
 use Rattle.commit_gate.proofs.Tested.{take_more, split_at}
 
 pub sent_append : (boxes : ℕ → Outbox) (a b : List Sent) → with_sent boxes (a ++ b) ≡ with_sent (with_sent boxes a) b
@@ -43,6 +43,19 @@ after_append a b row =
 
 pub after_item : (items : List item_rows.Item) (i : ℕ) (item : item_rows.Item) (row : Ledger) → i < length items → item ≡ get_or items i item → after_items (item_of item ∷ []) (after_items (items_of (take i items)) row) ≡ after_items (items_of (take (i + 1) items)) row
 after_item items i item row low is = sym (ap (λ (l : List Item). after_items l row) (take_more item_of items i item low is) ∙ after_append (items_of (take i items)) (item_of item ∷ []) row)
+
+readers_append : (reader : Identity) (readers : ℕ → Identity) (a b : List Item) → readers_after reader readers (a ++ b) ≡ readers_after reader (readers_after reader readers a) b
+readers_append reader readers [] b = refl
+readers_append reader readers (got source number message ∷ a) b = readers_append reader (with_reader readers source.partition reader) a b
+readers_append reader readers (took message ∷ a) b = readers_append reader readers a b
+readers_append reader readers (ran from to stamp ∷ a) b = readers_append reader readers a b
+readers_append reader readers (ended id task outcome ∷ a) b = readers_append reader readers a b
+readers_append reader readers (fired id task stamp ∷ a) b = readers_append reader readers a b
+readers_append reader readers (trim taker number ∷ a) b = readers_append reader readers a b
+
+pub readers_item : (items : List item_rows.Item) (i : ℕ) (item : item_rows.Item) (reader : Identity) (readers : ℕ → Identity) → i < length items → item ≡ get_or items i item
+    → readers_after reader (readers_after reader readers (items_of (take i items))) (item_of item ∷ []) ≡ readers_after reader readers (items_of (take (i + 1) items))
+readers_item items i item reader readers low is = sym (ap (readers_after reader readers) (take_more item_of items i item low is) ∙ readers_append reader readers (items_of (take i items)) (item_of item ∷ []))
 
 pub more_items : (entries : List entry_rows.Entry) (i : ℕ) (entry : entry_rows.Entry) → i < length entries → entry ≡ get_or entries i entry → items_in (entries_of (take (i + 1) entries)) ≡ items_in (entries_of (take i entries)) ++ items_of entry.items
 more_items entries i entry low is =

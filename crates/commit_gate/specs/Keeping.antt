@@ -22,9 +22,11 @@ AreOfOne count = All (IsOfOne count)
 pub record KeepsPlaces (old new : Ledger) : Type 0 where
   pub boxes : length new.boxes.items ≡ length old.boxes.items
   pub nexts : length new.nexts.items ≡ length old.nexts.items
+  pub readers : length new.readers.items ≡ length old.readers.items
   pub floors : new.floors ≡ old.floors
 
 -- it has a place for each of so many partitions
 pub record IsSized (count : ℕ) (ledger : Ledger) : Type 0 where
   pub boxes : length ledger.boxes.items ≡ count
   pub nexts : length ledger.nexts.items ≡ count
+  pub readers : length ledger.readers.items ≡ count

@@ -55,6 +55,15 @@ boxes_after boxes [] = boxes
 boxes_after boxes (trim reader number ∷ items) = boxes_after (with_first boxes reader.partition number) items
 boxes_after boxes (other ∷ items) = boxes_after boxes items
 
+-- who took in the last message of the stream from each partition, once this entry took in these
+abbrev pub with_reader : (ℕ → Identity) → (source : ℕ) → Identity → ℕ → Identity
+with_reader readers source reader other = if source == other then reader else readers other
+
+abbrev pub readers_after : (reader : Identity) → (ℕ → Identity) → List Item → ℕ → Identity
+readers_after reader readers [] = readers
+readers_after reader readers (got source number message ∷ items) = readers_after reader (with_reader readers source.partition reader) items
+readers_after reader readers (other ∷ items) = readers_after reader readers items
+
 abbrev pub items_in : List Entry → List Item
 items_in = flat_map (λ e. e.items)
 

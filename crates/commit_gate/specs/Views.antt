@@ -1,7 +1,8 @@
 -- The plain data that ledgers and streams stand for.
 use Rattle.std.specs.Prelude.{ℕ, List, [], map, take, slice_index_or}
-use Rattle.dura_value.specs.Items.{Floor}
-use Rattle.dura_value.specs.Views.{posted_of, floor_of}
+use Rattle.dura_value.specs.Items.{Floor, Identity}
+use Rattle.dura_value.specs.declared.identity.Identity as identities
+use Rattle.dura_value.specs.Views.{identity_of, posted_of, floor_of}
 use Rattle.log_items.specs.Streams.{Outbox}
 use Rattle.commit_gate.specs.declared.ledger.Sending.{Sending}
 use Rattle.commit_gate.specs.declared.ledger.Stream.{Stream}
@@ -55,6 +56,16 @@ no_ledger = record { recovered = 0; newest = 0; incarnations = []; nexts = λ so
 
 abbrev pub ledgers_of : List Ledger → ℕ → plain.Ledger
 ledgers_of ledgers partition = slice_index_or (map ledger_of ledgers) partition no_ledger
+
+-- who took in the last message of each stream
+abbrev pub nobody : Identity
+nobody = record { partition = 0; incarnation = 0; position = 0 }
+
+abbrev pub readers_by : List identities.Identity → ℕ → Identity
+readers_by readers source = slice_index_or (map identity_of readers) source nobody
+
+abbrev pub readers_in : Ledger → ℕ → Identity
+readers_in ledger = readers_by ledger.readers.items
 
 abbrev pub floors_in : Ledger → List Floor
 floors_in ledger = map floor_of ledger.floors.items

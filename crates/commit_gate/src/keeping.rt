@@ -3,17 +3,17 @@
 ghost use Rattle.std.specs.Prelude.{◌≡◌, ◌<◌, ◌≤◌, ◌+◌, ◌^◌, ◌++◌, ◌∷◌, [], length, map, OnOk, OnErr};
 ghost use Rattle.std.specs.List.{All};
 ghost use Rattle.std.specs.Vec.{vec_len, vec_capacity};
-ghost use Rattle.dura_value.specs.Views.{posted_of, floor_of};
+ghost use Rattle.dura_value.specs.Views.{identity_of, floor_of};
 ghost use Rattle.log_items.specs.Plain.{item_of, items_of, entries_of};
 ghost use Rattle.log_items.specs.Streams.{with_posted};
 ghost use Rattle.commit_gate.specs.Keeping.{GoesInside, IsOfOne, AreOfOne, KeepsPlaces};
-ghost use Rattle.commit_gate.specs.Ledgers.{log_length, with_sent, with_frame, after_items, items_in, incarnations_in};
+ghost use Rattle.commit_gate.specs.Ledgers.{log_length, with_sent, with_frame, after_items, readers_after, incarnations_in};
 ghost use Rattle.commit_gate.specs.Room.{HaveRoom, HasRoom};
-ghost use Rattle.commit_gate.specs.Views.{all_sent, box_of, whole_box, boxes_by, floors_in, ledger_of, whole_of};
+ghost use Rattle.commit_gate.specs.Views.{all_sent, box_of, whole_box, boxes_by, floors_in, readers_in, ledger_of, whole_of};
 
 use crate::ledger::{Ledger, Sending, Stream};
 use crate::streams::{drop_all, settle_all};
-use dura_value::Floor;
+use dura_value::{Floor, Identity};
 use log_items::{Entry, Frame, Item};
 use std::alloc::AllocError;
 
@@ -52,6 +52,7 @@ impl Ledger {
         ensures settled { ledger_of self.new ≡ ledger_of self.old }
         ensures whole { whole_of self.new ≡ with_frame (ledger_of self.old) (entries_of frame.now)
             (all_sent sending.items) }
+        ensures readers { self.new.readers ≡ self.old.readers }
         ensures places { KeepsPlaces self.old self.new }
     {
         push_incarnations(&mut self.incarnations, frame.entries());
@@ -62,6 +63,7 @@ impl Ledger {
     pub fn drop_frame(&mut self)
         ensures settled { ledger_of self.new ≡ ledger_of self.old }
         ensures whole { whole_of self.new ≡ ledger_of self.old }
+        ensures readers { self.new.readers ≡ self.old.readers }
         ensures places { KeepsPlaces self.old self.new }
     {
         self.incarnations.truncate(self.settled);
@@ -72,25 +74,30 @@ impl Ledger {
     pub fn settle_frame(&mut self)
         ensures settled { ledger_of self.new ≡ whole_of self.old }
         ensures whole { whole_of self.new ≡ whole_of self.old }
+        ensures readers { self.new.readers ≡ self.old.readers }
         ensures places { KeepsPlaces self.old self.new }
     {
         self.settled = self.incarnations.len();
         settle_all(&mut self.boxes);
     }
 
-    /// An item takes in or lets go. Nothing is under way.
-    fn take_item(&mut self, item: &Item)
+    /// An item of this entry takes in or lets go. Nothing is under way.
+    fn take_item(&mut self, reader: Identity, item: &Item)
         requires rests { whole_of self.old ≡ ledger_of self.old }
         requires nexts { length self.old.nexts.items ≡ length self.old.boxes.items }
+        requires readers { length self.old.readers.items ≡ length self.old.boxes.items }
         requires fits { IsOfOne (length self.old.boxes.items) (item_of item.now) }
         ensures settled { ledger_of self.new
             ≡ after_items (item_of item.now ∷ []) (ledger_of self.old) }
+        ensures readers { readers_in self.new
+            ≡ readers_after (identity_of reader) (readers_in self.old) (item_of item.now ∷ []) }
         ensures whole { whole_of self.new ≡ ledger_of self.new }
         ensures places { KeepsPlaces self.old self.new }
     {
         match item {
             Item::Got(source, _, _, number, _) => {
                 self.nexts[*source as usize] = *number + 1;
+                self.readers[*source as usize] = reader;
             }
             Item::Trim(target, number, _, _) => {
                 self.boxes[*target as usize].begin_at(*number);
@@ -99,18 +106,21 @@ impl Ledger {
         }
     }
 
-    /// Items of an entry that is settled take in and let go. Nothing is under way.
-    pub fn take_items(&mut self, items: &[Item])
+    /// The items of this entry, which is settled, take in and let go. Nothing is under way.
+    pub fn take_items(&mut self, reader: Identity, items: &[Item])
         requires rests { whole_of self.old ≡ ledger_of self.old }
         requires nexts { length self.old.nexts.items ≡ length self.old.boxes.items }
+        requires readers { length self.old.readers.items ≡ length self.old.boxes.items }
         requires fits { AreOfOne (length self.old.boxes.items) (items_of items.now) }
         ensures settled { ledger_of self.new
             ≡ after_items (items_of items.now) (ledger_of self.old) }
+        ensures readers { readers_in self.new
+            ≡ readers_after (identity_of reader) (readers_in self.old) (items_of items.now) }
         ensures whole { whole_of self.new ≡ ledger_of self.new }
         ensures places { KeepsPlaces self.old self.new }
     {
         for item in items {
-            self.take_item(item);
+            self.take_item(reader, item);
         }
     }
 
@@ -120,6 +130,7 @@ impl Ledger {
         ensures whole { whole_of self.new ≡ whole_of self.old }
         ensures boxes { length self.new.boxes.items ≡ length self.old.boxes.items }
         ensures nexts { length self.new.nexts.items ≡ length self.old.nexts.items }
+        ensures readers { self.new.readers ≡ self.old.readers }
         ensures floors { OnOk result (floors_in self.new
             ≡ floors_in self.old ++ floor_of floor ∷ []) }
         ensures same { OnErr result (floors_in self.new ≡ floors_in self.old) }

@@ -2,7 +2,7 @@
 
 ghost use Rattle.std.specs.Prelude.{◌≤◌, ◌<◌, ◌+◌, ◌^◌, length};
 
-use dura_value::{Floor, Posted};
+use dura_value::{Floor, Identity, Posted};
 use std::collections::VecDeque;
 
 /// A message that an entry sends, and the partition that it goes to.
@@ -42,6 +42,8 @@ pub struct Ledger {
     pub(crate) floors: Vec<Floor>,
     /// How far each stream from another partition was taken in: the number of its next message.
     pub(crate) nexts: Vec<u64>,
+    /// The entry that took in the last message of each.
+    pub(crate) readers: Vec<Identity>,
     /// Its streams to others.
     pub(crate) boxes: Vec<Stream>,
     ghost inside: { settled ≤ length incarnations.items },

@@ -5,7 +5,7 @@ ghost use Rattle.dura_value.specs.Views.{posted_of, floor_of};
 ghost use Rattle.commit_gate.specs.Views.{box_of, whole_box, boxes_by, nexts_by, floors_in, ledger_of, whole_of};
 
 use crate::ledger::{Ledger, Stream};
-use dura_value::{Floor, Posted};
+use dura_value::{Floor, Identity, Posted};
 use std::alloc::Global;
 use std::collections::VecDeque;
 
@@ -26,13 +26,15 @@ impl Stream {
 
 impl Ledger {
     /// What others see of a partition at the beginning: so many entries were recovered, of incarnations up to this one, these began since,
-    /// the streams from each partition were taken in up to these numbers, and these to each are left.
+    /// the streams from each partition were taken in up to these numbers, the last message of each by this entry, and these to each are
+    /// left.
     pub fn recovered(
         alloc: Global,
         recovered: u64,
         newest: u64,
         floors: Vec<Floor>,
         nexts: Vec<u64>,
+        readers: Vec<Identity>,
         boxes: Vec<Stream>,
     ) -> Ledger
         requires rests { boxes_by whole_box boxes.items ≡ boxes_by box_of boxes.items }
@@ -47,6 +49,7 @@ impl Ledger {
         ensures floors { floors_in result ≡ map floor_of floors.items }
         ensures boxes { length result.boxes.items ≡ length boxes.items }
         ensures nexts { length result.nexts.items ≡ length nexts.items }
+        ensures readers { result.readers.items ≡ readers.items }
     {
         Ledger {
             recovered,
@@ -55,6 +58,7 @@ impl Ledger {
             incarnations: Vec::new(alloc),
             floors,
             nexts,
+            readers,
             boxes,
         }
     }

@@ -55,6 +55,7 @@ impl Ledger {
     pub fn make_room(&mut self, entries: usize, sending: &[Sending]) -> Result<(), AllocError>
         ensures settled { ledger_of self.new ≡ ledger_of self.old }
         ensures whole { whole_of self.new ≡ whole_of self.old }
+        ensures readers { self.new.readers ≡ self.old.readers }
         ensures places { KeepsPlaces self.old self.new }
         ensures room { OnOk result (HasRoom self.new entries (all_sent sending.now)) }
     {

@@ -1,10 +1,12 @@
 use Rattle.std.proofs.Common.{ℕ, ◌∷◌, [], ◌∙◌, sym, ap, subst, arith, length}
 use Rattle.log_items.specs.Plain.{item_of}
 use Rattle.commit_gate.specs.Keeping.{IsOfOne}
-use Rattle.commit_gate.specs.Ledgers.{Ledger, after_items}
-use Rattle.commit_gate.proofs.Going.{after_item, all_here}
+use Rattle.commit_gate.specs.Ledgers.{Ledger, after_items, readers_after}
+use Rattle.commit_gate.proofs.Going.{after_item, readers_item, all_here}
 use Rattle.commit_gate.proofs.ledger.Ledger.take_items.Goals as goal
-use Rattle.commit_gate.specs.Views.{ledger_of}
+use Rattle.commit_gate.specs.Views.{ledger_of, readers_in}
+use Rattle.dura_value.specs.Items.{Identity}
+use Rattle.dura_value.specs.Views.{identity_of}
 
 pub take_item-requires-clause-fits : goal.take_item-requires-clause-fits
 take_item-requires-clause-fits c =
@@ -19,5 +21,7 @@ loop-item-preserved c =
       settled = c.take_item.ensures.settled ∙ ap (λ (r : Ledger). after_items (item_of c.item-item.result ∷ []) r) inv.settled
           ∙ after_item c.args.items.now c.loop-item.item-index c.item-item.result (ledger_of c.args.self.now) (omega arith) c.item-item.is;
       whole = c.take_item.ensures.whole;
-      places = record { boxes = kept.boxes ∙ inv.places.boxes; nexts = kept.nexts ∙ inv.places.nexts; floors = kept.floors ∙ inv.places.floors };
+      readers = c.take_item.ensures.readers ∙ ap (λ (r : ℕ → Identity). readers_after (identity_of c.args.reader) r (item_of c.item-item.result ∷ [])) inv.readers
+          ∙ readers_item c.args.items.now c.loop-item.item-index c.item-item.result (identity_of c.args.reader) (readers_in c.args.self.now) (omega arith) c.item-item.is;
+      places = record { boxes = kept.boxes ∙ inv.places.boxes; nexts = kept.nexts ∙ inv.places.nexts; readers = kept.readers ∙ inv.places.readers; floors = kept.floors ∙ inv.places.floors };
     }
