@@ -13,9 +13,9 @@ use Rattle.dura_value.specs.declared.identity.Identity as identities
 use Rattle.dura_value.specs.declared.identity.Posted.{Posted}
 use Rattle.commit_gate.specs.declared.ledger.Stream.{Stream}
 use Rattle.commit_gate.specs.Ledgers as ledgers
-use Rattle.commit_gate.specs.Ledgers.{with_reader}
 use Rattle.dura_value.specs.Views.{posted_of, identity_of}
 use Rattle.commit_gate.specs.Views.{box_of, whole_box, no_box, boxes_by, nobody, readers_by}
+use Rattle.log_items.specs.Readings.{with_reader}
 
 abbrev pub made : (recovered newest : ℕ) → List ℕ → (ℕ → ℕ) → (ℕ → plain.Outbox) → ledgers.Ledger
 made recovered newest incarnations nexts boxes = record { recovered = recovered; newest = newest; incarnations = incarnations; nexts = nexts; boxes = boxes }

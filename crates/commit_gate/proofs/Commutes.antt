@@ -4,9 +4,7 @@ use Rattle.std.proofs.Math.Dec.{leb}
 use Rattle.std.proofs.lemmas.Bool.{leb-false, eqb-true}
 use Rattle.dura_value.specs.Items.{Item, took, got, ran, ended, fired, trim}
 use Rattle.dura_value.specs.Items.{Posted}
-use Rattle.log_items.specs.Streams.{Outbox, with_posted, begins_at, with_first}
-use Rattle.commit_gate.specs.Local.{LetGoInside}
-use Rattle.commit_gate.specs.Ledgers.{Sent, with_sent, boxes_after}
+use Rattle.log_items.specs.Streams.{Outbox, with_posted, begins_at, with_first, LetGoInside, Sent, with_sent, boxes_after}
 
 drop_append : {X : Type 0} (n : ℕ) (xs ys : List X) → n ≤ length xs → drop n (xs ++ ys) ≡ drop n xs ++ ys
 drop_append zero xs ys low = refl

@@ -7,12 +7,14 @@ use Rattle.std.proofs.lemmas.List.Elements.{All-nil, All-cons, All-head, All-tai
 use Rattle.std.proofs.lemmas.Grind.{flat_map-append}
 use Rattle.std.proofs.lemmas.List.Concat.{flat_map-cons}
 use Rattle.dura_value.specs.Items.{Identity, Item, Entry, took, got, ran, ended, fired, trim}
-use Rattle.log_items.specs.Streams.{Outbox, with_posted, with_first}
+use Rattle.log_items.specs.Streams.{Outbox, with_posted, with_first, Sent, with_sent, boxes_after}
 use Rattle.log_items.specs.declared.items.Item as item_rows
 use Rattle.log_items.specs.declared.frames.Entry as entry_rows
 use Rattle.log_items.specs.Plain.{item_of, items_of, entry_of, entries_of}
-use Rattle.commit_gate.specs.Ledgers.{Ledger, Sent, with_sent, with_next, nexts_after, with_reader, readers_after, boxes_after, after_items, items_in, incarnations_in}
+use Rattle.commit_gate.specs.Ledgers.{Ledger, after_items}
 use Rattle.commit_gate.proofs.Tested.{take_more, split_at}
+use Rattle.log_items.specs.Readings.{with_next, nexts_after, with_reader, readers_after}
+use Rattle.log_items.specs.Entries.{items_in, incarnations_in}
 
 pub sent_append : (boxes : ℕ → Outbox) (a b : List Sent) → with_sent boxes (a ++ b) ≡ with_sent (with_sent boxes a) b
 sent_append boxes [] b = refl

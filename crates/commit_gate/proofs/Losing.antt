@@ -12,7 +12,9 @@ use Rattle.commit_gate.specs.Unlost.{IsUnlost, IsFrameUnlost, AreUnlost}
 use Rattle.commit_gate.specs.declared.ledger.Ledger as declared
 use Rattle.commit_gate.specs.Refused.{IsReady}
 use Rattle.commit_gate.specs.Views.{ledger_of, whole_of, ledgers_of, no_ledger, floors_in, floors_of}
-use Rattle.commit_gate.specs.Ledgers.{Ledger, Sent, log_length, IsKnown, incarnations_in, with_frame}
+use Rattle.commit_gate.specs.Ledgers.{Ledger, log_length, IsKnown, with_frame}
+use Rattle.log_items.specs.Streams.{Sent}
+use Rattle.log_items.specs.Entries.{incarnations_in}
 
 -- what is known was given up by no incarnation
 pub known_kept : (ledger : Ledger) (floors : List Floor) (e : Identity) → IsUnlost ledger floors → IsKnown ledger e → Lost floors e → ⊥

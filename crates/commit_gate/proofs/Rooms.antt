@@ -8,8 +8,8 @@ use Rattle.std.proofs.lemmas.Bool.{cases_eq}
 use Rattle.std.proofs.lemmas.List.{length-set, get_or-set_same, get_or-set_other}
 use Rattle.std.proofs.lemmas.Option.{slice_get-get_or, slice_get_within, get_or_from_slice_get}
 use Rattle.commit_gate.specs.declared.ledger.Stream.{Stream}
-use Rattle.commit_gate.specs.Ledgers.{Sent}
 use Rattle.commit_gate.specs.Room.{count_to, HaveRoom}
+use Rattle.log_items.specs.Streams.{Sent}
 
 -- one that goes there, and one that doesn't
 pub counted : (target : ℕ) (one : Sent) (more : List Sent) → one.to ≡ target → count_to target (one ∷ more) ≡ suc (count_to target more)

@@ -6,10 +6,11 @@ use Rattle.std.proofs.lemmas.Bool.{leb-false, eqb-true, cases_eq}
 use Rattle.std.proofs.lemmas.List.Elements.{All-nil, All-cons, All-head, All-tail}
 use Rattle.dura_value.specs.Items.{Identity, Item, Entry, took, got, ran, ended, fired, trim}
 use Rattle.dura_value.specs.Items.{Posted}
-use Rattle.log_items.specs.Streams.{Outbox, with_posted, begins_at, with_first}
-use Rattle.commit_gate.specs.Ledgers.{Ledger, Sent, IsKnown, with_sent, with_next, nexts_after, boxes_after, items_in, incarnations_in, after_frame}
-use Rattle.commit_gate.specs.Local.{ReadOn}
+use Rattle.log_items.specs.Streams.{Outbox, with_posted, begins_at, with_first, Sent, with_sent, boxes_after}
+use Rattle.commit_gate.specs.Ledgers.{Ledger, IsKnown, after_frame}
 use Rattle.commit_gate.specs.Met.{HasPosted, IsMet, AreMet}
+use Rattle.log_items.specs.Readings.{with_next, nexts_after, ReadOn}
+use Rattle.log_items.specs.Entries.{items_in, incarnations_in}
 
 -- ---- lists
 

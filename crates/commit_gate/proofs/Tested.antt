@@ -18,7 +18,8 @@ use Rattle.commit_gate.specs.declared.unmet.Unmet.TheVariants.{Differs}
 use Rattle.commit_gate.specs.Met.{IsMet}
 use Rattle.dura_value.specs.Views.{identity_of}
 use Rattle.commit_gate.specs.Refused.{Names, IsReady, IsNotReady, Refuses, Passes, RefusesFirst}
-use Rattle.commit_gate.specs.Ledgers.{Ledger, items_in}
+use Rattle.commit_gate.specs.Ledgers.{Ledger}
+use Rattle.log_items.specs.Entries.{items_in}
 
 -- by its name
 pub name_refuses : (rows : ℕ → Ledger) (floors : ℕ → List plain.Floor) (p : ℕ) (item : Item) (e : Identity) (unmet : Unmet) → Names item e → IsNotReady rows floors e unmet → Refuses rows floors p item unmet

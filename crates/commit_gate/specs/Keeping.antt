@@ -3,7 +3,7 @@ use Rattle.std.specs.Prelude.{◌≡◌, ℕ, ◌+◌, ◌<◌, ◌^◌, List, l
 use Rattle.std.specs.List.{All}
 use Rattle.dura_value.specs.Items.{Item, got, trim}
 use Rattle.commit_gate.specs.declared.ledger.Ledger.{Ledger}
-use Rattle.commit_gate.specs.Ledgers.{Sent}
+use Rattle.log_items.specs.Streams.{Sent}
 
 -- it goes to one of so many partitions
 abbrev pub GoesInside : (count : ℕ) → Sent → Type 0

@@ -3,7 +3,8 @@ use Rattle.std.specs.Prelude.{◌≡◌, ℕ, ◌-◌, ◌≤◌, List, Some}
 use Rattle.std.specs.List.{All, slice_get}
 use Rattle.dura_value.specs.Items.{Item, Entry, Posted, got, trim}
 use Rattle.log_items.specs.Streams.{Outbox}
-use Rattle.commit_gate.specs.Ledgers.{Ledger, IsKnown, items_in}
+use Rattle.commit_gate.specs.Ledgers.{Ledger, IsKnown}
+use Rattle.log_items.specs.Entries.{items_in}
 
 -- the stream has this under this number
 pub record HasPosted (box : Outbox) (number : ℕ) (posted : Posted) : Type 0 where

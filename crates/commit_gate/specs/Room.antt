@@ -5,7 +5,7 @@ use Rattle.std.specs.Vec.{vec_len, vec_capacity}
 use Rattle.std.specs.VecDeque.{deque_len, deque_capacity}
 use Rattle.commit_gate.specs.declared.ledger.Stream.{Stream}
 use Rattle.commit_gate.specs.declared.ledger.Ledger.{Ledger}
-use Rattle.commit_gate.specs.Ledgers.{Sent}
+use Rattle.log_items.specs.Streams.{Sent}
 
 -- how many of these go to a partition
 abbrev pub count_to : ℕ → List Sent → ℕ

@@ -3,16 +3,16 @@ use Rattle.std.specs.Prelude.{ℕ, List, [], map, take, slice_index_or}
 use Rattle.dura_value.specs.Items.{Floor, Identity}
 use Rattle.dura_value.specs.declared.identity.Identity as identities
 use Rattle.dura_value.specs.Views.{identity_of, posted_of, floor_of}
-use Rattle.log_items.specs.Streams.{Outbox}
+use Rattle.log_items.specs.Streams.{Outbox, Sent}
 use Rattle.commit_gate.specs.declared.ledger.Sending.{Sending}
 use Rattle.commit_gate.specs.declared.ledger.Stream.{Stream}
 use Rattle.commit_gate.specs.declared.ledger.Ledger.{Ledger}
 use Rattle.commit_gate.specs.Ledgers as plain
 
-abbrev pub sent_of : Sending → plain.Sent
+abbrev pub sent_of : Sending → Sent
 sent_of sending = record { to = sending.to; posted = posted_of sending.posted }
 
-abbrev pub all_sent : List Sending → List plain.Sent
+abbrev pub all_sent : List Sending → List Sent
 all_sent = map sent_of
 
 -- what is settled of a stream, and with what the frame under way sends

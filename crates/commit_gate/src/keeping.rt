@@ -5,11 +5,13 @@ ghost use Rattle.std.specs.List.{All};
 ghost use Rattle.std.specs.Vec.{vec_len, vec_capacity};
 ghost use Rattle.dura_value.specs.Views.{identity_of, floor_of};
 ghost use Rattle.log_items.specs.Plain.{item_of, items_of, entries_of};
-ghost use Rattle.log_items.specs.Streams.{with_posted};
+ghost use Rattle.log_items.specs.Streams.{with_posted, with_sent};
 ghost use Rattle.commit_gate.specs.Keeping.{GoesInside, IsOfOne, AreOfOne, KeepsPlaces};
-ghost use Rattle.commit_gate.specs.Ledgers.{log_length, with_sent, with_frame, after_items, readers_after, incarnations_in};
+ghost use Rattle.commit_gate.specs.Ledgers.{log_length, with_frame, after_items};
 ghost use Rattle.commit_gate.specs.Room.{HaveRoom, HasRoom};
 ghost use Rattle.commit_gate.specs.Views.{all_sent, box_of, whole_box, boxes_by, floors_in, readers_in, ledger_of, whole_of};
+ghost use Rattle.log_items.specs.Readings.{readers_after};
+ghost use Rattle.log_items.specs.Entries.{incarnations_in};
 
 use crate::ledger::{Ledger, Sending, Stream};
 use crate::streams::{drop_all, settle_all};

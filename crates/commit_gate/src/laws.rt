@@ -2,10 +2,11 @@
 
 ghost use Rattle.std.specs.Prelude.{◌≡◌, ◌≢◌, ℕ, List};
 ghost use Rattle.dura_value.specs.Items.{Item, Entry};
-ghost use Rattle.log_items.specs.Streams.{Outbox};
-ghost use Rattle.commit_gate.specs.Ledgers.{Ledger, Sent, with_sent, boxes_after, items_in, after_frame};
-ghost use Rattle.commit_gate.specs.Local.{ReadOn, LetGoInside};
+ghost use Rattle.log_items.specs.Streams.{Outbox, Sent, with_sent, boxes_after, LetGoInside};
+ghost use Rattle.commit_gate.specs.Ledgers.{Ledger, after_frame};
 ghost use Rattle.commit_gate.specs.Met.{AreMet};
+ghost use Rattle.log_items.specs.Entries.{items_in};
+ghost use Rattle.log_items.specs.Readings.{ReadOn};
 
 /// What is met stays met while another partition settles a frame that is met.
 pub fn met_frames_stay()

@@ -7,9 +7,10 @@ ghost use Rattle.dura_value.specs.Views.{message_of, identity_of, posted_of};
 ghost use Rattle.log_items.specs.Plain.{item_of, items_of, entries_of};
 ghost use Rattle.commit_gate.specs.Met.{HasPosted};
 ghost use Rattle.commit_gate.specs.Refused.{GaveUp, IsReady, IsNotReady, Refuses, Passes, Tests};
-ghost use Rattle.commit_gate.specs.Ledgers.{log_length, IsKnown, items_in};
+ghost use Rattle.commit_gate.specs.Ledgers.{log_length, IsKnown};
 ghost use Rattle.commit_gate.specs.Unlost.{AreUnlost};
 ghost use Rattle.commit_gate.specs.Views.{floors_in, box_of, ledger_of, ledgers_of, floors_of};
+ghost use Rattle.log_items.specs.Entries.{items_in};
 
 use crate::ledger::{Ledger, Stream};
 use crate::unmet::Unmet;

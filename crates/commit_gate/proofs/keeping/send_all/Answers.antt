@@ -3,10 +3,9 @@ use Rattle.std.specs.List.{All}
 use Rattle.std.specs.Vec.Iter.{into_iter_items}
 use Rattle.std.proofs.lemmas.List.{map-append, length-set}
 use Rattle.std.proofs.lemmas.List.Elements.{All-head, All-tail}
-use Rattle.log_items.specs.Streams.{Outbox, with_posted}
+use Rattle.log_items.specs.Streams.{Outbox, with_posted, with_sent}
 use Rattle.commit_gate.specs.declared.ledger.Sending.{Sending}
 use Rattle.commit_gate.specs.Keeping.{GoesInside}
-use Rattle.commit_gate.specs.Ledgers.{with_sent}
 use Rattle.commit_gate.specs.Room.{HaveRoom}
 use Rattle.commit_gate.specs.Views.{sent_of, all_sent, box_of, whole_box, boxes_by}
 use Rattle.commit_gate.proofs.Boxes.{box_kept, box_sent}

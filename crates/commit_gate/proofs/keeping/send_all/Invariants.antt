@@ -2,10 +2,10 @@ use Rattle.std.proofs.Common.{◌≡◌, length}
 use Rattle.std.specs.List.{All}
 use Rattle.std.specs.Vec.Iter.{into_iter_items}
 use Rattle.commit_gate.specs.Keeping.{GoesInside}
-use Rattle.commit_gate.specs.Ledgers.{with_sent}
 use Rattle.commit_gate.specs.Room.{HaveRoom}
 use Rattle.commit_gate.specs.Views.{all_sent, box_of, whole_box, boxes_by}
 use Rattle.commit_gate.proofs.keeping.send_all.Given as goal
+use Rattle.log_items.specs.Streams.{with_sent}
 
 abbrev pub invariant-loop-one : goal.invariant-loop-one
 invariant-loop-one l =

@@ -5,10 +5,10 @@ use Rattle.log_items.specs.declared.frames.Entry.{Entry}
 use Rattle.log_items.specs.declared.items.Item.{Item}
 use Rattle.log_items.specs.Plain.{entries_of, items_of}
 use Rattle.commit_gate.specs.Refused.{Passes, RefusesFirst}
-use Rattle.commit_gate.specs.Ledgers.{items_in}
 use Rattle.commit_gate.specs.Views.{ledgers_of, floors_of}
 use Rattle.commit_gate.proofs.Tested.{entry_stops, entry_passes}
 use Rattle.commit_gate.proofs.test.test_frame.Goals as goal
+use Rattle.log_items.specs.Entries.{items_in}
 
 pub returns-in-Err : goal.returns-in-Err
 returns-in-Err c =

@@ -4,11 +4,12 @@ use Rattle.log_items.specs.declared.items.Item.{Item}
 use Rattle.log_items.specs.Plain.{item_of}
 use Rattle.commit_gate.specs.Keeping.{IsOfOne}
 use Rattle.commit_gate.specs.Ledgers as rows
-use Rattle.commit_gate.specs.Ledgers.{after_items, readers_after}
+use Rattle.commit_gate.specs.Ledgers.{after_items}
 use Rattle.commit_gate.specs.Views.{whole_box, boxes_by, nexts_by, readers_in, ledger_of}
 use Rattle.commit_gate.proofs.Boxes.{made, box_begun, rests_set, rests_here, reader_set}
 use Rattle.dura_value.specs.Views.{identity_of}
 use Rattle.commit_gate.proofs.ledger.Ledger.take_item.Goals as goal
+use Rattle.log_items.specs.Readings.{readers_after}
 
 pub begin_at-requires : goal.begin_at-requires
 begin_at-requires c =

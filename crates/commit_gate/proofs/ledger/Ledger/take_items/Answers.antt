@@ -1,12 +1,13 @@
 use Rattle.std.proofs.Common.{ℕ, ◌∷◌, [], ◌∙◌, sym, ap, subst, arith, length}
 use Rattle.log_items.specs.Plain.{item_of}
 use Rattle.commit_gate.specs.Keeping.{IsOfOne}
-use Rattle.commit_gate.specs.Ledgers.{Ledger, after_items, readers_after}
+use Rattle.commit_gate.specs.Ledgers.{Ledger, after_items}
 use Rattle.commit_gate.proofs.Going.{after_item, readers_item, all_here}
 use Rattle.commit_gate.proofs.ledger.Ledger.take_items.Goals as goal
 use Rattle.commit_gate.specs.Views.{ledger_of, readers_in}
 use Rattle.dura_value.specs.Items.{Identity}
 use Rattle.dura_value.specs.Views.{identity_of}
+use Rattle.log_items.specs.Readings.{readers_after}
 
 pub take_item-requires-clause-fits : goal.take_item-requires-clause-fits
 take_item-requires-clause-fits c =

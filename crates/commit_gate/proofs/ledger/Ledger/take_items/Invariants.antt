@@ -2,9 +2,10 @@ use Rattle.std.proofs.Common.{◌≡◌, take}
 use Rattle.log_items.specs.Plain.{items_of}
 use Rattle.commit_gate.specs.Keeping.{KeepsPlaces}
 use Rattle.dura_value.specs.Views.{identity_of}
-use Rattle.commit_gate.specs.Ledgers.{after_items, readers_after}
+use Rattle.commit_gate.specs.Ledgers.{after_items}
 use Rattle.commit_gate.specs.Views.{readers_in, ledger_of, whole_of}
 use Rattle.commit_gate.proofs.ledger.Ledger.take_items.Given as goal
+use Rattle.log_items.specs.Readings.{readers_after}
 
 abbrev pub invariant-loop-item : goal.invariant-loop-item
 invariant-loop-item l = record {
