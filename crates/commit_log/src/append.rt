@@ -50,7 +50,9 @@ impl Resting {
         ensures untouched_full { (n : ℕ) (log : _) → result ≡ Err (BodyError.Full n log)
             → V.history site.new ≡ V.history site.old }
         ensures broken { (log : _) → result ≡ Err (BodyError.SiteFault log)
-            → (log.file ≡ self.file) × HasRisen (V.disk_faults site.old) (V.disk_faults site.new) }
+            → (log.file ≡ self.file) × (log.gate ≡ self.gate)
+            × (log.next ≡ self.gate + 5 + length payload.now)
+            × HasRisen (V.disk_faults site.old) (V.disk_faults site.new) }
         ensures later { V.disk_faults site.old ≤ V.disk_faults site.new }
         ensures say_faults { V.say_faults site.new ≡ V.say_faults site.old }
     {
