@@ -1,6 +1,6 @@
 use Rattle.std.proofs.Common.{refl, sym, ◌∙◌}
 use Rattle.commit_log.proofs.Opens.{opening_during, reopens}
-use Rattle.commit_log.proofs.states.Broken.reopen.Goals as goal
+use Rattle.commit_log.proofs.states.BrokenGate.reopen.Goals as goal
 
 pub returns-in-Ok-true-clause-during : goal.returns-in-Ok-true-clause-during
 returns-in-Ok-true-clause-during g c tells = opening_during _ _ _ _ _ c.synced_gate.ensures.either refl (g.met.V.Site.inside _ _ (c.synced_gate.ensures.tells tells))
