@@ -1,0 +1,17 @@
+-- What each call keeps.
+use Rattle.std.specs.Prelude.{◌≡◌, ℕ, ◌+◌, ◌-◌, ◌^◌, min}
+use Rattle.site_model.specs.declared.site.Site as sites
+use Rattle.commit_gate.specs.Views.{floors_of}
+use Rattle.hub_store.specs.Changes.{KeepsStore}
+use Rattle.hub_store.specs.declared.start.Start as starts
+use Rattle.gated_store.specs.declared.local.Gated as gated_types
+use Rattle.gated_store.specs.declared.store.GatedStore.{GatedStore}
+
+-- a turn further; the count of turns stops before it is too great for its field
+abbrev pub turned : ℕ → ℕ
+turned turns = min (turns + 1) (2 ^ 64 - 1)
+
+-- a call on the frame of a partition keeps what the logs do, and all floors
+pub record KeepsGate {V L : Type 0} {G : sites.Ghosts V} {K : starts.Ghosts (gated_types.Gated L)} (partition : ℕ) (old new : GatedStore V L G K) : Type 0 where
+  pub logs : KeepsStore partition old.logs new.logs
+  pub floors : floors_of new.ledgers.items ≡ floors_of old.ledgers.items

@@ -1,0 +1,6 @@
+pub mod Causal
+pub mod Following
+pub mod Follows
+pub mod Kept
+pub mod Keeps
+pub mod Settled

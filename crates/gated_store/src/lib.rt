@@ -1,0 +1,29 @@
+//! The store of many partitions, whose gate compares: a frame is committed only where what it took from other partitions is what they
+//! settled. So no entry that depends on one that was given up is ever committed, whatever packets said.
+//!
+//! - `local`: what is fixed of each partition when a call begins (`Local`), and the start of the logs by it (`Gated`).
+//! - `store`: the logs, and what others see of each partition; `begin` and `end`.
+//! - `body`, `sync`, `gate`, `settle`: the calls of a frame; `reopen`: what follows one that failed; `restart`: a new incarnation; `say`.
+//! - `looks`: what can be looked at; `refusal`: why a call refuses; `laws`: what holds between calls.
+//! - `specs/Kept` is what holds between calls (`IsKept`), `specs/Keeps` what each call keeps, `specs/Follows` what may be committed, and
+//!   `specs/Causal` that what was settled stands behind all that it depends on.
+#![tactic(auto)]
+
+mod begin;
+mod body;
+mod end;
+mod gate;
+mod laws;
+mod local;
+mod looks;
+mod refusal;
+mod reopen;
+mod restart;
+mod say;
+mod settle;
+mod store;
+mod sync;
+
+pub use local::{Gated, Local};
+pub use refusal::{BodyRefused, GateRefusal, SayRefusal};
+pub use store::GatedStore;
