@@ -4,6 +4,9 @@
 //! whether a device call failed. Each method makes one device call, and `reopen`, which goes on after one that failed, two. `commit`
 //! makes all of a commit's, one after another. What is refused is refused for a full log, the disk, the tape or want of memory: the
 //! store knows no clock.
+//!
+//! A frame that is under way is given up by `drop_frame` as long as its gate was never tried, which reads nothing and can't settle it.
+//! From then on the gate decides: `reopen` reads it.
 #![tactic(auto)]
 
 mod begin;
