@@ -15,5 +15,5 @@ mod pace;
 
 pub use clock::WallClock;
 pub use flush::Flush;
-pub use helpers::{FlushMany, Helpers};
+pub use helpers::{FlushMany, HELPERS, Helpers};
 pub use host::Host;
