@@ -33,8 +33,8 @@ pub struct Helpers<W> {
 }
 
 impl<W> Helpers<W> {
-    /// So many threads, which wait for work from here on. With none, or where the system makes none, the one that asks
-    /// does all.
+    /// So many threads, which wait for work from here on, until the program ends. With none, or where the system makes
+    /// none, the one that asks does all.
     pub fn start(rt: W, alloc: Global, count: u32) -> Result<Helpers<W>, AllocError>
     where
         W: Threads + Wait + Copy + Send + Drop + 'static,
@@ -45,14 +45,6 @@ impl<W> Helpers<W> {
             let _ = thread::spawn(&rt, move || shared.serve(&rt));
         }
         Ok(Helpers { rt, pool, round: 0 })
-    }
-
-    /// Lets the threads go.
-    pub fn close(&self)
-    where
-        W: Wait,
-    {
-        self.pool.close(&self.rt);
     }
 }
 

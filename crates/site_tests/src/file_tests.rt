@@ -4,17 +4,22 @@ ghost use Rattle.std.specs.Prelude.{◌≡◌, [], IfOk};
 
 use crate::transcript::{Line, World, answers, check};
 use site_calls::{CalledSite, Calls, FileName, Reason, Unknown};
-use site_host::Host;
+use site_host::{Helpers, Host};
 use std::alloc::{AllocError, Global};
 use std::fs;
 use std::fs::{File, Permissions};
 use std::os::unix::fs::PermissionsExt;
-use std::rt::Files;
+use std::rt::{Clock, Files};
+use std::sync::Wait;
+use std::thread::Threads;
+
+/// How many threads help each site.
+const HELPERS: u32 = 2;
 
 /// The directory, in the one where the tests run.
 const DIRECTORY: &str = "trial";
 
-type Disk = CalledSite<Host<HostRuntime>, Unknown>;
+type Disk = CalledSite<Host<HostRuntime, Helpers<HostRuntime>>, Unknown>;
 
 /// Calls on the directory, where nothing is opened before the first one.
 trait Opened<R>: Calls {
@@ -25,9 +30,13 @@ trait Opened<R>: Calls {
     fn why(&self) -> Option<Reason>;
 }
 
-impl<R: Files<File = File> + Print + Drop> Opened<R> for Host<R> {
-    fn open(rt: R, alloc: Global) -> Result<Host<R>, AllocError> {
-        Host::open(rt, alloc, DIRECTORY)
+impl<R> Opened<R> for Host<R, Helpers<R>>
+where
+    R: Files<File = File> + Print + Clock + Threads + Wait + Copy + Send + Drop + 'static,
+{
+    fn open(rt: R, alloc: Global) -> Result<Host<R, Helpers<R>>, AllocError> {
+        let helpers = Helpers::start(rt, alloc, HELPERS)?;
+        Host::open(rt, alloc, DIRECTORY, helpers)
     }
 
     fn why(&self) -> Option<Reason> {
@@ -113,6 +122,28 @@ const SITES: &str =
     read 17 100;
     length 16 0;
     faults 0 0;
+    go;
+    visit;
+# makes several files safe at once, those that are there;
+    come;
+    write 16 a;
+    write 17 b;
+    write 20 c;
+    write 21 d;
+    write 24 e;
+    together 16,17,20,21,24;
+    together 16,24;
+    write 20 x;
+    together 16,19,20,21,24;
+    together 16,17,20,21,24,16,17,20,21,24;
+    faults 0 0;
+    fails together 16,3;
+    faults 1 0;
+    visit;
+    read 16 0 a;
+    read 20 0 x;
+    read 24 0 e;
+    length 19 0;
     go;
     visit;
 # names its files;
