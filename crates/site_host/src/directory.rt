@@ -1,5 +1,6 @@
 // A directory that is held for the run, and its files, each opened once and kept open.
-ghost use Rattle.std.specs.Prelude.{◌≡◌, ◌<◌, ◌≤◌, length, IfOk, Ok};
+ghost use Rattle.std.specs.Prelude.{◌≡◌, ◌<◌, ◌≤◌, length, true, IfOk, OnOk, Ok};
+ghost use Rattle.site_host.specs.Flush.{is_safe};
 
 use crate::flush::{FileSlot, Flush};
 use site_calls::{FileName, Reason};
@@ -12,6 +13,7 @@ use std::os::unix::fs::{FileExt, MetadataExt};
 use std::rt::Files;
 use std::sync::{Arc, OnceLock};
 use std::{fs, io};
+use task_pool::Task;
 
 /// Room for the longest name of a file and the slash before it.
 const NAME_ROOM: usize = 16;
@@ -128,12 +130,20 @@ impl<R> Directory<R> {
         unless_nothing(self.opened(number)?.write_at(bytes, at))
     }
 
-    pub(crate) fn sync(&self, number: u32) -> io::Result<()> {
-        self.opened(number)?.sync_all()
+    /// Makes a file safe in this round.
+    pub(crate) fn sync(&self, round: u64, number: u32) -> io::Result<()>
+        ensures { OnOk result (is_safe round number ≡ true) }
+    {
+        match self.to_flush(number) {
+            Ok(flush) => flush.run(round),
+            Err(error) => Err(error),
+        }
     }
 
     /// The file, for a thread that is to make it safe.
-    pub(crate) fn to_flush(&self, number: u32) -> io::Result<Flush> {
+    pub(crate) fn to_flush(&self, number: u32) -> io::Result<Flush>
+        ensures { IfOk result (λ flush. flush.number ≡ number) }
+    {
         let slot = Arc::try_clone(&self.file(number)?.slot)?;
         Ok(Flush { number, slot })
     }

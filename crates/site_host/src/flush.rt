@@ -16,10 +16,9 @@ pub struct Flush {
 }
 
 impl Task for Flush {
-    ghost use Rattle.std.specs.Prelude.{true};
+    ghost use Rattle.site_host.specs.Flush.{is_safe};
 
-    // No clause can tell what the system did.
-    ghost is_done = { λ _ _. true };
+    ghost is_done = { is_safe };
 
     ghost number_of = { λ flush. flush.number };
 
@@ -27,6 +26,7 @@ impl Task for Flush {
         self.number
     }
 
+    // The one call that makes the file safe.
     fn run(&self, _round: u64) -> io::Result<()> {
         match self.slot.get() {
             Some(file) => file.sync_all(),

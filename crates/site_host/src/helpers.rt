@@ -1,5 +1,6 @@
 // Who makes several files safe at once.
-ghost use Rattle.std.specs.Prelude.{ℕ};
+ghost use Rattle.std.specs.Prelude.{◌≡◌, true, ℕ, All, OnOk};
+ghost use Rattle.site_host.specs.Flush.{is_safe};
 
 use crate::directory::FILES_LIMIT;
 use crate::flush::Flush;
@@ -14,14 +15,16 @@ pub const HELPERS: u32 = 7;
 
 /// Makes several files safe.
 pub trait FlushMany {
-    /// Makes the files with these numbers safe, each of which the closure gives, and waits for all. Else it gives the number
-    /// of one that isn't safe, with why.
+    /// Makes the files with these numbers safe, each of which the closure gives, and waits for all. Where one failed it gives
+    /// its number, with why. Each call has another round.
     fn flush_many<F: Fn(u32) -> io::Result<Flush>>(
-        &mut self,
+        &self,
+        round: u64,
         numbers: &[u32],
         to_flush: F,
     ) -> Result<(), (u32, io::Error)>
-        requires { (number : ℕ) → F.pre to_flush number };
+        requires { (number : ℕ) → F.pre to_flush number }
+        ensures { OnOk result (All (λ number. is_safe round number ≡ true) numbers.now) };
 }
 
 /// Threads that make files safe, several at once.
@@ -29,7 +32,6 @@ pub trait FlushMany {
 pub struct Helpers<W> {
     rt: W,
     pool: Arc<Pool<Flush>>,
-    round: u64,
 }
 
 impl<W> Helpers<W> {
@@ -44,17 +46,17 @@ impl<W> Helpers<W> {
             let shared = Arc::try_clone(&pool)?;
             let _ = thread::spawn(&rt, move || shared.serve(&rt));
         }
-        Ok(Helpers { rt, pool, round: 0 })
+        Ok(Helpers { rt, pool })
     }
 }
 
 impl<W: Wait> FlushMany for Helpers<W> {
     fn flush_many<F: Fn(u32) -> io::Result<Flush>>(
-        &mut self,
+        &self,
+        round: u64,
         numbers: &[u32],
         to_flush: F,
     ) -> Result<(), (u32, io::Error)> {
-        self.round = self.round.wrapping_add(1);
-        self.pool.run(&self.rt, self.round, numbers, to_flush)
+        self.pool.run(&self.rt, round, numbers, to_flush)
     }
 }

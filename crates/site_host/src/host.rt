@@ -1,5 +1,6 @@
 // Each method makes its call of the system, and then notes it with its answer.
-ghost use Rattle.std.specs.Prelude.{◌≡◌, [], IfOk};
+ghost use Rattle.std.specs.Prelude.{◌≡◌, [], true, All, IfOk, OnOk};
+ghost use Rattle.site_host.specs.Flush.{is_safe};
 ghost use Rattle.site_host.specs.Host.{events_of};
 
 use crate::directory::{Directory, unless_nothing};
@@ -21,6 +22,8 @@ pub struct Host<R, H> {
     directory: Directory<R>,
     record: Record,
     helpers: H,
+    // how often files were made safe
+    round: u64,
     pace: Pace,
 }
 
@@ -37,6 +40,7 @@ impl<R, H> Host<R, H> {
             directory: Directory::new(rt, alloc, directory)?,
             record: Record::new(),
             helpers,
+            round: 0,
             pace: Pace::unknown(),
         })
     }
@@ -46,11 +50,27 @@ impl<R, H> Host<R, H> {
         self.directory.reason
     }
 
-    // Makes files safe one after another.
-    fn sync_in_turn(&self, files: &[u32]) -> Result<(), (u32, io::Error)> {
+    // Makes files safe in this round: few of them one after another where the disk is fast, else at once.
+    fn sync_all(&self, round: u64, files: &[u32]) -> Result<(), (u32, io::Error)>
+    where
+        H: FlushMany,
+        ensures { OnOk result (All (λ file. is_safe round file ≡ true) files.now) }
+    {
+        if files.len() < AT_ONCE && self.pace.is_fast() {
+            return self.sync_in_turn(round, files);
+        }
+        let directory = &self.directory;
+        self.helpers
+            .flush_many(round, files, |file| directory.to_flush(file))
+    }
+
+    fn sync_in_turn(&self, round: u64, files: &[u32]) -> Result<(), (u32, io::Error)>
+        ensures { OnOk result (All (λ file. is_safe round file ≡ true) files.now) }
+    {
         for file in files {
-            if let Err(error) = self.directory.sync(*file) {
-                return Err((*file, error));
+            match self.directory.sync(round, *file) {
+                Ok(()) => {}
+                Err(error) => return Err((*file, error)),
             }
         }
         Ok(())
@@ -115,20 +135,16 @@ impl<R: Files<File = File> + Print + Clock, H: FlushMany> Calls for Host<R, H> {
 
     fn flush(&mut self, file: u32) -> io::Result<()> {
         let begun = self.pace.begin(&self.directory.rt);
-        let answer = self.directory.sync(file);
+        self.round = self.round.wrapping_add(1);
+        let answer = self.directory.sync(self.round, file);
         self.pace.end(&self.directory.rt, begun);
         self.record.flushed(file, answer.is_ok());
         answer
     }
 
     fn flush_files(&mut self, files: &[u32]) -> Result<(), (u32, io::Error)> {
-        let answer = if files.len() < AT_ONCE && self.pace.is_fast() {
-            self.sync_in_turn(files)
-        } else {
-            let directory = &self.directory;
-            self.helpers
-                .flush_many(files, |number| directory.to_flush(number))
-        };
+        self.round = self.round.wrapping_add(1);
+        let answer = self.sync_all(self.round, files);
         match answer {
             Ok(()) => self.record.flushed_all(files),
             Err((file, _)) => self.record.flushed(file, false),
