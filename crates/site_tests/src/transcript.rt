@@ -97,7 +97,7 @@ fn syncs_together(site: &mut impl Site, line: Line) -> bool {
             count += 1;
         }
     }
-    site.sync_files(&files[..count]).is_err() == line.fails
+    site.sync_files(&files[..count.min(16)]).is_err() == line.fails
 }
 
 /// The call of this line that each site has. A write is at the file's start. A read asks for so many bytes, up to 16.
