@@ -36,7 +36,7 @@ pub struct Helpers<W> {
 
 impl<W> Helpers<W> {
     /// So many threads, which wait for work from here on, until the program ends. With none, or where the system makes
-    /// none, the one that asks does all.
+    /// none, the one that asks does all. The memory for all files is taken here.
     pub fn start(rt: W, alloc: Global, count: u32) -> Result<Helpers<W>, AllocError>
     where
         W: Threads + Wait + Copy + Send + Drop + 'static,

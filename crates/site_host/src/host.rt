@@ -28,8 +28,7 @@ pub struct Host<R, H> {
 }
 
 impl<R, H> Host<R, H> {
-    /// The directory with this path. Nothing is opened before the first call, and no call takes memory, but for what
-    /// the helpers take.
+    /// The directory with this path. Nothing is opened before the first call, and no call takes memory of its own.
     pub fn open(rt: R, alloc: Global, directory: &str, helpers: H) -> Result<Host<R, H>, AllocError>
     where
         R: Drop,

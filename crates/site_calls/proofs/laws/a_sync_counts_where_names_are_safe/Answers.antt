@@ -1,6 +1,6 @@
 use Rattle.std.proofs.Common.{refl}
 use Rattle.site_calls.proofs.Histories.{sync_counts}
-use Rattle.site_calls.proofs.SyncInParts.{each_counts}
+use Rattle.site_calls.proofs.SyncsAtOnce.{each_counts}
 use Rattle.site_calls.proofs.laws.a_sync_counts_where_names_are_safe.Goals as goal
 
 pub returns : goal.returns

@@ -1,7 +1,7 @@
 use Rattle.std.proofs.Common.{ap, subst, arith}
 use Rattle.site_calls.specs.Events.{IsHonest}
 use Rattle.site_calls.specs.Failures.{count_of}
-use Rattle.site_calls.proofs.SyncInParts.{honest_flushing, kept_flushing, known_flushed, done_flushed}
+use Rattle.site_calls.proofs.SyncsAtOnce.{honest_flushing, kept_flushing, known_flushed, done_flushed}
 use Rattle.site_calls.proofs.syncing_files.flush_all.Goals as goal
 
 pub returns-in-Ok-clause-tells : goal.returns-in-Ok-clause-tells

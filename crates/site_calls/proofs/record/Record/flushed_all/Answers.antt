@@ -1,7 +1,7 @@
 use Rattle.std.proofs.Common.{true, ◌∷◌, take, get_or, ap, sym, ◌∙◌, arith}
 use Rattle.std.proofs.lemmas.List.{take_more}
 use Rattle.site_calls.specs.Events.{flushed, flushing}
-use Rattle.site_calls.proofs.SyncInParts.{flushing-push}
+use Rattle.site_calls.proofs.SyncsAtOnce.{flushing-push}
 use Rattle.site_calls.proofs.record.Record.flushed_all.Goals as goal
 
 pub loop-file-preserved : goal.loop-file-preserved
