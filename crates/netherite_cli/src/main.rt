@@ -1,11 +1,12 @@
 //! The command `netherite`: the real outside that it hands to the engine, and how it ends.
 #![tactic(auto)]
 
-ghost use Rattle.std.specs.Prelude.{◌≡◌, ◌⊎◌, IfOk, IfErr, MatchResult, None, Ok};
+ghost use Rattle.std.specs.Prelude.{◌≡◌, ◌⊎◌, [], IfOk, IfErr, MatchResult, None, Ok};
 ghost use Rattle.std.specs.Process.{exit_status};
 ghost use Rattle.cli_call.specs.Call.{cause_of};
 ghost use Rattle.command_words.specs.Command.{call_in};
 ghost use Rattle.run_causes.specs.Causes.{status_of};
+ghost use Rattle.site_host.specs.Host.{events_of};
 
 use activity_table::Table;
 use cli_call::{Call, CallError, Findings, call_from, ending, look};
@@ -13,6 +14,7 @@ use engine_run::run_recorded;
 use run_causes::Cause;
 use site_calls::{CalledSite, Fault, Reason, Start, Unknown};
 use site_host::{Helpers, Host, WallClock};
+use std::alloc::AllocError;
 use std::env;
 use std::process::ExitCode;
 use std::sync::Wait;
@@ -66,10 +68,7 @@ where
         Ok(call) => call,
         Err(error) => return Err(error),
     };
-    let Ok(helpers) = Helpers::start(threads, rt.alloc(), HELPERS) else {
-        return Err(CallError::Memory);
-    };
-    let Ok(host) = Host::open(rt, rt.alloc(), call.directory.as_str(), helpers) else {
+    let Ok(host) = open_host(threads, rt, call.directory.as_str()) else {
         return Err(CallError::Memory);
     };
     let site = CalledSite::new(host, start);
@@ -83,6 +82,20 @@ where
         fault,
         reason,
     })
+}
+
+// The real directory, and the threads that help to make its files safe.
+fn open_host<T>(
+    threads: T,
+    rt: HostRuntime,
+    directory: &str,
+) -> Result<Host<HostRuntime, Helpers<T>>, AllocError>
+where
+    T: Threads + Wait + Copy + Send + Drop + 'static,
+    ensures { IfOk result (λ host. events_of host ≡ []) }
+{
+    let helpers = Helpers::start(threads, rt.alloc(), HELPERS)?;
+    Host::open(rt, rt.alloc(), directory, helpers)
 }
 
 // Ends as a call did, or for why there was none.
