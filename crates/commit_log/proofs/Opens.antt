@@ -1,7 +1,6 @@
 -- Opening a log.
-use Rattle.std.proofs.Common.{◌≡◌, ◌≢◌, ◌==◌, Bool, MatchBool, ℕ, true, false, List, [], ◌∷◌, ◌++◌, get_or, Result, Ok, Err, sym, ap, subst, ◌∙◌, arith}
-use Rattle.std.specs.Prelude.{IfOk}
-use Rattle.std.proofs.lemmas.Bool.{eqb-true, eqb-false, ne_eqb}
+use Rattle.std.proofs.Common.{◌≡◌, ◌≢◌, ◌==◌, Bool, MatchBool, ℕ, true, false, List, [], ◌∷◌, ◌++◌, get_or, Result, sym, ap, subst, ◌∙◌, arith}
+use Rattle.std.proofs.lemmas.Bool.{eqb-true, eqb-false}
 use Rattle.std.proofs.lemmas.List.{get_or_at, append_assoc}
 use Rattle.site_model.specs.History.{Change, Step, on, synced, reads, changes_of, content_of, Leaves, writes_inside}
 use Rattle.site_model.specs.Calls.{Syncs}
@@ -9,12 +8,9 @@ use Rattle.site_model.specs.Moments.{LeavesOnly}
 use Rattle.site_model.proofs.Images.{reads_is_image}
 use Rattle.commit_log.specs.declared.header.Header.{Header}
 use Rattle.commit_log.specs.Segment.{segment_bytes, framed, open_gate}
-use Rattle.commit_log.specs.States.{EndsAt, IsResting, IsBroken, IsBeforeOrAfter}
-use Rattle.commit_log.specs.declared.states.Broken.{Broken}
-use Rattle.commit_log.specs.declared.states.Reopened.{Reopened}
-use Rattle.commit_log.specs.Outcomes.{RestsAs, AfterReopen, AfterDrop}
+use Rattle.commit_log.specs.States.{IsResting, IsBrokenBody, IsBrokenGate, IsBeforeOrAfter}
 use Rattle.commit_log.proofs.Written.{segment-push}
-use Rattle.commit_log.proofs.Steps.{sync_during, synced_changes}
+use Rattle.commit_log.proofs.Steps.{sync_during, synced_changes, dropped}
 
 -- a sync leaves no image that wasn't there before
 pub opening_during : {T E : Type 0} (file : ℕ) (old mid new : List Step) (result : Result T E) → Syncs file old mid result → new ≡ mid → writes_inside (changes_of file old) ≡ true
@@ -26,16 +22,16 @@ opening_during file old mid new result syncs same inside =
 
 -- ---- opening again
 
--- a sync leaves a broken log as it is
-pub broken_synced : (changes : List Change) (h : Header) (payloads : List (List ℕ)) (payload : List ℕ) (gate next : ℕ) → IsBroken changes h payloads payload gate next → IsBroken (synced ∷ changes) h payloads payload gate next
-broken_synced changes h payloads payload gate next broken = record {
+-- a sync leaves a log whose gate was tried as it is
+pub broken_gate_synced : (changes : List Change) (h : Header) (payloads : List (List ℕ)) (payload : List ℕ) (gate next : ℕ) → IsBrokenGate changes h payloads payload gate next → IsBrokenGate (synced ∷ changes) h payloads payload gate next
+broken_gate_synced changes h payloads payload gate next broken = record {
   ends = broken.ends;
   ends_after = broken.ends_after;
   content = broken.content;
   images = λ image left. subst (IsBeforeOrAfter h payloads payload) (sym left) broken.content;
 }
 
-module _ (changes : List Change) (h : Header) (payloads : List (List ℕ)) (payload : List ℕ) (gate next : ℕ) (broken : IsBroken changes h payloads payload gate next) where
+module _ (changes : List Change) (h : Header) (payloads : List (List ℕ)) (payload : List ℕ) (gate next : ℕ) (broken : IsBrokenGate changes h payloads payload gate next) where
   pub at_gate : get_or (reads changes) gate 0 ≡ broken.content.byte
   at_gate = ap (λ (l : List ℕ). get_or l gate 0) broken.content.split ∙ get_or_at (segment_bytes h payloads) broken.content.byte broken.content.rest 0 gate (sym broken.ends.place)
 
@@ -67,7 +63,7 @@ module _ (changes : List Change) (h : Header) (payloads : List (List ℕ)) (payl
   }
 
 -- by what was read
-pub reopens : (file : ℕ) (old new : List Step) (h : Header) (payloads : List (List ℕ)) (payload : List ℕ) (gate next : ℕ) (is_open : Bool) → IsBroken (changes_of file old) h payloads payload gate next
+pub reopens : (file : ℕ) (old new : List Step) (h : Header) (payloads : List (List ℕ)) (payload : List ℕ) (gate next : ℕ) (is_open : Bool) → IsBrokenGate (changes_of file old) h payloads payload gate next
     → new ≡ on file synced ∷ old → is_open ≡ (get_or (content_of file old) gate 0 == open_gate)
     → MatchBool is_open (IsResting (changes_of file new) h (payloads ++ payload ∷ []) next) (IsResting (changes_of file new) h payloads gate)
 reopens file old new h payloads payload gate next true broken is test =
@@ -77,14 +73,8 @@ reopens file old new h payloads payload gate next false broken is test =
     subst (λ (changes : List Change). IsResting changes h payloads gate) (sym (synced_changes file old new is))
     (reopened_closed (changes_of file old) h payloads payload gate next broken (eqb-false _ _ (sym test)))
 
--- what is read at the gate of a frame whose gate was never opened
-pub gate_closed : (h : Header) (payloads : List (List ℕ)) (gate byte : ℕ) (rest bytes : List ℕ) → EndsAt h payloads gate → byte ≢ open_gate → bytes ≡ segment_bytes h payloads ++ byte ∷ rest → get_or bytes gate 0 ≢ open_gate
-gate_closed h payloads gate byte rest bytes ends closed split is =
-    closed (sym (ap (λ (l : List ℕ). get_or l gate 0) split ∙ get_or_at (segment_bytes h payloads) byte rest 0 gate (sym ends.place)) ∙ is)
-
-pub drops : (steps : List Step) (h : Header) (payloads : List (List ℕ)) (payload : List ℕ) (byte : ℕ) (result : Result Reopened Broken) → AfterReopen steps h payloads payload result
-    → IfOk result (λ found. found.settled ≡ (byte == open_gate)) → byte ≢ open_gate → AfterDrop steps h payloads payload result
-drops steps h payloads payload byte (Ok found) after test closed =
-    let off : found.settled ≡ false = test ∙ ne_eqb byte open_gate closed in
-    (off, subst (λ b. MatchBool b (RestsAs steps h (payloads ++ payload ∷ []) found.log) (RestsAs steps h payloads found.log)) off after)
-drops steps h payloads payload byte (Err broken) after test closed = after
+-- what dropping a frame leaves whose gate was never tried
+pub drop_rests : (file : ℕ) (old new : List Step) (h : Header) (payloads : List (List ℕ)) (gate : ℕ) → IsBrokenBody (changes_of file old) h payloads gate
+    → new ≡ on file synced ∷ old → IsResting (changes_of file new) h payloads gate
+drop_rests file old new h payloads gate broken is =
+    subst (λ (changes : List Change). IsResting changes h payloads gate) (sym (synced_changes file old new is)) (dropped h payloads gate (changes_of file old) broken)

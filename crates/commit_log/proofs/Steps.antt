@@ -9,7 +9,7 @@ use Rattle.site_model.proofs.Paths.{own_change, one_call}
 use Rattle.site_model.proofs.Images.{torn_front, torn_within}
 use Rattle.commit_log.specs.declared.header.Header.{Header}
 use Rattle.commit_log.specs.Segment.{open_gate, segment_bytes, framed}
-use Rattle.commit_log.specs.States.{EndsAt, IsResting, IsBodied, IsSynced, IsGated, IsBroken, IsBeforeOrAfter, HasFrames, HasFramesOrOneMore}
+use Rattle.commit_log.specs.States.{EndsAt, IsResting, IsBodied, IsSynced, IsGated, IsBrokenBody, IsBrokenGate, IsBeforeOrAfter, HasFrames, HasFramesOrOneMore}
 use Rattle.commit_log.proofs.Written.{segment-push, length-framed, reads_closed}
 
 -- a list, its part before a place, the byte there and what follows
@@ -53,6 +53,27 @@ module _ (h : Header) (payloads : List (List ℕ)) (gate : ℕ) (changes : List 
   behind_content : (bytes : List ℕ) → put (gate + 1) bytes (reads changes) ≡ (segment_bytes h payloads ++ rests.byte ∷ []) ++ bytes ++ drop (gate + 1 + length bytes) (reads changes)
   behind_content bytes = ap (λ (l : List ℕ). l ++ bytes ++ drop (gate + 1 + length bytes) (reads changes)) resting_front
 
+  -- before the write and after any of it, the frame isn't there
+  pub resting_broken : IsBrokenBody changes h payloads gate
+  resting_broken = record {
+    ends = rests.ends;
+    byte = rests.byte;
+    rest = rests.rest;
+    content = rests.content;
+    closed = rests.closed;
+    front = λ image left. ap (take (gate + 1)) (rests.kept image left) ∙ resting_front;
+  }
+
+  pub behind_broken : (size : ℕ) (bytes : List ℕ) → IsBrokenBody (wrote (gate + 1) size bytes ∷ changes) h payloads gate
+  behind_broken size bytes = record {
+    ends = rests.ends;
+    byte = rests.byte;
+    rest = bytes ++ drop (gate + 1 + length bytes) (reads changes);
+    content = behind_content bytes ∙ simp append_assoc;
+    closed = rests.closed;
+    front = behind_front size bytes;
+  }
+
   module _ (payload : List ℕ) (next : ℕ) (next-is : next ≡ gate + 5 + length payload) (below : next + 1 < 2 ^ 31) where
     pub ends_after : EndsAt h (payloads ++ payload ∷ []) next
     ends_after = record {
@@ -78,26 +99,6 @@ module _ (h : Header) (payloads : List (List ℕ)) (gate : ℕ) (changes : List 
         regroup : (front : List ℕ) (byte : ℕ) (frame tail : List ℕ) → (front ++ byte ∷ []) ++ (frame ++ 0 ∷ []) ++ tail ≡ front ++ byte ∷ frame ++ 0 ∷ tail
         regroup front byte frame tail = simp append_assoc
 
-    before : (bytes : List ℕ) (byte : ℕ) (rest : List ℕ) → bytes ≡ segment_bytes h payloads ++ byte ∷ rest → byte ≢ open_gate → IsBeforeOrAfter h payloads payload bytes
-    before bytes byte rest split closed = record { byte = byte; rest = rest; split = split; whole = λ is. absurd (closed is) }
-
-    -- before the write and after any of it, the frame isn't there
-    pub resting_broken : IsBroken changes h payloads payload gate next
-    resting_broken = record {
-      ends = rests.ends;
-      ends_after = ends_after;
-      content = before (reads changes) rests.byte rests.rest rests.content rests.closed;
-      images = λ image left. before image rests.byte rests.rest (rests.kept image left ∙ rests.content) rests.closed;
-    }
-
-    pub behind_broken : (size : ℕ) (bytes : List ℕ) → IsBroken (wrote (gate + 1) size bytes ∷ changes) h payloads payload gate next
-    behind_broken size bytes = record {
-      ends = rests.ends;
-      ends_after = ends_after;
-      content = before (reads (wrote (gate + 1) size bytes ∷ changes)) rests.byte (bytes ++ drop (gate + 1 + length bytes) (reads changes)) (behind_content bytes ∙ simp append_assoc) rests.closed;
-      images = λ image left. before image rests.byte (drop (gate + 1) image) (split_at gate image (segment_bytes h payloads) rests.byte (behind_front size bytes image left)) rests.closed;
-    }
-
 -- what the write of a body leaves, whatever it answered
 pub body_during : {T E : Type 0} (file : ℕ) (old new : List Step) (h : Header) (payloads : List (List ℕ)) (gate : ℕ) (bytes : List ℕ) (result : Result T E)
     → IsResting (changes_of file old) h payloads gate → Writes file (gate + 1) bytes old new result → LeavesOnly file old new (HasFrames h payloads gate)
@@ -105,15 +106,14 @@ body_during file old new h payloads gate bytes result rests writes =
     one_call file (wrote (gate + 1) (length bytes) writes.now) old new (HasFrames h payloads gate) writes.either
     (resting_images h payloads gate (changes_of file old) rests) (behind_images h payloads gate (changes_of file old) rests (length bytes) writes.now)
 
-pub body_broken : {T E : Type 0} (file : ℕ) (old new : List Step) (h : Header) (payloads : List (List ℕ)) (payload : List ℕ) (gate next : ℕ) (bytes : List ℕ) (result : Result T E)
-    → next ≡ gate + 5 + length payload → next + 1 < 2 ^ 31
-    → IsResting (changes_of file old) h payloads gate → Writes file (gate + 1) bytes old new result → IsBroken (changes_of file new) h payloads payload gate next
-body_broken file old new h payloads payload gate next bytes result next-is below rests writes = elim writes.either [
+pub body_broken : {T E : Type 0} (file : ℕ) (old new : List Step) (h : Header) (payloads : List (List ℕ)) (gate : ℕ) (bytes : List ℕ) (result : Result T E)
+    → IsResting (changes_of file old) h payloads gate → Writes file (gate + 1) bytes old new result → IsBrokenBody (changes_of file new) h payloads gate
+body_broken file old new h payloads gate bytes result rests writes = elim writes.either [
   | inl is ↦
-      subst (λ (changes : List Change). IsBroken changes h payloads payload gate next)
+      subst (λ (changes : List Change). IsBrokenBody changes h payloads gate)
       (sym (ap (changes_of file) is ∙ own_change file (wrote (gate + 1) (length bytes) writes.now) old))
-      (behind_broken h payloads gate (changes_of file old) rests payload next next-is below (length bytes) writes.now)
-  | inr is ↦ subst (λ (steps : List Step). IsBroken (changes_of file steps) h payloads payload gate next) (sym is) (resting_broken h payloads gate (changes_of file old) rests payload next next-is below)
+      (behind_broken h payloads gate (changes_of file old) rests (length bytes) writes.now)
+  | inr is ↦ subst (λ (steps : List Step). IsBrokenBody (changes_of file steps) h payloads gate) (sym is) (resting_broken h payloads gate (changes_of file old) rests)
 ]
 
 -- the bytes of a body are five more than its payload
@@ -226,24 +226,38 @@ module _ (h : Header) (payloads : List (List ℕ)) (payload : List ℕ) (gate ne
     kept = λ image left. left;
   }
 
-  bodied_content : IsBeforeOrAfter h payloads payload (reads changes)
-  bodied_content = no_frame h payloads payload gate next bodied.ends bodied.ends_after bodied.byte (framed payload ++ 0 ∷ bodied.tail) (reads changes) bodied_reads bodied.closed
-
-  pub bodied_broken : IsBroken changes h payloads payload gate next
+  -- its gate was never tried
+  pub bodied_broken : IsBrokenBody changes h payloads gate
   bodied_broken = record {
     ends = bodied.ends;
-    ends_after = bodied.ends_after;
-    content = bodied_content;
-    images = λ image left. no_frame h payloads payload gate next bodied.ends bodied.ends_after bodied.byte (drop (gate + 1) image) image (split_at gate image (segment_bytes h payloads) bodied.byte (bodied.front image left)) bodied.closed;
+    byte = bodied.byte;
+    rest = framed payload ++ 0 ∷ bodied.tail;
+    content = bodied_reads;
+    closed = bodied.closed;
+    front = bodied.front;
   }
 
-  pub bodied_synced_broken : IsBroken (synced ∷ changes) h payloads payload gate next
-  bodied_synced_broken = record {
-    ends = bodied.ends;
-    ends_after = bodied.ends_after;
-    content = bodied_content;
-    images = λ image left. subst (IsBeforeOrAfter h payloads payload) (sym left) bodied_content;
+-- ---- a frame whose gate was never tried
+
+module _ (h : Header) (payloads : List (List ℕ)) (gate : ℕ) (changes : List Change) (broken : IsBrokenBody changes h payloads gate) where
+  pub untried_images : (image : List ℕ) → Leaves changes image → HasFrames h payloads gate image
+  untried_images image left =
+      subst (HasFrames h payloads gate) (sym (split_at gate image (segment_bytes h payloads) broken.byte (broken.front image left)))
+      (reads_closed h payloads gate broken.byte (drop (gate + 1) image) broken.ends broken.closed)
+
+  -- once its file was synced it is gone, for good
+  pub dropped : IsResting (synced ∷ changes) h payloads gate
+  dropped = record {
+    ends = broken.ends;
+    byte = broken.byte;
+    rest = broken.rest;
+    content = broken.content;
+    closed = broken.closed;
+    kept = λ image left. left;
   }
+
+  pub untried_synced : IsBrokenBody (synced ∷ changes) h payloads gate
+  untried_synced = resting_broken h payloads gate (synced ∷ changes) dropped
 
 -- what a sync leaves, whatever it answered: a claim on the file's changes with or without it
 pub after_sync : {T E : Type 0} (file : ℕ) (old new : List Step) (result : Result T E) (P : List Change → Type 0)
@@ -272,7 +286,20 @@ module _ (h : Header) (payloads : List (List ℕ)) (payload : List ℕ) (gate ne
   synced_content : IsBeforeOrAfter h payloads payload (reads changes)
   synced_content = no_frame h payloads payload gate next synced.ends synced.ends_after synced.byte (framed payload ++ 0 ∷ synced.tail) (reads changes) synced_reads synced.closed
 
-  pub synced_broken : IsBroken changes h payloads payload gate next
+  -- before its gate is tried
+  pub synced_untried : IsBrokenBody changes h payloads gate
+  synced_untried = record {
+    ends = synced.ends;
+    byte = synced.byte;
+    rest = framed payload ++ 0 ∷ synced.tail;
+    content = synced_reads;
+    closed = synced.closed;
+    front = λ image left.
+        ap (take (gate + 1)) (synced.kept image left ∙ synced_reads) ∙ front_of gate (segment_bytes h payloads) synced.byte (framed payload ++ 0 ∷ synced.tail) synced.ends.place;
+  }
+
+  -- the gate's write failed and nothing came of it
+  pub synced_broken : IsBrokenGate changes h payloads payload gate next
   synced_broken = record {
     ends = synced.ends;
     ends_after = synced.ends_after;
@@ -310,7 +337,7 @@ module _ (h : Header) (payloads : List (List ℕ)) (payload : List ℕ) (gate ne
       whole_frame h payloads payload gate next synced.ends synced.ends_after byte synced.tail _ (put_gate h payloads payload gate next synced.ends synced.ends_after byte synced.byte synced.tail (reads changes) synced.content)
   gate_content (byte ∷ other ∷ bytes) short = absurd (omega arith)
 
-  pub gate_broken : (bytes : List ℕ) → length bytes ≤ 1 → IsBroken (wrote gate 1 bytes ∷ changes) h payloads payload gate next
+  pub gate_broken : (bytes : List ℕ) → length bytes ≤ 1 → IsBrokenGate (wrote gate 1 bytes ∷ changes) h payloads payload gate next
   gate_broken bytes short = record {
     ends = synced.ends;
     ends_after = synced.ends_after;
@@ -327,13 +354,13 @@ gate_during file old new h payloads payload gate next result stands writes =
 
 pub gate_fails : {T E : Type 0} (file : ℕ) (old new : List Step) (h : Header) (payloads : List (List ℕ)) (payload : List ℕ) (gate next : ℕ) (result : Result T E)
     → IsSynced (changes_of file old) h payloads payload gate next → Writes file gate (open_gate ∷ []) old new result
-    → IsBroken (changes_of file new) h payloads payload gate next
+    → IsBrokenGate (changes_of file new) h payloads payload gate next
 gate_fails file old new h payloads payload gate next result stands writes = elim writes.either [
   | inl is ↦
-      subst (λ (changes : List Change). IsBroken changes h payloads payload gate next)
+      subst (λ (changes : List Change). IsBrokenGate changes h payloads payload gate next)
       (sym (ap (changes_of file) is ∙ own_change file (wrote gate 1 writes.now) old))
       (gate_broken h payloads payload gate next (changes_of file old) stands writes.now writes.no_longer)
-  | inr is ↦ subst (λ (steps : List Step). IsBroken (changes_of file steps) h payloads payload gate next) (sym is) (synced_broken h payloads payload gate next (changes_of file old) stands)
+  | inr is ↦ subst (λ (steps : List Step). IsBrokenGate (changes_of file steps) h payloads payload gate next) (sym is) (synced_broken h payloads payload gate next (changes_of file old) stands)
 ]
 
 pub gate_done : (file : ℕ) (old new : List Step) (h : Header) (payloads : List (List ℕ)) (payload : List ℕ) (gate next : ℕ)
@@ -370,10 +397,10 @@ module _ (h : Header) (payloads : List (List ℕ)) (payload : List ℕ) (gate ne
     kept = λ image left. left;
   }
 
-  pub gated_broken : IsBroken changes h payloads payload gate next
+  pub gated_broken : IsBrokenGate changes h payloads payload gate next
   gated_broken = record { ends = gated.ends; ends_after = gated.ends_after; content = gated_content; images = gated_stands }
 
-  pub gated_synced_broken : IsBroken (synced ∷ changes) h payloads payload gate next
+  pub gated_synced_broken : IsBrokenGate (synced ∷ changes) h payloads payload gate next
   gated_synced_broken = record {
     ends = gated.ends;
     ends_after = gated.ends_after;

@@ -71,8 +71,18 @@ pub record IsBeforeOrAfter (h : Header) (payloads : List (List ℕ)) (payload by
   pub split : bytes ≡ segment_bytes h payloads ++ byte ∷ rest
   pub whole : byte ≡ open_gate → (tail : List ℕ) × (rest ≡ framed payload ++ 0 ∷ tail)
 
--- what a failed call leaves: the frame is there or it isn't
-pub record IsBroken (changes : List Change) (h : Header) (payloads : List (List ℕ)) (payload : List ℕ) (gate next : ℕ) : Type 0 where
+-- What a failed call leaves before the gate was tried: the frames, a gate that isn't open and whatever stands behind it. The same front
+-- is in each image that a crash may leave.
+pub record IsBrokenBody (changes : List Change) (h : Header) (payloads : List (List ℕ)) (gate : ℕ) : Type 0 where
+  pub ends : EndsAt h payloads gate
+  pub byte : ℕ
+  pub rest : List ℕ
+  pub content : reads changes ≡ segment_bytes h payloads ++ byte ∷ rest
+  pub closed : byte ≢ open_gate
+  pub front : (image : List ℕ) → Leaves changes image → take (gate + 1) image ≡ segment_bytes h payloads ++ byte ∷ []
+
+-- what a failed call leaves once the gate was tried: the frame is there or it isn't
+pub record IsBrokenGate (changes : List Change) (h : Header) (payloads : List (List ℕ)) (payload : List ℕ) (gate next : ℕ) : Type 0 where
   pub ends : EndsAt h payloads gate
   pub ends_after : EndsAt h (payloads ++ payload ∷ []) next
   pub content : IsBeforeOrAfter h payloads payload (reads changes)

@@ -9,7 +9,7 @@ ghost use Rattle.commit_log.specs.States.{IsResting, IsBodied, IsSynced, IsGated
 ghost use Rattle.commit_log.specs.Outcomes.{AfterBody, AfterSync, AfterGate, AfterSettle};
 
 use crate::frame::{OPEN_GATE, behind_gate};
-use crate::states::{Bodied, BodyError, Broken, Gated, Resting, Synced};
+use crate::states::{Bodied, BodyError, BrokenBody, BrokenGate, Gated, Resting, Synced};
 use site_model::Site;
 use std::alloc::Global;
 
@@ -50,7 +50,9 @@ impl Resting {
         ensures untouched_full { (n : ℕ) (log : _) → result ≡ Err (BodyError.Full n log)
             → V.history site.new ≡ V.history site.old }
         ensures broken { (log : _) → result ≡ Err (BodyError.SiteFault log)
-            → (log.file ≡ self.file) × HasRisen (V.disk_faults site.old) (V.disk_faults site.new) }
+            → (log.file ≡ self.file) × (log.gate ≡ self.gate)
+            × (log.next ≡ self.gate + 5 + length payload.now)
+            × HasRisen (V.disk_faults site.old) (V.disk_faults site.new) }
         ensures later { V.disk_faults site.old ≤ V.disk_faults site.new }
         ensures say_faults { V.say_faults site.new ≡ V.say_faults site.old }
     {
@@ -66,14 +68,14 @@ impl Resting {
         let next = length - 1;
         match site.write(file, gate + 1, &bytes) {
             Ok(()) => Ok(Bodied { file, gate, next }),
-            Err(_) => Err(BodyError::SiteFault(Broken { file, gate, next })),
+            Err(_) => Err(BodyError::SiteFault(BrokenBody { file, gate, next })),
         }
     }
 }
 
 impl Bodied {
     /// Makes the frame safe on the disk.
-    pub fn sync_body<V: Site>(self, site: &mut V) -> Result<Synced, Broken>
+    pub fn sync_body<V: Site>(self, site: &mut V) -> Result<Synced, BrokenBody>
         ensures tells { V.tells site.new → V.tells site.old }
         ensures during { (h : Header) (payloads : List (List ℕ)) (payload : List ℕ)
             → IsBodied (changes_of self.file (V.history site.old)) h payloads payload self.gate
@@ -91,17 +93,16 @@ impl Bodied {
         ensures cause { HasCause (V.disk_faults site.old) (V.disk_faults site.new) result }
         ensures say_faults { V.say_faults site.new ≡ V.say_faults site.old }
     {
-        let Bodied { file, gate, next } = self;
-        match site.sync(file) {
-            Ok(()) => Ok(Synced { file, gate, next }),
-            Err(_) => Err(Broken { file, gate, next }),
+        match site.sync(self.file) {
+            Ok(()) => Ok(self.synced()),
+            Err(_) => Err(self.failed()),
         }
     }
 }
 
 impl Synced {
     /// Opens the gate before the frame.
-    pub fn gate<V: Site>(self, site: &mut V) -> Result<Gated, Broken>
+    pub fn gate<V: Site>(self, site: &mut V) -> Result<Gated, BrokenGate>
         requires { V.tells site.old → IsSyncedThere (changes_of self.file (V.history site.old))
             self.gate self.next }
 
@@ -127,14 +128,14 @@ impl Synced {
         let Synced { file, gate, next } = self;
         match site.write(file, gate, &[OPEN_GATE]) {
             Ok(()) => Ok(Gated { file, gate, next }),
-            Err(_) => Err(Broken { file, gate, next }),
+            Err(_) => Err(BrokenGate { file, gate, next }),
         }
     }
 }
 
 impl Gated {
     /// Makes the open gate safe on the disk. From then on each crash leaves the frame.
-    pub fn settle<V: Site>(self, site: &mut V) -> Result<Resting, Broken>
+    pub fn settle<V: Site>(self, site: &mut V) -> Result<Resting, BrokenGate>
         ensures tells { V.tells site.new → V.tells site.old }
         ensures during { (h : Header) (payloads : List (List ℕ)) (payload : List ℕ)
             → IsGated (changes_of self.file (V.history site.old)) h payloads payload self.gate
@@ -152,10 +153,9 @@ impl Gated {
         ensures cause { HasCause (V.disk_faults site.old) (V.disk_faults site.new) result }
         ensures say_faults { V.say_faults site.new ≡ V.say_faults site.old }
     {
-        let Gated { file, gate, next } = self;
-        match site.sync(file) {
-            Ok(()) => Ok(Resting { file, gate: next }),
-            Err(_) => Err(Broken { file, gate, next }),
+        match site.sync(self.file) {
+            Ok(()) => Ok(self.settled()),
+            Err(_) => Err(self.failed()),
         }
     }
 }

@@ -53,9 +53,22 @@ pub struct Gated {
     ghost below: { next + 1 < 2 ^ 31 },
 }
 
-/// A call failed, and the frame may be there or not. Such a log is only opened again.
+/// Writing the frame or making it safe failed. Its gate was never tried, so no crash leaves the frame, which is only dropped.
 #[derive(Drop)]
-pub struct Broken {
+pub struct BrokenBody {
+    /// The file's number.
+    pub file: u32,
+    /// Where the gate before the frame stands.
+    pub gate: u64,
+    /// Where the gate behind the frame would stand.
+    pub next: u64,
+    ghost before: { gate < next },
+    ghost below: { next + 1 < 2 ^ 31 },
+}
+
+/// Opening the gate or making it safe failed, and the frame may be there or not. Such a log is only opened again.
+#[derive(Drop)]
+pub struct BrokenGate {
     /// The file's number.
     pub file: u32,
     /// Where the gate before the frame stands.
@@ -88,7 +101,7 @@ pub enum BodyError {
     },
     /// The write failed.
     #[error("the disk failed")]
-    SiteFault(Broken),
+    SiteFault(BrokenBody),
     /// Memory ran out. Nothing was written.
     #[error("out of memory")]
     Memory(Resting),

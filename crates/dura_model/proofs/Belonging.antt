@@ -6,7 +6,8 @@ use Rattle.std.proofs.lemmas.Bool.{eqb-true, ltb-true, and_parts, not-true}
 use Rattle.dura_value.specs.Ids.{home}
 use Rattle.dura_value.specs.Items.{Identity, Posted}
 use Rattle.dura_value.specs.Messages.{Message}
-use Rattle.dura_model.specs.Partition.{enter, Outbox, Inbox, Partition, entry_of, with_inbox, begins_at, with_first, got_in, trim_in}
+use Rattle.dura_model.specs.Partition.{enter, Inbox, Partition, entry_of, with_inbox, got_in, trim_in}
+use Rattle.log_items.specs.Streams.{Outbox, begins_at, with_first}
 use Rattle.dura_model.specs.Placed.{IsBehind, IsOther, Belongs}
 use Rattle.dura_model.proofs.Basics.{passed, eqb_apart}
 use Rattle.dura_model.proofs.Shown.{dropped_in}

@@ -11,7 +11,8 @@ use Rattle.flow_syntax.specs.Entity.{Entity}
 use Rattle.dura_model.specs.World.{Orchestration, Activity}
 use Rattle.dura_value.specs.ById.{at_id, at_number, cleared}
 use Rattle.dura_model.specs.Deliveries.{Effect}
-use Rattle.dura_model.specs.Partition.{Row, Outbox, Inbox, Partition, entry_of, history_of, with_event, row_after, with_posted, post, post_all, asked_in, given_up_in, stands_in, raised_to, first_in, without_first}
+use Rattle.dura_model.specs.Partition.{Row, Inbox, Partition, entry_of, history_of, with_event, row_after, post, post_all, asked_in, given_up_in, stands_in, raised_to, first_in, without_first}
+use Rattle.log_items.specs.Streams.{Outbox, with_posted}
 use Rattle.dura_model.specs.Placed.{IsBehind, IsOther, Live, NumbersLive, Belongs}
 use Rattle.dura_value.proofs.Ids.{id_same}
 use Rattle.dura_model.proofs.Basics.{eqb_apart}

@@ -15,7 +15,8 @@ use Rattle.dura_model.specs.World.{empty, Activity}
 use Rattle.dura_value.specs.ById.{at_id, at_number}
 use Rattle.dura_model.specs.Deliveries.{goes_on_from, to_instance}
 use Rattle.dura_model.specs.Steps.{is_request, number_in, entity_of, answer_of}
-use Rattle.dura_model.specs.Partition.{label_in, enter, fresh, shown, Row, Outbox, Inbox, Partition, entry_of, instance_in, instance_at, event_of, raised_to, first_in, without_first, last_in, answered_in, client_received, entity_received, received_in, delivered_in, taken_in, ended_in, fired_in, with_inbox, begins_at, with_first, post, post_all, stands_in, accepted, with_part}
+use Rattle.dura_model.specs.Partition.{label_in, enter, fresh, shown, Row, Inbox, Partition, entry_of, instance_in, instance_at, event_of, raised_to, first_in, without_first, last_in, answered_in, client_received, entity_received, received_in, delivered_in, taken_in, ended_in, fired_in, with_inbox, post, post_all, stands_in, accepted, with_part}
+use Rattle.log_items.specs.Streams.{Outbox, begins_at, with_first}
 use Rattle.dura_model.specs.Placed.{IsOther, IsStreamed, Belongs, AreShown, happens_at, IsOfStreams, IsSameEntry}
 use Rattle.dura_model.proofs.Basics.{passes, passed}
 use Rattle.dura_model.proofs.Rows.{instance_suits, row_goes_on}

@@ -12,7 +12,8 @@ use Rattle.dura_model.specs.World.{World, Orchestration, Activity, at_link}
 use Rattle.dura_value.specs.ById.{at_id, at_number, cleared}
 use Rattle.dura_model.specs.Deliveries.{Effect}
 use Rattle.dura_model.specs.Steps.{sent, asked, given_up, stands_as}
-use Rattle.dura_model.specs.Partition.{Row, Outbox, Inbox, Partition, instance_in, instance_at, with_posted, post, post_all, asked_in, given_up_in, row_after, stands_in, entry_of, link_in, messages_in, under_way, shown, with_part}
+use Rattle.dura_model.specs.Partition.{Row, Inbox, Partition, instance_in, instance_at, post, post_all, asked_in, given_up_in, row_after, stands_in, entry_of, link_in, messages_in, under_way, shown, with_part}
+use Rattle.log_items.specs.Streams.{Outbox, with_posted}
 use Rattle.dura_value.proofs.Ids.{id_same, id_self, and_true}
 use Rattle.dura_model.proofs.Sending.{AllFrom}
 use Rattle.dura_value.specs.Items.{Posted}

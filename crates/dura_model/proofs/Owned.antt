@@ -12,7 +12,8 @@ use Rattle.dura_model.specs.World.{Orchestration, Activity}
 use Rattle.dura_value.specs.ById.{at_id, at_number, cleared}
 use Rattle.dura_model.specs.Deliveries.{Effect, ending, at_end, goes_on_from, telling, beginning, flow_of, begun, to_absent, is_over, waited, raised_at, result_at, granted_at, to_present, at_stamp, to_instance}
 use Rattle.dura_model.specs.Steps.{is_request, number_in, entity_of, answer_of}
-use Rattle.dura_model.specs.Partition.{Row, Partition, fresh, instance_in, instance_at, event_of, row_after, raised_to, first_in, without_first, last_in, answered_in, client_received, entity_after, received_in, delivered_in, taken_in, ended_in, fired_in, entry_of, with_inbox, with_first, with_posted, post, post_all, asked_in, given_up_in, stands_in, accepted}
+use Rattle.dura_model.specs.Partition.{Row, Partition, fresh, instance_in, instance_at, event_of, row_after, raised_to, first_in, without_first, last_in, answered_in, client_received, entity_after, received_in, delivered_in, taken_in, ended_in, fired_in, entry_of, with_inbox, post, post_all, asked_in, given_up_in, stands_in, accepted}
+use Rattle.log_items.specs.Streams.{with_first, with_posted}
 use Rattle.dura_model.specs.Placed.{AreOfInstances}
 use Rattle.dura_value.proofs.Ids.{id_same, id_self}
 use Rattle.dura_model.proofs.Basics.{passes, passed}

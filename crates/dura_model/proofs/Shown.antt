@@ -11,7 +11,8 @@ use Rattle.dura_value.specs.Messages.{Body, Message}
 use Rattle.flow_syntax.specs.Syntax.{Flows}
 use Rattle.dura_model.specs.World.{World}
 use Rattle.dura_model.specs.Steps.{Label, take as take_in, deliver, finish, fire, number_in, step}
-use Rattle.dura_model.specs.Partition.{Outbox, Partition, first_in, delivered_in, accepted, label_in, shown, with_part}
+use Rattle.dura_model.specs.Partition.{Partition, first_in, delivered_in, accepted, label_in, shown, with_part}
+use Rattle.log_items.specs.Streams.{Outbox}
 use Rattle.dura_model.specs.Placed.{IsOther, IsStreamed, AreShown, happens_at, IsGiven, IsOfStreams, IsLabelled, ShowsNothing}
 use Rattle.dura_model.proofs.Merged.{merged, IsReady, shown_merged, merged_shown}
 use Rattle.dura_model.proofs.Items.{took_as, fired_as, ended_as, ran_as}

@@ -8,7 +8,8 @@ use Rattle.dura_value.specs.Items.{Identity, got, trim, Posted}
 use Rattle.dura_value.specs.Messages.{Message}
 use Rattle.flow_syntax.specs.Syntax.{Flows}
 use Rattle.dura_model.specs.World.{World}
-use Rattle.dura_model.specs.Partition.{Outbox, Inbox, Partition, entry_of, with_inbox, begins_at, with_first, accepted, link_in, messages_in}
+use Rattle.dura_model.specs.Partition.{Inbox, Partition, entry_of, with_inbox, accepted, link_in, messages_in}
+use Rattle.log_items.specs.Streams.{Outbox, begins_at, with_first}
 use Rattle.dura_model.specs.Placed.{IsStreamed}
 use Rattle.dura_value.proofs.Ids.{id_same}
 use Rattle.dura_model.proofs.Basics.{passed}

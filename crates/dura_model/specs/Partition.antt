@@ -3,6 +3,7 @@ use Rattle.std.specs.Prelude.{ℕ, ◌+◌, ◌-◌, ◌==◌, ◌&&◌, List, [
 use Rattle.dura_value.specs.declared.outcome.Outcome.{Outcome}
 use Rattle.dura_value.specs.Ids.{Id, orchestration, entity, client, id_eq, home}
 use Rattle.dura_value.specs.Items.{Identity, Item, took, got, ran, ended, fired, trim, Posted}
+use Rattle.log_items.specs.Streams.{Outbox, with_posted, with_first}
 use Rattle.dura_value.specs.Messages.{to_task, to_request, Answer, Body, start, raise, result, granted, Message}
 use Rattle.flow_syntax.specs.Syntax.{Flows}
 use Rattle.flow_syntax.specs.Machine.{new_machine, Event, started, resulted, was_raised, was_granted, Past, replayed, Asked, an_activity, a_timer, fired as timer_fired}
@@ -19,11 +20,6 @@ pub record Row : Type 0 where
   pub stamp : ℕ
   pub history : List Past
   pub waiting : List (Id × ℕ)
-
--- what is left of the stream to another partition: the number of its first message, and the messages
-pub record Outbox : Type 0 where
-  pub first : ℕ
-  pub messages : List Posted
 
 -- how far the stream from another partition was taken in: the number of the next message, and the entry that took the last
 pub record Inbox : Type 0 where
@@ -118,10 +114,6 @@ abbrev pub row_after : Option Row → ℕ → Option Event → Orchestration →
 row_after row stamp event o = record { stamp = stamp; history = with_event (history_of row) stamp event; waiting = o.waiting }
 
 -- ---- what is sent
-
-abbrev pub with_posted : (ℕ → Outbox) → ℕ → Posted → ℕ → Outbox
-with_posted boxes target posted other =
-    if target == other then record (boxes other) { messages = (boxes other).messages ++ posted ∷ [] } else boxes other
 
 -- a message joins the queue here, or the stream to its receiver's partition
 abbrev pub post : ℕ → Partition → Message → Partition
@@ -221,13 +213,6 @@ got_in count p source number message =
     if not (source.partition == p.number) && (nat_lt source.partition count && (number == (p.inboxes source.partition).next && home count message.to == p.number))
     then Some (record p { queue = p.queue ++ message ∷ []; inboxes = with_inbox p.inboxes source.partition (record { next = number + 1; reader = entry_of p }) })
     else None
-
--- the stream to another partition begins at a later number; one that it has begun at stays
-abbrev pub begins_at : ℕ → Outbox → Outbox
-begins_at number box = if nat_le number box.first then box else record { first = number; messages = drop (number - box.first) box.messages }
-
-abbrev pub with_first : (ℕ → Outbox) → (target number : ℕ) → ℕ → Outbox
-with_first boxes target number other = if target == other then begins_at number (boxes other) else boxes other
 
 abbrev pub trim_in : ℕ → Partition → Identity → ℕ → Option Partition
 trim_in count p reader number =

@@ -10,7 +10,8 @@ use Rattle.flow_syntax.specs.Machine.{Past}
 use Rattle.flow_syntax.specs.Entity.{Entity}
 use Rattle.dura_model.specs.World.{Activity}
 use Rattle.dura_model.specs.Steps.{Label, step}
-use Rattle.dura_model.specs.Partition.{Row, Outbox, Inbox, Partition, first_in, accepted, shown, with_part}
+use Rattle.dura_model.specs.Partition.{Row, Inbox, Partition, first_in, accepted, shown, with_part}
+use Rattle.log_items.specs.Streams.{Outbox}
 
 -- an entry of this partition, before this position and of no later incarnation than this
 pub record IsBehind (place position incarnation : ℕ) (entry : Identity) : Type 0 where

@@ -4,7 +4,8 @@ use Rattle.std.specs.Prelude.{option_map, is_some, nat_le}
 use Rattle.std.proofs.lemmas.List.{append-nil}
 use Rattle.client_port.specs.Ports.{Queue}
 use Rattle.dura_model.specs.Legal.{Quiet}
-use Rattle.dura_model.specs.Partition.{Partition, Outbox, enter, accepted, first_in, link_in, messages_in, shown, with_part}
+use Rattle.dura_model.specs.Partition.{Partition, enter, accepted, first_in, link_in, messages_in, shown, with_part}
+use Rattle.log_items.specs.Streams.{Outbox}
 use Rattle.dura_model.specs.Placed.{Belongs, AreShown, AreOfInstances}
 use Rattle.dura_model.specs.Steps.{step, deliver, delivered}
 use Rattle.dura_model.specs.World.{Activity}

@@ -2,7 +2,8 @@
 use Rattle.std.proofs.Common.{◌≡◌, ◌⊎◌, inl, inr, ◌≤◌, ℕ, zero, suc, List, [], ◌∷◌, Some, Ok, slice_get, refl, sym, ◌∙◌, ap, subst, arith}
 use Rattle.commit_log.specs.declared.states.Resting.{Resting}
 use Rattle.commit_log.specs.States.{IsResting}
-use Rattle.dura_model.specs.Partition.{Partition, Outbox, fresh}
+use Rattle.dura_model.specs.Partition.{Partition, fresh}
+use Rattle.log_items.specs.Streams.{Outbox}
 use Rattle.dura_model.specs.Placed.{Belongs, AreShown, IsReader}
 use Rattle.dura_model.proofs.Kept.{fresh_shown}
 use Rattle.dura_value.specs.Items.{Entry}

@@ -47,7 +47,7 @@ pub(crate) struct Going<M: Named> {
 
 impl<M: Named> Start for Going<M> {
     ghost use Rattle.engine_run.specs.Picks.{origin_with};
-    ghost use Rattle.engine_run.specs.Follows.{still_may, later_may};
+    ghost use Rattle.engine_run.specs.Follows.{said_may, settled_may, later_may};
     ghost use Rattle.run_laws.specs.Begins.{may_follow, may_say};
 
     ghost origin = { origin_with M.log M.steps };
@@ -56,7 +56,9 @@ impl<M: Named> Start for Going<M> {
 
     ghost may_say = { may_say M.rules };
 
-    ghost still_follows = { still_may M.rules };
+    ghost still_said = { said_may M.rules };
+
+    ghost still_settled = { settled_may M.rules };
 
     ghost later_follows = { later_may M.rules };
 }

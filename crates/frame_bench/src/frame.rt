@@ -2,11 +2,11 @@
 
 ghost use Rattle.std.specs.Prelude.{◌≤◌, IfOk, length};
 ghost use Rattle.std.specs.List.{All};
-ghost use Rattle.part_items.specs.Plain.{item_of, items_of, entry_of, entries_of};
+ghost use Rattle.log_items.specs.Plain.{item_of, items_of, entry_of, entries_of};
 ghost use Rattle.part_items.specs.Spelling.{CanSpellItem, CanSpellEntry, CanSpellFrame};
 
 use dura_value::{Body, Id, Message, Name, Outcome, ReadError, Text, Value};
-use part_items::{Entry, Frame, Item, Items};
+use log_items::{Entry, Frame, Item, Items};
 use std::alloc::Global;
 
 /// The client that asks, the flow that it asks for, and the entity that the flow asks.

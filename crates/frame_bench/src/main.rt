@@ -4,14 +4,15 @@
 //! - `frame` makes the frame, `texts` the same as JSON.
 #![tactic(auto)]
 
-ghost use Rattle.part_items.specs.Plain.{entries_of};
+ghost use Rattle.log_items.specs.Plain.{entries_of};
 ghost use Rattle.part_items.specs.Spelling.{CanSpellFrame};
 
 mod frame;
 mod texts;
 
 use frame::make_frame;
-use part_items::{Frame, FrameReader, Next, write_frame};
+use log_items::Frame;
+use part_items::{FrameReader, Next, write_frame};
 use serde_json::Value;
 use std::alloc::Global;
 use std::env::{self, Args};

@@ -1,15 +1,16 @@
 -- How long a log would be with a frame.
 use Rattle.std.proofs.Common.{◌≡◌, ◌≢◌, true, false, ℕ, zero, suc, ◌+◌, ◌-◌, max, ◌<◌, ◌≤◌, List, length, Result, Ok, Err, ◌∙◌, ap, subst, arith}
-use Rattle.std.specs.Prelude.{◌==◌, IsErrAnd, OnOk}
+use Rattle.std.specs.Prelude.{◌==◌}
 use Rattle.std.proofs.Math.ListN.{set}
 use Rattle.std.proofs.lemmas.List.{get_or-set_same}
-use Rattle.commit_log.specs.declared.states.Broken.{Broken}
+use Rattle.commit_log.specs.declared.states.BrokenBody.{BrokenBody}
+use Rattle.commit_log.specs.declared.states.BrokenGate.{BrokenGate}
 use Rattle.commit_log.specs.declared.states.Resting.{Resting}
 use Rattle.dura_value.specs.Items.{Entry}
-use Rattle.part_items.specs.declared.frames.Entry as rows
+use Rattle.log_items.specs.declared.frames.Entry as rows
 use Rattle.part_items.specs.Spelling.{spell_frame}
-use Rattle.hub_store.specs.declared.refusal.BodyRefusal.{BodyRefusal}
-use Rattle.hub_store.specs.declared.refusal.BodyRefusal.TheVariants.{Full, SiteFault, Memory}
+use Rattle.hub_store.specs.declared.refusal.Unwritten.{Unwritten}
+use Rattle.hub_store.specs.declared.refusal.Unwritten.TheVariants.{Full, SiteFault, Memory}
 use Rattle.hub_store.specs.declared.refusal.Refusal.{Refusal}
 use Rattle.hub_store.specs.declared.refusal.Refusal.TheVariants as refusals
 use Rattle.hub_store.specs.declared.refusal.SayError.{SayError}
@@ -22,11 +23,11 @@ use Rattle.hub_store.specs.Frames.{length_with}
 use Rattle.hub_store.specs.Ways.{way_of}
 
 -- where it comes to the limit it is full
-pub full_of : {T : Type 0} (way : Way) (log : Resting) (going : List Entry) (payload : List ℕ) (limit part : ℕ) (result : Result T BodyRefusal) → places.Resting log ≡ way → payload ≡ spell_frame going
-    → (limit ≤ log.gate + 6 + length payload → result ≡ Err (Full part (log.gate + 6 + length payload))) → limit ≤ length_with way going → result ≡ Err (Full part (length_with way going))
-full_of {T} way log going payload limit part result way_is payload_is full =
-    subst (λ (w : Way). limit ≤ length_with w going → result ≡ Err (Full part (length_with w going))) way_is
-    (subst (λ (bytes : List ℕ). limit ≤ log.gate + 6 + length bytes → result ≡ Err (Full part (log.gate + 6 + length bytes))) payload_is full)
+pub full_of : {T : Type 0} (way : Way) (log : Resting) (going : List Entry) (payload : List ℕ) (limit part : ℕ) (frame : List rows.Entry) (result : Result T Unwritten) → places.Resting log ≡ way → payload ≡ spell_frame going
+    → (limit ≤ log.gate + 6 + length payload → result ≡ Err (Full part (log.gate + 6 + length payload) frame)) → limit ≤ length_with way going → result ≡ Err (Full part (length_with way going) frame)
+full_of {T} way log going payload limit part frame result way_is payload_is full =
+    subst (λ (w : Way). limit ≤ length_with w going → result ≡ Err (Full part (length_with w going) frame)) way_is
+    (subst (λ (bytes : List ℕ). limit ≤ log.gate + 6 + length bytes → result ≡ Err (Full part (log.gate + 6 + length bytes) frame)) payload_is full)
 
 pub length_is : (way : Way) (log : Resting) (going : List Entry) (payload : List ℕ) (n : ℕ) → places.Resting log ≡ way → payload ≡ spell_frame going → n ≡ log.gate + 6 + length payload → n ≡ length_with way going
 length_is way log going payload n way_is payload_is is = is ∙ ap (λ (bytes : List ℕ). log.gate + 6 + length bytes) payload_is ∙ ap (λ (w : Way). length_with w going) way_is
@@ -43,14 +44,18 @@ rests_there log is = cc
 pub true_apart : true ≡ false → ⊥
 true_apart is = cc
 
-pub full_memory : {T : Type 0} (result : Result T BodyRefusal) (of n : ℕ) → result ≡ Err (Full of n) → result ≡ Err Memory → ⊥
-full_memory result of n full memory = cc
+pub full_memory : {T : Type 0} (result : Result T Unwritten) (of n : ℕ) (one other : List rows.Entry) → result ≡ Err (Full of n one) → result ≡ Err (Memory other) → ⊥
+full_memory result of n one other full memory = cc
 
-pub full_fault : {T : Type 0} (result : Result T BodyRefusal) (of n : ℕ) → result ≡ Err (Full of n) → result ≡ Err SiteFault → ⊥
-full_fault result of n full fault = cc
+pub full_fault : {T : Type 0} (result : Result T Unwritten) (of n : ℕ) (one : List rows.Entry) → result ≡ Err (Full of n one) → result ≡ Err SiteFault → ⊥
+full_fault result of n one full fault = cc
 
-pub memory_fault : {T : Type 0} (result : Result T BodyRefusal) → result ≡ Err Memory → result ≡ Err SiteFault → ⊥
-memory_fault result memory fault = cc
+pub memory_fault : {T : Type 0} (result : Result T Unwritten) (one : List rows.Entry) → result ≡ Err (Memory one) → result ≡ Err SiteFault → ⊥
+memory_fault result one memory fault = cc
+
+-- the same answer has the same frame
+pub same_memory : {T : Type 0} (result : Result T Unwritten) (one other : List rows.Entry) → result ≡ Err (Memory one) → result ≡ Err (Memory other) → other ≡ one
+same_memory result one other here there = cc
 
 pub fault_no_frame : {T : Type 0} (result : Result T Refusal) → result ≡ Err refusals.SiteFault → result ≡ Err refusals.NoFrame → ⊥
 fault_no_frame result fault none = cc
@@ -65,8 +70,11 @@ unsaid_apart result fault memory = cc
 pub within : (p n count : ℕ) → n ≡ count → p < count → p < n
 within p n count is below = omega arith
 
-pub broken_there : (log : Broken) (frame : List rows.Entry) → places.Broken log frame ≢ places.Away
-broken_there log frame is = cc
+pub untried_there : (log : BrokenBody) (frame : List rows.Entry) → places.BrokenBody log frame ≢ places.Away
+untried_there log frame is = cc
+
+pub tried_there : (log : BrokenGate) (frame : List rows.Entry) → places.BrokenGate log frame ≢ places.Away
+tried_there log frame is = cc
 
 -- ---- frames under way, and the trail's room for them
 
@@ -99,12 +107,3 @@ reach_same gate next at then is also = omega arith
 
 pub reach_is : (gate next at then : ℕ) → at ≡ gate → then ≡ next → max at then + 1 ≡ max gate next + 1
 reach_is gate next at then is also = omega arith
-
--- the answer of a `?`
-pub none_ok : {T E : Type 0} (A : Type 0) (Q : E → Type 0) (r : Result T E) → IsErrAnd r Q → OnOk r A
-none_ok A Q (Ok x) has = absurd has
-none_ok A Q (Err y) has = tt
-
-pub is_memory : {T : Type 0} (r : Result T BodyRefusal) → IsErrAnd r (λ y. y ≡ Memory) → r ≡ Err Memory
-is_memory (Ok x) has = absurd has
-is_memory (Err y) has = ap (λ (refusal : BodyRefusal). Err refusal) has

@@ -9,14 +9,14 @@ use Rattle.commit_log.specs.declared.states.Bodied.{Bodied}
 use Rattle.commit_log.specs.declared.states.Synced.{Synced}
 use Rattle.commit_log.specs.declared.states.Gated.{Gated}
 use Rattle.commit_log.specs.declared.states.Resting.{Resting}
-use Rattle.commit_log.specs.declared.states.Broken.{Broken}
-use Rattle.commit_log.specs.Outcomes.{RestsAs, BreaksAs}
+use Rattle.commit_log.specs.declared.states.BrokenGate.{BrokenGate}
+use Rattle.commit_log.specs.Outcomes.{RestsAs, GateBreaksAs}
 use Rattle.commit_log.specs.Segment.{first_gate}
-use Rattle.commit_log.specs.States.{Rests, IsResting, IsBroken, IsBodied, IsSynced, IsSyncedThere, IsGated, HasFrames, HasFramesOrOneMore}
+use Rattle.commit_log.specs.States.{Rests, IsResting, IsBrokenGate, IsBodied, IsSynced, IsSyncedThere, IsGated, HasFrames, HasFramesOrOneMore}
 use Rattle.commit_log.proofs.Steps.{synced_images}
 use Rattle.dura_value.specs.Items.{Entry}
-use Rattle.part_items.specs.declared.frames.Entry as rows
-use Rattle.part_items.specs.Plain.{entries_of}
+use Rattle.log_items.specs.declared.frames.Entry as rows
+use Rattle.log_items.specs.Plain.{entries_of}
 use Rattle.part_items.specs.Numbered.{behind_all, next_frame_in}
 use Rattle.part_items.specs.Spelling.{spell_frame}
 use Rattle.part_items.specs.Kept.{first_of, decoded}
@@ -177,16 +177,16 @@ module _ (MayFollow : List Settled → List Said → ℕ → List Entry → Type
       )
 
   -- or it failed
-  pub settle_breaks : (p : ℕ) (log : Gated) (frame : List rows.Entry) (trail : List Settled) (old new : List Step) (now : Broken) → now.file ≡ log.file
-      → ((h : Header) (payloads : List (List ℕ)) (payload : List ℕ) → IsGated (changes_of log.file old) h payloads payload log.gate log.next → BreaksAs new h payloads payload now)
-      → LogFits (o.logs p) (of_part p trail) (changes_of (o.logs p).file old) (ways.Gated log frame) → LogFits (o.logs p) (of_part p trail) (changes_of (o.logs p).file new) (ways.Broken now frame)
+  pub settle_breaks : (p : ℕ) (log : Gated) (frame : List rows.Entry) (trail : List Settled) (old new : List Step) (now : BrokenGate) → now.file ≡ log.file
+      → ((h : Header) (payloads : List (List ℕ)) (payload : List ℕ) → IsGated (changes_of log.file old) h payloads payload log.gate log.next → GateBreaksAs new h payloads payload now)
+      → LogFits (o.logs p) (of_part p trail) (changes_of (o.logs p).file old) (ways.Gated log frame) → LogFits (o.logs p) (of_part p trail) (changes_of (o.logs p).file new) (ways.BrokenGate now frame)
   settle_breaks p log frame trail old new now same after fits =
       let h = (o.logs p).header in
       let payload = spell_frame (entries_of frame) in
       let is : now.file ≡ (o.logs p).file = same ∙ fits.fits.0 in
-      fits_on p trail old new (ways.Gated log frame) (ways.Broken now frame) fits refl (
+      fits_on p trail old new (ways.Gated log frame) (ways.BrokenGate now frame) fits refl (
         is,
-        subst (λ (f : ℕ). IsBroken (changes_of f new) h fits.payloads payload now.gate now.next) is
+        subst (λ (f : ℕ). IsBrokenGate (changes_of f new) h fits.payloads payload now.gate now.next) is
             (after h fits.payloads payload (subst (λ (f : ℕ). IsGated (changes_of f old) h fits.payloads payload log.gate log.next) (sym fits.fits.0) fits.fits.1)),
       )
 

@@ -5,6 +5,7 @@ pub mod EveryMoment
 pub mod FactsLacking
 pub mod Faults
 pub mod FramesGo
+pub mod FramesGone
 pub mod Later
 pub mod LogsStand
 pub mod OpenedAgain

@@ -1,5 +1,5 @@
 -- What opening a log again leaves.
-use Rattle.std.proofs.Common.{◌≡◌, ◌⊎◌, ◌==◌, inl, inr, ℕ, Bool, true, false, not, MatchBool, List, [], ◌∷◌, ◌++◌, Result, Some, Ok, Err, refl, sym, ◌∙◌, ap, subst}
+use Rattle.std.proofs.Common.{◌≡◌, ◌==◌, inl, inr, ℕ, Bool, true, false, not, MatchBool, List, [], ◌∷◌, ◌++◌, Result, Some, Ok, Err, refl, sym, ◌∙◌, ap, subst}
 use Rattle.std.specs.Prelude.{◌↔◌, IfOk, IfErr, slice_index}
 use Rattle.std.proofs.lemmas.Bool.{eqb-true, eq-eqb}
 use Rattle.site_model.specs.History.{Change, synced, Step, on, changes_of, content_of, Leaves}
@@ -7,95 +7,70 @@ use Rattle.site_model.specs.Calls.{Syncs}
 use Rattle.site_model.specs.Moments.{Always, LeavesOnly}
 use Rattle.site_model.proofs.Paths.{last, only_here, own_change}
 use Rattle.commit_log.specs.declared.header.Header.{Header}
-use Rattle.commit_log.specs.declared.states.Bodied.{Bodied}
-use Rattle.commit_log.specs.declared.states.Synced.{Synced}
 use Rattle.commit_log.specs.declared.states.Gated.{Gated}
-use Rattle.commit_log.specs.declared.states.Broken.{Broken}
+use Rattle.commit_log.specs.declared.states.BrokenGate.{BrokenGate}
 use Rattle.commit_log.specs.declared.states.Reopened.{Reopened}
-use Rattle.commit_log.specs.Outcomes.{RestsAs, AfterReopen, AfterDrop}
+use Rattle.commit_log.specs.Outcomes.{RestsAs, AfterReopen}
 use Rattle.commit_log.specs.Segment.{open_gate}
-use Rattle.commit_log.specs.States.{IsResting, IsBroken, IsBodied, IsSynced, IsGated}
+use Rattle.commit_log.specs.States.{IsResting, IsBrokenGate, IsGated}
 use Rattle.dura_value.specs.Items.{Entry}
-use Rattle.part_items.specs.declared.frames.Entry as rows
-use Rattle.part_items.specs.Plain.{entries_of}
+use Rattle.log_items.specs.declared.frames.Entry as rows
+use Rattle.log_items.specs.Plain.{entries_of}
 use Rattle.part_items.specs.Spelling.{spell_frame}
 use Rattle.hub_store.specs.declared.reopen.Reopening.TheVariants as answers
 use Rattle.hub_store.specs.declared.way.Way.{Way}
 use Rattle.hub_store.specs.declared.way.Way.TheVariants as ways
-use Rattle.hub_store.specs.declared.way.Stage.TheVariants as stages
 use Rattle.hub_store.specs.Moments.{before_syncs, LeavesLog}
 use Rattle.hub_store.specs.Origin.{Origin}
 use Rattle.hub_store.specs.OpenedAgain.{Reopens}
 use Rattle.hub_store.specs.Trail.{Settled, Said, of_part}
-use Rattle.hub_store.specs.Ways.{LogFits, WayFits, stage_of, going_in, gate_of}
+use Rattle.hub_store.specs.Ways.{LogFits, WayFits, going_in}
 use Rattle.hub_store.proofs.Calls.{fits_on}
 use Rattle.hub_store.proofs.Standing.{OnLog, one_step}
 
 -- ---- by the stage that the frame had come to
 
-ok_file : (result : Result Reopened Broken) (file gate next : ℕ) → IfOk result (λ found. (found.log.file ≡ file) × MatchBool found.settled (found.log.gate ≡ next) (found.log.gate ≡ gate)) → IfOk result (λ found. found.log.file ≡ file)
+ok_file : (result : Result Reopened BrokenGate) (file gate next : ℕ) → IfOk result (λ found. (found.log.file ≡ file) × MatchBool found.settled (found.log.gate ≡ next) (found.log.gate ≡ gate)) → IfOk result (λ found. found.log.file ≡ file)
 ok_file (Ok found) file gate next place = place.0
 ok_file (Err log) file gate next place = tt
 
-err_file : (result : Result Reopened Broken) (file gate next : ℕ) → IfErr result (λ log. (log.file ≡ file) × (log.gate ≡ gate) × (log.next ≡ next)) → IfErr result (λ log. log.file ≡ file)
+err_file : (result : Result Reopened BrokenGate) (file gate next : ℕ) → IfErr result (λ log. (log.file ≡ file) × (log.gate ≡ gate) × (log.next ≡ next)) → IfErr result (λ log. log.file ≡ file)
 err_file (Ok found) file gate next place = tt
 err_file (Err log) file gate next place = place.0
 
--- a frame whose gate was never opened is dropped
-dropped : (steps : List Step) (h : Header) (payloads : List (List ℕ)) (payload : List ℕ) (result : Result Reopened Broken) → AfterDrop steps h payloads payload result
-    → AfterReopen steps h payloads payload result × IfOk result (λ found. found.settled ≡ false)
-dropped steps h payloads payload (Ok found) after = (
-  subst (λ (b : Bool). MatchBool b (RestsAs steps h (payloads ++ payload ∷ []) found.log) (RestsAs steps h payloads found.log)) (sym after.0) after.1,
-  after.0,
-)
-dropped steps h payloads payload (Err log) after = (after, tt)
-
 -- how a log was opened again, whose gates are these
-pub record IsOpened (file gate next : ℕ) (old new : List Step) (result : Result Reopened Broken) : Type 0 where
+pub record IsOpened (file gate next : ℕ) (old new : List Step) (result : Result Reopened BrokenGate) : Type 0 where
   pub syncs : Syncs file old new result
   pub during : LeavesOnly file old new (Leaves (changes_of file old))
   pub place : IfOk result (λ found. (found.log.file ≡ file) × MatchBool found.settled (found.log.gate ≡ next) (found.log.gate ≡ gate))
   pub broken : IfErr result (λ log. (log.file ≡ file) × (log.gate ≡ gate) × (log.next ≡ next))
   pub opened : IfOk result (λ found. found.settled ≡ (slice_index (content_of file old) gate == open_gate))
 
-module _ (frame : List rows.Entry) (old new : List Step) (result : Result Reopened Broken) where
-  reopens_at : (way : Way) (own file next : ℕ) (h : Header) (payloads : List (List ℕ)) → file ≡ own → IsOpened file (gate_of way) next old new result → AfterReopen new h payloads (spell_frame (entries_of frame)) result
-      → ((stage_of way ≡ stages.Bodied) ⊎ (stage_of way ≡ stages.Synced) → IfOk result (λ found. found.settled ≡ false)) → Reopens own h payloads (spell_frame (entries_of frame)) way old new result
-  reopens_at way own file next h payloads same call after closed = subst (λ (f : ℕ). Reopens f h payloads (spell_frame (entries_of frame)) way old new result) same (record {
+module _ (frame : List rows.Entry) (old new : List Step) (result : Result Reopened BrokenGate) where
+  reopens_at : (own file gate next : ℕ) (h : Header) (payloads : List (List ℕ)) → file ≡ own → IsOpened file gate next old new result → AfterReopen new h payloads (spell_frame (entries_of frame)) result
+      → Reopens own h payloads (spell_frame (entries_of frame)) gate old new result
+  reopens_at own file gate next h payloads same call after = subst (λ (f : ℕ). Reopens f h payloads (spell_frame (entries_of frame)) gate old new result) same (record {
     syncs = call.syncs;
     during = call.during;
     after = after;
-    file_is = ok_file result file (gate_of way) next call.place;
-    broken_is = err_file result file (gate_of way) next call.broken;
+    file_is = ok_file result file gate next call.place;
+    broken_is = err_file result file gate next call.broken;
     opened = call.opened;
-    closed = closed;
   })
-
-  pub bodied_reopens : (log : Bodied) → IsOpened log.file log.gate log.next old new result
-      → ((h : Header) (payloads : List (List ℕ)) (payload : List ℕ) → IsBodied (changes_of log.file old) h payloads payload log.gate log.next → AfterDrop new h payloads payload result)
-      → (own : ℕ) (h : Header) (payloads : List (List ℕ)) → WayFits own h payloads (changes_of own old) (ways.Bodied log frame) → Reopens own h payloads (spell_frame (entries_of frame)) (ways.Bodied log frame) old new result
-  bodied_reopens log call after own h payloads fits =
-      let payload = spell_frame (entries_of frame) in
-      let gone = dropped new h payloads payload result (after h payloads payload (subst (λ (f : ℕ). IsBodied (changes_of f old) h payloads payload log.gate log.next) (sym fits.0) fits.1)) in
-      reopens_at (ways.Bodied log frame) own log.file log.next h payloads fits.0 call gone.0 (λ which. gone.1)
-
-  pub synced_reopens : (log : Synced) → IsOpened log.file log.gate log.next old new result
-      → ((h : Header) (payloads : List (List ℕ)) (payload : List ℕ) → IsSynced (changes_of log.file old) h payloads payload log.gate log.next → AfterDrop new h payloads payload result)
-      → (own : ℕ) (h : Header) (payloads : List (List ℕ)) → WayFits own h payloads (changes_of own old) (ways.Synced log frame) → Reopens own h payloads (spell_frame (entries_of frame)) (ways.Synced log frame) old new result
-  synced_reopens log call after own h payloads fits =
-      let payload = spell_frame (entries_of frame) in
-      let gone = dropped new h payloads payload result (after h payloads payload (subst (λ (f : ℕ). IsSynced (changes_of f old) h payloads payload log.gate log.next) (sym fits.0) fits.1)) in
-      reopens_at (ways.Synced log frame) own log.file log.next h payloads fits.0 call gone.0 (λ which. gone.1)
 
   pub gated_reopens : (log : Gated) → IsOpened log.file log.gate log.next old new result
       → ((h : Header) (payloads : List (List ℕ)) (payload : List ℕ) → IsGated (changes_of log.file old) h payloads payload log.gate log.next → AfterReopen new h payloads payload result)
-      → (own : ℕ) (h : Header) (payloads : List (List ℕ)) → WayFits own h payloads (changes_of own old) (ways.Gated log frame) → Reopens own h payloads (spell_frame (entries_of frame)) (ways.Gated log frame) old new result
+      → (own : ℕ) (h : Header) (payloads : List (List ℕ)) → WayFits own h payloads (changes_of own old) (ways.Gated log frame) → Reopens own h payloads (spell_frame (entries_of frame)) log.gate old new result
   gated_reopens log call after own h payloads fits =
       let payload = spell_frame (entries_of frame) in
-      reopens_at (ways.Gated log frame) own log.file log.next h payloads fits.0 call (after h payloads payload (subst (λ (f : ℕ). IsGated (changes_of f old) h payloads payload log.gate log.next) (sym fits.0) fits.1)) (λ which. elim which [
-        | inl is ↦ cc
-        | inr is ↦ cc
-      ])
+      reopens_at own log.file log.gate log.next h payloads fits.0 call (after h payloads payload (subst (λ (f : ℕ). IsGated (changes_of f old) h payloads payload log.gate log.next) (sym fits.0) fits.1))
+
+  pub broken_reopens : (log : BrokenGate) → IsOpened log.file log.gate log.next old new result
+      → ((h : Header) (payloads : List (List ℕ)) (payload : List ℕ) → IsBrokenGate (changes_of log.file old) h payloads payload log.gate log.next → AfterReopen new h payloads payload result)
+      → (own : ℕ) (h : Header) (payloads : List (List ℕ)) → WayFits own h payloads (changes_of own old) (ways.BrokenGate log frame) → Reopens own h payloads (spell_frame (entries_of frame)) log.gate old new result
+  broken_reopens log call after own h payloads fits =
+      let payload = spell_frame (entries_of frame) in
+      reopens_at own log.file log.gate log.next h payloads fits.0 call (after h payloads payload (subst (λ (f : ℕ). IsBrokenGate (changes_of f old) h payloads payload log.gate log.next) (sym fits.0) fits.1))
 
 pub not_false : (b : Bool) → not b ≡ false → b ≡ true
 not_false true is = refl
@@ -132,11 +107,11 @@ module _ (MayFollow : List Settled → List Said → ℕ → List Entry → Type
   })
 
   -- no crash leaves what none left before
-  pub reopen_path : (p : ℕ) (trail : List Settled) (told : List Said) (old new : List Step) (result : Result Reopened Broken) → Syncs (o.logs p).file old new result
+  pub reopen_path : {T E : Type 0} (p : ℕ) (trail : List Settled) (told : List Said) (old new : List Step) (result : Result T E) → Syncs (o.logs p).file old new result
       → LeavesOnly (o.logs p).file old new (Leaves (changes_of (o.logs p).file old))
       → ((image : List ℕ) → Leaves (changes_of (o.logs p).file old) image → LeavesLog MayFollow MaySay (o.logs p) p trail told (changes_of (o.logs p).file old) image)
       → Always (OnLog MayFollow MaySay o p trail told old) old new
-  reopen_path p trail told old new result syncs during leaves =
+  reopen_path {T} {E} p trail told old new result syncs during leaves =
       let file = (o.logs p).file in
       one_step old new (on file synced) syncs.either
       (record { only = only_here file old; images = leaves })
@@ -173,9 +148,9 @@ module _ (MayFollow : List Settled → List Said → ℕ → List Entry → Type
       }
 
   -- or it failed
-  pub breaks_again : (p : ℕ) (trail : List Settled) (steps old : List Step) (way : Way) (frame : List rows.Entry) (log : Broken) (fits : LogFits (o.logs p) (of_part p trail) (changes_of (o.logs p).file old) way)
+  pub breaks_again : (p : ℕ) (trail : List Settled) (steps old : List Step) (way : Way) (frame : List rows.Entry) (log : BrokenGate) (fits : LogFits (o.logs p) (of_part p trail) (changes_of (o.logs p).file old) way)
       → going_in way ≡ Some (entries_of frame) → log.file ≡ (o.logs p).file → AfterReopen steps (o.logs p).header fits.payloads (spell_frame (entries_of frame)) (Err log)
-      → LogFits (o.logs p) (of_part p trail) (changes_of (o.logs p).file steps) (ways.Broken log frame)
+      → LogFits (o.logs p) (of_part p trail) (changes_of (o.logs p).file steps) (ways.BrokenGate log frame)
   breaks_again p trail steps old way frame log fits going place after =
-      fits_on MayFollow MaySay o p trail old steps way (ways.Broken log frame) fits (sym going)
-      (place, subst (λ (f : ℕ). IsBroken (changes_of f steps) (o.logs p).header fits.payloads (spell_frame (entries_of frame)) log.gate log.next) place after)
+      fits_on MayFollow MaySay o p trail old steps way (ways.BrokenGate log frame) fits (sym going)
+      (place, subst (λ (f : ℕ). IsBrokenGate (changes_of f steps) (o.logs p).header fits.payloads (spell_frame (entries_of frame)) log.gate log.next) place after)

@@ -1,11 +1,15 @@
 -- Why no frame was written, and why a commit stops.
-use Rattle.std.proofs.Common.{◌≡◌, inl, inr, ℕ, ◌≤◌, List, Result, Ok, Err, ap, subst}
+use Rattle.std.proofs.Common.{◌≡◌, inl, inr, ℕ, ◌≤◌, List, Result, Ok, Err, ap, subst, ◌∙◌}
 use Rattle.std.specs.Prelude.{◌⊎◌, IsErrAnd, OnOk, OnErr}
 use Rattle.dura_value.specs.Items.{Entry}
 use Rattle.hub_store.specs.Frames.{length_with}
 use Rattle.hub_store.specs.declared.refusal.BodyRefusal.{BodyRefusal}
 use Rattle.hub_store.specs.declared.refusal.BodyRefusal.TheVariants.{Full, SiteFault, Memory}
+use Rattle.hub_store.specs.declared.refusal.Unwritten.{Unwritten}
+use Rattle.hub_store.specs.declared.refusal.Unwritten.TheVariants as unwritten
+use Rattle.hub_store.specs.Refused.{refusal_of}
 use Rattle.hub_store.specs.declared.way.Way.{Way}
+use Rattle.log_items.specs.declared.frames.Entry as rows
 use Rattle.commit_log.proofs.Causes.{ok_apart}
 
 -- ---- answers
@@ -70,4 +74,34 @@ pub full_as : {T : Type 0} (r : Result T BodyRefusal) (segment part : ℕ) (way 
     → (segment ≤ length_with way a → (r ≡ Err Memory) ⊎ (r ≡ Err (Full part (length_with way a)))) → segment ≤ length_with way b → (r ≡ Err Memory) ⊎ (r ≡ Err (Full part (length_with way b)))
 full_as r segment part way a b same full = subst (λ (f : List Entry). segment ≤ length_with way f → (r ≡ Err Memory) ⊎ (r ≡ Err (Full part (length_with way f)))) same full
 
--- ---- counts
+-- ---- a frame that wasn't written
+
+-- why it wasn't, once it is let go of
+refused_as : {T : Type 0} (r : Result T Unwritten) (s : Result T BodyRefusal) (one other : Unwritten) (refusal : BodyRefusal) → r ≡ Err one → s ≡ Err refusal → refusal ≡ refusal_of one → r ≡ Err other → s ≡ Err (refusal_of other)
+refused_as r s one other refusal here there is same = let which : one ≡ other = cc (here, same) in there ∙ ap (λ (e : BodyRefusal). Err e) (is ∙ ap refusal_of which)
+
+pub refused_either : {T : Type 0} (r : Result T Unwritten) (s : Result T BodyRefusal) (one : Unwritten) (refusal : BodyRefusal) (frame : List rows.Entry) (part n : ℕ) → r ≡ Err one → s ≡ Err refusal → refusal ≡ refusal_of one
+    → (r ≡ Err (unwritten.Memory frame)) ⊎ (r ≡ Err (unwritten.Full part n frame)) → (s ≡ Err Memory) ⊎ (s ≡ Err (Full part n))
+refused_either r s one refusal frame part n here there is either = elim either [
+  | inl memory ↦ inl (refused_as r s one (unwritten.Memory frame) refusal here there is memory)
+  | inr full ↦ inr (refused_as r s one (unwritten.Full part n frame) refusal here there is full)
+]
+
+-- and back
+pub refused_full : {T : Type 0} (r : Result T Unwritten) (s : Result T BodyRefusal) (one : Unwritten) (refusal : BodyRefusal) (of n : ℕ) → r ≡ Err one → s ≡ Err refusal → refusal ≡ refusal_of one → s ≡ Err (Full of n)
+    → (back : List rows.Entry) × (r ≡ Err (unwritten.Full of n back))
+refused_full r s (unwritten.Full part length frame) refusal of n here there is full = (frame, cc (here, there, is, full))
+refused_full r s unwritten.SiteFault refusal of n here there is full = absurd (cc (there, is, full))
+refused_full r s (unwritten.Memory frame) refusal of n here there is full = absurd (cc (there, is, full))
+
+pub refused_fault : {T : Type 0} (r : Result T Unwritten) (s : Result T BodyRefusal) (one : Unwritten) (refusal : BodyRefusal) → r ≡ Err one → s ≡ Err refusal → refusal ≡ refusal_of one → s ≡ Err SiteFault → r ≡ Err unwritten.SiteFault
+refused_fault r s (unwritten.Full part length frame) refusal here there is fault = absurd (cc (there, is, fault))
+refused_fault r s unwritten.SiteFault refusal here there is fault = here
+refused_fault r s (unwritten.Memory frame) refusal here there is fault = absurd (cc (there, is, fault))
+
+-- it was written
+pub ok_written : {T : Type 0} (r : Result T Unwritten) (value : T) (frame : List rows.Entry) (part n : ℕ) → r ≡ Ok value → (r ≡ Err (unwritten.Memory frame)) ⊎ (r ≡ Err (unwritten.Full part n frame)) → ⊥
+ok_written r value frame part n here either = elim either [
+  | inl memory ↦ cc (here, memory)
+  | inr full ↦ cc (here, full)
+]

@@ -45,7 +45,8 @@ says_during line old new result call =
 behind : (base lines part : List ℕ) → (base ++ lines ++ []) ++ part ≡ base ++ lines ++ part
 behind base lines part = ap (λ (l : List ℕ). l ++ part) (append-nil (base ++ lines))
 
-module _ (MayFollow : List Settled → List Said → ℕ → List Entry → Type 0) (MaySay : List Settled → List Said → Said → List ℕ → Type 0) (o : Origin) (still : (trail more : List Settled) (told also : List Said) (partition : ℕ) (going : List Entry) → of_part partition more ≡ [] → MayFollow trail told partition going → MayFollow (trail ++ more) (told ++ also) partition going) where
+module _ (MayFollow : List Settled → List Said → ℕ → List Entry → Type 0) (MaySay : List Settled → List Said → Said → List ℕ → Type 0) (o : Origin)
+    (still : (trail : List Settled) (told also : List Said) (partition : ℕ) (going : List Entry) → MayFollow trail told partition going → MayFollow trail (told ++ also) partition going) where
   -- while the line is being said
   stands_saying : (trail : List Settled) (told : List Said) (one : Said) (line : List ℕ) (old steps : List Step) → MaySay trail told one line → StandsWith MayFollow MaySay o old trail told []
       → SaysPart line old steps → StoreStands MayFollow MaySay o steps trail
@@ -71,7 +72,7 @@ module _ (MayFollow : List Settled → List Said → ℕ → List Entry → Type
   log_still log p trail told also changes image (inl keeps) = inl keeps
   log_still log p trail told also changes image (inr next) = inr (record {
     going = next.going;
-    follows = subst (λ (l : List Settled). MayFollow l (told ++ also) p next.going) (append-nil trail) (still trail [] told also p next.going refl next.follows);
+    follows = still trail told also p next.going next.follows;
     gate = next.gate;
     keeps = next.keeps;
   })

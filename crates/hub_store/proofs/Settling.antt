@@ -1,5 +1,5 @@
 -- What settling a frame leaves.
-use Rattle.std.proofs.Common.{◌≡◌, inl, inr, ℕ, ◌<◌, Bool, false, List, [], ◌∷◌, ◌++◌, cond, length, Ok, refl, sym, ◌∙◌, ap, subst, append_assoc, arith}
+use Rattle.std.proofs.Common.{◌≡◌, ◌≢◌, inl, inr, ℕ, ◌<◌, Bool, false, List, [], ◌∷◌, ◌++◌, cond, length, Ok, refl, sym, ◌∙◌, ap, subst, append_assoc, arith}
 use Rattle.std.specs.List.{All, AllByRecursion}
 use Rattle.std.proofs.Math.ListN.{set}
 use Rattle.std.proofs.lemmas.Bool.{eq-eqb, ne_eqb, cases_eq}
@@ -59,18 +59,21 @@ all_at : (p at : ℕ) (going : List Entry) → AllByRecursion (λ one. one.at �
 all_at p at [] = tt
 all_at p at (entry ∷ going) = (refl, all_at p at going)
 
-module _ (MayFollow : List Settled → List Said → ℕ → List Entry → Type 0) (MaySay : List Settled → List Said → Said → List ℕ → Type 0) (o : Origin) (still : (trail more : List Settled) (told also : List Said) (partition : ℕ) (going : List Entry) → of_part partition more ≡ [] → MayFollow trail told partition going → MayFollow (trail ++ more) (told ++ also) partition going) where
-  -- another partition's log, once more was settled
-  log_more : (q : ℕ) (trail more : List Settled) (told : List Said) (changes : List Change) (image : List ℕ) → of_part q more ≡ [] → LeavesLog MayFollow MaySay (o.logs q) q trail told changes image
-      → LeavesLog MayFollow MaySay (o.logs q) q (trail ++ more) told changes image
-  log_more q trail more told changes image none leaves =
+module _ (MayFollow : List Settled → List Said → ℕ → List Entry → Type 0) (MaySay : List Settled → List Said → Said → List ℕ → Type 0) (o : Origin)
+    (still : (trail : List Settled) (told : List Said) (partition at : ℕ) (going : List Entry) (other : ℕ) (theirs : List Entry) → other ≢ partition → MayFollow trail told partition going → MayFollow trail told other theirs → MayFollow (trail ++ settling partition at going) told other theirs) where
+  -- another partition's log, once a frame was settled that might be
+  log_more : (p at : ℕ) (going : List Entry) (q : ℕ) (trail : List Settled) (told : List Said) (changes : List Change) (image : List ℕ) → q ≢ p → MayFollow trail told p going → LeavesLog MayFollow MaySay (o.logs q) q trail told changes image
+      → LeavesLog MayFollow MaySay (o.logs q) q (trail ++ settling p at going) told changes image
+  log_more p at going q trail told changes image apart may leaves =
+      let more = settling p at going in
+      let none : of_part q more ≡ [] = no_part p q at going (λ is. apart (sym is)) in
       let same : of_part q (trail ++ more) ≡ of_part q trail = of_part-append q trail more ∙ ap (λ (l : List Entry). of_part q trail ++ l) none ∙ append-nil (of_part q trail) in
       elim leaves [
         | inl keeps ↦ inl (keeps.0, keeps.1 ∙ ap (λ (l : List Entry). kept.keeps (o.logs q).header ((o.logs q).entries ++ l) keeps.0) (sym same))
         | inr next ↦
             inr (record {
               going = next.going;
-              follows = subst (λ (l : List Said). MayFollow (trail ++ more) l q next.going) (append-nil told) (still trail more told [] q next.going none next.follows);
+              follows = still trail told p at going q next.going apart may next.follows;
               gate = subst (λ (l : List Entry). WroteGate (o.logs q) l changes) (sym same) next.gate;
               keeps = (next.keeps.0, next.keeps.1 ∙ ap (λ (l : List Entry). kept.keeps (o.logs q).header ((o.logs q).entries ++ (l ++ next.going)) next.keeps.0) (sym same));
             })
@@ -98,7 +101,7 @@ module _ (MayFollow : List Settled → List Said → ℕ → List Entry → Type
         spoken = there.spoken;
         images = λ q inside. elim (cases_eq q p) [
           | inl is ↦ subst (λ (r : ℕ). (image : List ℕ) → Leaves (changes_of (o.logs r).file new) image → LeavesLog MayFollow MaySay (o.logs r) r (trail ++ more) told (changes_of (o.logs r).file new) image) (sym is) image_of
-          | inr other ↦ λ image left. log_more q trail more told (changes_of (o.logs q).file new) image (no_part p q at going (λ e. other (sym e))) (there.images q inside image left)
+          | inr other ↦ λ image left. log_more p at going q trail told (changes_of (o.logs q).file new) image other follows (there.images q inside image left)
         ];
         others = there.others;
       } in

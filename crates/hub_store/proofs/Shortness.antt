@@ -1,20 +1,20 @@
 -- Logs stay below the segment's length.
-use Rattle.std.proofs.Common.{◌≡◌, ◌≢◌, inl, inr, ℕ, ◌+◌, ◌<◌, ◌≤◌, max, List, [], ◌∷◌, ◌++◌, length, Some, sym, ◌∙◌, ap, subst, arith, length-append}
+use Rattle.std.proofs.Common.{◌≡◌, ◌≢◌, inl, inr, ℕ, ◌+◌, ◌<◌, ◌≤◌, max, List, [], ◌∷◌, ◌++◌, length, Some, sym, subst, arith}
 use Rattle.std.proofs.Math.ListN.{set}
 use Rattle.std.proofs.lemmas.Bool.{cases_eq}
 use Rattle.std.proofs.lemmas.List.{get_or-set_same, get_or-set_other}
 use Rattle.commit_log.specs.declared.header.Header.{Header}
-use Rattle.commit_log.specs.Segment.{open_gate, framed, segment, segment_bytes, reading_of}
-use Rattle.commit_log.specs.States.{IsResting, IsBroken, HasFramesOrOneMore}
+use Rattle.commit_log.specs.Segment.{open_gate, segment, reading_of}
+use Rattle.commit_log.specs.States.{HasFramesOrOneMore}
 use Rattle.commit_log.proofs.Steps.{either_frames, whole_frame}
-use Rattle.commit_log.proofs.Written.{segment-push, length-framed, reads_closed}
+use Rattle.commit_log.proofs.Written.{reads_closed}
 use Rattle.dura_value.specs.Items.{Entry}
 use Rattle.hub_store.specs.Short.{reach_of, KeepsShort, IsShort}
 use Rattle.hub_store.specs.Trail.{Settled, of_part}
 use Rattle.hub_store.specs.Ways.{way_of, going_in, WayFits}
 use Rattle.hub_store.specs.declared.way.Way.{Way}
-use Rattle.hub_store.specs.declared.way.Way.TheVariants.{Resting, Bodied, Synced, Gated, Broken, Away}
-use Rattle.part_items.specs.Plain.{entries_of}
+use Rattle.hub_store.specs.declared.way.Way.TheVariants.{Resting, Bodied, Synced, Gated, BrokenBody, BrokenGate, Away}
+use Rattle.log_items.specs.Plain.{entries_of}
 use Rattle.part_items.specs.Spelling.{spell_frame}
 use Rattle.site_model.specs.History.{Change, reads}
 
@@ -25,7 +25,8 @@ still_short segment_length settled now (Resting log) way going has less (inl res
 still_short segment_length settled now (Bodied log frame) way going has less (inl rests) = absurd (cc rests.0)
 still_short segment_length settled now (Synced log frame) way going has less (inl rests) = absurd (cc rests.0)
 still_short segment_length settled now (Gated log frame) way going has less (inl rests) = absurd (cc rests.0)
-still_short segment_length settled now (Broken log frame) way going has less (inl rests) = absurd (cc rests.0)
+still_short segment_length settled now (BrokenBody log frame) way going has less (inl rests) = absurd (cc rests.0)
+still_short segment_length settled now (BrokenGate log frame) way going has less (inl rests) = absurd (cc rests.0)
 still_short segment_length settled now Away way going has less (inl rests) = absurd (cc has)
 
 -- where one partition's frame moved
@@ -39,14 +40,6 @@ short_put ways p count way segment_length old new many below here same there q i
       subst (KeepsShort segment_length (of_part q new)) (sym (get_or-set_other ways p q way Away apart))
       (subst (λ (l : List Entry). KeepsShort segment_length l (way_of ways q)) (sym (same q apart)) (there q inside))
 ]
-
--- where a frame that was written would end
-pub next_gate : (h : Header) (payloads : List (List ℕ)) (payload : List ℕ) (gate next : ℕ) (changes now : List Change) → IsResting changes h payloads gate → (log_gate : ℕ) → IsBroken now h payloads payload log_gate next
-    → (log_gate ≡ gate) × (next ≡ gate + 5 + length payload)
-next_gate h payloads payload gate next changes now rests log_gate broken = (
-  broken.ends.place ∙ sym rests.ends.place,
-  omega (arith, broken.ends_after.place, rests.ends.place, ap length (segment-push h payloads payload), length-append (segment_bytes h payloads) (open_gate ∷ framed payload), length-framed payload),
-)
 
 -- ---- what is read
 
@@ -76,7 +69,11 @@ reads_within file h other payloads more end changes (Gated log frame) fits is =
     let payload = spell_frame (entries_of frame) in
     by_either h other payloads more payload log.gate log.next end (reads changes)
     (either_frames h payloads payload log.gate log.next fits.1.ends fits.1.ends_after (reads changes) (whole_frame h payloads payload log.gate log.next fits.1.ends fits.1.ends_after open_gate fits.1.tail (reads changes) fits.1.content)) is
-reads_within file h other payloads more end changes (Broken log frame) fits is =
+reads_within file h other payloads more end changes (BrokenBody log frame) fits is =
+    let here : reading_of (reads changes) ≡ segment h payloads log.gate = subst (λ (l : List ℕ). reading_of l ≡ segment h payloads log.gate) (sym fits.1.content) (reads_closed h payloads log.gate fits.1.byte fits.1.rest fits.1.ends fits.1.closed) in
+    let same = same_gate h other payloads more log.gate end (reads changes) here is in
+    omega (arith, same)
+reads_within file h other payloads more end changes (BrokenGate log frame) fits is =
     let payload = spell_frame (entries_of frame) in
     by_either h other payloads more payload log.gate log.next end (reads changes)
     (either_frames h payloads payload log.gate log.next fits.1.ends fits.1.ends_after (reads changes) fits.1.content) is

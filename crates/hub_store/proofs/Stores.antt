@@ -1,5 +1,5 @@
 -- A store behind a call on one partition's log.
-use Rattle.std.proofs.Common.{◌≡◌, ◌≢◌, inl, inr, ℕ, ◌+◌, ◌<◌, ◌≤◌, Bool, false, List, [], ◌∷◌, ◌++◌, length, None, Some, refl, sym, ◌∙◌, ap, subst, arith}
+use Rattle.std.proofs.Common.{◌≡◌, ◌≢◌, inl, inr, ℕ, ◌+◌, ◌<◌, ◌≤◌, Bool, false, List, [], ◌∷◌, ◌++◌, length, None, Some, le_refl, le_trans, refl, sym, ◌∙◌, ap, subst, arith}
 use Rattle.std.proofs.Math.ListN.{set}
 use Rattle.std.proofs.lemmas.Bool.{cases_eq}
 use Rattle.std.proofs.lemmas.List.{set-set, length-set, map-append, get_or-set_same, get_or-set_other}
@@ -15,7 +15,7 @@ use Rattle.hub_store.specs.declared.trail.Said as requests
 use Rattle.hub_store.specs.declared.way.Way.{Way}
 use Rattle.hub_store.specs.declared.way.Way.TheVariants.{Away}
 use Rattle.dura_value.specs.Items.{Entry}
-use Rattle.hub_store.specs.Changes.{asked}
+use Rattle.hub_store.specs.Changes.{asked, KeepsStore}
 use Rattle.hub_store.specs.Plain.{trail_of, said_of, told_of}
 use Rattle.hub_store.specs.Short.{KeepsShort}
 use Rattle.hub_store.specs.Trail.{Settled, Said, of_part}
@@ -30,6 +30,32 @@ put_for old mid new p way taken is = is ∙ ap (λ (l : List Way). set l p way) 
 -- the other ways stay
 pub others_stay : (old new : List Way) (p : ℕ) (way : Way) → new ≡ set old p way → (other : ℕ) → other ≢ p → way_of new other ≡ way_of old other
 others_stay old new p way is other apart = ap (λ (l : List Way). way_of l other) is ∙ get_or-set_other old p other way Away apart
+
+-- a store keeps what it has
+pub keeps_still : {V N : Type 0} {G : sites.Ghosts V} {H : starts.Ghosts N} (partition : ℕ) (store : Store V N G H) → KeepsStore partition store store
+keeps_still {G = G} partition store = record {
+  tells = λ tells. tells;
+  others = λ other apart. refl;
+  said = refl;
+  segment = refl;
+  latest = refl;
+  whole = refl;
+  later = le_refl (G.disk_faults store.site);
+  say_faults = refl;
+}
+
+-- and what one call keeps and then another does, both keep
+pub keeps_on : {V N : Type 0} {G : sites.Ghosts V} {H : starts.Ghosts N} (partition : ℕ) (old mid new : Store V N G H) → KeepsStore partition old mid → KeepsStore partition mid new → KeepsStore partition old new
+keeps_on partition old mid new before after = record {
+  tells = λ tells. before.tells (after.tells tells);
+  others = λ other apart. after.others other apart ∙ before.others other apart;
+  said = after.said ∙ before.said;
+  segment = after.segment ∙ before.segment;
+  latest = after.latest ∙ before.latest;
+  whole = after.whole ∙ before.whole;
+  later = le_trans before.later after.later;
+  say_faults = after.say_faults ∙ before.say_faults;
+}
 
 -- a way with a frame is not taken out
 pub with_frame : (way : Way) (going : List Entry) → going_in way ≡ Some going → way ≢ Away

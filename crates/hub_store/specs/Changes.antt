@@ -33,11 +33,18 @@ module _ {V N : Type 0} {G : sites.Ghosts V} {H : starts.Ghosts N} where
   abbrev pub KeepsOthers : ℕ → Store V N G H → Store V N G H → Type 0
   KeepsOthers partition old new = (other : ℕ) → other ≢ partition → way_of new.ways.items other ≡ way_of old.ways.items other
 
-  -- nothing was settled or said, and only this partition's frame moved
-  pub record MovesOnly (partition : ℕ) (old new : Store V N G H) : Type 0 where
-    pub trail : trail_in new ≡ trail_in old
-    pub told : told_in new ≡ told_in old
+  -- What a call on the frame of a partition keeps, whatever it answers: the frames of the others, what was said, the length that no log
+  -- reaches, the latest moment, and whether a line was cut. A site that tells told before, and no count of faults falls: that of the disk
+  -- may rise, and that of the tape stays.
+  pub record KeepsStore (partition : ℕ) (old new : Store V N G H) : Type 0 where
+    pub tells : G.tells new.site → G.tells old.site
     pub others : KeepsOthers partition old new
+    pub said : told_in new ≡ told_in old
+    pub segment : new.segment ≡ old.segment
+    pub latest : new.latest ≡ old.latest
+    pub whole : new.cut ≡ old.cut
+    pub later : G.disk_faults old.site ≤ G.disk_faults new.site
+    pub say_faults : G.say_faults new.site ≡ G.say_faults old.site
 
 -- the frame that was under way was settled at this moment
 pub record Settles (tells : Type 0) (moment partition : ℕ) (going : Option (List Entry)) (old new : List Settled) : Type 0 where

@@ -7,6 +7,7 @@ pub mod Opened
 pub mod OpenedAgain
 pub mod Origin
 pub mod Plain
+pub mod Refused
 pub mod Runs
 pub mod Short
 pub mod Sound

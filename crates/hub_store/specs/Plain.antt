@@ -1,6 +1,6 @@
 -- The plain data that what was settled and said stands for.
 use Rattle.std.specs.Prelude.{List, map}
-use Rattle.part_items.specs.Plain.{items_of}
+use Rattle.log_items.specs.Plain.{items_of}
 use Rattle.hub_store.specs.declared.trail.Settled as rows
 use Rattle.hub_store.specs.declared.trail.Said as requests
 use Rattle.hub_store.specs.Trail.{Settled, Said}

@@ -5,7 +5,7 @@ use Rattle.commit_log.specs.Segment.{segment, reading_of}
 use Rattle.dura_value.specs.Items.{Entry}
 use Rattle.hub_store.specs.Ways.{stage_of}
 use Rattle.hub_store.specs.declared.way.Way.{Way}
-use Rattle.hub_store.specs.declared.way.Way.TheVariants.{Resting, Bodied, Synced, Gated, Broken, Away}
+use Rattle.hub_store.specs.declared.way.Way.TheVariants.{Resting, Bodied, Synced, Gated, BrokenBody, BrokenGate, Away}
 use Rattle.hub_store.specs.declared.way.Stage.TheVariants as stages
 
 -- how long the log may be up to a closed gate and with it, whatever becomes of the frame that is under way
@@ -14,7 +14,8 @@ reach_of (Resting log) = log.gate + 1
 reach_of (Bodied log frame) = max log.gate log.next + 1
 reach_of (Synced log frame) = max log.gate log.next + 1
 reach_of (Gated log frame) = max log.gate log.next + 1
-reach_of (Broken log frame) = max log.gate log.next + 1
+reach_of (BrokenBody log frame) = max log.gate log.next + 1
+reach_of (BrokenGate log frame) = max log.gate log.next + 1
 reach_of Away = 0
 
 -- nothing is under way and nothing was settled, or the log stays below the segment's length

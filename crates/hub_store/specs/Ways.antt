@@ -1,15 +1,15 @@
 -- How far the frame of each partition has come.
-use Rattle.std.specs.Prelude.{◌≡◌, ℕ, List, [], ◌∷◌, ◌++◌, length, Option, Some, None, Ok, slice_index_or}
+use Rattle.std.specs.Prelude.{◌≡◌, ℕ, Bool, true, false, List, [], ◌∷◌, ◌++◌, length, Option, Some, None, Ok, slice_index_or}
 use Rattle.site_model.specs.History.{Change, wrote, reads}
 use Rattle.commit_log.specs.declared.header.Header.{Header}
 use Rattle.commit_log.specs.Segment.{first_gate, segment, reading_of}
-use Rattle.commit_log.specs.States.{IsResting, IsBodied, IsSynced, IsGated, IsBroken}
+use Rattle.commit_log.specs.States.{IsResting, IsBodied, IsSynced, IsGated, IsBrokenBody, IsBrokenGate}
 use Rattle.dura_value.specs.Items.{Entry}
-use Rattle.part_items.specs.Plain.{entries_of}
+use Rattle.log_items.specs.Plain.{entries_of}
 use Rattle.part_items.specs.Spelling.{spell_frame}
 use Rattle.part_items.specs.Kept.{first_of, decoded}
 use Rattle.hub_store.specs.declared.way.Way.{Way}
-use Rattle.hub_store.specs.declared.way.Way.TheVariants.{Resting, Bodied, Synced, Gated, Broken, Away}
+use Rattle.hub_store.specs.declared.way.Way.TheVariants.{Resting, Bodied, Synced, Gated, BrokenBody, BrokenGate, Away}
 use Rattle.hub_store.specs.declared.way.Stage.{Stage}
 use Rattle.hub_store.specs.declared.way.Stage.TheVariants as stages
 use Rattle.hub_store.specs.Origin.{Log}
@@ -20,8 +20,27 @@ stage_of (Resting log) = stages.Resting
 stage_of (Bodied log frame) = stages.Bodied
 stage_of (Synced log frame) = stages.Synced
 stage_of (Gated log frame) = stages.Gated
-stage_of (Broken log frame) = stages.Broken
-stage_of Away = stages.Broken
+stage_of (BrokenBody log frame) = stages.BrokenBody
+stage_of (BrokenGate log frame) = stages.BrokenGate
+stage_of Away = stages.BrokenBody
+
+-- a frame is under way whose gate was tried
+abbrev pub is_tried : Stage → Bool
+is_tried stages.Resting = false
+is_tried stages.Bodied = false
+is_tried stages.Synced = false
+is_tried stages.Gated = true
+is_tried stages.BrokenBody = false
+is_tried stages.BrokenGate = true
+
+-- one is under way whose gate was not
+abbrev pub is_untried : Stage → Bool
+is_untried stages.Resting = false
+is_untried stages.Bodied = true
+is_untried stages.Synced = true
+is_untried stages.Gated = false
+is_untried stages.BrokenBody = true
+is_untried stages.BrokenGate = false
 
 -- the entries of the frame that is under way
 abbrev pub going_in : Way → Option (List Entry)
@@ -29,7 +48,8 @@ going_in (Resting log) = None
 going_in (Bodied log frame) = Some (entries_of frame)
 going_in (Synced log frame) = Some (entries_of frame)
 going_in (Gated log frame) = Some (entries_of frame)
-going_in (Broken log frame) = Some (entries_of frame)
+going_in (BrokenBody log frame) = Some (entries_of frame)
+going_in (BrokenGate log frame) = Some (entries_of frame)
 going_in Away = None
 
 -- how many they are
@@ -38,7 +58,8 @@ due_in (Resting log) = 0
 due_in (Bodied log frame) = length frame
 due_in (Synced log frame) = length frame
 due_in (Gated log frame) = length frame
-due_in (Broken log frame) = length frame
+due_in (BrokenBody log frame) = length frame
+due_in (BrokenGate log frame) = length frame
 due_in Away = 0
 
 -- where the gate stands up to which the file holds what is settled
@@ -47,7 +68,8 @@ gate_of (Resting log) = log.gate
 gate_of (Bodied log frame) = log.gate
 gate_of (Synced log frame) = log.gate
 gate_of (Gated log frame) = log.gate
-gate_of (Broken log frame) = log.gate
+gate_of (BrokenBody log frame) = log.gate
+gate_of (BrokenGate log frame) = log.gate
 gate_of Away = 0
 
 -- how far the frame of a partition has come
@@ -64,7 +86,8 @@ WayFits file h payloads changes (Resting log) = (log.file ≡ file) × IsResting
 WayFits file h payloads changes (Bodied log frame) = (log.file ≡ file) × IsBodied changes h payloads (spell_frame (entries_of frame)) log.gate log.next
 WayFits file h payloads changes (Synced log frame) = (log.file ≡ file) × IsSynced changes h payloads (spell_frame (entries_of frame)) log.gate log.next
 WayFits file h payloads changes (Gated log frame) = (log.file ≡ file) × IsGated changes h payloads (spell_frame (entries_of frame)) log.gate log.next × JustWrote h payloads log.gate changes
-WayFits file h payloads changes (Broken log frame) = (log.file ≡ file) × IsBroken changes h payloads (spell_frame (entries_of frame)) log.gate log.next
+WayFits file h payloads changes (BrokenBody log frame) = (log.file ≡ file) × IsBrokenBody changes h payloads log.gate
+WayFits file h payloads changes (BrokenGate log frame) = (log.file ≡ file) × IsBrokenGate changes h payloads (spell_frame (entries_of frame)) log.gate log.next
 WayFits file h payloads changes Away = ⊥
 
 -- with the frame that is under way these payloads keep its entries too

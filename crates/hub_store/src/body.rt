@@ -6,21 +6,22 @@ ghost use Rattle.site_model.specs.Calls.{HasRisen};
 ghost use Rattle.site_model.specs.Moments.{LeavesOnly};
 ghost use Rattle.commit_log.specs.declared.header.Header.{Header};
 ghost use Rattle.commit_log.specs.States.{IsResting, Rests, HasFrames};
-ghost use Rattle.part_items.specs.Plain.{entries_of};
+ghost use Rattle.log_items.specs.Plain.{entries_of};
 ghost use Rattle.part_items.specs.Spelling.{spell_frame, CanSpellFrame};
-ghost use Rattle.hub_store.specs.Changes.{stage_at, going_at, trail_in, MovesOnly};
+ghost use Rattle.hub_store.specs.Changes.{stage_at, going_at, trail_in, KeepsStore};
 ghost use Rattle.hub_store.specs.Frames.{goes_on, GoesBehind, length_with};
 ghost use Rattle.hub_store.specs.Short.{reach_of};
 ghost use Rattle.hub_store.specs.Sound.{IsSound};
 ghost use Rattle.hub_store.specs.Trail.{of_part};
 ghost use Rattle.hub_store.specs.Ways.{WayFits, way_of, stage_of, going_in, due_in};
 
-use crate::refusal::BodyRefusal;
+use crate::refusal::Unwritten;
 use crate::start::Start;
 use crate::store::Store;
 use crate::way::{Stage, Way, due, put_way, take_way};
 use commit_log::{BodyError, Resting};
-use part_items::{Frame, write_frame};
+use log_items::Frame;
+use part_items::write_frame;
 use site_model::Site;
 use std::alloc::{AllocError, Global};
 
@@ -35,11 +36,11 @@ fn payload_of(alloc: Global, frame: &Frame) -> Result<Vec<u8>, AllocError>
 }
 
 /// Whether the disk failed.
-fn has_failed(answer: Result<(), BodyRefusal>) -> bool
-    ensures { IsTrue result ↔ answer ≡ Err BodyRefusal.SiteFault }
+fn has_failed(answer: &Result<(), Unwritten>) -> bool
+    ensures { IsTrue result ↔ answer.now ≡ Err Unwritten.SiteFault }
 {
     match answer {
-        Err(BodyRefusal::SiteFault) => true,
+        Err(Unwritten::SiteFault) => true,
         _ => false,
     }
 }
@@ -53,7 +54,7 @@ fn body_log<V: Site>(
     part: u32,
     frame: Frame,
     limit: u64,
-) -> (Way, Result<(), BodyRefusal>)
+) -> (Way, Result<(), Unwritten>)
     requires limit { limit ≤ 2 ^ 31 }
     requires rests { V.tells site.old → Rests (changes_of log.file (V.history site.old)) log.gate }
     requires spelled { payload.now ≡ spell_frame (entries_of frame) }
@@ -74,13 +75,16 @@ fn body_log<V: Site>(
     ensures ok { OnOk result.1 ((stage_of result.0 ≡ Stage.Bodied)
         × (going_in result.0 ≡ Some (entries_of frame))) }
     ensures full { limit ≤ log.gate + 6 + length payload.now
-        → result.1 ≡ Err (BodyRefusal.Full part (log.gate + 6 + length payload.now)) }
-    ensures untouched { (of n : ℕ) → result.1 ≡ Err (BodyRefusal.Full of n)
-        → (of ≡ part) × (limit ≤ n) × (n ≡ log.gate + 6 + length payload.now)
+        → result.1 ≡ Err (Unwritten.Full part (log.gate + 6 + length payload.now) frame) }
+    ensures untouched { (of n : ℕ) (back : _) → result.1 ≡ Err (Unwritten.Full of n back)
+        → (back ≡ frame) × (of ≡ part) × (limit ≤ n) × (n ≡ log.gate + 6 + length payload.now)
         × (result.0 ≡ Way.Resting log) × (V.history site.new ≡ V.history site.old) }
-    ensures memory { result.1 ≡ Err BodyRefusal.Memory
-        → (result.0 ≡ Way.Resting log) × (V.history site.new ≡ V.history site.old) }
-    ensures fault { result.1 ≡ Err BodyRefusal.SiteFault
+    ensures memory { (back : _) → result.1 ≡ Err (Unwritten.Memory back)
+        → (back ≡ frame) × (result.0 ≡ Way.Resting log)
+        × (V.history site.new ≡ V.history site.old) }
+    ensures broken { result.1 ≡ Err Unwritten.SiteFault
+        → (stage_of result.0 ≡ Stage.BrokenBody) × (going_in result.0 ≡ Some (entries_of frame)) }
+    ensures fault { result.1 ≡ Err Unwritten.SiteFault
         → HasRisen (V.disk_faults site.old) (V.disk_faults site.new) }
     ensures later { V.disk_faults site.old ≤ V.disk_faults site.new }
     ensures say_faults { V.say_faults site.new ≡ V.say_faults site.old }
@@ -90,59 +94,65 @@ fn body_log<V: Site>(
         Err(BodyError::Full { length, log }) => {
             (
                 Way::Resting(log),
-                Err(BodyRefusal::Full {
+                Err(Unwritten::Full {
                     partition: part,
                     length,
+                    frame,
                 }),
             )
         }
-        Err(BodyError::SiteFault(log)) => (Way::Broken(log, frame), Err(BodyRefusal::SiteFault)),
-        Err(BodyError::Memory(log)) => (Way::Resting(log), Err(BodyRefusal::Memory)),
+        Err(BodyError::SiteFault(log)) => (Way::BrokenBody(log, frame), Err(Unwritten::SiteFault)),
+        Err(BodyError::Memory(log)) => (Way::Resting(log), Err(Unwritten::Memory(frame))),
     }
 }
 
 impl<V: Site, N: Start> Store<V, N> {
     /// Writes a frame of a partition, which goes on its log, behind the closed gate, unless the file would come to the
-    /// segment's length or more. The trail is given room for it, so that settling it wants no memory.
-    pub fn body(&mut self, alloc: Global, part: u32, frame: Frame) -> Result<(), BodyRefusal>
+    /// segment's length or more. The trail is given room for it, so that settling it wants no memory. Where nothing is written the
+    /// frame comes back.
+    pub fn body(&mut self, alloc: Global, part: u32, frame: Frame) -> Result<(), Unwritten>
         requires sound { IsSound self.old }
         requires going { self.old.halted ≡ false }
         requires place { part < N.origin.count }
         requires rests { stage_at self.old part ≡ Stage.Resting }
         requires behind { GoesBehind (goes_on (N.origin.logs part)
             (of_part part (trail_in self.old))) (entries_of frame) }
-        ensures tells { V.tells self.new.site → V.tells self.old.site }
+        ensures keeps { KeepsStore part self.old self.new }
         ensures sound { IsSound self.new }
         ensures ok { OnOk result ((stage_at self.new part ≡ Stage.Bodied)
             × (going_at self.new part ≡ Some (entries_of frame))) }
-        ensures only { MovesOnly part self.old self.new }
+        ensures trail { trail_in self.new ≡ trail_in self.old }
         ensures full { self.old.segment ≤ length_with (way_of self.old.ways.items part)
-            (entries_of frame) → (result ≡ Err BodyRefusal.Memory)
-            ⊎ (result ≡ Err (BodyRefusal.Full part
-            (length_with (way_of self.old.ways.items part) (entries_of frame)))) }
-        ensures room { (of n : ℕ) → result ≡ Err (BodyRefusal.Full of n)
-            → (of ≡ part) × (self.old.segment ≤ n)
+            (entries_of frame) → (result ≡ Err (Unwritten.Memory frame))
+            ⊎ (result ≡ Err (Unwritten.Full part
+            (length_with (way_of self.old.ways.items part) (entries_of frame)) frame)) }
+        ensures room { (of n : ℕ) (back : _) → result ≡ Err (Unwritten.Full of n back)
+            → (back ≡ frame) × (of ≡ part) × (self.old.segment ≤ n)
             × (n ≡ length_with (way_of self.old.ways.items part) (entries_of frame))
             × (V.history self.new.site ≡ V.history self.old.site)
             × (way_of self.new.ways.items part ≡ way_of self.old.ways.items part) }
-        ensures memory { result ≡ Err BodyRefusal.Memory
-            → (V.history self.new.site ≡ V.history self.old.site)
+        ensures memory { (back : _) → result ≡ Err (Unwritten.Memory back)
+            → (back ≡ frame) × (V.history self.new.site ≡ V.history self.old.site)
             × (stage_at self.new part ≡ Stage.Resting) }
-        ensures segment { self.new.segment ≡ self.old.segment }
-        ensures latest { self.new.latest ≡ self.old.latest }
-        ensures whole { self.new.cut ≡ self.old.cut }
-        ensures halts { result ≡ Err BodyRefusal.SiteFault ↔ self.new.halted ≡ true }
+        ensures broken { result ≡ Err Unwritten.SiteFault
+            → (stage_at self.new part ≡ Stage.BrokenBody)
+            × (going_at self.new part ≡ Some (entries_of frame)) }
+        ensures halts { result ≡ Err Unwritten.SiteFault ↔ self.new.halted ≡ true }
         ensures still { OnOk result (self.new.halted ≡ false) }
         ensures fault { self.new.halted ≡ true
             → HasRisen (V.disk_faults self.old.site) (V.disk_faults self.new.site) }
-        ensures later { V.disk_faults self.old.site ≤ V.disk_faults self.new.site }
-        ensures say_faults { V.say_faults self.new.site ≡ V.say_faults self.old.site }
     {
-        let payload = payload_of(alloc, &frame)?;
-        let Some(all_due) = self.due.checked_add(frame.entries().len()) else {
-            return Err(BodyRefusal::Memory);
+        let payload = match payload_of(alloc, &frame) {
+            Ok(payload) => payload,
+            Err(_) => return Err(Unwritten::Memory(frame)),
         };
-        self.trail.reserve(all_due)?;
+        let Some(all_due) = self.due.checked_add(frame.entries().len()) else {
+            return Err(Unwritten::Memory(frame));
+        };
+        match self.trail.reserve(all_due) {
+            Ok(()) => {}
+            Err(_) => return Err(Unwritten::Memory(frame)),
+        }
         let place = part as usize;
         let Way::Resting(log) = take_way(&mut self.ways, place) else {
             unreachable!()
@@ -159,7 +169,7 @@ impl<V: Site, N: Start> Store<V, N> {
         let more = due(&way);
         self.due += more;
         put_way(&mut self.ways, place, way);
-        self.halted = has_failed(result);
+        self.halted = has_failed(&result);
         result
     }
 }

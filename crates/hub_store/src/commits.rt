@@ -3,8 +3,8 @@
 ghost use Rattle.std.specs.Prelude.{◌≡◌, ◌⊎◌, ◌≤◌, ◌<◌, ℕ, List, [], ◌∷◌, ◌++◌, false, Some, Err, IfOk, OnOk, OnErr, length};
 ghost use Rattle.dura_value.specs.Items.{Entry as PlainEntry};
 ghost use Rattle.site_model.specs.Calls.{HasRisen};
-ghost use Rattle.part_items.specs.Plain.{entry_of, entries_of};
-ghost use Rattle.hub_store.specs.Changes.{stage_at, going_at, trail_in, told_in, KeepsOthers, MovesOnly, Settles};
+ghost use Rattle.log_items.specs.Plain.{entry_of, entries_of};
+ghost use Rattle.hub_store.specs.Changes.{stage_at, going_at, trail_in, told_in, KeepsStore, Settles};
 ghost use Rattle.hub_store.specs.Frames.{goes_on, GoesBehind, length_with};
 ghost use Rattle.hub_store.specs.Sound.{IsSound};
 ghost use Rattle.hub_store.specs.Trail.{of_part};
@@ -14,7 +14,7 @@ use crate::refusal::BodyRefusal;
 use crate::start::Start;
 use crate::store::Store;
 use crate::way::Stage;
-use part_items::{Entry, Frame};
+use log_items::{Entry, Frame};
 use site_model::Site;
 use std::alloc::{AllocError, Global};
 
@@ -31,15 +31,12 @@ fn write<V: Site, N: Start>(
     requires rests { stage_at store.old part ≡ Stage.Resting }
     requires behind { GoesBehind (goes_on (N.origin.logs part) (of_part part (trail_in store.old)))
         (entries_of frame) }
-    ensures tells { V.tells store.new.site → V.tells store.old.site }
+    ensures keeps { KeepsStore part store.old store.new }
     ensures sound { IsSound store.new }
     ensures stage { OnOk result (stage_at store.new part ≡ Stage.Synced) }
     ensures frame { OnOk result (going_at store.new part ≡ Some (entries_of frame)) }
     ensures still { OnOk result (store.new.halted ≡ false) }
-    ensures only { MovesOnly part store.old store.new }
-    ensures segment { store.new.segment ≡ store.old.segment }
-    ensures latest { store.new.latest ≡ store.old.latest }
-    ensures whole { store.new.cut ≡ store.old.cut }
+    ensures trail { trail_in store.new ≡ trail_in store.old }
     ensures full { store.old.segment ≤ length_with (way_of store.old.ways.items part)
         (entries_of frame) → (result ≡ Err BodyRefusal.Memory)
         ⊎ (result ≡ Err (BodyRefusal.Full part
@@ -51,10 +48,11 @@ fn write<V: Site, N: Start>(
         × (way_of store.new.ways.items part ≡ way_of store.old.ways.items part) }
     ensures fault { result ≡ Err BodyRefusal.SiteFault
         → HasRisen (V.disk_faults store.old.site) (V.disk_faults store.new.site) }
-    ensures later { V.disk_faults store.old.site ≤ V.disk_faults store.new.site }
-    ensures say_faults { V.say_faults store.new.site ≡ V.say_faults store.old.site }
 {
-    store.body(alloc, part, frame)?;
+    match store.body(alloc, part, frame) {
+        Ok(()) => {}
+        Err(unwritten) => return Err(unwritten.let_go()),
+    }
     match store.sync_body(part) {
         Ok(()) => Ok(()),
         Err(_) => Err(BodyRefusal::SiteFault),
@@ -69,24 +67,17 @@ fn open<V: Site, N: Start>(store: &mut Store<V, N>, part: u32) -> Result<(), Bod
     requires safe { stage_at store.old part ≡ Stage.Synced }
     requires follows { (going : List PlainEntry) → going_at store.old part ≡ Some going
         → N.may_follow store.old.latest (trail_in store.old) (told_in store.old) part going }
-    ensures tells { V.tells store.new.site → V.tells store.old.site }
+    ensures keeps { KeepsStore part store.old store.new }
     ensures sound { IsSound store.new }
     ensures stage { OnOk result (stage_at store.new part ≡ Stage.Resting) }
     ensures trail { OnOk result (Settles (V.tells store.new.site)
         (length (V.history store.new.site)) part (going_at store.old part) (trail_in store.old)
         (trail_in store.new)) }
     ensures no_trail { OnErr result (trail_in store.new ≡ trail_in store.old) }
-    ensures said { told_in store.new ≡ told_in store.old }
-    ensures others { KeepsOthers part store.old store.new }
     ensures still { OnOk result (store.new.halted ≡ false) }
-    ensures segment { store.new.segment ≡ store.old.segment }
-    ensures latest { store.new.latest ≡ store.old.latest }
-    ensures whole { store.new.cut ≡ store.old.cut }
     ensures stops { OnErr result (result ≡ Err BodyRefusal.SiteFault) }
     ensures fault { OnErr result (HasRisen (V.disk_faults store.old.site)
         (V.disk_faults store.new.site)) }
-    ensures later { V.disk_faults store.old.site ≤ V.disk_faults store.new.site }
-    ensures say_faults { V.say_faults store.new.site ≡ V.say_faults store.old.site }
 {
     match store.gate(part) {
         Ok(()) => {}
@@ -122,18 +113,13 @@ pub fn commit<V: Site, N: Start>(
         (entry_of entry ∷ []) }
     requires follows { N.may_follow store.old.latest (trail_in store.old) (told_in store.old) part
         (entry_of entry ∷ []) }
-    ensures tells { V.tells store.new.site → V.tells store.old.site }
+    ensures keeps { KeepsStore part store.old store.new }
     ensures sound { IsSound store.new }
     ensures stage { OnOk result (stage_at store.new part ≡ Stage.Resting) }
     ensures trail { OnOk result (of_part part (trail_in store.new)
         ≡ of_part part (trail_in store.old) ++ entry_of entry ∷ []) }
     ensures no_trail { OnErr result (trail_in store.new ≡ trail_in store.old) }
-    ensures said { told_in store.new ≡ told_in store.old }
-    ensures others { KeepsOthers part store.old store.new }
     ensures still { OnOk result (store.new.halted ≡ false) }
-    ensures segment { store.new.segment ≡ store.old.segment }
-    ensures latest { store.new.latest ≡ store.old.latest }
-    ensures whole { store.new.cut ≡ store.old.cut }
     ensures full { store.old.segment ≤ length_with (way_of store.old.ways.items part)
         (entry_of entry ∷ []) → (result ≡ Err BodyRefusal.Memory)
         ⊎ (result ≡ Err (BodyRefusal.Full part
@@ -145,8 +131,6 @@ pub fn commit<V: Site, N: Start>(
         × (way_of store.new.ways.items part ≡ way_of store.old.ways.items part) }
     ensures fault { result ≡ Err BodyRefusal.SiteFault
         → HasRisen (V.disk_faults store.old.site) (V.disk_faults store.new.site) }
-    ensures later { V.disk_faults store.old.site ≤ V.disk_faults store.new.site }
-    ensures say_faults { V.say_faults store.new.site ≡ V.say_faults store.old.site }
 {
     let frame = frame_of(alloc, entry)?;
     write(alloc, store, part, frame)?;

@@ -1,7 +1,7 @@
 //! Examples of the definitions. They are said of the definitions alone: the functions do nothing.
 
-ghost use Rattle.std.specs.Prelude.{◌≡◌, ◌≢◌, ◌++◌, ◌∷◌, [], true, false, None, Some};
-ghost use Rattle.hub_store.specs.Changes.{trail_in, told_in, MovesOnly, Settles, HasHalted};
+ghost use Rattle.std.specs.Prelude.{◌≡◌, ◌≢◌, ◌<◌, ◌++◌, ◌∷◌, [], true, false, None, Some};
+ghost use Rattle.hub_store.specs.Changes.{told_in, KeepsStore, Settles, HasHalted};
 ghost use Rattle.hub_store.specs.Examples.{frame, settled_in, settled_when, request, answer, speaking, spoken, other_file, IsTold, Stand, StandWith, StandAlways, log_written, gate_opened, gate_synced, LogStands, GateWritten};
 ghost use Rattle.hub_store.specs.Ways.{way_of};
 
@@ -68,11 +68,18 @@ pub fn faults_counted()
 
 /// Of two stores.
 pub fn frames_moved<V: Site, N: Start>(old: &Store<V, N>, new: &Store<V, N>)
-    ensures none { MovesOnly 0 old.now old.now }
-    ensures settled { trail_in new.now ≡ trail_in old.now ++ settled_when 0
-        → MovesOnly 0 old.now new.now → ⊥ }
-    ensures said { told_in new.now ≡ told_in old.now ++ request ∷ [] → MovesOnly 0 old.now new.now
+    ensures none { KeepsStore 0 old.now old.now }
+    ensures said { told_in new.now ≡ told_in old.now ++ request ∷ [] → KeepsStore 0 old.now new.now
         → ⊥ }
     ensures another { way_of new.now.ways.items 1 ≢ way_of old.now.ways.items 1
-        → MovesOnly 0 old.now new.now → ⊥ }
+        → KeepsStore 0 old.now new.now → ⊥ }
+    ensures untold { V.tells new.now.site → (V.tells old.now.site → ⊥)
+        → KeepsStore 0 old.now new.now → ⊥ }
+    ensures segment { new.now.segment ≢ old.now.segment → KeepsStore 0 old.now new.now → ⊥ }
+    ensures latest { new.now.latest ≢ old.now.latest → KeepsStore 0 old.now new.now → ⊥ }
+    ensures cut { new.now.cut ≢ old.now.cut → KeepsStore 0 old.now new.now → ⊥ }
+    ensures forgotten { V.disk_faults new.now.site < V.disk_faults old.now.site
+        → KeepsStore 0 old.now new.now → ⊥ }
+    ensures unsaid { V.say_faults new.now.site ≢ V.say_faults old.now.site
+        → KeepsStore 0 old.now new.now → ⊥ }
 {}

@@ -7,9 +7,9 @@ ghost use Rattle.site_model.specs.Moments.{LeavesOnly};
 ghost use Rattle.commit_log.specs.declared.header.Header.{Header};
 ghost use Rattle.commit_log.specs.States.{IsSynced, IsSyncedThere, HasFramesOrOneMore};
 ghost use Rattle.dura_value.specs.Items.{Entry};
-ghost use Rattle.part_items.specs.Plain.{entries_of};
+ghost use Rattle.log_items.specs.Plain.{entries_of};
 ghost use Rattle.part_items.specs.Spelling.{spell_frame};
-ghost use Rattle.hub_store.specs.Changes.{stage_at, going_at, trail_in, told_in, MovesOnly, HasHalted};
+ghost use Rattle.hub_store.specs.Changes.{stage_at, going_at, trail_in, told_in, KeepsStore, HasHalted};
 ghost use Rattle.hub_store.specs.Short.{reach_of};
 ghost use Rattle.hub_store.specs.Sound.{IsSound};
 ghost use Rattle.hub_store.specs.Ways.{WayFits, stage_of, going_in, due_in};
@@ -19,7 +19,7 @@ use crate::start::Start;
 use crate::store::Store;
 use crate::way::{Stage, Way, put_way, reached, take_way};
 use commit_log::Synced;
-use part_items::Frame;
+use log_items::Frame;
 use site_model::Site;
 
 /// Opens the gate before a frame.
@@ -43,13 +43,13 @@ fn gate_log<V: Site>(site: &mut V, log: Synced, frame: Frame) -> (Way, Result<()
     ensures reach { reach_of result.0 ≡ reach_of (Way.Synced log frame) }
     ensures ok { OnOk result.1 (stage_of result.0 ≡ Stage.Gated) }
     ensures err { OnErr result.1 (result.1 ≡ Err Refusal.SiteFault) }
-    ensures broken { OnErr result.1 (stage_of result.0 ≡ Stage.Broken) }
+    ensures broken { OnErr result.1 (stage_of result.0 ≡ Stage.BrokenGate) }
     ensures cause { HasCause (V.disk_faults site.old) (V.disk_faults site.new) result.1 }
     ensures say_faults { V.say_faults site.new ≡ V.say_faults site.old }
 {
     match log.gate(site) {
         Ok(log) => (Way::Gated(log, frame), Ok(())),
-        Err(log) => (Way::Broken(log, frame), Err(Refusal::SiteFault)),
+        Err(log) => (Way::BrokenGate(log, frame), Err(Refusal::SiteFault)),
     }
 }
 
@@ -61,21 +61,19 @@ impl<V: Site, N: Start> Store<V, N> {
         requires place { part < N.origin.count }
         requires follows { (going : List Entry) → going_at self.old part ≡ Some going
             → N.may_follow self.old.latest (trail_in self.old) (told_in self.old) part going }
-        ensures tells { V.tells self.new.site → V.tells self.old.site }
+        ensures keeps { KeepsStore part self.old self.new }
         ensures sound { IsSound self.new }
         ensures ok { OnOk result (stage_at self.new part ≡ Stage.Gated) }
         ensures frame { going_at self.new part ≡ going_at self.old part }
-        ensures only { MovesOnly part self.old self.new }
+        ensures trail { trail_in self.new ≡ trail_in self.old }
         ensures no_frame { result ≡ Err Refusal.NoFrame ↔ stage_at self.old part ≢ Stage.Synced }
         ensures unchanged { result ≡ Err Refusal.NoFrame → self.new ≡ self.old }
-        ensures segment { self.new.segment ≡ self.old.segment }
-        ensures latest { self.new.latest ≡ self.old.latest }
-        ensures whole { self.new.cut ≡ self.old.cut }
         ensures still { OnOk result (self.new.halted ≡ false) }
         ensures halts { result ≡ Err Refusal.SiteFault → self.new.halted ≡ true }
+        ensures broken { result ≡ Err Refusal.SiteFault
+            → stage_at self.new part ≡ Stage.BrokenGate }
         ensures halted { HasHalted (V.disk_faults self.old.site) (V.disk_faults self.new.site)
             self.new.halted }
-        ensures say_faults { V.say_faults self.new.site ≡ V.say_faults self.old.site }
     {
         let place = part as usize;
         if reached(&self.ways[place]) != Stage::Synced {

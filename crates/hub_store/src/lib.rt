@@ -9,11 +9,13 @@
 mod begin;
 mod body;
 mod commits;
+mod dropping;
 mod end;
 mod examples;
 mod field_examples;
 mod gate;
 mod laws;
+mod looks;
 mod raise;
 mod refusal;
 mod reopen;
@@ -27,7 +29,7 @@ mod way;
 
 pub use commits::commit;
 pub use end::Ended;
-pub use refusal::{BodyRefusal, Refusal, SayError};
+pub use refusal::{BodyRefusal, Refusal, SayError, Unwritten};
 pub use reopen::Reopening;
 pub use start::Start;
 pub use store::Store;

@@ -1,26 +1,26 @@
-//! Going on after a device call that failed.
+//! Going on after a device call on a gate that failed.
 
-ghost use Rattle.std.specs.Prelude.{◌≡◌, ◌≢◌, ◌≤◌, ◌<◌, ◌+◌, ◌↔◌, ℕ, max, MatchResult, List, true, false, Some, Err, Ok, OnOk, OnErr, IfOk, length, slice_index};
+ghost use Rattle.std.specs.Prelude.{◌≡◌, ◌≤◌, ◌<◌, ◌+◌, ◌↔◌, ℕ, max, MatchResult, List, true, false, Some, Err, Ok, OnOk, OnErr, IfOk, length, slice_index};
 ghost use Rattle.site_model.specs.History.{changes_of, content_of};
 ghost use Rattle.site_model.specs.Calls.{HasRisen, HasCause};
 ghost use Rattle.commit_log.specs.declared.header.Header.{Header};
 ghost use Rattle.commit_log.specs.Segment.{open_gate};
 ghost use Rattle.dura_value.specs.Items.{Entry};
-ghost use Rattle.part_items.specs.Plain.{entries_of};
+ghost use Rattle.log_items.specs.Plain.{entries_of};
 ghost use Rattle.part_items.specs.Spelling.{spell_frame};
-ghost use Rattle.hub_store.specs.Changes.{stage_at, going_at, trail_in, told_in, KeepsOthers, Settles};
+ghost use Rattle.hub_store.specs.Changes.{stage_at, going_at, trail_in, told_in, KeepsStore, Settles};
 ghost use Rattle.hub_store.specs.OpenedAgain.{Reopens};
 ghost use Rattle.hub_store.specs.Short.{reach_of};
 ghost use Rattle.hub_store.specs.Sound.{IsSound};
-ghost use Rattle.hub_store.specs.Ways.{WayFits, way_of, stage_of, going_in, gate_of, due_in};
+ghost use Rattle.hub_store.specs.Ways.{WayFits, way_of, stage_of, is_tried, going_in, gate_of, due_in};
 
 use crate::refusal::Refusal;
 use crate::start::Start;
 use crate::store::Store;
 use crate::trail::settle_entries;
 use crate::way::{Stage, Way, put_way, reached, take_way};
-use commit_log::{Broken, Reopened};
-use part_items::Frame;
+use commit_log::{BrokenGate, Reopened};
+use log_items::Frame;
 use site_model::Site;
 
 /// What became of the frame that was under way.
@@ -32,15 +32,14 @@ pub enum Reopening {
     Dropped,
 }
 
-/// Opens a log again whose frame is under way.
-fn reopen_log<V: Site>(site: &mut V, way: Way) -> (Result<Reopened, Broken>, Frame)
-    requires frame { stage_of way ≢ Stage.Resting }
-    requires there { way ≢ Way.Away }
+/// Opens a log again whose gate was tried.
+fn reopen_log<V: Site>(site: &mut V, way: Way) -> (Result<Reopened, BrokenGate>, Frame)
+    requires { is_tried (stage_of way) ≡ true }
     ensures tells { V.tells site.new → V.tells site.old }
     ensures reopens { V.tells site.new → (file : ℕ) (h : Header) (payloads : List (List ℕ))
         → WayFits file h payloads (changes_of file (V.history site.old)) way
-        → Reopens file h payloads (spell_frame (entries_of result.1)) way (V.history site.old)
-        (V.history site.new) result.0 }
+        → Reopens file h payloads (spell_frame (entries_of result.1)) (gate_of way)
+        (V.history site.old) (V.history site.new) result.0 }
     ensures going { going_in way ≡ Some (entries_of result.1) }
     ensures due { due_in way ≡ length result.1 }
     ensures reach { MatchResult result.0 (λ found. found.log.gate + 1 ≤ reach_of way)
@@ -49,26 +48,27 @@ fn reopen_log<V: Site>(site: &mut V, way: Way) -> (Result<Reopened, Broken>, Fra
     ensures say_faults { V.say_faults site.new ≡ V.say_faults site.old }
 {
     match way {
-        Way::Bodied(log, frame) => (log.reopen(site), frame),
-        Way::Synced(log, frame) => (log.reopen(site), frame),
         Way::Gated(log, frame) => (log.reopen(site), frame),
-        Way::Broken(log, frame) => (log.reopen(site), frame),
-        Way::Resting(_) | Way::Away => unreachable!(),
+        Way::BrokenGate(log, frame) => (log.reopen(site), frame),
+        Way::Resting(_)
+        | Way::Bodied(_, _)
+        | Way::Synced(_, _)
+        | Way::BrokenBody(_, _)
+        | Way::Away => unreachable!(),
     }
 }
 
 impl<V: Site, N: Start> Store<V, N> {
-    /// Opens a partition's log again, whose frame is under way, also after a device call failed. Where the gate reads open the
-    /// frame is settled, at this moment, else it is dropped. Then no frame is under way, and the store goes on.
+    /// Opens a partition's log again whose gate was tried, also after a device call failed. Where the gate reads open the frame is
+    /// settled, at this moment, else it is dropped. Then no frame is under way, and the store goes on.
     pub fn reopen(&mut self, part: u32) -> Result<Reopening, Refusal>
         requires sound { IsSound self.old }
         requires whole { self.old.cut ≡ false }
         requires place { part < N.origin.count }
-        // Before its gate is opened a frame is only dropped.
         requires follows { (going : List Entry) → going_at self.old part ≡ Some going
-            → stage_at self.old part ≢ Stage.Bodied → stage_at self.old part ≢ Stage.Synced
+            → is_tried (stage_at self.old part) ≡ true
             → N.may_follow self.old.latest (trail_in self.old) (told_in self.old) part going }
-        ensures tells { V.tells self.new.site → V.tells self.old.site }
+        ensures keeps { KeepsStore part self.old self.new }
         ensures sound { IsSound self.new }
         ensures ok { OnOk result (stage_at self.new part ≡ Stage.Resting) }
         ensures settled { result ≡ Ok Reopening.Settled
@@ -81,23 +81,20 @@ impl<V: Site, N: Start> Store<V, N> {
             ↔ slice_index (content_of (N.origin.logs part).file (V.history self.old.site))
             (gate_of (way_of self.old.ways.items part)) ≡ open_gate) }
         ensures frame { OnErr result (going_at self.new part ≡ going_at self.old part) }
-        ensures said { told_in self.new ≡ told_in self.old }
-        ensures others { KeepsOthers part self.old self.new }
-        ensures no_frame { result ≡ Err Refusal.NoFrame ↔ stage_at self.old part ≡ Stage.Resting }
+        ensures broken { result ≡ Err Refusal.SiteFault
+            → stage_at self.new part ≡ Stage.BrokenGate }
+        // No frame is under way, or none whose gate was tried.
+        ensures no_frame { result ≡ Err Refusal.NoFrame
+            ↔ is_tried (stage_at self.old part) ≡ false }
         ensures unchanged { result ≡ Err Refusal.NoFrame → self.new ≡ self.old }
-        ensures segment { self.new.segment ≡ self.old.segment }
-        ensures latest { self.new.latest ≡ self.old.latest }
-        ensures whole { self.new.cut ≡ self.old.cut }
         ensures still { OnOk result (self.new.halted ≡ false) }
         ensures halts { result ≡ Err Refusal.SiteFault → self.new.halted ≡ true }
         ensures fault { result ≡ Err Refusal.SiteFault
             → HasRisen (V.disk_faults self.old.site) (V.disk_faults self.new.site) }
-        ensures later { V.disk_faults self.old.site ≤ V.disk_faults self.new.site }
         ensures same { OnOk result (V.disk_faults self.new.site ≡ V.disk_faults self.old.site) }
-        ensures say_faults { V.say_faults self.new.site ≡ V.say_faults self.old.site }
     {
         let place = part as usize;
-        if reached(&self.ways[place]) == Stage::Resting {
+        if !reached(&self.ways[place]).is_tried() {
             return Err(Refusal::NoFrame);
         }
         let way = take_way(&mut self.ways, place);
@@ -105,7 +102,7 @@ impl<V: Site, N: Start> Store<V, N> {
         let found = match answer {
             Ok(found) => found,
             Err(log) => {
-                put_way(&mut self.ways, place, Way::Broken(log, frame));
+                put_way(&mut self.ways, place, Way::BrokenGate(log, frame));
                 self.halted = true;
                 return Err(Refusal::SiteFault);
             }

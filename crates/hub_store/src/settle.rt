@@ -2,7 +2,7 @@
 
 ghost use Rattle.std.specs.Prelude.{◌≡◌, ◌≢◌, ◌<◌, ◌↔◌, ◌++◌, ℕ, List, true, false, Some, Err, OnOk, OnErr, length};
 ghost use Rattle.dura_value.specs.Items.{Entry};
-ghost use Rattle.hub_store.specs.Changes.{stage_at, going_at, trail_in, told_in, KeepsOthers, Settles, HasHalted};
+ghost use Rattle.hub_store.specs.Changes.{stage_at, going_at, trail_in, told_in, KeepsStore, Settles, HasHalted};
 ghost use Rattle.hub_store.specs.Sound.{IsSound};
 
 use crate::refusal::Refusal;
@@ -19,8 +19,9 @@ impl<V: Site, N: Start> Store<V, N> {
         requires going { self.old.halted ≡ false }
         requires place { part < N.origin.count }
         requires follows { (going : List Entry) → going_at self.old part ≡ Some going
+            → stage_at self.old part ≡ Stage.Gated
             → N.may_follow self.old.latest (trail_in self.old) (told_in self.old) part going }
-        ensures tells { V.tells self.new.site → V.tells self.old.site }
+        ensures keeps { KeepsStore part self.old self.new }
         ensures sound { IsSound self.new }
         ensures ok { OnOk result (stage_at self.new part ≡ Stage.Resting) }
         ensures trail { OnOk result (Settles (V.tells self.new.site)
@@ -28,18 +29,14 @@ impl<V: Site, N: Start> Store<V, N> {
             (trail_in self.new)) }
         ensures no_trail { OnErr result (trail_in self.new ≡ trail_in self.old) }
         ensures frame { OnErr result (going_at self.new part ≡ going_at self.old part) }
-        ensures said { told_in self.new ≡ told_in self.old }
-        ensures others { KeepsOthers part self.old self.new }
         ensures no_frame { result ≡ Err Refusal.NoFrame ↔ stage_at self.old part ≢ Stage.Gated }
         ensures unchanged { result ≡ Err Refusal.NoFrame → self.new ≡ self.old }
-        ensures segment { self.new.segment ≡ self.old.segment }
-        ensures latest { self.new.latest ≡ self.old.latest }
-        ensures whole { self.new.cut ≡ self.old.cut }
         ensures still { OnOk result (self.new.halted ≡ false) }
         ensures halts { result ≡ Err Refusal.SiteFault → self.new.halted ≡ true }
+        ensures broken { result ≡ Err Refusal.SiteFault
+            → stage_at self.new part ≡ Stage.BrokenGate }
         ensures halted { HasHalted (V.disk_faults self.old.site) (V.disk_faults self.new.site)
             self.new.halted }
-        ensures say_faults { V.say_faults self.new.site ≡ V.say_faults self.old.site }
     {
         let place = part as usize;
         if reached(&self.ways[place]) != Stage::Gated {
@@ -57,7 +54,7 @@ impl<V: Site, N: Start> Store<V, N> {
                 Ok(())
             }
             Err(log) => {
-                put_way(&mut self.ways, place, Way::Broken(log, frame));
+                put_way(&mut self.ways, place, Way::BrokenGate(log, frame));
                 self.halted = true;
                 Err(Refusal::SiteFault)
             }

@@ -1,9 +1,9 @@
 //! What is fixed when a call begins.
 
-ghost use Rattle.std.specs.Prelude.{◌≡◌, ◌≤◌, ℕ, List, [], ◌++◌};
+ghost use Rattle.std.specs.Prelude.{◌≢◌, ◌≤◌, ℕ, List, ◌++◌};
 ghost use Rattle.dura_value.specs.Items.{Entry};
 ghost use Rattle.hub_store.specs.Origin.{Origin};
-ghost use Rattle.hub_store.specs.Trail.{Settled, Said, of_part};
+ghost use Rattle.hub_store.specs.Trail.{Settled, Said, settling};
 
 use std::marker::Brand;
 
@@ -18,11 +18,17 @@ pub trait Start: Drop {
     /// Whether this line may be said of a request, once this was settled and said.
     ghost may_say: { List Settled → List Said → Said → List ℕ → Type 0 };
 
-    /// What may be committed may be committed still once more of other partitions was settled and more was said.
-    ghost still_follows: { (latest : ℕ) (trail more : List Settled) (told also : List Said)
-        (partition : ℕ) (going : List Entry) → of_part partition more ≡ []
-        → may_follow latest trail told partition going
-        → may_follow latest (trail ++ more) (told ++ also) partition going };
+    /// What may be committed may be committed still once more was said.
+    ghost still_said: { (latest : ℕ) (trail : List Settled) (told also : List Said)
+        (partition : ℕ) (going : List Entry) → may_follow latest trail told partition going
+        → may_follow latest trail (told ++ also) partition going };
+
+    /// And so it may once a frame of another partition was settled, which might be committed too.
+    ghost still_settled: { (latest : ℕ) (trail : List Settled) (told : List Said)
+        (partition at : ℕ) (going : List Entry) (other : ℕ) (theirs : List Entry)
+        → other ≢ partition → may_follow latest trail told partition going
+        → may_follow latest trail told other theirs
+        → may_follow latest (trail ++ settling partition at going) told other theirs };
 
     /// What may be committed up to a moment may be committed up to a later one.
     ghost later_follows: { (latest later : ℕ) (trail : List Settled) (told : List Said)
@@ -42,7 +48,9 @@ impl Start for Brand {
 
     ghost may_say = { λ trail told one line. Unit {0} };
 
-    ghost still_follows = { λ latest trail more told also partition going none may. may };
+    ghost still_said = { λ latest trail told also partition going may. may };
+
+    ghost still_settled = { λ latest trail told partition at going other theirs apart may also. also };
 
     ghost later_follows = { λ latest later trail told partition going above may. may };
 }

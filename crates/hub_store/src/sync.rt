@@ -6,9 +6,9 @@ ghost use Rattle.site_model.specs.Calls.{HasCause};
 ghost use Rattle.site_model.specs.Moments.{LeavesOnly};
 ghost use Rattle.commit_log.specs.declared.header.Header.{Header};
 ghost use Rattle.commit_log.specs.States.{IsBodied, HasFrames};
-ghost use Rattle.part_items.specs.Plain.{entries_of};
+ghost use Rattle.log_items.specs.Plain.{entries_of};
 ghost use Rattle.part_items.specs.Spelling.{spell_frame};
-ghost use Rattle.hub_store.specs.Changes.{stage_at, going_at, MovesOnly, HasHalted};
+ghost use Rattle.hub_store.specs.Changes.{stage_at, going_at, trail_in, KeepsStore, HasHalted};
 ghost use Rattle.hub_store.specs.Short.{reach_of};
 ghost use Rattle.hub_store.specs.Sound.{IsSound};
 ghost use Rattle.hub_store.specs.Ways.{WayFits, stage_of, going_in, due_in};
@@ -18,7 +18,7 @@ use crate::start::Start;
 use crate::store::Store;
 use crate::way::{Stage, Way, put_way, reached, take_way};
 use commit_log::Bodied;
-use part_items::Frame;
+use log_items::Frame;
 use site_model::Site;
 
 /// Makes a frame safe on the disk.
@@ -37,13 +37,13 @@ fn sync_log<V: Site>(site: &mut V, log: Bodied, frame: Frame) -> (Way, Result<()
     ensures reach { reach_of result.0 ≡ reach_of (Way.Bodied log frame) }
     ensures ok { OnOk result.1 (stage_of result.0 ≡ Stage.Synced) }
     ensures err { OnErr result.1 (result.1 ≡ Err Refusal.SiteFault) }
-    ensures broken { OnErr result.1 (stage_of result.0 ≡ Stage.Broken) }
+    ensures broken { OnErr result.1 (stage_of result.0 ≡ Stage.BrokenBody) }
     ensures cause { HasCause (V.disk_faults site.old) (V.disk_faults site.new) result.1 }
     ensures say_faults { V.say_faults site.new ≡ V.say_faults site.old }
 {
     match log.sync_body(site) {
         Ok(log) => (Way::Synced(log, frame), Ok(())),
-        Err(log) => (Way::Broken(log, frame), Err(Refusal::SiteFault)),
+        Err(log) => (Way::BrokenBody(log, frame), Err(Refusal::SiteFault)),
     }
 }
 
@@ -53,21 +53,19 @@ impl<V: Site, N: Start> Store<V, N> {
         requires sound { IsSound self.old }
         requires going { self.old.halted ≡ false }
         requires place { part < N.origin.count }
-        ensures tells { V.tells self.new.site → V.tells self.old.site }
+        ensures keeps { KeepsStore part self.old self.new }
         ensures sound { IsSound self.new }
         ensures ok { OnOk result (stage_at self.new part ≡ Stage.Synced) }
         ensures frame { going_at self.new part ≡ going_at self.old part }
-        ensures only { MovesOnly part self.old self.new }
+        ensures trail { trail_in self.new ≡ trail_in self.old }
         ensures no_frame { result ≡ Err Refusal.NoFrame ↔ stage_at self.old part ≢ Stage.Bodied }
         ensures unchanged { result ≡ Err Refusal.NoFrame → self.new ≡ self.old }
-        ensures segment { self.new.segment ≡ self.old.segment }
-        ensures latest { self.new.latest ≡ self.old.latest }
-        ensures whole { self.new.cut ≡ self.old.cut }
         ensures still { OnOk result (self.new.halted ≡ false) }
         ensures halts { result ≡ Err Refusal.SiteFault → self.new.halted ≡ true }
+        ensures broken { result ≡ Err Refusal.SiteFault
+            → stage_at self.new part ≡ Stage.BrokenBody }
         ensures halted { HasHalted (V.disk_faults self.old.site) (V.disk_faults self.new.site)
             self.new.halted }
-        ensures say_faults { V.say_faults self.new.site ≡ V.say_faults self.old.site }
     {
         let place = part as usize;
         if reached(&self.ways[place]) != Stage::Bodied {

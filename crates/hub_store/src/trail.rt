@@ -2,12 +2,12 @@
 
 ghost use Rattle.std.specs.Prelude.{◌≡◌, ◌+◌, ◌≤◌, ◌++◌, [], length};
 ghost use Rattle.std.specs.Vec.{vec_len, vec_capacity};
-ghost use Rattle.part_items.specs.Plain.{entries_of};
+ghost use Rattle.log_items.specs.Plain.{entries_of};
 ghost use Rattle.hub_store.specs.Plain.{trail_of};
 ghost use Rattle.hub_store.specs.Trail.{settling};
 
 use dura_value::Name;
-use part_items::{Frame, Items};
+use log_items::{Frame, Items};
 use std::alloc::Global;
 use std::marker::Model;
 

@@ -1,10 +1,11 @@
 //! How far the frame of each partition has come.
 
-ghost use Rattle.std.specs.Prelude.{◌≡◌, ◌<◌, length, slice_set};
-ghost use Rattle.hub_store.specs.Ways.{stage_of, way_of, due_in};
+ghost use Rattle.std.specs.Prelude.{◌≡◌, ◌<◌, Some, None, MatchOption, length, slice_set};
+ghost use Rattle.log_items.specs.Plain.{entries_of};
+ghost use Rattle.hub_store.specs.Ways.{stage_of, way_of, going_in, due_in, is_tried, is_untried};
 
-use commit_log::{Bodied, Broken, Gated, Resting, Synced};
-use part_items::Frame;
+use commit_log::{Bodied, BrokenBody, BrokenGate, Gated, Resting, Synced};
+use log_items::Frame;
 use std::mem;
 
 /// How far the frame of a partition has come.
@@ -18,8 +19,10 @@ pub(crate) enum Way {
     Synced(Synced, Frame),
     /// Its gate is written open.
     Gated(Gated, Frame),
-    /// A device call failed.
-    Broken(Broken, Frame),
+    /// Writing it or making it safe failed: its gate was never tried.
+    BrokenBody(BrokenBody, Frame),
+    /// Opening its gate or making that safe failed.
+    BrokenGate(BrokenGate, Frame),
     /// The log is taken out while a device call is made.
     Away,
 }
@@ -35,8 +38,32 @@ pub enum Stage {
     Synced,
     /// Its gate is written open.
     Gated,
-    /// One that failed.
-    Broken,
+    /// Writing it or making it safe, which failed. Its gate was never tried.
+    BrokenBody,
+    /// Opening its gate or making that safe, which failed.
+    BrokenGate,
+}
+
+impl Stage {
+    /// Whether a frame is under way whose gate was tried: a crash may leave it.
+    pub fn is_tried(self) -> bool
+        ensures { result ≡ is_tried self }
+    {
+        match self {
+            Stage::Gated | Stage::BrokenGate => true,
+            Stage::Resting | Stage::Bodied | Stage::Synced | Stage::BrokenBody => false,
+        }
+    }
+
+    /// Whether a frame is under way whose gate was never tried: no crash leaves it.
+    pub fn is_untried(self) -> bool
+        ensures { result ≡ is_untried self }
+    {
+        match self {
+            Stage::Bodied | Stage::Synced | Stage::BrokenBody => true,
+            Stage::Resting | Stage::Gated | Stage::BrokenGate => false,
+        }
+    }
 }
 
 /// How far a frame has come.
@@ -48,7 +75,23 @@ pub(crate) fn reached(way: &Way) -> Stage
         Way::Bodied(_, _) => Stage::Bodied,
         Way::Synced(_, _) => Stage::Synced,
         Way::Gated(_, _) => Stage::Gated,
-        Way::Broken(_, _) | Way::Away => Stage::Broken,
+        Way::BrokenBody(_, _) | Way::Away => Stage::BrokenBody,
+        Way::BrokenGate(_, _) => Stage::BrokenGate,
+    }
+}
+
+/// The frame that is under way.
+pub(crate) fn frame_of(way: &Way) -> Option<&Frame>
+    ensures { MatchOption result (going_in way.now ≡ None)
+        (λ frame. going_in way.now ≡ Some (entries_of frame.now)) }
+{
+    match way {
+        Way::Bodied(_, frame)
+        | Way::Synced(_, frame)
+        | Way::Gated(_, frame)
+        | Way::BrokenBody(_, frame)
+        | Way::BrokenGate(_, frame) => Some(frame),
+        Way::Resting(_) | Way::Away => None,
     }
 }
 
@@ -60,7 +103,8 @@ pub(crate) fn due(way: &Way) -> usize
         Way::Bodied(_, frame)
         | Way::Synced(_, frame)
         | Way::Gated(_, frame)
-        | Way::Broken(_, frame) => frame.entries().len(),
+        | Way::BrokenBody(_, frame)
+        | Way::BrokenGate(_, frame) => frame.entries().len(),
         Way::Resting(_) | Way::Away => 0,
     }
 }

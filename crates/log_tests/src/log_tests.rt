@@ -16,7 +16,7 @@ use crate::readings::{
 };
 use crate::stores::HEADER;
 use crate::texts::{Told, same, text_of};
-use commit_log::{BodyError, Broken, Next, Reopened, Resting, open_log};
+use commit_log::{BodyError, BrokenBody, BrokenGate, Next, Reopened, Resting, open_log};
 use site_memory::{Kept, MemorySite, Pick};
 use site_model::Site;
 use std::alloc::Global;
@@ -109,7 +109,35 @@ fn format(site: &mut MemorySite) -> Told {
     }
 }
 
-/// A commit, which stops after so many calls where the log is opened again, or goes to its end.
+/// A log whose commit failed, before its gate was tried or behind that.
+#[derive(Drop)]
+enum Broken {
+    Body(BrokenBody),
+    Gate(BrokenGate),
+}
+
+/// What became of a frame that was dropped.
+fn dropped(answer: Result<Resting, BrokenBody>) -> Result<Reopened, Broken> {
+    match answer {
+        Ok(log) => {
+            Ok(Reopened {
+                log,
+                settled: false,
+            })
+        }
+        Err(broken) => Err(Broken::Body(broken)),
+    }
+}
+
+/// What became of one whose log was opened again.
+fn opened_again(answer: Result<Reopened, BrokenGate>) -> Result<Reopened, Broken> {
+    match answer {
+        Ok(found) => Ok(found),
+        Err(broken) => Err(Broken::Gate(broken)),
+    }
+}
+
+/// A commit, which stops after so many calls where its frame is dropped or the log opened again, or goes to its end.
 fn commit(
     rt: &impl Abort,
     alloc: Global,
@@ -123,35 +151,43 @@ fn commit(
 {
     let log = match log.body(alloc, site, payload, LIMIT) {
         Ok(log) => log,
-        Err(BodyError::SiteFault(broken)) => return Err(broken),
+        Err(BodyError::SiteFault(broken)) => return Err(Broken::Body(broken)),
         Err(_) => panic!(rt; "no room"),
     };
     if stop == 1 {
-        return log.reopen(site);
+        return dropped(log.drop_frame(site));
     }
-    let log = log.sync_body(site)?;
+    let log = match log.sync_body(site) {
+        Ok(log) => log,
+        Err(broken) => return Err(Broken::Body(broken)),
+    };
     if stop == 2 {
-        return log.reopen(site);
+        return dropped(log.drop_frame(site));
     }
-    let log = log.gate(site)?;
+    let log = match log.gate(site) {
+        Ok(log) => log,
+        Err(broken) => return Err(Broken::Gate(broken)),
+    };
     if stop == 3 {
-        return log.reopen(site);
+        return opened_again(log.reopen(site));
     }
-    let log = log.settle(site)?;
-    Ok(Reopened { log, settled: true })
+    match log.settle(site) {
+        Ok(log) => Ok(Reopened { log, settled: true }),
+        Err(broken) => Err(Broken::Gate(broken)),
+    }
 }
 
-/// The run in which the log is opened again after a fault.
-const AGAIN: &str = "commit and open again behind a fault";
+/// The run that goes on behind a fault: the frame is dropped where its gate wasn't tried, and else the log is opened again.
+const AGAIN: &str = "commit and go on behind a fault";
 
 /// The calls of a commit.
 const ALL: u64 = 4;
 
-/// After how many calls of a commit its log is opened again, or all where it isn't.
+/// After how many calls of a commit its frame is given up, or all where it isn't.
 fn calls_before(rt: &impl Abort, what: &str) -> u64 {
     match what {
-        "commit and open again behind the body" => 1,
-        "commit and open again behind the sync" => 2,
+        "commit and drop behind the body" => 1,
+        "commit and drop behind the sync" => 2,
         "commit and open again behind the gate" => 3,
         "commit" => ALL,
         AGAIN => ALL,
@@ -172,7 +208,8 @@ fn committed(
     if what == AGAIN {
         found = match found {
             Ok(_) => panic!(rt; "no fault"),
-            Err(broken) => broken.reopen(site),
+            Err(Broken::Body(broken)) => dropped(broken.drop_frame(site)),
+            Err(Broken::Gate(broken)) => opened_again(broken.reopen(site)),
         };
     }
     match found {
@@ -374,22 +411,25 @@ the example, fault at call 9; commit: fault
 the example; commit: settled, gate at 84
 1111 1111 1111 1111 1212 2222
 
-the example; commit and open again behind the body: dropped, gate at 76
+the example; commit and drop behind the body: dropped, gate at 76
 1111 1111 1111 1111
 
-the example; commit and open again behind the sync: dropped, gate at 76
+the example; commit and drop behind the sync: dropped, gate at 76
 1111 1111 1111 1111 1111
 
 the example; commit and open again behind the gate: settled, gate at 84
 1111 1111 1111 1111 1212 2222
 
-the example, fault at call 8; commit and open again behind a fault: settled, gate at 84
+the example, fault at call 8; commit and go on behind a fault: settled, gate at 84
 1111 1111 1111 1111 1212 2222
 
-the example, room for 85; commit and open again behind a fault: dropped, gate at 76
+the example, room for 85; commit and go on behind a fault: dropped, gate at 76
 1111 1111 1111 1111 1111
 
-the example, fault at call 6; commit and open again behind a fault: dropped, gate at 76
+the example, fault at call 6; commit and go on behind a fault: dropped, gate at 76
+1111 1111 1111 1111
+
+the example, fault at call 7; commit and go on behind a fault: dropped, gate at 76
 1111 1111 1111 1111
 
 no file; format and commit: settled, gate at 76

@@ -143,17 +143,22 @@ sync: no frame
 gate: no frame
 settle: no frame
 reopen: no frame
+drop: no frame
 write: ok
 gate: no frame
 settle: no frame
+reopen: no frame
 sync: ok
 sync: no frame
 settle: no frame
+reopen: no frame
 gate: ok
 sync: no frame
 gate: no frame
+drop: no frame
 settle: ok
 reopen: no frame
+drop: no frame
 end
 settled 1
 moment 10";
@@ -210,8 +215,8 @@ end
 disk faults 0
 say faults 1";
 
-/// The sync behind the gate fails, and the frame is settled when the log is opened again, which is a sync and a read. Either of them may
-/// fail before. Or the sync of the frame fails, it is dropped, and the next one goes in its place.
+/// The sync behind the gate fails, or the gate's write, which stands, and the frame is settled when the log is opened again, which is a
+/// sync and a read. Either of them may fail before. The gate was tried, so the frame can't be dropped unread.
 const LOG_OPENED_AGAIN: &str = "device 10
 write: ok
 sync: ok
@@ -250,10 +255,52 @@ first at 11
 disk faults 2
 frames 1
 
+device 9
+write: ok
+sync: ok
+gate: fault
+drop: no frame
+reopen: settled
+end
+settled 1
+first at 10
+disk faults 1
+frames 1
+
+device 9, device 10
+write: ok
+sync: ok
+gate: fault
+reopen: fault
+drop: no frame
+reopen: settled
+end
+settled 1
+first at 10
+disk faults 2
+frames 1";
+
+/// The write of the frame fails, or its sync. It is dropped by one more sync, which may fail too, and the next one goes in its place. Its
+/// gate was never tried, so the log isn't opened again. A frame may be given up at any time before its gate.
+const FRAME_DROPPED: &str = "device 7
+write: fault
+reopen: no frame
+drop: ok
+write: ok
+sync: ok
+gate: ok
+settle: ok
+end
+settled 1
+first at 12
+disk faults 1
+frames 1
+
 device 8
 write: ok
 sync: fault
-reopen: dropped
+reopen: no frame
+drop: ok
 write: ok
 sync: ok
 gate: ok
@@ -267,8 +314,9 @@ frames 1
 device 8, device 9
 write: ok
 sync: fault
-reopen: fault
-reopen: dropped
+drop: fault
+reopen: no frame
+drop: ok
 write: ok
 sync: ok
 gate: ok
@@ -279,19 +327,18 @@ first at 12
 disk faults 2
 frames 1
 
-device 8, device 10
+segment 1048576
 write: ok
-sync: fault
-reopen: fault
-reopen: dropped
+drop: ok
+write: ok
+sync: ok
+drop: ok
 write: ok
 sync: ok
 gate: ok
 settle: ok
 end
 settled 1
-first at 13
-disk faults 2
 frames 1";
 
 #[test]
@@ -302,4 +349,5 @@ fn transcripts(rt: HostRuntime) {
     check(&rt, alloc, FULL_LOG);
     check(&rt, alloc, FAULT_AT_EACH_CALL);
     check(&rt, alloc, LOG_OPENED_AGAIN);
+    check(&rt, alloc, FRAME_DROPPED);
 }

@@ -4,15 +4,15 @@ ghost use Rattle.std.specs.Prelude.{◌≡◌, ◌+◌, ◌≤◌, ◌<◌, ◌^
 ghost use Rattle.site_memory.specs.Memory.{memory_history};
 ghost use Rattle.commit_log.specs.Outcomes.{RestsAs};
 ghost use Rattle.dura_value.specs.Items.{Entry as plain};
-ghost use Rattle.part_items.specs.Plain.{entries_of};
+ghost use Rattle.log_items.specs.Plain.{entries_of};
 ghost use Rattle.hub_store.specs.Opened.{IsOrigin, HasBegun};
 ghost use Rattle.hub_store.specs.Trail.{Settled, Said};
 ghost use Rattle.log_tests.specs.Stores.{header, trimming, IsGoing, HasFailed, IsAt};
 
 use commit_log::{Header, Resting};
 use dura_value::Name;
-use hub_store::{BodyRefusal, Refusal, Reopening, SayError, Start, Store};
-use part_items::{Entry, Frame, Item, Items};
+use hub_store::{BodyRefusal, Refusal, Reopening, SayError, Stage, Start, Store, Unwritten};
+use log_items::{Entry, Frame, Item, Items};
 use site_memory::MemorySite;
 use std::alloc::{AllocError, Global};
 use std::process::Abort;
@@ -86,6 +86,17 @@ fn frame_at(alloc: Global, position: u64) -> Result<Frame, AllocError>
     Ok(Frame::of(vec![in alloc; entry]?))
 }
 
+/// Why a frame was not written.
+fn refused(refusal: BodyRefusal) -> &'static str {
+    match refusal {
+        BodyRefusal::Full {
+            partition: 0,
+            length: 88,
+        } => "full at 88",
+        _ => "refused",
+    }
+}
+
 /// Writes the frame at this position, where none is under way.
 fn write<N: Start>(
     rt: &impl Abort,
@@ -97,20 +108,12 @@ fn write<N: Start>(
     requires position { position < 2 ^ 63 }
     ensures { IsAt store.new result.0 }
 {
-    let Err(Refusal::NoFrame) = store.reopen(0) else {
-        panic!(rt; "a frame is under way");
-    };
+    assert!(rt; store.stage(0) == Stage::Resting, "a frame is under way");
     let frame = frame_at(alloc, position).expect(rt, "memory");
     match store.body(alloc, 0, frame) {
         Ok(()) => (Ok(position), "ok"),
-        Err(
-            BodyRefusal::Full {
-                partition: 0,
-                length: 88,
-            },
-        ) => (Err(None), "full at 88"),
-        Err(BodyRefusal::SiteFault) => (Err(None), "fault"),
-        Err(_) => (Err(None), "refused"),
+        Err(Unwritten::SiteFault) => (Err(Some(position)), "fault"),
+        Err(unwritten) => (Err(None), refused(unwritten.let_go())),
     }
 }
 
@@ -166,6 +169,19 @@ fn reopen<N: Start>(store: &mut Store<MemorySite, N>, place: Place, position: u6
     }
 }
 
+/// Drops the frame.
+fn drop_frame<N: Start>(store: &mut Store<MemorySite, N>, place: Place, position: u64) -> Given
+    requires place { IsAt store.old place }
+    requires failed { HasFailed store.old position }
+    ensures { IsAt store.new result.0 }
+{
+    match store.drop_frame(0) {
+        Ok(()) => (Ok(position), "ok"),
+        Err(Refusal::NoFrame) => (place, "no frame"),
+        Err(Refusal::SiteFault) => (Err(Some(position)), "fault"),
+    }
+}
+
 /// Says an answer of client a's request 1.
 fn say<N: Start>(
     rt: &impl Abort,
@@ -202,6 +218,7 @@ fn call_going<N: Start>(
         "gate" => gate(store, position),
         "settle" => settle(store, position),
         "reopen" => reopen(store, Ok(position), position),
+        "drop" => drop_frame(store, Ok(position), position),
         "say" => say(rt, alloc, store, position),
         _ => panic!(rt; "no such call"),
     }
@@ -221,6 +238,7 @@ pub(crate) fn call<N: Start>(
     match place {
         Ok(position) if position < 9 => call_going(rt, alloc, store, position, name),
         Err(Some(position)) if position < 9 && name == "reopen" => reopen(store, place, position),
+        Err(Some(position)) if position < 9 && name == "drop" => drop_frame(store, place, position),
         _ => panic!(rt; "no call comes here"),
     }
 }

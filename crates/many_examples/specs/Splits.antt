@@ -5,7 +5,8 @@ use Rattle.dura_value.specs.Ids.{Id, client, home}
 use Rattle.dura_value.specs.Items.{Item, took, got, ran, ended, fired, trim, Entry, Posted}
 use Rattle.dura_value.specs.Messages.{Answer}
 use Rattle.flow_syntax.specs.Syntax.{Flows}
-use Rattle.dura_model.specs.Partition.{Outbox, Inbox, Partition, fresh, with_part}
+use Rattle.dura_model.specs.Partition.{Inbox, Partition, fresh, with_part}
+use Rattle.log_items.specs.Streams.{Outbox}
 use Rattle.dura_model.specs.Steps.{Label, take, deliver, finish, fire}
 use Rattle.many_logs.specs.Labels.{labels_of_commits}
 use Rattle.many_logs.specs.Placing.{Commit, commit_accepted, of_partition, states_after, placed, Placing}

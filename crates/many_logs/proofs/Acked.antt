@@ -5,7 +5,8 @@ use Rattle.std.proofs.lemmas.Bool.{eqb-true}
 use Rattle.dura_value.specs.Ids.{home}
 use Rattle.dura_value.specs.Items.{Identity, Item, took, got, ran, ended, fired, trim, Entry, Posted}
 use Rattle.flow_syntax.specs.Syntax.{Flows}
-use Rattle.dura_model.specs.Partition.{Outbox, Partition, entry_of, enter, with_inbox, begins_at, with_first, accepted}
+use Rattle.dura_model.specs.Partition.{Partition, entry_of, enter, with_inbox, accepted}
+use Rattle.log_items.specs.Streams.{Outbox, begins_at, with_first}
 use Rattle.dura_model.specs.Placed.{Belongs}
 use Rattle.dura_model.proofs.Basics.{passed}
 use Rattle.dura_model.proofs.Belonging.{enter_belongs}

@@ -8,7 +8,8 @@ use Rattle.dura_value.specs.Items.{Identity, Item, took, got, ran, ended, fired,
 use Rattle.dura_value.specs.Messages.{Message}
 use Rattle.flow_syntax.specs.Syntax.{Flows}
 use Rattle.dura_model.specs.Legal.{after_from}
-use Rattle.dura_model.specs.Partition.{Outbox, Partition, enter, accepted, label_in, shown, with_part}
+use Rattle.dura_model.specs.Partition.{Partition, enter, accepted, label_in, shown, with_part}
+use Rattle.log_items.specs.Streams.{Outbox}
 use Rattle.dura_model.specs.Placed.{AreShown, IsStreamed, IsOfStreams, IsGiven, happens_at}
 use Rattle.dura_model.specs.Steps.{Label, take, deliver, finish, fire, step, number_in}
 use Rattle.dura_model.specs.World.{World}

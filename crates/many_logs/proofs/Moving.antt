@@ -13,7 +13,8 @@ use Rattle.flow_syntax.specs.Entity.{takes, deliver as deliver_to}
 use Rattle.dura_model.specs.World.{Orchestration, Activity}
 use Rattle.dura_model.specs.Deliveries.{Effect, goes_on_from, to_instance}
 use Rattle.dura_model.specs.Steps.{is_request, number_in, entity_of, answer_of}
-use Rattle.dura_model.specs.Partition.{Outbox, Inbox, Partition, entry_of, enter, instance_at, event_of, row_after, with_posted, post, post_all, asked_in, given_up_in, stands_in, raised_to, first_in, without_first, last_in, answered_in, client_received, received_in, delivered_in, taken_in, ended_in, fired_in, with_inbox, got_in, begins_at, with_first, trim_in, accepted}
+use Rattle.dura_model.specs.Partition.{Inbox, Partition, entry_of, enter, instance_at, event_of, row_after, post, post_all, asked_in, given_up_in, stands_in, raised_to, first_in, without_first, last_in, answered_in, client_received, received_in, delivered_in, taken_in, ended_in, fired_in, with_inbox, got_in, trim_in, accepted}
+use Rattle.log_items.specs.Streams.{Outbox, with_posted, begins_at, with_first}
 use Rattle.dura_model.proofs.Basics.{passes, passed}
 use Rattle.dura_model.specs.Entries.{all_accepted, entry_accepted}
 use Rattle.many_logs.specs.Placing.{first_of, message_at}

@@ -5,7 +5,8 @@ use Rattle.std.proofs.lemmas.Bool.{ltb-true, lt-ltb, and_parts}
 use Rattle.dura_value.specs.Items.{Identity, Item, Entry, Posted}
 use Rattle.dura_value.specs.Messages.{Message}
 use Rattle.flow_syntax.specs.Syntax.{Flows}
-use Rattle.dura_model.specs.Partition.{Outbox, Inbox, Partition, entry_of, enter, accepted}
+use Rattle.dura_model.specs.Partition.{Inbox, Partition, entry_of, enter, accepted}
+use Rattle.log_items.specs.Streams.{Outbox}
 use Rattle.dura_model.specs.Entries as alone
 use Rattle.dura_model.specs.Entries.{entry_accepted, or_place}
 use Rattle.dura_model.proofs.Appending.{both_placed}

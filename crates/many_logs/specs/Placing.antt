@@ -4,7 +4,8 @@ use Rattle.std.specs.Option.{option_and_then}
 use Rattle.dura_value.specs.Items.{Identity, Item, got, trim, Entry, Posted}
 use Rattle.dura_value.specs.Messages.{Message}
 use Rattle.flow_syntax.specs.Syntax.{Flows}
-use Rattle.dura_model.specs.Partition.{Outbox, Partition, fresh, with_part}
+use Rattle.dura_model.specs.Partition.{Partition, fresh, with_part}
+use Rattle.log_items.specs.Streams.{Outbox}
 use Rattle.part_items.specs.Logs.{or_else}
 use Rattle.dura_model.specs.Entries.{entry_accepted}
 use Rattle.dura_value.specs.Same.{identity_eq, message_eq}

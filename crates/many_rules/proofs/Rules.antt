@@ -1,9 +1,11 @@
 -- What may be committed may be committed still once more of other partitions was settled and more was said, and up to a later stamp.
-use Rattle.std.proofs.Common.{◌≡◌, ◌≤◌, ◌==◌, ℕ, cond, List, [], ◌∷◌, ◌++◌, Some, refl, get_or, sym, ap, subst, ◌∙◌, append_assoc}
+use Rattle.std.proofs.Common.{◌≡◌, ◌≢◌, ◌≤◌, ◌==◌, ℕ, cond, List, [], ◌∷◌, ◌++◌, Some, refl, get_or, sym, ap, subst, ◌∙◌, append_assoc}
+use Rattle.std.proofs.lemmas.List.{append-nil}
 use Rattle.std.proofs.lemmas.List.Elements.{Contains-append_left}
 use Rattle.dura_model.specs.Partition.{Partition}
 use Rattle.dura_value.specs.Items.{Identity, Entry}
 use Rattle.hub_store.specs.Trail.{Settled, Said, of_part, settling}
+use Rattle.hub_store.proofs.Settling.{no_part}
 use Rattle.many_logs.specs.Placing.{Commit, states_after, of_partition, commits_at}
 use Rattle.many_logs.proofs.Frames.{put_apart, run_grows, run_leaves, frame_still, given_still}
 use Rattle.many_rules.specs.Rules.{Rules, rules_at, commits_of, pairs_of, known_of, GoesFrom, Follows}
@@ -60,6 +62,17 @@ module _ (rules : Rules) where
         subst (λ (known : List Identity). GoesFrom rules known states partition going) longer
         (goes_still (known_of rules trail) (identities_in (commits_of more)) both.0 states (commits_of more) partition going both.2 (puts_part partition more ∙ none) (follows.goes both.0 both.1));
   }
+
+  -- once more was said, or a frame of another partition was settled
+  pub follows_said : (latest : ℕ) (trail : List Settled) (told also : List Said) (partition : ℕ) (going : List Entry) → Follows rules latest trail told partition going → Follows rules latest trail (told ++ also) partition going
+  follows_said latest trail told also partition going follows =
+      subst (λ (l : List Settled). Follows rules latest l (told ++ also) partition going) (append-nil trail) (follows_still latest trail [] told also partition going refl follows)
+
+  pub follows_settled : (latest : ℕ) (trail : List Settled) (told : List Said) (partition at : ℕ) (going : List Entry) (other : ℕ) (theirs : List Entry) → other ≢ partition → Follows rules latest trail told partition going
+      → Follows rules latest trail told other theirs → Follows rules latest (trail ++ settling partition at going) told other theirs
+  follows_settled latest trail told partition at going other theirs apart may also =
+      subst (λ (l : List Said). Follows rules latest (trail ++ settling partition at going) l other theirs) (append-nil told)
+      (follows_still latest trail (settling partition at going) told [] other theirs (no_part partition other at going (λ is. apart (sym is))) also)
 
   pub follows_later : (latest later : ℕ) (trail : List Settled) (told : List Said) (partition : ℕ) (going : List Entry) → latest ≤ later → Follows rules latest trail told partition going → Follows rules later trail told partition going
   follows_later latest later trail told partition going above follows = record {

@@ -1,10 +1,10 @@
 //! Laws. The functions do nothing.
 
-ghost use Rattle.std.specs.Prelude.{◌≡◌, ◌≤◌, ℕ, List, [], ◌++◌, length, Some};
+ghost use Rattle.std.specs.Prelude.{◌≡◌, ◌≢◌, ◌≤◌, ℕ, List, [], ◌++◌, length, Some};
 ghost use Rattle.dura_value.specs.Items.{Entry};
 ghost use Rattle.hub_store.specs.Moments.{AtEveryMoment};
 ghost use Rattle.hub_store.specs.Origin.{Origin};
-ghost use Rattle.hub_store.specs.Trail.{Settled, Said, of_part, settled_at};
+ghost use Rattle.hub_store.specs.Trail.{Settled, Said, of_part, settling, settled_at};
 ghost use Rattle.many_logs.specs.Placing.{states_after};
 ghost use Rattle.many_rules.specs.Rules.{Rules, Follows, Answers, Passes, GoesFrom, commits_of, known_of};
 ghost use Rattle.dura_model.specs.Partition.{Partition, fresh};
@@ -18,6 +18,14 @@ pub fn still_follows()
         (partition : ℕ) (going : List Entry) → of_part partition more ≡ []
         → Follows rules latest trail told partition going
         → Follows rules latest (trail ++ more) (told ++ also) partition going }
+    ensures said { (rules : Rules) (latest : ℕ) (trail : List Settled) (told also : List Said)
+        (partition : ℕ) (going : List Entry) → Follows rules latest trail told partition going
+        → Follows rules latest trail (told ++ also) partition going }
+    ensures settled { (rules : Rules) (latest : ℕ) (trail : List Settled) (told : List Said)
+        (partition at : ℕ) (going : List Entry) (other : ℕ) (theirs : List Entry)
+        → other ≢ partition → Follows rules latest trail told partition going
+        → Follows rules latest trail told other theirs
+        → Follows rules latest (trail ++ settling partition at going) told other theirs }
     ensures later { (rules : Rules) (latest later : ℕ) (trail : List Settled) (told : List Said)
         (partition : ℕ) (going : List Entry) → latest ≤ later
         → Follows rules latest trail told partition going

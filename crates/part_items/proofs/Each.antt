@@ -3,9 +3,9 @@ use Rattle.std.proofs.Common.{◌<◌, ℕ, List, length, get_or, map, subst, ar
 use Rattle.std.specs.List.{All}
 use Rattle.std.proofs.lemmas.List.{get_or-map, length-map}
 use Rattle.std.proofs.lemmas.List.Elements.{All-get_or}
-use Rattle.part_items.specs.declared.items.Item.{Item}
-use Rattle.part_items.specs.declared.frames.Entry.{Entry}
-use Rattle.part_items.specs.Plain.{item_of, items_of, entry_of, entries_of}
+use Rattle.log_items.specs.declared.items.Item.{Item}
+use Rattle.log_items.specs.declared.frames.Entry.{Entry}
+use Rattle.log_items.specs.Plain.{item_of, items_of, entry_of, entries_of}
 use Rattle.part_items.specs.Spelling.{CanSpellItem, CanSpellEntry}
 
 at_place : {X Y : Type 0} (P : Y → Type 0) (f : X → Y) (xs : List X) (i : ℕ) (d : X) → i < length xs → All P (map f xs) → P (f (get_or xs i d))

@@ -10,7 +10,7 @@ use Rattle.dura_codec.specs.declared.fields.FieldError.{FieldError}
 use Rattle.dura_codec.specs.declared.fields.FieldError.TheVariants.{Bad, Memory}
 use Rattle.dura_codec.specs.Fields.{Read, Stops, number_at, count_at, fault_in}
 use Rattle.part_items.specs.Coming.{Coming, to_come, IsNext, IsFirst, ReadsNext}
-use Rattle.part_items.specs.declared.frames.Entry as read
+use Rattle.log_items.specs.declared.frames.Entry as read
 use Rattle.part_items.specs.Grammar.{members_at, entry_items_at, alone, whole}
 use Rattle.part_items.specs.Numbered.{Next, behind, position_at, incarnation_at, next_entry_at, next_entries_at, next_frame_at, next_frame_in}
 use Rattle.part_items.specs.Tags.{most_members}

@@ -4,10 +4,10 @@ use Rattle.dura_value.specs.declared.faults.ReadError.{ReadError}
 use Rattle.dura_value.specs.Items.{Entry}
 use Rattle.dura_value.specs.Limits.{number_limit}
 use Rattle.dura_value.specs.Reading.{◌>>=◌, ReadFails}
-use Rattle.part_items.specs.declared.frames.Entry as read
+use Rattle.log_items.specs.declared.frames.Entry as read
 use Rattle.part_items.specs.Grammar.{alone, whole}
 use Rattle.part_items.specs.Numbered.{Next, behind, next_entries_at, next_frame_in}
-use Rattle.part_items.specs.Plain.{entry_of}
+use Rattle.log_items.specs.Plain.{entry_of}
 use Rattle.part_items.specs.Tags.{most_members}
 
 -- where the log goes on, how many entries are left, and which they are, or the offset of the fault

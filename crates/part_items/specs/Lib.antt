@@ -6,6 +6,5 @@ pub mod ItemFits
 pub mod Kept
 pub mod Logs
 pub mod Numbered
-pub mod Plain
 pub mod Spelling
 pub mod Tags

@@ -4,11 +4,15 @@ use Rattle.dura_value.specs.Items.{Entry}
 use Rattle.dura_value.specs.Reading.{◌>>=◌}
 use Rattle.dura_codec.specs.Fields.{Read, count_at}
 use Rattle.part_items.specs.Grammar.{members_at, entry_items_at, alone, whole}
+use Rattle.part_items.specs.declared.numbered.Next as declared
 
 -- where a log goes on: the position of its next entry, and the incarnation that no entry from there on is before
 pub record Next : Type 0 where
   pub position : ℕ
   pub incarnation : ℕ
+
+abbrev pub next_of : declared.Next → Next
+next_of next = record { position = next.position; incarnation = next.incarnation }
 
 -- where it goes on behind an entry
 abbrev pub behind : Entry → Next

@@ -1,8 +1,8 @@
-//! Items, entries and frames of a partition's log, as bytes and back; and laws of the written forms: what was written is read again,
+//! Items, entries and frames of a partition's log (`log_items`) as bytes and back; and laws of the written forms: what was written is read again,
 //! whatever follows, no spelling goes on as another's, and nothing is read but what is spelled.
 //!
-//! - `items` and `frames` are what is written; `writing` writes it, `reading` reads it, and `numbered` reads a log's next frame,
-//!   entry by entry. `tags` are the first bytes of items.
+//! - `writing` writes what is written, `reading` reads it, and `numbered` reads a log's next frame, entry by entry. `tags` are the
+//!   first bytes of items.
 //! - `fits` looks at whether an item is within the limits of the format.
 //! - `specs/Grammar` and `specs/Spelling` are the format, `specs/Fits` and `specs/ItemFits` what is within its limits.
 //! - `again` says that values, ids, messages and their parts are read again, `apart` that their spellings stand apart, and
@@ -15,9 +15,7 @@
 mod again;
 mod apart;
 mod fits;
-mod frames;
 mod frames_again;
-mod items;
 mod kept;
 mod kept_examples;
 mod may_write;
@@ -29,8 +27,6 @@ mod tags;
 mod writing;
 
 pub use fits::item_fits;
-pub use frames::{Entry, Frame, Items};
-pub use items::{Item, Packet};
 pub use numbered::{FrameReader, Next};
 pub use reading::read_frame;
 pub use writing::write_frame;

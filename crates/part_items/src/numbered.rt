@@ -3,14 +3,14 @@
 ghost use Rattle.std.specs.Prelude.{◌≡◌, ◌<◌, [], None, Err, IfOk, OnErr, length};
 ghost use Rattle.dura_value.specs.Limits.{number_limit};
 ghost use Rattle.dura_codec.specs.Fields.{Takes, fault_in};
-ghost use Rattle.part_items.specs.Plain.{entry_of, next_of};
-ghost use Rattle.part_items.specs.Numbered.{behind, position_at, incarnation_at, next_entry_at};
+ghost use Rattle.log_items.specs.Plain.{entry_of};
+ghost use Rattle.part_items.specs.Numbered.{next_of, behind, position_at, incarnation_at, next_entry_at};
 ghost use Rattle.part_items.specs.Coming.{Begins, ReadsNext};
 
-use crate::frames::Entry;
 use crate::reading::{at_offset, take_entry_items, take_members};
 use dura_codec::{FieldError, take_count};
 use dura_value::ReadError;
+use log_items::Entry;
 use std::alloc::Global;
 use std::marker::Model;
 
@@ -97,7 +97,7 @@ pub struct FrameReader<'b> {
 }
 
 impl<'b> Model for FrameReader<'b> {
-    ghost use Rattle.part_items.specs.Plain.{next_of};
+    ghost use Rattle.part_items.specs.Numbered.{next_of};
     ghost use Rattle.part_items.specs.Coming.{Coming, to_come};
 
     ghost Value = { Coming };

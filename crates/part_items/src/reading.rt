@@ -3,16 +3,15 @@
 ghost use Rattle.std.specs.Prelude.{◌≡◌};
 ghost use Rattle.dura_value.specs.Reading.{ReadGives};
 ghost use Rattle.dura_codec.specs.Fields.{Takes, several_at, fault_in};
-ghost use Rattle.part_items.specs.Plain.{item_of, items_of, entry_of, entries_of};
+ghost use Rattle.log_items.specs.Plain.{item_of, items_of, entry_of, entries_of};
 ghost use Rattle.part_items.specs.Grammar.{took_at, got_at, ran_at, done_at, fired_at, trim_at, item_at, members_at, entry_items_at, entry_at, alone, frame_at, frame_in};
 
-use crate::frames::{Entry, Frame, Items};
-use crate::items::Item;
 use crate::tags::{DONE, FIRED, GOT, MEMBERS_LIMIT, RAN, TOOK, TRIM};
 use dura_codec::{
     FieldError, take_count, take_id, take_message, take_outcome, take_u8, take_u16, take_u32,
 };
 use dura_value::{ReadError, with};
+use log_items::{Entry, Frame, Item, Items};
 use std::alloc::Global;
 
 #[tactic(auto, unfolding(crate::specs::Grammar::took_at))]

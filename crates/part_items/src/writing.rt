@@ -4,14 +4,13 @@ ghost use Rattle.std.specs.Prelude.{◌≡◌, ◌++◌, OnOk};
 ghost use Rattle.std.specs.List.{All, flat_map};
 ghost use Rattle.dura_codec.specs.Spelling.{CanSpellBody, CanSpellOutcome};
 ghost use Rattle.dura_value.specs.Views.{body_of};
-ghost use Rattle.part_items.specs.Plain.{item_of, items_of, entry_of, entries_of};
+ghost use Rattle.log_items.specs.Plain.{item_of, items_of, entry_of, entries_of};
 ghost use Rattle.part_items.specs.Spelling.{spell_item, spell_three, spell_heading, spell_entry, spell_frame, CanSpellItem, CanSpellEntry, CanSpellFrame};
 
-use crate::frames::{Entry, Frame};
-use crate::items::Item;
 use crate::tags::{DONE, FIRED, GOT, RAN, TOOK, TRIM};
 use dura_codec::{write_id, write_message, write_outcome, write_u16, write_u32, write_u64};
 use dura_value::{Id, Message, Outcome};
+use log_items::{Entry, Frame, Item};
 use std::alloc::AllocError;
 
 #[tactic(auto, unfolding(crate::specs::Spelling::spell_three))]

@@ -11,7 +11,7 @@ use Rattle.dura_value.specs.declared.outcome.Outcome.{Outcome}
 use Rattle.flow_syntax.specs.Syntax.{Flows}
 use Rattle.hub_store.specs.Trail.{Said}
 use Rattle.dura_model.specs.Entries.{placed}
-use Rattle.part_items.specs.Plain.{item_of, items_of}
+use Rattle.log_items.specs.Plain.{item_of, items_of}
 use Rattle.part_rounds.specs.Comes.{Comes}
 use Rattle.part_rounds.specs.InTime.{Reads, HasRead, ReadsBehind, IsRun, IsFilledAt, IsAtLast, FillsAt, GoesByClock}
 use Rattle.part_rounds.specs.declared.coming.Coming.TheVariants.{Filled}

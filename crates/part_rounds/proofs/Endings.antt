@@ -19,8 +19,8 @@ use Rattle.flow_syntax.specs.Syntax.{Flows}
 use Rattle.activity_table.specs.Table.{may}
 use Rattle.dura_model.specs.Placed.{IsGiven}
 use Rattle.dura_model.specs.Entries.{all_accepted}
-use Rattle.part_items.specs.Plain.{item_of, items_of}
-use Rattle.part_items.specs.declared.items.Item.{Item as OwnItem}
+use Rattle.log_items.specs.Plain.{item_of, items_of}
+use Rattle.log_items.specs.declared.items.Item.{Item as OwnItem}
 use Rattle.part_steps.specs.States.{state_of}
 use Rattle.part_rounds.specs.Fills.{FillsOn, Puts, IsOfPending, CantEnd}
 use Rattle.part_rounds.specs.declared.filling.Filling.{Filling}

@@ -9,8 +9,8 @@ use Rattle.dura_model.specs.Partition.{Partition, accepted}
 use Rattle.dura_value.specs.Items.{Item, took, got, ran, ended, fired, trim}
 use Rattle.flow_syntax.specs.Syntax.{Flows}
 use Rattle.dura_model.specs.Entries.{all_accepted}
-use Rattle.part_items.specs.Plain.{item_of, items_of}
-use Rattle.part_items.specs.declared.items.Item.{Item as OwnItem}
+use Rattle.log_items.specs.Plain.{item_of, items_of}
+use Rattle.log_items.specs.declared.items.Item.{Item as OwnItem}
 use Rattle.part_rounds.specs.Fills.{Puts, IsOfPending}
 use Rattle.part_rounds.specs.InTime.{IsAt, AreAt, Giving, IsRun, GoesOnAt}
 use Rattle.part_rounds.specs.declared.filling.Filling.{Filling}

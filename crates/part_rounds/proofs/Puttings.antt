@@ -10,8 +10,8 @@ use Rattle.dura_value.specs.Items.{Item, took}
 use Rattle.dura_value.specs.Messages.{Message}
 use Rattle.flow_syntax.specs.Syntax.{Flows}
 use Rattle.hub_store.specs.Trail.{Said}
-use Rattle.part_items.specs.Plain.{item_of, items_of}
-use Rattle.part_items.specs.declared.items.Item.{Item as OwnItem}
+use Rattle.log_items.specs.Plain.{item_of, items_of}
+use Rattle.log_items.specs.declared.items.Item.{Item as OwnItem}
 use Rattle.part_steps.specs.States.{state_of, count_of, IsSound}
 use Rattle.request_reader.specs.Line.{Request}
 use Rattle.run_rules.specs.Rules.{Rules, Told, count_told, IsDue, IsAsked, EndsPending}

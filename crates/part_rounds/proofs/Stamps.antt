@@ -6,7 +6,8 @@ use Rattle.std.proofs.lemmas.Bool.{eqb-true}
 use Rattle.std.proofs.lemmas.List.Elements.{All-cons}
 use Rattle.dura_model.specs.Deliveries.{Effect, to_instance, goes_on_from}
 use Rattle.dura_model.specs.Steps.{is_request, number_in, entity_of, answer_of}
-use Rattle.dura_model.specs.Partition.{Partition, post, post_all, asked_in, given_up_in, stands_in, raised_to, answered_in, client_received, received_in, delivered_in, taken_in, ended_in, fired_in, accepted, first_in, without_first, last_in, row_after, event_of, with_posted, with_inbox, with_first, entry_of, instance_at}
+use Rattle.dura_model.specs.Partition.{Partition, post, post_all, asked_in, given_up_in, stands_in, raised_to, answered_in, client_received, received_in, delivered_in, taken_in, ended_in, fired_in, accepted, first_in, without_first, last_in, row_after, event_of, with_inbox, entry_of, instance_at}
+use Rattle.log_items.specs.Streams.{with_posted, with_first}
 use Rattle.dura_model.specs.World.{Activity, Orchestration}
 use Rattle.dura_value.specs.ById.{at_id, at_number}
 use Rattle.dura_value.specs.Ids.{Id, orchestration, entity, client, home}
@@ -19,8 +20,8 @@ use Rattle.flow_syntax.specs.Syntax.{Flows}
 use Rattle.dura_model.specs.Entries.{all_accepted}
 use Rattle.part_steps.specs.Enabled.{Makes, is_at, stamp_at}
 use Rattle.part_steps.specs.Enabled.Makes.{nothing, one_more}
-use Rattle.part_items.specs.Plain.{item_of}
-use Rattle.part_items.specs.declared.items.Item.{Item as OwnItem}
+use Rattle.log_items.specs.Plain.{item_of}
+use Rattle.log_items.specs.declared.items.Item.{Item as OwnItem}
 use Rattle.part_rounds.specs.Fills.{Puts, IsOfPending}
 use Rattle.part_rounds.specs.declared.filling.Filling.{Filling}
 use Rattle.part_steps.specs.Outputs.{Outputs}

@@ -6,7 +6,7 @@ use Rattle.part_items.specs.ItemFits.{FitsItem}
 use Rattle.dura_model.specs.Partition.{Partition, enter}
 use Rattle.dura_value.specs.Items.{Entry}
 use Rattle.flow_syntax.specs.Syntax.{Flows}
-use Rattle.part_items.specs.Plain.{items_of}
+use Rattle.log_items.specs.Plain.{items_of}
 use Rattle.part_rounds.specs.Fills.{IsUnderWay, Fills, IsIdle}
 use Rattle.part_rounds.specs.Further.{Stirs, GoesFurther}
 use Rattle.hub_store.specs.Origin.{Log}

@@ -11,7 +11,7 @@ use Rattle.dura_value.specs.Items.{Item, Entry, took, got, ran, ended, fired, tr
 use Rattle.flow_syntax.specs.Syntax.{Flows}
 use Rattle.hub_store.specs.Trail.{Said}
 use Rattle.dura_model.specs.Entries.{placed, all_accepted}
-use Rattle.part_items.specs.Plain.{items_of}
+use Rattle.log_items.specs.Plain.{items_of}
 use Rattle.part_rounds.specs.Fills.{IsIdle}
 use Rattle.part_rounds.specs.Rounds.{HasSaid}
 use Rattle.part_rounds.specs.Turns.{InTurn}

@@ -2,7 +2,7 @@
 
 ghost use Rattle.std.specs.Prelude.{◌≡◌, ◌≤◌, ◌+◌, ℕ, [], ◌∷◌, ◌++◌, true, false, Err, IfErr, OnOk, OnErr, length};
 ghost use Rattle.site_model.specs.Calls.{HasRisen};
-ghost use Rattle.part_items.specs.Plain.{items_of};
+ghost use Rattle.log_items.specs.Plain.{items_of};
 ghost use Rattle.hub_store.specs.Changes.{stage_at, trail_in, told_in};
 ghost use Rattle.hub_store.specs.Sound.{IsSound};
 ghost use Rattle.hub_store.specs.Trail.{of_part};
@@ -15,7 +15,7 @@ ghost use Rattle.part_rounds.specs.Rounds.{pairs_of, IsFilled};
 use crate::ruled::Ruled;
 use crate::stop::Stop;
 use hub_store::{Stage, Store, commit};
-use part_items::{Entry, Item, Items};
+use log_items::{Entry, Item, Items};
 use site_model::Site;
 use std::alloc::Global;
 

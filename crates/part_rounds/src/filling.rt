@@ -3,14 +3,15 @@
 ghost use Rattle.std.specs.Prelude.{◌≡◌, ◌<◌, ◌≤◌, ◌-◌, max, true, false, IfOk, length};
 ghost use Rattle.std.specs.List.{All};
 ghost use Rattle.part_items.specs.ItemFits.{FitsItem};
-ghost use Rattle.part_items.specs.Plain.{items_of};
+ghost use Rattle.log_items.specs.Plain.{items_of};
 ghost use Rattle.part_rounds.specs.Fills.{IsUnderWay, FillsOn, Puts};
 ghost use Rattle.part_rounds.specs.InTime.{Giving, GoesOnAt};
 ghost use Rattle.part_steps.specs.Enabled.{NoneEnabled, stamp_at};
 ghost use Rattle.part_steps.specs.States.{state_of};
 ghost use Rattle.run_rules.specs.Rules.{Rules, Told};
 
-use part_items::{Item, item_fits};
+use log_items::Item;
+use part_items::item_fits;
 use part_rows::Reactions;
 use part_steps::{Batch, PartState, Verdict, next_items};
 use std::alloc::{AllocError, Global};

@@ -4,7 +4,7 @@ ghost use Rattle.std.specs.Prelude.{◌≡◌, ◌<◌, ◌≤◌, max, List, []
 ghost use Rattle.std.specs.List.{All};
 ghost use Rattle.part_items.specs.ItemFits.{FitsItem};
 ghost use Rattle.hub_store.specs.Trail.{Said};
-ghost use Rattle.part_items.specs.Plain.{items_of};
+ghost use Rattle.log_items.specs.Plain.{items_of};
 ghost use Rattle.part_rounds.specs.Fills.{IsUnderWay, Fills, FillsOn, CantTake, IsIdle};
 ghost use Rattle.part_rounds.specs.InTime.{Giving, GoesOnAt, IsFilledAt};
 ghost use Rattle.part_rounds.specs.Rounds.{pairs_of, HasSaid};

@@ -3,7 +3,7 @@
 ghost use Rattle.std.specs.List.{All};
 ghost use Rattle.std.specs.Prelude.{◌≡◌, ◌≤◌, ℕ, [], true, IfOk, IfSome, IfNone, length};
 ghost use Rattle.activity_table.specs.Table.{may};
-ghost use Rattle.part_items.specs.Plain.{item_of, items_of};
+ghost use Rattle.log_items.specs.Plain.{item_of, items_of};
 ghost use Rattle.part_rounds.specs.Fills.{IsUnderWay, FillsOn, IsOfPending, CantEnd};
 ghost use Rattle.part_rounds.specs.InTime.{GoesOnAt, IsRun};
 ghost use Rattle.part_steps.specs.Quiet.{NoActivity};
@@ -14,7 +14,7 @@ use crate::filling::{Filling, put};
 use activity_table::Activities;
 use dura_value::{Outcome, with};
 use flow_messages::copy_id;
-use part_items::Item;
+use log_items::Item;
 use part_rows::{Activity, Reactions};
 use part_steps::PartState;
 use std::alloc::{AllocError, Global};

@@ -10,7 +10,7 @@ ghost use Rattle.part_rounds.specs.Commits.{IsFull, IsSpent};
 ghost use Rattle.part_rounds.specs.InTime.{GoesByClock};
 ghost use Rattle.part_rounds.specs.Turns.{SettlesThenSays};
 ghost use Rattle.part_rounds.specs.Rounds.{pairs_of, HasSaid, NoneUnsaid, IsFilledTo, StateStands};
-ghost use Rattle.part_items.specs.Plain.{items_of};
+ghost use Rattle.log_items.specs.Plain.{items_of};
 ghost use Rattle.part_rounds.specs.Fills.{IsUnderWay};
 ghost use Rattle.part_steps.specs.States.{state_of, count_of, IsSound as IsOwnSound};
 ghost use Rattle.site_model.specs.Calls.{HasRisen};

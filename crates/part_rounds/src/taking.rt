@@ -17,7 +17,7 @@ use crate::filling::{Filling, put};
 use crate::saying::client_of;
 use client_port::Port;
 use dura_value::{Message, Name};
-use part_items::Item;
+use log_items::Item;
 use part_rows::{Reactions, copy_message};
 use part_steps::PartState;
 use std::alloc::{AllocError, Global};

@@ -1,7 +1,8 @@
 //! The streams from and to other partitions.
 
 ghost use Rattle.std.specs.Prelude.{◌≡◌, ◌+◌, ◌++◌, length, nat_le, ◌≤◌, if◌then◌else◌, IfOk, OnOk};
-ghost use Rattle.dura_model.specs.Partition.{with_posted, with_inbox, begins_at, with_first};
+ghost use Rattle.dura_model.specs.Partition.{with_inbox};
+ghost use Rattle.log_items.specs.Streams.{with_posted, begins_at, with_first};
 ghost use Rattle.dura_value.specs.Views.{posted_of};
 ghost use Rattle.part_rows.specs.Views.{inbox_of, outbox_of, inboxes_of, outboxes_of, no_outbox, no_inbox};
 

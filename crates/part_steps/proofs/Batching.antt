@@ -4,8 +4,8 @@ use Rattle.std.proofs.lemmas.List.{map-append, length-map, length-append}
 use Rattle.dura_value.specs.Items.{Item}
 use Rattle.dura_value.specs.declared.outputs.Outputs as made_outputs
 use Rattle.flow_syntax.specs.Syntax.{Flows}
-use Rattle.part_items.specs.Plain.{item_of, items_of}
-use Rattle.part_items.specs.declared.items.Item as own
+use Rattle.log_items.specs.Plain.{item_of, items_of}
+use Rattle.log_items.specs.declared.items.Item as own
 use Rattle.dura_model.specs.Partition.{accepted}
 use Rattle.part_steps.specs.declared.batch.Batch.{Batch}
 use Rattle.part_steps.specs.declared.state.PartState.{PartState}

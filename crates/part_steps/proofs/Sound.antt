@@ -5,7 +5,8 @@ use Rattle.std.specs.Prelude.{not, nat_lt, nat_le}
 use Rattle.dura_value.specs.Ids.{home}
 use Rattle.dura_value.specs.Items.{Item, took, got, ran, ended, fired, trim}
 use Rattle.part_rows.specs.Timers.{InOrder}
-use Rattle.dura_model.specs.Partition.{Partition, fresh, enter, entry_of, with_inbox, with_first, accepted}
+use Rattle.dura_model.specs.Partition.{Partition, fresh, enter, entry_of, with_inbox, accepted}
+use Rattle.log_items.specs.Streams.{with_first}
 use Rattle.dura_model.specs.Placed.{Belongs, AreOfInstances}
 use Rattle.dura_model.proofs.Kept.{item_belongs, fresh_belongs, label_comes}
 use Rattle.dura_model.proofs.Belonging.{enter_belongs}

@@ -2,7 +2,7 @@
 use Rattle.std.specs.Prelude.{◌≡◌, ℕ, true, [], ◌∷◌, ◌++◌, map, Some}
 use Rattle.dura_value.specs.Items.{Item}
 use Rattle.flow_syntax.specs.Syntax.{Flows}
-use Rattle.part_items.specs.Plain.{items_of}
+use Rattle.log_items.specs.Plain.{items_of}
 use Rattle.dura_model.specs.Partition.{accepted}
 use Rattle.part_steps.specs.declared.batch.Batch.{Batch}
 use Rattle.part_steps.specs.declared.batch.Turn.{Turn}

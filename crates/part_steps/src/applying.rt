@@ -4,7 +4,7 @@ ghost use Rattle.std.specs.Prelude.{◌≡◌, ◌<◌, ◌∷◌, [], Some, Non
 ghost use Rattle.dura_value.specs.Items.{ran, ended, fired};
 ghost use Rattle.dura_value.specs.Views.{id_of, answer_of, body_of as said_of, message_of, messages_of, identity_of};
 ghost use Rattle.part_rows.specs.Timers.{InOrder};
-ghost use Rattle.part_items.specs.Plain.{item_of};
+ghost use Rattle.log_items.specs.Plain.{item_of};
 ghost use Rattle.dura_model.specs.Steps.{answer_of as answer_to};
 ghost use Rattle.dura_model.specs.Partition.{raised_to, got_in, trim_in, accepted};
 ghost use Rattle.dura_value.specs.ById.{at_number};
@@ -22,7 +22,7 @@ use dura_value::{
     Answer, Answered, Answers, Id, Identity, Message, Messages, Outcome, Outputs, with,
 };
 use flow_messages::{Event, copy_text, copy_value};
-use part_items::Item;
+use log_items::Item;
 use part_rows::{PartRows, Reaction, Reactions, copy_message};
 use std::alloc::{AllocError, Global};
 

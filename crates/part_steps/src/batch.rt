@@ -1,7 +1,7 @@
 //! The items of an entry that a partition makes by itself.
 
 ghost use Rattle.std.specs.Prelude.{◌≡◌, ◌<◌, ◌≤◌, ◌++◌, ◌∷◌, [], length, map, IfOk, OnOk};
-ghost use Rattle.part_items.specs.Plain.{items_of};
+ghost use Rattle.log_items.specs.Plain.{items_of};
 ghost use Rattle.part_steps.specs.Batches.{BatchGoesOn};
 ghost use Rattle.part_steps.specs.Enabled.{stamp_at, NoneEnabled, Makes};
 ghost use Rattle.part_steps.specs.Outputs.{outputs_of};
@@ -9,7 +9,7 @@ ghost use Rattle.part_steps.specs.States.{IsSound, state_of, count_of};
 
 use crate::state::{PartState, Verdict};
 use dura_value::Outputs;
-use part_items::Item;
+use log_items::Item;
 use part_rows::Reactions;
 use std::alloc::{AllocError, Global};
 

@@ -2,7 +2,7 @@
 
 ghost use Rattle.std.specs.Prelude.{◌≡◌, ◌<◌, ◌≤◌, ◌^◌, Some, None, IfOk, IfSome, IfNone};
 ghost use Rattle.flow_syntax.specs.Syntax.{Flows as PlainFlows};
-ghost use Rattle.part_items.specs.Plain.{item_of};
+ghost use Rattle.log_items.specs.Plain.{item_of};
 ghost use Rattle.dura_model.specs.Partition.{fresh, enter, accepted};
 ghost use Rattle.part_steps.specs.Applied.{Becomes};
 ghost use Rattle.part_steps.specs.Enabled.{ComesNext, stamp_at, IsEnabled, NoneEnabled};
@@ -12,7 +12,7 @@ ghost use Rattle.part_steps.specs.States.{IsSound, state_of, count_of};
 use crate::applying::apply_item;
 use dura_value::Outputs;
 use flow_messages::copy_id;
-use part_items::Item;
+use log_items::Item;
 use part_rows::{PartRows, Reactions};
 use std::alloc::{AllocError, Global};
 

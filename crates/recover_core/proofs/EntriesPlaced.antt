@@ -6,7 +6,7 @@ use Rattle.dura_value.specs.Items.{Item, Entry}
 use Rattle.flow_syntax.specs.Syntax.{Flows}
 use Rattle.dura_model.specs.Partition.{Partition, fresh, enter, accepted}
 use Rattle.part_items.specs.Numbered.{Next, behind_all}
-use Rattle.part_items.specs.Plain.{next_of}
+use Rattle.part_items.specs.Numbered.{next_of}
 use Rattle.part_steps.specs.declared.state.PartState.{PartState}
 use Rattle.part_steps.specs.States.{IsSound, state_of, count_of}
 use Rattle.dura_model.specs.Entries.{all_accepted, entry_accepted, or_place, placed, incarnation_behind}

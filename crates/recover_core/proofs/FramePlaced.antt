@@ -4,7 +4,7 @@ use Rattle.dura_value.specs.Items.{Entry}
 use Rattle.dura_value.specs.Reading.{◌>>=◌}
 use Rattle.flow_syntax.specs.Syntax.{Flows}
 use Rattle.part_items.specs.Coming.{Coming, IsFirst}
-use Rattle.part_items.specs.Plain.{next_of}
+use Rattle.part_items.specs.Numbered.{next_of}
 use Rattle.recover_core.specs.declared.progress.Progress.{Progress}
 use Rattle.recover_core.specs.Progress.{PlacesOn, IsReady}
 use Rattle.recover_core.proofs.EntriesPlaced.{none_placed, more_placed}

@@ -11,7 +11,7 @@ use Rattle.commit_log.specs.Reading.{Goes}
 use Rattle.dura_value.specs.Items.{Entry}
 use Rattle.flow_syntax.specs.Syntax.{Flows}
 use Rattle.part_items.specs.Numbered.{Next, behind_all, next_frame_in}
-use Rattle.part_items.specs.Plain.{next_of}
+use Rattle.part_items.specs.Numbered.{next_of}
 use Rattle.part_items.specs.Kept.{in_file, left_from, first_of}
 use Rattle.part_items.proofs.Behind.{behind_both}
 use Rattle.part_items.proofs.FrameByFrame.{left_frame, left_closed, left_wrong}

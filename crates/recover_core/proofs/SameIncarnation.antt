@@ -4,7 +4,8 @@ use Rattle.std.specs.Prelude.{not, nat_lt, nat_le}
 use Rattle.dura_value.specs.Ids.{home}
 use Rattle.dura_value.specs.Items.{Item, took, got, ran, ended, fired, trim}
 use Rattle.flow_syntax.specs.Syntax.{Flows}
-use Rattle.dura_model.specs.Partition.{Partition, entry_of, with_inbox, with_first, accepted}
+use Rattle.dura_model.specs.Partition.{Partition, entry_of, with_inbox, accepted}
+use Rattle.log_items.specs.Streams.{with_first}
 use Rattle.dura_model.specs.Placed.{Belongs}
 use Rattle.dura_model.proofs.Basics.{passed}
 use Rattle.dura_model.proofs.Kept.{label_comes}

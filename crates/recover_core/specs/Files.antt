@@ -15,7 +15,7 @@ use Rattle.dura_value.specs.Items.{Entry}
 use Rattle.flow_syntax.specs.Syntax.{Flows}
 use Rattle.dura_model.specs.Partition.{fresh}
 use Rattle.part_items.specs.Numbered.{Next, behind_all, next_frame_in}
-use Rattle.part_items.specs.Plain.{next_of}
+use Rattle.part_items.specs.Numbered.{next_of}
 use Rattle.part_items.specs.Kept.{nothing, broken, keeps, in_file, left_from, first_of, kept_in}
 use Rattle.part_items.specs.Logs.{fault_of, alone_with}
 use Rattle.dura_model.specs.Entries.{placed, next_incarnation}

@@ -5,7 +5,7 @@ use Rattle.dura_value.specs.Items.{Entry}
 use Rattle.flow_syntax.specs.Syntax.{Flows}
 use Rattle.dura_model.specs.Partition.{Partition, fresh}
 use Rattle.part_items.specs.Numbered.{Next, behind_all}
-use Rattle.part_items.specs.Plain.{next_of}
+use Rattle.part_items.specs.Numbered.{next_of}
 use Rattle.part_steps.specs.declared.state.PartState.{PartState}
 use Rattle.part_steps.specs.States.{IsSound, state_of, count_of}
 use Rattle.dura_model.specs.Entries.{placed, incarnation_behind, next_incarnation}

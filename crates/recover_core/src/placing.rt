@@ -1,13 +1,15 @@
 // The entries of a log make the state, one after another.
 ghost use Rattle.std.specs.Prelude.{◌<◌, ◌^◌, [], ◌∷◌, IfOk};
 ghost use Rattle.part_items.specs.Coming.{IsNext};
-ghost use Rattle.part_items.specs.Plain.{items_of, entry_of, next_of};
+ghost use Rattle.log_items.specs.Plain.{items_of, entry_of};
+ghost use Rattle.part_items.specs.Numbered.{next_of};
 ghost use Rattle.part_steps.specs.States.{IsSound, state_of, count_of};
 ghost use Rattle.dura_model.specs.Entries.{all_accepted};
 ghost use Rattle.recover_core.specs.Progress.{Makes, GoesOnAs, PlacesOn, IsReady, IsReadyFor, position_in};
 
 use crate::progress::{Placing, Progress};
-use part_items::{Entry, Item, Next};
+use log_items::{Entry, Item};
+use part_items::Next;
 use part_rows::Reactions;
 use part_steps::{PartState, Verdict};
 use std::alloc::{AllocError, Global};

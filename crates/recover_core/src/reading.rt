@@ -5,7 +5,7 @@ ghost use Rattle.site_model.specs.Calls.{HasRisen};
 ghost use Rattle.dura_value.specs.Items.{Entry};
 ghost use Rattle.commit_log.specs.Frames.{HasRead};
 ghost use Rattle.part_items.specs.Numbered.{next_frame_in};
-ghost use Rattle.part_items.specs.Plain.{next_of};
+ghost use Rattle.part_items.specs.Numbered.{next_of};
 ghost use Rattle.recover_core.specs.Files.{IsInside, fault_behind, PlacesFrame, IsOpened, HasReadTo, CanGoOn, ReadsOn, RestsAfter, StaysThere, ReadsAll};
 ghost use Rattle.recover_core.specs.Progress.{IsReady, position_in};
 

@@ -15,7 +15,8 @@ use Rattle.dura_model.specs.World.{Orchestration, Activity}
 use Rattle.dura_value.specs.ById.{at_id, at_number}
 use Rattle.dura_model.specs.Deliveries.{Effect, goes_on_from, to_instance}
 use Rattle.dura_model.specs.Steps.{is_request, number_in, entity_of, answer_of}
-use Rattle.dura_model.specs.Partition.{Partition, fresh, instance_at, event_of, row_after, raised_to, first_in, without_first, last_in, answered_in, client_received, entity_after, received_in, delivered_in, taken_in, ended_in, fired_in, entry_of, enter, with_inbox, with_first, with_posted, post, post_all, asked_in, given_up_in, stands_in, accepted}
+use Rattle.dura_model.specs.Partition.{Partition, fresh, instance_at, event_of, row_after, raised_to, first_in, without_first, last_in, answered_in, client_received, entity_after, received_in, delivered_in, taken_in, ended_in, fired_in, entry_of, enter, with_inbox, post, post_all, asked_in, given_up_in, stands_in, accepted}
+use Rattle.log_items.specs.Streams.{with_first, with_posted}
 use Rattle.dura_model.proofs.Basics.{passes, passed}
 use Rattle.dura_model.specs.Entries.{all_accepted, entry_accepted, or_place, placed}
 use Rattle.run_laws.specs.Requests.{KeepsRequests, AnswersTaken}

@@ -2,7 +2,8 @@
 //! tools/frame-table, which reads by the grammar of docs/FORMAT.md and shares no code with the crates.
 
 use dura_value::ReadError;
-use part_items::{Frame, FrameReader, Next, read_frame};
+use log_items::Frame;
+use part_items::{FrameReader, Next, read_frame};
 use std::alloc::Global;
 use std::process::Abort;
 

@@ -4,7 +4,7 @@ use crate::programs::{
     NAP, PROGRAMS, Program, SUM, check_end, check_kept, check_tape, run_by, run_from, run_on,
     site_left, site_of, tape_and_lines,
 };
-use part_items::Item;
+use log_items::Item;
 use site_memory::MemorySite;
 use std::alloc::Global;
 use std::process::Abort;

@@ -3,13 +3,13 @@
 ghost use Rattle.std.specs.Prelude.{◌≡◌, true, false};
 ghost use Rattle.std.specs.Bool.{Decides};
 ghost use Rattle.dura_value.specs.Items.{Identity};
-ghost use Rattle.part_items.specs.Plain.{item_of};
+ghost use Rattle.log_items.specs.Plain.{item_of};
 ghost use Rattle.part_items.specs.Fits.{FitsCount};
 ghost use Rattle.part_items.specs.ItemFits.{FitsIdentity, FitsItem};
 
 use crate::fits::messages::{every_id_fits, message_fits, outcome_fits};
-use crate::items::Item;
 use dura_value::NUMBER_LIMIT;
+use log_items::Item;
 
 /// The highest bit of a number is clear.
 fn count_fits(number: u64) -> bool

@@ -1,4 +1,4 @@
-use Rattle.std.proofs.Common.{◌≡◌, ℕ, Result, Ok, Err, refl}
+use Rattle.std.proofs.Common.{◌≡◌, ℕ, Result, Err, refl}
 use Rattle.commit_log.specs.declared.reader.OpenError.{OpenError}
 use Rattle.commit_log.specs.declared.reader.OpenError.TheVariants.{Fresh, Damaged, SiteFault}
 use Rattle.commit_log.proofs.parse.parse_front.Goals as goal

@@ -1,5 +1,5 @@
 use Rattle.std.proofs.Common.{arith, length-append}
-use Rattle.part_items.specs.Plain.{entry_of}
+use Rattle.log_items.specs.Plain.{entry_of}
 use Rattle.part_items.specs.Spelling.{CanSpellEntry}
 use Rattle.frame_bench.proofs.Each.{one_more}
 use Rattle.frame_bench.proofs.frame.make_frame.Goals as goal

@@ -1,5 +1,5 @@
 use Rattle.std.proofs.Common.{arith, length-append}
-use Rattle.part_items.specs.Plain.{item_of}
+use Rattle.log_items.specs.Plain.{item_of}
 use Rattle.part_items.specs.Spelling.{CanSpellItem}
 use Rattle.frame_bench.proofs.Each.{one_more}
 use Rattle.frame_bench.proofs.frame.make_items.Goals as goal

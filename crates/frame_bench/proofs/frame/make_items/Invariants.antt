@@ -1,5 +1,5 @@
 use Rattle.std.proofs.Common.{◌≤◌, length, All}
-use Rattle.part_items.specs.Plain.{items_of}
+use Rattle.log_items.specs.Plain.{items_of}
 use Rattle.part_items.specs.Spelling.{CanSpellItem}
 use Rattle.frame_bench.proofs.frame.make_items.Given as goal
 

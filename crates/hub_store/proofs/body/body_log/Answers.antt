@@ -3,11 +3,10 @@ use Rattle.std.proofs.lemmas.Bool.{cases_lt}
 use Rattle.site_model.specs.History.{changes_of}
 use Rattle.commit_log.specs.declared.states.BodyError.{BodyError}
 use Rattle.commit_log.specs.Outcomes.{AfterBody}
-use Rattle.commit_log.specs.States.{IsBodied, IsBroken}
-use Rattle.part_items.specs.Plain.{entries_of}
+use Rattle.commit_log.specs.States.{IsBodied, IsBrokenBody}
+use Rattle.log_items.specs.Plain.{entries_of}
 use Rattle.part_items.specs.Spelling.{spell_frame}
 use Rattle.hub_store.proofs.Bodies.{full_memory, full_fault, memory_fault, rests_there}
-use Rattle.hub_store.proofs.Shortness.{next_gate}
 use Rattle.hub_store.proofs.body.body_log.Goals as goal
 use Rattle.commit_log.proofs.Causes.{ok_apart}
 
@@ -16,11 +15,8 @@ returns-in-Err-SiteFault-clause-fits g c h payloads rests =
     let log = c.in-Err-SiteFault.log in
     let now = g.V.Site.history c.body.new.site in
     let broken = subst (λ (e : BodyError). AfterBody now h payloads c.args.payload.now (Err e)) c.in-Err-SiteFault.field-0-is (c.in-Err-SiteFault.ensures.after h payloads rests) in
-    let place = (c.body.ensures.broken log (let h1 = c.in-Err-SiteFault.is in let h2 = c.in-Err-SiteFault.field-0-is in cc)).0 in (
-      place,
-      subst (λ (file : ℕ). IsBroken (changes_of file now) h payloads (spell_frame (entries_of c.args.frame)) log.gate log.next) place
-          (subst (λ (payload : List ℕ). IsBroken (changes_of log.file now) h payloads payload log.gate log.next) c.requires.spelled broken),
-    )
+    let place = (c.body.ensures.broken log (let h1 = c.in-Err-SiteFault.is in let h2 = c.in-Err-SiteFault.field-0-is in cc)).0 in
+    (place, subst (λ (file : ℕ). IsBrokenBody (changes_of file now) h payloads log.gate) place broken)
 
 pub returns-in-Ok-clause-fits : goal.returns-in-Ok-clause-fits
 returns-in-Ok-clause-fits g c h payloads rests =
@@ -36,44 +32,54 @@ pub returns-in-Ok-clause-full : goal.returns-in-Ok-clause-full
 returns-in-Ok-clause-full g c long = absurd (ok_apart _ _ (c.in-Ok.ensures.full long))
 
 pub returns-in-Ok-clause-untouched : goal.returns-in-Ok-clause-untouched
-returns-in-Ok-clause-untouched g c of n is = absurd (ok_apart _ _ is)
+returns-in-Ok-clause-untouched g c of n back is = absurd (ok_apart _ _ is)
 
 pub returns-in-Ok-clause-memory : goal.returns-in-Ok-clause-memory
-returns-in-Ok-clause-memory g c is = absurd (ok_apart _ _ is)
+returns-in-Ok-clause-memory g c back is = absurd (ok_apart _ _ is)
 
 pub returns-in-Ok-clause-fault : goal.returns-in-Ok-clause-fault
 returns-in-Ok-clause-fault g c is = absurd (ok_apart _ _ is)
 
 pub returns-in-Err-Full-clause-memory : goal.returns-in-Err-Full-clause-memory
-returns-in-Err-Full-clause-memory g c is = absurd (full_memory _ _ _ refl is)
+returns-in-Err-Full-clause-memory g c back is = absurd (full_memory _ _ _ _ back refl is)
 
 pub returns-in-Err-Full-clause-fault : goal.returns-in-Err-Full-clause-fault
-returns-in-Err-Full-clause-fault g c is = absurd (full_fault _ _ _ refl is)
+returns-in-Err-Full-clause-fault g c is = absurd (full_fault _ _ _ _ refl is)
 
 pub returns-in-Err-SiteFault-clause-untouched : goal.returns-in-Err-SiteFault-clause-untouched
-returns-in-Err-SiteFault-clause-untouched g c of n is = absurd (full_fault _ of n is refl)
+returns-in-Err-SiteFault-clause-untouched g c of n back is = absurd (full_fault _ of n back is refl)
 
 pub returns-in-Err-SiteFault-clause-memory : goal.returns-in-Err-SiteFault-clause-memory
-returns-in-Err-SiteFault-clause-memory g c is = absurd (memory_fault _ is refl)
+returns-in-Err-SiteFault-clause-memory g c back is = absurd (memory_fault _ back is refl)
 
 pub returns-in-Err-Memory-clause-untouched : goal.returns-in-Err-Memory-clause-untouched
-returns-in-Err-Memory-clause-untouched g c of n is = absurd (full_memory _ of n is refl)
+returns-in-Err-Memory-clause-untouched g c of n back is = absurd (full_memory _ of n back _ is refl)
 
 pub returns-in-Err-Memory-clause-fault : goal.returns-in-Err-Memory-clause-fault
-returns-in-Err-Memory-clause-fault g c is = absurd (memory_fault _ refl is)
+returns-in-Err-Memory-clause-fault g c is = absurd (memory_fault _ _ refl is)
 
 -- a log that would come to the limit is full before anything is written
 pub returns-in-Err-SiteFault-clause-short : goal.returns-in-Err-SiteFault-clause-short
 returns-in-Err-SiteFault-clause-short g c h payloads rests =
     let log = c.in-Err-SiteFault.log in
-    let now = g.V.Site.history c.body.new.site in
     let payload = c.args.payload.now in
-    let broken = subst (λ (e : BodyError). AfterBody now h payloads payload (Err e)) c.in-Err-SiteFault.field-0-is (c.in-Err-SiteFault.ensures.after h payloads rests) in
-    let ends = next_gate h payloads payload c.args.log.gate log.next (changes_of c.args.log.file (g.V.Site.history c.args.site.now)) (changes_of log.file now) rests log.gate broken in
+    let place = c.body.ensures.broken log (let h1 = c.in-Err-SiteFault.is in let h2 = c.in-Err-SiteFault.field-0-is in cc) in
     elim (cases_lt (c.args.log.gate + 6 + length payload) c.args.limit) [
-      | inl below ↦ inr (omega (arith, below, ends.0, ends.1))
+      | inl below ↦ inr (omega (arith, below, place.1, place.2))
       | inr past ↦ absurd (let full = c.in-Err-SiteFault.ensures.full past in let fault = c.in-Err-SiteFault.field-0-is in cc (full, fault))
     ]
+
+pub returns-in-Err-SiteFault-clause-broken : goal.returns-in-Err-SiteFault-clause-broken
+returns-in-Err-SiteFault-clause-broken g c is = (refl, refl)
+
+pub returns-in-Ok-clause-broken : goal.returns-in-Ok-clause-broken
+returns-in-Ok-clause-broken g c is = absurd (ok_apart _ _ is)
+
+pub returns-in-Err-Full-clause-broken : goal.returns-in-Err-Full-clause-broken
+returns-in-Err-Full-clause-broken g c is = absurd (full_fault _ _ _ _ refl is)
+
+pub returns-in-Err-Memory-clause-broken : goal.returns-in-Err-Memory-clause-broken
+returns-in-Err-Memory-clause-broken g c is = absurd (memory_fault _ _ refl is)
 
 pub returns-in-Ok-clause-tells : goal.returns-in-Ok-clause-tells
 returns-in-Ok-clause-tells g c = c.body.ensures.tells

@@ -1,71 +1,51 @@
-use Rattle.std.proofs.Common.{refl, inl, ◌∙◌, ap, le_trans, le_refl}
+use Rattle.std.proofs.Common.{refl, inl, ◌∙◌, ap}
 use Rattle.hub_store.specs.Changes.{trail_in}
 use Rattle.hub_store.specs.Frames.{length_with}
 use Rattle.hub_store.specs.Ways.{way_of}
-use Rattle.part_items.specs.Plain.{entry_of}
+use Rattle.log_items.specs.Plain.{entry_of}
 use Rattle.hub_store.proofs.Refusals.{fault_not_full, full_as, memory_not_fault, memory_not_full, of_err, ok_no_refusal, on_err, on_ok, residual_is, residual_on_err, residual_on_ok, same_either, same_refusal}
+use Rattle.hub_store.proofs.Stores.{keeps_still, keeps_on}
 use Rattle.hub_store.proofs.Trails.{settled_one}
 use Rattle.hub_store.proofs.commits.commit.Goals as goal
 use Rattle.site_model.proofs.Faults.{risen_later}
 
 pub returns-in_err-frame : goal.returns-in_err-frame
 returns-in_err-frame g c = record {
-  tells = λ t. t;
+  keeps = keeps_still c.args.part c.args.store.now;
   sound = c.requires.sound;
   stage = residual_on_ok _ c.from_residual.result _ c.from_residual.ensures.1;
   trail = residual_on_ok _ c.from_residual.result _ c.from_residual.ensures.1;
   no_trail = residual_on_err _ c.from_residual.result refl;
-  said = refl;
-  others = λ other apart. refl;
   still = residual_on_ok _ c.from_residual.result _ c.from_residual.ensures.1;
-  segment = refl;
-  latest = refl;
-  whole = refl;
   full = λ long. inl (residual_is _ _ c.from_residual.ensures.1);
   room = λ of n is. absurd (memory_not_full _ of n (residual_is _ _ c.from_residual.ensures.1) is);
   fault = λ is. absurd (memory_not_fault _ (residual_is _ _ c.from_residual.ensures.1) is);
-  later = le_refl _;
-  say_faults = refl;
 }
 
 pub returns-in_err-write : goal.returns-in_err-write
 returns-in_err-write g c = record {
-  tells = c.write.ensures.tells;
+  keeps = c.write.ensures.keeps;
   sound = c.write.ensures.sound;
   stage = residual_on_ok _ c.from_residual-in_err-write.result _ c.from_residual-in_err-write.ensures.1;
   trail = residual_on_ok _ c.from_residual-in_err-write.result _ c.from_residual-in_err-write.ensures.1;
-  no_trail = residual_on_err _ c.from_residual-in_err-write.result c.write.ensures.only.trail;
-  said = c.write.ensures.only.told;
-  others = c.write.ensures.only.others;
+  no_trail = residual_on_err _ c.from_residual-in_err-write.result c.write.ensures.trail;
   still = residual_on_ok _ c.from_residual-in_err-write.result _ c.from_residual-in_err-write.ensures.1;
-  segment = c.write.ensures.segment;
-  latest = c.write.ensures.latest;
-  whole = c.write.ensures.whole;
   full = λ long. same_either _ _ _ _ _ (residual_is _ _ c.from_residual-in_err-write.ensures.1) refl (full_as _ _ _ _ _ _ c.in_ok-frame.ensures c.in_err-write.ensures.full long);
   room = λ of n is.
       let room = c.in_err-write.ensures.room of n (same_refusal _ _ _ _ refl (residual_is _ _ c.from_residual-in_err-write.ensures.1) is) in
       (room.0, room.1, room.2 ∙ ap (length_with (way_of c.args.store.now.ways.items c.args.part)) c.in_ok-frame.ensures, room.3, room.4);
   fault = λ is. c.in_err-write.ensures.fault (same_refusal _ _ _ _ refl (residual_is _ _ c.from_residual-in_err-write.ensures.1) is);
-  later = c.write.ensures.later;
-  say_faults = c.write.ensures.say_faults;
 }
 
 pub returns : goal.returns
 returns g c = record {
-  tells = λ t. c.write.ensures.tells (c.open.ensures.tells t);
+  keeps = keeps_on c.args.part c.args.store.now c.write.new.store c.open.new.store c.write.ensures.keeps c.open.ensures.keeps;
   sound = c.open.ensures.sound;
   stage = c.open.ensures.stage;
-  trail = on_ok c.open.result (λ settles. settled_one _ _ _ _ (trail_in c.args.store.now) _ _ _ (entry_of c.args.entry) settles c.write.ensures.only.trail c.in_ok-write.ensures.frame c.in_ok-frame.ensures) c.open.ensures.trail;
-  no_trail = on_err c.open.result (λ same. same ∙ c.write.ensures.only.trail) c.open.ensures.no_trail;
-  said = c.open.ensures.said ∙ c.write.ensures.only.told;
-  others = λ other apart. c.open.ensures.others other apart ∙ c.write.ensures.only.others other apart;
+  trail = on_ok c.open.result (λ settles. settled_one _ _ _ _ (trail_in c.args.store.now) _ _ _ (entry_of c.args.entry) settles c.write.ensures.trail c.in_ok-write.ensures.frame c.in_ok-frame.ensures) c.open.ensures.trail;
+  no_trail = on_err c.open.result (λ same. same ∙ c.write.ensures.trail) c.open.ensures.no_trail;
   still = c.open.ensures.still;
-  segment = c.open.ensures.segment ∙ c.write.ensures.segment;
-  latest = c.open.ensures.latest ∙ c.write.ensures.latest;
-  whole = c.open.ensures.whole ∙ c.write.ensures.whole;
   full = λ long. absurd (ok_no_refusal _ _ _ (full_as _ _ _ _ _ _ c.in_ok-frame.ensures c.in_ok-write.ensures.full long));
   room = λ of n is. absurd (fault_not_full _ of n (of_err c.open.result _ c.open.ensures.stops is) is);
-  fault = λ is. risen_later _ _ _ c.write.ensures.later c.open.ensures.later (of_err c.open.result _ c.open.ensures.fault is);
-  later = le_trans c.write.ensures.later c.open.ensures.later;
-  say_faults = c.open.ensures.say_faults ∙ c.write.ensures.say_faults;
+  fault = λ is. risen_later _ _ _ c.write.ensures.keeps.later c.open.ensures.keeps.later (of_err c.open.result _ c.open.ensures.fault is);
 }

@@ -1,7 +1,7 @@
 use Rattle.std.proofs.Common.{◌∙◌, List, [], ◌∷◌, ◌++◌, ap}
 use Rattle.std.proofs.lemmas.Result.{err_from_is_err_and}
-use Rattle.part_items.specs.declared.frames.Entry.{Entry}
-use Rattle.part_items.specs.Plain.{entries_of}
+use Rattle.log_items.specs.declared.frames.Entry.{Entry}
+use Rattle.log_items.specs.Plain.{entries_of}
 use Rattle.hub_store.proofs.commits.frame_of.Goals as goal
 
 pub returns : goal.returns

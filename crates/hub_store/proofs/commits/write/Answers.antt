@@ -1,68 +1,50 @@
-use Rattle.std.proofs.Common.{refl, le_trans, ◌∙◌}
+use Rattle.std.proofs.Common.{refl, ◌∙◌}
 use Rattle.hub_store.proofs.Faults.{faulted}
-use Rattle.hub_store.proofs.Refusals.{ok_no_refusal, fault_not_full, residual_is, residual_on_ok, same_either, same_refusal}
+use Rattle.hub_store.proofs.Refusals.{fault_not_full, ok_written, refused_either, refused_fault, refused_full}
+use Rattle.hub_store.proofs.Stores.{keeps_on}
 use Rattle.hub_store.proofs.commits.write.Goals as goal
 use Rattle.site_model.proofs.Faults.{risen_later}
 use Rattle.commit_log.proofs.Causes.{ok_apart}
 
-pub returns-in_err-body : goal.returns-in_err-body
-returns-in_err-body g c = record {
-  tells = c.body.ensures.tells;
-  sound = c.body.ensures.sound;
-  stage = residual_on_ok _ c.from_residual.result _ c.from_residual.ensures.1;
-  frame = residual_on_ok _ c.from_residual.result _ c.from_residual.ensures.1;
-  still = residual_on_ok _ c.from_residual.result _ c.from_residual.ensures.1;
-  only = c.body.ensures.only;
-  segment = c.body.ensures.segment;
-  latest = c.body.ensures.latest;
-  whole = c.body.ensures.whole;
-  full = λ long. same_either _ _ _ _ _ (residual_is _ _ c.from_residual.ensures.1) refl (c.in_err-body.ensures.full long);
-  room = λ of n is. c.in_err-body.ensures.room of n (same_refusal _ _ _ _ refl (residual_is _ _ c.from_residual.ensures.1) is);
-  fault = λ is. c.body.ensures.fault (c.in_err-body.ensures.halts.0 (same_refusal _ _ _ _ refl (residual_is _ _ c.from_residual.ensures.1) is));
-  later = c.body.ensures.later;
-  say_faults = c.body.ensures.say_faults;
-}
-
 pub returns-in-Err : goal.returns-in-Err
-returns-in-Err g c = record {
-  tells = λ t. c.body.ensures.tells (c.sync_body.ensures.tells t);
+returns-in-Err g c =
+    let why = c.let_go.ensures in record {
+      keeps = c.body.ensures.keeps;
+      sound = c.body.ensures.sound;
+      stage = tt;
+      frame = tt;
+      still = tt;
+      trail = c.body.ensures.trail;
+      full = λ long. refused_either _ _ _ _ _ _ _ refl refl why (c.in-Err.ensures.full long);
+      room = λ of n is.
+          let back = refused_full _ _ _ _ of n refl refl why is in
+          let room = c.in-Err.ensures.room of n back.0 back.1 in
+          (room.1, room.2, room.3, room.4, room.5);
+      fault = λ is. c.body.ensures.fault (c.in-Err.ensures.halts.0 (refused_fault _ _ _ _ refl refl why is));
+    }
+
+pub returns-in-Err-sync_body : goal.returns-in-Err-sync_body
+returns-in-Err-sync_body g c = record {
+  keeps = keeps_on c.args.part c.args.store.now c.body.new.self c.sync_body.new.self c.body.ensures.keeps c.sync_body.ensures.keeps;
   sound = c.sync_body.ensures.sound;
   stage = tt;
   frame = tt;
   still = tt;
-  only = record {
-    trail = c.sync_body.ensures.only.trail ∙ c.body.ensures.only.trail;
-    told = c.sync_body.ensures.only.told ∙ c.body.ensures.only.told;
-    others = λ other apart. c.sync_body.ensures.only.others other apart ∙ c.body.ensures.only.others other apart;
-  };
-  segment = c.sync_body.ensures.segment ∙ c.body.ensures.segment;
-  latest = c.sync_body.ensures.latest ∙ c.body.ensures.latest;
-  whole = c.sync_body.ensures.whole ∙ c.body.ensures.whole;
-  full = λ long. absurd (ok_no_refusal _ _ _ (c.in_ok-body.ensures.full long));
+  trail = c.sync_body.ensures.trail ∙ c.body.ensures.trail;
+  full = λ long. absurd (ok_written _ _ _ _ _ refl (c.in-Ok.ensures.full long));
   room = λ of n is. absurd (fault_not_full _ of n refl is);
-  fault = λ is. risen_later _ _ _ c.body.ensures.later c.sync_body.ensures.halted.later (faulted _ _ _ _ _ _ refl c.in-Err.ensures.no_frame.0 c.in_ok-body.ensures.ok.0 c.in-Err.ensures.halts c.sync_body.ensures.halted);
-  later = le_trans c.body.ensures.later c.sync_body.ensures.halted.later;
-  say_faults = c.sync_body.ensures.say_faults ∙ c.body.ensures.say_faults;
+  fault = λ is. risen_later _ _ _ c.body.ensures.keeps.later c.sync_body.ensures.keeps.later (faulted _ _ _ _ _ _ refl c.in-Err-sync_body.ensures.no_frame.0 c.in-Ok.ensures.ok.0 c.in-Err-sync_body.ensures.halts c.sync_body.ensures.halted);
 }
 
-pub returns-in-Ok : goal.returns-in-Ok
-returns-in-Ok g c = record {
-  tells = λ t. c.body.ensures.tells (c.sync_body.ensures.tells t);
+pub returns-in-Ok-sync_body : goal.returns-in-Ok-sync_body
+returns-in-Ok-sync_body g c = record {
+  keeps = keeps_on c.args.part c.args.store.now c.body.new.self c.sync_body.new.self c.body.ensures.keeps c.sync_body.ensures.keeps;
   sound = c.sync_body.ensures.sound;
-  stage = c.in-Ok.ensures.ok;
-  frame = c.sync_body.ensures.frame ∙ c.in_ok-body.ensures.ok.1;
-  still = c.in-Ok.ensures.still;
-  only = record {
-    trail = c.sync_body.ensures.only.trail ∙ c.body.ensures.only.trail;
-    told = c.sync_body.ensures.only.told ∙ c.body.ensures.only.told;
-    others = λ other apart. c.sync_body.ensures.only.others other apart ∙ c.body.ensures.only.others other apart;
-  };
-  segment = c.sync_body.ensures.segment ∙ c.body.ensures.segment;
-  latest = c.sync_body.ensures.latest ∙ c.body.ensures.latest;
-  whole = c.sync_body.ensures.whole ∙ c.body.ensures.whole;
-  full = λ long. absurd (ok_no_refusal _ _ _ (c.in_ok-body.ensures.full long));
+  stage = c.in-Ok-sync_body.ensures.ok;
+  frame = c.sync_body.ensures.frame ∙ c.in-Ok.ensures.ok.1;
+  still = c.in-Ok-sync_body.ensures.still;
+  trail = c.sync_body.ensures.trail ∙ c.body.ensures.trail;
+  full = λ long. absurd (ok_written _ _ _ _ _ refl (c.in-Ok.ensures.full long));
   room = λ of n is. absurd (ok_apart _ _ is);
   fault = λ is. absurd (ok_apart _ _ is);
-  later = le_trans c.body.ensures.later c.sync_body.ensures.halted.later;
-  say_faults = c.sync_body.ensures.say_faults ∙ c.body.ensures.say_faults;
 }

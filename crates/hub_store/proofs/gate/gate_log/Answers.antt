@@ -3,8 +3,8 @@ use Rattle.std.proofs.Common.{◌≡◌, ℕ, [], ◌∷◌, ◌∙◌, sym, ap,
 use Rattle.site_model.specs.History.{wrote, reads, changes_of}
 use Rattle.site_model.proofs.Paths.{own_change}
 use Rattle.commit_log.specs.Segment.{open_gate, segment, reading_of}
-use Rattle.commit_log.specs.States.{IsGated, IsBroken}
-use Rattle.part_items.specs.Plain.{entries_of}
+use Rattle.commit_log.specs.States.{IsGated, IsBrokenGate}
+use Rattle.log_items.specs.Plain.{entries_of}
 use Rattle.part_items.specs.Spelling.{spell_frame}
 use Rattle.hub_store.proofs.Payloads.{synced_reads}
 use Rattle.hub_store.proofs.gate.gate_log.Goals as goal
@@ -38,7 +38,7 @@ returns-in-Err-clause-fits g c h payloads synced =
     let place = c.in-Err.ensures.broken in
     let payload = spell_frame (entries_of c.args.frame) in (
       place.0,
-      subst (λ (f : ℕ). IsBroken (changes_of f (g.V.Site.history c.gate.new.site)) h payloads payload c.in-Err.log.gate c.in-Err.log.next) place.0
+      subst (λ (f : ℕ). IsBrokenGate (changes_of f (g.V.Site.history c.gate.new.site)) h payloads payload c.in-Err.log.gate c.in-Err.log.next) place.0
           (c.in-Err.ensures.after h payloads payload synced),
     )
 

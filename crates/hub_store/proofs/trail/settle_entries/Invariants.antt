@@ -1,6 +1,6 @@
 use Rattle.std.proofs.Common.{◌≡◌, ◌++◌, ◌+◌, length, vec_len}
 use Rattle.std.specs.Vec.{vec_capacity}
-use Rattle.part_items.specs.Plain.{entries_of}
+use Rattle.log_items.specs.Plain.{entries_of}
 use Rattle.hub_store.specs.Plain.{trail_of}
 use Rattle.hub_store.specs.Trail.{settling}
 use Rattle.hub_store.proofs.trail.settle_entries.Given as goal

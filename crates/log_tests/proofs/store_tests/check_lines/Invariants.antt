@@ -9,6 +9,7 @@ ghosts-play_begun g a = record {
   origin = record { count = 1; logs = λ partition. record { file = a.log.file; header = header; payloads = []; entries = [] }; steps = memory_history a.site };
   may_follow = λ latest trail told partition going. Unit {0};
   may_say = λ trail told one line. Unit {0};
-  still_follows = λ latest trail more told also partition going none may. may;
+  still_said = λ latest trail told also partition going may. may;
+  still_settled = λ latest trail told partition at going other theirs apart may also. also;
   later_follows = λ latest later trail told partition going above may. may;
 }

@@ -16,7 +16,7 @@ returns-in-Ok-Settled g c =
     let next = next_after _ (g.N.Start.origin.logs 0) _ (going_at old 0) (trail_in old) (trail_in now) c.args.position settled goes.frame goes.next in record {
       sound = e.sound;
       unhalted = e.still;
-      goes = goes_rests old now c.args.position (c.args.position + 1) goes e.whole next e.ok;
+      goes = goes_rests old now c.args.position (c.args.position + 1) goes e.keeps.whole next e.ok;
     }
 
 pub returns-in-Ok-Dropped : goal.returns-in-Ok-Dropped
@@ -28,7 +28,7 @@ returns-in-Ok-Dropped g c =
     let next = subst (λ settled. goes_on (g.N.Start.origin.logs 0) (of_part 0 settled) ≡ next_at position) (sym same) goes.next in record {
       sound = e.sound;
       unhalted = e.still;
-      goes = goes_rests c.args.store.now c.reopen.new.self position position goes e.whole next e.ok;
+      goes = goes_rests c.args.store.now c.reopen.new.self position position goes e.keeps.whole next e.ok;
     }
 
 pub returns-in-Err-NoFrame : goal.returns-in-Err-NoFrame
@@ -40,5 +40,5 @@ pub returns-in-Err-SiteFault : goal.returns-in-Err-SiteFault
 returns-in-Err-SiteFault g c =
     let e = c.in-Err-SiteFault.ensures in record {
       sound = e.sound;
-      goes = goes_still c.args.store.now c.reopen.new.self c.args.position c.requires.failed.goes e.whole e.no_trail e.frame;
+      goes = goes_still c.args.store.now c.reopen.new.self c.args.position c.requires.failed.goes e.keeps.whole e.no_trail e.frame;
     }

@@ -14,7 +14,7 @@ returns-in-Ok g c =
     let next = next_after (Unit {0}) (g.N.Start.origin.logs 0) (length (memory_history now.site)) (going_at old 0) (trail_in old) (trail_in now) c.args.position e.trail goes.frame goes.next in record {
       sound = e.sound;
       unhalted = e.still;
-      goes = goes_rests old now c.args.position (c.args.position + 1) goes e.whole next e.ok;
+      goes = goes_rests old now c.args.position (c.args.position + 1) goes e.keeps.whole next e.ok;
     }
 
 pub returns-in-Err-NoFrame : goal.returns-in-Err-NoFrame
@@ -26,5 +26,5 @@ pub returns-in-Err-SiteFault : goal.returns-in-Err-SiteFault
 returns-in-Err-SiteFault g c =
     let e = c.in-Err-SiteFault.ensures in record {
       sound = e.sound;
-      goes = goes_still c.args.store.now c.settle.new.self c.args.position c.requires.going.goes e.whole e.no_trail e.frame;
+      goes = goes_still c.args.store.now c.settle.new.self c.args.position c.requires.going.goes e.keeps.whole e.no_trail e.frame;
     }

@@ -8,7 +8,7 @@ returns-in-Ok g c =
     let e = c.in-Ok.ensures in record {
       sound = e.sound;
       unhalted = e.still;
-      goes = goes_still c.args.store.now c.sync_body.new.self c.args.position c.requires.goes e.whole e.only.trail e.frame;
+      goes = goes_still c.args.store.now c.sync_body.new.self c.args.position c.requires.goes e.keeps.whole e.trail e.frame;
     }
 
 pub returns-in-Err-NoFrame : goal.returns-in-Err-NoFrame
@@ -20,5 +20,5 @@ pub returns-in-Err-SiteFault : goal.returns-in-Err-SiteFault
 returns-in-Err-SiteFault g c =
     let e = c.in-Err-SiteFault.ensures in record {
       sound = e.sound;
-      goes = goes_still c.args.store.now c.sync_body.new.self c.args.position c.requires.goes e.whole e.only.trail e.frame;
+      goes = goes_still c.args.store.now c.sync_body.new.self c.args.position c.requires.goes e.keeps.whole e.trail e.frame;
     }

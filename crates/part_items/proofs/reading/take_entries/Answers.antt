@@ -1,7 +1,7 @@
 use Rattle.std.proofs.Common.{◌≡◌, ◌++◌, ◌∷◌, []}
 use Rattle.std.proofs.lemmas.Result.{err_from_is_err_and}
 use Rattle.std.proofs.lemmas.List.{map_push}
-use Rattle.part_items.specs.Plain.{entry_of, entries_of}
+use Rattle.log_items.specs.Plain.{entry_of, entries_of}
 use Rattle.dura_codec.specs.Fields.{several_at}
 use Rattle.part_items.specs.Grammar.{entry_at}
 use Rattle.dura_codec.proofs.Several.{goes_on, ends, is_done}

@@ -1,5 +1,5 @@
 use Rattle.std.proofs.Common.{◌≡◌, ◌-◌}
-use Rattle.part_items.specs.Plain.{items_of}
+use Rattle.log_items.specs.Plain.{items_of}
 use Rattle.dura_codec.specs.Fields.{several_at}
 use Rattle.part_items.specs.Grammar.{item_at}
 use Rattle.dura_codec.proofs.Several.{with_front}

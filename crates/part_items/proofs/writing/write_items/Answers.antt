@@ -1,4 +1,4 @@
-use Rattle.part_items.specs.Plain.{item_of}
+use Rattle.log_items.specs.Plain.{item_of}
 use Rattle.part_items.specs.Spelling.{spell_item}
 use Rattle.part_items.proofs.Each.{each_item}
 use Rattle.part_items.proofs.Writes.{one_written}

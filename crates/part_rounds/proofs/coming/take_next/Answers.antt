@@ -3,7 +3,7 @@ use Rattle.std.proofs.lemmas.Bool.{eqb-true, eqb-false}
 use Rattle.std.specs.Vec.{vec_len}
 use Rattle.dura_model.specs.Partition.{Partition}
 use Rattle.part_rows.specs.Timers.{IsNext, NoTimer}
-use Rattle.part_items.specs.Plain.{items_of}
+use Rattle.log_items.specs.Plain.{items_of}
 use Rattle.part_rounds.proofs.Counts.{low_same, low_both, low_max, stamp_low}
 use Rattle.part_rounds.specs.Fills.{Fills}
 use Rattle.part_rounds.specs.InTime.{last_stamp, IsFilledAt}

@@ -5,8 +5,8 @@ use Rattle.hub_store.specs.Changes.{trail_in, told_in}
 use Rattle.hub_store.specs.Frames.{goes_on, GoesBehind, length_with}
 use Rattle.hub_store.specs.Trail.{Settled, Said, of_part}
 use Rattle.hub_store.specs.declared.way.Way.{Way}
-use Rattle.part_items.specs.Plain.{item_of, items_of}
-use Rattle.part_items.specs.declared.items.Item.{Item}
+use Rattle.log_items.specs.Plain.{item_of, items_of}
+use Rattle.log_items.specs.declared.items.Item.{Item}
 use Rattle.part_rounds.specs.Comes.{count_labels}
 use Rattle.part_rounds.specs.Rounds.{pairs_of}
 use Rattle.part_rounds.proofs.Entries.{entry_follows, entry_goes, labels_after}
@@ -49,18 +49,18 @@ returns-in_err-commit-clause-full g c of n is =
     let asked = entry_follows rules (g.N.Start.origin.logs 0) old.latest (of_part 0 (trail_in old)) (pairs_of (told_in old)) c.args.position c.args.incarnation (items_of c.args.items.items) c.requires.filled in
     let there = subst (λ (items : List Item). Follows rules old.latest (of_part 0 (trail_in old)) (pairs_of (told_in old)) (record { position = c.args.position; incarnation = c.args.incarnation; items = items_of items } ∷ [])) (sym c.of.ensures) asked in
     let then = subst (λ (t : List Settled). Follows rules old.latest (of_part 0 t) (pairs_of (told_in old)) (entry ∷ [])) (sym c.in_err-commit.ensures.no_trail) there in
-    let told = subst (λ (t : List Said). Follows rules old.latest (of_part 0 (trail_in c.commit.new.store)) (pairs_of t) (entry ∷ [])) (sym c.commit.ensures.said) then in
+    let told = subst (λ (t : List Said). Follows rules old.latest (of_part 0 (trail_in c.commit.new.store)) (pairs_of t) (entry ∷ [])) (sym c.commit.ensures.keeps.said) then in
     record {
       alone = room.0;
       entry = entry;
       some = subst (λ (items : List Item). 0 < length (items_of items)) (sym c.of.ensures) c.requires.filled.some;
       few = let many = length-map c.args.items.items item_of in subst (λ (items : List Item). length (items_of items) ≤ length c.args.items.items) (sym c.of.ensures) (omega (arith, many));
-      follows = subst (λ (n : ℕ). Follows rules n (of_part 0 (trail_in c.commit.new.store)) (pairs_of (told_in c.commit.new.store)) (entry ∷ [])) (sym c.commit.ensures.latest) told;
+      follows = subst (λ (n : ℕ). Follows rules n (of_part 0 (trail_in c.commit.new.store)) (pairs_of (told_in c.commit.new.store)) (entry ∷ [])) (sym c.commit.ensures.keeps.latest) told;
       length_is = room.2 ∙ ap (λ (way : Way). length_with way (entry ∷ [])) (sym room.4);
-      reaches = let reaches = room.1 in omega (arith, reaches, c.commit.ensures.segment);
+      reaches = let reaches = room.1 in omega (arith, reaches, c.commit.ensures.keeps.segment);
       further =
           subst (λ (t : List Settled). GoesFurther rules (of_part 0 t) (pairs_of (told_in c.commit.new.store))) (sym c.in_err-commit.ensures.no_trail)
-          (subst (λ (t : List Said). GoesFurther rules (of_part 0 (trail_in old)) (pairs_of t)) (sym c.commit.ensures.said)
+          (subst (λ (t : List Said). GoesFurther rules (of_part 0 (trail_in old)) (pairs_of t)) (sym c.commit.ensures.keeps.said)
           (filled_further rules (g.N.Start.origin.logs 0) old.latest (of_part 0 (trail_in old)) (pairs_of (told_in old)) c.args.position c.args.incarnation (items_of c.args.items.items) c.requires.filled));
     }
 

@@ -1,5 +1,5 @@
 use Rattle.part_items.specs.ItemFits.{FitsItem}
-use Rattle.part_items.specs.Plain.{item_of}
+use Rattle.log_items.specs.Plain.{item_of}
 use Rattle.part_rounds.proofs.Walks.{all_next_shown, all_whole_shown, all_at_shown}
 use Rattle.part_rounds.proofs.filling.all_fit.Goals as goal
 

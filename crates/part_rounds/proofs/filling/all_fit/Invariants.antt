@@ -1,7 +1,7 @@
 use Rattle.std.proofs.Common.{take}
 use Rattle.std.specs.List.{All}
 use Rattle.part_items.specs.ItemFits.{FitsItem}
-use Rattle.part_items.specs.Plain.{items_of}
+use Rattle.log_items.specs.Plain.{items_of}
 use Rattle.part_rounds.proofs.filling.all_fit.Given as goal
 
 abbrev pub invariant-loop-item : goal.invariant-loop-item

@@ -1,7 +1,7 @@
 use Rattle.std.proofs.Common.{◌≡◌, ◌∙◌, ℕ, List, ◌++◌, length, map, ap, subst, arith}
 use Rattle.std.proofs.Math.Facts.{Fits-le}
 use Rattle.std.proofs.lemmas.List.{length-append}
-use Rattle.part_items.specs.declared.items.Item.{Item}
+use Rattle.log_items.specs.declared.items.Item.{Item}
 use Rattle.part_steps.specs.Outputs.{outputs_of}
 use Rattle.part_steps.specs.Enabled.{NoneEnabled, stamp_at}
 use Rattle.part_steps.specs.States.{state_of, count_of}

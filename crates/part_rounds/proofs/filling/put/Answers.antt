@@ -1,6 +1,6 @@
 use Rattle.std.proofs.Common.{subst}
 use Rattle.dura_model.specs.Partition.{accepted}
-use Rattle.part_items.specs.Plain.{item_of}
+use Rattle.log_items.specs.Plain.{item_of}
 use Rattle.part_steps.specs.Applied.{Becomes}
 use Rattle.part_steps.specs.Outputs.{outputs_by}
 use Rattle.part_steps.specs.States.{state_of, count_of}

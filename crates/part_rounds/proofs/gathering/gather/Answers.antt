@@ -2,8 +2,8 @@ use Rattle.std.proofs.Common.{◌≡◌, ◌∙◌, ℕ, List, [], Some, length,
 use Rattle.std.specs.List.{All}
 use Rattle.dura_model.specs.Partition.{Partition, fresh}
 use Rattle.dura_model.specs.Entries.{all_accepted}
-use Rattle.part_items.specs.Plain.{items_of}
-use Rattle.part_items.specs.declared.items.Item.{Item}
+use Rattle.log_items.specs.Plain.{items_of}
+use Rattle.log_items.specs.declared.items.Item.{Item}
 use Rattle.part_rounds.specs.Fills.{Fills, CantTake}
 use Rattle.part_rounds.specs.InTime.{AreAt, Giving, IsRun}
 use Rattle.part_rounds.specs.Rounds.{pairs_of}

@@ -5,7 +5,7 @@ use Rattle.dura_model.specs.Partition.{Partition}
 use Rattle.flow_syntax.specs.Syntax.{Flows}
 use Rattle.hub_store.specs.Changes.{trail_in, told_in}
 use Rattle.hub_store.specs.Trail.{Settled, Said, of_part}
-use Rattle.part_items.specs.Plain.{item_of, items_of}
+use Rattle.log_items.specs.Plain.{item_of, items_of}
 use Rattle.part_rounds.proofs.Counts.{low_self, low_from, low_add, low_more, below_first, raised_below}
 use Rattle.part_rounds.proofs.Course.{only_reads, filled_goes}
 use Rattle.part_rounds.proofs.Further.{kind_not_spent, full_wider, fills_further, place_spent}

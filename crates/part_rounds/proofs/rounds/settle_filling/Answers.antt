@@ -4,7 +4,7 @@ use Rattle.dura_value.specs.Items.{Entry}
 use Rattle.hub_store.specs.Changes.{trail_in, told_in}
 use Rattle.hub_store.specs.Trail.{Settled, Said, of_part}
 use Rattle.hub_store.specs.Ways.{stage_of, way_of}
-use Rattle.part_items.specs.Plain.{items_of}
+use Rattle.log_items.specs.Plain.{items_of}
 use Rattle.part_rounds.proofs.Counts.{low_same, low_from, low_to, low_is, low_add}
 use Rattle.part_rounds.proofs.Further.{kind_not_spent}
 use Rattle.part_rounds.specs.Turns.{SaysInTurn}

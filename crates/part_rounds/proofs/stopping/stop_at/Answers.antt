@@ -2,8 +2,8 @@ use Rattle.std.proofs.Common.{◌∙◌, inl, inr, List, length, sym, ap, subst,
 use Rattle.std.proofs.lemmas.Bool.{eqb-true, eqb-false}
 use Rattle.std.proofs.lemmas.List.{length-map}
 use Rattle.std.specs.Vec.{vec_len}
-use Rattle.part_items.specs.Plain.{item_of, items_of}
-use Rattle.part_items.specs.declared.items.Item.{Item}
+use Rattle.log_items.specs.Plain.{item_of, items_of}
+use Rattle.log_items.specs.declared.items.Item.{Item}
 use Rattle.part_rounds.specs.Fills.{Fills}
 use Rattle.part_rounds.specs.Rounds.{pairs_of}
 use Rattle.part_rounds.proofs.Fillings.{fills_nothing}

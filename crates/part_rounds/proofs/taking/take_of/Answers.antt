@@ -3,7 +3,7 @@ use Rattle.client_port.specs.Ports.{due_of}
 use Rattle.dura_value.specs.Views.{message_of}
 use Rattle.request_reader.specs.Line.{Request}
 use Rattle.dura_value.specs.Items.{took}
-use Rattle.part_items.specs.declared.items.Item.TheVariants.{Took}
+use Rattle.log_items.specs.declared.items.Item.TheVariants.{Took}
 use Rattle.part_rounds.proofs.InTime.{puts_at}
 use Rattle.part_rounds.proofs.Stamps.{puts_still}
 use Rattle.part_rounds.proofs.Puttings.{puts_goes_on, puts_longer, puts_one, due_asked, put_in_vain, goes_on_still}

@@ -1,8 +1,8 @@
 use Rattle.std.proofs.Common.{◌≡◌, ◌∙◌, Option, Some, None, sym, subst}
 use Rattle.std.specs.Prelude.{IfSome}
 use Rattle.flow_syntax.specs.Syntax.{Flows}
-use Rattle.part_items.specs.Plain.{item_of}
-use Rattle.part_items.specs.declared.items.Item.{Item}
+use Rattle.log_items.specs.Plain.{item_of}
+use Rattle.log_items.specs.declared.items.Item.{Item}
 use Rattle.dura_model.specs.Partition.{accepted}
 use Rattle.part_steps.specs.declared.state.Verdict.{Verdict}
 use Rattle.part_steps.specs.Applied.{Becomes}

@@ -1,6 +1,6 @@
 use Rattle.std.proofs.Common.{◌<◌, ◌+◌, List, drop, subst, arith}
 use Rattle.dura_value.specs.Items as plain
-use Rattle.part_items.specs.Plain.{item_of, items_of}
+use Rattle.log_items.specs.Plain.{item_of, items_of}
 use Rattle.dura_model.specs.Partition.{accepted}
 use Rattle.part_steps.specs.Applied.{Becomes}
 use Rattle.part_steps.specs.Outputs.{outputs_by}

@@ -1,5 +1,5 @@
 use Rattle.std.proofs.Common.{drop}
-use Rattle.part_items.specs.Plain.{items_of}
+use Rattle.log_items.specs.Plain.{items_of}
 use Rattle.recover_core.proofs.EntriesPlaced.{HasApplied}
 use Rattle.recover_core.proofs.placing.place_items.Given as goal
 

@@ -1,6 +1,6 @@
 use Rattle.std.proofs.Common.{◌<◌, ◌^◌, Option, sym, ap, subst, arith}
 use Rattle.dura_model.specs.Partition.{Partition}
-use Rattle.part_items.specs.Plain.{items_of, entry_of}
+use Rattle.log_items.specs.Plain.{items_of, entry_of}
 use Rattle.part_steps.specs.declared.state.PartState.{PartState}
 use Rattle.part_steps.specs.States.{state_of, count_of}
 use Rattle.dura_model.specs.Entries.{all_accepted}

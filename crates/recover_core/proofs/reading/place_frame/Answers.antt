@@ -1,6 +1,7 @@
 use Rattle.std.proofs.Common.{◌++◌, ◌∷◌, []}
 use Rattle.part_items.specs.Numbered.{next_frame_in}
-use Rattle.part_items.specs.Plain.{entry_of, next_of}
+use Rattle.log_items.specs.Plain.{entry_of}
+use Rattle.part_items.specs.Numbered.{next_of}
 use Rattle.recover_core.proofs.FramePlaced.{one_more}
 use Rattle.recover_core.proofs.reading.place_frame.Goals as goal
 

@@ -1,7 +1,7 @@
 use Rattle.std.proofs.Common.{List}
 use Rattle.dura_value.specs.Items.{Entry}
 use Rattle.part_items.specs.Numbered.{next_frame_in}
-use Rattle.part_items.specs.Plain.{next_of}
+use Rattle.part_items.specs.Numbered.{next_of}
 use Rattle.recover_core.proofs.FramePlaced.{HasPlaced}
 use Rattle.recover_core.proofs.reading.place_frame.Given as goal
 

@@ -2,7 +2,7 @@ use Rattle.std.proofs.Common.{◌≡◌, List, ℕ, length, Ok, Err, refl, ap, s
 use Rattle.std.proofs.lemmas.Result.{err_from_is_err_and}
 use Rattle.site_model.specs.History.{content_of}
 use Rattle.part_items.specs.Numbered.{next_frame_in}
-use Rattle.part_items.specs.Plain.{next_of}
+use Rattle.part_items.specs.Numbered.{next_of}
 use Rattle.recover_core.specs.Files.{PlacesFrame}
 use Rattle.recover_core.proofs.FramesRead.{more_read, end_read, gate_refused, frame_refused}
 use Rattle.recover_core.proofs.reading.read_step.Goals as goal

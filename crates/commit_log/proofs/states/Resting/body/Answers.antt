@@ -1,7 +1,7 @@
-use Rattle.std.proofs.Common.{◌≡◌, Result, Ok, Err, refl, ◌∙◌, ap, arith, ℕ}
+use Rattle.std.proofs.Common.{◌≡◌, Result, Err, refl, ◌∙◌, ap, arith, ℕ}
 use Rattle.site_model.proofs.Paths.{stays}
 use Rattle.commit_log.specs.declared.states.Resting.{Resting}
-use Rattle.commit_log.specs.declared.states.Broken.{Broken}
+use Rattle.commit_log.specs.declared.states.BrokenBody.{BrokenBody}
 use Rattle.commit_log.specs.declared.states.BodyError.{BodyError}
 use Rattle.commit_log.specs.declared.states.BodyError.TheVariants.{Full, SiteFault, Memory}
 use Rattle.commit_log.proofs.Steps.{resting_images, body_during, body_broken, body_done}
@@ -11,10 +11,10 @@ use Rattle.commit_log.proofs.Causes.{ok_apart}
 full_memory : {T : Type 0} (result : Result T BodyError) (n : ℕ) (log other : Resting) → result ≡ Err (Full n log) → result ≡ Err (Memory other) → ⊥
 full_memory result n log other full memory = cc
 
-full_fault : {T : Type 0} (result : Result T BodyError) (n : ℕ) (log : Resting) (other : Broken) → result ≡ Err (Full n log) → result ≡ Err (SiteFault other) → ⊥
+full_fault : {T : Type 0} (result : Result T BodyError) (n : ℕ) (log : Resting) (other : BrokenBody) → result ≡ Err (Full n log) → result ≡ Err (SiteFault other) → ⊥
 full_fault result n log other full fault = cc
 
-memory_fault : {T : Type 0} (result : Result T BodyError) (log : Resting) (other : Broken) → result ≡ Err (Memory log) → result ≡ Err (SiteFault other) → ⊥
+memory_fault : {T : Type 0} (result : Result T BodyError) (log : Resting) (other : BrokenBody) → result ≡ Err (Memory log) → result ≡ Err (SiteFault other) → ⊥
 memory_fault result log other memory fault = cc
 
 -- where nothing was written, a crash leaves what it left
@@ -36,7 +36,7 @@ returns-clause-during g c h payloads rests = body_during _ _ _ h payloads _ _ _ 
 
 pub returns-clause-after : goal.returns-clause-after
 returns-clause-after g c h payloads rests =
-    body_broken _ _ _ h payloads c.args.payload.now _ _ _ _ (omega arith) (omega (arith, c.if-length-limit.false, c.requires.limit)) rests (c.write.ensures.done)
+    body_broken _ _ _ h payloads _ _ _ rests (c.write.ensures.done)
 
 pub returns-then-length-limit-clause-full : goal.returns-then-length-limit-clause-full
 returns-then-length-limit-clause-full g c long = ap (λ (n : ℕ). Err (Full n c.args.self)) (omega arith)

@@ -18,7 +18,7 @@ returns-in-Ok-clause-sound g c =
     let one = asked c.args.client.now c.args.number in
     sound_told old _ (told ++ one ∷ []) c.requires.sound refl refl refl
     (told_more _ _ _ _ c.args.client.now c.args.number c.reserve.ensures.items c.push_reserved.ensures.items c.in_ok-client.ensures refl) c.requires.sound.uncut
-    (λ tells. told_said (g.N.Start.may_follow old.latest) g.N.Start.may_say g.N.Start.origin (g.N.Start.still_follows old.latest) old.ways.items (trail_of old.trail.items) told one c.args.line.now (g.V.Site.history old.site)
+    (λ tells. told_said (g.N.Start.may_follow old.latest) g.N.Start.may_say g.N.Start.origin (g.N.Start.still_said old.latest) old.ways.items (trail_of old.trail.items) told one c.args.line.now (g.V.Site.history old.site)
     (g.V.Site.history c.say.new.self) c.say.result old.cut _ c.requires.may (c.requires.sound.uncut c.requires.going) (c.requires.sound.told (c.say.ensures.tells tells)) c.say.ensures.done (c.in-Ok.ensures.done).ok) refl c.say.ensures.tells
 
 pub returns-in-Err-clause-sound : goal.returns-in-Err-clause-sound
@@ -27,7 +27,7 @@ returns-in-Err-clause-sound g c =
     let told = told_of old.told.items in
     let one = asked c.args.client.now c.args.number in
     sound_told old _ told c.requires.sound refl refl refl (ap told_of c.reserve.ensures.items) (λ still. absurd (true_apart still))
-    (λ tells. told_failed (g.N.Start.may_follow old.latest) g.N.Start.may_say g.N.Start.origin (g.N.Start.still_follows old.latest) old.ways.items (trail_of old.trail.items) told one c.args.line.now (g.V.Site.history old.site)
+    (λ tells. told_failed (g.N.Start.may_follow old.latest) g.N.Start.may_say g.N.Start.origin (g.N.Start.still_said old.latest) old.ways.items (trail_of old.trail.items) told one c.args.line.now (g.V.Site.history old.site)
     (g.V.Site.history c.say.new.self) c.say.result old.cut _ c.requires.may (c.requires.sound.uncut c.requires.going) refl (c.requires.sound.told (c.say.ensures.tells tells)) c.say.ensures.done) refl c.say.ensures.tells
 
 pub returns-in-Ok-clause-memory : goal.returns-in-Ok-clause-memory

@@ -4,17 +4,17 @@ use Rattle.dura_value.specs.Items.{Entry}
 use Rattle.site_model.specs.History.{changes_of}
 use Rattle.hub_store.specs.declared.way.Way.{Way}
 use Rattle.hub_store.specs.declared.way.Way.TheVariants as ways
-use Rattle.part_items.specs.Plain.{entries_of}
+use Rattle.log_items.specs.Plain.{entries_of}
 use Rattle.hub_store.specs.Plain.{trail_of, told_of}
 use Rattle.hub_store.specs.Trail.{of_part, settling}
 use Rattle.hub_store.specs.Short.{KeepsShort}
 use Rattle.hub_store.specs.Ways.{LogFits, stage_of, due_in, going_in}
-use Rattle.hub_store.proofs.Bodies.{way_put, rests_there, true_apart, fault_no_frame, within, broken_there, less_due, less_room, reach_next, reach_same}
+use Rattle.hub_store.proofs.Bodies.{way_put, rests_there, true_apart, fault_no_frame, within, tried_there, less_due, less_room, reach_next, reach_same}
 use Rattle.hub_store.proofs.Calls.{settle_path, settle_rests, settle_breaks}
 use Rattle.hub_store.proofs.Settling.{of_part-append, no_part, told_settled}
 use Rattle.hub_store.proofs.Shortness.{still_short}
 use Rattle.hub_store.proofs.Standing.{told_on}
-use Rattle.hub_store.proofs.Stores.{put_for, others_stay, sound_on, sound_any, due_of_one}
+use Rattle.hub_store.proofs.Stores.{put_for, others_stay, keeps_still, sound_on, sound_any, due_of_one}
 use Rattle.hub_store.proofs.store.Store.settle.Goals as goal
 use Rattle.commit_log.proofs.Causes.{ok_apart}
 
@@ -38,10 +38,10 @@ returns-in-Ok-clause-sound g c =
     (λ tells.
     let stood = c.requires.sound.told (c.settle.ensures.tells tells) in
     let fits = subst (λ (w : Way). LogFits (o.logs p) (of_part p trail) (changes_of (o.logs p).file before) w) (sym c.in-Gated.ensures.way) (stood.logs p c.requires.place) in
-    let follows = c.requires.follows _ (ap going_in (sym c.in-Gated.ensures.way)) in
+    let follows = c.requires.follows _ (ap going_in (sym c.in-Gated.ensures.way)) (ap stage_of (sym c.in-Gated.ensures.way)) in
     let path = settle_path (g.N.Start.may_follow old.latest) g.N.Start.may_say o p log frame trail told before now c.settle.result c.settle.ensures.syncs c.settle.ensures.during follows fits in
     let rests = settle_rests (g.N.Start.may_follow old.latest) g.N.Start.may_say o p log frame trail before now c.in-Ok.log (c.in-Ok.ensures.place).0 c.in-Ok.ensures.after fits in
-    told_settled (g.N.Start.may_follow old.latest) g.N.Start.may_say o (g.N.Start.still_follows old.latest) p c.in-Ok.log trail told (entries_of frame) fits.payloads before now old.ways.items old.cut _ at c.requires.sound.apart c.requires.sound.count c.requires.place (c.requires.sound.uncut c.requires.going) (c.moment-at.ensures tells) follows stood path fits.next rests.0 rests.1)
+    told_settled (g.N.Start.may_follow old.latest) g.N.Start.may_say o (g.N.Start.still_settled old.latest) p c.in-Ok.log trail told (entries_of frame) fits.payloads before now old.ways.items old.cut _ at c.requires.sound.apart c.requires.sound.count c.requires.place (c.requires.sound.uncut c.requires.going) (c.moment-at.ensures tells) follows stood path fits.next rests.0 rests.1)
     refl c.settle.ensures.tells
     (λ q apart. of_part-append q trail (settling p at (entries_of frame)) ∙ ap (λ (l : List Entry). of_part q trail ++ l) (no_part p q at (entries_of frame) (λ same. apart (sym same))) ∙ append-nil (of_part q trail))
     (λ tells. still_short old.segment (of_part p trail) (of_part p (trail ++ settling p at (entries_of frame))) (ways.Gated log frame) (ways.Resting c.in-Ok.log) _ refl (reach_next log.gate log.next c.in-Ok.log.gate c.in-Ok.ensures.place.1)
@@ -67,12 +67,12 @@ returns-in-Err-clause-sound g c =
     let now = g.V.Site.history c.settle.new.site in
     let log = c.in-Gated.log in
     let frame = c.in-Gated.frame in
-    let way = ways.Broken c.in-Err.log frame in
-    sound_on old _ p way c.requires.sound c.requires.place (broken_there c.in-Err.log frame) (put_for _ _ _ p way c.take_way.ensures.rest c.put_way-in-Err.ensures) (ap due_in c.in-Gated.ensures.way) refl refl (c.requires.sound.uncut c.requires.going) refl
+    let way = ways.BrokenGate c.in-Err.log frame in
+    sound_on old _ p way c.requires.sound c.requires.place (tried_there c.in-Err.log frame) (put_for _ _ _ p way c.take_way.ensures.rest c.put_way-in-Err.ensures) (ap due_in c.in-Gated.ensures.way) refl refl (c.requires.sound.uncut c.requires.going) refl
     (λ tells.
     let stood = c.requires.sound.told (c.settle.ensures.tells tells) in
     let fits = subst (λ (w : Way). LogFits (o.logs p) (of_part p trail) (changes_of (o.logs p).file before) w) (sym c.in-Gated.ensures.way) (stood.logs p c.requires.place) in
-    let follows = c.requires.follows _ (ap going_in (sym c.in-Gated.ensures.way)) in
+    let follows = c.requires.follows _ (ap going_in (sym c.in-Gated.ensures.way)) (ap stage_of (sym c.in-Gated.ensures.way)) in
     let path = settle_path (g.N.Start.may_follow old.latest) g.N.Start.may_say o p log frame trail told before now c.settle.result c.settle.ensures.syncs c.settle.ensures.during follows fits in
     let breaks = settle_breaks (g.N.Start.may_follow old.latest) g.N.Start.may_say o p log frame trail before now c.in-Err.log (c.in-Err.ensures.broken).0 c.in-Err.ensures.after fits in
     told_on (g.N.Start.may_follow old.latest) g.N.Start.may_say o p before now old.ways.items way trail told old.cut _ c.requires.sound.apart c.requires.sound.count c.requires.place (c.requires.sound.uncut c.requires.going) stood path breaks)
@@ -85,12 +85,6 @@ returns-in-Ok-clause-ok g c =
     let p = c.args.part in
     let way = ways.Resting c.in-Ok.log in
     ap stage_of (way_put _ _ p way (put_for _ _ _ p way c.take_way.ensures.rest c.put_way.ensures) (within _ _ _ c.requires.sound.count c.requires.place))
-
-pub returns-in-Ok-clause-others : goal.returns-in-Ok-clause-others
-returns-in-Ok-clause-others g c =
-    let p = c.args.part in
-    let way = ways.Resting c.in-Ok.log in
-    others_stay _ _ p way (put_for _ _ _ p way c.take_way.ensures.rest c.put_way.ensures)
 
 pub returns-in-Ok-clause-no_frame : goal.returns-in-Ok-clause-no_frame
 returns-in-Ok-clause-no_frame g c = ((λ is. absurd (ok_apart _ _ is)), (λ apart. absurd (apart (ap stage_of (sym c.in-Gated.ensures.way)))))
@@ -105,14 +99,8 @@ returns-in-Ok-clause-halted g c = record {
 pub returns-in-Err-clause-frame : goal.returns-in-Err-clause-frame
 returns-in-Err-clause-frame g c =
     let p = c.args.part in
-    let way = ways.Broken c.in-Err.log c.in-Gated.frame in
+    let way = ways.BrokenGate c.in-Err.log c.in-Gated.frame in
     ap going_in (way_put _ _ p way (put_for _ _ _ p way c.take_way.ensures.rest c.put_way-in-Err.ensures) (within _ _ _ c.requires.sound.count c.requires.place)) ∙ ap going_in c.in-Gated.ensures.way
-
-pub returns-in-Err-clause-others : goal.returns-in-Err-clause-others
-returns-in-Err-clause-others g c =
-    let p = c.args.part in
-    let way = ways.Broken c.in-Err.log c.in-Gated.frame in
-    others_stay _ _ p way (put_for _ _ _ p way c.take_way.ensures.rest c.put_way-in-Err.ensures)
 
 pub returns-in-Err-clause-no_frame : goal.returns-in-Err-clause-no_frame
 returns-in-Err-clause-no_frame g c = ((λ is. absurd (fault_no_frame _ refl is)), (λ apart. absurd (apart (ap stage_of (sym c.in-Gated.ensures.way)))))
@@ -124,41 +112,20 @@ returns-in-Err-clause-halted g c = record {
   risen = λ is. c.in-Err.ensures.cause.risen;
 }
 
-pub returns-in-Ok-clause-tells : goal.returns-in-Ok-clause-tells
-returns-in-Ok-clause-tells g c = c.settle.ensures.tells
-
 pub returns-in-Ok-clause-no_trail : goal.returns-in-Ok-clause-no_trail
 returns-in-Ok-clause-no_trail g c = tt
 
 pub returns-in-Ok-clause-frame : goal.returns-in-Ok-clause-frame
 returns-in-Ok-clause-frame g c = tt
 
-pub returns-in-Ok-clause-said : goal.returns-in-Ok-clause-said
-returns-in-Ok-clause-said g c = refl
-
 pub returns-in-Ok-clause-unchanged : goal.returns-in-Ok-clause-unchanged
 returns-in-Ok-clause-unchanged g c = λ is. absurd (ok_apart _ _ is)
-
-pub returns-in-Ok-clause-segment : goal.returns-in-Ok-clause-segment
-returns-in-Ok-clause-segment g c = refl
-
-pub returns-in-Ok-clause-latest : goal.returns-in-Ok-clause-latest
-returns-in-Ok-clause-latest g c = refl
-
-pub returns-in-Ok-clause-whole : goal.returns-in-Ok-clause-whole
-returns-in-Ok-clause-whole g c = refl
 
 pub returns-in-Ok-clause-still : goal.returns-in-Ok-clause-still
 returns-in-Ok-clause-still g c = c.requires.going
 
 pub returns-in-Ok-clause-halts : goal.returns-in-Ok-clause-halts
 returns-in-Ok-clause-halts g c = λ is. absurd (ok_apart _ _ is)
-
-pub returns-in-Ok-clause-say_faults : goal.returns-in-Ok-clause-say_faults
-returns-in-Ok-clause-say_faults g c = c.settle.ensures.say_faults
-
-pub returns-in-Err-clause-tells : goal.returns-in-Err-clause-tells
-returns-in-Err-clause-tells g c = c.settle.ensures.tells
 
 pub returns-in-Err-clause-ok : goal.returns-in-Err-clause-ok
 returns-in-Err-clause-ok g c = tt
@@ -169,20 +136,8 @@ returns-in-Err-clause-trail g c = tt
 pub returns-in-Err-clause-no_trail : goal.returns-in-Err-clause-no_trail
 returns-in-Err-clause-no_trail g c = refl
 
-pub returns-in-Err-clause-said : goal.returns-in-Err-clause-said
-returns-in-Err-clause-said g c = refl
-
 pub returns-in-Err-clause-unchanged : goal.returns-in-Err-clause-unchanged
 returns-in-Err-clause-unchanged g c = λ is. absurd (fault_no_frame _ refl is)
-
-pub returns-in-Err-clause-segment : goal.returns-in-Err-clause-segment
-returns-in-Err-clause-segment g c = refl
-
-pub returns-in-Err-clause-latest : goal.returns-in-Err-clause-latest
-returns-in-Err-clause-latest g c = refl
-
-pub returns-in-Err-clause-whole : goal.returns-in-Err-clause-whole
-returns-in-Err-clause-whole g c = refl
 
 pub returns-in-Err-clause-still : goal.returns-in-Err-clause-still
 returns-in-Err-clause-still g c = tt
@@ -190,26 +145,8 @@ returns-in-Err-clause-still g c = tt
 pub returns-in-Err-clause-halts : goal.returns-in-Err-clause-halts
 returns-in-Err-clause-halts g c = λ is. refl
 
-pub returns-in-Err-clause-say_faults : goal.returns-in-Err-clause-say_faults
-returns-in-Err-clause-say_faults g c = c.settle.ensures.say_faults
-
-pub returns-then-ne-clause-tells : goal.returns-then-ne-clause-tells
-returns-then-ne-clause-tells g c = λ t. t
-
 pub returns-then-ne-clause-sound : goal.returns-then-ne-clause-sound
 returns-then-ne-clause-sound g c = c.requires.sound
-
-pub returns-then-ne-clause-segment : goal.returns-then-ne-clause-segment
-returns-then-ne-clause-segment g c = refl
-
-pub returns-then-ne-clause-latest : goal.returns-then-ne-clause-latest
-returns-then-ne-clause-latest g c = refl
-
-pub returns-then-ne-clause-whole : goal.returns-then-ne-clause-whole
-returns-then-ne-clause-whole g c = refl
-
-pub returns-then-ne-clause-say_faults : goal.returns-then-ne-clause-say_faults
-returns-then-ne-clause-say_faults g c = refl
 
 pub returns-then-ne-clause-ok : goal.returns-then-ne-clause-ok
 returns-then-ne-clause-ok g c = tt
@@ -223,12 +160,6 @@ returns-then-ne-clause-no_trail g c = refl
 pub returns-then-ne-clause-frame : goal.returns-then-ne-clause-frame
 returns-then-ne-clause-frame g c = refl
 
-pub returns-then-ne-clause-said : goal.returns-then-ne-clause-said
-returns-then-ne-clause-said g c = refl
-
-pub returns-then-ne-clause-others : goal.returns-then-ne-clause-others
-returns-then-ne-clause-others g c = λ other apart. refl
-
 pub returns-then-ne-clause-unchanged : goal.returns-then-ne-clause-unchanged
 returns-then-ne-clause-unchanged g c = λ is. refl
 
@@ -240,3 +171,48 @@ returns-then-ne-clause-halts g c = λ is. absurd (fault_no_frame _ is refl)
 
 pub returns-then-ne-clause-halted : goal.returns-then-ne-clause-halted
 returns-then-ne-clause-halted g c = record { later = le_refl _; same = λ is. refl; risen = λ is. absurd (true_apart (sym is ∙ c.requires.going)) }
+
+pub returns-in-Ok-clause-keeps : goal.returns-in-Ok-clause-keeps
+returns-in-Ok-clause-keeps g c =
+    let p = c.args.part in
+    let way = ways.Resting c.in-Ok.log in
+    record {
+      tells = c.settle.ensures.tells;
+      others = others_stay _ _ p way (put_for _ _ _ p way c.take_way.ensures.rest c.put_way.ensures);
+      said = refl;
+      segment = refl;
+      latest = refl;
+      whole = refl;
+      later = c.settle.ensures.cause.later;
+      say_faults = c.settle.ensures.say_faults;
+    }
+
+pub returns-in-Ok-clause-broken : goal.returns-in-Ok-clause-broken
+returns-in-Ok-clause-broken g c is = absurd (ok_apart _ _ is)
+
+pub returns-in-Err-clause-keeps : goal.returns-in-Err-clause-keeps
+returns-in-Err-clause-keeps g c =
+    let p = c.args.part in
+    let way = ways.BrokenGate c.in-Err.log c.in-Gated.frame in
+    record {
+      tells = c.settle.ensures.tells;
+      others = others_stay _ _ p way (put_for _ _ _ p way c.take_way.ensures.rest c.put_way-in-Err.ensures);
+      said = refl;
+      segment = refl;
+      latest = refl;
+      whole = refl;
+      later = c.settle.ensures.cause.later;
+      say_faults = c.settle.ensures.say_faults;
+    }
+
+pub returns-in-Err-clause-broken : goal.returns-in-Err-clause-broken
+returns-in-Err-clause-broken g c is =
+    let p = c.args.part in
+    let way = ways.BrokenGate c.in-Err.log c.in-Gated.frame in
+    ap stage_of (way_put _ _ p way (put_for _ _ _ p way c.take_way.ensures.rest c.put_way-in-Err.ensures) (within _ _ _ c.requires.sound.count c.requires.place))
+
+pub returns-then-ne-clause-keeps : goal.returns-then-ne-clause-keeps
+returns-then-ne-clause-keeps g c = keeps_still c.args.part c.args.self.now
+
+pub returns-then-ne-clause-broken : goal.returns-then-ne-clause-broken
+returns-then-ne-clause-broken g c is = absurd (fault_no_frame _ is refl)

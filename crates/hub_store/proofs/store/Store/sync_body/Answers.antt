@@ -13,7 +13,7 @@ use Rattle.hub_store.proofs.Bodies.{way_put, fault_no_frame, true_apart, within}
 use Rattle.hub_store.proofs.Calls.{sync_goes}
 use Rattle.hub_store.proofs.Shortness.{still_short}
 use Rattle.hub_store.proofs.Standing.{told_on}
-use Rattle.hub_store.proofs.Stores.{put_for, others_stay, sound_on, with_frame}
+use Rattle.hub_store.proofs.Stores.{put_for, others_stay, keeps_still, sound_on, with_frame}
 use Rattle.hub_store.proofs.store.Store.sync_body.Goals as goal
 
 pub returns-clause-sound : goal.returns-clause-sound
@@ -50,12 +50,6 @@ returns-clause-frame g c =
     ap going_in (way_put _ _ p way (put_for _ _ _ p way c.take_way.ensures.rest c.put_way.ensures) (within _ _ _ c.requires.sound.count c.requires.place))
     ∙ c.sync_log-way.ensures.going ∙ ap going_in c.in-Bodied.ensures.way
 
-pub returns-clause-only : goal.returns-clause-only
-returns-clause-only g c =
-    let p = c.args.part in
-    let way = c.sync_log-way.result.0 in
-    record { trail = refl; told = refl; others = others_stay _ _ p way (put_for _ _ _ p way c.take_way.ensures.rest c.put_way.ensures) }
-
 pub returns-clause-no_frame : goal.returns-clause-no_frame
 returns-clause-no_frame g c = (
   (λ is. let other = subst (λ r. OnErr r (r ≡ Err SiteFault)) is c.sync_log-way.ensures.err in absurd (fault_no_frame _ other refl)),
@@ -65,47 +59,14 @@ returns-clause-no_frame g c = (
 pub returns-clause-unchanged : goal.returns-clause-unchanged
 returns-clause-unchanged g c is = let other = subst (λ r. OnErr r (r ≡ Err SiteFault)) is c.sync_log-way.ensures.err in absurd (fault_no_frame _ other refl)
 
-pub returns-clause-tells : goal.returns-clause-tells
-returns-clause-tells g c = c.sync_log-way.ensures.tells
-
-pub returns-clause-segment : goal.returns-clause-segment
-returns-clause-segment g c = refl
-
-pub returns-clause-latest : goal.returns-clause-latest
-returns-clause-latest g c = refl
-
-pub returns-clause-whole : goal.returns-clause-whole
-returns-clause-whole g c = refl
-
-pub returns-clause-say_faults : goal.returns-clause-say_faults
-returns-clause-say_faults g c = c.sync_log-way.ensures.say_faults
-
-pub returns-then-ne-clause-tells : goal.returns-then-ne-clause-tells
-returns-then-ne-clause-tells g c = λ t. t
-
 pub returns-then-ne-clause-sound : goal.returns-then-ne-clause-sound
 returns-then-ne-clause-sound g c = c.requires.sound
-
-pub returns-then-ne-clause-segment : goal.returns-then-ne-clause-segment
-returns-then-ne-clause-segment g c = refl
-
-pub returns-then-ne-clause-latest : goal.returns-then-ne-clause-latest
-returns-then-ne-clause-latest g c = refl
-
-pub returns-then-ne-clause-whole : goal.returns-then-ne-clause-whole
-returns-then-ne-clause-whole g c = refl
-
-pub returns-then-ne-clause-say_faults : goal.returns-then-ne-clause-say_faults
-returns-then-ne-clause-say_faults g c = refl
 
 pub returns-then-ne-clause-ok : goal.returns-then-ne-clause-ok
 returns-then-ne-clause-ok g c = tt
 
 pub returns-then-ne-clause-frame : goal.returns-then-ne-clause-frame
 returns-then-ne-clause-frame g c = refl
-
-pub returns-then-ne-clause-only : goal.returns-then-ne-clause-only
-returns-then-ne-clause-only g c = record { trail = refl; told = refl; others = λ other apart. refl }
 
 pub returns-then-ne-clause-unchanged : goal.returns-then-ne-clause-unchanged
 returns-then-ne-clause-unchanged g c = λ is. refl
@@ -118,3 +79,37 @@ returns-then-ne-clause-halts g c = λ is. absurd (fault_no_frame _ is refl)
 
 pub returns-then-ne-clause-halted : goal.returns-then-ne-clause-halted
 returns-then-ne-clause-halted g c = record { later = le_refl _; same = λ is. refl; risen = λ is. absurd (true_apart (sym is ∙ c.requires.going)) }
+
+pub returns-clause-keeps : goal.returns-clause-keeps
+returns-clause-keeps g c =
+    let p = c.args.part in
+    let way = c.sync_log-way.result.0 in
+    record {
+      tells = c.sync_log-way.ensures.tells;
+      others = others_stay _ _ p way (put_for _ _ _ p way c.take_way.ensures.rest c.put_way.ensures);
+      said = refl;
+      segment = refl;
+      latest = refl;
+      whole = refl;
+      later = c.sync_log-way.ensures.cause.later;
+      say_faults = c.sync_log-way.ensures.say_faults;
+    }
+
+pub returns-clause-trail : goal.returns-clause-trail
+returns-clause-trail g c = refl
+
+pub returns-clause-broken : goal.returns-clause-broken
+returns-clause-broken g c is =
+    let p = c.args.part in
+    let way = c.sync_log-way.result.0 in
+    ap stage_of (way_put _ _ p way (put_for _ _ _ p way c.take_way.ensures.rest c.put_way.ensures) (within _ _ _ c.requires.sound.count c.requires.place))
+    ∙ subst (λ r. OnErr r (stage_of way ≡ stages.BrokenBody)) is c.sync_log-way.ensures.broken
+
+pub returns-then-ne-clause-keeps : goal.returns-then-ne-clause-keeps
+returns-then-ne-clause-keeps g c = keeps_still c.args.part c.args.self.now
+
+pub returns-then-ne-clause-trail : goal.returns-then-ne-clause-trail
+returns-then-ne-clause-trail g c = refl
+
+pub returns-then-ne-clause-broken : goal.returns-then-ne-clause-broken
+returns-then-ne-clause-broken g c is = absurd (fault_no_frame _ is refl)

@@ -1,5 +1,5 @@
 use Rattle.std.proofs.Common.{refl}
-use Rattle.part_items.specs.Plain.{next_of}
+use Rattle.part_items.specs.Numbered.{next_of}
 use Rattle.part_items.proofs.NextEntries.{begun, not_begun, few}
 use Rattle.part_items.proofs.numbered.FrameReader.begin.Goals as goal
 

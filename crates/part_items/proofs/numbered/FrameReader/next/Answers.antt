@@ -1,5 +1,6 @@
 use Rattle.std.proofs.Common.{◌≡◌, ◌+◌, ◌-◌, ◌<◌, refl, arith}
-use Rattle.part_items.specs.Plain.{entry_of, next_of}
+use Rattle.log_items.specs.Plain.{entry_of}
+use Rattle.part_items.specs.Numbered.{next_of}
 use Rattle.part_items.proofs.NextEntries.{taken, first_stops, at_end, is_next}
 use Rattle.part_items.proofs.numbered.FrameReader.next.Goals as goal
 

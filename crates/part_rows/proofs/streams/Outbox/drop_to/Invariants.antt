@@ -1,5 +1,5 @@
 use Rattle.std.proofs.Common.{◌≡◌, ◌≤◌, ◌+◌, ◌-◌, length}
-use Rattle.dura_model.specs.Partition.{begins_at}
+use Rattle.log_items.specs.Streams.{begins_at}
 use Rattle.part_rows.specs.Views.{outbox_of}
 use Rattle.part_rows.proofs.streams.Outbox.drop_to.Given as goal
 

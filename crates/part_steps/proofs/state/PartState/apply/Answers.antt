@@ -1,6 +1,6 @@
 use Rattle.std.proofs.Common.{Option, subst}
 use Rattle.dura_value.specs.declared.outputs.Outputs.{Outputs}
-use Rattle.part_items.specs.Plain.{item_of}
+use Rattle.log_items.specs.Plain.{item_of}
 use Rattle.dura_model.specs.Partition.{accepted}
 use Rattle.part_rows.specs.Parts.{part_of}
 use Rattle.part_steps.specs.Applied.{Applied}

@@ -1,0 +1,10 @@
+pub mod Stay
+pub mod Stands
+pub mod SameMessages
+pub mod Floors
+pub mod Tested
+pub mod Boxes
+pub mod Going
+pub mod Losing
+pub mod Commutes
+pub mod Rooms

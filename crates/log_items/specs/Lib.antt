@@ -1,0 +1,4 @@
+pub mod Entries
+pub mod Plain
+pub mod Readings
+pub mod Streams
