@@ -1,22 +1,28 @@
 //! The command `netherite`: the real outside that it hands to the engine, and how it ends.
 #![tactic(auto)]
 
-ghost use Rattle.std.specs.Prelude.{◌≡◌, ◌⊎◌, IfOk, IfErr, MatchResult, None, Ok};
+ghost use Rattle.std.specs.Prelude.{◌≡◌, ◌⊎◌, [], IfOk, IfErr, MatchResult, None, Ok};
 ghost use Rattle.std.specs.Process.{exit_status};
 ghost use Rattle.cli_call.specs.Call.{cause_of};
 ghost use Rattle.command_words.specs.Command.{call_in};
 ghost use Rattle.run_causes.specs.Causes.{status_of};
+ghost use Rattle.site_host.specs.Host.{events_of};
 
 use activity_table::Table;
 use cli_call::{Call, CallError, Findings, call_from, ending, look};
 use engine_run::run_recorded;
 use run_causes::Cause;
 use site_calls::{CalledSite, Fault, Reason, Start, Unknown};
-use site_host::{Host, WallClock};
+use site_host::{Helpers, Host, WallClock};
+use std::alloc::AllocError;
 use std::env;
 use std::process::ExitCode;
 use std::sync::Wait;
 use std::thread::Threads;
+
+/// How many threads make files safe beside the main one. One partition, and a run has no more so far, has one file to
+/// make safe at a time.
+const HELPERS: u32 = 0;
 
 // A call that was made, and how it ended.
 #[derive(Drop)]
@@ -29,26 +35,27 @@ struct Ran {
 }
 
 fn main(rt: HostRuntime) -> ExitCode {
-    serve(&rt, rt, Unknown)
+    serve(rt, rt, Unknown)
 }
 
 // Runs the command on the real outside. No code can read `start`, so this is proved whatever the files held.
-fn serve<T: Threads + Wait + Sync, S: Start + Send>(
-    threads: &T,
-    rt: HostRuntime,
-    start: S,
-) -> ExitCode {
+fn serve<T, S: Start + Send>(threads: T, rt: HostRuntime, start: S) -> ExitCode
+where
+    T: Threads + Wait + Sync + Send + Copy + Drop + 'static,
+{
     let given = call_from(rt.alloc(), env::args(&rt));
     conclude(&rt, run_call(threads, rt, given, start))
 }
 
 // Runs a call, if there is one: its words, on its directory.
-fn run_call<T: Threads + Wait + Sync, S: Start + Send>(
-    threads: &T,
+fn run_call<T, S: Start + Send>(
+    threads: T,
     rt: HostRuntime,
     given: Result<Call, CallError>,
     start: S,
 ) -> Result<Ran, CallError>
+where
+    T: Threads + Wait + Sync + Send + Copy + Drop + 'static,
     ensures call { IfOk result (λ ran. given ≡ Ok ran.call) }
     ensures usage { IfOk result (λ ran. call_in ran.call.words.items ≡ None
         → (ran.cause ≡ Cause.Usage) ⊎ (ran.cause ≡ Cause.Memory)) }
@@ -61,12 +68,12 @@ fn run_call<T: Threads + Wait + Sync, S: Start + Send>(
         Ok(call) => call,
         Err(error) => return Err(error),
     };
-    let Ok(host) = Host::open(rt, rt.alloc(), call.directory.as_str()) else {
+    let Ok(host) = open_host(threads, rt, call.directory.as_str()) else {
         return Err(CallError::Memory);
     };
     let site = CalledSite::new(host, start);
     let clock = WallClock::new(rt);
-    let ended = run_recorded(threads, rt.alloc(), &call.words, site, clock, &Table);
+    let ended = run_recorded(&threads, rt.alloc(), &call.words, site, clock, &Table);
     let fault = ended.site.fault();
     let reason = ended.site.calls().reason();
     Ok(Ran {
@@ -75,6 +82,20 @@ fn run_call<T: Threads + Wait + Sync, S: Start + Send>(
         fault,
         reason,
     })
+}
+
+// The real directory, and the threads that help to make its files safe.
+fn open_host<T>(
+    threads: T,
+    rt: HostRuntime,
+    directory: &str,
+) -> Result<Host<HostRuntime, Helpers<T>>, AllocError>
+where
+    T: Threads + Wait + Copy + Send + Drop + 'static,
+    ensures { IfOk result (λ host. events_of host ≡ []) }
+{
+    let helpers = Helpers::start(threads, rt.alloc(), HELPERS)?;
+    Host::open(rt, rt.alloc(), directory, helpers)
 }
 
 // Ends as a call did, or for why there was none.

@@ -1,7 +1,7 @@
 -- Each write of each file began inside it.
 use Rattle.std.proofs.Common.{ℕ, ◌≤◌, List, ◌∷◌, length, ◌∙◌, ap}
 use Rattle.std.proofs.lemmas.Bool.{le-leb}
-use Rattle.site_model.specs.History.{Step, on, wrote, synced, changes_of, content_of, writes_inside, saying, AllInside}
+use Rattle.site_model.specs.History.{Step, on, wrote, synced, content_of, writes_inside, saying, AllInside}
 use Rattle.site_model.proofs.Paths.{inside_on, and_true}
 use Rattle.site_model.proofs.Tape.{changes_of-saying}
 

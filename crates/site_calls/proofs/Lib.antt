@@ -6,5 +6,6 @@ pub mod Inside
 pub mod PrintInParts
 pub mod ReadInParts
 pub mod Signals
+pub mod SyncsAtOnce
 pub mod Tells
 pub mod WriteInParts

@@ -3,7 +3,8 @@ use Rattle.std.proofs.Common.{◌≡◌, inl, inr, ℕ, ◌^◌, ◌<◌, ◌≤
 use Rattle.std.specs.Prelude.{IfOk, MatchResult}
 use Rattle.std.proofs.lemmas.Result.{IfOk-at_ok, MatchResult-at_ok}
 use Rattle.site_model.specs.History.{Step, content_of, AllInside}
-use Rattle.site_model.specs.Calls.{Writes, Syncs, Says}
+use Rattle.site_model.specs.Calls.{Writes, Syncs, SyncsAll, Says}
+use Rattle.site_model.proofs.Syncing.{length-syncing, inside_syncing}
 use Rattle.site_calls.specs.Events.{Event, Unseen, replay, IsHonest, Tells}
 use Rattle.site_calls.proofs.Inside.{inside_wrote, inside_synced, inside_said}
 use Rattle.site_calls.proofs.PrintInParts.{length-saying}
@@ -29,6 +30,9 @@ module _ {T E : Type 0} (result : Result T E) (old new : List Step) where
   pub syncs_longer : (file : ℕ) → Syncs file old new result → length old ≤ length new
   syncs_longer file syncs = elim syncs.either [ inl is ↦ omega (arith, ap length is) | inr same ↦ omega (arith, ap length same) ]
 
+  pub syncs_all_longer : (files : List ℕ) → SyncsAll files old new result → length old ≤ length new
+  syncs_all_longer files syncs = omega (arith, ap length syncs.steps, length-syncing (take syncs.count files) old)
+
   pub says_longer : (line : List ℕ) → Says line old new result → length old ≤ length new
   says_longer line says = omega (arith, ap length says.steps, length-saying (take says.count line) old)
 
@@ -43,6 +47,9 @@ module _ {T E : Type 0} (result : Result T E) (old new : List Step) where
     | inl is ↦ subst AllInside (sym is) (inside_synced file old before)
     | inr same ↦ subst AllInside (sym same) before
   ]
+
+  pub syncs_all_inside_still : (files : List ℕ) → SyncsAll files old new result → AllInside old → AllInside new
+  syncs_all_inside_still files syncs before = subst AllInside (sym syncs.steps) (inside_syncing (take syncs.count files) old before)
 
   pub says_inside_still : (line : List ℕ) → Says line old new result → AllInside old → AllInside new
   says_inside_still line says before = subst AllInside (sym says.steps) (inside_said (take says.count line) old before)

@@ -31,6 +31,11 @@ pub data Event : Type 0 where
   -- a call that prints failed, and printed nothing
   unprinted : Event
 
+-- the calls once each of these files was made safe, one by one
+abbrev pub flushing : List ℕ → List Event → List Event
+flushing [] events = events
+flushing (file ∷ files) events = flushing files (flushed file true ∷ events)
+
 -- What no answer tells: what each file held at the start, and what the call of a write that failed left, by the number
 -- of events before it.
 pub record Unseen : Type 0 where

@@ -1,14 +1,14 @@
 //! The calls of the system that a site makes, each of which is noted with its answer.
 
 ghost use Rattle.std.specs.Prelude.{◌≡◌, ◌+◌, ◌<◌, ◌≤◌, ◌∷◌, List, length, take, drop, false, true, is_ok, IfOk, MatchResult};
-ghost use Rattle.site_calls.specs.Events.{Event, Unseen, replay, found, made, measured, got, begun, put, lost, flushed, named, absent, printed, failed, unprinted};
+ghost use Rattle.site_calls.specs.Events.{Event, Unseen, replay, found, made, measured, got, begun, put, lost, flushed, flushing, named, absent, printed, failed, unprinted};
 
 use std::io;
 
 /// The calls of a directory's files and of standard output. A file's number says which it is.
 ///
-/// Each method makes at most one call of the system and notes it with its answer. It goes on after no short answer and
-/// after no signal: that is for the caller.
+/// Each method but `flush_files` makes at most one call of the system and notes it with its answer. It goes on after no
+/// short answer and after no signal: that is for the caller.
 pub trait Calls {
     /// The calls so far with their answers, the newest first.
     ghost events: { Self → List Event };
@@ -57,6 +57,13 @@ pub trait Calls {
     /// Makes safe what a file holds that was found or made.
     fn flush(&mut self, file: u32) -> io::Result<()>
         ensures { events self.new ≡ flushed file (is_ok result) ∷ events self.old };
+
+    /// Makes safe what several files hold that were found or made, by a call for each, in any order and some at once. It
+    /// comes back when all these calls did. Where one failed, this one alone is noted, so that none of the others counts.
+    fn flush_files(&mut self, files: &[u32]) -> Result<(), (u32, io::Error)>
+        ensures noted { MatchResult result
+            (λ _. events self.new ≡ flushing files.now (events self.old))
+            (λ failed. events self.new ≡ flushed failed.0 false ∷ events self.old) };
 
     /// Makes safe the names in the directory.
     fn flush_names(&mut self) -> io::Result<()>

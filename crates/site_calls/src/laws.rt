@@ -1,7 +1,7 @@
 // Laws of the definitions. Each is the contract of a function that does nothing.
 ghost use Rattle.std.specs.Prelude.{◌≡◌, ℕ, ◌<◌, ◌≤◌, List, [], ◌∷◌, ◌++◌, length, take, drop, true, false, Ok, Err};
-ghost use Rattle.site_model.specs.History.{Step, content_of};
-ghost use Rattle.site_calls.specs.Events.{Event, Unseen, found, failed, made, flushed, named, start_of, file_numbers, replay, IsHonest, Tells};
+ghost use Rattle.site_model.specs.History.{Step, content_of, syncing};
+ghost use Rattle.site_calls.specs.Events.{Event, Unseen, found, failed, made, flushed, flushing, named, start_of, file_numbers, replay, IsHonest, Tells};
 ghost use Rattle.site_calls.specs.Failures.{FailsByCall, is_disk_failure, disk_failures, say_failures};
 ghost use Rattle.site_calls.specs.Laws.{failed_events, answered_events, HasHonestAnswers, HoldsTwoBytes, honest_events, NoneIsHonest, SyncCounts, left_by, LeavesUnseen};
 
@@ -49,10 +49,13 @@ pub fn an_error_has_its_call()
         (Ok value) → ⊥ }
 {}
 
-/// A sync counts only where every name is safe and no sync has failed.
+/// A sync counts only where every name is safe and no sync has failed. There several count one by one.
 pub fn a_sync_counts_where_names_are_safe()
     ensures counts { (unseen : Unseen) (events : List Event) (file : ℕ)
         → SyncCounts file unseen events }
+    ensures several { (unseen : Unseen) (events : List Event) (files : List ℕ)
+        → (replay unseen events).loose ≡ false → (replay unseen events).broken ≡ false
+        → (replay unseen (flushing files events)).steps ≡ syncing files (replay unseen events).steps }
     ensures made { (unseen : Unseen) (events : List Event) (file : ℕ)
         → (replay unseen (made file ∷ events)).loose ≡ true }
     ensures named { (unseen : Unseen) (events : List Event)

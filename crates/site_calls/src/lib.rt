@@ -5,8 +5,8 @@
 //! - `calls`: the calls, and what no answer tells.
 //! - `fault`: how an error of the system becomes a counted fault.
 //! - `file_name`: which numbers are files, and their names.
-//! - `site`: the site. What it does at each call stands in `reading`, `writing`, `syncing` and `printing`, over calls
-//!   alone, which `again` makes again after a signal, and `known` is what it knows of its history.
+//! - `site`: the site. What it does at each call stands in `reading`, `writing`, `syncing`, `syncing_files` and
+//!   `printing`, over calls alone, which `again` makes again after a signal, and `known` is what it knows of its history.
 //! - `record`: the list of calls of an implementation, and `reason`: why a call failed, beside the system's error.
 //! - `laws`: what follows from the definitions.
 #![tactic(auto)]
@@ -23,6 +23,7 @@ mod reason;
 mod record;
 mod site;
 mod syncing;
+mod syncing_files;
 mod writing;
 
 pub use calls::{Calls, Start, Unknown};

@@ -1,7 +1,7 @@
 //! The list of calls of the system that an implementation made. Only clauses read it.
 ghost use Rattle.std.specs.Prelude.{◌≡◌, List, [], ◌∷◌};
 ghost use Rattle.std.specs.Borrow.{ftrue};
-ghost use Rattle.site_calls.specs.Events.{Event, found, made, measured, got, begun, put, lost, flushed, named, absent, printed, failed, unprinted};
+ghost use Rattle.site_calls.specs.Events.{Event, found, made, measured, got, begun, put, lost, flushed, flushing, named, absent, printed, failed, unprinted};
 ghost use Rattle.site_calls.specs.Notes.{event_of};
 
 use std::marker::{Model, PhantomData};
@@ -116,6 +116,15 @@ impl Record {
         ensures { self.new.events ≡ flushed file is_safe ∷ self.old.events }
     {
         self.note(&[FLUSHED, file as u64, u64::from(is_safe)], &[]);
+    }
+
+    /// The bytes of each of these files were to be made safe, and are.
+    pub fn flushed_all(&mut self, files: &[u32])
+        ensures { self.new.events ≡ flushing files.now self.old.events }
+    {
+        for file in files {
+            self.flushed(*file, true);
+        }
     }
 
     /// The names in the directory were to be made safe, and are or are not.

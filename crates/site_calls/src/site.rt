@@ -11,6 +11,7 @@ use crate::known::Known;
 use crate::printing::print_line;
 use crate::reading::{length_of, read_file};
 use crate::syncing::sync_file;
+use crate::syncing_files::sync_files;
 use crate::writing::write_file;
 use crate::{Calls, Start};
 use site_model::{Failed, Site};
@@ -121,6 +122,11 @@ impl<C: Calls, S: Start> Site for CalledSite<C, S> {
 
     fn sync(&mut self, file: u32) -> Result<(), Failed> {
         let outcome = sync_file(&mut self.calls, &mut self.known, file);
+        noted(outcome, &mut self.disk_faults, &mut self.fault)
+    }
+
+    fn sync_files(&mut self, files: &[u32]) -> Result<(), Failed> {
+        let outcome = sync_files(&mut self.calls, &mut self.known, files);
         noted(outcome, &mut self.disk_faults, &mut self.fault)
     }
 

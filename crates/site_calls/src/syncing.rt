@@ -61,7 +61,7 @@ fn make_safe<C: Calls>(calls: &mut C, known: &mut Known, file: u32) -> Result<()
 }
 
 /// Makes the names safe where one is loose.
-fn secure_names<C: Calls>(calls: &mut C, known: &mut Known) -> Result<(), Fault>
+pub(crate) fn secure_names<C: Calls>(calls: &mut C, known: &mut Known) -> Result<(), Fault>
     ensures tells { StaysHonest (C.events calls.old) (C.events calls.new) }
     ensures known { (unseen : Unseen) → Knows known.old (replay unseen (C.events calls.old))
         → Knows known.new (replay unseen (C.events calls.new)) }

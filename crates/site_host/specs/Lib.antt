@@ -1,1 +1,2 @@
+pub mod Flush
 pub mod Host

@@ -1,6 +1,8 @@
 // A directory that is held for the run, and its files, each opened once and kept open.
-ghost use Rattle.std.specs.Prelude.{◌≡◌, ◌<◌, ◌≤◌, length, IfOk, Ok};
+ghost use Rattle.std.specs.Prelude.{◌≡◌, ◌<◌, ◌≤◌, length, true, IfOk, OnOk, Ok};
+ghost use Rattle.site_host.specs.Flush.{is_safe};
 
+use crate::flush::{FileSlot, Flush};
 use site_calls::{FileName, Reason};
 use std::alloc::{AllocError, Global};
 use std::fmt::Display;
@@ -9,13 +11,15 @@ use std::io::ErrorKind;
 use std::os::fd::AsRawFd;
 use std::os::unix::fs::{FileExt, MetadataExt};
 use std::rt::Files;
+use std::sync::{Arc, OnceLock};
 use std::{fs, io};
+use task_pool::Task;
 
 /// Room for the longest name of a file and the slash before it.
 const NAME_ROOM: usize = 16;
 
 /// As many files as there are names.
-const FILES_LIMIT: usize = 131;
+pub(crate) const FILES_LIMIT: usize = 131;
 
 /// A directory, with its lock and those of its files that were found or made.
 #[derive(Drop)]
@@ -25,6 +29,8 @@ pub(crate) struct Directory<R> {
     // the path of what is being opened, in memory that was set aside when the directory was
     file_path: String,
     files: Vec<OpenFile>,
+    // one for each file that isn't open yet
+    slots: Vec<FileSlot>,
     // what stands in for the standard streams that are closed
     stand_ins: Vec<File>,
     // open and locked, once it was there
@@ -40,7 +46,8 @@ pub(crate) struct Directory<R> {
 #[derive(Drop)]
 struct OpenFile {
     name: FileName,
-    file: File,
+    // with the file, since it was opened
+    slot: FileSlot,
     // the device and the file's number there, of a file that was found
     identity: Option<(u64, u64)>,
     // why the file can't be written
@@ -59,6 +66,7 @@ impl<R> Directory<R> {
             path: String::from_str(alloc, path)?,
             file_path: String::with_capacity(alloc, path.len() + NAME_ROOM)?,
             files: Vec::with_capacity(alloc, FILES_LIMIT)?,
+            slots: empty_slots(alloc)?,
             stand_ins: Vec::with_capacity(alloc, 3)?,
             folder: None,
             names_are_safe: false,
@@ -74,15 +82,41 @@ impl<R> Directory<R> {
         found.ok_or(io::Error::from(ErrorKind::NotFound))
     }
 
+    fn opened(&self, number: u32) -> io::Result<&File> {
+        let OpenFile { slot, .. } = self.file(number)?;
+        slot.get().ok_or(io::Error::from(ErrorKind::NotFound))
+    }
+
+    // Keeps a file that was opened.
+    fn keep(
+        &mut self,
+        name: FileName,
+        file: File,
+        identity: Option<(u64, u64)>,
+        refusal: Option<io::Error>,
+    ) -> io::Result<()> {
+        let Some(slot) = self.slots.pop() else {
+            return Err(io::Error::from(ErrorKind::OutOfMemory));
+        };
+        let _ = slot.try_set(file);
+        self.files.push(OpenFile {
+            name,
+            slot,
+            identity,
+            refusal,
+        })?;
+        Ok(())
+    }
+
     pub(crate) fn measure(&self, number: u32) -> io::Result<u64> {
-        Ok(self.file(number)?.file.metadata()?.len())
+        Ok(self.opened(number)?.metadata()?.len())
     }
 
     /// Reads some bytes, and says how many.
     pub(crate) fn read(&self, number: u32, at: u64, out: &mut [u8]) -> io::Result<usize>
         ensures { IfOk result (λ count. count ≤ length out.old) }
     {
-        self.file(number)?.file.read_at(out, at)
+        self.opened(number)?.read_at(out, at)
     }
 
     /// Writes some of the bytes, and says how many.
@@ -90,15 +124,28 @@ impl<R> Directory<R> {
         ensures some { IfOk result (λ count. 0 < count) }
         ensures count { IfOk result (λ count. count ≤ length bytes.now) }
     {
-        let OpenFile { file, refusal, .. } = self.file(number)?;
-        if let Some(refusal) = refusal {
-            return Err(*refusal);
+        if let Some(refusal) = self.file(number)?.refusal {
+            return Err(refusal);
         }
-        unless_nothing(file.write_at(bytes, at))
+        unless_nothing(self.opened(number)?.write_at(bytes, at))
     }
 
-    pub(crate) fn sync(&self, number: u32) -> io::Result<()> {
-        self.file(number)?.file.sync_all()
+    /// Makes a file safe in this round.
+    pub(crate) fn sync(&self, round: u64, number: u32) -> io::Result<()>
+        ensures { OnOk result (is_safe round number ≡ true) }
+    {
+        match self.to_flush(number) {
+            Ok(flush) => flush.run(round),
+            Err(error) => Err(error),
+        }
+    }
+
+    /// The file, for a thread that is to make it safe.
+    pub(crate) fn to_flush(&self, number: u32) -> io::Result<Flush>
+        ensures { IfOk result (λ flush. flush.number ≡ number) }
+    {
+        let slot = Arc::try_clone(&self.file(number)?.slot)?;
+        Ok(Flush { number, slot })
     }
 
     pub(crate) fn sync_names(&self) -> io::Result<()> {
@@ -168,13 +215,7 @@ impl<R: Files<File = File>> Directory<R> {
         self.point_to(name)?;
         let file = File::create_new(&self.rt, self.file_path.as_str())?;
         self.hold(&file)?;
-        self.files.push(OpenFile {
-            name,
-            file,
-            identity: None,
-            refusal: None,
-        })?;
-        Ok(())
+        self.keep(name, file, None, None)
     }
 
     // Opens and locks the directory, if it is there.
@@ -245,14 +286,16 @@ impl<R: Files<File = File>> Directory<R> {
             self.hold(&file)?;
         }
         self.make_safe(&file)?;
-        self.files.push(OpenFile {
-            name,
-            file,
-            identity,
-            refusal,
-        })?;
-        Ok(())
+        self.keep(name, file, identity, refusal)
     }
+}
+
+fn empty_slots(alloc: Global) -> Result<Vec<FileSlot>, AllocError> {
+    let mut slots = Vec::with_capacity(alloc, FILES_LIMIT)?;
+    for _ in 0..FILES_LIMIT {
+        slots.push(Arc::new(alloc, OnceLock::new())?)?;
+    }
+    Ok(slots)
 }
 
 // What there is at a path. A call that a signal cuts off is made again.

@@ -1,6 +1,6 @@
 -- The history that a record says.
-use Rattle.std.specs.Prelude.{◌≡◌, true, ℕ, List, [], ◌∷◌, ◌++◌}
-use Rattle.site_model.specs.History.{Step, on, said, wrote, synced, changes_of, writes_inside}
+use Rattle.std.specs.Prelude.{ℕ, List, [], ◌∷◌, ◌++◌}
+use Rattle.site_model.specs.History.{Step, on, said, wrote, synced}
 use Rattle.site_memory.specs.declared.kept.Kept.{Kept}
 use Rattle.site_memory.specs.declared.kept.Kept.TheVariants.{Wrote, Byte, Synced, Said}
 

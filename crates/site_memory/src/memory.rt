@@ -1,6 +1,7 @@
 // The site in memory.
 ghost use Rattle.std.specs.Prelude.{◌≡◌, ◌⊎◌, ◌+◌, ◌≤◌, ◌<◌, ◌∷◌, [], ℕ, length, IfOk, OnOk, OnErr};
 ghost use Rattle.site_model.specs.History.{IsImage, IsKept, on, wrote, synced, changes_of, content_of, tape, back_to};
+ghost use Rattle.site_model.specs.Calls.{HasCause, Syncs};
 ghost use Rattle.site_memory.specs.Picked.{picked};
 ghost use Rattle.site_memory.specs.Record.{history_of};
 ghost use Rattle.site_memory.specs.declared.plan.Kind.{Kind};
@@ -21,6 +22,9 @@ use std::alloc::{AllocError, Global};
 /// A listed call fails and is counted as a fault. A listed write is kept as if written and not synced, a listed line
 /// leaves its first half on the tape, and a listed sync does nothing. A call past the room fails too, and keeps
 /// nothing. A read goes through the whole record.
+///
+/// A call that syncs several files counts as one sync for each, one after another, and ends at the first that fails. So
+/// a test that lists a sync finds each prefix of the files synced.
 #[derive(Drop)]
 pub struct MemorySite {
     record: Record,
@@ -150,6 +154,25 @@ impl MemorySite {
     {
         self.plan.calls(kind)
     }
+
+    // Syncs a file, unless this call is listed or there is no room.
+    fn sync_one(&mut self, file: u32) -> Result<(), Failed>
+        ensures done { Syncs file (memory_history self.old) (memory_history self.new) result }
+        ensures cause { HasCause (memory_disk_faults self.old) (memory_disk_faults self.new) result }
+        ensures say_faults { memory_say_faults self.new ≡ memory_say_faults self.old }
+    {
+        if self.plan.call(Kind::Sync) {
+            self.disk_faults = raised(self.disk_faults);
+            return Err(Failed);
+        }
+        match self.record.sync(file) {
+            Ok(()) => Ok(()),
+            Err(failed) => {
+                self.disk_faults = raised(self.disk_faults);
+                Err(failed)
+            }
+        }
+    }
 }
 
 impl Site for MemorySite {
@@ -201,17 +224,17 @@ impl Site for MemorySite {
     }
 
     fn sync(&mut self, file: u32) -> Result<(), Failed> {
-        if self.plan.call(Kind::Sync) {
-            self.disk_faults = raised(self.disk_faults);
-            return Err(Failed);
-        }
-        match self.record.sync(file) {
-            Ok(()) => Ok(()),
-            Err(failed) => {
-                self.disk_faults = raised(self.disk_faults);
-                Err(failed)
+        self.sync_one(file)
+    }
+
+    fn sync_files(&mut self, files: &[u32]) -> Result<(), Failed> {
+        for file in files {
+            match self.sync_one(*file) {
+                Ok(()) => {}
+                Err(failed) => return Err(failed),
             }
         }
+        Ok(())
     }
 
     fn say(&mut self, line: &[u8]) -> Result<(), Failed> {

@@ -1,4 +1,5 @@
 pub mod Faults
 pub mod Images
 pub mod Paths
+pub mod Syncing
 pub mod Tape

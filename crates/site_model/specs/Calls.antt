@@ -1,6 +1,6 @@
 -- What each call of the outside does to its history and its counts of faults.
 use Rattle.std.specs.Prelude.{◌≡◌, ◌⊎◌, ℕ, ◌+◌, ◌^◌, ◌<◌, ◌≤◌, ◌-◌, min, List, ◌∷◌, length, take, drop, Result, OnOk, OnErr}
-use Rattle.site_model.specs.History.{Step, on, wrote, synced, saying}
+use Rattle.site_model.specs.History.{Step, on, wrote, synced, saying, syncing}
 
 -- a count of faults rose, or had come to the last number that it can hold
 abbrev pub HasRisen : ℕ → ℕ → Type 0
@@ -28,6 +28,12 @@ pub record Writes {T E : Type 0} (file at : ℕ) (bytes : List ℕ) (old new : L
 pub record Syncs {T E : Type 0} (file : ℕ) (old new : List Step) (result : Result T E) : Type 0 where
   pub either : (new ≡ on file synced ∷ old) ⊎ (new ≡ old)
   pub ok : OnOk result (new ≡ on file synced ∷ old)
+
+-- One call syncs several files, each of which is one step. Where it failed, it may have synced a prefix of them.
+pub record SyncsAll {T E : Type 0} (files : List ℕ) (old new : List Step) (result : Result T E) : Type 0 where
+  pub count : ℕ
+  pub steps : new ≡ syncing (take count files) old
+  pub ok : OnOk result (new ≡ syncing files old)
 
 -- Each byte said is one step. Of a line that failed a front may stand.
 pub record Says {T E : Type 0} (line : List ℕ) (old new : List Step) (result : Result T E) : Type 0 where

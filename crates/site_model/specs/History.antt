@@ -77,6 +77,11 @@ abbrev pub saying : List ℕ → List Step → List Step
 saying [] steps = steps
 saying (byte ∷ bytes) steps = saying bytes (said byte ∷ steps)
 
+-- the history after each of these files was synced, one by one
+abbrev pub syncing : List ℕ → List Step → List Step
+syncing [] steps = steps
+syncing (file ∷ files) steps = syncing files (on file synced ∷ steps)
+
 -- The moment is the number of steps so far. This is the history at an earlier moment.
 abbrev pub back_to : ℕ → List Step → List Step
 back_to moment steps = drop (length steps - moment) steps

@@ -18,6 +18,6 @@ mod site;
 
 pub use clock::{Clock, LAST_STAMP};
 pub use front::{FrontError, read_front};
-pub use laws::what_a_read_gives_is_an_image;
+pub use laws::{syncs_leave_no_new_image, what_a_read_gives_is_an_image};
 pub use readings::Readings;
 pub use site::{Failed, Site};

@@ -1,7 +1,7 @@
 // The files and the tape.
 ghost use Rattle.std.specs.Prelude.{◌≡◌, true, ◌<◌, ◌≤◌, ℕ, List, length, IfOk, OnOk};
 ghost use Rattle.site_model.specs.History.{Step, changes_of, content_of, writes_inside};
-ghost use Rattle.site_model.specs.Calls.{HasCause, Reads, Writes, Syncs, Says};
+ghost use Rattle.site_model.specs.Calls.{HasCause, Reads, Writes, Syncs, SyncsAll, Says};
 
 use std::fmt;
 
@@ -73,6 +73,14 @@ pub trait Site {
     fn sync(&mut self, file: u32) -> Result<(), Failed>
         ensures tells { tells self.new → tells self.old }
         ensures done { Syncs file (history self.old) (history self.new) result }
+        ensures cause { HasCause (disk_faults self.old) (disk_faults self.new) result }
+        ensures say_faults { say_faults self.new ≡ say_faults self.old };
+
+    /// Makes several files safe by one wait, in which the disk may take them in any order. After it, a crash leaves of
+    /// each what a read gives. One that failed may have made safe a prefix of them.
+    fn sync_files(&mut self, files: &[u32]) -> Result<(), Failed>
+        ensures tells { tells self.new → tells self.old }
+        ensures done { SyncsAll files.now (history self.old) (history self.new) result }
         ensures cause { HasCause (disk_faults self.old) (disk_faults self.new) result }
         ensures say_faults { say_faults self.new ≡ say_faults self.old };
 

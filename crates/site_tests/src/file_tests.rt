@@ -1,44 +1,45 @@
 // What no clause says: which bytes the disk gives, which names the files have, what is refused, and when a fault is
 // counted.
-ghost use Rattle.std.specs.Prelude.{◌≡◌, [], IfOk};
-
 use crate::transcript::{Line, World, answers, check};
 use site_calls::{CalledSite, Calls, FileName, Reason, Unknown};
-use site_host::Host;
+use site_host::{FlushMany, Helpers, Host};
 use std::alloc::{AllocError, Global};
 use std::fs;
 use std::fs::{File, Permissions};
 use std::os::unix::fs::PermissionsExt;
-use std::rt::Files;
+use std::process::Abort;
+use std::rt::{Clock, Files};
+use std::sync::Wait;
+use std::thread::Threads;
+
+/// How many threads help each site.
+const HELPERS: u32 = 2;
 
 /// The directory, in the one where the tests run.
 const DIRECTORY: &str = "trial";
 
-type Disk = CalledSite<Host<HostRuntime>, Unknown>;
+type Disk<R> = CalledSite<Host<R, Helpers<R>>, Unknown>;
 
-/// Calls on the directory, where nothing is opened before the first one.
-trait Opened<R>: Calls {
-    fn open(rt: R, alloc: Global) -> Result<Self, AllocError>
-        ensures { IfOk result (λ calls. Self.events calls ≡ []) };
-
+/// Calls on a directory.
+trait OnDisk: Calls {
     /// Why the last call failed, where the system's error doesn't tell it.
     fn why(&self) -> Option<Reason>;
 }
 
-impl<R: Files<File = File> + Print + Drop> Opened<R> for Host<R> {
-    fn open(rt: R, alloc: Global) -> Result<Host<R>, AllocError> {
-        Host::open(rt, alloc, DIRECTORY)
-    }
-
+impl<R: Files<File = File> + Print + Clock, H: FlushMany> OnDisk for Host<R, H> {
     fn why(&self) -> Option<Reason> {
         self.reason()
     }
 }
 
-fn new_site<C: Opened<HostRuntime>>(
-    host: &HostRuntime,
-) -> Result<CalledSite<C, Unknown>, AllocError> {
-    Ok(CalledSite::new(C::open(*host, host.alloc())?, Unknown))
+/// A site on the directory, where nothing is opened before the first call.
+fn new_site<R>(rt: R, alloc: Global) -> Result<Disk<R>, AllocError>
+where
+    R: Files<File = File> + Print + Clock + Threads + Wait + Copy + Send + Drop + 'static,
+{
+    let helpers = Helpers::start(rt, alloc, HELPERS)?;
+    let host = Host::open(rt, alloc, DIRECTORY, helpers)?;
+    Ok(CalledSite::new(host, Unknown))
 }
 
 fn has_text<R: Files + AllocGlobal>(rt: &R, file: &str, wanted: &str) -> bool {
@@ -72,7 +73,7 @@ fn is_for(reason: Option<Reason>, wanted: &str) -> bool {
     reason == Some(wanted)
 }
 
-impl<C: Opened<HostRuntime> + Drop> World for CalledSite<C, Unknown> {
+impl<C: OnDisk + Drop> World for CalledSite<C, Unknown> {
     fn is_right(&mut self, host: &HostRuntime, line: Line) -> bool {
         match line.verb {
             "come" => fs::create_dir(host, DIRECTORY).is_ok(),
@@ -80,19 +81,12 @@ impl<C: Opened<HostRuntime> + Drop> World for CalledSite<C, Unknown> {
             "file" => does_to_file(host, line.text),
             "reason" => is_for(self.calls().why(), line.text),
             "faults" => self.disk_faults() == line.first && self.say_faults() == line.second,
-            "visit" => match new_site(host) {
-                Ok(new) => {
-                    *self = new;
-                    true
-                }
-                Err(_) => false,
-            },
             _ => answers(self, line, 8),
         }
     }
 }
 
-/// A new site is called from each visit on. Each section has a new directory, which goes at its end.
+/// A new site is called behind each visit. Each section has a new directory, which goes at its end.
 const SITES: &str =
     "# keeps what was written. A file that isn't there reads nothing, and none of this makes it;
     come;
@@ -113,6 +107,28 @@ const SITES: &str =
     read 17 100;
     length 16 0;
     faults 0 0;
+    go;
+    visit;
+# makes several files safe at once, those that are there;
+    come;
+    write 16 a;
+    write 17 b;
+    write 20 c;
+    write 21 d;
+    write 24 e;
+    together 16,17,20,21,24;
+    together 16,24;
+    write 20 x;
+    together 16,19,20,21,24;
+    together 16,17,20,21,24,16,17,20,21,24;
+    faults 0 0;
+    fails together 16,3;
+    faults 1 0;
+    visit;
+    read 16 0 a;
+    read 20 0 x;
+    read 24 0 e;
+    length 19 0;
     go;
     visit;
 # names its files;
@@ -213,7 +229,6 @@ const SITES: &str =
     go;";
 
 const HOLDS: &str = "
-    visit;
     come;
     length 16 0;";
 
@@ -224,21 +239,35 @@ const LOCKED: &str = "
     fails sync 16;
     faults 3 0;";
 
+const WRITES: &str = "
+    write 16 held;";
+
 const HELD: &str = "
-    write 16 held;
-    visit;
     read 16 0 held;
     faults 0 0;
     go;";
+
+/// What stands between two visits is right, each time of a new site.
+fn check_visits<R>(rt: R, host: &HostRuntime, transcript: &'static str)
+where
+    R: Files<File = File> + Print + Clock + Threads + Wait + Copy + Send + Drop + 'static + Abort,
+{
+    for visit in transcript.split("visit;") {
+        let mut site = new_site(rt, host.alloc()).expect(&rt, "memory");
+        check(&rt, host, &mut site, visit.trim_end());
+    }
+}
 
 /// While one run holds the directory another fails. A run of the tests that failed may have left it.
 #[test]
 fn sites_over_a_directory(rt: HostRuntime) {
     let _ = fs::remove_dir_all(&rt, DIRECTORY);
-    let mut site: Disk = new_site(&rt).expect(&rt, "memory");
-    check(&rt, &rt, &mut site, SITES);
+    check_visits(rt, &rt, SITES);
+    let mut site = new_site(rt, rt.alloc()).expect(&rt, "memory");
     check(&rt, &rt, &mut site, HOLDS);
-    let mut other: Disk = new_site(&rt).expect(&rt, "memory");
+    let mut other = new_site(rt, rt.alloc()).expect(&rt, "memory");
     check(&rt, &rt, &mut other, LOCKED);
-    check(&rt, &rt, &mut site, HELD);
+    check(&rt, &rt, &mut site, WRITES);
+    drop(site);
+    check_visits(rt, &rt, HELD);
 }

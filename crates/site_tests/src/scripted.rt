@@ -1,4 +1,4 @@
-// Calls on one file in memory, which are cut short and fail where a script says so.
+// Calls on a file in memory, and on an empty one, which are cut short and fail where a script says so.
 ghost use Rattle.std.specs.Prelude.{◌≡◌, ◌+◌, ◌<◌, ◌≤◌, [], length, take, IfOk};
 
 use site_calls::{Calls, Record};
@@ -6,8 +6,11 @@ use std::alloc::Global;
 use std::io;
 use std::io::ErrorKind;
 
-/// The one file.
+/// The file that holds bytes once it is made.
 pub(crate) const FILE: u32 = 17;
+
+/// A file that is there from the start, without bytes.
+const EMPTY: u32 = 18;
 
 /// A call moves at most `most` bytes. The script has a word for each call to come: its name, with `:fails`, with `:cut`
 /// where a signal cuts it off, or with `:nothing` where it moves no byte. A call that isn't the next one fails, and so do
@@ -121,7 +124,7 @@ impl Calls for ScriptedCalls {
             self.record.failed(file);
             return Err(error);
         }
-        let is_there = file == FILE && self.is_there;
+        let is_there = file == EMPTY || file == FILE && self.is_there;
         self.record.found(file, is_there);
         Ok(is_there)
     }
@@ -196,6 +199,19 @@ impl Calls for ScriptedCalls {
         match answer {
             Ok(_) => Ok(()),
             Err(error) => Err(error),
+        }
+    }
+
+    fn flush_files(&mut self, files: &[u32]) -> Result<(), (u32, io::Error)> {
+        match self.call("flushes") {
+            Ok(_) => {
+                self.record.flushed_all(files);
+                Ok(())
+            }
+            Err(error) => {
+                self.record.flushed(FILE, false);
+                Err((FILE, error))
+            }
         }
     }
 

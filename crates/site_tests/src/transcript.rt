@@ -85,12 +85,28 @@ fn writes_inside(site: &mut impl Site, line: Line) -> bool {
     }
 }
 
+/// Of the files with these numbers, at most 16: `FILE,FILE..`, with a comma behind one alone.
+fn syncs_together(site: &mut impl Site, line: Line) -> bool {
+    let mut files = [0; 16];
+    let mut count = 0;
+    for word in line.text.split(',') {
+        if let Ok(file) = word.parse::<u32>()
+            && count < files.len()
+        {
+            files[count] = file;
+            count += 1;
+        }
+    }
+    site.sync_files(&files[..count.min(16)]).is_err() == line.fails
+}
+
 /// The call of this line that each site has. A write is at the file's start. A read asks for so many bytes, up to 16.
 pub(crate) fn answers(site: &mut impl Site, line: Line, room: usize) -> bool {
     let answer = match line.verb {
         "length" => return has_length(site, line),
         "read" => return reads(site, line, room),
         "inside" => return writes_inside(site, line),
+        "together" => return syncs_together(site, line),
         "write" => site.write(line.file, 0, line.bytes),
         "sync" => site.sync(line.file),
         "say" if !line.bytes.is_empty() => site.say(line.bytes),
