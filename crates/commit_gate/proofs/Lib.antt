@@ -8,3 +8,4 @@ pub mod Going
 pub mod Losing
 pub mod Commutes
 pub mod Rooms
+pub mod ReadMarks

@@ -1,6 +1,7 @@
 pub mod Keeping
 pub mod Ledgers
 pub mod Local
+pub mod Marking
 pub mod Met
 pub mod Refused
 pub mod Room

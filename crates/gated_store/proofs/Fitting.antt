@@ -33,6 +33,7 @@ module _ (count : ℕ) (ledgers : ℕ → List Entry → Ledger) (readers : ℕ 
       → (is_tried (new_stage p) ≡ true → IsMetAt ledgers trail p (new_going p)) → Fits count ledgers readers may_make latest trail told new_going new_stage (set list p ledger)
   fits_moved trail ledger below fits here made met = record {
     many = length-set list p ledger ∙ fits.many;
+    first = fits.first;
     grown = fits.grown;
     each = λ q r is. elim (cases_eq q p) [
       | inl same ↦
@@ -70,6 +71,7 @@ module _ (count : ℕ) (ledgers : ℕ → List Entry → Ledger) (readers : ℕ 
       subst (λ (g : Option (List Entry)). LedgerFits ledgers readers count p (of_part p now) g ledger) (sym rests) (subst (λ (l : List Entry). LedgerFits ledgers readers count p l None ledger) (sym (own_after trail p at mine)) here) in
       record {
         many = length-set list p ledger ∙ fits.many;
+        first = fits.first;
         grown = one_more latest told p at mine fits.grown (record { makes = makes; met = met });
         each = λ q r is. elim (cases_eq q p) [
           | inl same ↦

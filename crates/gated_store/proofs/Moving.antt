@@ -28,7 +28,7 @@ use Rattle.hub_store.specs.declared.way.Way.TheVariants as ways
 use Rattle.hub_store.specs.declared.way.Stage.{Stage}
 use Rattle.hub_store.specs.declared.way.Stage.TheVariants as stages
 use Rattle.gated_store.specs.Follows.{ledgers_at, GoesOnThere}
-use Rattle.gated_store.specs.Kept.{LedgerFits, IsMade, IsMetAt, Grown, Fits, count_under_way}
+use Rattle.gated_store.specs.Kept.{LedgerFits, IsMade, IsMetAt, Grown, AreRecovered, Fits, count_under_way}
 use Rattle.gated_store.specs.Kept.Grown.{nothing}
 use Rattle.gated_store.proofs.Fitting.{fits_moved, fits_settled}
 use Rattle.log_items.specs.Streams.{Sent}
@@ -137,6 +137,7 @@ module _ (count : ℕ) (ledgers : ℕ → List Entry → Ledger) (readers : ℕ 
       here : Fits count ledgers readers may_make latest trail told now_going now_stage list
       here = record {
         many = fits.many;
+        first = fits.first;
         grown = fits.grown;
         each = λ q r is. subst (λ (g : Option (List Entry)). LedgerFits ledgers readers count q (of_part q trail) g r) (sym (same q)) (fits.each q r is);
         made = λ q inside. subst (IsMade may_make latest (of_part q trail) told q) (sym (same q)) (fits.made q inside);
@@ -288,10 +289,11 @@ some_frame way entries (Some x) P is told none = cc none
 
 -- nothing was settled, and no frame is under way
 pub fits_first : (count : ℕ) (ledgers : ℕ → List Entry → Ledger) (readers : ℕ → ℕ → Identity) (may_make : ℕ → List Entry → List Said → ℕ → List Entry → Type 0) (latest : ℕ) (trail : List Settled) (told : List Said) (going : ℕ → Option (List Entry)) (stage : ℕ → Stage) (list : List declared.Ledger)
-    → length list ≡ count → trail ≡ [] → ((p : ℕ) → p < count → going p ≡ None) → ((p : ℕ) (ledger : declared.Ledger) → slice_get list p ≡ Some ledger → LedgerFits ledgers readers count p [] None ledger) → ((p : ℕ) → p < count → is_tried (stage p) ≡ true → ⊥)
+    → length list ≡ count → AreRecovered ledgers → trail ≡ [] → ((p : ℕ) → p < count → going p ≡ None) → ((p : ℕ) (ledger : declared.Ledger) → slice_get list p ≡ Some ledger → LedgerFits ledgers readers count p [] None ledger) → ((p : ℕ) → p < count → is_tried (stage p) ≡ true → ⊥)
     → Fits count ledgers readers may_make latest trail told going stage list
-fits_first count ledgers readers may_make latest trail told going stage list many first none fits rests = record {
+fits_first count ledgers readers may_make latest trail told going stage list many recovered first none fits rests = record {
   many = many;
+  first = recovered;
   grown = subst (Grown ledgers may_make) (sym first) nothing;
   each = λ p ledger there.
       let below : p < count = omega (arith, many, slice_get_within list p ledger there) in
@@ -300,3 +302,8 @@ fits_first count ledgers readers may_make latest trail told going stage list man
   made = λ p below. subst (IsMade may_make latest (of_part p trail) told p) (sym (none p below)) tt;
   met = λ p below tried. absurd (rests p below tried);
 }
+
+-- each ledger has a place for each partition
+pub all_sized : (count : ℕ) (ledgers : ℕ → List Entry → Ledger) (readers : ℕ → ℕ → Identity) (may_make : ℕ → List Entry → List Said → ℕ → List Entry → Type 0) (latest : ℕ) (trail : List Settled) (told : List Said) (going : ℕ → Option (List Entry)) (stage : ℕ → Stage) (list : List declared.Ledger)
+    → Fits count ledgers readers may_make latest trail told going stage list → All (IsSized count) list
+all_sized count ledgers readers may_make latest trail told going stage list fits k d low = (fits.each k (get_or list k d) (slice_get-get_or list k d low)).sized

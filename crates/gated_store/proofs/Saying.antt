@@ -15,6 +15,7 @@ module _ (count : ℕ) (ledgers : ℕ → List Entry → Ledger) (readers : ℕ 
       → (latest : ℕ) (trail : List Settled) (told also : List Said) (going : ℕ → Option (List Entry)) (stage : ℕ → Stage) (list : List declared.Ledger) → Fits count ledgers readers may_make latest trail told going stage list → Fits count ledgers readers may_make latest trail (told ++ also) going stage list
   fits_says still latest trail told also going stage list fits = record {
     many = fits.many;
+    first = fits.first;
     grown = fits.grown;
     each = fits.each;
     made = λ p inside. said p (going p) (fits.made p inside);
@@ -29,6 +30,7 @@ module _ (count : ℕ) (ledgers : ℕ → List Entry → Ledger) (readers : ℕ 
       → (latest later : ℕ) (trail : List Settled) (told : List Said) (going : ℕ → Option (List Entry)) (stage : ℕ → Stage) (list : List declared.Ledger) → latest ≤ later → Fits count ledgers readers may_make latest trail told going stage list → Fits count ledgers readers may_make later trail told going stage list
   fits_rises still latest later trail told going stage list above fits = record {
     many = fits.many;
+    first = fits.first;
     grown = fits.grown;
     each = fits.each;
     made = λ p inside. rose p (going p) (fits.made p inside);

@@ -1,11 +1,11 @@
 -- What holds of a store between its calls.
 use Rattle.std.specs.Prelude.{◌≡◌, ℕ, ◌<◌, true, List, ◌++◌, length, Option, Some, None, []}
-use Rattle.std.specs.List.{slice_get}
+use Rattle.std.specs.List.{Contains, slice_get}
 use Rattle.site_model.specs.declared.site.Site as sites
-use Rattle.dura_value.specs.Items.{Identity, Entry}
+use Rattle.dura_value.specs.Items.{Identity, Entry, Posted}
 use Rattle.commit_gate.specs.declared.ledger.Ledger as declared
 use Rattle.commit_gate.specs.Keeping.{IsSized, AreOfOne}
-use Rattle.commit_gate.specs.Ledgers.{Ledger, after_items}
+use Rattle.commit_gate.specs.Ledgers.{Ledger, IsRecovered, after_items}
 use Rattle.commit_gate.specs.Met.{AreMet}
 use Rattle.commit_gate.specs.Unlost.{IsUnlost}
 use Rattle.commit_gate.specs.Views.{floors_in, readers_in, ledger_of, whole_of}
@@ -55,10 +55,15 @@ pub data Grown (ledgers : ℕ → List Entry → Ledger) (may_make : ℕ → Lis
   nothing : Grown ledgers may_make []
   one_more : {trail : List Settled} (latest : ℕ) (told : List Said) (partition at : ℕ) (going : List Entry) → Grown ledgers may_make trail → Follows ledgers may_make latest trail told partition going → Grown ledgers may_make (trail ++ settling partition at going)
 
+-- what streams held at the beginning was recovered
+abbrev pub AreRecovered : (ℕ → List Entry → Ledger) → Type 0
+AreRecovered ledgers = (partition target : ℕ) (posted : Posted) → Contains ((ledgers partition []).boxes target).messages posted → IsRecovered (ledgers posted.entry.partition []) posted.entry
+
 -- The ledgers fit what is settled and under way. Each frame under way was made by its partition's state, and one whose gate was tried is
 -- met.
 pub record Fits (count : ℕ) (ledgers : ℕ → List Entry → Ledger) (readers : ℕ → ℕ → Identity) (may_make : ℕ → List Entry → List Said → ℕ → List Entry → Type 0) (latest : ℕ) (trail : List Settled) (told : List Said) (going : ℕ → Option (List Entry)) (stage : ℕ → Stage) (list : List declared.Ledger) : Type 0 where
   pub many : length list ≡ count
+  pub first : AreRecovered ledgers
   pub grown : Grown ledgers may_make trail
   pub each : (p : ℕ) (ledger : declared.Ledger) → slice_get list p ≡ Some ledger → LedgerFits ledgers readers count p (of_part p trail) (going p) ledger
   pub made : (p : ℕ) → p < count → IsMade may_make latest (of_part p trail) told p (going p)

@@ -4,7 +4,7 @@ ghost use Rattle.std.specs.Prelude.{◌≡◌, ◌≤◌, ◌<◌, ◌^◌, ℕ,
 ghost use Rattle.std.specs.List.{slice_get};
 ghost use Rattle.commit_gate.specs.Views.{floors_of};
 ghost use Rattle.commit_gate.specs.declared.ledger.Ledger as declared;
-ghost use Rattle.gated_store.specs.Kept.{IsKept, LedgerFits};
+ghost use Rattle.gated_store.specs.Kept.{IsKept, AreRecovered, LedgerFits};
 ghost use Rattle.hub_store.specs.Changes.{stage_at, trail_in, told_in};
 ghost use Rattle.hub_store.specs.Opened.{IsOrigin, HasBegun};
 
@@ -34,6 +34,7 @@ impl<V: Site, L: Local> GatedStore<V, L> {
         requires fits { (partition : ℕ) (ledger : declared.Ledger)
             → slice_get ledgers.items partition ≡ Some ledger
             → LedgerFits L.ledgers L.readers L.origin.count partition [] None ledger }
+        requires first { AreRecovered L.ledgers }
         ensures kept { IfOk result (IsKept L.origin.count L.ledgers L.readers L.may_make) }
         ensures site { IfOk result (λ store. store.logs.site ≡ site) }
         ensures back { IfErr result (λ back. back ≡ site) }

@@ -4,7 +4,7 @@
 //! - `local`: what is fixed of each partition when a call begins (`Local`), and the start of the logs by it (`Gated`).
 //! - `store`: the logs, and what others see of each partition; `begin` and `end`.
 //! - `body`, `sync`, `gate`, `settle`: the calls of a frame; `reopen`: what follows one that failed; `restart`: a new incarnation; `say`.
-//! - `looks`: what can be looked at; `refusal`: why a call refuses; `laws`: what holds between calls.
+//! - `marks`: what is settled, as others are told; `looks`: what can be looked at; `refusal`: why a call refuses; `laws`: what holds between calls.
 //! - `specs/Kept` is what holds between calls (`IsKept`), `specs/Keeps` what each call keeps, `specs/Follows` what may be committed, and
 //!   `specs/Causal` that what was settled stands behind all that it depends on.
 #![tactic(auto)]
@@ -16,6 +16,7 @@ mod gate;
 mod laws;
 mod local;
 mod looks;
+mod marks;
 mod refusal;
 mod reopen;
 mod restart;

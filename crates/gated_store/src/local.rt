@@ -1,9 +1,8 @@
 //! What is fixed when a call begins.
 
 ghost use Rattle.std.specs.Prelude.{◌≡◌, ◌≤◌, ℕ, List, [], ◌++◌, Option, Some};
-ghost use Rattle.std.specs.List.{Contains};
-ghost use Rattle.dura_value.specs.Items.{Entry, Identity, Posted};
-ghost use Rattle.commit_gate.specs.Ledgers.{Ledger, IsRecovered};
+ghost use Rattle.dura_value.specs.Items.{Entry, Identity};
+ghost use Rattle.commit_gate.specs.Ledgers.{Ledger};
 ghost use Rattle.commit_gate.specs.Views.{no_ledger};
 ghost use Rattle.gated_store.specs.Follows.{GoesOnThere};
 ghost use Rattle.hub_store.specs.Origin.{Origin};
@@ -53,11 +52,6 @@ pub trait Local: Drop {
 
     /// Nothing was settled at the beginning.
     ghost fresh: { (partition : ℕ) → (ledgers partition []).incarnations ≡ [] };
-
-    /// What streams hold at the beginning was recovered.
-    ghost begins: { (partition target : ℕ) (posted : Posted)
-        → Contains ((ledgers partition []).boxes target).messages posted
-        → IsRecovered (ledgers posted.entry.partition []) posted.entry };
 
     /// What may be made goes on where its partition stands.
     ghost goes: { (latest : ℕ) (mine : List Entry) (told : List Said) (partition : ℕ)

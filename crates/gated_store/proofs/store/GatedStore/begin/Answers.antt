@@ -12,7 +12,7 @@ returns-in-Ok-clause-kept g c =
     let e = c.in-Ok.ensures in
     record {
       sound = e.sound;
-      fits = fits_first L.origin.count L.ledgers L.readers L.may_make logs.latest (trail_in logs) (told_in logs) (going_at logs) (stage_at logs) c.args.ledgers.items c.requires.many e.trail
+      fits = fits_first L.origin.count L.ledgers L.readers L.may_make logs.latest (trail_in logs) (told_in logs) (going_at logs) (stage_at logs) c.args.ledgers.items c.requires.many c.requires.first e.trail
           (λ p below. rest_none (way_of logs.ways.items p) (e.rest p below)) c.requires.fits
           (λ p below tried. untried (stage_at logs p) stages.Resting (e.rest p below) refl tried);
     }
