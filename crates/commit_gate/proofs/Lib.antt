@@ -6,5 +6,4 @@ pub mod Tested
 pub mod Boxes
 pub mod Going
 pub mod Losing
-pub mod Commutes
 pub mod Rooms

@@ -4,6 +4,7 @@ pub mod Basics
 pub mod Belonging
 pub mod Growing
 pub mod Items
+pub mod Joining
 pub mod Keeping
 pub mod Kept
 pub mod Merged
