@@ -2,6 +2,7 @@ pub mod Alone
 pub mod Appending
 pub mod Basics
 pub mod Belonging
+pub mod EntriesSend
 pub mod Growing
 pub mod Items
 pub mod Joining
