@@ -113,14 +113,15 @@ pub fn one_after_another()
         → next_incarnation (entries ++ last ∷ []) ≡ last.incarnation + 1 }
 {}
 
-/// Entries that a partition among so many accepts one after another send messages to others, take in the next ones of others' streams,
-/// and let go of what lies in its own: what others see of it is made by their items and by what is sent. Where there is one
-/// partition, none of its items takes in or lets go, and nothing is sent.
+/// Entries that a partition among so many accepts one after another send messages to others, take in what is next in the others'
+/// streams, and let go of what lies in its own: what others see of it afterwards comes of their items and of what is sent. Where
+/// there is one partition, nothing is sent, and none of their items takes in or lets go.
 #[tactic(auto, using(crate::proofs::EntriesSend::entries_send, crate::proofs::EntriesSend::entries_alone))]
 pub fn entries_send()
-    ensures among { (flows : Flows) (count partition : ℕ) (p next : Partition) (entries : List Entry)
-        → partition < count → p.number ≡ partition → AreInTurn p.position entries
-        → placed flows count p entries ≡ Ok next → Sends count partition p entries next }
+    ensures among { (flows : Flows) (count partition : ℕ) (p next : Partition)
+        (entries : List Entry) → partition < count → p.number ≡ partition
+        → AreInTurn p.position entries → placed flows count p entries ≡ Ok next
+        → Sends count partition p entries next }
     ensures alone { (flows : Flows) (p next : Partition) (entries : List Entry) → p.number ≡ 0
         → placed flows 1 p entries ≡ Ok next
         → (next.outboxes ≡ p.outboxes) × All IsLocal (items_in entries) }
