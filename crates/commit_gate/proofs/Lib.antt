@@ -6,6 +6,5 @@ pub mod Tested
 pub mod Boxes
 pub mod Going
 pub mod Losing
-pub mod Commutes
 pub mod Rooms
 pub mod ReadMarks

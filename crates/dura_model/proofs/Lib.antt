@@ -2,8 +2,10 @@ pub mod Alone
 pub mod Appending
 pub mod Basics
 pub mod Belonging
+pub mod EntriesSend
 pub mod Growing
 pub mod Items
+pub mod Joining
 pub mod Keeping
 pub mod Kept
 pub mod Merged

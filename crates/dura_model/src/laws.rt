@@ -1,15 +1,18 @@
 //! Laws of the failure-free machine. They are said of the definitions alone: the functions do nothing.
 
 ghost use Rattle.std.specs.Prelude.{◌≡◌, ◌↔◌, ◌<◌, ◌≤◌, ℕ, ◌+◌, List, [], ◌∷◌, ◌++◌, true, Some, None, Ok};
+ghost use Rattle.std.specs.List.{All};
 ghost use Rattle.dura_value.specs.Ids.{Id, home};
 ghost use Rattle.dura_value.specs.Items.{Entry, Item, ran};
 ghost use Rattle.dura_value.specs.Messages.{Message};
 ghost use Rattle.dura_value.specs.Reading.{◌>>=◌ as bind};
 ghost use Rattle.flow_syntax.specs.Syntax.{Flows};
+ghost use Rattle.log_items.specs.Entries.{items_in, AreInTurn};
 ghost use Rattle.dura_model.specs.Entries.{placed, next_incarnation, labels_in, AllGiven};
 ghost use Rattle.dura_model.specs.Legal.{Legal, may_ask, may_go_on, TakenInTurn, finishes};
 ghost use Rattle.dura_model.specs.Partition.{Partition, fresh, enter, first_in, accepted, label_in, shown, with_part};
 ghost use Rattle.dura_model.specs.Placed.{AreShown, happens_at, IsGiven, IsOfStreams, IsLabelled, ShowsNothing, IsSameEntry, Belongs, AreOfInstances};
+ghost use Rattle.dura_model.specs.Sends.{Sends, IsLocal};
 ghost use Rattle.dura_model.specs.Steps.{Label};
 ghost use Rattle.dura_model.specs.World.{World, empty};
 
@@ -108,4 +111,18 @@ pub fn one_after_another()
     ensures labels { (a b : List Entry) → labels_in (a ++ b) ≡ labels_in a ++ labels_in b }
     ensures incarnation { (entries : List Entry) (last : Entry)
         → next_incarnation (entries ++ last ∷ []) ≡ last.incarnation + 1 }
+{}
+
+/// Entries that a partition among so many accepts one after another send messages to others, take in what is next in the others'
+/// streams, and let go of what lies in its own: what others see of it afterwards comes of their items and of what is sent. Where
+/// there is one partition, nothing is sent, and none of their items takes in or lets go.
+#[tactic(auto, using(crate::proofs::EntriesSend::entries_send, crate::proofs::EntriesSend::entries_alone))]
+pub fn entries_send()
+    ensures among { (flows : Flows) (count partition : ℕ) (p next : Partition)
+        (entries : List Entry) → partition < count → p.number ≡ partition
+        → AreInTurn p.position entries → placed flows count p entries ≡ Ok next
+        → Sends count partition p entries next }
+    ensures alone { (flows : Flows) (p next : Partition) (entries : List Entry) → p.number ≡ 0
+        → placed flows 1 p entries ≡ Ok next
+        → (next.outboxes ≡ p.outboxes) × All IsLocal (items_in entries) }
 {}

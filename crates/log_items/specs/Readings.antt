@@ -1,6 +1,7 @@
 -- How far the streams from others were taken in.
 use Rattle.std.specs.Prelude.{◌≡◌, ℕ, ◌+◌, ◌==◌, List, [], ◌∷◌, if◌then◌else◌}
-use Rattle.dura_value.specs.Items.{Identity, Item, got}
+use Rattle.dura_value.specs.Items.{Identity, Item, Entry, got}
+use Rattle.log_items.specs.Entries.{identity_at}
 
 -- the stream from a partition was taken in up to this number
 abbrev pub with_next : (ℕ → ℕ) → (source next : ℕ) → ℕ → ℕ
@@ -20,6 +21,11 @@ abbrev pub readers_after : (reader : Identity) → (ℕ → Identity) → List I
 readers_after reader readers [] = readers
 readers_after reader readers (got source number message ∷ items) = readers_after reader (with_reader readers source.partition reader) items
 readers_after reader readers (other ∷ items) = readers_after reader readers items
+
+-- the same once these entries of one partition took in theirs, one after another
+abbrev pub readers_behind : (partition : ℕ) → (ℕ → Identity) → List Entry → ℕ → Identity
+readers_behind partition readers [] = readers
+readers_behind partition readers (entry ∷ entries) = readers_behind partition (readers_after (identity_at partition entry) readers entry.items) entries
 
 -- each message that comes in is the next of its stream
 abbrev pub ReadOn : (nexts : ℕ → ℕ) → List Item → Type 0

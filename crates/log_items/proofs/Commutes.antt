@@ -1,4 +1,4 @@
--- Frames may be taken entry by entry: messages join streams before or after others are let go.
+-- Messages join streams before or after others are let go: so frames may be taken entry by entry.
 use Rattle.std.proofs.Common.{◌≡◌, ℕ, zero, suc, ◌+◌, ◌-◌, ◌==◌, ◌<◌, ◌≤◌, Bool, true, false, cond, List, [], ◌∷◌, ◌++◌, length, drop, refl, sym, ◌∙◌, ap, subst, arith, length-append}
 use Rattle.std.proofs.Math.Dec.{leb}
 use Rattle.std.proofs.lemmas.Bool.{leb-false, eqb-true}
@@ -11,7 +11,7 @@ drop_append zero xs ys low = refl
 drop_append (suc n) [] ys low = absurd (omega (arith, low))
 drop_append (suc n) (x ∷ xs) ys low = drop_append n xs ys (omega (arith, low))
 
-abbrev end : Outbox → ℕ
+abbrev pub end : Outbox → ℕ
 end box = box.first + length box.messages
 
 abbrev grown : Outbox → Posted → Outbox
@@ -39,11 +39,23 @@ end_grows : (boxes : ℕ → Outbox) (to target : ℕ) (posted : Posted) (test :
 end_grows boxes to target posted true = omega (arith, length-append (boxes target).messages (posted ∷ []))
 end_grows boxes to target posted false = omega arith
 
+pub ends_grow : (boxes : ℕ → Outbox) (sent : List Sent) (target : ℕ) → end (boxes target) ≤ end (with_sent boxes sent target)
+ends_grow boxes [] target = omega arith
+ends_grow boxes (one ∷ more) target =
+    let first = end_grows boxes one.to target one.posted (one.to == target) in
+    let others = ends_grow (with_posted boxes one.to one.posted) more target in
+    omega (arith, first, others)
+
 pub sent_commutes : (boxes : ℕ → Outbox) (sent : List Sent) (target number : ℕ) → number ≤ end (boxes target) → with_first (with_sent boxes sent) target number ≡ with_sent (with_first boxes target number) sent
 sent_commutes boxes [] target number low = refl
 sent_commutes boxes (one ∷ more) target number low =
     let grows = end_grows boxes one.to target one.posted (one.to == target) in
     sent_commutes (with_posted boxes one.to one.posted) more target number (omega (arith, low, grows)) ∙ ap (λ (b : ℕ → Outbox). with_sent b more) (posted_commutes boxes one.to number target one.posted low)
+
+-- messages that join one behind the other
+pub sent_both : (boxes : ℕ → Outbox) (one other : List Sent) → with_sent boxes (one ++ other) ≡ with_sent (with_sent boxes one) other
+sent_both boxes [] other = refl
+sent_both boxes (first ∷ more) other = sent_both (with_posted boxes first.to first.posted) more other
 
 -- what an entry sends joins before or after what it lets go: so entries go one by one, or all that a frame sends first
 pub items_commute : (boxes : ℕ → Outbox) (items : List Item) (sent : List Sent) → LetGoInside boxes items → with_sent (boxes_after boxes items) sent ≡ boxes_after (with_sent boxes sent) items
