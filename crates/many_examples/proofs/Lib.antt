@@ -2,3 +2,4 @@ pub mod AtOnce
 pub mod Placings
 pub mod RulesBy
 pub mod UnderWay
+pub mod Unfounded

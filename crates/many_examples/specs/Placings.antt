@@ -1,10 +1,10 @@
 -- States, entries and files of two partitions, by example.
-use Rattle.std.specs.Prelude.{ℕ, List, [], ◌∷◌, ◌==◌, slice_set, if◌then◌else◌, Option, Some, None}
+use Rattle.std.specs.Prelude.{ℕ, List, [], ◌∷◌, ◌==◌, codes, slice_set, if◌then◌else◌, Option, Some, None}
 use Rattle.dura_model.specs.Partition.{Partition, fresh, with_part}
-use Rattle.dura_value.specs.Items.{Entry, got, ended, Posted}
+use Rattle.dura_value.specs.Items.{Item, Entry, got, took, ended, trim, Posted}
 use Rattle.dura_value.specs.declared.outcome.Outcome.{Outcome}
 use Rattle.flow_syntax.specs.Syntax.{Flows}
-use Rattle.many_examples.specs.Pairs.{request, entry_at, commit_at, first_entry}
+use Rattle.many_examples.specs.Pairs.{asks, request, entry_at, commit_at, first_entry}
 use Rattle.many_logs.specs.Placing.{Commit, states_after}
 use Rattle.part_items.specs.Examples.{empty_log, taking_log, taking}
 use Rattle.run_rules.specs.Examples.{summing}
@@ -25,6 +25,24 @@ first_posted = record { entry = first_entry 1; message = request 1 }
 -- what comes in as the first message of partition 1, which sent another
 abbrev pub other_coming : Entry
 other_coming = entry_at 0 (got (first_entry 1) 0 (request 2))
+
+-- a request that is taken, and behind it the first message of partition 1
+abbrev pub two_coming : Entry
+two_coming = record { position = 0; incarnation = 0; items = took (asks (codes "b") (codes "y") 1) ∷ got (first_entry 1) 0 (request 1) ∷ [] }
+
+-- the first message of partition 1, as if its entry of this incarnation and at this position had sent it
+abbrev pub first_from : (incarnation position : ℕ) → Item
+first_from incarnation position = got (record { partition = 1; incarnation = incarnation; position = position }) 0 (request 1)
+
+-- the second request of client a is taken, and of the two messages the first is let go
+abbrev pub taking_second : Commit
+taking_second = commit_at 1 1 (took (request 2))
+
+abbrev pub letting_first_go : Commit
+letting_first_go = commit_at 1 2 (trim (first_entry 0) 1)
+
+abbrev pub second_posted : Posted
+second_posted = record { entry = record { partition = 1; incarnation = 0; position = 1 }; message = request 2 }
 
 -- an instance of partition 1 has asked by its task 3 for the sum of null
 abbrev pub asking_states : ℕ → Partition

@@ -1,5 +1,5 @@
 -- Calls of two partitions, by example: client a lives in partition 1, and so does Sum/x; Sum/y lives in 0.
-use Rattle.std.specs.Prelude.{ℕ, List, [], ◌∷◌, ◌++◌, ◌==◌, codes, if◌then◌else◌, Option, Some, None}
+use Rattle.std.specs.Prelude.{ℕ, List, [], ◌∷◌, ◌++◌, ◌==◌, codes, slice_set, if◌then◌else◌, Option, Some, None}
 use Rattle.dura_model.specs.Legal.{after}
 use Rattle.dura_model.specs.Partition.{Partition, fresh, with_part}
 use Rattle.dura_model.specs.World.{World, empty}
@@ -13,7 +13,7 @@ use Rattle.flow_syntax.specs.Syntax.{Flows}
 use Rattle.hub_store.specs.Origin.{Log, Origin}
 use Rattle.hub_store.specs.Trail.{Settled, Said}
 use Rattle.many_examples.specs.Pairs.{asks, request, entry_at, commit_at, first_entry, taking}
-use Rattle.many_examples.specs.Placings.{states_of, asking_states}
+use Rattle.many_examples.specs.Placings.{states_of, asking_states, taken_of}
 use Rattle.many_logs.specs.Labels.{labels_of_commits}
 use Rattle.many_logs.specs.Placing.{Commit, of_partition}
 use Rattle.many_rules.specs.Leaves.{header_at}
@@ -23,6 +23,7 @@ use Rattle.part_items.specs.Logs.{first_log}
 use Rattle.request_reader.specs.Line.{Request}
 use Rattle.run_rules.specs.Examples.{summing}
 use Rattle.run_rules.specs.FieldExamples.{no_sum, starting, sum_flows}
+use Rattle.site_model.specs.History.{Step, on, wrote}
 
 -- ---- what is asked
 
@@ -142,6 +143,10 @@ answering_at stamp = record {
 
 abbrev pub answering : Commit
 answering = answering_at 0
+
+-- the frame of a request of client a was written to the log of partition 1, and then its gate
+abbrev pub gate_written : List Step
+gate_written = on (first_log 1) (wrote 33 1 (0xC3 ∷ [])) ∷ on (first_log 1) (wrote 0 77 (slice_set (taken_of 1) 33 0)) ∷ []
 
 abbrev pub world_in : Option World → World
 world_in None = empty

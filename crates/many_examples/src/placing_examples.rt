@@ -10,7 +10,7 @@ ghost use Rattle.dura_value.specs.declared.data.Value.TheVariants as values;
 ghost use Rattle.dura_value.specs.declared.outcome.Outcome.TheVariants as outcomes;
 ghost use Rattle.flow_syntax.specs.Syntax.{Flows};
 ghost use Rattle.many_examples.specs.Pairs.{asks, request, entry_at, first_entry, logs_with, taking, coming_in, letting_go};
-ghost use Rattle.many_examples.specs.Placings.{states_of, first_posted, other_coming, asking_states, ending_sum, log_of, one_file, none_of, taken_of, taking_x, beyond};
+ghost use Rattle.many_examples.specs.Placings.{states_of, first_posted, first_from, taking_second, letting_first_go, second_posted, other_coming, two_coming, asking_states, ending_sum, log_of, one_file, none_of, taken_of, taking_x, beyond};
 ghost use Rattle.many_logs.specs.Gates.{frame_passes, FrameLetsGo};
 ghost use Rattle.many_logs.specs.Labels.{AllGiven, AreNumbered};
 ghost use Rattle.many_logs.specs.Names.{AreOf, AreNamed, TrimsNamed};
@@ -19,7 +19,8 @@ ghost use Rattle.many_logs.specs.Stands.{FilesStand, AreKept};
 ghost use Rattle.part_items.specs.Examples.{digest, request as request_x};
 ghost use Rattle.run_rules.specs.FieldExamples.{no_sum};
 
-/// A stream has the message that was sent under its number, none past its end, and none that was let go.
+/// A stream has the message that was sent under its number, none past its end, and none that was let go, though those behind it
+/// are there.
 pub fn messages_of_streams()
     ensures there { (flows : Flows)
         → message_at ((states_of flows (taking ∷ []) 1).outboxes 0) 0 ≡ Some first_posted }
@@ -30,16 +31,27 @@ pub fn messages_of_streams()
         ≡ None }
     ensures elsewhere { (flows : Flows)
         → message_at ((states_of flows (taking ∷ []) 0).outboxes 1) 0 ≡ None }
+    ensures before { (flows : Flows) → message_at ((states_of flows
+        (taking ∷ taking_second ∷ coming_in 0 ∷ letting_first_go ∷ []) 1).outboxes 0) 0 ≡ None }
+    ensures behind { (flows : Flows) → message_at ((states_of flows
+        (taking ∷ taking_second ∷ coming_in 0 ∷ letting_first_go ∷ []) 1).outboxes 0) 1
+        ≡ Some second_posted }
 {}
 
-/// What was sent may come in, and no other message, nor before it was sent; what was read may be let go, and not before. A request waits
-/// for no other partition.
+/// What was sent may come in, and no other message, nor before it was sent, nor as that of an entry of another incarnation or position; what
+/// was read may be let go, and not before. A request waits for no other partition.
 pub fn items_ready()
     ensures sent { (flows : Flows)
         → is_ready (states_of flows (taking ∷ [])) 0 (got (first_entry 1) 0 (request 1)) ≡ true }
     ensures unsent { is_ready fresh 0 (got (first_entry 1) 0 (request 1)) ≡ false }
     ensures other { (flows : Flows)
         → is_ready (states_of flows (taking ∷ [])) 0 (got (first_entry 1) 0 (request 2)) ≡ false }
+    ensures own { (flows : Flows)
+        → is_ready (states_of flows (taking ∷ [])) 0 (first_from 0 0) ≡ true }
+    ensures incarnation { (flows : Flows)
+        → is_ready (states_of flows (taking ∷ [])) 0 (first_from 1 0) ≡ false }
+    ensures position { (flows : Flows)
+        → is_ready (states_of flows (taking ∷ [])) 0 (first_from 0 1) ≡ false }
     ensures read { (flows : Flows)
         → is_ready (states_of flows (taking ∷ coming_in 0 ∷ [])) 1 (trim (first_entry 0) 1) ≡ true }
     ensures unread { (flows : Flows)
@@ -47,8 +59,8 @@ pub fn items_ready()
     ensures alone { is_ready fresh 1 (took (request 1)) ≡ true }
 {}
 
-/// An entry is accepted where the others are as far as it needs: what was sent comes in, and nothing else, nor earlier. And it keeps the rules of
-/// its own partition: no request is taken of a client who lives elsewhere.
+/// An entry is accepted where the others are as far as all its items need: what was sent comes in, and nothing else, nor earlier, be it
+/// behind another item. And it keeps the rules of its own partition: no request is taken of a client who lives elsewhere.
 pub fn commits_accepted()
     ensures coming { (flows : Flows)
         → is_some (commit_accepted flows 2 (states_of flows (taking ∷ [])) 0 (coming_in 0).entry)
@@ -56,6 +68,7 @@ pub fn commits_accepted()
     ensures other { (flows : Flows)
         → commit_accepted flows 2 (states_of flows (taking ∷ [])) 0 other_coming ≡ None }
     ensures early { (flows : Flows) → commit_accepted flows 2 fresh 0 (coming_in 0).entry ≡ None }
+    ensures second { (flows : Flows) → commit_accepted flows 2 fresh 0 two_coming ≡ None }
     ensures astray { (flows : Flows)
         → commit_accepted flows 2 fresh 0 (entry_at 0 (took (request 1))) ≡ None }
 {}

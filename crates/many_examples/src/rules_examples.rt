@@ -1,7 +1,7 @@
 //! Examples of what a call of two partitions may commit and say, of where it begins, and of what a crash leaves of it: in each all facts
 //! hold, or all but one. They are said of the definitions alone: the functions do nothing.
 
-ghost use Rattle.std.specs.Prelude.{◌≡◌, ℕ, List, [], ◌∷◌, codes, slice_set};
+ghost use Rattle.std.specs.Prelude.{◌≡◌, ℕ, List, [], ◌∷◌, codes, slice_set, Some};
 ghost use Rattle.client_port.specs.Lines.{line_of};
 ghost use Rattle.dura_model.specs.Partition.{fresh};
 ghost use Rattle.dura_value.specs.Items.{took};
@@ -13,12 +13,13 @@ ghost use Rattle.flow_syntax.specs.Syntax.{Flows};
 ghost use Rattle.hub_store.specs.Trail.{Said};
 ghost use Rattle.many_examples.specs.Pairs.{first_entry, taking, coming_in};
 ghost use Rattle.many_examples.specs.Placings.{states_of, asking_states, ending_sum, one_file, none_of, taken_of, taking_x, beyond};
-ghost use Rattle.many_examples.specs.RulesBy.{rules_with, later_rules, silent_rules, asking_rules, answering_rules, taken_once, settled, firing, first_said, second_said, second_rules, empty_origin, empty_log, unknown_rules, answering, answering_at, starting_sum, at_once, letting_unknown, sum_done, sum_done_origin, sum_done_rules};
+ghost use Rattle.many_examples.specs.RulesBy.{rules_with, later_rules, silent_rules, asking_rules, answering_rules, taken_once, settled, firing, first_said, second_said, second_rules, empty_origin, empty_log, unknown_rules, answering, answering_at, gate_written, starting_sum, at_once, letting_unknown, sum_done, sum_done_origin, sum_done_rules};
 ghost use Rattle.many_logs.specs.Placing.{GoesThrough};
-ghost use Rattle.many_logs.specs.Stands.{AreKept};
+ghost use Rattle.many_logs.specs.Stands.{asked_at, AreKept};
 ghost use Rattle.many_rules.specs.Leaves.{Begins, IsAnswered, AllAnswered, IsHalfSaid, IsOfCall, AllRan, StandsOn};
 ghost use Rattle.many_rules.specs.Rules.{rules_at, known_of, GoesFrom, Follows, Answers, Passes};
 ghost use Rattle.part_items.specs.Examples.{digest};
+ghost use Rattle.part_items.specs.Logs.{logs_in, entries_in};
 ghost use Rattle.run_rules.specs.FieldExamples.{no_sum, sum_flows, starting, ending_first};
 ghost use Rattle.site_model.specs.History.{on, wrote, said};
 
@@ -132,7 +133,7 @@ pub fn activities_ran()
 {}
 
 /// The answer to a start of a flow that isn't there is the run's once it was settled, and not before; and it is the first that is
-/// said.
+/// said. What is half said begins a line that answers somebody.
 pub fn answers_of_a_run()
     ensures settled { IsAnswered unknown_rules (answering ∷ []) [] first_said
         (line_of (codes "a") 1 is_unknown) }
@@ -147,6 +148,7 @@ pub fn answers_of_a_run()
         → line ≡ [] }
     ensures half { IsHalfSaid unknown_rules (answering ∷ []) [] (said 97 ∷ []) (97 ∷ []) }
     ensures silent { (part : List ℕ) → IsHalfSaid unknown_rules (answering ∷ []) [] [] part → ⊥ }
+    ensures part { IsHalfSaid unknown_rules (answering ∷ []) [] (said 98 ∷ []) (98 ∷ []) → ⊥ }
 {}
 
 /// Whatever is in the files, they don't keep an outcome that its activity may not give. No crash leaves an outcome that came in the frame
@@ -162,8 +164,8 @@ pub fn crashes_leave_no_such_entry()
 {}
 
 /// A crash of a call that did nothing leaves no files, and one of a call that took a request a log with it. It doesn't leave files without
-/// what was settled, nor with an entry whose gate wasn't written, nor damaged ones, nor an entry of another incarnation; the tape isn't
-/// shorter than it was, and what stands on it answers somebody.
+/// what was settled, be it an entry that changes nothing, nor with an entry whose gate wasn't written, nor damaged ones, nor an entry of
+/// another incarnation; the tape isn't shorter than it was, and what stands on it answers somebody.
 pub fn crashes_leave()
     ensures empty { (flows : Flows) → StandsOn (rules_with flows) 0 digest empty_origin [] []
         (λ file. []) }
@@ -171,6 +173,8 @@ pub fn crashes_leave()
         (settled taking_x ∷ []) (one_file 20 (taken_of 1)) }
     ensures lost { (flows : Flows) → StandsOn (rules_with flows) 0 digest empty_origin []
         (settled taking_x ∷ []) (λ file. []) → ⊥ }
+    ensures nothing { (flows : Flows) → StandsOn (rules_with flows) 0 digest empty_origin []
+        (settled (record beyond { partition = 1 }) ∷ []) (λ file. []) → ⊥ }
     ensures damaged { (flows : Flows) → StandsOn (rules_with flows) 0 digest empty_origin [] []
         (one_file 20 (slice_set (none_of 1) 3 0)) → ⊥ }
     ensures of_call { (flows : Flows)
@@ -182,6 +186,24 @@ pub fn crashes_leave()
         (record empty_origin { steps = said 97 ∷ [] }) [] [] (λ file. []) → ⊥ }
     ensures answering { (flows : Flows) → StandsOn (rules_with flows) 0 digest empty_origin
         (said 97 ∷ []) [] (λ file. []) → ⊥ }
+{}
+
+/// A crash while a gate is being written leaves the frame behind it, or nothing; but no frame of another incarnation, nor, whatever the
+/// files are that keep it, one with an outcome of what it asks for itself, or that names an entry which never was.
+pub fn crashes_leave_frames()
+    ensures open { (flows : Flows) → StandsOn (rules_with flows) 0 digest empty_origin gate_written
+        [] (one_file 20 (taken_of 1)) }
+    ensures closed { (flows : Flows) → StandsOn (rules_with flows) 0 digest empty_origin
+        gate_written [] (λ file. []) }
+    ensures of_call { (flows : Flows)
+        → StandsOn (record (rules_with flows) { incarnations = λ partition. 1 }) 0 digest
+        empty_origin gate_written [] (one_file 20 (taken_of 1)) → ⊥ }
+    ensures ran { (files : ℕ → List ℕ)
+        → entries_in (logs_in (asked_at 2 digest 1) files) ≡ Some (at_once.entry ∷ [])
+        → StandsOn (rules_with sum_flows) 5 digest empty_origin gate_written [] files → ⊥ }
+    ensures founded { (flows : Flows) (files : ℕ → List ℕ)
+        → entries_in (logs_in (asked_at 2 digest 1) files) ≡ Some (letting_unknown.entry ∷ [])
+        → StandsOn (rules_with flows) 0 digest empty_origin gate_written [] files → ⊥ }
 {}
 
 /// What comes in passes where it stands in the stream in memory, and the entry that sent it is settled; so it goes on. It doesn't pass while

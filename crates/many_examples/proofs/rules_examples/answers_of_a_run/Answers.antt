@@ -10,6 +10,9 @@ use Rattle.many_logs.specs.Labels.{labels_of_commits}
 use Rattle.many_logs.specs.Placing.{Commit}
 use Rattle.many_rules.specs.Leaves.{IsAnswered}
 use Rattle.many_rules.specs.Leaves.AllAnswered.{nothing_said, one_more}
+use Rattle.many_rules.specs.Rules.{rules_at}
+use Rattle.request_reader.specs.Line.{Request}
+use Rattle.run_rules.specs.Rules.{request_at}
 use Rattle.many_examples.proofs.rules_examples.answers_of_a_run.Goals as goal
 
 answered : IsAnswered unknown_rules (answering ∷ []) [] first_said (line_of (codes "a") 1 is_unknown)
@@ -81,3 +84,15 @@ returns-clause-half c = record {
   answered = answered;
   front = (drop 1 (line_of (codes "a") 1 is_unknown), refl);
 }
+
+-- no line whose client asks for something begins with another byte than its name
+no_line : (name : List ℕ) (request : Request) (number : ℕ) (answer : Answer) (rest : List ℕ) → request_at (rules_at unknown_rules 0) name 0 ≡ Some request → line_of name number answer ≡ 98 ∷ rest → ⊥
+no_line [] request number answer rest next is = cc next
+no_line (first ∷ name) request number answer rest next is =
+    let at : first ≡ 98 = cc is in
+    cc (subst (λ (c : ℕ). request_at (rules_at unknown_rules 0) (c ∷ name) 0 ≡ Some request) at next)
+
+pub returns-clause-part : goal.returns-clause-part
+returns-clause-part c = λ half.
+    let it = half.answered in
+    no_line half.one.client it.request half.one.number it.answer half.front.0 it.next (sym it.line_is ∙ half.front.1)

@@ -62,6 +62,9 @@ returns-clause-taken c = λ flows. record {
 pub returns-clause-lost : goal.returns-clause-lost
 returns-clause-lost c = λ flows left. cc (left.kept.kept 1 (omega arith))
 
+pub returns-clause-nothing : goal.returns-clause-nothing
+returns-clause-nothing c = λ flows left. cc (left.kept.kept 1 (omega arith))
+
 pub returns-clause-damaged : goal.returns-clause-damaged
 unfolding header_at
 returns-clause-damaged c = λ flows left. cc (left.kept.kept 1 (omega arith))

@@ -1,13 +1,12 @@
 use Rattle.std.proofs.Common.{◌≡◌, List, [], ◌∷◌, ◌++◌, true, false, refl, subst, arith}
-use Rattle.std.specs.List.{All, Contains}
-use Rattle.dura_value.specs.Dependencies.{Committed, Founded, named_by}
-use Rattle.dura_value.specs.Dependencies.Founded.{none, one_more}
-use Rattle.dura_value.specs.Items.{Identity}
+use Rattle.dura_value.specs.Dependencies.{Founded}
 use Rattle.flow_syntax.specs.Machine as machine
 use Rattle.many_examples.specs.Pairs.{first_entry}
 use Rattle.many_examples.specs.Placings.{states_of}
 use Rattle.many_examples.specs.RulesBy.{rules_with, at_once, letting_unknown, starting_sum}
 use Rattle.many_examples.proofs.AtOnce.{ended_at_once}
+use Rattle.many_examples.proofs.Placings.{none_in}
+use Rattle.many_examples.proofs.Unfounded.{one_founded}
 use Rattle.many_examples.proofs.UnderWay.{nothing_under_way, no_frames}
 use Rattle.many_logs.specs.Names.{committed_in}
 use Rattle.many_logs.specs.Placing.{Commit}
@@ -32,22 +31,9 @@ returns-clause-ran c = λ files left.
     let second = nothing_under_way 1 (at_once.entry ∷ []) (left.going 1) (left.writing 1 (omega arith)) in
     ended_at_once (subst (λ (l : List Commit). AllRan (rules_with sum_flows) (at_once ∷ l)) (no_frames left.going first second) left.ran)
 
--- the only entry that came names entries that were recovered, of which there are none
-not_one : (first last e : Committed) (more : List Committed) → first ∷ (more ++ last ∷ []) ≡ e ∷ [] → ⊥
-not_one first last e [] is = cc is
-not_one first last e (next ∷ more) is = cc is
-
-one_founded : {entries : List Committed} → Founded [] entries → (e : Committed) → entries ≡ e ∷ [] → All (Contains []) (named_by e.items)
-one_founded none e is = absurd (cc is)
-one_founded (one_more {entries = []} last before it) e is = let same : last ≡ e = cc is in subst (λ (x : Committed). All (Contains []) (named_by x.items)) same it.named
-one_founded (one_more {entries = first ∷ more} last before it) e is = absurd (not_one first last e more is)
-
-nowhere : (one : Identity) → Contains [] one → ⊥
-nowhere one inside = absurd (omega (arith, inside.1))
-
 pub returns-clause-founded : goal.returns-clause-founded
 returns-clause-founded c = λ flows files left.
     let first = nothing_under_way 0 [] (left.going 0) (left.writing 0 (omega arith)) in
     let second = nothing_under_way 1 (letting_unknown.entry ∷ []) (left.going 1) (left.writing 1 (omega arith)) in
     let founded : Founded [] (committed_in (letting_unknown ∷ [])) = subst (λ (l : List Commit). Founded [] (committed_in (letting_unknown ∷ l))) (no_frames left.going first second) left.founded in
-    nowhere (first_entry 0) (one_founded founded _ refl 0 (first_entry 0) (omega arith))
+    none_in (first_entry 0) (one_founded founded _ refl 0 (first_entry 0) (omega arith))
