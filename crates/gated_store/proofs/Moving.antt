@@ -18,7 +18,7 @@ use Rattle.commit_gate.specs.declared.unmet.Unmet.{Unmet}
 use Rattle.commit_gate.specs.Refused.{Passes, RefusesFirst, Tests}
 use Rattle.commit_gate.specs.Ledgers.{Ledger, log_length, IsKnown, with_frame, after_items, after_frame}
 use Rattle.commit_gate.specs.Views.{ledger_of, whole_of, ledgers_of, floors_of, no_ledger, floors_in, readers_by, readers_in}
-use Rattle.gated_store.specs.Settled.{readers_behind}
+use Rattle.log_items.specs.Readings.{readers_behind, readers_after}
 use Rattle.hub_store.specs.Trail.{Settled, Said, of_part, settling}
 use Rattle.hub_store.specs.Ways.{stage_of, going_in, way_of, is_tried, is_untried}
 use Rattle.hub_store.specs.declared.refusal.Refusal.{Refusal}
@@ -33,7 +33,6 @@ use Rattle.gated_store.specs.Kept.Grown.{nothing}
 use Rattle.gated_store.proofs.Fitting.{fits_moved, fits_settled}
 use Rattle.log_items.specs.Streams.{Sent}
 use Rattle.log_items.specs.Entries.{items_in, incarnations_in, identity_at}
-use Rattle.log_items.specs.Readings.{readers_after}
 
 behind_append : (p : ℕ) (readers : ℕ → Identity) (a b : List Entry) → readers_behind p readers (a ++ b) ≡ readers_behind p (readers_behind p readers a) b
 behind_append p readers [] b = refl

@@ -13,10 +13,10 @@ use Rattle.log_items.specs.Plain.{items_of}
 use Rattle.hub_store.specs.declared.trail.Settled as settled_rows
 use Rattle.hub_store.specs.Plain.{settled_of, trail_of}
 use Rattle.hub_store.specs.Trail.{Settled, settling}
-use Rattle.gated_store.specs.Settled.{items_settled, readers_settled, readers_behind}
+use Rattle.gated_store.specs.Settled.{items_settled, readers_settled}
+use Rattle.log_items.specs.Readings.{readers_behind, readers_after}
 use Rattle.gated_store.specs.Causal.{identity_of}
 use Rattle.log_items.specs.Entries.{items_in, identity_at}
-use Rattle.log_items.specs.Readings.{readers_after}
 
 more : (settled : List settled_rows.Settled) (i : ℕ) (one : settled_rows.Settled) → i < length settled → one ≡ get_or settled i one → items_settled (trail_of (take (i + 1) settled)) ≡ items_settled (trail_of (take i settled)) ++ items_of one.items
 more settled i one low is =

@@ -18,7 +18,7 @@ use Rattle.hub_store.specs.declared.way.Stage.{Stage}
 use Rattle.gated_store.specs.declared.local.Gated as gated_types
 use Rattle.gated_store.specs.declared.store.GatedStore.{GatedStore}
 use Rattle.gated_store.specs.Follows.{ledgers_at, Follows}
-use Rattle.gated_store.specs.Settled.{readers_behind}
+use Rattle.log_items.specs.Readings.{readers_behind}
 use Rattle.log_items.specs.Entries.{items_in}
 
 -- with no frame under way nothing is to come, and with one it will make this of the partition

@@ -1,5 +1,5 @@
 use Rattle.std.proofs.Common.{◌≡◌, IfSome, length, ap, subst, arith}
-use Rattle.part_items.specs.Plain.{item_of}
+use Rattle.log_items.specs.Plain.{item_of}
 use Rattle.part_steps.specs.States.{state_of}
 use Rattle.part_rounds.specs.Fills.{IsOfPending}
 use Rattle.part_rounds.specs.InTime.{Giving, IsRun}
