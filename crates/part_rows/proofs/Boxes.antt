@@ -7,6 +7,7 @@ use Rattle.std.specs.BTreeMap.{BTreeMap, get, UpdatesBy}
 use Rattle.id_maps.specs.Copies.{AreCopied, AreNumbersCopied}
 use Rattle.id_maps.proofs.Changes.{number_same}
 use Rattle.dura_model.specs.Partition as plain
+use Rattle.log_items.specs.Streams as streams
 use Rattle.dura_value.specs.Items.{Posted as PlainPosted}
 use Rattle.dura_value.specs.declared.identity.Posted.{Posted}
 use Rattle.part_rows.specs.declared.streams.Outbox.{Outbox}
@@ -25,10 +26,10 @@ inbox_changes m n source box updates = λ i q. (ap inbox_or_new (updates.0 q ∙
 
 -- what a stream becomes
 abbrev Change : Type 0
-Change = plain.Outbox → plain.Outbox
+Change = streams.Outbox → streams.Outbox
 
 -- one stream changes
-abbrev changed_at : Change → ℕ → (ℕ → plain.Outbox) → ℕ → plain.Outbox
+abbrev changed_at : Change → ℕ → (ℕ → streams.Outbox) → ℕ → streams.Outbox
 changed_at f target boxes q = cond (target == q) (f (boxes q)) (boxes q)
 
 outbox_at : (b : Bool) (box : Outbox) (was mine : Option Outbox) (f : Change) → (b ≡ true → was ≡ mine) → outbox_of box ≡ f (outbox_or_new mine)
@@ -52,13 +53,13 @@ grown was now posted first items =
 
 pub posted_written : (m n : BTreeMap ℕ Outbox) (target : ℕ) (was now : Outbox) (posted : Posted) → get nat_cmp m target ≡ Some was → (IsSome (get nat_cmp m target) → UpdatesBy nat_cmp (nat_cmp target) m n (Some now))
     → now.first ≡ was.first → now.messages.items ≡ was.messages.items ++ posted ∷ []
-    → (λ (q : ℕ). outbox_or_new (get nat_cmp n q)) ≡ plain.with_posted (λ (q : ℕ). outbox_or_new (get nat_cmp m q)) target (posted_of posted)
+    → (λ (q : ℕ). outbox_or_new (get nat_cmp n q)) ≡ streams.with_posted (λ (q : ℕ). outbox_or_new (get nat_cmp m q)) target (posted_of posted)
 posted_written m n target was now posted found writes first items =
     box_changes m n target now (behind posted) (writes (subst IsSome (sym found) refl)) (grown was now posted first items ∙ ap (λ (o : Option Outbox). behind posted (outbox_or_new o)) (sym found))
 
 pub posted_begun : (m n : BTreeMap ℕ Outbox) (target : ℕ) (now : Outbox) (posted : Posted) → get nat_cmp m target ≡ None → UpdatesBy nat_cmp (nat_cmp target) m n (Some now)
     → now.first ≡ 0 → now.messages.items ≡ posted ∷ []
-    → (λ (q : ℕ). outbox_or_new (get nat_cmp n q)) ≡ plain.with_posted (λ (q : ℕ). outbox_or_new (get nat_cmp m q)) target (posted_of posted)
+    → (λ (q : ℕ). outbox_or_new (get nat_cmp n q)) ≡ streams.with_posted (λ (q : ℕ). outbox_or_new (get nat_cmp m q)) target (posted_of posted)
 posted_begun m n target now posted absent updates first items =
     box_changes m n target now (behind posted) updates
     (ap (λ (k : ℕ). record { first = k; messages = map posted_of now.messages.items }) first
@@ -67,7 +68,7 @@ posted_begun m n target now posted absent updates first items =
 
 -- ---- where a stream begins
 
-abbrev begins_by : Bool → ℕ → plain.Outbox → plain.Outbox
+abbrev begins_by : Bool → ℕ → streams.Outbox → streams.Outbox
 begins_by b number box = cond b box (record { first = number; messages = drop (number - box.first) box.messages })
 
 past_it : (number first : ℕ) → first < number → nat_le number first ≡ false
@@ -87,51 +88,51 @@ at_next false number first rest is less = refl
 
 -- one message less, and the next number
 pub one_gone : (number first : ℕ) (posted : PlainPosted) (rest : List PlainPosted) → first < number
-    → plain.begins_at number (record { first = first; messages = posted ∷ rest }) ≡ plain.begins_at number (record { first = first + 1; messages = rest })
+    → streams.begins_at number (record { first = first; messages = posted ∷ rest }) ≡ streams.begins_at number (record { first = first + 1; messages = rest })
 one_gone number first posted rest less =
     ap (λ (b : Bool). begins_by b number (record { first = first; messages = posted ∷ rest })) (past_it number first less)
     ∙ ap (λ (k : ℕ). record { first = number; messages = drop k (posted ∷ rest) }) (one_less number first less)
     ∙ at_next (nat_le number (first + 1)) number first rest refl less
 
 -- A stream that has let go one message more begins where it did, and isn't past the number yet.
-abbrev pub Goes : ℕ → plain.Outbox → ℕ → List Posted → Type 0
+abbrev pub Goes : ℕ → streams.Outbox → ℕ → List Posted → Type 0
 Goes number start first items =
-    (plain.begins_at number (record { first = first; messages = map posted_of items }) ≡ start) × (number ≤ first + length items) × (first ≤ number)
+    (streams.begins_at number (record { first = first; messages = map posted_of items }) ≡ start) × (number ≤ first + length items) × (first ≤ number)
 
-pub stepped : (number first : ℕ) (items : List Posted) (start : plain.Outbox) → first < number → Goes number start first items → Goes number start (first + 1) (drop 1 items)
+pub stepped : (number first : ℕ) (items : List Posted) (start : streams.Outbox) → first < number → Goes number start first items → Goes number start (first + 1) (drop 1 items)
 stepped number first [] start less goes = let inside : number ≤ first + 0 = goes.1 in absurd (omega (arith, inside, less))
 stepped number first (posted ∷ rest) start less goes =
     let inside : number ≤ first + suc (length rest) = goes.1 in
     (sym (one_gone number first (posted_of posted) (map posted_of rest) less) ∙ goes.0, omega (arith, inside), omega (arith, less))
 
-either : (b : Bool) (box : plain.Outbox) → cond b box box ≡ box
+either : (b : Bool) (box : streams.Outbox) → cond b box box ≡ box
 either true box = refl
 either false box = refl
 
-unchanged : (target : ℕ) (boxes : ℕ → plain.Outbox) → changed_at (λ (box : plain.Outbox). box) target boxes ≡ boxes
+unchanged : (target : ℕ) (boxes : ℕ → streams.Outbox) → changed_at (λ (box : streams.Outbox). box) target boxes ≡ boxes
 unchanged target boxes = λ i q. either (target == q) (boxes q) i
 
 -- a stream that was lent begins later, or stays
 pub begun_written : (m n : BTreeMap ℕ Outbox) (target number : ℕ) (was now : Outbox) (b : Bool) → get nat_cmp m target ≡ Some was → (IsSome (get nat_cmp m target) → UpdatesBy nat_cmp (nat_cmp target) m n (Some now))
-    → outbox_of now ≡ cond b (plain.begins_at number (outbox_of was)) (outbox_of was)
-    → (λ (q : ℕ). outbox_or_new (get nat_cmp n q)) ≡ cond b (plain.with_first (λ (q : ℕ). outbox_or_new (get nat_cmp m q)) target number) (λ (q : ℕ). outbox_or_new (get nat_cmp m q))
+    → outbox_of now ≡ cond b (streams.begins_at number (outbox_of was)) (outbox_of was)
+    → (λ (q : ℕ). outbox_or_new (get nat_cmp n q)) ≡ cond b (streams.with_first (λ (q : ℕ). outbox_or_new (get nat_cmp m q)) target number) (λ (q : ℕ). outbox_or_new (get nat_cmp m q))
 begun_written m n target number was now true found writes is =
-    box_changes m n target now (plain.begins_at number) (writes (subst IsSome (sym found) refl)) (is ∙ ap (λ (o : Option Outbox). plain.begins_at number (outbox_or_new o)) (sym found))
+    box_changes m n target now (streams.begins_at number) (writes (subst IsSome (sym found) refl)) (is ∙ ap (λ (o : Option Outbox). streams.begins_at number (outbox_or_new o)) (sym found))
 begun_written m n target number was now false found writes is =
-    box_changes m n target now (λ (box : plain.Outbox). box) (writes (subst IsSome (sym found) refl)) (is ∙ ap outbox_or_new (sym found)) ∙ unchanged target (λ (q : ℕ). outbox_or_new (get nat_cmp m q))
+    box_changes m n target now (λ (box : streams.Outbox). box) (writes (subst IsSome (sym found) refl)) (is ∙ ap outbox_or_new (sym found)) ∙ unchanged target (λ (q : ℕ). outbox_or_new (get nat_cmp m q))
 
-at_zero : (box : plain.Outbox) → plain.begins_at 0 box ≡ box
+at_zero : (box : streams.Outbox) → streams.begins_at 0 box ≡ box
 at_zero box = ap (λ (b : Bool). begins_by b 0 box) (le-leb 0 box.first (omega (arith)))
 
-from_zero : (b : Bool) (box : plain.Outbox) → cond b (plain.begins_at 0 box) box ≡ box
+from_zero : (b : Bool) (box : streams.Outbox) → cond b (streams.begins_at 0 box) box ≡ box
 from_zero true box = at_zero box
 from_zero false box = refl
 
 -- A stream that begins at 0 stays.
 pub begun_nowhere : (m : BTreeMap ℕ Outbox) (target number : ℕ) → get nat_cmp m target ≡ None → number ≡ 0
-    → plain.with_first (λ (q : ℕ). outbox_or_new (get nat_cmp m q)) target number ≡ (λ (q : ℕ). outbox_or_new (get nat_cmp m q))
+    → streams.with_first (λ (q : ℕ). outbox_or_new (get nat_cmp m q)) target number ≡ (λ (q : ℕ). outbox_or_new (get nat_cmp m q))
 begun_nowhere m target number absent is =
-    ap (plain.with_first (λ (q : ℕ). outbox_or_new (get nat_cmp m q)) target) is
+    ap (streams.with_first (λ (q : ℕ). outbox_or_new (get nat_cmp m q)) target) is
     ∙ (λ i q. from_zero (target == q) (outbox_or_new (get nat_cmp m q)) i)
 
 -- where a stream that is there ends
