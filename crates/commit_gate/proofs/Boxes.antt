@@ -17,8 +17,8 @@ use Rattle.dura_value.specs.Views.{posted_of, identity_of}
 use Rattle.commit_gate.specs.Views.{box_of, whole_box, no_box, boxes_by, nobody, readers_by}
 use Rattle.log_items.specs.Readings.{with_reader}
 
-abbrev pub made : (recovered newest : ℕ) → List ℕ → (ℕ → ℕ) → (ℕ → plain.Outbox) → ledgers.Ledger
-made recovered newest incarnations nexts boxes = record { recovered = recovered; newest = newest; incarnations = incarnations; nexts = nexts; boxes = boxes }
+abbrev pub made : List ℕ → (ℕ → ℕ) → (ℕ → plain.Outbox) → ledgers.Ledger
+made incarnations nexts boxes = record { incarnations = incarnations; nexts = nexts; boxes = boxes }
 
 -- one of the streams changed, and shows the same
 pub box_kept : (view : Stream → plain.Outbox) (boxes : List Stream) (i : ℕ) (s d : Stream) → view s ≡ view (get_or boxes i d) → boxes_by view (set boxes i s) ≡ boxes_by view boxes

@@ -8,3 +8,4 @@ pub mod Going
 pub mod Losing
 pub mod Rooms
 pub mod ReadMarks
+pub mod Stretches

@@ -1,5 +1,5 @@
 -- Nothing that is settled is lost.
-use Rattle.std.proofs.Common.{◌≡◌, ◌⊎◌, inl, inr, ℕ, zero, suc, ◌+◌, ◌-◌, ◌<◌, ◌≤◌, List, [], ◌∷◌, ◌++◌, length, take, drop, get_or, Some, refl, sym, ◌∙◌, ap, subst, arith}
+use Rattle.std.proofs.Common.{◌≡◌, ◌⊎◌, inl, inr, ℕ, zero, suc, ◌+◌, ◌<◌, ◌≤◌, List, [], ◌∷◌, ◌++◌, length, take, drop, get_or, Some, refl, sym, ◌∙◌, ap, subst, arith}
 use Rattle.std.specs.List.{Contains, slice_get}
 use Rattle.std.proofs.lemmas.List.{take-append-drop}
 use Rattle.std.proofs.lemmas.List.{get_or-map as get_mapped}
@@ -8,6 +8,7 @@ use Rattle.std.proofs.lemmas.List.Elements.{Contains-append_cases}
 use Rattle.std.proofs.lemmas.Option.{slice_get_within, slice_get-get_or}
 use Rattle.dura_value.specs.Dependencies.{Lost}
 use Rattle.dura_value.specs.Items.{Identity, Entry, Floor}
+use Rattle.commit_gate.specs.Past.{spread}
 use Rattle.commit_gate.specs.Unlost.{IsUnlost, IsFrameUnlost, AreUnlost}
 use Rattle.commit_gate.specs.declared.ledger.Ledger as declared
 use Rattle.commit_gate.specs.Refused.{IsReady}
@@ -18,14 +19,11 @@ use Rattle.log_items.specs.Entries.{incarnations_in}
 
 -- what is known was given up by no incarnation
 pub known_kept : (ledger : Ledger) (floors : List Floor) (e : Identity) → IsUnlost ledger floors → IsKnown ledger e → Lost floors e → ⊥
-known_kept ledger floors e unlost (inl recovered) lost = let low = unlost.recovered lost.floor lost.there in omega (arith, low, recovered.0, lost.below)
-known_kept ledger floors e unlost (inr settled) lost =
-    let low = unlost.settled (e.position - ledger.recovered) e.incarnation settled.1 lost.floor lost.there lost.later in omega (arith, low, settled.0, lost.below)
+known_kept ledger floors e unlost known lost = let low = unlost e.position e.incarnation known lost.floor lost.there lost.later in omega (arith, low, lost.below)
 
 -- and is among the first so many
 pub known_below : (ledger : Ledger) (e : Identity) → IsKnown ledger e → e.position < log_length ledger
-known_below ledger e (inl recovered) = omega (arith, recovered.0)
-known_below ledger e (inr settled) = let low = slice_get_within ledger.incarnations (e.position - ledger.recovered) e.incarnation settled.1 in omega (arith, low, settled.0)
+known_below ledger e known = slice_get_within ledger.incarnations e.position e.incarnation known
 
 -- what stands in one of two lists
 pub get_either : {X : Type 0} (xs ys : List X) (i : ℕ) (x : X) → slice_get (xs ++ ys) i ≡ Some x → (slice_get xs i ≡ Some x) ⊎ ((k : ℕ) × (i ≡ length xs + k) × (slice_get ys k ≡ Some x))
@@ -43,16 +41,13 @@ incarnation_at (entry ∷ entries) (suc k) incarnation is = incarnation_at entri
 
 -- a frame that goes on
 pub frame_unlost : (ledger : Ledger) (floors : List Floor) (entries : List Entry) (sent : List Sent) → IsUnlost ledger floors → IsFrameUnlost (log_length ledger) floors entries → IsUnlost (with_frame ledger entries sent) floors
-frame_unlost ledger floors entries sent unlost frame = record {
-  recovered = unlost.recovered;
-  settled = λ i incarnation is floor there later. elim (get_either ledger.incarnations (incarnations_in entries) i incarnation is) [
-    | inl before ↦ unlost.settled i incarnation before floor there later
-    | inr (k, at, mine) ↦
-        let e = incarnation_at entries k incarnation mine in
-        let low : log_length ledger + k < floor.from = frame k e.0 e.1 floor there (subst (λ (n : ℕ). n < floor.incarnation) (sym e.2) later) in
-        omega (arith, low, at)
-  ];
-}
+frame_unlost ledger floors entries sent unlost frame i incarnation is floor there later = elim (get_either ledger.incarnations (incarnations_in entries) i incarnation is) [
+  | inl before ↦ unlost i incarnation before floor there later
+  | inr (k, at, mine) ↦
+      let e = incarnation_at entries k incarnation mine in
+      let low : log_length ledger + k < floor.from = frame k e.0 e.1 floor there (subst (λ (n : ℕ). n < floor.incarnation) (sym e.2) later) in
+      omega (arith, low, at)
+]
 
 only : (floor f : Floor) → Contains (floor ∷ []) f → floor ≡ f
 only floor f (zero, low, is) = is
@@ -60,27 +55,24 @@ only floor f (suc k, low, is) = absurd (omega (arith, low))
 
 -- one more floor that is at no less than the end of the frame under way
 pub floor_unlost : (ledger : Ledger) (floors : List Floor) (floor : Floor) → log_length ledger ≤ floor.from → IsUnlost ledger floors → IsUnlost ledger (floors ++ floor ∷ [])
-floor_unlost ledger floors floor high unlost = record {
-  recovered = λ f there. elim (Contains-append_cases floors (floor ∷ []) f there) [
-    | inl before ↦ unlost.recovered f before
-    | inr is ↦ let e = only floor f is in subst (λ (g : Floor). ledger.recovered ≤ g.from) e (omega (arith, high))
-  ];
-  settled = λ i incarnation at f there later. elim (Contains-append_cases floors (floor ∷ []) f there) [
-    | inl before ↦ unlost.settled i incarnation at f before later
-    | inr is ↦ let e = only floor f is in let low : i < length ledger.incarnations = slice_get_within ledger.incarnations i incarnation at in subst (λ (g : Floor). ledger.recovered + i < g.from) e (omega (arith, high, low))
-  ];
-}
+floor_unlost ledger floors floor high unlost i incarnation at f there later = elim (Contains-append_cases floors (floor ∷ []) f there) [
+  | inl before ↦ unlost i incarnation at f before later
+  | inr is ↦ let e = only floor f is in let low : i < length ledger.incarnations = slice_get_within ledger.incarnations i incarnation at in subst (λ (g : Floor). i < g.from) e (omega (arith, high, low))
+]
 
 -- what stands in the front of a list
 pub get_taken : {X : Type 0} (n : ℕ) (xs : List X) (i : ℕ) (x : X) → slice_get (take n xs) i ≡ Some x → slice_get xs i ≡ Some x
 get_taken {X} n xs i x is = subst (λ (l : List X). slice_get l i ≡ Some x) (take-append-drop n xs) (get_append (take n xs) (drop n xs) i x is)
 
+-- what stands in a list behind the front of another stands behind all of it
+pub get_behind_taken : {X : Type 0} (n : ℕ) (front xs : List X) (i : ℕ) (x : X) → slice_get (front ++ take n xs) i ≡ Some x → slice_get (front ++ xs) i ≡ Some x
+get_behind_taken n [] xs i x is = get_taken n xs i x is
+get_behind_taken n (y ∷ front) xs zero x is = is
+get_behind_taken n (y ∷ front) xs (suc i) x is = get_behind_taken n front xs i x is
+
 -- what holds with a frame under way holds without
 pub settled_unlost : (ledger : declared.Ledger) (floors : List Floor) → IsUnlost (whole_of ledger) floors → IsUnlost (ledger_of ledger) floors
-settled_unlost ledger floors unlost = record {
-  recovered = unlost.recovered;
-  settled = λ i incarnation is floor there later. unlost.settled i incarnation (get_taken ledger.settled ledger.incarnations.items i incarnation is) floor there later;
-}
+settled_unlost ledger floors unlost i incarnation is = unlost i incarnation (get_behind_taken ledger.settled (spread ledger.past.items) ledger.incarnations.items i incarnation is)
 
 -- a partition's ledger among all
 pub ledger_here : (ledgers : List declared.Ledger) (partition : ℕ) (ledger : declared.Ledger) → partition < length ledgers → ledger ≡ get_or ledgers partition ledger → ledgers_of ledgers partition ≡ ledger_of ledger

@@ -106,8 +106,7 @@ come_from low nexts (trim reader number ∷ items) above reads = All-cons (Comes
 -- ---- names
 
 pub known_stays : (row : Ledger) (entries : List Entry) (sent : List Sent) (e : Identity) → IsKnown row e → IsKnown (after_frame row entries sent) e
-known_stays row entries sent e (inl recovered) = inl recovered
-known_stays row entries sent e (inr settled) = inr (settled.0, get_append row.incarnations (incarnations_in entries) (e.position - row.recovered) e.incarnation settled.1)
+known_stays row entries sent e known = get_append row.incarnations (incarnations_in entries) e.position e.incarnation known
 
 -- ---- the whole
 

@@ -1,33 +1,25 @@
 -- What other partitions see of one.
-use Rattle.std.specs.Prelude.{◌≡◌, ◌⊎◌, ℕ, ◌+◌, ◌-◌, ◌<◌, ◌≤◌, List, ◌++◌, length, Some}
+use Rattle.std.specs.Prelude.{◌≡◌, ℕ, List, ◌++◌, length, Some}
 use Rattle.std.specs.List.{slice_get}
 use Rattle.dura_value.specs.Items.{Identity, Item, Entry}
 use Rattle.log_items.specs.Entries.{items_in, incarnations_in}
 use Rattle.log_items.specs.Readings.{nexts_after}
 use Rattle.log_items.specs.Streams.{Outbox, Sent, with_sent, boxes_after}
 
--- Of a partition so many entries were recovered, of incarnations up to this one. Since then an entry each of these incarnations was
--- settled, in this order. It has taken in the streams from others up to these numbers, and this is left of its own.
+-- Of a partition each entry that was recovered or settled, by its position, is of this incarnation. It has taken in the streams from
+-- others up to these numbers, and this is left of its own.
 pub record Ledger : Type 0 where
-  pub recovered : ℕ
-  pub newest : ℕ
   pub incarnations : List ℕ
   pub nexts : ℕ → ℕ
   pub boxes : ℕ → Outbox
 
--- how many of its entries are settled, the recovered ones too
+-- how many of its entries were recovered or settled
 abbrev pub log_length : Ledger → ℕ
-log_length ledger = ledger.recovered + length ledger.incarnations
+log_length ledger = length ledger.incarnations
 
--- An entry of the partition was recovered, or was settled since: by its identity.
-abbrev pub IsRecovered : Ledger → Identity → Type 0
-IsRecovered ledger e = (e.position < ledger.recovered) × (e.incarnation ≤ ledger.newest)
-
-abbrev pub IsSettled : Ledger → Identity → Type 0
-IsSettled ledger e = (ledger.recovered ≤ e.position) × (slice_get ledger.incarnations (e.position - ledger.recovered) ≡ Some e.incarnation)
-
+-- an entry of the partition is one of them, by its identity
 abbrev pub IsKnown : Ledger → Identity → Type 0
-IsKnown ledger e = IsRecovered ledger e ⊎ IsSettled ledger e
+IsKnown ledger e = slice_get ledger.incarnations e.position ≡ Some e.incarnation
 
 -- ---- what a frame makes of it
 

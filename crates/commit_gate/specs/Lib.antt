@@ -3,6 +3,7 @@ pub mod Ledgers
 pub mod Local
 pub mod Marking
 pub mod Met
+pub mod Past
 pub mod Refused
 pub mod Room
 pub mod Unlost

@@ -1,15 +1,14 @@
 -- What no incarnation gave up.
-use Rattle.std.specs.Prelude.{◌≡◌, ℕ, ◌+◌, ◌<◌, ◌≤◌, List, Some}
+use Rattle.std.specs.Prelude.{◌≡◌, ℕ, ◌+◌, ◌<◌, List, Some}
 use Rattle.std.specs.List.{Contains, slice_get}
 use Rattle.dura_value.specs.Items.{Entry, Floor}
 use Rattle.commit_gate.specs.Ledgers.{Ledger}
 use Rattle.commit_gate.specs.declared.ledger.Ledger as declared
 use Rattle.commit_gate.specs.Views.{ledger_of, floors_in}
 
--- No incarnation gave up an entry that was recovered, nor one that was settled since.
-pub record IsUnlost (ledger : Ledger) (floors : List Floor) : Type 0 where
-  pub recovered : (floor : Floor) → Contains floors floor → ledger.recovered ≤ floor.from
-  pub settled : (i incarnation : ℕ) → slice_get ledger.incarnations i ≡ Some incarnation → (floor : Floor) → Contains floors floor → incarnation < floor.incarnation → ledger.recovered + i < floor.from
+-- No incarnation gave up an entry that was recovered or settled.
+abbrev pub IsUnlost : Ledger → List Floor → Type 0
+IsUnlost ledger floors = (position incarnation : ℕ) → slice_get ledger.incarnations position ≡ Some incarnation → (floor : Floor) → Contains floors floor → incarnation < floor.incarnation → position < floor.from
 
 -- nor one of a frame that goes on from this position
 abbrev pub IsFrameUnlost : (position : ℕ) → List Floor → List Entry → Type 0

@@ -1,5 +1,5 @@
 -- The plain data that ledgers and streams stand for.
-use Rattle.std.specs.Prelude.{ℕ, List, [], map, take, slice_index_or}
+use Rattle.std.specs.Prelude.{ℕ, List, [], ◌++◌, map, take, slice_index_or}
 use Rattle.dura_value.specs.Items.{Floor, Identity}
 use Rattle.dura_value.specs.declared.identity.Identity as identities
 use Rattle.dura_value.specs.Views.{identity_of, posted_of, floor_of}
@@ -8,6 +8,7 @@ use Rattle.commit_gate.specs.declared.ledger.Sending.{Sending}
 use Rattle.commit_gate.specs.declared.ledger.Stream.{Stream}
 use Rattle.commit_gate.specs.declared.ledger.Ledger.{Ledger}
 use Rattle.commit_gate.specs.Ledgers as plain
+use Rattle.commit_gate.specs.Past.{spread}
 
 abbrev pub sent_of : Sending → Sent
 sent_of sending = record { to = sending.to; posted = posted_of sending.posted }
@@ -35,24 +36,20 @@ nexts_by nexts source = slice_index_or nexts source 0
 -- a partition as it is settled, and with its frame under way
 abbrev pub ledger_of : Ledger → plain.Ledger
 ledger_of ledger = record {
-  recovered = ledger.recovered;
-  newest = ledger.newest;
-  incarnations = take ledger.settled ledger.incarnations.items;
+  incarnations = spread ledger.past.items ++ take ledger.settled ledger.incarnations.items;
   nexts = nexts_by ledger.nexts.items;
   boxes = boxes_by box_of ledger.boxes.items;
 }
 
 abbrev pub whole_of : Ledger → plain.Ledger
 whole_of ledger = record {
-  recovered = ledger.recovered;
-  newest = ledger.newest;
-  incarnations = ledger.incarnations.items;
+  incarnations = spread ledger.past.items ++ ledger.incarnations.items;
   nexts = nexts_by ledger.nexts.items;
   boxes = boxes_by whole_box ledger.boxes.items;
 }
 
 abbrev pub no_ledger : plain.Ledger
-no_ledger = record { recovered = 0; newest = 0; incarnations = []; nexts = λ source. 0; boxes = λ target. no_box }
+no_ledger = record { incarnations = []; nexts = λ source. 0; boxes = λ target. no_box }
 
 abbrev pub ledgers_of : List Ledger → ℕ → plain.Ledger
 ledgers_of ledgers partition = slice_index_or (map ledger_of ledgers) partition no_ledger

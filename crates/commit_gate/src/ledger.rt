@@ -1,7 +1,9 @@
 //! What others see of a partition.
 
-ghost use Rattle.std.specs.Prelude.{◌≤◌, ◌<◌, ◌+◌, ◌^◌, length};
+ghost use Rattle.std.specs.Prelude.{◌≡◌, ◌≤◌, ◌<◌, ◌+◌, ◌^◌, length};
+ghost use Rattle.commit_gate.specs.Past.{spread};
 
+use crate::stretch::Stretch;
 use dura_value::{Floor, Identity, Posted};
 use std::collections::VecDeque;
 
@@ -30,10 +32,10 @@ pub struct Stream {
 /// What others see of a partition: which of its entries are settled, and what is left of its streams.
 #[derive(Drop)]
 pub struct Ledger {
-    /// How many entries were recovered.
+    /// The incarnations of the entries that were recovered, stretch by stretch.
+    pub(crate) past: Vec<Stretch>,
+    /// How many they are.
     pub(crate) recovered: u64,
-    /// The greatest incarnation among them.
-    pub(crate) newest: u64,
     /// How many entries were settled since.
     pub(crate) settled: usize,
     /// The incarnation of each of these, and behind them of those in the frame under way.
@@ -47,5 +49,6 @@ pub struct Ledger {
     /// Its streams to others.
     pub(crate) boxes: Vec<Stream>,
     ghost inside: { settled ≤ length incarnations.items },
+    ghost past_is: { recovered ≡ length (spread past.items) },
     ghost short: { recovered + length incarnations.items < 2 ^ 64 },
 }

@@ -1,10 +1,12 @@
 //! What others see of a partition at the beginning.
 
-ghost use Rattle.std.specs.Prelude.{◌≡◌, [], length, map};
+ghost use Rattle.std.specs.Prelude.{◌≡◌, ◌<◌, ◌^◌, length, map};
 ghost use Rattle.dura_value.specs.Views.{posted_of, floor_of};
+ghost use Rattle.commit_gate.specs.Past.{spread};
 ghost use Rattle.commit_gate.specs.Views.{box_of, whole_box, boxes_by, nexts_by, floors_in, ledger_of, whole_of};
 
 use crate::ledger::{Ledger, Stream};
+use crate::stretch::Stretch;
 use dura_value::{Floor, Identity, Posted};
 use std::alloc::Global;
 use std::collections::VecDeque;
@@ -25,23 +27,23 @@ impl Stream {
 }
 
 impl Ledger {
-    /// What others see of a partition at the beginning: so many entries were recovered, of incarnations up to this one, these began since,
-    /// the streams from each partition were taken in up to these numbers, the last message of each by this entry, and these to each are
+    /// What others see of a partition at the beginning: so many entries were recovered, of these incarnations, these floors were set, the
+    /// streams from each partition were taken in up to these numbers, the last message of each by this entry, and these to each are
     /// left.
     pub fn recovered(
         alloc: Global,
+        past: Vec<Stretch>,
         recovered: u64,
-        newest: u64,
         floors: Vec<Floor>,
         nexts: Vec<u64>,
         readers: Vec<Identity>,
         boxes: Vec<Stream>,
     ) -> Ledger
+        requires count { recovered ≡ length (spread past.items) }
+        requires short { recovered < 2 ^ 64 }
         requires rests { boxes_by whole_box boxes.items ≡ boxes_by box_of boxes.items }
         ensures settled { ledger_of result ≡ record {
-          recovered = recovered;
-          newest = newest;
-          incarnations = [];
+          incarnations = spread past.items;
           nexts = nexts_by nexts.items;
           boxes = boxes_by box_of boxes.items;
         } }
@@ -52,8 +54,8 @@ impl Ledger {
         ensures readers { result.readers.items ≡ readers.items }
     {
         Ledger {
+            past,
             recovered,
-            newest,
             settled: 0,
             incarnations: Vec::new(alloc),
             floors,

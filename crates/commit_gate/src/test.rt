@@ -13,6 +13,7 @@ ghost use Rattle.commit_gate.specs.Views.{floors_in, box_of, ledger_of, ledgers_
 ghost use Rattle.log_items.specs.Entries.{items_in};
 
 use crate::ledger::{Ledger, Stream};
+use crate::stretch::incarnation_at;
 use crate::unmet::Unmet;
 use dura_value::{Floor, Identity, Message, Posted, is_same_entry};
 use log_items::{Frame, Item};
@@ -58,12 +59,15 @@ impl Ledger {
         self.recovered + self.settled as u64
     }
 
-    /// Whether an entry was recovered, or was settled since.
+    /// Whether an entry is one of those that were recovered or settled.
     fn knows(&self, e: Identity) -> bool
         ensures { Decides result (IsKnown (ledger_of self.now) (identity_of e)) }
     {
         if e.position < self.recovered {
-            return e.incarnation <= self.newest;
+            return match incarnation_at(&self.past, e.position) {
+                Some(incarnation) => incarnation == e.incarnation,
+                None => false,
+            };
         }
         let index = e.position - self.recovered;
         if self.settled as u64 <= index {

@@ -1,5 +1,5 @@
 -- Rows fit on, where one partition's frame moved.
-use Rattle.std.proofs.Common.{◌≡◌, ◌≢◌, inl, inr, true, ℕ, ◌<◌, List, [], ◌∷◌, ◌++◌, length, Option, Some, None, refl, sym, ◌∙◌, ap, subst, arith}
+use Rattle.std.proofs.Common.{◌≡◌, ◌≢◌, inl, inr, true, ℕ, ◌<◌, List, ◌++◌, length, Option, Some, None, sym, ◌∙◌, ap, subst, arith}
 use Rattle.std.specs.List.{slice_get}
 use Rattle.std.proofs.Math.ListN.{set}
 use Rattle.std.proofs.lemmas.Bool.{cases_eq}
@@ -13,7 +13,7 @@ use Rattle.hub_store.specs.Trail.{Settled, Said, of_part, settling}
 use Rattle.hub_store.specs.declared.way.Stage.{Stage}
 use Rattle.hub_store.specs.Ways.{is_tried}
 use Rattle.gated_store.specs.Following.{own_after, others_after, still_settled}
-use Rattle.gated_store.specs.Follows.{ledgers_at, Follows, GoesOnThere}
+use Rattle.gated_store.specs.Follows.{ledgers_at, GoesOnThere}
 use Rattle.gated_store.specs.Kept.{LedgerFits, IsMade, IsMetAt, Fits}
 use Rattle.gated_store.specs.Kept.Grown.{one_more}
 

@@ -1,9 +1,9 @@
 -- What was settled frame by frame stands behind all that it depends on.
-use Rattle.std.proofs.Common.{◌≡◌, ◌≢◌, ◌⊎◌, inl, inr, ℕ, zero, suc, ◌+◌, ◌-◌, ◌==◌, ◌<◌, ◌≤◌, Bool, true, false, cond, List, [], ◌∷◌, ◌++◌, length, map, drop, get_or, Option, Some, None, refl, sym, ◌∙◌, ap, subst, arith, length-append, length-drop}
+use Rattle.std.proofs.Common.{◌≡◌, ◌⊎◌, inl, inr, ℕ, zero, suc, ◌+◌, ◌-◌, ◌==◌, Bool, true, false, cond, List, [], ◌∷◌, ◌++◌, map, drop, Some, refl, sym, ◌∙◌, ap, subst, arith, length-drop}
 use Rattle.std.specs.List.{All, Contains, slice_get}
 use Rattle.std.proofs.Math.Dec.{leb}
 use Rattle.std.proofs.lemmas.Bool.{cases_eq}
-use Rattle.std.proofs.lemmas.List.{map-append, get_or-drop, append-nil}
+use Rattle.std.proofs.lemmas.List.{map-append, get_or-drop}
 use Rattle.std.proofs.lemmas.List.Elements.{All-nil, All-cons, All-head, All-tail, Contains-append_left, Contains-append_right, Contains-append_cases}
 use Rattle.std.proofs.lemmas.Option.{slice_get_within, get_or_from_slice_get}
 use Rattle.dura_value.specs.Items.{Identity, Item, Entry, took, got, ran, ended, fired, trim}
@@ -12,13 +12,13 @@ use Rattle.dura_value.specs.Items.{Posted}
 use Rattle.log_items.specs.Streams.{Outbox, with_posted, begins_at, with_first, Sent, with_sent, boxes_after}
 use Rattle.commit_gate.proofs.Losing.{get_either}
 use Rattle.commit_gate.specs.Local.{GoesOn}
-use Rattle.commit_gate.specs.Met.{HasPosted, IsMet, AreMet}
-use Rattle.commit_gate.specs.Ledgers.{Ledger, log_length, IsRecovered, IsKnown, after_frame}
+use Rattle.commit_gate.specs.Met.{IsMet}
+use Rattle.commit_gate.specs.Ledgers.{Ledger, log_length, IsKnown, after_frame}
 use Rattle.hub_store.specs.Trail.{Settled, Said, of_part, settling}
 use Rattle.gated_store.specs.Causal.{identity_of, IsThere, Causal}
 use Rattle.gated_store.specs.Causal.Causal.{nothing as no_trail, one_more as frame_more}
 use Rattle.gated_store.specs.Following.{own_after, others_after}
-use Rattle.gated_store.specs.Follows.{ledgers_at, Follows, GoesOnThere}
+use Rattle.gated_store.specs.Follows.{ledgers_at, GoesOnThere}
 use Rattle.gated_store.specs.Kept.{Grown}
 use Rattle.gated_store.specs.Kept.Grown.{nothing, one_more}
 use Rattle.log_items.specs.Entries.{AreInTurn, identity_at, identities_at, items_in, incarnations_in}
@@ -94,7 +94,7 @@ entry_at p place (entry ∷ going) (suc k) incarnation on is =
     (subst (λ (n : ℕ). Contains (identities_at p going) (record { partition = p; incarnation = incarnation; position = n })) e rest)
 
 module _ (ledgers : ℕ → List Entry → Ledger) (may_make : ℕ → List Entry → List Said → ℕ → List Entry → Type 0) (goes : (latest : ℕ) (mine : List Entry) (told : List Said) (partition : ℕ) (going : List Entry) → may_make latest mine told partition going → GoesOnThere ledgers mine partition going)
-    (fresh : (partition : ℕ) → (ledgers partition []).incarnations ≡ []) (begins : (partition target : ℕ) (posted : Posted) → Contains ((ledgers partition []).boxes target).messages posted → IsRecovered (ledgers posted.entry.partition []) posted.entry) where
+    (begins : (partition target : ℕ) (posted : Posted) → Contains ((ledgers partition []).boxes target).messages posted → IsKnown (ledgers posted.entry.partition []) posted.entry) where
   abbrev begin : ℕ → Ledger
   begin p = ledgers p []
 
@@ -115,21 +115,17 @@ module _ (ledgers : ℕ → List Entry → Ledger) (may_make : ℕ → List Entr
   grounded_first : Grounded []
   grounded_first = record {
     held = λ q t posted there. inl (begins q t posted there);
-    known = λ e is. elim is [
-      | inl recovered ↦ inl recovered
-      | inr settled ↦ absurd (let none : slice_get {X = ℕ} [] (e.position - (ledgers e.partition []).recovered) ≡ Some e.incarnation = subst (λ (l : List ℕ). slice_get l (e.position - (ledgers e.partition []).recovered) ≡ Some e.incarnation) (fresh e.partition) settled.1 in cc)
-    ];
+    known = λ e is. inl is;
   }
 
   -- a frame's own names once it is settled
   own_known : (trail : List Settled) (p at : ℕ) (going : List Entry) (sent : List Sent) (e : Identity) → Grounded trail → AreInTurn (log_length (ledgers_at ledgers trail p)) going → e.partition ≡ p → IsKnown (after_frame (ledgers_at ledgers trail p) going sent) e → IsThere begin (trail ++ settling p at going) e
-  own_known trail p at going sent e g on is (inl recovered) = there_still trail (settling p at going) e (g.known e (inl (subst (λ (k : ℕ). IsRecovered (ledgers_at ledgers trail k) e) (sym is) recovered)))
-  own_known trail p at going sent e g on is (inr settled) =
+  own_known trail p at going sent e g on is known =
       let ledger = ledgers_at ledgers trail p in
-      elim (get_either ledger.incarnations (incarnations_in going) (e.position - ledger.recovered) e.incarnation settled.1) [
-        | inl before ↦ there_still trail (settling p at going) e (g.known e (inr (subst (λ (k : ℕ). (ledgers_at ledgers trail k).recovered ≤ e.position) (sym is) settled.0, subst (λ (k : ℕ). slice_get (ledgers_at ledgers trail k).incarnations (e.position - (ledgers_at ledgers trail k).recovered) ≡ Some e.incarnation) (sym is) before)))
+      elim (get_either ledger.incarnations (incarnations_in going) e.position e.incarnation known) [
+        | inl before ↦ there_still trail (settling p at going) e (g.known e (subst (λ (k : ℕ). IsKnown (ledgers_at ledgers trail k) e) (sym is) before))
         | inr (k, place, mine) ↦
-            let where_is : log_length ledger + k ≡ e.position = omega (arith, place, settled.0) in
+            let where_is : log_length ledger + k ≡ e.position = omega (arith, place) in
             let named = entry_at p (log_length ledger) going k e.incarnation on mine in
             let same : identity p e.incarnation (log_length ledger + k) ≡ e = ap (λ (n : ℕ). identity n e.incarnation (log_length ledger + k)) (sym is) ∙ ap (identity e.partition e.incarnation) where_is in
             there_now trail p at going e (subst (Contains (identities_at p going)) same named)

@@ -1,5 +1,5 @@
 -- What a call on the logs leaves of how the ledgers fit.
-use Rattle.std.proofs.Common.{◌≡◌, ◌≢◌, ◌⊎◌, inl, inr, ℕ, ◌<◌, ◌≤◌, List, [], ◌∷◌, ◌++◌, length, map, get_or, Option, Some, None, MatchOption, Result, Ok, Err, OnOk, OnErr, is_err, IfErr, true, false, ◌+◌, length-append, refl, sym, ◌∙◌, ap, subst, arith}
+use Rattle.std.proofs.Common.{◌≡◌, ◌≢◌, inl, inr, ℕ, ◌<◌, ◌≤◌, List, [], ◌∷◌, ◌++◌, length, map, get_or, Option, Some, None, MatchOption, Result, Ok, Err, OnOk, OnErr, is_err, IfErr, true, false, ◌+◌, length-append, refl, sym, ◌∙◌, ap, subst, arith}
 use Rattle.std.specs.List.{All, slice_get}
 use Rattle.std.proofs.Math.ListN.{set}
 use Rattle.std.proofs.Math.Seq.{map-set_same}
@@ -10,17 +10,17 @@ use Rattle.dura_value.specs.Items.{Identity, Item, Entry, Floor}
 use Rattle.dura_value.specs.Dependencies.{Lost}
 use Rattle.dura_value.specs.Views.{floor_of}
 use Rattle.commit_gate.specs.declared.ledger.Ledger as declared
-use Rattle.commit_gate.proofs.Losing.{frame_unlost, floor_unlost, known_kept, settled_unlost, get_taken}
+use Rattle.commit_gate.proofs.Losing.{frame_unlost, floor_unlost, known_kept, settled_unlost}
 use Rattle.commit_gate.specs.Unlost.{IsUnlost, IsFrameUnlost, AreUnlost}
 use Rattle.commit_gate.specs.Keeping.{IsSized, KeepsPlaces, AreOfOne}
-use Rattle.commit_gate.specs.Met.{IsMet, AreMet}
+use Rattle.commit_gate.specs.Met.{IsMet}
 use Rattle.commit_gate.specs.declared.unmet.Unmet.{Unmet}
 use Rattle.commit_gate.specs.Refused.{Passes, RefusesFirst, Tests}
 use Rattle.commit_gate.specs.Ledgers.{Ledger, log_length, IsKnown, with_frame, after_items, after_frame}
 use Rattle.commit_gate.specs.Views.{ledger_of, whole_of, ledgers_of, floors_of, no_ledger, floors_in, readers_by, readers_in}
 use Rattle.log_items.specs.Readings.{readers_behind, readers_after}
 use Rattle.hub_store.specs.Trail.{Settled, Said, of_part, settling}
-use Rattle.hub_store.specs.Ways.{stage_of, going_in, way_of, is_tried, is_untried}
+use Rattle.hub_store.specs.Ways.{stage_of, going_in, is_tried, is_untried}
 use Rattle.hub_store.specs.declared.refusal.Refusal.{Refusal}
 use Rattle.hub_store.specs.declared.refusal.Refusal.TheVariants as refusals
 use Rattle.hub_store.specs.declared.way.Way.{Way}
@@ -78,7 +78,7 @@ module _ (count : ℕ) (ledgers : ℕ → List Entry → Ledger) (readers : ℕ 
     read = ap (λ (v : _). readers_by v.items) read ∙ fits.read;
     unlost = subst (λ (r : Ledger). IsUnlost r (floors_in new)) (sym gone)
         (subst (λ (v : _). IsUnlost (ledger_of ledger) (map floor_of v.items)) (sym place.floors)
-        (record { recovered = fits.unlost.recovered; settled = λ i incarnation is floor there lower. fits.unlost.settled i incarnation (get_taken ledger.settled ledger.incarnations.items i incarnation is) floor there lower }));
+        (settled_unlost ledger (floors_in ledger) fits.unlost));
   }
 
   -- a frame is
@@ -100,7 +100,7 @@ module _ (count : ℕ) (ledgers : ℕ → List Entry → Ledger) (readers : ℕ 
 -- what is settled of a frame
 after_unlost : (ledger new : declared.Ledger) (items : List Item) → KeepsPlaces ledger new → ledger_of new ≡ after_items items (whole_of ledger) → whole_of new ≡ ledger_of new → IsUnlost (whole_of ledger) (floors_in ledger) → IsUnlost (whole_of new) (floors_in new)
 after_unlost ledger new items place made whole unlost =
-    let after : IsUnlost (after_items items (whole_of ledger)) (floors_in ledger) = record { recovered = unlost.recovered; settled = unlost.settled } in
+    let after : IsUnlost (after_items items (whole_of ledger)) (floors_in ledger) = unlost in
     subst (λ (r : Ledger). IsUnlost r (floors_in new)) (sym (whole ∙ made)) (subst (λ (v : _). IsUnlost (after_items items (whole_of ledger)) (map floor_of v.items)) (sym place.floors) after)
 
 module _ (count : ℕ) (ledgers : ℕ → List Entry → Ledger) (readers : ℕ → ℕ → Identity) (may_make : ℕ → List Entry → List Said → ℕ → List Entry → Type 0) (latest now_latest : ℕ) (trail now_trail : List Settled) (told now_told : List Said) (going now_going : ℕ → Option (List Entry)) (stage now_stage : ℕ → Stage) (list now_list : List declared.Ledger)

@@ -1,13 +1,11 @@
 -- More was said, and a later moment was heard of.
-use Rattle.std.proofs.Common.{◌≡◌, ◌≢◌, ℕ, ◌≤◌, List, [], ◌++◌, Option, Some, None, Result, Ok, Err, OnOk, OnErr, refl, sym, ◌∙◌, ap, subst}
+use Rattle.std.proofs.Common.{◌≡◌, ℕ, ◌≤◌, List, [], ◌++◌, Option, Some, None, Result, Ok, Err, OnOk, OnErr, sym, ◌∙◌}
 use Rattle.std.proofs.lemmas.List.{append-nil}
 use Rattle.dura_value.specs.Items.{Identity, Entry}
 use Rattle.commit_gate.specs.declared.ledger.Ledger as declared
 use Rattle.commit_gate.specs.Ledgers.{Ledger}
 use Rattle.hub_store.specs.Trail.{Settled, Said, of_part}
-use Rattle.hub_store.specs.Ways.{way_of, going_in, stage_of}
 use Rattle.hub_store.specs.declared.way.Stage.{Stage}
-use Rattle.hub_store.specs.declared.way.Way.{Way}
 use Rattle.gated_store.specs.Kept.{IsMade, Fits}
 
 module _ (count : ℕ) (ledgers : ℕ → List Entry → Ledger) (readers : ℕ → ℕ → Identity) (may_make : ℕ → List Entry → List Said → ℕ → List Entry → Type 0) where

@@ -1,11 +1,11 @@
 -- No floor cuts a frame that is under way.
-use Rattle.std.proofs.Common.{◌≡◌, ◌⊎◌, inl, inr, ℕ, zero, suc, ◌+◌, ◌<◌, ◌≤◌, List, [], ◌∷◌, ◌++◌, length, get_or, Option, Some, None, refl, sym, ◌∙◌, ap, subst, arith}
-use Rattle.std.specs.List.{Contains, slice_get}
+use Rattle.std.proofs.Common.{◌≡◌, inl, inr, ℕ, suc, ◌+◌, ◌<◌, List, [], ◌∷◌, ◌++◌, length, Option, Some, sym, ◌∙◌, ap, subst, arith}
+use Rattle.std.specs.List.{slice_get}
 use Rattle.std.specs.Option.{option_map}
 use Rattle.std.proofs.lemmas.Option.{slice_get_cases, slice_get-map}
 use Rattle.dura_value.specs.Items.{Identity, Entry, Floor}
 use Rattle.commit_gate.specs.declared.ledger.Ledger as declared
-use Rattle.commit_gate.specs.Ledgers.{Ledger, log_length, after_frame}
+use Rattle.commit_gate.specs.Ledgers.{Ledger, log_length}
 use Rattle.commit_gate.specs.Unlost.{IsUnlost, IsFrameUnlost}
 use Rattle.commit_gate.specs.Views.{floors_in, floors_of, whole_of}
 use Rattle.hub_store.specs.Trail.{Settled, Said, of_part}
@@ -20,13 +20,13 @@ get_behind [] ys k y is = let e : k ≡ 0 + k = omega arith in subst (λ (n : �
 get_behind (x ∷ xs) ys k y is = let e : suc (length xs + k) ≡ suc (length xs) + k = omega arith in subst (λ (n : ℕ). slice_get (x ∷ (xs ++ ys)) n ≡ Some y) e (get_behind xs ys k y is)
 
 -- where it goes on
-frame_uncut : (before whole : Ledger) (going : List Entry) (floors : List Floor) → whole.recovered ≡ before.recovered → whole.incarnations ≡ before.incarnations ++ incarnations_in going → IsUnlost whole floors → IsFrameUnlost (log_length before) floors going
-frame_uncut before whole going floors same list unlost k entry at floor there later =
+frame_uncut : (before whole : Ledger) (going : List Entry) (floors : List Floor) → whole.incarnations ≡ before.incarnations ++ incarnations_in going → IsUnlost whole floors → IsFrameUnlost (log_length before) floors going
+frame_uncut before whole going floors list unlost k entry at floor there later =
     let mine : slice_get (incarnations_in going) k ≡ Some entry.incarnation = slice_get-map (λ (e : Entry). e.incarnation) going k ∙ ap (option_map (λ (e : Entry). e.incarnation)) at in
     let i = length before.incarnations + k in
     let here : slice_get whole.incarnations i ≡ Some entry.incarnation = ap (λ (l : List ℕ). slice_get l i) list ∙ get_behind before.incarnations (incarnations_in going) k entry.incarnation mine in
-    let low = unlost.settled i entry.incarnation here floor there later in
-    omega (arith, low, same)
+    let low = unlost i entry.incarnation here floor there later in
+    omega (arith, low)
 
 module _ (count : ℕ) (ledgers : ℕ → List Entry → Ledger) (readers : ℕ → ℕ → Identity) (may_make : ℕ → List Entry → List Said → ℕ → List Entry → Type 0) (goes : (latest : ℕ) (mine : List Entry) (told : List Said) (partition : ℕ) (going : List Entry) → may_make latest mine told partition going → GoesOnThere ledgers mine partition going)
     (latest : ℕ) (trail : List Settled) (told : List Said) (going : ℕ → Option (List Entry)) (stage : ℕ → Stage) (list : List declared.Ledger) where
@@ -38,6 +38,6 @@ module _ (count : ℕ) (ledgers : ℕ → List Entry → Ledger) (readers : ℕ 
         let on = goes latest mine told p entries (subst (IsMade may_make latest mine told p) way (fits.made p below)) in
         let made = here.comes.1 ∙ on.1.makes in
         subst (λ (f : List Floor). IsFrameUnlost (log_length (ledgers p mine)) f entries) (sym (floors_are list p ledger low (sym is)))
-        (frame_uncut (ledgers p mine) (whole_of ledger) entries (floors_in ledger) (ap (λ (l : Ledger). l.recovered) made) (ap (λ (l : Ledger). l.incarnations) made) here.unlost)
+        (frame_uncut (ledgers p mine) (whole_of ledger) entries (floors_in ledger) (ap (λ (l : Ledger). l.incarnations) made) here.unlost)
     | inr (past, none) ↦ absurd (omega (arith, past, fits.many, below))
   ]

@@ -5,7 +5,7 @@ use Rattle.site_model.specs.declared.site.Site as sites
 use Rattle.dura_value.specs.Items.{Identity, Entry, Posted}
 use Rattle.commit_gate.specs.declared.ledger.Ledger as declared
 use Rattle.commit_gate.specs.Keeping.{IsSized, AreOfOne}
-use Rattle.commit_gate.specs.Ledgers.{Ledger, IsRecovered, after_items}
+use Rattle.commit_gate.specs.Ledgers.{Ledger, IsKnown, after_items}
 use Rattle.commit_gate.specs.Met.{AreMet}
 use Rattle.commit_gate.specs.Unlost.{IsUnlost}
 use Rattle.commit_gate.specs.Views.{floors_in, readers_in, ledger_of, whole_of}
@@ -57,7 +57,7 @@ pub data Grown (ledgers : ℕ → List Entry → Ledger) (may_make : ℕ → Lis
 
 -- what streams held at the beginning was recovered
 abbrev pub AreRecovered : (ℕ → List Entry → Ledger) → Type 0
-AreRecovered ledgers = (partition target : ℕ) (posted : Posted) → Contains ((ledgers partition []).boxes target).messages posted → IsRecovered (ledgers posted.entry.partition []) posted.entry
+AreRecovered ledgers = (partition target : ℕ) (posted : Posted) → Contains ((ledgers partition []).boxes target).messages posted → IsKnown (ledgers posted.entry.partition []) posted.entry
 
 -- The ledgers fit what is settled and under way. Each frame under way was made by its partition's state, and one whose gate was tried is
 -- met.

@@ -1,6 +1,6 @@
 //! What is fixed when a call begins.
 
-ghost use Rattle.std.specs.Prelude.{◌≡◌, ◌≤◌, ℕ, List, [], ◌++◌, Option, Some};
+ghost use Rattle.std.specs.Prelude.{◌≡◌, ◌≤◌, ℕ, List, ◌++◌, Option, Some};
 ghost use Rattle.dura_value.specs.Items.{Entry, Identity};
 ghost use Rattle.commit_gate.specs.Ledgers.{Ledger};
 ghost use Rattle.commit_gate.specs.Views.{no_ledger};
@@ -49,9 +49,6 @@ pub trait Local: Drop {
     /// Where there is no partition there is nothing.
     ghost outside: { (partition : ℕ) (mine : List Entry) → origin.count ≤ partition
         → ledgers partition mine ≡ no_ledger };
-
-    /// Nothing was settled at the beginning.
-    ghost fresh: { (partition : ℕ) → (ledgers partition []).incarnations ≡ [] };
 
     /// What may be made goes on where its partition stands.
     ghost goes: { (latest : ℕ) (mine : List Entry) (told : List Said) (partition : ℕ)

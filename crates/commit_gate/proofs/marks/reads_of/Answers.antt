@@ -1,4 +1,4 @@
-use Rattle.std.proofs.Common.{◌≡◌, ◌∙◌, ap, arith, List, ◌++◌}
+use Rattle.std.proofs.Common.{◌∙◌, ap, arith, List, ◌++◌}
 use Rattle.spec_tracker.specs.declared.marks.Read.{Read}
 use Rattle.commit_gate.specs.Marking.{reads_to}
 use Rattle.commit_gate.proofs.ReadMarks.{one_more}

@@ -1,7 +1,7 @@
-use Rattle.std.proofs.Common.{◌≡◌, ℕ, ◌∷◌, [], ◌∙◌, sym, ap, subst, arith, take, map, length, List}
+use Rattle.std.proofs.Common.{ℕ, ◌∙◌, sym, ap, subst, arith, length, List}
 use Rattle.std.specs.List.{All}
 use Rattle.log_items.specs.declared.items.Item.{Item}
-use Rattle.log_items.specs.Plain.{item_of, items_of}
+use Rattle.log_items.specs.Plain.{items_of}
 use Rattle.commit_gate.specs.Keeping.{IsOfOne}
 use Rattle.commit_gate.specs.Ledgers.{Ledger, after_items}
 use Rattle.log_items.specs.Readings.{readers_after}

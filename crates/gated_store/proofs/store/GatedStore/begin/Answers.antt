@@ -1,4 +1,4 @@
-use Rattle.std.proofs.Common.{◌≡◌, ℕ, ◌<◌, true, None, refl, sym, ap}
+use Rattle.std.proofs.Common.{refl}
 use Rattle.hub_store.specs.Changes.{stage_at, going_at, trail_in, told_in}
 use Rattle.hub_store.specs.Ways.{way_of}
 use Rattle.hub_store.specs.declared.way.Stage.TheVariants as stages

@@ -1,10 +1,10 @@
-use Rattle.std.proofs.Common.{◌≡◌, ◌≢◌, ◌<◌, ◌++◌, ℕ, List, length, Option, None, Some, Ok, Err, ◌∙◌, sym, ap, subst, refl, arith}
-use Rattle.dura_value.specs.Items.{Item, Entry}
+use Rattle.std.proofs.Common.{◌<◌, List, length, Option, sym, ap, subst, refl, arith}
+use Rattle.dura_value.specs.Items.{Entry}
 use Rattle.hub_store.specs.Changes.{stage_at, going_at, trail_in, told_in}
 use Rattle.hub_store.specs.Trail.{of_part}
-use Rattle.hub_store.specs.Ways.{going_in, stage_of, way_of, is_tried}
+use Rattle.hub_store.specs.Ways.{going_in, stage_of, way_of}
 use Rattle.hub_store.specs.declared.way.Stage.TheVariants as stages
-use Rattle.gated_store.specs.Kept.{LedgerFits, IsMade, IsMetAt}
+use Rattle.gated_store.specs.Kept.{LedgerFits, IsMade}
 use Rattle.gated_store.proofs.Moving.{fits_stay, fits_moves, gone_fits, rest_none, row_at, untried, still_dropped, floors_stay}
 use Rattle.gated_store.proofs.store.GatedStore.drop_untried.Goals as goal
 

@@ -1,4 +1,4 @@
-use Rattle.std.proofs.Common.{◌≡◌, ◌≢◌, ℕ, ap, refl}
+use Rattle.std.proofs.Common.{ap, refl}
 use Rattle.commit_gate.specs.Views.{floors_of}
 use Rattle.hub_store.specs.Changes.{stage_at, going_at, trail_in, told_in}
 use Rattle.hub_store.specs.Ways.{going_in, stage_of}

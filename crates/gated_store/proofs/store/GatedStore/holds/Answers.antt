@@ -5,7 +5,7 @@ use Rattle.hub_store.specs.Changes.{stage_at, going_at, trail_in, told_in}
 use Rattle.gated_store.proofs.store.GatedStore.holds.Goals as goal
 
 pub returns-clause-causal : goal.returns-clause-causal
-returns-clause-causal g c = let L = g.L.Local in trail_causal L.ledgers L.may_make L.goes L.fresh c.requires.fits.first c.requires.fits.grown
+returns-clause-causal g c = let L = g.L.Local in trail_causal L.ledgers L.may_make L.goes c.requires.fits.first c.requires.fits.grown
 
 pub returns-clause-unlost : goal.returns-clause-unlost
 returns-clause-unlost g c e below known =

@@ -1,5 +1,4 @@
-use Rattle.std.proofs.Common.{◌≡◌, ◌≤◌, ◌++◌, ℕ, List, refl, sym, ◌∙◌, ap, subst, arith}
-use Rattle.std.specs.Prelude.{max}
+use Rattle.std.proofs.Common.{◌≤◌, List, sym, subst, arith}
 use Rattle.hub_store.specs.Changes.{stage_at, going_at, trail_in, told_in}
 use Rattle.hub_store.specs.Trail.{Settled, Said}
 use Rattle.hub_store.specs.Ways.{way_of, going_in, stage_of}

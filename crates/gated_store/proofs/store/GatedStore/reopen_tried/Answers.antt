@@ -1,14 +1,13 @@
-use Rattle.std.proofs.Common.{◌≡◌, ◌≢◌, ◌<◌, ◌++◌, ℕ, List, length, Option, None, Some, Ok, Err, ◌∙◌, sym, ap, subst, refl, arith}
+use Rattle.std.proofs.Common.{◌<◌, ℕ, List, length, Option, Some, Ok, ◌∙◌, sym, ap, subst, refl, arith}
 use Rattle.dura_value.specs.Items.{Item, Entry}
 use Rattle.hub_store.specs.Changes.{stage_at, going_at, trail_in, told_in}
 use Rattle.hub_store.specs.Trail.{of_part}
-use Rattle.hub_store.specs.Ways.{going_in, stage_of, way_of, is_tried}
+use Rattle.hub_store.specs.Ways.{going_in, stage_of, way_of}
 use Rattle.hub_store.specs.declared.way.Stage.TheVariants as stages
-use Rattle.gated_store.specs.Kept.{LedgerFits, IsMade, IsMetAt}
-use Rattle.log_items.specs.Entries.{items_in}
-use Rattle.commit_gate.specs.Keeping.{IsSized, AreOfOne}
+use Rattle.gated_store.specs.Kept.{LedgerFits, IsMade}
+use Rattle.commit_gate.specs.Keeping.{AreOfOne}
 use Rattle.commit_gate.specs.Ledgers.{after_items}
-use Rattle.commit_gate.specs.Views.{readers_in, ledger_of, whole_of}
+use Rattle.commit_gate.specs.Views.{readers_in, whole_of}
 use Rattle.hub_store.specs.Plain.{trail_of}
 use Rattle.gated_store.specs.Settled.{items_settled}
 use Rattle.gated_store.proofs.Moving.{fits_stay, fits_moves, fits_settles, gone_fits, rest_none, row_at, untried, floors_stay}

@@ -1,10 +1,9 @@
-use Rattle.std.proofs.Common.{◌≡◌, ◌<◌, ◌≤◌, ◌++◌, ◌∷◌, [], ℕ, List, length, map, OnOk, ◌∙◌, sym, ap, subst, refl, arith}
+use Rattle.std.proofs.Common.{◌<◌, ◌≤◌, ◌++◌, ◌∷◌, [], List, length, ◌∙◌, sym, ap, refl, arith}
 use Rattle.std.proofs.Math.ListN.{set}
 use Rattle.std.proofs.lemmas.List.{length-set, get_or-set_same}
-use Rattle.commit_gate.specs.declared.ledger.Ledger as declared
 use Rattle.dura_value.specs.Items.{Floor}
 use Rattle.commit_gate.specs.Ledgers.{log_length}
-use Rattle.commit_gate.specs.Views.{floors_of, whole_of, floors_in}
+use Rattle.commit_gate.specs.Views.{whole_of, floors_in}
 use Rattle.hub_store.specs.Changes.{stage_at, going_at, trail_in, told_in}
 use Rattle.hub_store.specs.Trail.{of_part}
 use Rattle.commit_gate.proofs.Boxes.{on_ok}

@@ -1,8 +1,7 @@
-use Rattle.std.proofs.Common.{◌≡◌, ◌++◌, ℕ, List, refl, sym, ◌∙◌, ap, subst}
-use Rattle.hub_store.specs.Changes.{stage_at, going_at, trail_in, told_in, asked}
+use Rattle.std.proofs.Common.{◌++◌, ℕ, List, sym, subst}
+use Rattle.hub_store.specs.Changes.{stage_at, going_at, trail_in, told_in}
 use Rattle.hub_store.specs.Trail.{Settled, Said}
 use Rattle.hub_store.specs.Ways.{way_of, going_in, stage_of}
-use Rattle.hub_store.specs.declared.way.Way.{Way}
 use Rattle.gated_store.specs.Kept.{Fits}
 use Rattle.gated_store.proofs.Saying.{fits_says, says_more}
 use Rattle.gated_store.proofs.store.GatedStore.say.Goals as goal

@@ -1,14 +1,11 @@
-use Rattle.std.proofs.Common.{◌≡◌, ◌≢◌, ◌<◌, ◌++◌, ℕ, List, length, Option, None, Some, Err, ◌∙◌, sym, ap, subst, refl, arith}
-use Rattle.std.specs.List.{All}
+use Rattle.std.proofs.Common.{◌≡◌, ◌<◌, ℕ, List, length, Option, Some, ◌∙◌, sym, ap, subst, refl, arith}
 use Rattle.dura_value.specs.Items.{Item, Entry}
-use Rattle.commit_gate.specs.declared.ledger.Ledger as declared
-use Rattle.commit_gate.specs.Keeping.{IsSized, AreOfOne}
+use Rattle.commit_gate.specs.Keeping.{AreOfOne}
 use Rattle.commit_gate.specs.Ledgers.{after_items}
 use Rattle.commit_gate.specs.Views.{readers_in, whole_of}
 use Rattle.hub_store.specs.Changes.{stage_at, going_at, trail_in, told_in}
 use Rattle.hub_store.specs.Trail.{of_part}
 use Rattle.hub_store.specs.Ways.{going_in, stage_of, way_of, is_tried}
-use Rattle.hub_store.specs.declared.refusal.Refusal.{Refusal}
 use Rattle.hub_store.specs.declared.way.Stage.TheVariants as stages
 use Rattle.hub_store.specs.Plain.{trail_of}
 use Rattle.gated_store.specs.Settled.{items_settled}
@@ -16,7 +13,6 @@ use Rattle.gated_store.specs.Kept.{LedgerFits, IsMade, IsMetAt}
 use Rattle.gated_store.proofs.Moving.{fits_stay, fits_settles, rest_none, row_at, floors_stay}
 use Rattle.gated_store.proofs.Settles.{frame_behind, read_behind}
 use Rattle.gated_store.proofs.store.GatedStore.settle.Goals as goal
-use Rattle.log_items.specs.Entries.{items_in}
 
 pub settle-requires-clause-follows : goal.settle-requires-clause-follows
 settle-requires-clause-follows g c going way gated =

@@ -1,7 +1,5 @@
-use Rattle.std.proofs.Common.{◌≡◌, ◌∙◌, ℕ, sym, ap, subst, List}
+use Rattle.std.proofs.Common.{◌≡◌, ◌∙◌, sym, ap, subst}
 use Rattle.log_items.specs.Plain.{entries_of}
-use Rattle.commit_gate.specs.declared.ledger.Ledger as declared
-use Rattle.commit_gate.specs.Ledgers.{Ledger}
 use Rattle.commit_gate.specs.Unlost.{AreUnlost}
 use Rattle.commit_gate.specs.Views.{ledgers_of, floors_of}
 use Rattle.hub_store.specs.Changes.{stage_at, going_at, trail_in, told_in}
