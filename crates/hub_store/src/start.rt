@@ -50,7 +50,7 @@ impl Start for Brand {
 
     ghost still_said = { λ latest trail told also partition going may. may };
 
-    ghost still_settled = { λ latest trail told partition at going other theirs apart may also. also };
+    ghost still_settled = { λ latest trail told part at going other theirs apart may also. also };
 
     ghost later_follows = { λ latest later trail told partition going above may. may };
 }

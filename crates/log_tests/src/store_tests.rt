@@ -284,8 +284,11 @@ frames 1";
 /// gate was never tried, so the log isn't opened again. A frame may be given up at any time before its gate.
 const FRAME_DROPPED: &str = "device 7
 write: fault
+halted: yes
 reopen: no frame
+halted: yes
 drop: ok
+halted: no
 write: ok
 sync: ok
 gate: ok

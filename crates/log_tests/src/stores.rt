@@ -224,6 +224,11 @@ fn call_going<N: Start>(
     }
 }
 
+/// Whether it is halted.
+fn halted<N: Start>(store: &Store<MemorySite, N>) -> &'static str {
+    if store.is_halted() { "yes" } else { "no" }
+}
+
 /// Makes the call with this name.
 pub(crate) fn call<N: Start>(
     rt: &impl Abort,
@@ -235,6 +240,9 @@ pub(crate) fn call<N: Start>(
     requires { IsAt store.old place }
     ensures { IsAt store.new result.0 }
 {
+    if name == "halted" {
+        return (place, halted(store));
+    }
     match place {
         Ok(position) if position < 9 => call_going(rt, alloc, store, position, name),
         Err(Some(position)) if position < 9 && name == "reopen" => reopen(store, place, position),
