@@ -15,7 +15,7 @@ use Rattle.many_logs.proofs.Leads.{commits_lead}
 use Rattle.many_rules.specs.Rules.{Rules, commits_of, Follows, Answers}
 use Rattle.many_rules.specs.Leaves.{Begins, IsAnswered, AllAnswered, IsHalfSaid}
 use Rattle.many_rules.specs.Leaves.AllAnswered.{nothing_said, one_more}
-use Rattle.many_rules.proofs.Rules.{puts_both}
+use Rattle.many_rules.specs.Appended.{puts_both}
 use Rattle.many_rules.proofs.Trails.{Goes, trail_goes, labels_split, numbered_front}
 use Rattle.site_model.specs.History.{Step}
 use Rattle.dura_value.proofs.Basics.{some_same}

@@ -14,7 +14,8 @@ use Rattle.many_logs.specs.Labels.{AreNumbered, state_next}
 use Rattle.many_logs.proofs.Basics.{self_eqb}
 use Rattle.many_logs.proofs.Frames.{of_both}
 use Rattle.many_logs.specs.Names.{identity_at, committed_in, identities_in, AreNamed}
-use Rattle.many_rules.proofs.Rules.{names_both, named_more}
+use Rattle.many_rules.proofs.Rules.{named_more}
+use Rattle.many_rules.specs.Appended.{names_both}
 
 -- ---- the entry right before
 

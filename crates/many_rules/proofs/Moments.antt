@@ -17,7 +17,7 @@ use Rattle.many_logs.proofs.OrdersStand.{logs_numbered, orders_stand}
 use Rattle.many_rules.specs.Rules.{Rules, rules_at, commits_of, known_of, GoesFrom, Follows, Answers}
 use Rattle.many_logs.specs.Names.{identities_in}
 use Rattle.many_rules.specs.Leaves.{header_at, Begins, IsOfCall, StandsOn}
-use Rattle.many_rules.proofs.Rules.{puts_part}
+use Rattle.many_rules.specs.Appended.{puts_part}
 use Rattle.many_rules.proofs.Trails.{Goes, labels_split, numbered_front, own_frame, trail_goes, frames_ran}
 use Rattle.many_rules.proofs.Founding.{named_both, named_frames, all_founded}
 use Rattle.many_rules.proofs.Answered.{all_answered, half_said}

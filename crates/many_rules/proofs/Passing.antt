@@ -12,7 +12,7 @@ use Rattle.many_logs.proofs.Gates.{frame_ready, frame_named}
 use Rattle.many_logs.proofs.Names.{order_of}
 use Rattle.many_logs.proofs.Own.{own_chain, chain_goes, chain_given}
 use Rattle.many_rules.specs.Rules.{Rules, commits_of, known_of, GoesFrom, Passes}
-use Rattle.many_rules.proofs.Rules.{puts_part, names_both}
+use Rattle.many_rules.specs.Appended.{puts_part, names_both}
 
 module _ (rules : Rules) (made : states_after rules.flows rules.count fresh rules.recovered ≡ Some rules.begin) where
   pub passes_goes : (trail : List Settled) (partition : ℕ) (going : List Entry) → AreNumbered fresh (rules.recovered ++ commits_of trail) → Passes rules trail partition going → (states : ℕ → Partition) → states_after rules.flows rules.count rules.begin (commits_of trail) ≡ Some states

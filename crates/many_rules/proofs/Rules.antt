@@ -1,37 +1,18 @@
 -- What may be committed may be committed still once more of other partitions was settled and more was said, and up to a later stamp.
-use Rattle.std.proofs.Common.{◌≡◌, ◌≢◌, ◌≤◌, ◌==◌, ℕ, cond, List, [], ◌∷◌, ◌++◌, Some, refl, get_or, sym, ap, subst, ◌∙◌, append_assoc}
+use Rattle.std.proofs.Common.{◌≡◌, ◌≢◌, ◌≤◌, ℕ, List, [], ◌++◌, Some, refl, get_or, sym, ap, subst, ◌∙◌, append_assoc}
 use Rattle.std.proofs.lemmas.List.{append-nil}
 use Rattle.std.proofs.lemmas.List.Elements.{Contains-append_left}
 use Rattle.dura_model.specs.Partition.{Partition}
 use Rattle.dura_value.specs.Items.{Identity, Entry}
 use Rattle.hub_store.specs.Trail.{Settled, Said, of_part, settling}
 use Rattle.hub_store.proofs.Settling.{no_part}
-use Rattle.many_logs.specs.Placing.{Commit, states_after, of_partition, commits_at}
+use Rattle.many_logs.specs.Placing.{Commit, states_after, of_partition}
 use Rattle.many_logs.proofs.Frames.{put_apart, run_grows, run_leaves, frame_still, given_still}
+use Rattle.many_rules.specs.Appended.{puts_both, puts_part, pairs_both, names_both}
 use Rattle.many_rules.specs.Rules.{Rules, rules_at, commits_of, pairs_of, known_of, GoesFrom, Follows}
-use Rattle.many_logs.specs.Names.{identity_at, identities_in, AreNamed}
+use Rattle.many_logs.specs.Names.{identities_in, AreNamed}
 use Rattle.run_rules.specs.Rules.{Told, IsOurs, EndPending}
 use Rattle.run_rules.proofs.Going.{ours_still, ours_later}
-
-pub puts_both : (trail more : List Settled) → commits_of (trail ++ more) ≡ commits_of trail ++ commits_of more
-puts_both [] more = refl
-puts_both (one ∷ trail) more = ap (λ (l : List Commit). record { partition = one.partition; entry = one.entry } ∷ l) (puts_both trail more)
-
-pub puts_part : (partition : ℕ) (trail : List Settled) → of_partition partition (commits_of trail) ≡ of_part partition trail
-puts_part partition [] = refl
-puts_part partition (one ∷ trail) = ap (λ (l : List Entry). cond (one.partition == partition) (one.entry ∷ l) l) (puts_part partition trail)
-
-pub puts_settling : (partition at : ℕ) (going : List Entry) → commits_of (settling partition at going) ≡ commits_at partition going
-puts_settling partition at [] = refl
-puts_settling partition at (entry ∷ going) = ap (λ (l : List Commit). record { partition = partition; entry = entry } ∷ l) (puts_settling partition at going)
-
-pairs_both : (told also : List Said) → pairs_of (told ++ also) ≡ pairs_of told ++ pairs_of also
-pairs_both [] also = refl
-pairs_both (one ∷ told) also = ap (λ (l : Told). (one.client, one.number) ∷ l) (pairs_both told also)
-
-pub names_both : (a b : List Commit) → identities_in (a ++ b) ≡ identities_in a ++ identities_in b
-names_both [] b = refl
-names_both (one ∷ a) b = ap (λ (l : List Identity). identity_at one.partition one.entry ∷ l) (names_both a b)
 
 -- what is named among some is named among more
 pub named_more : (known more : List Identity) (going : List Entry) → AreNamed known going → AreNamed (known ++ more) going

@@ -22,7 +22,7 @@ use Rattle.many_logs.specs.Names.{identities_in}
 use Rattle.run_rules.specs.Rules.{EndPending}
 use Rattle.many_rules.specs.Leaves.{IsOfCall, AllRan}
 use Rattle.many_rules.specs.Leaves.AllRan.{nothing_ran, frame_more}
-use Rattle.many_rules.proofs.Rules.{puts_both, puts_settling}
+use Rattle.many_rules.specs.Appended.{puts_both, puts_settling}
 use Rattle.many_rules.proofs.Founding.{AllNamed, named_both, named_frame}
 use Rattle.dura_value.proofs.Basics.{some_same}
 

@@ -1,5 +1,5 @@
 -- What a crash leaves of a call of many partitions.
-use Rattle.std.specs.Prelude.{◌≡◌, ◌⊎◌, ◌<◌, ℕ, max, List, [], ◌∷◌, ◌++◌, Some}
+use Rattle.std.specs.Prelude.{◌≡◌, ◌⊎◌, ◌<◌, ◌≤◌, ℕ, max, List, [], ◌∷◌, ◌++◌, Some}
 use Rattle.std.specs.List.{All}
 use Rattle.client_port.specs.Lines.{line_of}
 use Rattle.commit_log.specs.declared.header.Header.{Header}
@@ -14,11 +14,12 @@ use Rattle.hub_store.specs.Moments.{WroteGate, IsPrefix, IsSpeaking}
 use Rattle.hub_store.specs.Origin.{Origin}
 use Rattle.hub_store.specs.Trail.{Settled, Said, of_part}
 use Rattle.many_logs.specs.Placing.{Commit, states_after, of_partition, AllBelow, commits_at, frames_in_order}
-use Rattle.many_logs.specs.Labels.{labels_of_commits, AllGiven}
+use Rattle.many_logs.specs.Labels.{labels_of_commits, AllGiven, AreNumbered, state_next}
 use Rattle.many_logs.specs.Stands.{FilesStand, AreKept}
 use Rattle.many_rules.specs.Rules.{Rules, rules_at, commits_of, pairs_of}
 use Rattle.many_logs.specs.Names.{identities_in, committed_in}
 use Rattle.part_items.specs.Kept.{nothing, kept_in}
+use Rattle.part_items.specs.Numbered.{behind_all}
 use Rattle.part_items.specs.Logs.{first_log, second_log}
 use Rattle.request_reader.specs.Line.{Request}
 use Rattle.run_rules.specs.Rules as one
@@ -41,6 +42,12 @@ pub record Begins (o : Origin) (rules : Rules) (digest : ℕ) : Type 0 where
   pub other : ℕ → ℕ
   pub files : (partition : ℕ) → partition < rules.count → (((o.logs partition).file ≡ first_log partition) × (other partition ≡ second_log partition)) ⊎ (((o.logs partition).file ≡ second_log partition) × (other partition ≡ first_log partition))
   pub empty : (partition : ℕ) → partition < rules.count → (image : List ℕ) → Leaves (changes_of (other partition) o.steps) image → kept_in partition image ≡ nothing
+
+-- The entries that were recovered stand one position after another in each partition, of incarnations that never fall, and of none
+-- that is later than that of the entries that come.
+pub record BeginsBehind (rules : Rules) : Type 0 where
+  pub numbered : AreNumbered fresh rules.recovered
+  pub incarnations : (partition : ℕ) → (behind_all (state_next (fresh partition)) (of_partition partition rules.recovered)).incarnation ≤ rules.incarnations partition
 
 -- The line answers its client's next request, once these were answered, as the run has it from a moment on at which the first of
 -- these entries were settled.

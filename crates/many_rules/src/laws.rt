@@ -9,7 +9,10 @@ ghost use Rattle.many_logs.specs.Placing.{states_after};
 ghost use Rattle.many_rules.specs.Rules.{Rules, Follows, Answers, Passes, GoesFrom, commits_of, known_of};
 ghost use Rattle.dura_model.specs.Partition.{Partition, fresh};
 ghost use Rattle.many_logs.specs.Labels.{AreNumbered};
-ghost use Rattle.many_rules.specs.Leaves.{Begins, StandsOn};
+ghost use Rattle.many_rules.specs.Leaves.{Begins, BeginsBehind, StandsOn};
+ghost use Rattle.gated_store.specs.Follows.{Follows as GateFollows};
+ghost use Rattle.many_rules.specs.Ledgers.{ledgers};
+ghost use Rattle.many_rules.specs.Makes.{Makes};
 ghost use Rattle.site_model.specs.History.{Step, IsImage, back_to};
 
 /// What may be committed may be committed still once more of other partitions was settled and more was said, and up to a later stamp.
@@ -40,6 +43,27 @@ pub fn what_passes_goes()
         → Passes rules trail partition going → (states : ℕ → Partition)
         → states_after rules.flows rules.count rules.begin (commits_of trail) ≡ Some states
         → GoesFrom rules (known_of rules trail) states partition going }
+{}
+
+/// A frame that its partition's state makes, and that the ledgers of the others meet, as a store whose gate compares lets it pass, may follow
+/// by the rules.
+pub fn what_is_met_follows()
+    ensures { (rules : Rules) (latest : ℕ) (trail : List Settled) (told : List Said)
+        (partition : ℕ) (going : List Entry)
+        → states_after rules.flows rules.count fresh rules.recovered ≡ Some rules.begin
+        → AreNumbered fresh (rules.recovered ++ commits_of trail)
+        → GateFollows (ledgers rules) (Makes rules) latest trail told partition going
+        → Follows rules latest trail told partition going }
+{}
+
+/// What a store whose gate compares tells of its moments, it tells by the rules, where the entries that come are of no earlier incarnation
+/// than those that were recovered: so what a crash leaves of it is what a crash leaves of a call that commits only what it may.
+pub fn the_gate_keeps_the_rules()
+    ensures { (o : Origin) (rules : Rules) (latest : ℕ) (now : List Step) (trail : List Settled)
+        → states_after rules.flows rules.count fresh rules.recovered ≡ Some rules.begin
+        → BeginsBehind rules
+        → AtEveryMoment (GateFollows (ledgers rules) (Makes rules) latest) (Answers rules) o now
+        trail → AtEveryMoment (Follows rules latest) (Answers rules) o now trail }
 {}
 
 /// At each moment of a call of many partitions that commits only what it may, a crash leaves files that stand for the run at the start,

@@ -1,0 +1,12 @@
+//! Tests of what a gate lets pass, as transcripts: texts with a line for each frame, and what it comes to. A line that fails is told by
+//! its text. A text costs no proof.
+//!
+//! - `ledgers` is what is settled of two partitions, `frames` reads a frame in a line, and `gate_tests` holds one against the other.
+#![tactic(auto)]
+
+#[cfg(test)]
+mod frames;
+#[cfg(test)]
+mod gate_tests;
+#[cfg(test)]
+mod ledgers;
