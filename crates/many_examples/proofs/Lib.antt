@@ -1,4 +1,5 @@
 pub mod AtOnce
+pub mod MakesBy
 pub mod Placings
 pub mod RulesBy
 pub mod UnderWay

@@ -1,6 +1,6 @@
 -- What entries of two and of three partitions make of their states, by example. Of two, client a lives in partition 1 and Sum/y in 0,
 -- client b in 0 and Sum/x in 1; of three, clients g, a and c live in 0, 1 and 2.
-use Rattle.std.specs.Prelude.{◌≡◌, ◌==◌, ℕ, List, [], ◌∷◌, map, codes, Bool, if◌then◌else◌, Option, Some, None, option_map}
+use Rattle.std.specs.Prelude.{◌==◌, ℕ, List, [], ◌∷◌, map, codes, Bool, if◌then◌else◌, Option, option_map}
 use Rattle.dura_value.specs.declared.data.Value.TheVariants as values
 use Rattle.dura_value.specs.Ids.{orchestration, client}
 use Rattle.dura_value.specs.Items.{Identity, Item, took, got, trim, Entry}

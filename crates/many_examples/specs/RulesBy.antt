@@ -56,6 +56,10 @@ later_rules flows = record (rules_with flows) { incarnations = λ partition. if 
 abbrev pub silent_rules : Flows → Rules
 silent_rules flows = record (rules_with flows) { requests = [] }
 
+-- one whose logs keep this entry
+abbrev pub recovering : Flows → Commit → Rules
+recovering flows one = record (rules_with flows) { recovered = one ∷ [] }
+
 -- one that begins where an instance of partition 1 has asked for the sum of null
 abbrev pub asking_rules : Flows → Rules
 asking_rules flows = record (rules_with flows) { begin = asking_states }

@@ -1,15 +1,15 @@
 -- A run of the failure-free machine, taken by the partitions in which its labels happen: each label is an entry of its own partition,
 -- which first takes in all that the stream from its sender's partition has.
 use Rattle.std.specs.Prelude.{◌≡◌, ◌==◌, ℕ, zero, suc, ◌+◌, ◌-◌, List, [], ◌∷◌, ◌++◌, nat_le, Bool, true, false, if◌then◌else◌, drop, map, Option, Some, None}
-use Rattle.dura_value.specs.Ids.{Id, client, home}
+use Rattle.dura_value.specs.Ids.{Id, home}
 use Rattle.dura_value.specs.Items.{Item, took, got, ran, ended, fired, trim, Entry, Posted}
 use Rattle.dura_value.specs.Messages.{Answer}
 use Rattle.flow_syntax.specs.Syntax.{Flows}
-use Rattle.dura_model.specs.Partition.{Inbox, Partition, fresh, with_part}
+use Rattle.dura_model.specs.Partition.{Partition, fresh, with_part}
 use Rattle.log_items.specs.Streams.{Outbox}
 use Rattle.dura_model.specs.Steps.{Label, take, deliver, finish, fire}
 use Rattle.many_logs.specs.Labels.{labels_of_commits}
-use Rattle.many_logs.specs.Placing.{Commit, commit_accepted, of_partition, states_after, placed, Placing}
+use Rattle.many_logs.specs.Placing.{Commit, commit_accepted, of_partition, placed, Placing}
 
 -- whom a label happens to
 abbrev pub happens_to : Label → Id

@@ -1,4 +1,4 @@
-use Rattle.std.proofs.Common.{◌≡◌, List, [], ◌∷◌, ◌++◌, true, false, refl, subst, arith}
+use Rattle.std.proofs.Common.{◌≡◌, List, [], ◌∷◌, true, false, refl, subst, arith}
 use Rattle.dura_value.specs.Dependencies.{Founded}
 use Rattle.flow_syntax.specs.Machine as machine
 use Rattle.many_examples.specs.Pairs.{first_entry}
