@@ -1,7 +1,8 @@
 //! What the gate of a store tests before it is opened: each claim of a frame is held against what is settled.
 //!
 //! - `ledger`: what others see of a partition (`Ledger`), in `specs/Ledgers` as plain data; `streams` is what is left of its streams,
-//!   `recovered` how it begins, `stretch` the incarnations of its recovered entries, `keeping` how it goes on with a frame, and `room` that this takes no memory once there is room.
+//!   `recovered` how it begins, `stretch` the incarnations of its recovered entries, `keeping` how it goes on with a frame, and `room` that
+//!   this takes no memory once there is room.
 //! - `test`: the test of a frame (`test_frame`), by `specs/Met` and `specs/Refused`; `unmet` is why one is refused.
 //! - `marks`: what is settled of all partitions, as others are told.
 //! - `laws`: a frame that is met stays so, and what is sent joins before or after what is let go.

@@ -223,7 +223,8 @@ fn test_items(ledgers: &[Ledger], partition: u32, items: &[Item]) -> Result<(), 
 }
 
 /// Whether each item of a frame of a partition is what it claims, by what is settled; else why the first that isn't is not. It takes a
-/// step for each item, and where one is refused one for each of its partition's floors.
+/// step for each item, where an item names a recovered entry one for each incarnation up to that entry's, and where one is refused one
+/// for each floor of its partition.
 pub fn test_frame(ledgers: &[Ledger], partition: u32, frame: &Frame) -> Result<(), Unmet>
     requires unlost { AreUnlost ledgers.now }
     ensures { Tests (ledgers_of ledgers.now) (floors_of ledgers.now) partition
