@@ -19,7 +19,7 @@ use Rattle.hub_store.specs.Origin.{Origin}
 use Rattle.hub_store.specs.Trail.{Settled, Said, of_part}
 use Rattle.hub_store.specs.Ways.{LogFits}
 use Rattle.hub_store.specs.declared.way.Way.{Way}
-use Rattle.hub_store.specs.declared.way.Way.TheVariants.{Resting, Bodied, Synced, Gated, BrokenBody, BrokenGate, Away}
+use Rattle.hub_store.specs.declared.way.Way.TheVariants.{Resting, Bodied, Synced, Gated, Safe, BrokenBody, BrokenGate, Away}
 use Rattle.part_rounds.specs.Comes.{Entered, IsOver}
 use Rattle.part_rounds.specs.Commits.{IsFull, IsSpent}
 use Rattle.part_rounds.specs.Rounds.{pairs_of, HasSaid}
@@ -96,6 +96,7 @@ module _ (MayFollow : List Settled → List Said → ℕ → List Entry → Type
   would_fill was above options (Bodied log frame) partition length_then some full fits = absurd (omega (arith, some, full.reaches, full.length_is))
   would_fill was above options (Synced log frame) partition length_then some full fits = absurd (omega (arith, some, full.reaches, full.length_is))
   would_fill was above options (Gated log frame) partition length_then some full fits = absurd (omega (arith, some, full.reaches, full.length_is))
+  would_fill was above options (Safe log frame) partition length_then some full fits = absurd (omega (arith, some, full.reaches, full.length_is))
   would_fill was above options (BrokenBody log frame) partition length_then some full fits = absurd (omega (arith, some, full.reaches, full.length_is))
   would_fill was above options (BrokenGate log frame) partition length_then some full fits = absurd (omega (arith, some, full.reaches, full.length_is))
   would_fill was above options Away partition length_then some full fits = absurd (omega (arith, some, full.reaches, full.length_is))

@@ -44,6 +44,7 @@ rest_none (ways.Resting log) is = refl
 rest_none (ways.Bodied log frame) is = absurd (cc is)
 rest_none (ways.Synced log frame) is = absurd (cc is)
 rest_none (ways.Gated log frame) is = absurd (cc is)
+rest_none (ways.Safe log frame) is = absurd (cc is)
 rest_none (ways.BrokenBody log frame) is = absurd (cc is)
 rest_none (ways.BrokenGate log frame) is = absurd (cc is)
 rest_none ways.Away is = absurd (cc is)

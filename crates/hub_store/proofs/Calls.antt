@@ -59,7 +59,7 @@ module _ (MayFollow : List Settled → List Said → ℕ → List Entry → Type
   }
 
   -- or there is one more, whose gate was written
-  either_frames : (p : ℕ) (trail : List Settled) (told : List Said) (going : List Entry) (old steps : List Step) (payloads : List (List ℕ)) (gate next : ℕ)
+  pub either_frames : (p : ℕ) (trail : List Settled) (told : List Said) (going : List Entry) (old steps : List Step) (payloads : List (List ℕ)) (gate next : ℕ)
       → decoded first_gate (first_of (o.logs p).header) payloads ≡ Ok ((o.logs p).entries ++ of_part p trail)
       → decoded first_gate (first_of (o.logs p).header) (payloads ++ spell_frame going ∷ []) ≡ Ok ((o.logs p).entries ++ of_part p trail ++ going)
       → MayFollow trail told p going → WroteGate (o.logs p) (of_part p trail) (changes_of (o.logs p).file steps)

@@ -84,6 +84,7 @@ untried_shut file h payloads steps (ways.Resting log) untried fits = absurd (cc 
 untried_shut file h payloads steps (ways.Bodied log frame) untried fits = gate_shut (changes_of file steps) h payloads log.gate (bodied_broken h payloads (spell_frame (entries_of frame)) log.gate log.next (changes_of file steps) fits.1)
 untried_shut file h payloads steps (ways.Synced log frame) untried fits = gate_shut (changes_of file steps) h payloads log.gate (synced_untried h payloads (spell_frame (entries_of frame)) log.gate log.next (changes_of file steps) fits.1)
 untried_shut file h payloads steps (ways.Gated log frame) untried fits = absurd (cc untried)
+untried_shut file h payloads steps (ways.Safe log frame) untried fits = absurd (cc untried)
 untried_shut file h payloads steps (ways.BrokenBody log frame) untried fits = gate_shut (changes_of file steps) h payloads log.gate fits.1
 untried_shut file h payloads steps (ways.BrokenGate log frame) untried fits = absurd (cc untried)
 untried_shut file h payloads steps ways.Away untried fits = absurd fits

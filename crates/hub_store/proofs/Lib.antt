@@ -1,4 +1,5 @@
 pub mod AnswersWait
+pub mod Behind
 pub mod Bodies
 pub mod Calls
 pub mod EveryMoment
@@ -12,9 +13,12 @@ pub mod OpenedAgain
 pub mod Openings
 pub mod Payloads
 pub mod Refusals
+pub mod Safes
 pub mod Saying
 pub mod Settling
 pub mod Shortness
 pub mod Standing
 pub mod Stores
+pub mod SyncCounts
+pub mod SyncedStands
 pub mod Trails

@@ -65,6 +65,13 @@ module _ (frame : List rows.Entry) (old new : List Step) (result : Result Reopen
       let payload = spell_frame (entries_of frame) in
       reopens_at own log.file log.gate log.next h payloads fits.0 call (after h payloads payload (subst (λ (f : ℕ). IsGated (changes_of f old) h payloads payload log.gate log.next) (sym fits.0) fits.1))
 
+  pub safe_reopens : (log : Gated) → IsOpened log.file log.gate log.next old new result
+      → ((h : Header) (payloads : List (List ℕ)) (payload : List ℕ) → IsGated (changes_of log.file old) h payloads payload log.gate log.next → AfterReopen new h payloads payload result)
+      → (own : ℕ) (h : Header) (payloads : List (List ℕ)) → WayFits own h payloads (changes_of own old) (ways.Safe log frame) → Reopens own h payloads (spell_frame (entries_of frame)) log.gate old new result
+  safe_reopens log call after own h payloads fits =
+      let payload = spell_frame (entries_of frame) in
+      reopens_at own log.file log.gate log.next h payloads fits.0 call (after h payloads payload (subst (λ (f : ℕ). IsGated (changes_of f old) h payloads payload log.gate log.next) (sym fits.0) fits.1.opened))
+
   pub broken_reopens : (log : BrokenGate) → IsOpened log.file log.gate log.next old new result
       → ((h : Header) (payloads : List (List ℕ)) (payload : List ℕ) → IsBrokenGate (changes_of log.file old) h payloads payload log.gate log.next → AfterReopen new h payloads payload result)
       → (own : ℕ) (h : Header) (payloads : List (List ℕ)) → WayFits own h payloads (changes_of own old) (ways.BrokenGate log frame) → Reopens own h payloads (spell_frame (entries_of frame)) log.gate old new result

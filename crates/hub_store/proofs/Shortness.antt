@@ -13,7 +13,7 @@ use Rattle.hub_store.specs.Short.{reach_of, KeepsShort, IsShort}
 use Rattle.hub_store.specs.Trail.{Settled, of_part}
 use Rattle.hub_store.specs.Ways.{way_of, going_in, WayFits}
 use Rattle.hub_store.specs.declared.way.Way.{Way}
-use Rattle.hub_store.specs.declared.way.Way.TheVariants.{Resting, Bodied, Synced, Gated, BrokenBody, BrokenGate, Away}
+use Rattle.hub_store.specs.declared.way.Way.TheVariants.{Resting, Bodied, Synced, Gated, Safe, BrokenBody, BrokenGate, Away}
 use Rattle.log_items.specs.Plain.{entries_of}
 use Rattle.part_items.specs.Spelling.{spell_frame}
 use Rattle.site_model.specs.History.{Change, reads}
@@ -25,6 +25,7 @@ still_short segment_length settled now (Resting log) way going has less (inl res
 still_short segment_length settled now (Bodied log frame) way going has less (inl rests) = absurd (cc rests.0)
 still_short segment_length settled now (Synced log frame) way going has less (inl rests) = absurd (cc rests.0)
 still_short segment_length settled now (Gated log frame) way going has less (inl rests) = absurd (cc rests.0)
+still_short segment_length settled now (Safe log frame) way going has less (inl rests) = absurd (cc rests.0)
 still_short segment_length settled now (BrokenBody log frame) way going has less (inl rests) = absurd (cc rests.0)
 still_short segment_length settled now (BrokenGate log frame) way going has less (inl rests) = absurd (cc rests.0)
 still_short segment_length settled now Away way going has less (inl rests) = absurd (cc has)
@@ -69,6 +70,10 @@ reads_within file h other payloads more end changes (Gated log frame) fits is =
     let payload = spell_frame (entries_of frame) in
     by_either h other payloads more payload log.gate log.next end (reads changes)
     (either_frames h payloads payload log.gate log.next fits.1.ends fits.1.ends_after (reads changes) (whole_frame h payloads payload log.gate log.next fits.1.ends fits.1.ends_after open_gate fits.1.tail (reads changes) fits.1.content)) is
+reads_within file h other payloads more end changes (Safe log frame) fits is =
+    let payload = spell_frame (entries_of frame) in
+    by_either h other payloads more payload log.gate log.next end (reads changes)
+    (either_frames h payloads payload log.gate log.next fits.1.opened.ends fits.1.opened.ends_after (reads changes) (whole_frame h payloads payload log.gate log.next fits.1.opened.ends fits.1.opened.ends_after open_gate fits.1.opened.tail (reads changes) fits.1.opened.content)) is
 reads_within file h other payloads more end changes (BrokenBody log frame) fits is =
     let here : reading_of (reads changes) ≡ segment h payloads log.gate = subst (λ (l : List ℕ). reading_of l ≡ segment h payloads log.gate) (sym fits.1.content) (reads_closed h payloads log.gate fits.1.byte fits.1.rest fits.1.ends fits.1.closed) in
     let same = same_gate h other payloads more log.gate end (reads changes) here is in

@@ -46,6 +46,16 @@ module _ {V N : Type 0} {G : sites.Ghosts V} {H : starts.Ghosts N} where
     pub later : G.disk_faults old.site ≤ G.disk_faults new.site
     pub say_faults : G.say_faults new.site ≡ G.say_faults old.site
 
+  -- What a call on all frames keeps, whatever it answers.
+  pub record KeepsAll (old new : Store V N G H) : Type 0 where
+    pub tells : G.tells new.site → G.tells old.site
+    pub said : told_in new ≡ told_in old
+    pub segment : new.segment ≡ old.segment
+    pub latest : new.latest ≡ old.latest
+    pub whole : new.cut ≡ old.cut
+    pub later : G.disk_faults old.site ≤ G.disk_faults new.site
+    pub say_faults : G.say_faults new.site ≡ G.say_faults old.site
+
 -- the frame that was under way was settled at this moment
 pub record Settles (tells : Type 0) (moment partition : ℕ) (going : Option (List Entry)) (old new : List Settled) : Type 0 where
   pub entries : List Entry

@@ -12,4 +12,5 @@ pub mod Runs
 pub mod Short
 pub mod Sound
 pub mod Trail
+pub mod Waiting
 pub mod Ways

@@ -5,7 +5,7 @@ use Rattle.commit_log.specs.Segment.{segment, reading_of}
 use Rattle.dura_value.specs.Items.{Entry}
 use Rattle.hub_store.specs.Ways.{stage_of}
 use Rattle.hub_store.specs.declared.way.Way.{Way}
-use Rattle.hub_store.specs.declared.way.Way.TheVariants.{Resting, Bodied, Synced, Gated, BrokenBody, BrokenGate, Away}
+use Rattle.hub_store.specs.declared.way.Way.TheVariants.{Resting, Bodied, Synced, Gated, Safe, BrokenBody, BrokenGate, Away}
 use Rattle.hub_store.specs.declared.way.Stage.TheVariants as stages
 
 -- how long the log may be up to a closed gate and with it, whatever becomes of the frame that is under way
@@ -14,6 +14,7 @@ reach_of (Resting log) = log.gate + 1
 reach_of (Bodied log frame) = max log.gate log.next + 1
 reach_of (Synced log frame) = max log.gate log.next + 1
 reach_of (Gated log frame) = max log.gate log.next + 1
+reach_of (Safe log frame) = max log.gate log.next + 1
 reach_of (BrokenBody log frame) = max log.gate log.next + 1
 reach_of (BrokenGate log frame) = max log.gate log.next + 1
 reach_of Away = 0

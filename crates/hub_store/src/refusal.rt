@@ -15,6 +15,17 @@ pub enum Refusal {
     SiteFault,
 }
 
+/// Why no files were made safe.
+#[derive(Clone, Copy, Debug, PartialEq, Eq)]
+pub enum SyncRefusal {
+    /// No frame has come to this call. Nothing was done.
+    NoFrame,
+    /// Memory ran out. Nothing was done.
+    Memory,
+    /// The disk failed: each frame that waited is broken.
+    SiteFault,
+}
+
 /// Why an answer was not said.
 #[derive(Clone, Copy, Debug, PartialEq, Eq)]
 pub enum SayError {

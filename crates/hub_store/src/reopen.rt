@@ -49,6 +49,7 @@ fn reopen_log<V: Site>(site: &mut V, way: Way) -> (Result<Reopened, BrokenGate>,
 {
     match way {
         Way::Gated(log, frame) => (log.reopen(site), frame),
+        Way::Safe(log, frame) => (log.reopen(site), frame),
         Way::BrokenGate(log, frame) => (log.reopen(site), frame),
         Way::Resting(_)
         | Way::Bodied(_, _)

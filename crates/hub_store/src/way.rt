@@ -19,6 +19,8 @@ pub(crate) enum Way {
     Synced(Synced, Frame),
     /// Its gate is written open.
     Gated(Gated, Frame),
+    /// And made safe together with other files: it is to be settled, without a further device call.
+    Safe(Gated, Frame),
     /// Writing it or making it safe failed: its gate was never tried.
     BrokenBody(BrokenBody, Frame),
     /// Opening its gate or making that safe failed.
@@ -38,6 +40,8 @@ pub enum Stage {
     Synced,
     /// Its gate is written open.
     Gated,
+    /// Its open gate is on the disk, where its file was made safe together with others.
+    Safe,
     /// Writing it or making it safe, which failed. Its gate was never tried.
     BrokenBody,
     /// Opening its gate or making that safe, which failed.
@@ -50,7 +54,7 @@ impl Stage {
         ensures { result ≡ is_tried self }
     {
         match self {
-            Stage::Gated | Stage::BrokenGate => true,
+            Stage::Gated | Stage::Safe | Stage::BrokenGate => true,
             Stage::Resting | Stage::Bodied | Stage::Synced | Stage::BrokenBody => false,
         }
     }
@@ -61,7 +65,7 @@ impl Stage {
     {
         match self {
             Stage::Bodied | Stage::Synced | Stage::BrokenBody => true,
-            Stage::Resting | Stage::Gated | Stage::BrokenGate => false,
+            Stage::Resting | Stage::Gated | Stage::Safe | Stage::BrokenGate => false,
         }
     }
 }
@@ -75,6 +79,7 @@ pub(crate) fn reached(way: &Way) -> Stage
         Way::Bodied(_, _) => Stage::Bodied,
         Way::Synced(_, _) => Stage::Synced,
         Way::Gated(_, _) => Stage::Gated,
+        Way::Safe(_, _) => Stage::Safe,
         Way::BrokenBody(_, _) | Way::Away => Stage::BrokenBody,
         Way::BrokenGate(_, _) => Stage::BrokenGate,
     }
@@ -89,6 +94,7 @@ pub(crate) fn frame_of(way: &Way) -> Option<&Frame>
         Way::Bodied(_, frame)
         | Way::Synced(_, frame)
         | Way::Gated(_, frame)
+        | Way::Safe(_, frame)
         | Way::BrokenBody(_, frame)
         | Way::BrokenGate(_, frame) => Some(frame),
         Way::Resting(_) | Way::Away => None,
@@ -103,6 +109,7 @@ pub(crate) fn due(way: &Way) -> usize
         Way::Bodied(_, frame)
         | Way::Synced(_, frame)
         | Way::Gated(_, frame)
+        | Way::Safe(_, frame)
         | Way::BrokenBody(_, frame)
         | Way::BrokenGate(_, frame) => frame.entries().len(),
         Way::Resting(_) | Way::Away => 0,

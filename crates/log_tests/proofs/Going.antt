@@ -19,7 +19,7 @@ use Rattle.hub_store.proofs.Payloads.{behind_more}
 use Rattle.hub_store.proofs.Settling.{of_part-append, own_part}
 use Rattle.hub_store.specs.Ways.{stage_of, going_in}
 use Rattle.hub_store.specs.declared.way.Way.{Way}
-use Rattle.hub_store.specs.declared.way.Way.TheVariants.{Resting, Bodied, Synced, Gated, BrokenBody, BrokenGate, Away}
+use Rattle.hub_store.specs.declared.way.Way.TheVariants.{Resting, Bodied, Synced, Gated, Safe, BrokenBody, BrokenGate, Away}
 use Rattle.hub_store.specs.declared.way.Stage.TheVariants as stages
 use Rattle.log_tests.specs.Stores.{letting_go, trimming, next_at, Goes, IsAt}
 
@@ -55,6 +55,7 @@ none_going (Resting log) rests going wanted is = cc
 none_going (Bodied log frame) rests going wanted is = cc
 none_going (Synced log frame) rests going wanted is = cc
 none_going (Gated log frame) rests going wanted is = cc
+none_going (Safe log frame) rests going wanted is = cc
 none_going (BrokenBody log frame) rests going wanted is = cc
 none_going (BrokenGate log frame) rests going wanted is = cc
 none_going Away rests going wanted is = cc

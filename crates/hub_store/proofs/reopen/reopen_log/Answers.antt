@@ -9,7 +9,7 @@ use Rattle.part_items.specs.Spelling.{spell_frame}
 use Rattle.hub_store.specs.declared.way.Way.{Way}
 use Rattle.hub_store.specs.OpenedAgain.{Reopens}
 use Rattle.hub_store.specs.Ways.{WayFits, going_in, gate_of, due_in}
-use Rattle.hub_store.proofs.OpenedAgain.{gated_reopens, broken_reopens}
+use Rattle.hub_store.proofs.OpenedAgain.{gated_reopens, safe_reopens, broken_reopens}
 use Rattle.hub_store.proofs.reopen.reopen_log.Goals as goal
 
 abbrev Again : List Step → List Step → List rows.Entry → Result Reopened BrokenGate → Way → Type 0
@@ -39,6 +39,30 @@ returns-in-Gated-clause-cause g c = c.reopen.ensures.cause
 
 pub returns-in-Gated-clause-say_faults : goal.returns-in-Gated-clause-say_faults
 returns-in-Gated-clause-say_faults g c = c.reopen.ensures.say_faults
+
+pub returns-in-Safe-clause-reopens : goal.returns-in-Safe-clause-reopens
+returns-in-Safe-clause-reopens g c tells =
+    let e = c.reopen-in-Safe.ensures in
+    let old = g.V.Site.history c.args.site.now in
+    let new = g.V.Site.history c.reopen-in-Safe.new.site in
+    let frame = c.in-Safe.frame in
+    subst (Again old new frame c.reopen-in-Safe.result) (sym c.in-Safe.is)
+    (safe_reopens frame old new c.reopen-in-Safe.result c.in-Safe.log (record { syncs = e.syncs; during = e.during tells; place = e.place; broken = e.broken; opened = e.opened tells }) (e.after tells))
+
+pub returns-in-Safe-clause-tells : goal.returns-in-Safe-clause-tells
+returns-in-Safe-clause-tells g c = c.reopen-in-Safe.ensures.tells
+
+pub returns-in-Safe-clause-going : goal.returns-in-Safe-clause-going
+returns-in-Safe-clause-going g c = ap going_in c.in-Safe.is
+
+pub returns-in-Safe-clause-due : goal.returns-in-Safe-clause-due
+returns-in-Safe-clause-due g c = ap due_in c.in-Safe.is
+
+pub returns-in-Safe-clause-cause : goal.returns-in-Safe-clause-cause
+returns-in-Safe-clause-cause g c = c.reopen-in-Safe.ensures.cause
+
+pub returns-in-Safe-clause-say_faults : goal.returns-in-Safe-clause-say_faults
+returns-in-Safe-clause-say_faults g c = c.reopen-in-Safe.ensures.say_faults
 
 pub returns-in-BrokenGate-clause-reopens : goal.returns-in-BrokenGate-clause-reopens
 returns-in-BrokenGate-clause-reopens g c tells =

@@ -15,7 +15,7 @@ use Rattle.hub_store.proofs.Settling.{of_part-append, no_part, told_settled}
 use Rattle.hub_store.proofs.Shortness.{still_short}
 use Rattle.hub_store.proofs.Standing.{told_on}
 use Rattle.hub_store.proofs.Stores.{put_for, others_stay, keeps_still, sound_on, sound_any, due_of_one}
-use Rattle.hub_store.proofs.store.Store.settle.Goals as goal
+use Rattle.hub_store.proofs.store.Store.settle_gated.Goals as goal
 use Rattle.commit_log.proofs.Causes.{ok_apart}
 
 pub returns-in-Ok-clause-sound : goal.returns-in-Ok-clause-sound
@@ -38,7 +38,7 @@ returns-in-Ok-clause-sound g c =
     (λ tells.
     let stood = c.requires.sound.told (c.settle.ensures.tells tells) in
     let fits = subst (λ (w : Way). LogFits (o.logs p) (of_part p trail) (changes_of (o.logs p).file before) w) (sym c.in-Gated.ensures.way) (stood.logs p c.requires.place) in
-    let follows = c.requires.follows _ (ap going_in (sym c.in-Gated.ensures.way)) (ap stage_of (sym c.in-Gated.ensures.way)) in
+    let follows = c.requires.follows _ (ap going_in (sym c.in-Gated.ensures.way)) in
     let path = settle_path (g.N.Start.may_follow old.latest) g.N.Start.may_say o p log frame trail told before now c.settle.result c.settle.ensures.syncs c.settle.ensures.during follows fits in
     let rests = settle_rests (g.N.Start.may_follow old.latest) g.N.Start.may_say o p log frame trail before now c.in-Ok.log (c.in-Ok.ensures.place).0 c.in-Ok.ensures.after fits in
     told_settled (g.N.Start.may_follow old.latest) g.N.Start.may_say o (g.N.Start.still_settled old.latest) p c.in-Ok.log trail told (entries_of frame) fits.payloads before now old.ways.items old.cut _ at c.requires.sound.apart c.requires.sound.count c.requires.place (c.requires.sound.uncut c.requires.going) (c.moment-at.ensures tells) follows stood path fits.next rests.0 rests.1)
@@ -72,7 +72,7 @@ returns-in-Err-clause-sound g c =
     (λ tells.
     let stood = c.requires.sound.told (c.settle.ensures.tells tells) in
     let fits = subst (λ (w : Way). LogFits (o.logs p) (of_part p trail) (changes_of (o.logs p).file before) w) (sym c.in-Gated.ensures.way) (stood.logs p c.requires.place) in
-    let follows = c.requires.follows _ (ap going_in (sym c.in-Gated.ensures.way)) (ap stage_of (sym c.in-Gated.ensures.way)) in
+    let follows = c.requires.follows _ (ap going_in (sym c.in-Gated.ensures.way)) in
     let path = settle_path (g.N.Start.may_follow old.latest) g.N.Start.may_say o p log frame trail told before now c.settle.result c.settle.ensures.syncs c.settle.ensures.during follows fits in
     let breaks = settle_breaks (g.N.Start.may_follow old.latest) g.N.Start.may_say o p log frame trail before now c.in-Err.log (c.in-Err.ensures.broken).0 c.in-Err.ensures.after fits in
     told_on (g.N.Start.may_follow old.latest) g.N.Start.may_say o p before now old.ways.items way trail told old.cut _ c.requires.sound.apart c.requires.sound.count c.requires.place (c.requires.sound.uncut c.requires.going) stood path breaks)
@@ -85,9 +85,6 @@ returns-in-Ok-clause-ok g c =
     let p = c.args.part in
     let way = ways.Resting c.in-Ok.log in
     ap stage_of (way_put _ _ p way (put_for _ _ _ p way c.take_way.ensures.rest c.put_way.ensures) (within _ _ _ c.requires.sound.count c.requires.place))
-
-pub returns-in-Ok-clause-no_frame : goal.returns-in-Ok-clause-no_frame
-returns-in-Ok-clause-no_frame g c = ((λ is. absurd (ok_apart _ _ is)), (λ apart. absurd (apart (ap stage_of (sym c.in-Gated.ensures.way)))))
 
 pub returns-in-Ok-clause-halted : goal.returns-in-Ok-clause-halted
 returns-in-Ok-clause-halted g c = record {
@@ -102,9 +99,6 @@ returns-in-Err-clause-frame g c =
     let way = ways.BrokenGate c.in-Err.log c.in-Gated.frame in
     ap going_in (way_put _ _ p way (put_for _ _ _ p way c.take_way.ensures.rest c.put_way-in-Err.ensures) (within _ _ _ c.requires.sound.count c.requires.place)) ∙ ap going_in c.in-Gated.ensures.way
 
-pub returns-in-Err-clause-no_frame : goal.returns-in-Err-clause-no_frame
-returns-in-Err-clause-no_frame g c = ((λ is. absurd (fault_no_frame _ refl is)), (λ apart. absurd (apart (ap stage_of (sym c.in-Gated.ensures.way)))))
-
 pub returns-in-Err-clause-halted : goal.returns-in-Err-clause-halted
 returns-in-Err-clause-halted g c = record {
   later = c.in-Err.ensures.cause.later;
@@ -118,14 +112,11 @@ returns-in-Ok-clause-no_trail g c = tt
 pub returns-in-Ok-clause-frame : goal.returns-in-Ok-clause-frame
 returns-in-Ok-clause-frame g c = tt
 
-pub returns-in-Ok-clause-unchanged : goal.returns-in-Ok-clause-unchanged
-returns-in-Ok-clause-unchanged g c = λ is. absurd (ok_apart _ _ is)
-
 pub returns-in-Ok-clause-still : goal.returns-in-Ok-clause-still
 returns-in-Ok-clause-still g c = c.requires.going
 
 pub returns-in-Ok-clause-halts : goal.returns-in-Ok-clause-halts
-returns-in-Ok-clause-halts g c = λ is. absurd (ok_apart _ _ is)
+returns-in-Ok-clause-halts g c = tt
 
 pub returns-in-Err-clause-ok : goal.returns-in-Err-clause-ok
 returns-in-Err-clause-ok g c = tt
@@ -136,41 +127,11 @@ returns-in-Err-clause-trail g c = tt
 pub returns-in-Err-clause-no_trail : goal.returns-in-Err-clause-no_trail
 returns-in-Err-clause-no_trail g c = refl
 
-pub returns-in-Err-clause-unchanged : goal.returns-in-Err-clause-unchanged
-returns-in-Err-clause-unchanged g c = λ is. absurd (fault_no_frame _ refl is)
-
 pub returns-in-Err-clause-still : goal.returns-in-Err-clause-still
 returns-in-Err-clause-still g c = tt
 
 pub returns-in-Err-clause-halts : goal.returns-in-Err-clause-halts
-returns-in-Err-clause-halts g c = λ is. refl
-
-pub returns-then-ne-clause-sound : goal.returns-then-ne-clause-sound
-returns-then-ne-clause-sound g c = c.requires.sound
-
-pub returns-then-ne-clause-ok : goal.returns-then-ne-clause-ok
-returns-then-ne-clause-ok g c = tt
-
-pub returns-then-ne-clause-trail : goal.returns-then-ne-clause-trail
-returns-then-ne-clause-trail g c = tt
-
-pub returns-then-ne-clause-no_trail : goal.returns-then-ne-clause-no_trail
-returns-then-ne-clause-no_trail g c = refl
-
-pub returns-then-ne-clause-frame : goal.returns-then-ne-clause-frame
-returns-then-ne-clause-frame g c = refl
-
-pub returns-then-ne-clause-unchanged : goal.returns-then-ne-clause-unchanged
-returns-then-ne-clause-unchanged g c = λ is. refl
-
-pub returns-then-ne-clause-still : goal.returns-then-ne-clause-still
-returns-then-ne-clause-still g c = tt
-
-pub returns-then-ne-clause-halts : goal.returns-then-ne-clause-halts
-returns-then-ne-clause-halts g c = λ is. absurd (fault_no_frame _ is refl)
-
-pub returns-then-ne-clause-halted : goal.returns-then-ne-clause-halted
-returns-then-ne-clause-halted g c = record { later = le_refl _; same = λ is. refl; risen = λ is. absurd (true_apart (sym is ∙ c.requires.going)) }
+returns-in-Err-clause-halts g c = refl
 
 pub returns-in-Ok-clause-keeps : goal.returns-in-Ok-clause-keeps
 returns-in-Ok-clause-keeps g c =
@@ -188,7 +149,7 @@ returns-in-Ok-clause-keeps g c =
     }
 
 pub returns-in-Ok-clause-broken : goal.returns-in-Ok-clause-broken
-returns-in-Ok-clause-broken g c is = absurd (ok_apart _ _ is)
+returns-in-Ok-clause-broken g c = tt
 
 pub returns-in-Err-clause-keeps : goal.returns-in-Err-clause-keeps
 returns-in-Err-clause-keeps g c =
@@ -206,13 +167,7 @@ returns-in-Err-clause-keeps g c =
     }
 
 pub returns-in-Err-clause-broken : goal.returns-in-Err-clause-broken
-returns-in-Err-clause-broken g c is =
+returns-in-Err-clause-broken g c =
     let p = c.args.part in
     let way = ways.BrokenGate c.in-Err.log c.in-Gated.frame in
     ap stage_of (way_put _ _ p way (put_for _ _ _ p way c.take_way.ensures.rest c.put_way-in-Err.ensures) (within _ _ _ c.requires.sound.count c.requires.place))
-
-pub returns-then-ne-clause-keeps : goal.returns-then-ne-clause-keeps
-returns-then-ne-clause-keeps g c = keeps_still c.args.part c.args.self.now
-
-pub returns-then-ne-clause-broken : goal.returns-then-ne-clause-broken
-returns-then-ne-clause-broken g c is = absurd (fault_no_frame _ is refl)
