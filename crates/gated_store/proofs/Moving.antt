@@ -1,5 +1,5 @@
 -- What a call on the logs leaves of how the ledgers fit.
-use Rattle.std.proofs.Common.{◌≡◌, ◌≢◌, inl, inr, ℕ, ◌<◌, ◌≤◌, List, [], ◌∷◌, ◌++◌, length, map, get_or, Option, Some, None, MatchOption, Result, Ok, Err, OnOk, OnErr, is_err, IfErr, true, false, ◌+◌, length-append, refl, sym, ◌∙◌, ap, subst, arith}
+use Rattle.std.proofs.Common.{◌≡◌, ◌≢◌, Bool, inl, inr, ℕ, ◌<◌, ◌≤◌, List, [], ◌∷◌, ◌++◌, length, map, get_or, Option, Some, None, MatchOption, Result, Ok, Err, OnOk, OnErr, is_err, IfErr, true, false, ◌+◌, length-append, refl, sym, ◌∙◌, ap, subst, arith}
 use Rattle.std.specs.List.{All, slice_get}
 use Rattle.std.proofs.Math.ListN.{set}
 use Rattle.std.proofs.Math.Seq.{map-set_same}
@@ -20,7 +20,8 @@ use Rattle.commit_gate.specs.Ledgers.{Ledger, log_length, IsKnown, with_frame, a
 use Rattle.commit_gate.specs.Views.{ledger_of, whole_of, ledgers_of, floors_of, no_ledger, floors_in, readers_by, readers_in}
 use Rattle.log_items.specs.Readings.{readers_behind, readers_after}
 use Rattle.hub_store.specs.Trail.{Settled, Said, of_part, settling}
-use Rattle.hub_store.specs.Ways.{stage_of, going_in, is_tried, is_untried}
+use Rattle.hub_store.specs.Waiting.{stage_behind}
+use Rattle.hub_store.specs.Ways.{stage_of, going_in, is_tried, is_open, is_untried}
 use Rattle.hub_store.specs.declared.refusal.Refusal.{Refusal}
 use Rattle.hub_store.specs.declared.refusal.Refusal.TheVariants as refusals
 use Rattle.hub_store.specs.declared.way.Way.{Way}
@@ -161,6 +162,50 @@ all_met ledgers floors p items all = λ k d low. (all k d low).met
 -- a stage that no gate was tried at
 pub untried : (stage aim : Stage) → stage ≡ aim → is_tried aim ≡ false → is_tried stage ≡ true → ⊥
 untried stage aim at none tried = cc (at, none, tried)
+
+-- where a gate is open it was tried
+pub open_tried : (seen stage : Stage) → seen ≡ stage → is_open seen ≡ true → is_tried stage ≡ true
+open_tried seen stages.Resting same is = absurd (let wrong : is_open stages.Resting ≡ true = ap is_open (sym same) ∙ is in cc wrong)
+open_tried seen stages.Bodied same is = absurd (let wrong : is_open stages.Bodied ≡ true = ap is_open (sym same) ∙ is in cc wrong)
+open_tried seen stages.Synced same is = absurd (let wrong : is_open stages.Synced ≡ true = ap is_open (sym same) ∙ is in cc wrong)
+open_tried seen stages.Gated same is = refl
+open_tried seen stages.Safe same is = refl
+open_tried seen stages.BrokenBody same is = absurd (let wrong : is_open stages.BrokenBody ≡ true = ap is_open (sym same) ∙ is in cc wrong)
+open_tried seen stages.BrokenGate same is = refl
+
+-- a gate that was tried once all files are made safe, or that failed, was tried before
+tried_before : (safe : Bool) (stage : Stage) → is_tried (stage_behind safe stage) ≡ true → is_tried stage ≡ true
+tried_before true stages.Resting is = is
+tried_before true stages.Bodied is = absurd (cc is)
+tried_before true stages.Synced is = is
+tried_before true stages.Gated is = refl
+tried_before true stages.Safe is = is
+tried_before true stages.BrokenBody is = is
+tried_before true stages.BrokenGate is = is
+tried_before false stages.Resting is = is
+tried_before false stages.Bodied is = absurd (cc is)
+tried_before false stages.Synced is = is
+tried_before false stages.Gated is = refl
+tried_before false stages.Safe is = is
+tried_before false stages.BrokenBody is = is
+tried_before false stages.BrokenGate is = is
+
+-- no frame was settled or made, and all files were made safe, or that failed
+pub fits_behind : (count : ℕ) (ledgers : ℕ → List Entry → Ledger) (readers : ℕ → ℕ → Identity) (may_make : ℕ → List Entry → List Said → ℕ → List Entry → Type 0) (latest now_latest : ℕ) (trail now_trail : List Settled) (told now_told : List Said) (going now_going : ℕ → Option (List Entry)) (stage now_stage : ℕ → Stage) (list : List declared.Ledger)
+    → now_latest ≡ latest → now_told ≡ told → now_trail ≡ trail → ((q : ℕ) → now_going q ≡ going q) → (safe : Bool) → ((q : ℕ) → now_stage q ≡ stage_behind safe (stage q)) → Fits count ledgers readers may_make latest trail told going stage list
+    → Fits count ledgers readers may_make now_latest now_trail now_told now_going now_stage list
+fits_behind count ledgers readers may_make latest now_latest trail now_trail told now_told going now_going stage now_stage list same_latest same_told same_trail same safe behind fits =
+    subst (λ (n : ℕ). Fits count ledgers readers may_make n now_trail now_told now_going now_stage list) (sym same_latest)
+    (subst (λ (t : List Said). Fits count ledgers readers may_make latest now_trail t now_going now_stage list) (sym same_told)
+    (subst (λ (t : List Settled). Fits count ledgers readers may_make latest t told now_going now_stage list) (sym same_trail)
+    (record {
+      many = fits.many;
+      first = fits.first;
+      grown = fits.grown;
+      each = λ q r is. subst (λ (g : Option (List Entry)). LedgerFits ledgers readers count q (of_part q trail) g r) (sym (same q)) (fits.each q r is);
+      made = λ q inside. subst (IsMade may_make latest (of_part q trail) told q) (sym (same q)) (fits.made q inside);
+      met = λ q inside tried. subst (IsMetAt ledgers trail q) (sym (same q)) (fits.met q inside (tried_before safe (stage q) (ap is_tried (sym (behind q)) ∙ tried)));
+    })))
 
 -- whatever a call answered that brings a frame no further than before its gate
 pub still_untried : {T : Type 0} (r : Result T Refusal) (now before aim : Stage) → is_tried aim ≡ false → is_tried before ≡ false → OnOk r (now ≡ aim) → (r ≡ Err refusals.SiteFault → now ≡ stages.BrokenBody) → (r ≡ Err refusals.NoFrame → now ≡ before) → is_tried now ≡ true → ⊥

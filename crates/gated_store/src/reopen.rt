@@ -134,7 +134,7 @@ impl<V: Site, L: Local> GatedStore<V, L> {
     {
         match self.logs.stage(part) {
             Stage::Resting => Err(Refusal::NoFrame),
-            Stage::Gated | Stage::BrokenGate => self.reopen_tried(part),
+            Stage::Gated | Stage::Safe | Stage::BrokenGate => self.reopen_tried(part),
             Stage::Bodied | Stage::Synced | Stage::BrokenBody => match self.drop_untried(part) {
                 Ok(()) => Ok(Reopening::Dropped),
                 Err(refusal) => Err(refusal),

@@ -4,11 +4,12 @@ ghost use Rattle.std.specs.Prelude.{◌≡◌, ◌≢◌, ◌<◌, ◌↔◌, fa
 ghost use Rattle.commit_gate.specs.Keeping.{AreOfOne, KeepsPlaces};
 ghost use Rattle.commit_gate.specs.Ledgers.{after_items};
 ghost use Rattle.commit_gate.specs.Views.{readers_in, ledger_of, whole_of};
-ghost use Rattle.gated_store.specs.Keeps.{turned, KeepsGate};
+ghost use Rattle.gated_store.specs.Keeps.{turned_by, KeepsGate};
 ghost use Rattle.gated_store.specs.Kept.{IsKept};
 ghost use Rattle.gated_store.specs.Settled.{items_settled, readers_settled};
 ghost use Rattle.hub_store.specs.Changes.{stage_at, going_at, trail_in, Settles, HasHalted};
 ghost use Rattle.hub_store.specs.Plain.{trail_of};
+ghost use Rattle.hub_store.specs.Ways.{is_open};
 
 use crate::local::Local;
 use crate::store::{GatedStore, next_turn};
@@ -59,8 +60,23 @@ pub(crate) fn settle_ledger(ledger: &mut Ledger, settled: &[Settled])
     take_settled(ledger, settled);
 }
 
+/// The turns, once a frame that came so far is settled.
+fn turns_behind(stage: Stage, turns: u64) -> u64
+    ensures { result ≡ turned_by stage turns }
+{
+    match stage {
+        Stage::Gated => next_turn(turns),
+        Stage::Resting
+        | Stage::Bodied
+        | Stage::Synced
+        | Stage::Safe
+        | Stage::BrokenBody
+        | Stage::BrokenGate => turns,
+    }
+}
+
 impl<V: Site, L: Local> GatedStore<V, L> {
-    /// Makes the open gate of a partition's frame safe on the disk: from then on its entries are settled.
+    /// Settles a partition's frame behind its open gate, at this moment. The gate is made safe on the disk first, unless it is already.
     pub fn settle(&mut self, part: u32) -> Result<(), Refusal>
         requires kept { IsKept L.origin.count L.ledgers L.readers L.may_make self.old }
         requires going { self.old.logs.halted ≡ false }
@@ -75,9 +91,13 @@ impl<V: Site, L: Local> GatedStore<V, L> {
         ensures frame { OnErr result
             (going_at self.new.logs part ≡ going_at self.old.logs part) }
         ensures no_frame { result ≡ Err Refusal.NoFrame
-            ↔ stage_at self.old.logs part ≢ Stage.Gated }
+            ↔ is_open (stage_at self.old.logs part) ≡ false }
         ensures unchanged { result ≡ Err Refusal.NoFrame → self.new ≡ self.old }
-        ensures turns { result ≢ Err Refusal.NoFrame → self.new.turns ≡ turned self.old.turns }
+        // One that is safe already costs no device call.
+        ensures safe { stage_at self.old.logs part ≡ Stage.Safe
+            → OnOk result (self.new.logs.site ≡ self.old.logs.site) × OnErr result ⊥ }
+        ensures turns { result ≢ Err Refusal.NoFrame
+            → self.new.turns ≡ turned_by (stage_at self.old.logs part) self.old.turns }
         ensures still { OnOk result (self.new.logs.halted ≡ false) }
         ensures halts { result ≡ Err Refusal.SiteFault → self.new.logs.halted ≡ true }
         ensures broken { result ≡ Err Refusal.SiteFault
@@ -85,11 +105,11 @@ impl<V: Site, L: Local> GatedStore<V, L> {
         ensures halted { HasHalted (V.disk_faults self.old.logs.site)
             (V.disk_faults self.new.logs.site) self.new.logs.halted }
     {
-        match self.logs.stage(part) {
-            Stage::Gated => {}
-            _ => return Err(Refusal::NoFrame),
+        let stage = self.logs.stage(part);
+        if !stage.is_open() {
+            return Err(Refusal::NoFrame);
         }
-        self.turns = next_turn(self.turns);
+        self.turns = turns_behind(stage, self.turns);
         let before = self.logs.count();
         match self.logs.settle(part) {
             Ok(()) => {}

@@ -1,5 +1,5 @@
 -- What settling a frame leaves whose open gate is on the disk already: nothing happens outside.
-use Rattle.std.proofs.Common.{◌≡◌, inl, inr, ℕ, List, [], ◌∷◌, ◌++◌, Some, Ok, refl, sym, ◌∙◌, ap, subst, append_assoc}
+use Rattle.std.proofs.Common.{◌≡◌, inr, ℕ, List, [], ◌∷◌, ◌++◌, refl, sym, ◌∙◌, ap, subst}
 use Rattle.site_model.specs.History.{Change, synced, Step, changes_of, reads}
 use Rattle.site_model.specs.Moments.{Always}
 use Rattle.site_model.specs.Moments.Always.{begins}
@@ -7,20 +7,18 @@ use Rattle.site_model.proofs.Paths.{only_here}
 use Rattle.commit_log.specs.declared.header.Header.{Header}
 use Rattle.commit_log.specs.declared.states.Gated.{Gated}
 use Rattle.commit_log.specs.declared.states.Resting.{Resting}
-use Rattle.commit_log.specs.Segment.{first_gate}
-use Rattle.commit_log.specs.States.{IsResting, IsGated, HasFrames}
+use Rattle.commit_log.specs.States.{IsResting, IsGated}
 use Rattle.commit_log.proofs.Steps.{settled, resting_images}
 use Rattle.dura_value.specs.Items.{Entry}
 use Rattle.log_items.specs.declared.frames.Entry as rows
 use Rattle.log_items.specs.Plain.{entries_of}
 use Rattle.part_items.specs.Spelling.{spell_frame}
-use Rattle.hub_store.specs.declared.way.Way.{Way}
 use Rattle.hub_store.specs.declared.way.Way.TheVariants as ways
-use Rattle.hub_store.specs.Moments.{before_syncs, WroteGate}
+use Rattle.hub_store.specs.Moments.{before_syncs}
 use Rattle.hub_store.specs.Origin.{Origin}
 use Rattle.hub_store.specs.Trail.{Settled, Said, of_part}
-use Rattle.hub_store.specs.Ways.{LogFits, WayFits, IsSafe, JustWrote}
-use Rattle.hub_store.proofs.Calls.{either_frames, fits_on}
+use Rattle.hub_store.specs.Ways.{LogFits, IsSafe, JustWrote}
+use Rattle.hub_store.proofs.Calls.{either_frames}
 use Rattle.hub_store.proofs.Payloads.{kept_payloads}
 use Rattle.hub_store.proofs.Standing.{OnLog}
 

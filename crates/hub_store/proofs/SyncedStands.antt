@@ -1,6 +1,5 @@
 -- How all stands behind a call that makes the files of several frames safe, or failed to.
-use Rattle.std.proofs.Common.{◌≡◌, ◌≢◌, inl, inr, ℕ, zero, suc, ◌+◌, ◌<◌, ◌≤◌, Bool, true, false, List, [], ◌∷◌, ◌++◌, length, take, Option, Some, None, Ok, refl, sym, ◌∙◌, ap, subst, arith, append_assoc, le_refl}
-use Rattle.std.specs.List.{sum_by}
+use Rattle.std.proofs.Common.{◌≡◌, ◌≢◌, inl, inr, ℕ, zero, suc, ◌+◌, ◌<◌, ◌≤◌, Bool, true, false, List, [], ◌∷◌, ◌++◌, length, take, Some, Ok, refl, sym, ◌∙◌, ap, subst, arith, append_assoc}
 use Rattle.std.specs.Vec.{vec_len, vec_capacity}
 use Rattle.std.specs.Global.{Vec}
 use Rattle.site_model.specs.History.{Change, Step, on, synced, syncing, changes_of, reads, Leaves}
@@ -29,13 +28,13 @@ use Rattle.hub_store.specs.Runs.{Runs}
 use Rattle.hub_store.specs.Short.{KeepsShort}
 use Rattle.hub_store.specs.Sound.{IsTold, IsSound}
 use Rattle.hub_store.specs.Trail.{Settled, Said, of_part}
-use Rattle.hub_store.specs.Waiting.{waits, waiting, FitsBehind, IsBehind, AreBehind}
-use Rattle.hub_store.specs.Ways.{LogFits, WayFits, WayGoesOn, stage_of, way_of, going_in, due_in}
+use Rattle.hub_store.specs.Waiting.{waits, waiting, IsBehind, AreBehind}
+use Rattle.hub_store.specs.Ways.{LogFits, WayFits, WayGoesOn, stage_of, way_of, going_in}
 use Rattle.hub_store.proofs.EveryMoment.{runs_along}
 use Rattle.hub_store.proofs.Payloads.{kept_payloads}
 use Rattle.hub_store.proofs.Shortness.{still_short}
 use Rattle.hub_store.proofs.Stores.{with_frame}
-use Rattle.hub_store.proofs.SyncCounts.{count_of, syncs_on, changes_syncing, count_take, file_in, Either, either, none_there, one_there, waits_inside, dues_same}
+use Rattle.hub_store.proofs.SyncCounts.{count_of, syncs_on, changes_syncing, count_take, file_in, either, none_there, one_there, waits_inside, dues_same}
 use Rattle.hub_store.proofs.SyncCounts.Either.{it_is, it_is_not}
 
 -- one step a file

@@ -39,11 +39,8 @@ fn drop_log<V: Site>(site: &mut V, way: Way) -> (Result<Resting, BrokenBody>, Fr
         Way::Bodied(log, frame) => (log.drop_frame(site), frame),
         Way::Synced(log, frame) => (log.drop_frame(site), frame),
         Way::BrokenBody(log, frame) => (log.drop_frame(site), frame),
-        Way::Resting(_)
-        | Way::Gated(_, _)
-        | Way::Safe(_, _)
-        | Way::BrokenGate(_, _)
-        | Way::Away => unreachable!(),
+        Way::Resting(_) | Way::Gated(_, _) | Way::Safe(_, _) | Way::BrokenGate(_, _) | Way::Away =>
+            unreachable!(),
     }
 }
 

@@ -2,7 +2,7 @@
 
 ghost use Rattle.std.specs.Prelude.{◌≡◌, ◌<◌, Some, None, MatchOption, length, slice_set};
 ghost use Rattle.log_items.specs.Plain.{entries_of};
-ghost use Rattle.hub_store.specs.Ways.{stage_of, way_of, going_in, due_in, is_tried, is_untried};
+ghost use Rattle.hub_store.specs.Ways.{stage_of, way_of, going_in, due_in, is_tried, is_open, is_untried};
 
 use commit_log::{Bodied, BrokenBody, BrokenGate, Gated, Resting, Synced};
 use log_items::Frame;
@@ -56,6 +56,20 @@ impl Stage {
         match self {
             Stage::Gated | Stage::Safe | Stage::BrokenGate => true,
             Stage::Resting | Stage::Bodied | Stage::Synced | Stage::BrokenBody => false,
+        }
+    }
+
+    /// Whether a frame is under way whose gate was written open, and no call on it failed: it is to be settled.
+    pub fn is_open(self) -> bool
+        ensures { result ≡ is_open self }
+    {
+        match self {
+            Stage::Gated | Stage::Safe => true,
+            Stage::Resting
+            | Stage::Bodied
+            | Stage::Synced
+            | Stage::BrokenBody
+            | Stage::BrokenGate => false,
         }
     }
 

@@ -2,7 +2,7 @@ use Rattle.std.proofs.Common.{Bool, sym, subst}
 use Rattle.hub_store.specs.declared.way.Way.{Way}
 use Rattle.hub_store.specs.declared.way.Way.TheVariants as ways
 use Rattle.hub_store.specs.Waiting.{IsBehind}
-use Rattle.hub_store.proofs.Behind.{bodied_safe, bodied_broken, gated_safe, gated_broken}
+use Rattle.hub_store.proofs.Behind.{bodied_broken, gated_safe}
 use Rattle.hub_store.proofs.together.behind.Goals as goal
 
 pub returns-in-Bodied-false : goal.returns-in-Bodied-false

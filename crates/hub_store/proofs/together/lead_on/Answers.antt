@@ -1,4 +1,4 @@
-use Rattle.std.proofs.Common.{List, ap, sym, subst, refl, arith}
+use Rattle.std.proofs.Common.{subst, refl, arith}
 use Rattle.hub_store.specs.declared.way.Way.{Way}
 use Rattle.hub_store.specs.Waiting.{IsBehind}
 use Rattle.hub_store.proofs.Behind.{one_led, all_led}

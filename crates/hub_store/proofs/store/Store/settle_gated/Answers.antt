@@ -1,4 +1,4 @@
-use Rattle.std.proofs.Common.{◌++◌, List, length, refl, sym, ◌∙◌, ap, subst, le_refl}
+use Rattle.std.proofs.Common.{◌++◌, List, length, refl, sym, ◌∙◌, ap, subst}
 use Rattle.std.proofs.lemmas.List.{append-nil}
 use Rattle.dura_value.specs.Items.{Entry}
 use Rattle.site_model.specs.History.{changes_of}
@@ -9,14 +9,13 @@ use Rattle.hub_store.specs.Plain.{trail_of, told_of}
 use Rattle.hub_store.specs.Trail.{of_part, settling}
 use Rattle.hub_store.specs.Short.{KeepsShort}
 use Rattle.hub_store.specs.Ways.{LogFits, stage_of, due_in, going_in}
-use Rattle.hub_store.proofs.Bodies.{way_put, rests_there, true_apart, fault_no_frame, within, tried_there, less_due, less_room, reach_next, reach_same}
+use Rattle.hub_store.proofs.Bodies.{way_put, rests_there, true_apart, within, tried_there, less_due, less_room, reach_next, reach_same}
 use Rattle.hub_store.proofs.Calls.{settle_path, settle_rests, settle_breaks}
 use Rattle.hub_store.proofs.Settling.{of_part-append, no_part, told_settled}
 use Rattle.hub_store.proofs.Shortness.{still_short}
 use Rattle.hub_store.proofs.Standing.{told_on}
-use Rattle.hub_store.proofs.Stores.{put_for, others_stay, keeps_still, sound_on, sound_any, due_of_one}
+use Rattle.hub_store.proofs.Stores.{put_for, others_stay, sound_on, sound_any, due_of_one}
 use Rattle.hub_store.proofs.store.Store.settle_gated.Goals as goal
-use Rattle.commit_log.proofs.Causes.{ok_apart}
 
 pub returns-in-Ok-clause-sound : goal.returns-in-Ok-clause-sound
 returns-in-Ok-clause-sound g c =

@@ -1,9 +1,9 @@
-use Rattle.std.proofs.Common.{◌≡◌, ◌∙◌, ap, sym, ℕ, List, [], ◌∷◌, take, length, arith, refl, true, false, subst, ◌≤◌}
+use Rattle.std.proofs.Common.{◌≡◌, ◌∙◌, ap, sym, ℕ, List, take, arith, refl, true, false}
 use Rattle.std.specs.Vec.{vec_len}
 use Rattle.std.proofs.lemmas.Bool.{eqb-true}
 use Rattle.std.proofs.lemmas.List.{nil_from_length}
 use Rattle.hub_store.proofs.Bodies.{some_left}
-use Rattle.site_model.specs.History.{Step, syncing}
+use Rattle.site_model.specs.History.{syncing}
 use Rattle.hub_store.specs.Waiting.{waiting}
 use Rattle.hub_store.proofs.SyncCounts.{count_of, count_take, none_wait, all_rest, some_apart}
 use Rattle.hub_store.proofs.SyncedStands.{store_synced}
