@@ -1,12 +1,14 @@
 //! Examples of the definitions. They are said of the definitions alone: the functions do nothing.
 
 ghost use Rattle.std.specs.Prelude.{◌≡◌, ◌≢◌, ◌<◌, ◌++◌, ◌∷◌, [], true, false, None, Some};
-ghost use Rattle.hub_store.specs.Changes.{told_in, KeepsStore, Settles, HasHalted};
+ghost use Rattle.hub_store.specs.Changes.{told_in, KeepsStore, KeepsAll, Settles, HasHalted};
 ghost use Rattle.hub_store.specs.Examples.{frame, settled_in, settled_when, request, answer, speaking, spoken, other_file, IsTold, Stand, StandWith, StandAlways, log_written, gate_opened, gate_synced, LogStands, GateWritten};
+ghost use Rattle.hub_store.specs.Waiting.{waits, stage_behind};
 ghost use Rattle.hub_store.specs.Ways.{way_of};
 
 use crate::start::Start;
 use crate::store::Store;
+use crate::way::Stage;
 use site_model::Site;
 
 /// A frame of partition 0 may be told and no other, and the answer behind it and not before.
@@ -82,4 +84,32 @@ pub fn frames_moved<V: Site, N: Start>(old: &Store<V, N>, new: &Store<V, N>)
         → KeepsStore 0 old.now new.now → ⊥ }
     ensures unsaid { V.say_faults new.now.site ≢ V.say_faults old.now.site
         → KeepsStore 0 old.now new.now → ⊥ }
+{}
+
+/// And of what a call on all frames keeps.
+pub fn frames_led<V: Site, N: Start>(old: &Store<V, N>, new: &Store<V, N>)
+    ensures none { KeepsAll old.now old.now }
+    ensures said { told_in new.now ≡ told_in old.now ++ request ∷ [] → KeepsAll old.now new.now
+        → ⊥ }
+    ensures untold { V.tells new.now.site → (V.tells old.now.site → ⊥) → KeepsAll old.now new.now
+        → ⊥ }
+    ensures segment { new.now.segment ≢ old.now.segment → KeepsAll old.now new.now → ⊥ }
+    ensures latest { new.now.latest ≢ old.now.latest → KeepsAll old.now new.now → ⊥ }
+    ensures cut { new.now.cut ≢ old.now.cut → KeepsAll old.now new.now → ⊥ }
+    ensures forgotten { V.disk_faults new.now.site < V.disk_faults old.now.site
+        → KeepsAll old.now new.now → ⊥ }
+    ensures unsaid { V.say_faults new.now.site ≢ V.say_faults old.now.site
+        → KeepsAll old.now new.now → ⊥ }
+{}
+
+/// A frame waits for a sync behind its body and behind its gate, and the sync brings it one stage on; where that failed the frame is broken
+/// by whether its gate was tried.
+pub fn stages_behind()
+    ensures body { (waits Stage.Bodied ≡ true) × (stage_behind true Stage.Bodied ≡ Stage.Synced) }
+    ensures gate { (waits Stage.Gated ≡ true) × (stage_behind true Stage.Gated ≡ Stage.Safe) }
+    ensures failed { (stage_behind false Stage.Bodied ≡ Stage.BrokenBody)
+        × (stage_behind false Stage.Gated ≡ Stage.BrokenGate) }
+    ensures safe { (waits Stage.Synced ≡ false) × (stage_behind true Stage.Synced ≡ Stage.Synced) }
+    ensures broken { (waits Stage.BrokenBody ≡ false)
+        × (stage_behind false Stage.BrokenBody ≡ Stage.BrokenBody) }
 {}
