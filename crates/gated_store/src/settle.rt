@@ -64,14 +64,10 @@ pub(crate) fn settle_ledger(ledger: &mut Ledger, settled: &[Settled])
 fn turns_behind(stage: Stage, turns: u64) -> u64
     ensures { result ≡ turned_by stage turns }
 {
-    match stage {
-        Stage::Gated => next_turn(turns),
-        Stage::Resting
-        | Stage::Bodied
-        | Stage::Synced
-        | Stage::Safe
-        | Stage::BrokenBody
-        | Stage::BrokenGate => turns,
+    if stage == Stage::Gated {
+        next_turn(turns)
+    } else {
+        turns
     }
 }
 
