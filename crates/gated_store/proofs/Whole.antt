@@ -6,7 +6,7 @@ use Rattle.std.specs.List.{All}
 use Rattle.std.proofs.lemmas.List.Elements.{All-head, All-tail, All-weaker}
 use Rattle.commit_gate.specs.Keeping.{IsOfOne, AreOfOne}
 use Rattle.commit_gate.specs.Ledgers.{Ledger}
-use Rattle.commit_gate.specs.Refused.{Names, RefusesFirst}
+use Rattle.commit_gate.specs.Refused.{RefusesFirst}
 use Rattle.commit_gate.specs.Refused.Names.{by_got, by_trim}
 use Rattle.commit_gate.specs.declared.ledger.Sending.{Sending}
 use Rattle.commit_gate.specs.declared.unmet.Unmet.{Unmet}
