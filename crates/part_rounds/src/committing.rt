@@ -36,8 +36,8 @@ pub(crate) fn commit_items<V: Site, N: Ruled>(
     requires rests { stage_at store.old.logs 0 ≡ Stage.Resting }
     requires room { position < 2 ^ 62 }
     requires filled { IsFilled N.rules (N.origin.logs 0) store.old.logs.latest
-        (of_part 0 (trail_in store.old.logs)) (pairs_of (told_in store.old.logs)) position incarnation
-        (items_of items.items) }
+        (of_part 0 (trail_in store.old.logs)) (pairs_of (told_in store.old.logs)) position
+        incarnation (items_of items.items) }
     ensures tells { V.tells store.new.logs.site → V.tells store.old.logs.site }
     ensures kept { IsKeptAlone N.origin.count N.ledgers N.readers N.may_make store.new }
     ensures stage { OnOk result (stage_at store.new.logs 0 ≡ Stage.Resting) }
@@ -52,8 +52,9 @@ pub(crate) fn commit_items<V: Site, N: Ruled>(
     ensures latest { store.new.logs.latest ≡ store.old.logs.latest }
     ensures whole { store.new.logs.cut ≡ store.old.logs.cut }
     ensures full { (of n : ℕ) → result ≡ Err (Stop.Full of n)
-        → IsFull N.rules (length items.items) store.new.logs.latest (of_part 0 (trail_in store.new.logs))
-        (pairs_of (told_in store.new.logs)) store.new.logs.segment (way_of store.new.logs.ways.items 0) of n }
+        → IsFull N.rules (length items.items) store.new.logs.latest
+        (of_part 0 (trail_in store.new.logs)) (pairs_of (told_in store.new.logs))
+        store.new.logs.segment (way_of store.new.logs.ways.items 0) of n }
     ensures labels { OnOk result (count_labels (of_part 0 (trail_in store.new.logs))
         ≡ count_labels (of_part 0 (trail_in store.old.logs)) + length items.items) }
     ensures stops { IfErr result (λ stop. is_of_disk stop ≡ true) }

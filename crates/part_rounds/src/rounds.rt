@@ -77,8 +77,8 @@ fn settle_filling<V: Site, N: Ruled>(
     requires rests { stage_at store.old.logs 0 ≡ Stage.Resting }
     requires room { position < 2 ^ 62 }
     requires filled { IsFilledTo N.rules (N.origin.logs 0) store.old.logs.latest
-        (of_part 0 (trail_in store.old.logs)) (pairs_of (told_in store.old.logs)) position incarnation
-        (items_of filling.items.items) (state_of filling.state) }
+        (of_part 0 (trail_in store.old.logs)) (pairs_of (told_in store.old.logs)) position
+        incarnation (items_of filling.items.items) (state_of filling.state) }
     requires way { IsUnderWay filling }
     requires said { HasSaid N.rules (told_in store.old.logs) port.old }
     ensures tells { V.tells store.new.logs.site → V.tells store.old.logs.site }
@@ -90,7 +90,8 @@ fn settle_filling<V: Site, N: Ruled>(
     ensures still { OnOk result (store.new.logs.halted ≡ false) }
     ensures said { OnOk result (HasSaid N.rules (told_in store.new.logs) port.new) }
     ensures entered { IfOk result (λ state.
-        Entered N.rules (N.origin.logs 0) store.new.logs.latest (of_part 0 (trail_in store.new.logs)) state) }
+        Entered N.rules (N.origin.logs 0) store.new.logs.latest
+        (of_part 0 (trail_in store.new.logs)) state) }
     ensures unsaid { IfOk result (λ state. NoneUnsaid (state_of state) port.new clients.now) }
     ensures labels { OnOk result (count_labels (of_part 0 (trail_in store.new.logs))
         ≡ count_labels (of_part 0 (trail_in store.old.logs)) + length filling.items.items) }
@@ -106,8 +107,8 @@ fn settle_filling<V: Site, N: Ruled>(
         ≤ count_labels (of_part 0 (trail_in store.old.logs)) + length filling.items.items }
     ensures full { (of n : ℕ) → result ≡ Err (Stop.Full of n)
         → IsFull N.rules (length filling.items.items) store.new.logs.latest
-        (of_part 0 (trail_in store.new.logs)) (pairs_of (told_in store.new.logs)) store.new.logs.segment
-        (way_of store.new.logs.ways.items 0) of n }
+        (of_part 0 (trail_in store.new.logs)) (pairs_of (told_in store.new.logs))
+        store.new.logs.segment (way_of store.new.logs.ways.items 0) of n }
     ensures fault { result ≡ Err Stop.SiteFault
         → HasRisen (V.disk_faults store.old.logs.site) (V.disk_faults store.new.logs.site) }
     ensures say_fault { result ≡ Err Stop.SayFault
@@ -169,18 +170,21 @@ fn go_round<V: Site, N: Ruled, R: Reactions, A: Activities, C: Clock>(
     ensures still { OnOk result (store.new.logs.halted ≡ false) }
     ensures said { OnOk result (HasSaid N.rules (told_in store.new.logs) port.new) }
     ensures leaves { IfOk result (λ round.
-        LeavesRound N.rules (N.origin.logs 0) store.new.logs.latest (of_part 0 (trail_in store.old.logs))
-        (of_part 0 (trail_in store.new.logs)) port.new clients.now round) }
+        LeavesRound N.rules (N.origin.logs 0) store.new.logs.latest
+        (of_part 0 (trail_in store.old.logs)) (of_part 0 (trail_in store.new.logs)) port.new
+        clients.now round) }
     ensures goes { GoesByClock N.rules A.gives bounds.limit clients.now (C.given clock.old)
         (of_part 0 (trail_in store.old.logs)) (told_in store.old.logs) (C.given clock.new)
         (of_part 0 (trail_in store.new.logs)) (told_in store.new.logs) }
     ensures no_more { count_labels (of_part 0 (trail_in store.new.logs))
         ≤ count_labels (of_part 0 (trail_in store.old.logs)) + bounds.limit }
     ensures spent { (of n : ℕ) → result ≡ Err (Stop.Spent of n)
-        → IsSpent N.rules (of_part 0 (trail_in store.new.logs)) (pairs_of (told_in store.new.logs)) of n }
+        → IsSpent N.rules (of_part 0 (trail_in store.new.logs))
+        (pairs_of (told_in store.new.logs)) of n }
     ensures full { (of n : ℕ) → result ≡ Err (Stop.Full of n)
         → IsFull N.rules bounds.limit store.new.logs.latest (of_part 0 (trail_in store.new.logs))
-        (pairs_of (told_in store.new.logs)) store.new.logs.segment (way_of store.new.logs.ways.items 0) of n }
+        (pairs_of (told_in store.new.logs)) store.new.logs.segment
+        (way_of store.new.logs.ways.items 0) of n }
     ensures fault { result ≡ Err Stop.SiteFault
         → HasRisen (V.disk_faults store.old.logs.site) (V.disk_faults store.new.logs.site) }
     ensures say_fault { result ≡ Err Stop.SayFault
@@ -267,17 +271,20 @@ pub fn drive<V: Site, N: Ruled, R: Reactions, A: Activities, C: Clock>(
     ensures still { OnOk result (store.new.logs.halted ≡ false) }
     ensures said { OnOk result (HasSaid N.rules (told_in store.new.logs) port.new) }
     ensures leaves { IfOk result (λ end. Leaves N.rules (N.origin.logs 0) store.new.logs.latest
-        (of_part 0 (trail_in store.new.logs)) (pairs_of (told_in store.new.logs)) port.new clients.now
-        bounds.steps end) }
+        (of_part 0 (trail_in store.new.logs)) (pairs_of (told_in store.new.logs)) port.new
+        clients.now bounds.steps end) }
     ensures goes { GoesByClock N.rules A.gives bounds.limit clients.now (C.given clock.old)
         (of_part 0 (trail_in store.old.logs)) (told_in store.old.logs) (C.given clock.new)
         (of_part 0 (trail_in store.new.logs)) (told_in store.new.logs) }
-    ensures no_more { count_labels (of_part 0 (trail_in store.new.logs)) < bounds.steps + bounds.limit }
+    ensures no_more { count_labels (of_part 0 (trail_in store.new.logs))
+        < bounds.steps + bounds.limit }
     ensures spent { (of n : ℕ) → result ≡ Err (Stop.Spent of n)
-        → IsSpent N.rules (of_part 0 (trail_in store.new.logs)) (pairs_of (told_in store.new.logs)) of n }
+        → IsSpent N.rules (of_part 0 (trail_in store.new.logs))
+        (pairs_of (told_in store.new.logs)) of n }
     ensures full { (of n : ℕ) → result ≡ Err (Stop.Full of n)
         → IsFull N.rules bounds.limit store.new.logs.latest (of_part 0 (trail_in store.new.logs))
-        (pairs_of (told_in store.new.logs)) store.new.logs.segment (way_of store.new.logs.ways.items 0) of n }
+        (pairs_of (told_in store.new.logs)) store.new.logs.segment
+        (way_of store.new.logs.ways.items 0) of n }
     ensures fault { result ≡ Err Stop.SiteFault
         → HasRisen (V.disk_faults store.old.logs.site) (V.disk_faults store.new.logs.site) }
     ensures say_fault { result ≡ Err Stop.SayFault
