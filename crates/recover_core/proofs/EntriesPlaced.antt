@@ -1,8 +1,10 @@
 -- Entries are placed one after another.
-use Rattle.std.proofs.Common.{◌≡◌, ◌∙◌, ℕ, ◌+◌, ◌≤◌, List, [], ◌∷◌, ◌++◌, Option, Some, None, Result, Ok, Err, refl, sym, ap, subst, length-append, arith}
+use Rattle.std.proofs.Common.{◌≡◌, ◌∙◌, ℕ, ◌+◌, ◌≤◌, List, [], ◌∷◌, ◌++◌, Option, Some, None, Result, Ok, Err, refl, sym, ap, subst, length, length-append, append_assoc, arith}
 use Rattle.std.specs.Option.{option_and_then}
 use Rattle.dura_value.specs.Reading.{◌>>=◌}
+use Rattle.std.proofs.lemmas.List.{map-append, append-nil}
 use Rattle.dura_value.specs.Items.{Item, Entry}
+use Rattle.log_items.specs.Entries.{incarnations_in}
 use Rattle.flow_syntax.specs.Syntax.{Flows}
 use Rattle.dura_model.specs.Partition.{Partition, fresh, enter, accepted}
 use Rattle.part_items.specs.Numbered.{Next, behind_all}
@@ -67,6 +69,7 @@ entry_made flows entry old new alone is sound count position incarnation = recor
     sound,
   );
   ready = (sound, count, omega (arith, incarnation));
+  counted = λ past counted. let long = length-append past (entry.incarnation ∷ []) in let same : (state_of old).position ≡ length past = counted in omega (arith, position, long, same);
   room = omega (arith, position);
 }
 
@@ -74,6 +77,7 @@ pub entry_stuck : (flows : Flows) (entry : Entry) (old : PartState) → entry_ac
 entry_stuck flows entry old is = record {
   placed = λ made shows. ap (λ (m : Result Partition ℕ). m >>= λ p. placed flows 1 p (entry ∷ [])) shows.0 ∙ ap (λ (o : Option Partition). or_place entry.position o >>= λ p. Ok p) is;
   ready = tt;
+  counted = λ past counted. tt;
   room = omega arith;
 }
 
@@ -96,6 +100,7 @@ pub still_stuck : (flows : Flows) (entry : Entry) (position : ℕ) → GoesOnAs 
 still_stuck flows entry position = record {
   placed = λ made shows. ap (λ (m : Result Partition ℕ). m >>= λ p. placed flows 1 p (entry ∷ [])) shows;
   ready = tt;
+  counted = λ past counted. tt;
   room = omega arith;
 }
 
@@ -115,6 +120,9 @@ incarnation_both : (incarnation : ℕ) (a b : List Entry) → incarnation_behind
 incarnation_both incarnation [] b = refl
 incarnation_both incarnation (entry ∷ a) b = incarnation_both (entry.incarnation + 1) a b
 
+incarnations_both : (a b : List Entry) → incarnations_in (a ++ b) ≡ incarnations_in a ++ incarnations_in b
+incarnations_both a b = map-append (λ (e : Entry). e.incarnation) a b
+
 placed_none : (flows : Flows) (made : Result Partition ℕ) → (made >>= λ p. placed flows 1 p []) ≡ made
 placed_none flows (Ok p) = refl
 placed_none flows (Err position) = refl
@@ -124,6 +132,7 @@ none_placed flows old ready = record {
   next = refl;
   incarnation = refl;
   placed = λ made shows. subst (λ (m : Result Partition ℕ). Shows old.placing m) (sym (placed_none flows made)) shows;
+  past = sym (append-nil old.past);
   ready = ready;
   room = omega arith;
 }
@@ -133,6 +142,7 @@ more_placed flows a b old mid new first second = record {
   next = second.next ∙ ap (λ (n : Next). behind_all n b) first.next ∙ sym (behind_both (next_of old.next) a b);
   incarnation = second.incarnation ∙ ap (λ (n : ℕ). incarnation_behind n b) first.incarnation ∙ sym (incarnation_both old.incarnation a b);
   placed = λ made shows. subst (λ (m : Result Partition ℕ). Shows new.placing m) (sym (placed_more flows made a b)) (second.placed _ (first.placed made shows));
+  past = second.past ∙ ap (λ (l : List ℕ). l ++ incarnations_in b) first.past ∙ append_assoc old.past (incarnations_in a) (incarnations_in b) ∙ ap (λ (l : List ℕ). old.past ++ l) (sym (incarnations_both a b));
   ready = second.ready;
   room = omega (arith, first.room, second.room, length-append a b);
 }
@@ -143,4 +153,5 @@ progress_more flows first a b old new so_far more = record {
   next = more.next ∙ ap (λ (n : Next). behind_all n b) so_far.next ∙ sym (behind_both first a b);
   incarnation = more.incarnation ∙ ap (λ (n : ℕ). incarnation_behind n b) so_far.incarnation ∙ sym (incarnation_both 0 a b);
   placed = subst (λ (m : Result Partition ℕ). Shows new.placing m) (sym (placed_both flows 1 (fresh 0) a b)) (more.placed _ so_far.placed);
+  past = more.past ∙ ap (λ (l : List ℕ). l ++ incarnations_in b) so_far.past ∙ sym (incarnations_both a b);
 }

@@ -1,5 +1,5 @@
 -- What was read of a file is what it keeps.
-use Rattle.std.proofs.Common.{◌≡◌, ◌≢◌, ◌∙◌, inl, inr, ℕ, List, [], ◌∷◌, length, true, false, ◌==◌, Some, None, Ok, Err, refl, sym, ap, subst, eqb-true}
+use Rattle.std.proofs.Common.{◌≡◌, ◌≢◌, ◌∙◌, inl, inr, ℕ, List, [], ◌∷◌, length, false, ◌==◌, Some, None, Ok, Err, refl, sym, ap, subst, eqb-true}
 use Rattle.std.proofs.lemmas.Bool.{cases_Bool, eq-eqb}
 use Rattle.site_model.specs.History.{Step, on, synced, reads, changes_of, content_of, IsKept}
 use Rattle.site_model.proofs.Paths.{own_change}
@@ -54,13 +54,14 @@ module _ (file : ℕ) (old new : List Step) (is : new ≡ on file synced ∷ old
       ap (kept_in 0) same_content ∙ ap (kept_from (content_of file old)) opens.0 ∙ ap (λ (c : List ℕ). kept_under reader.header (left_from c first_gate (first_of reader.header))) same
 
   pub is_found : (flows : Flows) (reader : LogReader) (log : Resting) (progress : Progress) → reader.file ≡ file → Opens 0 (content_of file old) (Ok reader) → log.file ≡ reader.file → ReadsAll new flows reader (Ok (log, progress))
-      → IsFound new flows file (record { header = reader.header; log = log; incarnation = progress.incarnation; placing = progress.placing })
+      → IsFound new flows file (record { header = reader.header; log = log; incarnation = progress.incarnation; placing = progress.placing; past = progress.past })
   is_found flows reader log progress file_is opens there all = record {
     entries = all.1;
     payloads = all.0;
     file_is = there ∙ file_is;
     kept = keeps_read reader file_is opens ∙ ap (kept_under reader.header) all.3;
     placed = all.5.placed;
+    past = all.5.past;
     incarnation = all.5.incarnation;
     decoded = all.2;
     rests = all.4;

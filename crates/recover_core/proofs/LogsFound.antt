@@ -8,6 +8,7 @@ use Rattle.commit_log.specs.declared.states.Resting.{Resting}
 use Rattle.commit_log.specs.States.{IsResting}
 use Rattle.commit_log.specs.Outcomes.{RestsAs}
 use Rattle.dura_value.specs.Items.{Entry}
+use Rattle.log_items.specs.Entries.{incarnations_in}
 use Rattle.flow_syntax.specs.Syntax.{Flows}
 use Rattle.dura_model.specs.Partition.{Partition, fresh}
 use Rattle.part_steps.specs.declared.state.PartState.{PartState}
@@ -23,13 +24,13 @@ use Rattle.recover_core.specs.declared.files.LogFile.TheVariants.{Fresh, Log}
 use Rattle.recover_core.specs.declared.recovery.Recovered.{Recovered}
 use Rattle.recover_core.specs.Chosen.{kept_as, tied_fault, Chooses, Ends}
 use Rattle.recover_core.specs.Files.{frames_in, IsFound, Suits, IsReadyFile}
-use Rattle.recover_core.specs.Progress.{Shows, IsReadyFor}
+use Rattle.recover_core.specs.Progress.{Shows, IsCounted, IsReadyFor}
 use Rattle.recover_core.specs.Recovering.{IsLogOf, RecoversLogs, Recovers, RestsFor}
 use Rattle.recover_core.specs.Refusals.{RefusesFiles}
 use Rattle.recover_core.proofs.FilesFound.{no_fault}
 
 -- what was chosen is ready where both files are
-pub ready_chosen : (first second : LogFile) (found : Found) → IsReadyFile first → IsReadyFile second → Chooses first second (Some found) → IsReadyFor found.incarnation found.placing
+pub ready_chosen : (first second : LogFile) (found : Found) → IsReadyFile first → IsReadyFile second → Chooses first second (Some found) → IsReadyFor found.incarnation found.placing × IsCounted found.past found.placing
 ready_chosen first second found one two chosen = elim chosen.1 [ inl is ↦ subst IsReadyFile is.0 one | inr is ↦ subst IsReadyFile is.1 two ]
 
 -- ---- refusals
@@ -87,6 +88,7 @@ found_moved old new flows file found same f = record {
   file_is = f.file_is;
   kept = ap (λ (c : _). kept_in 0 (reads c)) same ∙ f.kept;
   placed = f.placed;
+  past = f.past;
   incarnation = f.incarnation;
   decoded = f.decoded;
   rests =
@@ -107,6 +109,7 @@ pub record HasLog (steps : List Step) (flows : Flows) (digest : ℕ) (logs : Log
   pub payloads : List (List ℕ)
   pub logs_is : logs ≡ log_in found.log.file entries found.log.gate
   pub placed : Shows found.placing (placed flows 1 (fresh 0) entries)
+  pub past : found.past ≡ incarnations_in entries
   pub incarnation : found.incarnation ≡ next_incarnation entries
   pub decoded : frames_in (first_of found.header) payloads ≡ Ok entries
   pub rests : RestsAs steps found.header payloads found.log
@@ -121,6 +124,7 @@ has_log steps flows digest file logs found suits base is = record {
   payloads = suits.0.payloads;
   logs_is = is ∙ ap (λ (n : ℕ). log_in n suits.0.entries found.log.gate) (sym suits.0.file_is);
   placed = suits.0.placed;
+  past = suits.0.past;
   incarnation = suits.0.incarnation;
   decoded = suits.0.decoded;
   rests = suits.0.rests;
@@ -186,9 +190,9 @@ module _ (flows : Flows) (digest : ℕ) (old steps : List Step) (first_same : co
           (refuses_behind digest error (fault_of (alone_with digest) 17 m) (tied_fault k m) second_none here))
 
       -- neither has a log
-      pub none_recovered : Chooses first second None → (state : PartState) → state_of state ≡ fresh 0 → count_of state ≡ 1 → IsSound state
-          → Recovers flows digest (λ file. content_of file old) (Ok (record { state = state; log = None; incarnation = 0 }))
-      none_recovered chosen state made alone sound =
+      pub none_recovered : Chooses first second None → (state : PartState) → state_of state ≡ fresh 0 → count_of state ≡ 1 → IsSound state → (past : List ℕ) → past ≡ []
+          → Recovers flows digest (λ file. content_of file old) (Ok (record { state = state; log = None; incarnation = 0; past = past }))
+      none_recovered chosen state made alone sound past empty =
           let one = subst (Suits steps flows digest 16) chosen.0 suits in
           let two = subst (Suits steps flows digest 17) chosen.1 suits_too in
           let none : logs_in (alone_with digest) (λ file. content_of file old) ≡ no_log = logs_are nothing nothing one two in
@@ -196,6 +200,7 @@ module _ (flows : Flows) (digest : ℕ) (old steps : List Step) (first_same : co
             entries = [];
             kept = ap entries_in none;
             placed = ap (λ (p : Partition). Ok p) (sym made);
+            past = empty;
             alone = alone;
             sound = sound;
             incarnation = refl;
@@ -228,6 +233,7 @@ end_recovered steps flows digest logs found (Ok r) has ends = record {
   entries = has.entries;
   kept = ap entries_in has.logs_is;
   placed = ends.0;
+  past = ends.6 ∙ has.past;
   alone = ends.1;
   sound = ends.2;
   incarnation = ends.3;

@@ -31,7 +31,7 @@ Chooses first second (Some found) = (found.header.base ≡ 0) × (((first ≡ Lo
 -- what the entries of the log that was found stand for
 abbrev pub Ends : Flows → List Entry → Found → Result Recovered RecoverError → Type 0
 Ends flows entries found (Ok r) = (placed flows 1 (fresh 0) entries ≡ Ok (state_of r.state)) × (count_of r.state ≡ 1) × IsSound r.state
-    × (r.incarnation ≡ next_incarnation entries) × (r.incarnation < 2 ^ 62) × (r.log ≡ Some found.log)
+    × (r.incarnation ≡ next_incarnation entries) × (r.incarnation < 2 ^ 62) × (r.log ≡ Some found.log) × (r.past ≡ found.past)
 Ends flows entries found (Err (Illegal partition position)) = (partition ≡ 0) × (placed flows 1 (fresh 0) entries ≡ Err position)
 Ends flows entries found (Err (Spent partition number)) =
     (partition ≡ 0) × ((state : Partition) × (placed flows 1 (fresh 0) entries ≡ Ok state)) × (next_incarnation entries ≡ number) × (2 ^ 62 ≤ number)

@@ -12,6 +12,7 @@ use Rattle.commit_log.specs.declared.reader.FrameError.TheVariants as unread
 use Rattle.dura_value.specs.declared.faults.ReadError.{ReadError}
 use Rattle.dura_value.specs.declared.faults.ReadError.TheVariants.{Bad, Memory}
 use Rattle.dura_value.specs.Items.{Entry}
+use Rattle.log_items.specs.Entries.{incarnations_in}
 use Rattle.flow_syntax.specs.Syntax.{Flows}
 use Rattle.dura_model.specs.Partition.{fresh}
 use Rattle.part_items.specs.Numbered.{Next, behind_all, next_frame_in}
@@ -27,7 +28,7 @@ use Rattle.recover_core.specs.declared.progress.Progress.{Progress}
 use Rattle.recover_core.specs.declared.reading.Reading.{Reading}
 use Rattle.recover_core.specs.declared.reading.Turn.{Turn}
 use Rattle.recover_core.specs.declared.reading.Turn.TheVariants.{More, End}
-use Rattle.recover_core.specs.Progress.{Shows, PlacesOn, IsProgress, IsReady, IsReadyFor, position_in}
+use Rattle.recover_core.specs.Progress.{Shows, PlacesOn, IsProgress, IsReady, IsCounted, IsReadyFor, position_in}
 use Rattle.recover_core.specs.Refusals.{RefusesFiles}
 
 -- the entries of the payloads of a log that begins here, one frame behind another
@@ -118,7 +119,7 @@ ReadsAll steps flows reader (Err unread.Memory) = Unit {0}
 -- an entry of the incarnation that goes on may begin behind what a file holds
 abbrev pub IsReadyFile : LogFile → Type 0
 IsReadyFile Fresh = Unit {0}
-IsReadyFile (Log found) = IsReadyFor found.incarnation found.placing
+IsReadyFile (Log found) = IsReadyFor found.incarnation found.placing × IsCounted found.past found.placing
 
 -- A log was found in a file: this is what it keeps, its entries were placed, and it rests.
 pub record IsFound (steps : List Step) (flows : Flows) (file : ℕ) (found : Found) : Type 0 where
@@ -127,6 +128,7 @@ pub record IsFound (steps : List Step) (flows : Flows) (file : ℕ) (found : Fou
   pub file_is : found.log.file ≡ file
   pub kept : kept_in 0 (content_of file steps) ≡ keeps found.header entries found.log.gate
   pub placed : Shows found.placing (placed flows 1 (fresh 0) entries)
+  pub past : found.past ≡ incarnations_in entries
   pub incarnation : found.incarnation ≡ next_incarnation entries
   pub decoded : frames_in (first_of found.header) payloads ≡ Ok entries
   pub rests : RestsAs steps found.header payloads found.log

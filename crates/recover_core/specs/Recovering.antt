@@ -1,10 +1,11 @@
 -- What the two log files of a partition that is alone stand for, as recovery answers it.
-use Rattle.std.specs.Prelude.{◌≡◌, ◌⊎◌, ℕ, ◌<◌, ◌≤◌, ◌^◌, List, ◌∷◌, Option, Some, None, Result, Ok, Err, IfOk}
+use Rattle.std.specs.Prelude.{◌≡◌, ◌⊎◌, ℕ, ◌<◌, ◌≤◌, ◌^◌, List, ◌∷◌, length, Option, Some, None, Result, Ok, Err, IfOk}
 use Rattle.site_model.specs.History.{Step, on, synced}
 use Rattle.commit_log.specs.declared.header.Header.{Header}
 use Rattle.commit_log.specs.declared.states.Resting.{Resting}
 use Rattle.commit_log.specs.Outcomes.{RestsAs}
 use Rattle.dura_value.specs.Items.{Entry}
+use Rattle.log_items.specs.Entries.{incarnations_in}
 use Rattle.flow_syntax.specs.Syntax.{Flows}
 use Rattle.dura_model.specs.Partition.{Partition, fresh}
 use Rattle.dura_model.specs.Legal.{Legal}
@@ -23,23 +24,26 @@ abbrev pub IsLogOf : List Entry → Option Resting → Logs → Type 0
 IsLogOf entries None logs = logs ≡ no_log
 IsLogOf entries (Some log) logs = logs ≡ log_in log.file entries log.gate
 
--- All entries of the files made this state, and the incarnation that begins is one that none of them has.
+-- All entries of the files made this state, these are their incarnations, and the incarnation that begins is one that none of them has.
 pub record IsRecovered (flows : Flows) (logs : Logs) (r : Recovered) : Type 0 where
   pub entries : List Entry
   pub kept : entries_in logs ≡ Some entries
   pub placed : placed flows 1 (fresh 0) entries ≡ Ok (state_of r.state)
+  -- the incarnation of each entry
+  pub past : r.past ≡ incarnations_in entries
   pub alone : count_of r.state ≡ 1
   pub sound : IsSound r.state
   pub incarnation : r.incarnation ≡ next_incarnation entries
   pub young : r.incarnation < 2 ^ 62
   pub log : IsLogOf entries r.log logs
 
--- an entry of the incarnation that begins may be begun in the state
+-- an entry of the incarnation that begins may be begun in the state, whose entries were counted by their incarnations
 pub record CanBegin (r : Recovered) : Type 0 where
   pub sound : IsSound r.state
   pub alone : count_of r.state ≡ 1
   pub younger : (state_of r.state).incarnation ≤ r.incarnation
   pub young : r.incarnation < 2 ^ 62
+  pub counted : (state_of r.state).position ≡ length r.past
 
 -- the first entry that isn't accepted is the one at this position
 pub record IsIllegal (flows : Flows) (logs : Logs) (partition position : ℕ) : Type 0 where

@@ -11,6 +11,7 @@ ghost use Rattle.recover_core.specs.Refusals.{RefusesFiles};
 use crate::error::RecoverError;
 use crate::progress::Placing;
 use crate::reading::read_on;
+use commit_gate::Past;
 use commit_log::{FrameError, Header, OpenError, Resting, open_log};
 use part_rows::Reactions;
 use site_model::Site;
@@ -33,6 +34,8 @@ pub(crate) struct Found {
     pub incarnation: u64,
     /// What they make of the state.
     pub placing: Placing,
+    /// The incarnation of each of them.
+    pub past: Past,
 }
 
 /// What a log file holds.
@@ -76,6 +79,7 @@ fn read_file<V: Site, R: Reactions>(
         log,
         incarnation: progress.incarnation,
         placing: progress.placing,
+        past: progress.past,
     }))
 }
 

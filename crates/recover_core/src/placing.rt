@@ -83,11 +83,18 @@ pub(crate) fn place_entry<R: Reactions>(
         position: entry.position + 1,
         incarnation: entry.incarnation,
     };
+    let mut past = progress.past;
     let placing = place_on(alloc, reactions, progress.placing, &entry);
     entry.let_go();
+    let placing = placing?;
+    if past.push(next.incarnation).is_err() {
+        placing.let_go();
+        return Err(AllocError);
+    }
     Ok(Progress {
         next,
         incarnation: next.incarnation + 1,
-        placing: placing?,
+        placing,
+        past,
     })
 }

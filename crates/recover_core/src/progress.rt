@@ -3,6 +3,7 @@ ghost use Rattle.std.specs.Prelude.{◌≡◌, []};
 ghost use Rattle.flow_syntax.specs.Syntax.{Flows};
 ghost use Rattle.recover_core.specs.Progress.{IsReady, IsProgress, position_in};
 
+use commit_gate::Past;
 use part_items::Next;
 use part_steps::PartState;
 use std::alloc::Global;
@@ -35,6 +36,8 @@ pub(crate) struct Progress {
     pub incarnation: u64,
     /// What they make of the state.
     pub placing: Placing,
+    /// The incarnation of each of them.
+    pub past: Past,
 }
 
 impl Progress {
@@ -52,6 +55,7 @@ impl Progress {
             },
             incarnation: 0,
             placing: Placing::On(PartState::new(alloc, 1, 0)),
+            past: Past::none(alloc),
         }
     }
 }

@@ -8,13 +8,14 @@ ghost use Rattle.dura_model.specs.Partition.{fresh};
 ghost use Rattle.part_items.specs.Logs.{logs_in, alone_with};
 ghost use Rattle.dura_model.specs.Entries.{placed, next_incarnation};
 ghost use Rattle.recover_core.specs.Chosen.{Ends};
-ghost use Rattle.recover_core.specs.Progress.{Shows, IsReadyFor};
+ghost use Rattle.recover_core.specs.Progress.{Shows, IsCounted, IsReadyFor};
 ghost use Rattle.recover_core.specs.Recovering.{CanBegin, Recovers, RestsFor, OnlySyncs, both_synced};
 
 use crate::choosing::{FIRST_LOG, SECOND_LOG, choose};
 use crate::error::RecoverError;
 use crate::files::{Found, LogFile, open_file};
 use crate::progress::Placing;
+use commit_gate::Past;
 use commit_log::Resting;
 use part_rows::Reactions;
 use part_steps::PartState;
@@ -33,6 +34,8 @@ pub struct Recovered {
     pub log: Option<Resting>,
     /// The incarnation that begins now: one more than that of the last entry, 0 where there is none.
     pub incarnation: u64,
+    /// The incarnation of each entry.
+    pub past: Past,
 }
 
 /// What the entries of a log stand for.
@@ -40,7 +43,8 @@ fn end(found: Found) -> Result<Recovered, RecoverError>
     ensures ends { (flows : PlainFlows) (entries : List Entry)
         → Shows found.placing (placed flows 1 (fresh 0) entries)
         → found.incarnation ≡ next_incarnation entries → Ends flows entries found result }
-    ensures begins { IsReadyFor found.incarnation found.placing → IfOk result CanBegin }
+    ensures begins { IsReadyFor found.incarnation found.placing
+        → IsCounted found.past found.placing → IfOk result CanBegin }
     ensures no_fault { result ≡ Err RecoverError.SiteFault → ⊥ }
 {
     let Found {
@@ -48,6 +52,7 @@ fn end(found: Found) -> Result<Recovered, RecoverError>
         log,
         incarnation,
         placing,
+        past,
     } = found;
     let state = match placing {
         Placing::On(state) => state,
@@ -69,6 +74,7 @@ fn end(found: Found) -> Result<Recovered, RecoverError>
         state,
         log: Some(log),
         incarnation,
+        past,
     })
 }
 
@@ -113,6 +119,7 @@ pub fn recover<V: Site, R: Reactions>(
             state: PartState::new(alloc, 1, 0),
             log: None,
             incarnation: 0,
+            past: Past::none(alloc),
         }),
     }
 }

@@ -31,7 +31,7 @@ returns-clause-says g c tells =
     let reader = c.in-Ok.reader in
     let opens = c.in-Ok.ensures.opens (c.read_on.ensures.tells tells) in
     let all = c.in_ok-log.ensures.reads tells (is_opened c.args.file old mid c.in-Ok.ensures.synced reader c.in-Ok.ensures.place opens) in
-    subst (λ (s : List Step). IsFound s flows c.args.file (record { header = reader.header; log = c.in_ok-log.log; incarnation = c.in_ok-log.progress.incarnation; placing = c.in_ok-log.progress.placing })) (sym c.read_on.ensures.unchanged)
+    subst (λ (s : List Step). IsFound s flows c.args.file (record { header = reader.header; log = c.in_ok-log.log; incarnation = c.in_ok-log.progress.incarnation; placing = c.in_ok-log.progress.placing; past = c.in_ok-log.progress.past })) (sym c.read_on.ensures.unchanged)
     (is_found c.args.file old mid c.in-Ok.ensures.synced flows reader c.in_ok-log.log c.in_ok-log.progress c.in-Ok.ensures.place opens c.in_ok-log.ensures.there all)
 
 pub returns-in_err-log-clause-says : goal.returns-in_err-log-clause-says
@@ -59,4 +59,4 @@ pub returns-clause-ready : goal.returns-clause-ready
 returns-clause-ready g c =
     let progress = c.in_ok-log.progress in
     let ready = c.in_ok-log.ensures.ready in
-    ready_later progress.placing progress.next.incarnation progress.incarnation ready.1 ready.0
+    (ready_later progress.placing progress.next.incarnation progress.incarnation ready.1 ready.0, ready.2)

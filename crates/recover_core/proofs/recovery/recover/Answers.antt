@@ -1,4 +1,4 @@
-use Rattle.std.proofs.Common.{◌≡◌, subst, arith, ap}
+use Rattle.std.proofs.Common.{◌≡◌, ◌∙◌, ℕ, List, length, sym, subst, arith, ap}
 use Rattle.std.proofs.lemmas.Result.{err_from_is_err_and}
 use Rattle.dura_model.specs.Partition.{Partition}
 use Rattle.part_steps.specs.States.{state_of}
@@ -91,7 +91,7 @@ returns-in-None-clause-recovers g c tells =
     let first = suits_moved one two flows c.args.digest 16 c.in_ok-first.first (first_changes old one two synced_first syncs) (c.in_ok-first.ensures.says (c.open_file-2.ensures.tells tells)) in
     let second = c.in-Ok.ensures.says tells in
     let chosen = subst (Chooses c.in_ok-first.first c.in-Ok.second) c.in-None.is c.in_ok-found.ensures.chosen in
-    none_recovered flows c.args.digest old two (first_still old one two synced_first syncs) (second_content old one two synced_first syncs) c.in_ok-first.first first c.in-Ok.second second chosen c.new.result c.new.ensures.fresh c.new.ensures.partitions c.new.ensures.sound
+    none_recovered flows c.args.digest old two (first_still old one two synced_first syncs) (second_content old one two synced_first syncs) c.in_ok-first.first first c.in-Ok.second second chosen c.new.result c.new.ensures.fresh c.new.ensures.partitions c.new.ensures.sound c.none.result c.none.ensures
 
 pub returns-in-None-clause-syncs : goal.returns-in-None-clause-syncs
 returns-in-None-clause-syncs g c = only_both (g.V.Site.history c.args.site.now) (g.V.Site.history c.open_file.new.site) (g.V.Site.history c.open_file-2.new.site) c.in_ok-first.ensures.synced c.open_file-2.ensures.syncs
@@ -99,9 +99,10 @@ returns-in-None-clause-syncs g c = only_both (g.V.Site.history c.args.site.now) 
 pub returns-in-Some-clause-begins : goal.returns-in-Some-clause-begins
 returns-in-Some-clause-begins g c =
     let chosen = subst (Chooses c.in_ok-first.first c.in-Ok.second) c.in-Some.is c.in_ok-found.ensures.chosen in
-    c.end.ensures.begins (ready_chosen c.in_ok-first.first c.in-Ok.second c.in-Some.found c.in_ok-first.ensures.ready c.in-Ok.ensures.ready chosen)
+    let ready = ready_chosen c.in_ok-first.first c.in-Ok.second c.in-Some.found c.in_ok-first.ensures.ready c.in-Ok.ensures.ready chosen in
+    c.end.ensures.begins ready.0 ready.1
 
 pub returns-in-None-clause-begins : goal.returns-in-None-clause-begins
 returns-in-None-clause-begins g c =
     let none : (state_of c.new.result).incarnation ≡ 0 = ap (λ (p : Partition). p.incarnation) c.new.ensures.fresh in
-    record { sound = c.new.ensures.sound; alone = c.new.ensures.partitions; younger = omega (arith, none); young = omega arith }
+    record { sound = c.new.ensures.sound; alone = c.new.ensures.partitions; younger = omega (arith, none); young = omega arith; counted = ap (λ (p : Partition). p.position) c.new.ensures.fresh ∙ ap (λ (l : List ℕ). length l) (sym c.none.ensures) }
