@@ -4,4 +4,5 @@ pub mod Grounds
 pub mod Settles
 pub mod Saying
 pub mod Uncut
+pub mod Whole
 pub mod Written

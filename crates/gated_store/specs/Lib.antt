@@ -1,4 +1,5 @@
 pub mod Causal
+pub mod Commits
 pub mod Following
 pub mod Follows
 pub mod Kept

@@ -74,6 +74,9 @@ impl<V: Site, L: Local> GatedStore<V, L> {
             × (V.history self.new.logs.site ≡ V.history self.old.logs.site)
             × (stage_at self.new.logs part ≡ Stage.Resting)
             × (self.new.turns ≡ self.old.turns) }
+        ensures way { (n : ℕ) (back : _) (unsent : _)
+            → result ≡ Err (BodyRefused.Full n back unsent)
+            → way_of self.new.logs.ways.items part ≡ way_of self.old.logs.ways.items part }
         ensures memory { (back : _) (unsent : _)
             → result ≡ Err (BodyRefused.Memory back unsent)
             → (back ≡ frame) × (unsent ≡ sending)

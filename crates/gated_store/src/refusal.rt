@@ -1,6 +1,10 @@
 //! Why a call refuses.
 
+ghost use Rattle.std.specs.Prelude.{◌≡◌};
+ghost use Rattle.gated_store.specs.Commits.{refusal_at};
+
 use commit_gate::{Sending, Unmet};
+use hub_store::BodyRefusal;
 use log_items::Frame;
 
 /// Why no frame was written.
@@ -23,6 +27,31 @@ pub enum BodyRefused {
     },
     /// The disk failed: the frame is under way, and is only dropped from here.
     SiteFault,
+}
+
+impl BodyRefused {
+    /// Lets go of the frame and of what it sends, and says why it was not written at this partition.
+    pub fn let_go(self, partition: u32) -> BodyRefusal
+        ensures { result ≡ refusal_at partition self }
+    {
+        match self {
+            BodyRefused::Full {
+                length,
+                frame,
+                sending,
+            } => {
+                frame.let_go();
+                drop(sending);
+                BodyRefusal::Full { partition, length }
+            }
+            BodyRefused::Memory { frame, sending } => {
+                frame.let_go();
+                drop(sending);
+                BodyRefusal::Memory
+            }
+            BodyRefused::SiteFault => BodyRefusal::SiteFault,
+        }
+    }
 }
 
 /// Why a gate stayed closed.

@@ -6,10 +6,12 @@ pub mod Fillings
 pub mod Further
 pub mod InTime
 pub mod Stamps
+pub mod Positions
 pub mod Puttings
 pub mod Queues
 pub mod TimersInTime
 pub mod Turns
+pub mod Untaken
 pub mod Walks
 pub mod Stopped
 pub mod Stops

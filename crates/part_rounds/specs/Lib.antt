@@ -1,3 +1,4 @@
+pub mod Alone
 pub mod Comes
 pub mod Commits
 pub mod Fills

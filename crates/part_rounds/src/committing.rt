@@ -1,10 +1,10 @@
 //! Committing an entry.
 
-ghost use Rattle.std.specs.Prelude.{◌≡◌, ◌≤◌, ◌+◌, ℕ, [], ◌∷◌, ◌++◌, true, false, Err, IfErr, OnOk, OnErr, length};
+ghost use Rattle.std.specs.Prelude.{◌≡◌, ◌≤◌, ◌<◌, ◌+◌, ◌^◌, ℕ, [], ◌∷◌, ◌++◌, true, false, Err, IfErr, OnOk, OnErr, length};
 ghost use Rattle.site_model.specs.Calls.{HasRisen};
 ghost use Rattle.log_items.specs.Plain.{items_of};
 ghost use Rattle.hub_store.specs.Changes.{stage_at, trail_in, told_in};
-ghost use Rattle.hub_store.specs.Sound.{IsSound};
+ghost use Rattle.part_rounds.specs.Alone.{IsKeptAlone};
 ghost use Rattle.hub_store.specs.Trail.{of_part};
 ghost use Rattle.hub_store.specs.Ways.{way_of};
 ghost use Rattle.part_rounds.specs.Comes.{count_labels};
@@ -14,7 +14,8 @@ ghost use Rattle.part_rounds.specs.Rounds.{pairs_of, IsFilled};
 
 use crate::ruled::Ruled;
 use crate::stop::Stop;
-use hub_store::{Stage, Store, commit};
+use gated_store::{GatedStore, commit};
+use hub_store::Stage;
 use log_items::{Entry, Item, Items};
 use site_model::Site;
 use std::alloc::Global;
@@ -25,40 +26,42 @@ pub(crate) const ALONE: u32 = 0;
 /// Commits what an entry was filled with, at this position and in this incarnation.
 pub(crate) fn commit_items<V: Site, N: Ruled>(
     alloc: Global,
-    store: &mut Store<V, N>,
+    store: &mut GatedStore<V, N>,
     position: u64,
     incarnation: u64,
     items: Vec<Item>,
 ) -> Result<(), Stop>
-    requires sound { IsSound store.old }
-    requires going { store.old.halted ≡ false }
-    requires rests { stage_at store.old 0 ≡ Stage.Resting }
-    requires filled { IsFilled N.rules (N.origin.logs 0) store.old.latest
-        (of_part 0 (trail_in store.old)) (pairs_of (told_in store.old)) position incarnation
-        (items_of items.items) }
-    ensures tells { V.tells store.new.site → V.tells store.old.site }
-    ensures sound { IsSound store.new }
-    ensures stage { OnOk result (stage_at store.new 0 ≡ Stage.Resting) }
-    ensures trail { OnOk result (of_part 0 (trail_in store.new)
-        ≡ of_part 0 (trail_in store.old)
+    requires kept { IsKeptAlone N.origin.count N.ledgers N.readers N.may_make store.old }
+    requires going { store.old.logs.halted ≡ false }
+    requires rests { stage_at store.old.logs 0 ≡ Stage.Resting }
+    requires room { position < 2 ^ 62 }
+    requires filled { IsFilled N.rules (N.origin.logs 0) store.old.logs.latest
+        (of_part 0 (trail_in store.old.logs)) (pairs_of (told_in store.old.logs)) position
+        incarnation (items_of items.items) }
+    ensures tells { V.tells store.new.logs.site → V.tells store.old.logs.site }
+    ensures kept { IsKeptAlone N.origin.count N.ledgers N.readers N.may_make store.new }
+    ensures stage { OnOk result (stage_at store.new.logs 0 ≡ Stage.Resting) }
+    ensures trail { OnOk result (of_part 0 (trail_in store.new.logs)
+        ≡ of_part 0 (trail_in store.old.logs)
         ++ record { position = position; incarnation = incarnation; items = items_of items.items }
         ∷ []) }
-    ensures no_trail { OnErr result (trail_in store.new ≡ trail_in store.old) }
-    ensures said { told_in store.new ≡ told_in store.old }
-    ensures still { OnOk result (store.new.halted ≡ false) }
-    ensures segment { store.new.segment ≡ store.old.segment }
-    ensures latest { store.new.latest ≡ store.old.latest }
-    ensures whole { store.new.cut ≡ store.old.cut }
+    ensures no_trail { OnErr result (trail_in store.new.logs ≡ trail_in store.old.logs) }
+    ensures said { told_in store.new.logs ≡ told_in store.old.logs }
+    ensures still { OnOk result (store.new.logs.halted ≡ false) }
+    ensures segment { store.new.logs.segment ≡ store.old.logs.segment }
+    ensures latest { store.new.logs.latest ≡ store.old.logs.latest }
+    ensures whole { store.new.logs.cut ≡ store.old.logs.cut }
     ensures full { (of n : ℕ) → result ≡ Err (Stop.Full of n)
-        → IsFull N.rules (length items.items) store.new.latest (of_part 0 (trail_in store.new))
-        (pairs_of (told_in store.new)) store.new.segment (way_of store.new.ways.items 0) of n }
-    ensures labels { OnOk result (count_labels (of_part 0 (trail_in store.new))
-        ≡ count_labels (of_part 0 (trail_in store.old)) + length items.items) }
+        → IsFull N.rules (length items.items) store.new.logs.latest
+        (of_part 0 (trail_in store.new.logs)) (pairs_of (told_in store.new.logs))
+        store.new.logs.segment (way_of store.new.logs.ways.items 0) of n }
+    ensures labels { OnOk result (count_labels (of_part 0 (trail_in store.new.logs))
+        ≡ count_labels (of_part 0 (trail_in store.old.logs)) + length items.items) }
     ensures stops { IfErr result (λ stop. is_of_disk stop ≡ true) }
     ensures fault { result ≡ Err Stop.SiteFault
-        → HasRisen (V.disk_faults store.old.site) (V.disk_faults store.new.site) }
-    ensures later { V.disk_faults store.old.site ≤ V.disk_faults store.new.site }
-    ensures say_faults { V.say_faults store.new.site ≡ V.say_faults store.old.site }
+        → HasRisen (V.disk_faults store.old.logs.site) (V.disk_faults store.new.logs.site) }
+    ensures later { V.disk_faults store.old.logs.site ≤ V.disk_faults store.new.logs.site }
+    ensures say_faults { V.say_faults store.new.logs.site ≡ V.say_faults store.old.logs.site }
 {
     let entry = Entry {
         position,

@@ -2,7 +2,7 @@
 
 ghost use Rattle.std.specs.Prelude.{◌≡◌, ◌≢◌, ◌<◌, ◌≤◌, ◌+◌, ◌^◌, max, ℕ, [], false, Err, IfOk, OnOk, length};
 ghost use Rattle.hub_store.specs.Changes.{stage_at, trail_in, told_in};
-ghost use Rattle.hub_store.specs.Sound.{IsSound};
+ghost use Rattle.part_rounds.specs.Alone.{IsKeptAlone};
 ghost use Rattle.hub_store.specs.Trail.{of_part};
 ghost use Rattle.hub_store.specs.Ways.{way_of};
 ghost use Rattle.part_rounds.specs.Comes.{Entered, LeavesRound, Leaves, count_labels};
@@ -25,7 +25,8 @@ use crate::stopping::stop_at;
 use activity_table::{Activities, word};
 use client_port::Port;
 use dura_value::Name;
-use hub_store::{Stage, Store};
+use gated_store::GatedStore;
+use hub_store::Stage;
 use part_rows::Reactions;
 use part_steps::PartState;
 use site_model::{Clock, Site};
@@ -64,57 +65,58 @@ pub enum End {
 /// Commits what an entry was filled with, and says what it answers. The state is then in the entry that comes.
 fn settle_filling<V: Site, N: Ruled>(
     alloc: Global,
-    store: &mut Store<V, N>,
+    store: &mut GatedStore<V, N>,
     port: &mut Port,
     clients: &[Name],
     position: u64,
     incarnation: u64,
     filling: Filling,
 ) -> Result<PartState, Stop>
-    requires sound { IsSound store.old }
-    requires going { store.old.halted ≡ false }
-    requires rests { stage_at store.old 0 ≡ Stage.Resting }
+    requires kept { IsKeptAlone N.origin.count N.ledgers N.readers N.may_make store.old }
+    requires going { store.old.logs.halted ≡ false }
+    requires rests { stage_at store.old.logs 0 ≡ Stage.Resting }
     requires room { position < 2 ^ 62 }
-    requires filled { IsFilledTo N.rules (N.origin.logs 0) store.old.latest
-        (of_part 0 (trail_in store.old)) (pairs_of (told_in store.old)) position incarnation
-        (items_of filling.items.items) (state_of filling.state) }
+    requires filled { IsFilledTo N.rules (N.origin.logs 0) store.old.logs.latest
+        (of_part 0 (trail_in store.old.logs)) (pairs_of (told_in store.old.logs)) position
+        incarnation (items_of filling.items.items) (state_of filling.state) }
     requires way { IsUnderWay filling }
-    requires said { HasSaid N.rules (told_in store.old) port.old }
-    ensures tells { V.tells store.new.site → V.tells store.old.site }
-    ensures sound { IsSound store.new }
-    ensures segment { store.new.segment ≡ store.old.segment }
-    ensures latest { store.new.latest ≡ store.old.latest }
-    ensures whole { result ≢ Err Stop.SayFault → store.new.cut ≡ false }
-    ensures stage { OnOk result (stage_at store.new 0 ≡ Stage.Resting) }
-    ensures still { OnOk result (store.new.halted ≡ false) }
-    ensures said { OnOk result (HasSaid N.rules (told_in store.new) port.new) }
+    requires said { HasSaid N.rules (told_in store.old.logs) port.old }
+    ensures tells { V.tells store.new.logs.site → V.tells store.old.logs.site }
+    ensures kept { IsKeptAlone N.origin.count N.ledgers N.readers N.may_make store.new }
+    ensures segment { store.new.logs.segment ≡ store.old.logs.segment }
+    ensures latest { store.new.logs.latest ≡ store.old.logs.latest }
+    ensures whole { result ≢ Err Stop.SayFault → store.new.logs.cut ≡ false }
+    ensures stage { OnOk result (stage_at store.new.logs 0 ≡ Stage.Resting) }
+    ensures still { OnOk result (store.new.logs.halted ≡ false) }
+    ensures said { OnOk result (HasSaid N.rules (told_in store.new.logs) port.new) }
     ensures entered { IfOk result (λ state.
-        Entered N.rules (N.origin.logs 0) store.new.latest (of_part 0 (trail_in store.new)) state) }
+        Entered N.rules (N.origin.logs 0) store.new.logs.latest
+        (of_part 0 (trail_in store.new.logs)) state) }
     ensures unsaid { IfOk result (λ state. NoneUnsaid (state_of state) port.new clients.now) }
-    ensures labels { OnOk result (count_labels (of_part 0 (trail_in store.new))
-        ≡ count_labels (of_part 0 (trail_in store.old)) + length filling.items.items) }
+    ensures labels { OnOk result (count_labels (of_part 0 (trail_in store.new.logs))
+        ≡ count_labels (of_part 0 (trail_in store.old.logs)) + length filling.items.items) }
     ensures settles { SettlesThenSays clients.now
         (record {
           position = position;
           incarnation = incarnation;
           items = items_of
               filling.items.items;
-        }) (of_part 0 (trail_in store.old)) (told_in store.old)
-        (of_part 0 (trail_in store.new)) (told_in store.new) }
-    ensures no_more { count_labels (of_part 0 (trail_in store.new))
-        ≤ count_labels (of_part 0 (trail_in store.old)) + length filling.items.items }
+        }) (of_part 0 (trail_in store.old.logs)) (told_in store.old.logs)
+        (of_part 0 (trail_in store.new.logs)) (told_in store.new.logs) }
+    ensures no_more { count_labels (of_part 0 (trail_in store.new.logs))
+        ≤ count_labels (of_part 0 (trail_in store.old.logs)) + length filling.items.items }
     ensures full { (of n : ℕ) → result ≡ Err (Stop.Full of n)
-        → IsFull N.rules (length filling.items.items) store.new.latest
-        (of_part 0 (trail_in store.new)) (pairs_of (told_in store.new)) store.new.segment
-        (way_of store.new.ways.items 0) of n }
+        → IsFull N.rules (length filling.items.items) store.new.logs.latest
+        (of_part 0 (trail_in store.new.logs)) (pairs_of (told_in store.new.logs))
+        store.new.logs.segment (way_of store.new.logs.ways.items 0) of n }
     ensures fault { result ≡ Err Stop.SiteFault
-        → HasRisen (V.disk_faults store.old.site) (V.disk_faults store.new.site) }
+        → HasRisen (V.disk_faults store.old.logs.site) (V.disk_faults store.new.logs.site) }
     ensures say_fault { result ≡ Err Stop.SayFault
-        → HasRisen (V.say_faults store.old.site) (V.say_faults store.new.site) }
+        → HasRisen (V.say_faults store.old.logs.site) (V.say_faults store.new.logs.site) }
     ensures no_clock { result ≡ Err Stop.ClockFault → ⊥ }
     ensures no_spent { (of n : ℕ) → result ≡ Err (Stop.Spent of n) → ⊥ }
-    ensures later { V.disk_faults store.old.site ≤ V.disk_faults store.new.site }
-    ensures say_later { V.say_faults store.old.site ≤ V.say_faults store.new.site }
+    ensures later { V.disk_faults store.old.logs.site ≤ V.disk_faults store.new.logs.site }
+    ensures say_later { V.say_faults store.old.logs.site ≤ V.say_faults store.new.logs.site }
 {
     let Filling { state, items } = filling;
     match commit_items(alloc, store, position, incarnation, items) {
@@ -140,54 +142,57 @@ fn go_round<V: Site, N: Ruled, R: Reactions, A: Activities, C: Clock>(
     reactions: &R,
     acts: &A,
     clock: &mut C,
-    store: &mut Store<V, N>,
+    store: &mut GatedStore<V, N>,
     port: &mut Port,
     clients: &[Name],
     state: PartState,
     bounds: Bounds,
 ) -> Result<Round, Stop>
-    requires sound { IsSound store.old }
-    requires going { store.old.halted ≡ false }
-    requires rests { stage_at store.old 0 ≡ Stage.Resting }
+    requires kept { IsKeptAlone N.origin.count N.ledgers N.readers N.may_make store.old }
+    requires going { store.old.logs.halted ≡ false }
+    requires rests { stage_at store.old.logs 0 ≡ Stage.Resting }
     requires flows { N.rules.flows ≡ R.flows reactions.now }
     requires incarnation { bounds.incarnation ≡ N.rules.incarnation }
     requires short { bounds.incarnation < 2 ^ 62 }
     requires some { 0 < bounds.limit }
     requires few { bounds.limit ≤ 64 }
-    requires entered { Entered N.rules (N.origin.logs 0) store.old.latest
-        (of_part 0 (trail_in store.old)) state }
+    requires entered { Entered N.rules (N.origin.logs 0) store.old.logs.latest
+        (of_part 0 (trail_in store.old.logs)) state }
     requires unsaid { NoneUnsaid (state_of state) port.old clients.now }
-    requires said { HasSaid N.rules (told_in store.old) port.old }
-    ensures tells { V.tells store.new.site → V.tells store.old.site }
-    ensures sound { IsSound store.new }
-    ensures segment { store.new.segment ≡ store.old.segment }
-    ensures latest { store.new.latest ≤ max store.old.latest (C.latest clock.new) }
-    ensures whole { result ≢ Err Stop.SayFault → store.new.cut ≡ false }
+    requires said { HasSaid N.rules (told_in store.old.logs) port.old }
+    ensures tells { V.tells store.new.logs.site → V.tells store.old.logs.site }
+    ensures kept { IsKeptAlone N.origin.count N.ledgers N.readers N.may_make store.new }
+    ensures segment { store.new.logs.segment ≡ store.old.logs.segment }
+    ensures latest { store.new.logs.latest ≤ max store.old.logs.latest (C.latest clock.new) }
+    ensures whole { result ≢ Err Stop.SayFault → store.new.logs.cut ≡ false }
     ensures stamps { C.latest clock.old ≤ C.latest clock.new }
-    ensures stage { OnOk result (stage_at store.new 0 ≡ Stage.Resting) }
-    ensures still { OnOk result (store.new.halted ≡ false) }
-    ensures said { OnOk result (HasSaid N.rules (told_in store.new) port.new) }
+    ensures stage { OnOk result (stage_at store.new.logs 0 ≡ Stage.Resting) }
+    ensures still { OnOk result (store.new.logs.halted ≡ false) }
+    ensures said { OnOk result (HasSaid N.rules (told_in store.new.logs) port.new) }
     ensures leaves { IfOk result (λ round.
-        LeavesRound N.rules (N.origin.logs 0) store.new.latest (of_part 0 (trail_in store.old))
-        (of_part 0 (trail_in store.new)) port.new clients.now round) }
+        LeavesRound N.rules (N.origin.logs 0) store.new.logs.latest
+        (of_part 0 (trail_in store.old.logs)) (of_part 0 (trail_in store.new.logs)) port.new
+        clients.now round) }
     ensures goes { GoesByClock N.rules A.gives bounds.limit clients.now (C.given clock.old)
-        (of_part 0 (trail_in store.old)) (told_in store.old) (C.given clock.new)
-        (of_part 0 (trail_in store.new)) (told_in store.new) }
-    ensures no_more { count_labels (of_part 0 (trail_in store.new))
-        ≤ count_labels (of_part 0 (trail_in store.old)) + bounds.limit }
+        (of_part 0 (trail_in store.old.logs)) (told_in store.old.logs) (C.given clock.new)
+        (of_part 0 (trail_in store.new.logs)) (told_in store.new.logs) }
+    ensures no_more { count_labels (of_part 0 (trail_in store.new.logs))
+        ≤ count_labels (of_part 0 (trail_in store.old.logs)) + bounds.limit }
     ensures spent { (of n : ℕ) → result ≡ Err (Stop.Spent of n)
-        → IsSpent N.rules (of_part 0 (trail_in store.new)) (pairs_of (told_in store.new)) of n }
+        → IsSpent N.rules (of_part 0 (trail_in store.new.logs))
+        (pairs_of (told_in store.new.logs)) of n }
     ensures full { (of n : ℕ) → result ≡ Err (Stop.Full of n)
-        → IsFull N.rules bounds.limit store.new.latest (of_part 0 (trail_in store.new))
-        (pairs_of (told_in store.new)) store.new.segment (way_of store.new.ways.items 0) of n }
+        → IsFull N.rules bounds.limit store.new.logs.latest (of_part 0 (trail_in store.new.logs))
+        (pairs_of (told_in store.new.logs)) store.new.logs.segment
+        (way_of store.new.logs.ways.items 0) of n }
     ensures fault { result ≡ Err Stop.SiteFault
-        → HasRisen (V.disk_faults store.old.site) (V.disk_faults store.new.site) }
+        → HasRisen (V.disk_faults store.old.logs.site) (V.disk_faults store.new.logs.site) }
     ensures say_fault { result ≡ Err Stop.SayFault
-        → HasRisen (V.say_faults store.old.site) (V.say_faults store.new.site) }
+        → HasRisen (V.say_faults store.old.logs.site) (V.say_faults store.new.logs.site) }
     ensures clock_fault { result ≡ Err Stop.ClockFault
         → HasRisen (C.clock_faults clock.old) (C.clock_faults clock.new) }
-    ensures later { V.disk_faults store.old.site ≤ V.disk_faults store.new.site }
-    ensures say_later { V.say_faults store.old.site ≤ V.say_faults store.new.site }
+    ensures later { V.disk_faults store.old.logs.site ≤ V.disk_faults store.new.logs.site }
+    ensures say_later { V.say_faults store.old.logs.site ≤ V.say_faults store.new.logs.site }
     ensures clock_later { C.clock_faults clock.old ≤ C.clock_faults clock.new }
 {
     let position = state.position() - 1;
@@ -235,56 +240,59 @@ pub fn drive<V: Site, N: Ruled, R: Reactions, A: Activities, C: Clock>(
     reactions: &R,
     acts: &A,
     clock: &mut C,
-    store: &mut Store<V, N>,
+    store: &mut GatedStore<V, N>,
     port: &mut Port,
     clients: &[Name],
     state: PartState,
     bounds: Bounds,
 ) -> Result<End, Stop>
-    requires sound { IsSound store.old }
-    requires going { store.old.halted ≡ false }
-    requires rests { stage_at store.old 0 ≡ Stage.Resting }
+    requires kept { IsKeptAlone N.origin.count N.ledgers N.readers N.may_make store.old }
+    requires going { store.old.logs.halted ≡ false }
+    requires rests { stage_at store.old.logs 0 ≡ Stage.Resting }
     requires flows { N.rules.flows ≡ R.flows reactions.now }
     requires incarnation { bounds.incarnation ≡ N.rules.incarnation }
     requires short { bounds.incarnation < 2 ^ 62 }
     requires some { 0 < bounds.limit }
     requires few { bounds.limit ≤ 64 }
-    requires stands { StateStands N.rules (N.origin.logs 0) (of_part 0 (trail_in store.old))
+    requires stands { StateStands N.rules (N.origin.logs 0) (of_part 0 (trail_in store.old.logs))
         (state_of state) }
-    requires new { trail_in store.old ≡ [] }
+    requires new { trail_in store.old.logs ≡ [] }
     requires own { IsOwnSound state }
     requires one { count_of state ≡ 1 }
     requires room { (state_of state).position < 2 ^ 63 }
-    requires said { HasSaid N.rules (told_in store.old) port.old }
-    ensures tells { V.tells store.new.site → V.tells store.old.site }
-    ensures sound { IsSound store.new }
-    ensures segment { store.new.segment ≡ store.old.segment }
-    ensures latest { store.new.latest ≤ max store.old.latest (C.latest clock.new) }
-    ensures whole { result ≢ Err Stop.SayFault → store.new.cut ≡ false }
+    requires said { HasSaid N.rules (told_in store.old.logs) port.old }
+    ensures tells { V.tells store.new.logs.site → V.tells store.old.logs.site }
+    ensures kept { IsKeptAlone N.origin.count N.ledgers N.readers N.may_make store.new }
+    ensures segment { store.new.logs.segment ≡ store.old.logs.segment }
+    ensures latest { store.new.logs.latest ≤ max store.old.logs.latest (C.latest clock.new) }
+    ensures whole { result ≢ Err Stop.SayFault → store.new.logs.cut ≡ false }
     ensures stamps { C.latest clock.old ≤ C.latest clock.new }
-    ensures stage { OnOk result (stage_at store.new 0 ≡ Stage.Resting) }
-    ensures still { OnOk result (store.new.halted ≡ false) }
-    ensures said { OnOk result (HasSaid N.rules (told_in store.new) port.new) }
-    ensures leaves { IfOk result (λ end. Leaves N.rules (N.origin.logs 0) store.new.latest
-        (of_part 0 (trail_in store.new)) (pairs_of (told_in store.new)) port.new clients.now
-        bounds.steps end) }
+    ensures stage { OnOk result (stage_at store.new.logs 0 ≡ Stage.Resting) }
+    ensures still { OnOk result (store.new.logs.halted ≡ false) }
+    ensures said { OnOk result (HasSaid N.rules (told_in store.new.logs) port.new) }
+    ensures leaves { IfOk result (λ end. Leaves N.rules (N.origin.logs 0) store.new.logs.latest
+        (of_part 0 (trail_in store.new.logs)) (pairs_of (told_in store.new.logs)) port.new
+        clients.now bounds.steps end) }
     ensures goes { GoesByClock N.rules A.gives bounds.limit clients.now (C.given clock.old)
-        (of_part 0 (trail_in store.old)) (told_in store.old) (C.given clock.new)
-        (of_part 0 (trail_in store.new)) (told_in store.new) }
-    ensures no_more { count_labels (of_part 0 (trail_in store.new)) < bounds.steps + bounds.limit }
+        (of_part 0 (trail_in store.old.logs)) (told_in store.old.logs) (C.given clock.new)
+        (of_part 0 (trail_in store.new.logs)) (told_in store.new.logs) }
+    ensures no_more { count_labels (of_part 0 (trail_in store.new.logs))
+        < bounds.steps + bounds.limit }
     ensures spent { (of n : ℕ) → result ≡ Err (Stop.Spent of n)
-        → IsSpent N.rules (of_part 0 (trail_in store.new)) (pairs_of (told_in store.new)) of n }
+        → IsSpent N.rules (of_part 0 (trail_in store.new.logs))
+        (pairs_of (told_in store.new.logs)) of n }
     ensures full { (of n : ℕ) → result ≡ Err (Stop.Full of n)
-        → IsFull N.rules bounds.limit store.new.latest (of_part 0 (trail_in store.new))
-        (pairs_of (told_in store.new)) store.new.segment (way_of store.new.ways.items 0) of n }
+        → IsFull N.rules bounds.limit store.new.logs.latest (of_part 0 (trail_in store.new.logs))
+        (pairs_of (told_in store.new.logs)) store.new.logs.segment
+        (way_of store.new.logs.ways.items 0) of n }
     ensures fault { result ≡ Err Stop.SiteFault
-        → HasRisen (V.disk_faults store.old.site) (V.disk_faults store.new.site) }
+        → HasRisen (V.disk_faults store.old.logs.site) (V.disk_faults store.new.logs.site) }
     ensures say_fault { result ≡ Err Stop.SayFault
-        → HasRisen (V.say_faults store.old.site) (V.say_faults store.new.site) }
+        → HasRisen (V.say_faults store.old.logs.site) (V.say_faults store.new.logs.site) }
     ensures clock_fault { result ≡ Err Stop.ClockFault
         → HasRisen (C.clock_faults clock.old) (C.clock_faults clock.new) }
-    ensures later { V.disk_faults store.old.site ≤ V.disk_faults store.new.site }
-    ensures say_later { V.say_faults store.old.site ≤ V.say_faults store.new.site }
+    ensures later { V.disk_faults store.old.logs.site ≤ V.disk_faults store.new.logs.site }
+    ensures say_later { V.say_faults store.old.logs.site ≤ V.say_faults store.new.logs.site }
     ensures clock_later { C.clock_faults clock.old ≤ C.clock_faults clock.new }
 {
     match say_due(alloc, store, &state, port, clients) {

@@ -1,10 +1,10 @@
 //! Saying what is answered.
 
 ghost use Rattle.std.specs.List.{All};
-ghost use Rattle.std.specs.Prelude.{◌≡◌, ◌≢◌, ◌<◌, ◌≤◌, ◌+◌, ℕ, true, false, None, Ok, Err, IfErr, IfOk, OnOk, length};
+ghost use Rattle.std.specs.Prelude.{◌≡◌, ◌≢◌, ◌<◌, ◌≤◌, ◌+◌, ◌++◌, ◌∷◌, [], ℕ, true, false, None, Ok, Err, IfErr, IfOk, OnOk, OnErr, length};
 ghost use Rattle.client_port.specs.Clients.{requests_of};
-ghost use Rattle.hub_store.specs.Changes.{trail_in, told_in};
-ghost use Rattle.hub_store.specs.Sound.{IsSound};
+ghost use Rattle.hub_store.specs.Changes.{trail_in, told_in, asked, HasHalted};
+ghost use Rattle.part_rounds.specs.Alone.{IsKeptAlone};
 ghost use Rattle.hub_store.specs.Trail.{of_part};
 ghost use Rattle.dura_model.specs.Entries.{placed};
 ghost use Rattle.part_rounds.specs.Stops.{is_of_tape};
@@ -18,7 +18,8 @@ use crate::ruled::Ruled;
 use crate::stop::Stop;
 use client_port::{Port, answer_line};
 use dura_value::{Id, Name};
-use hub_store::Store;
+use gated_store::{GatedStore, SayRefusal};
+use hub_store::SayError;
 use part_steps::PartState;
 use site_model::Site;
 use std::alloc::{AllocError, Global};
@@ -33,40 +34,77 @@ pub(crate) fn client_of(name: &Name) -> Result<Id, AllocError>
     }
 }
 
+/// Says a line, which isn't empty, as the answer to a request: it is the one that what was settled has, so only the tape or want of
+/// memory can refuse it.
+fn say_line<V: Site, N: Ruled>(
+    store: &mut GatedStore<V, N>,
+    client: &Name,
+    number: u32,
+    line: &[u8],
+) -> Result<(), SayError>
+    requires kept { IsKeptAlone N.origin.count N.ledgers N.readers N.may_make store.old }
+    requires going { store.old.logs.halted ≡ false }
+    requires some { 0 < length line.now }
+    requires may { N.may_say (trail_in store.old.logs) (told_in store.old.logs)
+        (asked client.now number) line.now }
+    ensures tells { V.tells store.new.logs.site → V.tells store.old.logs.site }
+    ensures kept { IsKeptAlone N.origin.count N.ledgers N.readers N.may_make store.new }
+    ensures ok { OnOk result (told_in store.new.logs
+        ≡ told_in store.old.logs ++ asked client.now number ∷ []) }
+    ensures err { OnErr result (told_in store.new.logs ≡ told_in store.old.logs) }
+    ensures trail { trail_in store.new.logs ≡ trail_in store.old.logs }
+    ensures ways { store.new.logs.ways ≡ store.old.logs.ways }
+    ensures segment { store.new.logs.segment ≡ store.old.logs.segment }
+    ensures latest { store.new.logs.latest ≡ store.old.logs.latest }
+    ensures whole { result ≢ Err SayError.SayFault → store.new.logs.cut ≡ store.old.logs.cut }
+    ensures still { OnOk result (store.new.logs.halted ≡ false) }
+    ensures halts { result ≡ Err SayError.SayFault → store.new.logs.halted ≡ true }
+    ensures halted { HasHalted (V.say_faults store.old.logs.site)
+        (V.say_faults store.new.logs.site) store.new.logs.halted }
+    ensures disk_faults { V.disk_faults store.new.logs.site ≡ V.disk_faults store.old.logs.site }
+{
+    match store.say(client, number, Some(line)) {
+        Ok(()) => Ok(()),
+        Err(SayRefusal::SayFault) => Err(SayError::SayFault),
+        Err(SayRefusal::Memory) => Err(SayError::Memory),
+        Err(SayRefusal::NotAnswered) => unreachable!(),
+    }
+}
+
 /// Says the answer to a client's next request, if there are both.
 pub(crate) fn say_next<V: Site, N: Ruled>(
     alloc: Global,
-    store: &mut Store<V, N>,
+    store: &mut GatedStore<V, N>,
     state: &PartState,
     port: &mut Port,
     client: &Name,
 ) -> Result<bool, Stop>
-    requires sound { IsSound store.old }
-    requires going { store.old.halted ≡ false }
-    requires made { placed N.rules.flows 1 N.rules.begin (of_part 0 (trail_in store.old))
+    requires kept { IsKeptAlone N.origin.count N.ledgers N.readers N.may_make store.old }
+    requires going { store.old.logs.halted ≡ false }
+    requires made { placed N.rules.flows 1 N.rules.begin (of_part 0 (trail_in store.old.logs))
         ≡ Ok (state_of state.now) }
-    requires said { HasSaid N.rules (told_in store.old) port.old }
-    ensures tells { V.tells store.new.site → V.tells store.old.site }
-    ensures sound { IsSound store.new }
-    ensures trail { trail_in store.new ≡ trail_in store.old }
-    ensures own { SaysOwn client.now (told_in store.old) (told_in store.new) }
-    ensures ways { store.new.ways ≡ store.old.ways }
-    ensures segment { store.new.segment ≡ store.old.segment }
-    ensures latest { store.new.latest ≡ store.old.latest }
-    ensures whole { result ≢ Err Stop.SayFault → store.new.cut ≡ false }
-    ensures still { OnOk result (store.new.halted ≡ false) }
-    ensures said { OnOk result (HasSaid N.rules (told_in store.new) port.new) }
-    ensures more { result ≡ Ok true → (count_told (pairs_of (told_in store.old)) client.now
+    requires said { HasSaid N.rules (told_in store.old.logs) port.old }
+    ensures tells { V.tells store.new.logs.site → V.tells store.old.logs.site }
+    ensures kept { IsKeptAlone N.origin.count N.ledgers N.readers N.may_make store.new }
+    ensures trail { trail_in store.new.logs ≡ trail_in store.old.logs }
+    ensures own { SaysOwn client.now (told_in store.old.logs) (told_in store.new.logs) }
+    ensures ways { store.new.logs.ways ≡ store.old.logs.ways }
+    ensures segment { store.new.logs.segment ≡ store.old.logs.segment }
+    ensures latest { store.new.logs.latest ≡ store.old.logs.latest }
+    ensures whole { result ≢ Err Stop.SayFault → store.new.logs.cut ≡ false }
+    ensures still { OnOk result (store.new.logs.halted ≡ false) }
+    ensures said { OnOk result (HasSaid N.rules (told_in store.new.logs) port.new) }
+    ensures more { result ≡ Ok true → (count_told (pairs_of (told_in store.old.logs)) client.now
         < length (requests_of client.now N.rules.requests))
-        × (count_told (pairs_of (told_in store.new)) client.now
-        ≡ count_told (pairs_of (told_in store.old)) client.now + 1) }
+        × (count_told (pairs_of (told_in store.new.logs)) client.now
+        ≡ count_told (pairs_of (told_in store.old.logs)) client.now + 1) }
     ensures none { result ≡ Ok false → (next_answer (state_of state.now) port.old client.now ≡ None)
         × (port.new ≡ port.old) }
     ensures stops { IfErr result (λ stop. is_of_tape stop ≡ true) }
     ensures fault { result ≡ Err Stop.SayFault
-        → HasRisen (V.say_faults store.old.site) (V.say_faults store.new.site) }
-    ensures later { V.say_faults store.old.site ≤ V.say_faults store.new.site }
-    ensures disk_faults { V.disk_faults store.new.site ≡ V.disk_faults store.old.site }
+        → HasRisen (V.say_faults store.old.logs.site) (V.say_faults store.new.logs.site) }
+    ensures later { V.say_faults store.old.logs.site ≤ V.say_faults store.new.logs.site }
+    ensures disk_faults { V.disk_faults store.new.logs.site ≡ V.disk_faults store.old.logs.site }
     ensures others { OnOk result (KeepsDue client.now port.old port.new) }
 {
     let Some(request) = port.next_of(client) else {
@@ -80,7 +118,7 @@ pub(crate) fn say_next<V: Site, N: Ruled>(
         return Ok(false);
     };
     let line = answer_line(alloc, client, number, answer)?;
-    let told = store.say(client, number, &line);
+    let told = say_line(store, client, number, &line);
     drop(line);
     told?;
     port.said(client);
@@ -90,33 +128,33 @@ pub(crate) fn say_next<V: Site, N: Ruled>(
 /// Says the answers to a client's requests until the next has none.
 fn say_all<V: Site, N: Ruled>(
     alloc: Global,
-    store: &mut Store<V, N>,
+    store: &mut GatedStore<V, N>,
     state: &PartState,
     port: &mut Port,
     client: &Name,
 ) -> Result<(), Stop>
-    requires sound { IsSound store.old }
-    requires going { store.old.halted ≡ false }
-    requires made { placed N.rules.flows 1 N.rules.begin (of_part 0 (trail_in store.old))
+    requires kept { IsKeptAlone N.origin.count N.ledgers N.readers N.may_make store.old }
+    requires going { store.old.logs.halted ≡ false }
+    requires made { placed N.rules.flows 1 N.rules.begin (of_part 0 (trail_in store.old.logs))
         ≡ Ok (state_of state.now) }
-    requires said { HasSaid N.rules (told_in store.old) port.old }
-    ensures tells { V.tells store.new.site → V.tells store.old.site }
-    ensures sound { IsSound store.new }
-    ensures trail { trail_in store.new ≡ trail_in store.old }
-    ensures own { SaysOwn client.now (told_in store.old) (told_in store.new) }
-    ensures ways { store.new.ways ≡ store.old.ways }
-    ensures segment { store.new.segment ≡ store.old.segment }
-    ensures latest { store.new.latest ≡ store.old.latest }
-    ensures whole { result ≢ Err Stop.SayFault → store.new.cut ≡ false }
-    ensures still { OnOk result (store.new.halted ≡ false) }
-    ensures said { OnOk result (HasSaid N.rules (told_in store.new) port.new) }
+    requires said { HasSaid N.rules (told_in store.old.logs) port.old }
+    ensures tells { V.tells store.new.logs.site → V.tells store.old.logs.site }
+    ensures kept { IsKeptAlone N.origin.count N.ledgers N.readers N.may_make store.new }
+    ensures trail { trail_in store.new.logs ≡ trail_in store.old.logs }
+    ensures own { SaysOwn client.now (told_in store.old.logs) (told_in store.new.logs) }
+    ensures ways { store.new.logs.ways ≡ store.old.logs.ways }
+    ensures segment { store.new.logs.segment ≡ store.old.logs.segment }
+    ensures latest { store.new.logs.latest ≡ store.old.logs.latest }
+    ensures whole { result ≢ Err Stop.SayFault → store.new.logs.cut ≡ false }
+    ensures still { OnOk result (store.new.logs.halted ≡ false) }
+    ensures said { OnOk result (HasSaid N.rules (told_in store.new.logs) port.new) }
     ensures none { OnOk result (next_answer (state_of state.now) port.new client.now ≡ None) }
     ensures others { OnOk result (KeepsDue client.now port.old port.new) }
     ensures stops { IfErr result (λ stop. is_of_tape stop ≡ true) }
     ensures fault { result ≡ Err Stop.SayFault
-        → HasRisen (V.say_faults store.old.site) (V.say_faults store.new.site) }
-    ensures later { V.say_faults store.old.site ≤ V.say_faults store.new.site }
-    ensures disk_faults { V.disk_faults store.new.site ≡ V.disk_faults store.old.site }
+        → HasRisen (V.say_faults store.old.logs.site) (V.say_faults store.new.logs.site) }
+    ensures later { V.say_faults store.old.logs.site ≤ V.say_faults store.new.logs.site }
+    ensures disk_faults { V.disk_faults store.new.logs.site ≡ V.disk_faults store.old.logs.site }
 {
     'answers: while say_next(alloc, store, state, port, client)? {}
     Ok(())
@@ -125,33 +163,33 @@ fn say_all<V: Site, N: Ruled>(
 /// Says the answers to the requests of these clients, of one after the other, and of each until the next has none.
 pub(crate) fn say_due<V: Site, N: Ruled>(
     alloc: Global,
-    store: &mut Store<V, N>,
+    store: &mut GatedStore<V, N>,
     state: &PartState,
     port: &mut Port,
     clients: &[Name],
 ) -> Result<(), Stop>
-    requires sound { IsSound store.old }
-    requires going { store.old.halted ≡ false }
-    requires made { placed N.rules.flows 1 N.rules.begin (of_part 0 (trail_in store.old))
+    requires kept { IsKeptAlone N.origin.count N.ledgers N.readers N.may_make store.old }
+    requires going { store.old.logs.halted ≡ false }
+    requires made { placed N.rules.flows 1 N.rules.begin (of_part 0 (trail_in store.old.logs))
         ≡ Ok (state_of state.now) }
-    requires said { HasSaid N.rules (told_in store.old) port.old }
-    ensures tells { V.tells store.new.site → V.tells store.old.site }
-    ensures sound { IsSound store.new }
-    ensures trail { trail_in store.new ≡ trail_in store.old }
-    ensures in_turn { SaysInTurn clients.now (told_in store.old) (told_in store.new) }
-    ensures ways { store.new.ways ≡ store.old.ways }
-    ensures segment { store.new.segment ≡ store.old.segment }
-    ensures latest { store.new.latest ≡ store.old.latest }
-    ensures whole { result ≢ Err Stop.SayFault → store.new.cut ≡ false }
-    ensures still { OnOk result (store.new.halted ≡ false) }
-    ensures said { OnOk result (HasSaid N.rules (told_in store.new) port.new) }
+    requires said { HasSaid N.rules (told_in store.old.logs) port.old }
+    ensures tells { V.tells store.new.logs.site → V.tells store.old.logs.site }
+    ensures kept { IsKeptAlone N.origin.count N.ledgers N.readers N.may_make store.new }
+    ensures trail { trail_in store.new.logs ≡ trail_in store.old.logs }
+    ensures in_turn { SaysInTurn clients.now (told_in store.old.logs) (told_in store.new.logs) }
+    ensures ways { store.new.logs.ways ≡ store.old.logs.ways }
+    ensures segment { store.new.logs.segment ≡ store.old.logs.segment }
+    ensures latest { store.new.logs.latest ≡ store.old.logs.latest }
+    ensures whole { result ≢ Err Stop.SayFault → store.new.logs.cut ≡ false }
+    ensures still { OnOk result (store.new.logs.halted ≡ false) }
+    ensures said { OnOk result (HasSaid N.rules (told_in store.new.logs) port.new) }
     ensures none { OnOk result (All (λ name. next_answer (state_of state.now) port.new name ≡ None)
         clients.now) }
     ensures stops { IfErr result (λ stop. is_of_tape stop ≡ true) }
     ensures fault { result ≡ Err Stop.SayFault
-        → HasRisen (V.say_faults store.old.site) (V.say_faults store.new.site) }
-    ensures later { V.say_faults store.old.site ≤ V.say_faults store.new.site }
-    ensures disk_faults { V.disk_faults store.new.site ≡ V.disk_faults store.old.site }
+        → HasRisen (V.say_faults store.old.logs.site) (V.say_faults store.new.logs.site) }
+    ensures later { V.say_faults store.old.logs.site ≤ V.say_faults store.new.logs.site }
+    ensures disk_faults { V.disk_faults store.new.logs.site ≡ V.disk_faults store.old.logs.site }
 {
     for client in clients {
         say_all(alloc, store, state, port, client)?;

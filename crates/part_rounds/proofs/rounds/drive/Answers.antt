@@ -30,12 +30,12 @@ begins_there rules log settled p none stands = let made : placed rules.flows 1 r
 
 pub rounds-init : goal.rounds-init
 rounds-init g c =
-    let log = g.N.Start.origin.logs 0 in
+    let log = g.N.Local.origin.logs 0 in
     let state = state_of c.args.state in
-    let begin_is : g.N.Ruled.rules.begin ≡ state = begins_there g.N.Ruled.rules log (of_part 0 (trail_in c.args.store.now)) state (ap (of_part 0) c.requires.new) c.requires.stands in
+    let begin_is : g.N.Ruled.rules.begin ≡ state = begins_there g.N.Ruled.rules log (of_part 0 (trail_in c.args.store.now.logs)) state (ap (of_part 0) c.requires.new) c.requires.stands in
     record {
       tells = c.say_due.ensures.tells;
-      sound = c.say_due.ensures.sound;
+      kept = c.say_due.ensures.kept;
       segment = c.say_due.ensures.segment;
       latest = same_below_first _ _ _ c.say_due.ensures.latest;
       stamps = low_self _;
@@ -53,7 +53,7 @@ rounds-init g c =
       unsaid = subst (λ (p : Partition). NoneUnsaid p c.say_due.new.port c.args.clients.now) (sym c.enter-state.ensures.entered) c.in-Ok.ensures.none;
       count = sym (ap (λ (t : List Settled). count_labels (of_part 0 t)) (c.say_due.ensures.trail ∙ c.requires.new));
       few = some_above _ _ c.requires.some;
-      goes = then_says g.N.Ruled.rules g.A.Activities.gives c.args.bounds.limit c.args.clients.now (g.C.Clock.given c.args.clock.now) (g.C.Clock.given c.args.clock.now) (of_part 0 (trail_in c.args.store.now)) (of_part 0 (trail_in c.args.store.now)) (of_part 0 (trail_in c.say_due.new.store)) (told_in c.args.store.now) (told_in c.args.store.now) (told_in c.say_due.new.store) begins (ap (of_part 0) c.say_due.ensures.trail) c.say_due.ensures.in_turn;
+      goes = then_says g.N.Ruled.rules g.A.Activities.gives c.args.bounds.limit c.args.clients.now (g.C.Clock.given c.args.clock.now) (g.C.Clock.given c.args.clock.now) (of_part 0 (trail_in c.args.store.now.logs)) (of_part 0 (trail_in c.args.store.now.logs)) (of_part 0 (trail_in c.say_due.new.store.logs)) (told_in c.args.store.now.logs) (told_in c.args.store.now.logs) (told_in c.say_due.new.store.logs) begins (ap (of_part 0) c.say_due.ensures.trail) c.say_due.ensures.in_turn;
       later = low_same _ _ c.say_due.ensures.disk_faults;
       say_later = c.say_due.ensures.later;
       clock_later = low_self _;
@@ -61,13 +61,13 @@ rounds-init g c =
 
 pub rounds-preserved : goal.rounds-preserved
 rounds-preserved g c =
-    let leaves = subst (LeavesRound g.N.Ruled.rules (g.N.Start.origin.logs 0) c.go_round.new.store.latest (of_part 0 (trail_in c.rounds.store)) (of_part 0 (trail_in c.go_round.new.store)) c.go_round.new.port c.args.clients.now) c.in-On.is c.in_ok-next.ensures.leaves in
+    let leaves = subst (LeavesRound g.N.Ruled.rules (g.N.Local.origin.logs 0) c.go_round.new.store.logs.latest (of_part 0 (trail_in c.rounds.store.logs)) (of_part 0 (trail_in c.go_round.new.store.logs)) c.go_round.new.port c.args.clients.now) c.in-On.is c.in_ok-next.ensures.leaves in
     let latest = c.go_round.ensures.latest in
     let latest_before = c.rounds.invariant.latest in
     let stamps = c.go_round.ensures.stamps in
     record {
       tells = λ t. c.rounds.invariant.tells (c.go_round.ensures.tells t);
-      sound = c.go_round.ensures.sound;
+      kept = c.go_round.ensures.kept;
       segment = c.go_round.ensures.segment ∙ c.rounds.invariant.segment;
       latest = latest_both _ _ _ _ _ latest latest_before stamps;
       stamps = low_both _ _ _ c.rounds.invariant.stamps stamps;
@@ -91,7 +91,7 @@ returns-in_err-next g c =
     let stamps = c.go_round.ensures.stamps in
     record {
       tells = λ t. c.rounds.invariant.tells (c.go_round.ensures.tells t);
-      sound = c.go_round.ensures.sound;
+      kept = c.go_round.ensures.kept;
       segment = c.go_round.ensures.segment ∙ c.rounds.invariant.segment;
       latest = latest_both _ _ _ _ _ latest latest_before stamps;
       whole = λ apart. c.in_err-next.ensures.whole (λ is. apart (same_stop _ _ _ _ (residual_is _ _ c.from_residual.ensures.1) refl is));
@@ -114,16 +114,16 @@ returns-in_err-next g c =
 
 pub returns-in-Over : goal.returns-in-Over
 returns-in-Over g c =
-    let leaves = subst (LeavesRound g.N.Ruled.rules (g.N.Start.origin.logs 0) c.go_round.new.store.latest (of_part 0 (trail_in c.rounds.store)) (of_part 0 (trail_in c.go_round.new.store)) c.go_round.new.port c.args.clients.now) c.in-Over.is c.in_ok-next.ensures.leaves in
+    let leaves = subst (LeavesRound g.N.Ruled.rules (g.N.Local.origin.logs 0) c.go_round.new.store.logs.latest (of_part 0 (trail_in c.rounds.store.logs)) (of_part 0 (trail_in c.go_round.new.store.logs)) c.go_round.new.port c.args.clients.now) c.in-Over.is c.in_ok-next.ensures.leaves in
     let latest = c.go_round.ensures.latest in
     let latest_before = c.rounds.invariant.latest in
     let stamps = c.go_round.ensures.stamps in
     record {
       tells = λ t. c.rounds.invariant.tells (c.go_round.ensures.tells t);
-      sound = c.go_round.ensures.sound;
+      kept = c.go_round.ensures.kept;
       segment = c.go_round.ensures.segment ∙ c.rounds.invariant.segment;
       latest = latest_both _ _ _ _ _ latest latest_before stamps;
-      whole = λ apart. c.go_round.ensures.sound.uncut c.in_ok-next.ensures.still;
+      whole = λ apart. c.go_round.ensures.kept.kept.sound.uncut c.in_ok-next.ensures.still;
       stamps = low_both _ _ _ c.rounds.invariant.stamps stamps;
       stage = c.in_ok-next.ensures.stage;
       still = c.in_ok-next.ensures.still;
@@ -147,8 +147,8 @@ stop_at-requires-clause-begun g c = let place = ap (λ (p : Partition). p.positi
 pub returns : goal.returns
 returns g c =
     let rules = g.N.Ruled.rules in
-    let log = g.N.Start.origin.logs 0 in
-    let told = told_in c.rounds.store in
+    let log = g.N.Local.origin.logs 0 in
+    let told = told_in c.rounds.store.logs in
     let queues = c.rounds.port in
     let clients = c.args.clients.now in
     let flows = c.requires.flows in
@@ -156,15 +156,15 @@ returns g c =
     let memory = memory_apart c.stop_at.result in
     record {
       tells = c.rounds.invariant.tells;
-      sound = c.rounds.invariant.sound;
+      kept = c.rounds.invariant.kept;
       segment = c.rounds.invariant.segment;
       latest = c.rounds.invariant.latest;
-      whole = λ apart. c.rounds.invariant.sound.uncut c.rounds.invariant.still;
+      whole = λ apart. c.rounds.invariant.kept.kept.sound.uncut c.rounds.invariant.still;
       stamps = c.rounds.invariant.stamps;
       stage = on_ok _ c.stop_at.result c.rounds.invariant.stage;
       still = on_ok _ c.stop_at.result c.rounds.invariant.still;
       said = on_ok _ c.stop_at.result c.rounds.invariant.said;
-      leaves = leaves_at rules log c.rounds.store.latest (of_part 0 (trail_in c.rounds.store)) (pairs_of told) queues clients c.args.bounds.steps c.rounds.labels c.rounds.state c.rounds.invariant.entered c.rounds.invariant.unsaid c.rounds.invariant.count
+      leaves = leaves_at rules log c.rounds.store.logs.latest (of_part 0 (trail_in c.rounds.store.logs)) (pairs_of told) queues clients c.args.bounds.steps c.rounds.labels c.rounds.state c.rounds.invariant.entered c.rounds.invariant.unsaid c.rounds.invariant.count
           (omega (arith, c.rounds-test.false)) c.stop_at.result comes (c.stop_at.ensures.stirs rules told flows c.rounds.invariant.said);
       goes = c.rounds.invariant.goes;
       no_more = same_less _ _ _ c.rounds.invariant.count c.rounds.invariant.few;
@@ -184,7 +184,7 @@ returns-in-Err g c =
     let disk = c.say_due.ensures.disk_faults in
     record {
       tells = c.say_due.ensures.tells;
-      sound = c.say_due.ensures.sound;
+      kept = c.say_due.ensures.kept;
       segment = c.say_due.ensures.segment;
       latest = same_below_first _ _ _ same;
       whole = λ apart. c.in-Err.ensures.whole (λ is. apart (same_stop _ _ _ _ refl refl is));
@@ -193,7 +193,7 @@ returns-in-Err g c =
       still = tt;
       said = tt;
       leaves = tt;
-      goes = then_says g.N.Ruled.rules g.A.Activities.gives c.args.bounds.limit c.args.clients.now (g.C.Clock.given c.args.clock.now) (g.C.Clock.given c.args.clock.now) (of_part 0 (trail_in c.args.store.now)) (of_part 0 (trail_in c.args.store.now)) (of_part 0 (trail_in c.say_due.new.store)) (told_in c.args.store.now) (told_in c.args.store.now) (told_in c.say_due.new.store) begins (ap (of_part 0) c.say_due.ensures.trail) c.say_due.ensures.in_turn;
+      goes = then_says g.N.Ruled.rules g.A.Activities.gives c.args.bounds.limit c.args.clients.now (g.C.Clock.given c.args.clock.now) (g.C.Clock.given c.args.clock.now) (of_part 0 (trail_in c.args.store.now.logs)) (of_part 0 (trail_in c.args.store.now.logs)) (of_part 0 (trail_in c.say_due.new.store.logs)) (told_in c.args.store.now.logs) (told_in c.args.store.now.logs) (told_in c.say_due.new.store.logs) begins (ap (of_part 0) c.say_due.ensures.trail) c.say_due.ensures.in_turn;
       no_more = none_less _ _ _ (ap (λ (t : List Settled). count_labels (of_part 0 t)) (c.say_due.ensures.trail ∙ c.requires.new)) c.requires.some;
       spent = λ of n is. absurd (kind_not_spent is_of_tape _ _ of n refl c.in-Err.ensures.stops refl is);
       full = λ of n is. absurd (tape_not_full _ _ of n c.in-Err.ensures.stops refl is);

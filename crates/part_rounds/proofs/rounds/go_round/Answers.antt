@@ -1,7 +1,10 @@
 use Rattle.std.proofs.Common.{◌≡◌, ◌∙◌, ℕ, ◌+◌, ◌<◌, ◌≤◌, ◌-◌, List, length, refl, sym, ap, subst, arith}
 use Rattle.std.proofs.lemmas.List.{length-map}
 use Rattle.activity_table.specs.Chance.{word_of}
+use Rattle.commit_gate.specs.Views.{floors_of}
+use Rattle.commit_gate.specs.declared.ledger.Ledger as declared
 use Rattle.dura_model.specs.Partition.{Partition}
+use Rattle.std.specs.Global.{Vec}
 use Rattle.flow_syntax.specs.Syntax.{Flows}
 use Rattle.hub_store.specs.Changes.{trail_in, told_in}
 use Rattle.hub_store.specs.Trail.{Settled, Said, of_part}
@@ -28,7 +31,7 @@ use Rattle.commit_log.proofs.Causes.{ok_apart}
 pub settle_filling-requires-clause-filled : goal.settle_filling-requires-clause-filled
 settle_filling-requires-clause-filled g c =
     let rules = g.N.Ruled.rules in
-    let told = told_in c.args.store.now in
+    let told = told_in c.args.store.now.logs in
     let filling = c.in-Filled.filling in
     let entered = c.requires.entered in
     let comes = subst (Comes (g.R.Reactions.flows c.args.reactions.now) (state_of c.args.state) c.args.port.now c.args.clients.now c.args.bounds.limit) c.in-Filled.is c.in_ok-filling.ensures.comes in
@@ -37,10 +40,10 @@ settle_filling-requires-clause-filled g c =
     let many = length-map filling.items.items item_of in
     let room : c.position-position.result - 1 < 4611686018427387904 = search in
     let by_now = subst (IsByNow (state_of c.args.state) (g.C.Clock.latest c.take_next.new.clock)) c.in-Filled.is c.in_ok-filling.ensures.stamp in
-    let log = g.N.Start.origin.logs 0 in
+    let log = g.N.Local.origin.logs 0 in
     let items = items_of filling.items.items in
-    subst (λ (t : List Settled). IsFilledTo rules log c.raise.new.self.latest (of_part 0 t) (pairs_of (told_in c.raise.new.self)) (c.position-position.result - 1) c.args.bounds.incarnation items (state_of filling.state)) (sym c.raise.ensures.trail)
-    (subst (λ (t : List Said). IsFilledTo rules log c.raise.new.self.latest (of_part 0 (trail_in c.args.store.now)) (pairs_of t) (c.position-position.result - 1) c.args.bounds.incarnation items (state_of filling.state)) (sym c.raise.ensures.told) (record {
+    subst (λ (t : List Settled). IsFilledTo rules log c.raise.new.self.logs.latest (of_part 0 t) (pairs_of (told_in c.raise.new.self.logs)) (c.position-position.result - 1) c.args.bounds.incarnation items (state_of filling.state)) (sym c.raise.ensures.trail)
+    (subst (λ (t : List Said). IsFilledTo rules log c.raise.new.self.logs.latest (of_part 0 (trail_in c.args.store.now.logs)) (pairs_of t) (c.position-position.result - 1) c.args.bounds.incarnation items (state_of filling.state)) (sym c.raise.ensures.told) (record {
       filled = record {
         before = entered.before;
         stands = entered.stands;
@@ -67,20 +70,20 @@ pub returns-then-position-ge-POSITION_LIMIT : goal.returns-then-position-ge-POSI
 returns-then-position-ge-POSITION_LIMIT g c =
     record {
       tells = λ t. t;
-      sound = c.requires.sound;
+      kept = c.requires.kept;
       segment = refl;
       latest = below_first _ _;
-      whole = λ apart. c.requires.sound.uncut c.requires.going;
+      whole = λ apart. c.requires.kept.kept.sound.uncut c.requires.going;
       stamps = c.take_next.ensures.latest;
       stage = tt;
       still = tt;
       said = tt;
       leaves = tt;
-      goes = only_reads g.N.Ruled.rules g.A.Activities.gives c.args.bounds.limit c.args.clients.now (g.C.Clock.given c.args.clock.now) (of_part 0 (trail_in c.args.store.now)) (told_in c.args.store.now) c.requires.entered.before (state_of c.args.state) c.requires.entered.stands.made c.requires.entered.entered (g.R.Reactions.flows c.args.reactions.now) c.requires.flows c.args.port.now c.requires.said (g.C.Clock.given c.take_next.new.clock) c.take_next.ensures.reads;
+      goes = only_reads g.N.Ruled.rules g.A.Activities.gives c.args.bounds.limit c.args.clients.now (g.C.Clock.given c.args.clock.now) (of_part 0 (trail_in c.args.store.now.logs)) (told_in c.args.store.now.logs) c.requires.entered.before (state_of c.args.state) c.requires.entered.stands.made c.requires.entered.entered (g.R.Reactions.flows c.args.reactions.now) c.requires.flows c.args.port.now c.requires.said (g.C.Clock.given c.take_next.new.clock) c.take_next.ensures.reads;
       no_more = low_add _ _ _ refl;
       spent = λ of n is.
           let rules = g.N.Ruled.rules in
-          let told = told_in c.args.store.now in
+          let told = told_in c.args.store.now.logs in
           let items = c.in-Filled.filling.items.items in
           let entered = c.requires.entered in
           let comes = subst (Comes (g.R.Reactions.flows c.args.reactions.now) (state_of c.args.state) c.args.port.now c.args.clients.now c.args.bounds.limit) c.in-Filled.is c.in_ok-filling.ensures.comes in
@@ -88,8 +91,8 @@ returns-then-position-ge-POSITION_LIMIT g c =
           let place = ap (λ (p : Partition). p.position) entered.entered in
           let many = length-map items item_of in
           let some = comes.1 in
-          place_spent rules (of_part 0 (trail_in c.args.store.now)) (pairs_of told) entered.before (c.position-position.result - 1) of n _ refl is entered.stands.made (omega (arith, c.position-position.ensures, place)) (search)
-          (fills_further rules (g.N.Start.origin.logs 0) (of_part 0 (trail_in c.args.store.now)) (pairs_of told) entered.before (state_of c.in-Filled.filling.state) (items_of items) entered.stands
+          place_spent rules (of_part 0 (trail_in c.args.store.now.logs)) (pairs_of told) entered.before (c.position-position.result - 1) of n _ refl is entered.stands.made (omega (arith, c.position-position.ensures, place)) (search)
+          (fills_further rules (g.N.Local.origin.logs 0) (of_part 0 (trail_in c.args.store.now.logs)) (pairs_of told) entered.before (state_of c.in-Filled.filling.state) (items_of items) entered.stands
           (subst (λ (p : Partition). Fills rules (pairs_of told) p (items_of items) (state_of c.in-Filled.filling.state)) entered.entered fills) (omega (arith, some, many)));
       full = λ of n is. absurd (cc is);
       fault = λ is. absurd (cc is);
@@ -104,16 +107,16 @@ pub returns-in_err-filling : goal.returns-in_err-filling
 returns-in_err-filling g c =
     record {
       tells = λ t. t;
-      sound = c.requires.sound;
+      kept = c.requires.kept;
       segment = refl;
       latest = below_first _ _;
-      whole = λ apart. c.requires.sound.uncut c.requires.going;
+      whole = λ apart. c.requires.kept.kept.sound.uncut c.requires.going;
       stamps = c.take_next.ensures.latest;
       stage = residual_on_ok _ c.from_residual.result _ c.from_residual.ensures.1;
       still = residual_on_ok _ c.from_residual.result _ c.from_residual.ensures.1;
       said = residual_on_ok _ c.from_residual.result _ c.from_residual.ensures.1;
       leaves = residual_if_ok _ c.from_residual.result _ c.from_residual.ensures.1;
-      goes = only_reads g.N.Ruled.rules g.A.Activities.gives c.args.bounds.limit c.args.clients.now (g.C.Clock.given c.args.clock.now) (of_part 0 (trail_in c.args.store.now)) (told_in c.args.store.now) c.requires.entered.before (state_of c.args.state) c.requires.entered.stands.made c.requires.entered.entered (g.R.Reactions.flows c.args.reactions.now) c.requires.flows c.args.port.now c.requires.said (g.C.Clock.given c.take_next.new.clock) c.take_next.ensures.reads;
+      goes = only_reads g.N.Ruled.rules g.A.Activities.gives c.args.bounds.limit c.args.clients.now (g.C.Clock.given c.args.clock.now) (of_part 0 (trail_in c.args.store.now.logs)) (told_in c.args.store.now.logs) c.requires.entered.before (state_of c.args.state) c.requires.entered.stands.made c.requires.entered.entered (g.R.Reactions.flows c.args.reactions.now) c.requires.flows c.args.port.now c.requires.said (g.C.Clock.given c.take_next.new.clock) c.take_next.ensures.reads;
       no_more = low_add _ _ _ refl;
       spent = λ of n is. absurd (kind_not_spent is_of_clock _ _ of n refl c.in_err-filling.ensures.stops (residual_is _ _ c.from_residual.ensures.1) is);
       full = λ of n is. absurd (clock_not_full _ _ of n c.in_err-filling.ensures.stops (residual_is _ _ c.from_residual.ensures.1) is);
@@ -139,7 +142,7 @@ returns-in_err-state-in-Filled g c =
     let comes = subst (Comes (g.R.Reactions.flows c.args.reactions.now) (state_of c.args.state) c.args.port.now c.args.clients.now c.args.bounds.limit) c.in-Filled.is c.in_ok-filling.ensures.comes in
     record {
       tells = λ t. subst g.V.Site.tells site (c.settle_filling.ensures.tells t);
-      sound = c.settle_filling.ensures.sound;
+      kept = c.settle_filling.ensures.kept;
       segment = c.settle_filling.ensures.segment ∙ c.raise.ensures.segment;
       latest = raised_below _ _ _ _ _ same raised low;
       whole = λ apart. c.in_err-state-in-Filled.ensures.whole (λ is. apart (same_stop _ _ _ _ (residual_is _ _ c.from_residual-in_err-state-in-Filled.ensures.1) refl is));
@@ -156,14 +159,14 @@ returns-in_err-state-in-Filled g c =
           let word_is = c.word-chance.ensures ∙ ap (λ (n : ℕ). word_of n 0 (c.position-position.result - 1)) c.requires.incarnation ∙ ap (word_of g.N.Ruled.rules.incarnation 0) at_place in
           let at = subst (ComesAt (g.R.Reactions.flows c.args.reactions.now) (λ name argument. g.A.Activities.gives name argument c.word-chance.result) (state_of c.args.state) c.args.port.now c.args.clients.now (g.C.Clock.given c.args.clock.now) (g.C.Clock.given c.take_next.new.clock)) c.in-Filled.is c.in_ok-filling.ensures.at in
           let then =
-          subst (λ (t : List Settled). SettlesThenSays c.args.clients.now entry (of_part 0 t) (told_in c.args.store.now) (of_part 0 (trail_in new)) (told_in new)) c.raise.ensures.trail
-          (subst (λ (t : List Said). SettlesThenSays c.args.clients.now entry (of_part 0 (trail_in c.raise.new.self)) t (of_part 0 (trail_in new)) (told_in new)) c.raise.ensures.told c.settle_filling.ensures.settles) in
-          filled_goes g.N.Ruled.rules g.A.Activities.gives c.args.bounds.limit c.args.clients.now (g.C.Clock.given c.args.clock.now) (of_part 0 (trail_in c.args.store.now)) (told_in c.args.store.now) c.requires.entered.before (state_of c.args.state) c.requires.entered.stands.made c.requires.entered.entered (g.R.Reactions.flows c.args.reactions.now) c.requires.flows c.args.port.now c.requires.said c.word-chance.result c.args.bounds.incarnation (c.position-position.result - 1) c.in-Filled.now c.in-Filled.filling (g.C.Clock.given c.take_next.new.clock) (of_part 0 (trail_in new)) (told_in new) word_is at_place c.requires.incarnation at comes then;
-      no_more = low_more _ _ _ _ (subst (λ (t : List Settled). count_labels (of_part 0 (trail_in c.settle_filling.new.store)) ≤ count_labels (of_part 0 t) + length c.in-Filled.filling.items.items) c.raise.ensures.trail c.settle_filling.ensures.no_more) comes.2;
+          subst (λ (t : List Settled). SettlesThenSays c.args.clients.now entry (of_part 0 t) (told_in c.args.store.now.logs) (of_part 0 (trail_in new.logs)) (told_in new.logs)) c.raise.ensures.trail
+          (subst (λ (t : List Said). SettlesThenSays c.args.clients.now entry (of_part 0 (trail_in c.raise.new.self.logs)) t (of_part 0 (trail_in new.logs)) (told_in new.logs)) c.raise.ensures.told c.settle_filling.ensures.settles) in
+          filled_goes g.N.Ruled.rules g.A.Activities.gives c.args.bounds.limit c.args.clients.now (g.C.Clock.given c.args.clock.now) (of_part 0 (trail_in c.args.store.now.logs)) (told_in c.args.store.now.logs) c.requires.entered.before (state_of c.args.state) c.requires.entered.stands.made c.requires.entered.entered (g.R.Reactions.flows c.args.reactions.now) c.requires.flows c.args.port.now c.requires.said c.word-chance.result c.args.bounds.incarnation (c.position-position.result - 1) c.in-Filled.now c.in-Filled.filling (g.C.Clock.given c.take_next.new.clock) (of_part 0 (trail_in new.logs)) (told_in new.logs) word_is at_place c.requires.incarnation at comes then;
+      no_more = low_more _ _ _ _ (subst (λ (t : List Settled). count_labels (of_part 0 (trail_in c.settle_filling.new.store.logs)) ≤ count_labels (of_part 0 t) + length c.in-Filled.filling.items.items) c.raise.ensures.trail c.settle_filling.ensures.no_more) comes.2;
       spent = λ of n is. absurd (c.in_err-state-in-Filled.ensures.no_spent of n (same_stop _ _ _ _ refl (residual_is _ _ c.from_residual-in_err-state-in-Filled.ensures.1) is));
       full = λ of n is. full_wider _ _ _ _ _ _ _ _ _ _ comes.2 (c.in_err-state-in-Filled.ensures.full of n (same_stop _ _ _ _ refl (residual_is _ _ c.from_residual-in_err-state-in-Filled.ensures.1) is));
-      fault = λ is. subst (λ n. HasRisen n (g.V.Site.disk_faults c.settle_filling.new.store.site)) disk_site (c.in_err-state-in-Filled.ensures.fault (same_stop _ _ _ _ refl (residual_is _ _ c.from_residual-in_err-state-in-Filled.ensures.1) is));
-      say_fault = λ is. subst (λ n. HasRisen n (g.V.Site.say_faults c.settle_filling.new.store.site)) tape_site (c.in_err-state-in-Filled.ensures.say_fault (same_stop _ _ _ _ refl (residual_is _ _ c.from_residual-in_err-state-in-Filled.ensures.1) is));
+      fault = λ is. subst (λ n. HasRisen n (g.V.Site.disk_faults c.settle_filling.new.store.logs.site)) disk_site (c.in_err-state-in-Filled.ensures.fault (same_stop _ _ _ _ refl (residual_is _ _ c.from_residual-in_err-state-in-Filled.ensures.1) is));
+      say_fault = λ is. subst (λ n. HasRisen n (g.V.Site.say_faults c.settle_filling.new.store.logs.site)) tape_site (c.in_err-state-in-Filled.ensures.say_fault (same_stop _ _ _ _ refl (residual_is _ _ c.from_residual-in_err-state-in-Filled.ensures.1) is));
       clock_fault = λ is. absurd (c.in_err-state-in-Filled.ensures.no_clock (same_stop _ _ _ _ refl (residual_is _ _ c.from_residual-in_err-state-in-Filled.ensures.1) is));
       later = low_from _ _ _ disk_site disk;
       say_later = low_from _ _ _ tape_site tape;
@@ -188,7 +191,7 @@ returns-in_ok-state-in-Filled g c =
     let trail = ap (λ (t : List Settled). count_labels (of_part 0 t)) c.raise.ensures.trail in
     record {
       tells = λ t. subst g.V.Site.tells site (c.settle_filling.ensures.tells t);
-      sound = c.settle_filling.ensures.sound;
+      kept = c.settle_filling.ensures.kept;
       segment = c.settle_filling.ensures.segment ∙ c.raise.ensures.segment;
       latest = raised_below _ _ _ _ _ same raised low;
       whole = λ apart. c.in_ok-state-in-Filled.ensures.whole (λ is. ok_apart _ _ is);
@@ -205,10 +208,10 @@ returns-in_ok-state-in-Filled g c =
           let word_is = c.word-chance.ensures ∙ ap (λ (n : ℕ). word_of n 0 (c.position-position.result - 1)) c.requires.incarnation ∙ ap (word_of g.N.Ruled.rules.incarnation 0) at_place in
           let at = subst (ComesAt (g.R.Reactions.flows c.args.reactions.now) (λ name argument. g.A.Activities.gives name argument c.word-chance.result) (state_of c.args.state) c.args.port.now c.args.clients.now (g.C.Clock.given c.args.clock.now) (g.C.Clock.given c.take_next.new.clock)) c.in-Filled.is c.in_ok-filling.ensures.at in
           let then =
-          subst (λ (t : List Settled). SettlesThenSays c.args.clients.now entry (of_part 0 t) (told_in c.args.store.now) (of_part 0 (trail_in new)) (told_in new)) c.raise.ensures.trail
-          (subst (λ (t : List Said). SettlesThenSays c.args.clients.now entry (of_part 0 (trail_in c.raise.new.self)) t (of_part 0 (trail_in new)) (told_in new)) c.raise.ensures.told c.settle_filling.ensures.settles) in
-          filled_goes g.N.Ruled.rules g.A.Activities.gives c.args.bounds.limit c.args.clients.now (g.C.Clock.given c.args.clock.now) (of_part 0 (trail_in c.args.store.now)) (told_in c.args.store.now) c.requires.entered.before (state_of c.args.state) c.requires.entered.stands.made c.requires.entered.entered (g.R.Reactions.flows c.args.reactions.now) c.requires.flows c.args.port.now c.requires.said c.word-chance.result c.args.bounds.incarnation (c.position-position.result - 1) c.in-Filled.now c.in-Filled.filling (g.C.Clock.given c.take_next.new.clock) (of_part 0 (trail_in new)) (told_in new) word_is at_place c.requires.incarnation at comes then;
-      no_more = low_more _ _ _ _ (subst (λ (t : List Settled). count_labels (of_part 0 (trail_in c.settle_filling.new.store)) ≤ count_labels (of_part 0 t) + length c.in-Filled.filling.items.items) c.raise.ensures.trail c.settle_filling.ensures.no_more) comes.2;
+          subst (λ (t : List Settled). SettlesThenSays c.args.clients.now entry (of_part 0 t) (told_in c.args.store.now.logs) (of_part 0 (trail_in new.logs)) (told_in new.logs)) c.raise.ensures.trail
+          (subst (λ (t : List Said). SettlesThenSays c.args.clients.now entry (of_part 0 (trail_in c.raise.new.self.logs)) t (of_part 0 (trail_in new.logs)) (told_in new.logs)) c.raise.ensures.told c.settle_filling.ensures.settles) in
+          filled_goes g.N.Ruled.rules g.A.Activities.gives c.args.bounds.limit c.args.clients.now (g.C.Clock.given c.args.clock.now) (of_part 0 (trail_in c.args.store.now.logs)) (told_in c.args.store.now.logs) c.requires.entered.before (state_of c.args.state) c.requires.entered.stands.made c.requires.entered.entered (g.R.Reactions.flows c.args.reactions.now) c.requires.flows c.args.port.now c.requires.said c.word-chance.result c.args.bounds.incarnation (c.position-position.result - 1) c.in-Filled.now c.in-Filled.filling (g.C.Clock.given c.take_next.new.clock) (of_part 0 (trail_in new.logs)) (told_in new.logs) word_is at_place c.requires.incarnation at comes then;
+      no_more = low_more _ _ _ _ (subst (λ (t : List Settled). count_labels (of_part 0 (trail_in c.settle_filling.new.store.logs)) ≤ count_labels (of_part 0 t) + length c.in-Filled.filling.items.items) c.raise.ensures.trail c.settle_filling.ensures.no_more) comes.2;
       spent = λ of n is. absurd (ok_apart _ _ is);
       full = λ of n is. absurd (ok_apart _ _ is);
       fault = λ is. absurd (ok_apart _ _ is);
@@ -226,10 +229,10 @@ returns-in-Rest g c =
     let comes = subst (Comes (g.R.Reactions.flows c.args.reactions.now) (state_of c.args.state) queues c.args.clients.now c.args.bounds.limit) c.in-Rest.is c.in_ok-filling.ensures.comes in
     record {
       tells = λ t. t;
-      sound = c.requires.sound;
+      kept = c.requires.kept;
       segment = refl;
       latest = below_first _ _;
-      whole = λ apart. c.requires.sound.uncut c.requires.going;
+      whole = λ apart. c.requires.kept.kept.sound.uncut c.requires.going;
       stamps = c.take_next.ensures.latest;
       stage = c.requires.rests;
       still = c.requires.going;
@@ -244,7 +247,7 @@ returns-in-Rest g c =
           said = subst (λ (p : Partition). NoneUnsaid p queues c.args.clients.now) (sym comes.2) c.requires.unsaid;
         },
       );
-      goes = only_reads g.N.Ruled.rules g.A.Activities.gives c.args.bounds.limit c.args.clients.now (g.C.Clock.given c.args.clock.now) (of_part 0 (trail_in c.args.store.now)) (told_in c.args.store.now) c.requires.entered.before (state_of c.args.state) c.requires.entered.stands.made c.requires.entered.entered (g.R.Reactions.flows c.args.reactions.now) c.requires.flows c.args.port.now c.requires.said (g.C.Clock.given c.take_next.new.clock) c.take_next.ensures.reads;
+      goes = only_reads g.N.Ruled.rules g.A.Activities.gives c.args.bounds.limit c.args.clients.now (g.C.Clock.given c.args.clock.now) (of_part 0 (trail_in c.args.store.now.logs)) (told_in c.args.store.now.logs) c.requires.entered.before (state_of c.args.state) c.requires.entered.stands.made c.requires.entered.entered (g.R.Reactions.flows c.args.reactions.now) c.requires.flows c.args.port.now c.requires.said (g.C.Clock.given c.take_next.new.clock) c.take_next.ensures.reads;
       no_more = low_add _ _ _ refl;
       spent = λ of n is. absurd (ok_apart _ _ is);
       full = λ of n is. absurd (ok_apart _ _ is);
@@ -268,9 +271,6 @@ take_next-requires-clause-begun g c = let place = ap (λ (p : Partition). p.posi
 pub take_next-requires-clause-some : goal.take_next-requires-clause-some
 take_next-requires-clause-some g c = c.requires.some
 
-pub settle_filling-requires-clause-sound : goal.settle_filling-requires-clause-sound
-settle_filling-requires-clause-sound g c = c.raise.ensures.sound
-
 pub settle_filling-requires-clause-going : goal.settle_filling-requires-clause-going
 settle_filling-requires-clause-going g c = c.raise.ensures.halted ∙ c.requires.going
 
@@ -283,3 +283,6 @@ settle_filling-requires-clause-way g c =
 
 pub settle_filling-requires-clause-said : goal.settle_filling-requires-clause-said
 settle_filling-requires-clause-said g c = subst (λ (t : List Said). HasSaid g.N.Ruled.rules t c.args.port.now) (sym c.raise.ensures.told) c.requires.said
+
+pub settle_filling-requires-clause-kept : goal.settle_filling-requires-clause-kept
+settle_filling-requires-clause-kept g c = record { kept = c.raise.ensures.kept; floors = λ p. ap (λ (l : Vec declared.Ledger). floors_of l.items p) c.raise.ensures.ledgers ∙ c.requires.kept.floors p }

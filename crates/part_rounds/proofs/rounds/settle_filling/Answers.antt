@@ -20,21 +20,21 @@ use Rattle.commit_log.proofs.Causes.{ok_apart}
 
 pub say_due-requires-clause-made : goal.say_due-requires-clause-made
 say_due-requires-clause-made g c =
-    let log = g.N.Start.origin.logs 0 in
-    let behind = stands_after g.N.Ruled.rules log c.args.store.now.latest (of_part 0 (trail_in c.args.store.now)) (pairs_of (told_in c.args.store.now)) c.args.position c.args.incarnation (items_of c.args.filling.items.items) c.requires.filled.filled in
+    let log = g.N.Local.origin.logs 0 in
+    let behind = stands_after g.N.Ruled.rules log c.args.store.now.logs.latest (of_part 0 (trail_in c.args.store.now.logs)) (pairs_of (told_in c.args.store.now.logs)) c.args.position c.args.incarnation (items_of c.args.filling.items.items) c.requires.filled.filled in
     (subst (λ (l : List Entry). StateStands g.N.Ruled.rules log l (state_of c.args.filling.state)) (sym c.in-Ok.ensures.trail) (subst (StateStands g.N.Ruled.rules log _) c.requires.filled.after_is behind)).made
 
 pub enter-requires-clause-younger : goal.enter-requires-clause-younger
 enter-requires-clause-younger g c =
-    let log = g.N.Start.origin.logs 0 in
-    let behind = stands_after g.N.Ruled.rules log c.args.store.now.latest (of_part 0 (trail_in c.args.store.now)) (pairs_of (told_in c.args.store.now)) c.args.position c.args.incarnation (items_of c.args.filling.items.items) c.requires.filled.filled in
+    let log = g.N.Local.origin.logs 0 in
+    let behind = stands_after g.N.Ruled.rules log c.args.store.now.logs.latest (of_part 0 (trail_in c.args.store.now.logs)) (pairs_of (told_in c.args.store.now.logs)) c.args.position c.args.incarnation (items_of c.args.filling.items.items) c.requires.filled.filled in
     let younger = (subst (StateStands g.N.Ruled.rules log _) c.requires.filled.after_is behind).younger in
     omega (arith, younger, c.requires.filled.filled.incarnation_is)
 
 pub enter-requires-clause-room : goal.enter-requires-clause-room
 enter-requires-clause-room g c =
-    let log = g.N.Start.origin.logs 0 in
-    let place = place_after g.N.Ruled.rules log c.args.store.now.latest (of_part 0 (trail_in c.args.store.now)) (pairs_of (told_in c.args.store.now)) c.args.position c.args.incarnation (items_of c.args.filling.items.items) c.requires.filled.filled in
+    let log = g.N.Local.origin.logs 0 in
+    let place = place_after g.N.Ruled.rules log c.args.store.now.logs.latest (of_part 0 (trail_in c.args.store.now.logs)) (pairs_of (told_in c.args.store.now.logs)) c.args.position c.args.incarnation (items_of c.args.filling.items.items) c.requires.filled.filled in
     let same = ap (λ (p : Partition). p.position) c.requires.filled.after_is in
     omega (arith, place, same, c.requires.room)
 
@@ -43,10 +43,10 @@ returns-in-Err g c =
     let told = c.commit_items.ensures.say_faults in
     record {
       tells = c.commit_items.ensures.tells;
-      sound = c.commit_items.ensures.sound;
+      kept = c.commit_items.ensures.kept;
       segment = c.commit_items.ensures.segment;
       latest = c.commit_items.ensures.latest;
-      whole = λ apart. c.commit_items.ensures.whole ∙ c.requires.sound.uncut c.requires.going;
+      whole = λ apart. c.commit_items.ensures.whole ∙ c.requires.kept.kept.sound.uncut c.requires.going;
       stage = tt;
       still = tt;
       said = tt;
@@ -70,7 +70,7 @@ returns-in-Err-say_due g c =
     let told = c.commit_items.ensures.say_faults in
     record {
       tells = λ t. c.commit_items.ensures.tells (c.say_due.ensures.tells t);
-      sound = c.say_due.ensures.sound;
+      kept = c.say_due.ensures.kept;
       segment = c.say_due.ensures.segment ∙ c.commit_items.ensures.segment;
       latest = c.say_due.ensures.latest ∙ c.commit_items.ensures.latest;
       whole = λ apart. c.in-Err-say_due.ensures.whole (λ is. apart (same_stop _ _ _ _ refl refl is));
@@ -80,12 +80,12 @@ returns-in-Err-say_due g c =
       entered = tt;
       unsaid = tt;
       labels = tt;
-      settles = inr (ap (of_part 0) c.say_due.ensures.trail ∙ c.in-Ok.ensures.trail, subst (λ (t : List Said). SaysInTurn c.args.clients.now t (told_in c.say_due.new.store)) c.commit_items.ensures.said c.say_due.ensures.in_turn);
+      settles = inr (ap (of_part 0) c.say_due.ensures.trail ∙ c.in-Ok.ensures.trail, subst (λ (t : List Said). SaysInTurn c.args.clients.now t (told_in c.say_due.new.store.logs)) c.commit_items.ensures.said c.say_due.ensures.in_turn);
       no_more = low_is _ _ (ap (λ (t : List Settled). count_labels (of_part 0 t)) c.say_due.ensures.trail ∙ c.in-Ok.ensures.labels);
       no_spent = λ of n is. kind_not_spent is_of_tape _ _ of n refl c.in-Err-say_due.ensures.stops refl is;
       full = λ of n is. absurd (tape_not_full _ _ of n c.in-Err-say_due.ensures.stops refl is);
       fault = λ is. absurd (tape_not_fault _ _ c.in-Err-say_due.ensures.stops refl is);
-      say_fault = λ is. subst (λ (n : ℕ). HasRisen n (g.V.Site.say_faults c.say_due.new.store.site)) c.commit_items.ensures.say_faults (c.in-Err-say_due.ensures.fault (same_stop _ _ _ _ refl refl is));
+      say_fault = λ is. subst (λ (n : ℕ). HasRisen n (g.V.Site.say_faults c.say_due.new.store.logs.site)) c.commit_items.ensures.say_faults (c.in-Err-say_due.ensures.fault (same_stop _ _ _ _ refl refl is));
       no_clock = λ is. tape_not_clock _ _ c.in-Err-say_due.ensures.stops refl is;
       later = low_to _ _ _ put c.commit_items.ensures.later;
       say_later = low_from _ _ _ told c.say_due.ensures.later;
@@ -93,14 +93,14 @@ returns-in-Err-say_due g c =
 
 pub returns-in-Ok-say_due : goal.returns-in-Ok-say_due
 returns-in-Ok-say_due g c =
-    let log = g.N.Start.origin.logs 0 in
-    let behind = stands_after g.N.Ruled.rules log c.args.store.now.latest (of_part 0 (trail_in c.args.store.now)) (pairs_of (told_in c.args.store.now)) c.args.position c.args.incarnation (items_of c.args.filling.items.items) c.requires.filled.filled in
+    let log = g.N.Local.origin.logs 0 in
+    let behind = stands_after g.N.Ruled.rules log c.args.store.now.logs.latest (of_part 0 (trail_in c.args.store.now.logs)) (pairs_of (told_in c.args.store.now.logs)) c.args.position c.args.incarnation (items_of c.args.filling.items.items) c.requires.filled.filled in
     let stands = subst (λ (l : List Entry). StateStands g.N.Ruled.rules log l (state_of c.args.filling.state)) (sym c.in-Ok.ensures.trail) (subst (StateStands g.N.Ruled.rules log _) c.requires.filled.after_is behind) in
     let put = c.say_due.ensures.disk_faults in
     let told = c.commit_items.ensures.say_faults in
     record {
       tells = λ t. c.commit_items.ensures.tells (c.say_due.ensures.tells t);
-      sound = c.say_due.ensures.sound;
+      kept = c.say_due.ensures.kept;
       segment = c.say_due.ensures.segment ∙ c.commit_items.ensures.segment;
       latest = c.say_due.ensures.latest ∙ c.commit_items.ensures.latest;
       whole = λ apart. c.in-Ok-say_due.ensures.whole (λ is. ok_apart _ _ is);
@@ -122,7 +122,7 @@ returns-in-Ok-say_due g c =
       };
       unsaid = let entered = c.enter.ensures.entered in subst (λ (p : Partition). NoneUnsaid p c.say_due.new.port c.args.clients.now) (sym entered) c.in-Ok-say_due.ensures.none;
       labels = ap (λ (t : List Settled). count_labels (of_part 0 t)) c.say_due.ensures.trail ∙ c.in-Ok.ensures.labels;
-      settles = inr (ap (of_part 0) c.say_due.ensures.trail ∙ c.in-Ok.ensures.trail, subst (λ (t : List Said). SaysInTurn c.args.clients.now t (told_in c.say_due.new.store)) c.commit_items.ensures.said c.say_due.ensures.in_turn);
+      settles = inr (ap (of_part 0) c.say_due.ensures.trail ∙ c.in-Ok.ensures.trail, subst (λ (t : List Said). SaysInTurn c.args.clients.now t (told_in c.say_due.new.store.logs)) c.commit_items.ensures.said c.say_due.ensures.in_turn);
       no_more = low_is _ _ (ap (λ (t : List Settled). count_labels (of_part 0 t)) c.say_due.ensures.trail ∙ c.in-Ok.ensures.labels);
       no_spent = λ of n is. ok_apart _ _ is;
       full = λ of n is. absurd (ok_apart _ _ is);
@@ -133,8 +133,8 @@ returns-in-Ok-say_due g c =
       say_later = low_from _ _ _ told c.say_due.ensures.later;
     }
 
-pub commit_items-requires-clause-sound : goal.commit_items-requires-clause-sound
-commit_items-requires-clause-sound g c = c.requires.sound
+pub commit_items-requires-clause-kept : goal.commit_items-requires-clause-kept
+commit_items-requires-clause-kept g c = c.requires.kept
 
 pub commit_items-requires-clause-going : goal.commit_items-requires-clause-going
 commit_items-requires-clause-going g c = c.requires.going
@@ -142,11 +142,14 @@ commit_items-requires-clause-going g c = c.requires.going
 pub commit_items-requires-clause-rests : goal.commit_items-requires-clause-rests
 commit_items-requires-clause-rests g c = c.requires.rests
 
+pub commit_items-requires-clause-room : goal.commit_items-requires-clause-room
+commit_items-requires-clause-room g c = c.requires.room
+
 pub commit_items-requires-clause-filled : goal.commit_items-requires-clause-filled
 commit_items-requires-clause-filled g c = c.requires.filled.filled
 
-pub say_due-requires-clause-sound : goal.say_due-requires-clause-sound
-say_due-requires-clause-sound g c = c.commit_items.ensures.sound
+pub say_due-requires-clause-kept : goal.say_due-requires-clause-kept
+say_due-requires-clause-kept g c = c.commit_items.ensures.kept
 
 pub say_due-requires-clause-going : goal.say_due-requires-clause-going
 say_due-requires-clause-going g c = c.in-Ok.ensures.still

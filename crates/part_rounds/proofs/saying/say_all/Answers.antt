@@ -13,7 +13,7 @@ use Rattle.commit_log.proofs.Causes.{ok_apart}
 pub answers-preserved : goal.answers-preserved
 answers-preserved g c = record {
   tells = λ t. c.answers.invariant.tells (c.say_next.ensures.tells t);
-  sound = c.say_next.ensures.sound;
+  kept = c.say_next.ensures.kept;
   trail = c.say_next.ensures.trail ∙ c.answers.invariant.trail;
   own = own_both _ _ _ _ c.answers.invariant.own c.say_next.ensures.own;
   ways = c.say_next.ensures.ways ∙ c.answers.invariant.ways;
@@ -30,7 +30,7 @@ pub returns-in_err-say_next : goal.returns-in_err-say_next
 returns-in_err-say_next g c =
     record {
       tells = λ t. c.answers.invariant.tells (c.say_next.ensures.tells t);
-      sound = c.say_next.ensures.sound;
+      kept = c.say_next.ensures.kept;
       trail = c.say_next.ensures.trail ∙ c.answers.invariant.trail;
       own = own_both _ _ _ _ c.answers.invariant.own c.say_next.ensures.own;
       ways = c.say_next.ensures.ways ∙ c.answers.invariant.ways;
@@ -52,13 +52,13 @@ returns g c =
     let none = c.in_ok-say_next.ensures.none (ap (λ (b : Bool). Ok b) c.if-branch.false) in
     record {
       tells = λ t. c.answers.invariant.tells (c.say_next.ensures.tells t);
-      sound = c.say_next.ensures.sound;
+      kept = c.say_next.ensures.kept;
       trail = c.say_next.ensures.trail ∙ c.answers.invariant.trail;
       own = own_both _ _ _ _ c.answers.invariant.own c.say_next.ensures.own;
       ways = c.say_next.ensures.ways ∙ c.answers.invariant.ways;
       segment = c.say_next.ensures.segment ∙ c.answers.invariant.segment;
       latest = c.say_next.ensures.latest ∙ c.answers.invariant.latest;
-      whole = λ apart. c.say_next.ensures.sound.uncut c.in_ok-say_next.ensures.still;
+      whole = λ apart. c.say_next.ensures.kept.kept.sound.uncut c.in_ok-say_next.ensures.still;
       still = c.in_ok-say_next.ensures.still;
       said = c.in_ok-say_next.ensures.said;
       none = subst (λ (queues : List Queue). next_answer (state_of c.args.state.now) queues c.args.client.now ≡ None) (sym none.1) none.0;

@@ -21,7 +21,7 @@ loop-client-preserved g c =
     let after = c.say_all.new.port in
     record {
       tells = λ t. c.loop-client.invariant.tells (c.say_all.ensures.tells t);
-      sound = c.say_all.ensures.sound;
+      kept = c.say_all.ensures.kept;
       trail = c.say_all.ensures.trail ∙ c.loop-client.invariant.trail;
       in_turn = turn_next c.args.clients.now c.loop-client.client-index c.client-item.result _ _ _ c.loop-client-test.true c.client-item.is c.loop-client.invariant.in_turn c.say_all.ensures.own;
       ways = c.say_all.ensures.ways ∙ c.loop-client.invariant.ways;
@@ -40,7 +40,7 @@ pub returns-in_err-say_all : goal.returns-in_err-say_all
 returns-in_err-say_all g c =
     record {
       tells = λ t. c.loop-client.invariant.tells (c.say_all.ensures.tells t);
-      sound = c.say_all.ensures.sound;
+      kept = c.say_all.ensures.kept;
       trail = c.say_all.ensures.trail ∙ c.loop-client.invariant.trail;
       in_turn = turn_whole c.args.clients.now (c.loop-client.client-index + 1) _ _ (turn_next c.args.clients.now c.loop-client.client-index c.client-item.result _ _ _ c.loop-client-test.true c.client-item.is c.loop-client.invariant.in_turn c.say_all.ensures.own);
       ways = c.say_all.ensures.ways ∙ c.loop-client.invariant.ways;
@@ -60,13 +60,13 @@ pub returns : goal.returns
 returns g c =
     record {
       tells = c.loop-client.invariant.tells;
-      sound = c.loop-client.invariant.sound;
+      kept = c.loop-client.invariant.kept;
       trail = c.loop-client.invariant.trail;
       in_turn = turn_whole c.args.clients.now c.loop-client.client-index _ _ c.loop-client.invariant.in_turn;
       ways = c.loop-client.invariant.ways;
       segment = c.loop-client.invariant.segment;
       latest = c.loop-client.invariant.latest;
-      whole = λ apart. c.loop-client.invariant.sound.uncut c.loop-client.invariant.still;
+      whole = λ apart. c.loop-client.invariant.kept.kept.sound.uncut c.loop-client.invariant.still;
       still = c.loop-client.invariant.still;
       said = c.loop-client.invariant.said;
       none = all_whole (λ (n : List ℕ). next_answer (state_of c.args.state.now) c.loop-client.port n ≡ None) c.args.clients.now c.loop-client.client-index c.loop-client-test.false c.loop-client.invariant.none;

@@ -18,14 +18,14 @@ use Rattle.part_rounds.proofs.Stops.{fault_said, memory_not_said, residual_apart
 use Rattle.part_rounds.proofs.saying.say_next.Goals as goal
 use Rattle.commit_log.proofs.Causes.{ok_apart}
 
-pub say-told-requires-clause-may : goal.say-told-requires-clause-may
-say-told-requires-clause-may g c =
+pub say_line-told-requires-clause-may : goal.say_line-told-requires-clause-may
+say_line-told-requires-clause-may g c =
     let rules = g.N.Ruled.rules in
-    let told = told_in c.args.store.now in
+    let told = told_in c.args.store.now.logs in
     let name = c.args.client.now in
     let r = request_of c.in-Some.request.now in
     let due : due_of name c.args.port.now ≡ Some r = sym c.next_of.ensures ∙ ap (option_map (λ x. request_of x.now)) c.in-Some.is in
-    g.met.N.Ruled.answers (trail_in c.args.store.now) told (asked name r.number) c.deref.result.now (record {
+    g.met.N.Ruled.answers (trail_in c.args.store.now.logs) told (asked name r.number) c.deref.result.now (record {
       state = state_of c.args.state.now;
       made = c.requires.made;
       answer = answer_of c.in-Some-answer.answer.now;
@@ -39,22 +39,22 @@ say-told-requires-clause-may g c =
 pub returns : goal.returns
 returns g c =
     let rules = g.N.Ruled.rules in
-    let told = told_in c.args.store.now in
+    let told = told_in c.args.store.now.logs in
     let name = c.args.client.now in
     let old = c.args.port.now in
     let r = request_of c.in-Some.request.now in
     let due : due_of name old ≡ Some r = sym c.next_of.ensures ∙ ap (option_map (λ x. request_of x.now)) c.in-Some.is in
     record {
-      tells = c.say-told.ensures.tells;
-      sound = c.say-told.ensures.sound;
-      trail = c.say-told.ensures.trail;
+      tells = c.say_line-told.ensures.tells;
+      kept = c.say_line-told.ensures.kept;
+      trail = c.say_line-told.ensures.trail;
       own = own_one name r.number told _ c.in_ok-told.ensures.ok;
-      ways = c.say-told.ensures.ways;
-      segment = c.say-told.ensures.segment;
-      latest = c.say-told.ensures.latest;
-      whole = λ apart. c.say-told.ensures.sound.uncut c.in_ok-told.ensures.still;
+      ways = c.say_line-told.ensures.ways;
+      segment = c.say_line-told.ensures.segment;
+      latest = c.say_line-told.ensures.latest;
+      whole = λ apart. c.say_line-told.ensures.kept.kept.sound.uncut c.in_ok-told.ensures.still;
       still = c.in_ok-told.ensures.still;
-      said = subst (λ (queues : List Queue). HasSaid rules (told_in c.say-told.new.self) queues) (sym c.said.ensures)
+      said = subst (λ (queues : List Queue). HasSaid rules (told_in c.say_line-told.new.store.logs) queues) (sym c.said.ensures)
           (subst (λ (l : List Said). HasSaid rules l (at_client with_said name old)) (sym c.in_ok-told.ensures.ok) (said_on rules told old name r c.requires.said due r.number));
       more = λ is. (
         before_last rules told old name r c.requires.said due,
@@ -63,8 +63,8 @@ returns g c =
       none = λ is. absurd (cc is);
       stops = tt;
       fault = λ is. absurd (ok_apart _ _ is);
-      later = c.say-told.ensures.halted.later;
-      disk_faults = c.say-told.ensures.disk_faults;
+      later = c.say_line-told.ensures.halted.later;
+      disk_faults = c.say_line-told.ensures.disk_faults;
       others = subst (λ (queues : List Queue). KeepsDue name old queues) (sym c.said.ensures) (λ other apart. due_stays name other old apart);
     }
 
@@ -75,13 +75,13 @@ returns-in_default g c =
     let none : due_of name c.args.port.now ≡ None = sym c.next_of.ensures ∙ ap (option_map (λ x. request_of x.now)) c.in_default.is in
     record {
       tells = λ t. t;
-      sound = c.requires.sound;
+      kept = c.requires.kept;
       trail = refl;
       own = own_none _ _ _ refl;
       ways = refl;
       segment = refl;
       latest = refl;
-      whole = λ apart. c.requires.sound.uncut c.requires.going;
+      whole = λ apart. c.requires.kept.kept.sound.uncut c.requires.going;
       still = c.requires.going;
       said = c.requires.said;
       more = λ is. absurd (cc is);
@@ -103,13 +103,13 @@ returns-in_default-answer g c =
     ap (λ (i : OwnId). state.answers (id_of i) r.number) (sym c.in_ok-id.ensures) ∙ sym c.answer-answer.ensures ∙ ap (option_map (λ x. answer_of x.now)) c.in_default-answer.is in
     record {
       tells = λ t. t;
-      sound = c.requires.sound;
+      kept = c.requires.kept;
       trail = refl;
       own = own_none _ _ _ refl;
       ways = refl;
       segment = refl;
       latest = refl;
-      whole = λ apart. c.requires.sound.uncut c.requires.going;
+      whole = λ apart. c.requires.kept.kept.sound.uncut c.requires.going;
       still = c.requires.going;
       said = c.requires.said;
       more = λ is. absurd (cc is);
@@ -124,13 +124,13 @@ returns-in_default-answer g c =
 pub returns-in_err-id : goal.returns-in_err-id
 returns-in_err-id g c = record {
   tells = λ t. t;
-  sound = c.requires.sound;
+  kept = c.requires.kept;
   trail = refl;
   own = own_none _ _ _ refl;
   ways = refl;
   segment = refl;
   latest = refl;
-  whole = λ apart. c.requires.sound.uncut c.requires.going;
+  whole = λ apart. c.requires.kept.kept.sound.uncut c.requires.going;
   still = residual_on_ok _ c.from_residual.result _ c.from_residual.ensures.1;
   said = residual_on_ok _ c.from_residual.result _ c.from_residual.ensures.1;
   more = λ is. absurd (residual_apart _ _ _ c.from_residual.ensures.1 is);
@@ -145,13 +145,13 @@ returns-in_err-id g c = record {
 pub returns-in_err-line : goal.returns-in_err-line
 returns-in_err-line g c = record {
   tells = λ t. t;
-  sound = c.requires.sound;
+  kept = c.requires.kept;
   trail = refl;
   own = own_none _ _ _ refl;
   ways = refl;
   segment = refl;
   latest = refl;
-  whole = λ apart. c.requires.sound.uncut c.requires.going;
+  whole = λ apart. c.requires.kept.kept.sound.uncut c.requires.going;
   still = residual_on_ok _ c.from_residual-in_err-line.result _ c.from_residual-in_err-line.ensures.1;
   said = residual_on_ok _ c.from_residual-in_err-line.result _ c.from_residual-in_err-line.ensures.1;
   more = λ is. absurd (residual_apart _ _ _ c.from_residual-in_err-line.ensures.1 is);
@@ -165,27 +165,27 @@ returns-in_err-line g c = record {
 
 pub returns-in_err-told : goal.returns-in_err-told
 returns-in_err-told g c = record {
-  tells = c.say-told.ensures.tells;
-  sound = c.say-told.ensures.sound;
-  trail = c.say-told.ensures.trail;
+  tells = c.say_line-told.ensures.tells;
+  kept = c.say_line-told.ensures.kept;
+  trail = c.say_line-told.ensures.trail;
   own = own_none _ _ _ c.in_err-told.ensures.err;
-  ways = c.say-told.ensures.ways;
-  segment = c.say-told.ensures.segment;
-  latest = c.say-told.ensures.latest;
-  whole = λ apart. c.in_err-told.ensures.whole (λ is. apart (fault_said _ _ _ refl (residual_is _ _ c.from_residual-in_err-told.ensures.1) is)) ∙ c.requires.sound.uncut c.requires.going;
+  ways = c.say_line-told.ensures.ways;
+  segment = c.say_line-told.ensures.segment;
+  latest = c.say_line-told.ensures.latest;
+  whole = λ apart. c.in_err-told.ensures.whole (λ is. apart (fault_said _ _ _ refl (residual_is _ _ c.from_residual-in_err-told.ensures.1) is)) ∙ c.requires.kept.kept.sound.uncut c.requires.going;
   still = residual_on_ok _ c.from_residual-in_err-told.result _ c.from_residual-in_err-told.ensures.1;
   said = residual_on_ok _ c.from_residual-in_err-told.result _ c.from_residual-in_err-told.ensures.1;
   more = λ is. absurd (residual_apart _ _ _ c.from_residual-in_err-told.ensures.1 is);
   none = λ is. absurd (residual_apart _ _ _ c.from_residual-in_err-told.ensures.1 is);
   stops = residual_of_say _ _ c.from_residual-in_err-told.ensures.1;
-  fault = λ is. c.say-told.ensures.halted.risen (c.in_err-told.ensures.halts (say_fault _ _ _ refl (residual_is _ _ c.from_residual-in_err-told.ensures.1) is));
-  later = c.say-told.ensures.halted.later;
-  disk_faults = c.say-told.ensures.disk_faults;
+  fault = λ is. c.say_line-told.ensures.halted.risen (c.in_err-told.ensures.halts (say_fault _ _ _ refl (residual_is _ _ c.from_residual-in_err-told.ensures.1) is));
+  later = c.say_line-told.ensures.halted.later;
+  disk_faults = c.say_line-told.ensures.disk_faults;
   others = residual_on_ok _ c.from_residual-in_err-told.result _ c.from_residual-in_err-told.ensures.1;
 }
 
-pub say-told-requires-clause-sound : goal.say-told-requires-clause-sound
-say-told-requires-clause-sound g c = c.requires.sound
+pub say_line-told-requires-clause-kept : goal.say_line-told-requires-clause-kept
+say_line-told-requires-clause-kept g c = c.requires.kept
 
-pub say-told-requires-clause-going : goal.say-told-requires-clause-going
-say-told-requires-clause-going g c = c.requires.going
+pub say_line-told-requires-clause-going : goal.say_line-told-requires-clause-going
+say_line-told-requires-clause-going g c = c.requires.going
