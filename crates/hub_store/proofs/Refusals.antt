@@ -1,16 +1,6 @@
 -- What follows on an answer.
-use Rattle.std.proofs.Common.{◌≡◌, inl, inr, ℕ, ◌≤◌, List, Result, Ok, Err, ap, subst, ◌∙◌}
-use Rattle.std.specs.Prelude.{◌⊎◌, IsErrAnd, OnOk, OnErr}
-use Rattle.dura_value.specs.Items.{Entry}
-use Rattle.hub_store.specs.Frames.{length_with}
-use Rattle.hub_store.specs.declared.refusal.BodyRefusal.{BodyRefusal}
-use Rattle.hub_store.specs.declared.refusal.BodyRefusal.TheVariants.{Full, SiteFault, Memory}
-use Rattle.hub_store.specs.declared.refusal.Unwritten.{Unwritten}
-use Rattle.hub_store.specs.declared.refusal.Unwritten.TheVariants as unwritten
-use Rattle.hub_store.specs.Refused.{refusal_of}
-use Rattle.hub_store.specs.declared.way.Way.{Way}
-use Rattle.log_items.specs.declared.frames.Entry as rows
-use Rattle.commit_log.proofs.Causes.{ok_apart}
+use Rattle.std.proofs.Common.{◌≡◌, Result, Ok, Err, ap}
+use Rattle.std.specs.Prelude.{IsErrAnd, OnOk, OnErr}
 
 -- ---- answers
 
