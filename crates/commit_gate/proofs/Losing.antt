@@ -1,7 +1,6 @@
 -- Nothing that is settled is lost.
-use Rattle.std.proofs.Common.{◌≡◌, ◌⊎◌, inl, inr, ℕ, zero, suc, ◌+◌, ◌<◌, ◌≤◌, List, [], ◌∷◌, ◌++◌, length, take, drop, get_or, Some, refl, sym, ◌∙◌, ap, subst, arith}
+use Rattle.std.proofs.Common.{◌≡◌, ◌⊎◌, inl, inr, ℕ, zero, suc, ◌+◌, ◌<◌, ◌≤◌, List, [], ◌∷◌, ◌++◌, length, get_or, Some, refl, sym, ◌∙◌, ap, subst, arith}
 use Rattle.std.specs.List.{Contains, slice_get}
-use Rattle.std.proofs.lemmas.List.{take-append-drop}
 use Rattle.std.proofs.lemmas.List.{get_or-map as get_mapped}
 use Rattle.commit_gate.proofs.Stay.{get_append}
 use Rattle.std.proofs.lemmas.List.Elements.{Contains-append_cases}
@@ -60,19 +59,9 @@ floor_unlost ledger floors floor high unlost i incarnation at f there later = el
   | inr is ↦ let e = only floor f is in let low : i < length ledger.incarnations = slice_get_within ledger.incarnations i incarnation at in subst (λ (g : Floor). i < g.from) e (omega (arith, high, low))
 ]
 
--- what stands in the front of a list
-pub get_taken : {X : Type 0} (n : ℕ) (xs : List X) (i : ℕ) (x : X) → slice_get (take n xs) i ≡ Some x → slice_get xs i ≡ Some x
-get_taken {X} n xs i x is = subst (λ (l : List X). slice_get l i ≡ Some x) (take-append-drop n xs) (get_append (take n xs) (drop n xs) i x is)
-
--- what stands in a list behind the front of another stands behind all of it
-pub get_behind_taken : {X : Type 0} (n : ℕ) (front xs : List X) (i : ℕ) (x : X) → slice_get (front ++ take n xs) i ≡ Some x → slice_get (front ++ xs) i ≡ Some x
-get_behind_taken n [] xs i x is = get_taken n xs i x is
-get_behind_taken n (y ∷ front) xs zero x is = is
-get_behind_taken n (y ∷ front) xs (suc i) x is = get_behind_taken n front xs i x is
-
 -- what holds with a frame under way holds without
 pub settled_unlost : (ledger : declared.Ledger) (floors : List Floor) → IsUnlost (whole_of ledger) floors → IsUnlost (ledger_of ledger) floors
-settled_unlost ledger floors unlost i incarnation is = unlost i incarnation (get_behind_taken ledger.settled (spread ledger.past.items) ledger.incarnations.items i incarnation is)
+settled_unlost ledger floors unlost i incarnation is = unlost i incarnation (get_append (spread ledger.past.items) ledger.incarnations.items i incarnation is)
 
 -- a partition's ledger among all
 pub ledger_here : (ledgers : List declared.Ledger) (partition : ℕ) (ledger : declared.Ledger) → partition < length ledgers → ledger ≡ get_or ledgers partition ledger → ledgers_of ledgers partition ≡ ledger_of ledger

@@ -16,7 +16,8 @@ count_to target (one ∷ more) = if one.to == target then suc (count_to target m
 abbrev pub HaveRoom : List Stream → List Sent → Type 0
 HaveRoom boxes sent = (target : ℕ) (stream : Stream) → slice_get boxes target ≡ Some stream → deque_len stream.messages + count_to target sent ≤ deque_capacity stream.messages
 
--- and there is room for so many entries
+-- and there is room for so many entries, and for a stretch of each
 pub record HasRoom (ledger : Ledger) (entries : ℕ) (sent : List Sent) : Type 0 where
   pub incarnations : vec_len ledger.incarnations + entries ≤ vec_capacity ledger.incarnations
+  pub past : vec_len ledger.past + entries ≤ vec_capacity ledger.past
   pub boxes : HaveRoom ledger.boxes.items sent

@@ -36,7 +36,7 @@ nexts_by nexts source = slice_index_or nexts source 0
 -- a partition as it is settled, and with its frame under way
 abbrev pub ledger_of : Ledger → plain.Ledger
 ledger_of ledger = record {
-  incarnations = spread ledger.past.items ++ take ledger.settled ledger.incarnations.items;
+  incarnations = spread ledger.past.items;
   nexts = nexts_by ledger.nexts.items;
   boxes = boxes_by box_of ledger.boxes.items;
 }

@@ -14,6 +14,7 @@ ghost use Rattle.log_items.specs.Readings.{readers_after};
 ghost use Rattle.log_items.specs.Entries.{incarnations_in};
 
 use crate::ledger::{Ledger, Sending, Stream};
+use crate::past::push_all_reserved;
 use crate::streams::{drop_all, settle_all};
 use dura_value::{Floor, Identity};
 use log_items::{Entry, Frame, Item};
@@ -68,7 +69,7 @@ impl Ledger {
         ensures readers { self.new.readers ≡ self.old.readers }
         ensures places { KeepsPlaces self.old self.new }
     {
-        self.incarnations.truncate(self.settled);
+        self.incarnations.clear();
         drop_all(&mut self.boxes);
     }
 
@@ -79,7 +80,8 @@ impl Ledger {
         ensures readers { self.new.readers ≡ self.old.readers }
         ensures places { KeepsPlaces self.old self.new }
     {
-        self.settled = self.incarnations.len();
+        push_all_reserved(&mut self.past, &self.incarnations);
+        self.incarnations.clear();
         settle_all(&mut self.boxes);
     }
 

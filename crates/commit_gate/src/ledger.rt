@@ -1,9 +1,10 @@
 //! What others see of a partition.
 
-ghost use Rattle.std.specs.Prelude.{◌≡◌, ◌≤◌, ◌<◌, ◌+◌, ◌^◌, length};
-ghost use Rattle.commit_gate.specs.Past.{spread};
+ghost use Rattle.std.specs.Prelude.{◌≤◌, ◌<◌, ◌+◌, ◌^◌, length};
+ghost use Rattle.std.specs.Vec.{vec_len, vec_capacity};
+ghost use Rattle.commit_gate.specs.Past.{spread, Rise};
 
-use crate::stretch::Stretch;
+use crate::past::Stretch;
 use dura_value::{Floor, Identity, Posted};
 use std::collections::VecDeque;
 
@@ -32,13 +33,9 @@ pub struct Stream {
 /// What others see of a partition: which of its entries are settled, and what is left of its streams.
 #[derive(Drop)]
 pub struct Ledger {
-    /// The incarnations of the entries that were recovered, stretch by stretch.
+    /// The incarnations of the entries that were recovered or settled, stretch by stretch. There is room for those in the frame under way.
     pub(crate) past: Vec<Stretch>,
-    /// How many they are.
-    pub(crate) recovered: u64,
-    /// How many entries were settled since.
-    pub(crate) settled: usize,
-    /// The incarnation of each of these, and behind them of those in the frame under way.
+    /// The incarnation of each entry in the frame under way.
     pub(crate) incarnations: Vec<u64>,
     /// The incarnations that gave entries up, in the order in which they began.
     pub(crate) floors: Vec<Floor>,
@@ -48,7 +45,7 @@ pub struct Ledger {
     pub(crate) readers: Vec<Identity>,
     /// Its streams to others.
     pub(crate) boxes: Vec<Stream>,
-    ghost inside: { settled ≤ length incarnations.items },
-    ghost past_is: { recovered ≡ length (spread past.items) },
-    ghost short: { recovered + length incarnations.items < 2 ^ 64 },
+    ghost rise: { Rise past.items },
+    ghost short: { length (spread past.items) + length incarnations.items < 2 ^ 64 },
+    ghost room: { vec_len past + length incarnations.items ≤ vec_capacity past },
 }

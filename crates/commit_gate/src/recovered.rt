@@ -1,12 +1,11 @@
 //! What others see of a partition at the beginning.
 
-ghost use Rattle.std.specs.Prelude.{◌≡◌, ◌<◌, ◌^◌, length, map};
+ghost use Rattle.std.specs.Prelude.{◌≡◌, length, map};
 ghost use Rattle.dura_value.specs.Views.{posted_of, floor_of};
-ghost use Rattle.commit_gate.specs.Past.{spread};
 ghost use Rattle.commit_gate.specs.Views.{box_of, whole_box, boxes_by, nexts_by, floors_in, ledger_of, whole_of};
 
 use crate::ledger::{Ledger, Stream};
-use crate::stretch::Stretch;
+use crate::past::Past;
 use dura_value::{Floor, Identity, Posted};
 use std::alloc::Global;
 use std::collections::VecDeque;
@@ -27,23 +26,19 @@ impl Stream {
 }
 
 impl Ledger {
-    /// What others see of a partition at the beginning: so many entries were recovered, of these incarnations, these floors were set, the
-    /// streams from each partition were taken in up to these numbers, the last message of each by this entry, and these to each are
-    /// left.
+    /// What others see of a partition at the beginning: entries of these incarnations were recovered, these floors were set, the streams
+    /// from each partition were taken in up to these numbers, the last message of each by this entry, and these to each are left.
     pub fn recovered(
         alloc: Global,
-        past: Vec<Stretch>,
-        recovered: u64,
+        past: Past,
         floors: Vec<Floor>,
         nexts: Vec<u64>,
         readers: Vec<Identity>,
         boxes: Vec<Stream>,
     ) -> Ledger
-        requires count { recovered ≡ length (spread past.items) }
-        requires short { recovered < 2 ^ 64 }
         requires rests { boxes_by whole_box boxes.items ≡ boxes_by box_of boxes.items }
         ensures settled { ledger_of result ≡ record {
-          incarnations = spread past.items;
+          incarnations = past;
           nexts = nexts_by nexts.items;
           boxes = boxes_by box_of boxes.items;
         } }
@@ -54,9 +49,7 @@ impl Ledger {
         ensures readers { result.readers.items ≡ readers.items }
     {
         Ledger {
-            past,
-            recovered,
-            settled: 0,
+            past: past.stretches,
             incarnations: Vec::new(alloc),
             floors,
             nexts,

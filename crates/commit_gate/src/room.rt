@@ -62,6 +62,9 @@ impl Ledger {
         if self.incarnations.reserve(entries).is_err() {
             return Err(AllocError);
         }
+        if self.past.reserve(entries).is_err() {
+            return Err(AllocError);
+        }
         make_room_in(&mut self.boxes, sending)
     }
 }

@@ -13,7 +13,7 @@ ghost use Rattle.commit_gate.specs.Views.{floors_in, box_of, ledger_of, ledgers_
 ghost use Rattle.log_items.specs.Entries.{items_in};
 
 use crate::ledger::{Ledger, Stream};
-use crate::stretch::incarnation_at;
+use crate::past::{incarnation_at, length_of};
 use crate::unmet::Unmet;
 use dura_value::{Floor, Identity, Message, Posted, is_same_entry};
 use log_items::{Frame, Item};
@@ -56,24 +56,17 @@ impl Ledger {
     pub fn log_length(&self) -> u64
         ensures { result ≡ log_length (ledger_of self.now) }
     {
-        self.recovered + self.settled as u64
+        length_of(&self.past)
     }
 
     /// Whether an entry is one of those that were recovered or settled.
     fn knows(&self, e: Identity) -> bool
         ensures { Decides result (IsKnown (ledger_of self.now) (identity_of e)) }
     {
-        if e.position < self.recovered {
-            return match incarnation_at(&self.past, e.position) {
-                Some(incarnation) => incarnation == e.incarnation,
-                None => false,
-            };
+        match incarnation_at(&self.past, e.position) {
+            Some(incarnation) => incarnation == e.incarnation,
+            None => false,
         }
-        let index = e.position - self.recovered;
-        if self.settled as u64 <= index {
-            return false;
-        }
-        self.incarnations[index as usize] == e.incarnation
     }
 
     /// Where a later incarnation began that gave an entry up, if one did.
@@ -222,9 +215,9 @@ fn test_items(ledgers: &[Ledger], partition: u32, items: &[Item]) -> Result<(), 
     Ok(())
 }
 
-/// Whether each item of a frame of a partition is what it claims, by what is settled; else why the first that isn't is not. It takes a
-/// step for each item, where an item names a recovered entry one for each incarnation up to that entry's, and where one is refused one
-/// for each floor of its partition.
+/// Whether each item of a frame of a partition is what it claims, by what is settled; else why the first that isn't is not. Where the
+/// entries of a partition are of n stretches it takes O(log n) steps for each item, and where one is refused one for each floor of its
+/// partition.
 pub fn test_frame(ledgers: &[Ledger], partition: u32, frame: &Frame) -> Result<(), Unmet>
     requires unlost { AreUnlost ledgers.now }
     ensures { Tests (ledgers_of ledgers.now) (floors_of ledgers.now) partition

@@ -5,7 +5,7 @@ ghost use Rattle.commit_gate.specs.Unlost.{AreUnlost, IsUnlost};
 ghost use Rattle.commit_gate.specs.Views.{ledger_of, floors_in, box_of, whole_box};
 
 use crate::frames::message_of;
-use commit_gate::{Ledger, Stream, Stretch};
+use commit_gate::{Ledger, Past, Stream};
 use dura_value::{Floor, Identity, Posted};
 use std::alloc::Global;
 use std::collections::VecDeque;
@@ -17,8 +17,7 @@ fn reader(rt: &impl Abort, alloc: Global) -> Ledger
 {
     Ledger::recovered(
         alloc,
-        Vec::new(alloc),
-        0,
+        Past::none(alloc),
         Vec::new(alloc),
         Vec::new(alloc),
         Vec::new(alloc),
@@ -45,19 +44,22 @@ fn stream(rt: &impl Abort, alloc: Global) -> Stream
     Stream::of(5, messages)
 }
 
+/// Entries of these incarnations, one after another.
+fn past_of(rt: &impl Abort, alloc: Global, incarnations: &[u64]) -> Past
+    ensures { result ≡ incarnations.now }
+{
+    let mut past = Past::none(alloc);
+    for incarnation in incarnations {
+        past.push(*incarnation).expect(rt, "memory");
+    }
+    past
+}
+
 /// Of partition 1 the entries at 0 and 1 are of incarnation 0, and the one at 2 of incarnation 2, which gave up what earlier ones made from
 /// there on. It took in the stream from partition 0 before message 4.
 fn sender(rt: &impl Abort, alloc: Global) -> Ledger
     ensures { IsUnlost (ledger_of result) (floors_in result) }
 {
-    let old = Stretch {
-        incarnation: 0,
-        count: 2,
-    };
-    let new = Stretch {
-        incarnation: 2,
-        count: 1,
-    };
     let floor = Floor {
         partition: 1,
         incarnation: 2,
@@ -68,12 +70,12 @@ fn sender(rt: &impl Abort, alloc: Global) -> Ledger
         incarnation: 0,
         position: 0,
     };
-    let past = vec![in alloc; old, new].expect(rt, "memory");
+    let past = past_of(rt, alloc, &[0, 0, 2]);
     let floors = vec![in alloc; floor].expect(rt, "memory");
     let nexts = vec![in alloc; 4].expect(rt, "memory");
     let readers = vec![in alloc; reader].expect(rt, "memory");
     let boxes = vec![in alloc; stream(rt, alloc)].expect(rt, "memory");
-    Ledger::recovered(alloc, past, 3, floors, nexts, readers, boxes)
+    Ledger::recovered(alloc, past, floors, nexts, readers, boxes)
 }
 
 fn both(rt: &impl Abort, alloc: Global, first: Ledger, second: Ledger) -> Vec<Ledger>

@@ -1,4 +1,4 @@
-use Rattle.std.proofs.Common.{ℕ, ◌+◌, ◌++◌, ◌^◌, ◌<◌, ◌∷◌, [], List, length, sym, ◌∙◌, ap, subst, arith, take}
+use Rattle.std.proofs.Common.{ℕ, ◌+◌, ◌^◌, ◌<◌, ◌∷◌, [], List, length, sym, ◌∙◌, ap, subst, arith}
 use Rattle.std.proofs.Math.ListN.{set}
 use Rattle.log_items.specs.declared.items.Item.{Item}
 use Rattle.log_items.specs.Plain.{item_of}
@@ -22,7 +22,7 @@ pub returns-in-Trim-clause-settled : goal.returns-in-Trim-clause-settled
 returns-in-Trim-clause-settled c =
     let s = c.args.self.now in
     let low : c.in-Trim.target < length s.boxes.items = subst (λ (i : Item). IsOfOne (length s.boxes.items) (item_of i)) c.in-Trim.is c.requires.fits in
-    ap (made (spread s.past.items ++ take s.settled s.incarnations.items) (nexts_by s.nexts.items))
+    ap (made (spread s.past.items) (nexts_by s.nexts.items))
     (box_begun s.boxes.items c.in-Trim.target c.in-Trim.number c.begin_at.new.self c.index_mut-in-Trim.result.now low c.index_mut-in-Trim.ensures.value c.begin_at.ensures.settled)
     ∙ ap (λ (i : Item). after_items (item_of i ∷ []) (ledger_of s)) (sym c.in-Trim.is)
 
@@ -31,7 +31,7 @@ returns-in-Trim-clause-whole c =
     let s = c.args.self.now in
     let low : c.in-Trim.target < length s.boxes.items = subst (λ (i : Item). IsOfOne (length s.boxes.items) (item_of i)) c.in-Trim.is c.requires.fits in
     ap (λ (l : List ℕ). made l (nexts_by s.nexts.items) (boxes_by whole_box (set s.boxes.items c.in-Trim.target c.begin_at.new.self))) (ap (λ (r : rows.Ledger). r.incarnations) c.requires.rests)
-    ∙ ap (made (spread s.past.items ++ take s.settled s.incarnations.items) (nexts_by s.nexts.items))
+    ∙ ap (made (spread s.past.items) (nexts_by s.nexts.items))
     (rests_set s.boxes.items c.in-Trim.target c.begin_at.new.self low (ap (λ (r : rows.Ledger). r.boxes) c.requires.rests) c.begin_at.ensures.whole)
 
 pub returns-in-Got-clause-readers : goal.returns-in-Got-clause-readers
