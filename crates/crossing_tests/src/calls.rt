@@ -230,7 +230,9 @@ fn write_frame<M: Named>(
     let None = places[part as usize] else {
         panic!(rt; "it has one");
     };
-    assert!(rt; number > 0);
+    if number == 0 {
+        panic!(rt; "no request");
+    }
     if part == 0 {
         let frame = asking(alloc).expect(rt, "memory");
         let sent = sending(alloc).expect(rt, "memory");

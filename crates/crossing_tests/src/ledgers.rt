@@ -6,7 +6,7 @@ ghost use Rattle.commit_gate.specs.Views.{nobody, no_box, box_of, whole_box};
 ghost use Rattle.crossing_tests.specs.Standing.{AreNone, IsEmpty, AreEmpty};
 
 use crate::frames::SENDER;
-use commit_gate::{Ledger, Stream};
+use commit_gate::{Ledger, Past, Stream};
 use dura_value::Identity;
 use std::alloc::{AllocError, Global};
 use std::collections::VecDeque;
@@ -45,13 +45,13 @@ fn nothing(alloc: Global) -> Result<Vec<u64>, AllocError>
 fn empty(alloc: Global) -> Result<Ledger, AllocError>
     ensures { IfOk result IsEmpty }
 {
-    let past = Vec::new(alloc);
+    let past = Past::none(alloc);
     let floors = Vec::new(alloc);
     let nexts = nothing(alloc)?;
     let readers = nobodies(alloc)?;
     let boxes = no_streams(alloc)?;
     Ok(Ledger::recovered(
-        alloc, past, 0, floors, nexts, readers, boxes,
+        alloc, past, floors, nexts, readers, boxes,
     ))
 }
 

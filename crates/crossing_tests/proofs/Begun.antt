@@ -1,0 +1,74 @@
+-- The two at the beginning, and what each may write.
+use Rattle.std.proofs.Common.{◌≡◌, ℕ, zero, suc, ◌<◌, ◌^◌, Bool, List, [], ◌∷◌, Option, Some, None, refl, ap, subst, arith}
+use Rattle.std.specs.List.{AllByRecursion, slice_get, Contains}
+use Rattle.std.proofs.lemmas.List.Elements.{All-from_recursion}
+use Rattle.site_model.specs.declared.site.Site as sites
+use Rattle.dura_value.specs.Items.{Item, Entry, took, got}
+use Rattle.log_items.specs.Entries.{items_in, identities_at}
+use Rattle.log_items.specs.Streams.{Sent}
+use Rattle.part_items.specs.Fits.{FitsMessage}
+use Rattle.part_items.specs.ItemFits.{FitsItem, FitsEntry, FitsFrame}
+use Rattle.commit_gate.specs.Keeping.{GoesInside, IsOfOne}
+use Rattle.commit_gate.specs.Views.{floors_of}
+use Rattle.commit_gate.specs.declared.ledger.Ledger.{Ledger}
+use Rattle.gated_store.specs.declared.local.Gated as gated_types
+use Rattle.gated_store.specs.declared.store.GatedStore.{GatedStore}
+use Rattle.hub_store.proofs.FramesGo.{frame_goes}
+use Rattle.hub_store.specs.Changes.{stage_at, trail_in}
+use Rattle.hub_store.specs.Trail.{of_part}
+use Rattle.hub_store.specs.declared.start.Start as starts
+use Rattle.hub_store.specs.declared.way.Stage.TheVariants.{Resting}
+use Rattle.crossing_tests.specs.Crossing.{message, first_with, sender, asking, sent_on, taking}
+use Rattle.crossing_tests.specs.Standing.{IsEmpty, MayWrite, IsThere}
+
+pub no_floors : (list : List Ledger) → ((p : ℕ) (ledger : Ledger) → slice_get list p ≡ Some ledger → IsEmpty ledger) → (p : ℕ) → floors_of list p ≡ []
+no_floors [] each p = refl
+no_floors (one ∷ more) each zero = (each zero one refl).floors
+no_floors (one ∷ more) each (suc p) = no_floors more (λ q ledger is. each (suc q) ledger is) p
+
+module _ {V L : Type 0} {G : sites.Ghosts V} {K : starts.Ghosts (gated_types.Gated L)} where
+  pub none_there : (store : GatedStore V L G K) → ((p : ℕ) → p < 2 → stage_at store.logs p ≡ Resting) → trail_in store.logs ≡ [] → (p : ℕ) (place : Option Bool) → slice_get (None ∷ None ∷ []) p ≡ Some place → IsThere store p place
+  none_there store rest trail zero place is = let same : None ≡ place = cc is in subst (λ (x : Option Bool). IsThere store 0 x) same (rest 0 (omega arith), ap (of_part 0) trail)
+  none_there store rest trail (suc zero) place is = let same : None ≡ place = cc is in subst (λ (x : Option Bool). IsThere store 1 x) same (rest 1 (omega arith), ap (of_part 1) trail)
+  none_there store rest trail (suc (suc p)) place is = absurd (cc is)
+
+-- ---- what each may write
+
+message_fits : (number : ℕ) → 0 < number → number < 2 ^ 32 → FitsMessage (message number)
+message_fits number some low = record { from_fits = refl; to_fits = record { name_is = refl; key_is = refl }; body_fits = record { some = some; fits = low } }
+
+frame_fits : (item : Item) → FitsItem item → FitsFrame (first_with item ∷ [])
+frame_fits item fits =
+    let entry : FitsEntry (first_with item) = record { position_fits = omega arith; incarnation_fits = omega arith; some = omega arith; few = omega arith; each = All-from_recursion FitsItem (item ∷ []) (fits, tt) } in
+    record { some = omega arith; few = omega arith; each = All-from_recursion FitsEntry (first_with item ∷ []) (entry, tt) }
+
+pub may_ask : MayWrite 0 (asking ∷ []) (sent_on ∷ [])
+may_ask = record {
+  behind = frame_goes (record { position = 0; incarnation = 0 }) (asking ∷ []) (frame_fits (took (message 1)) (message_fits 1 (omega arith) (omega arith))) (refl, omega arith, tt);
+  few = omega arith;
+  inside = All-from_recursion (GoesInside 2) (sent_on ∷ []) (omega arith, tt);
+  fits = All-from_recursion (IsOfOne 2) (took (message 1) ∷ []) (tt, tt);
+  empty = refl;
+  goes = (
+    sent_on ∷ [],
+    record {
+      positions = (refl, tt);
+      reads = tt;
+      senders = All-from_recursion (λ (one : Sent). Contains (identities_at 0 (asking ∷ [])) one.posted.entry) (sent_on ∷ []) ((0, omega arith, refl), tt);
+      makes = refl;
+    },
+  );
+  makes = refl;
+}
+
+pub may_take : (number : ℕ) → 0 < number → number < 2 ^ 32 → MayWrite 1 (taking number ∷ []) []
+may_take number some low = record {
+  behind = frame_goes (record { position = 0; incarnation = 0 }) (taking number ∷ [])
+      (frame_fits (got sender 0 (message number)) (record { partition_fits = omega arith; incarnation_fits = omega arith; position_fits = omega arith }, omega arith, message_fits number some low)) (refl, omega arith, tt);
+  few = omega arith;
+  inside = All-from_recursion (GoesInside 2) [] tt;
+  fits = All-from_recursion (IsOfOne 2) (got sender 0 (message number) ∷ []) ((omega arith, omega arith), tt);
+  empty = refl;
+  goes = ([], record { positions = (refl, tt); reads = (refl, tt); senders = All-from_recursion (λ (one : Sent). Contains (identities_at 1 (taking number ∷ [])) one.posted.entry) [] tt; makes = refl });
+  makes = refl;
+}
