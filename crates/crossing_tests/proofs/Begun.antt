@@ -1,10 +1,15 @@
 -- The two at the beginning, and what each may write.
-use Rattle.std.proofs.Common.{◌≡◌, ℕ, zero, suc, ◌<◌, ◌^◌, Bool, List, [], ◌∷◌, Option, Some, None, refl, ap, subst, arith}
-use Rattle.std.specs.List.{AllByRecursion, slice_get, Contains}
+use Rattle.std.proofs.Common.{◌≡◌, ℕ, zero, suc, ◌+◌, ◌<◌, ◌^◌, Bool, List, [], ◌∷◌, Option, Some, None, refl, sym, ap, subst, arith}
+use Rattle.std.specs.List.{slice_get, Contains}
 use Rattle.std.proofs.lemmas.List.Elements.{All-from_recursion}
 use Rattle.site_model.specs.declared.site.Site as sites
-use Rattle.dura_value.specs.Items.{Item, Entry, took, got}
-use Rattle.log_items.specs.Entries.{items_in, identities_at}
+use Rattle.site_model.specs.History.{Step, Change, changes_of}
+use Rattle.site_model.specs.Moments.{OnlyFile}
+use Rattle.commit_log.specs.Outcomes.{RestsAs}
+use Rattle.commit_log.specs.States.{IsResting}
+use Rattle.commit_log.specs.declared.states.Resting.{Resting}
+use Rattle.dura_value.specs.Items.{Item, took, got}
+use Rattle.log_items.specs.Entries.{identities_at}
 use Rattle.log_items.specs.Streams.{Sent}
 use Rattle.part_items.specs.Fits.{FitsMessage}
 use Rattle.part_items.specs.ItemFits.{FitsItem, FitsEntry, FitsFrame}
@@ -15,10 +20,11 @@ use Rattle.gated_store.specs.declared.local.Gated as gated_types
 use Rattle.gated_store.specs.declared.store.GatedStore.{GatedStore}
 use Rattle.hub_store.proofs.FramesGo.{frame_goes}
 use Rattle.hub_store.specs.Changes.{stage_at, trail_in}
+use Rattle.hub_store.specs.Opened.{HasBegun}
 use Rattle.hub_store.specs.Trail.{of_part}
 use Rattle.hub_store.specs.declared.start.Start as starts
-use Rattle.hub_store.specs.declared.way.Stage.TheVariants.{Resting}
-use Rattle.crossing_tests.specs.Crossing.{message, first_with, sender, asking, sent_on, taking}
+use Rattle.hub_store.specs.declared.way.Stage.TheVariants as stages
+use Rattle.crossing_tests.specs.Crossing.{header, origin_with, message, first_with, sender, asking, sent_on, taking}
 use Rattle.crossing_tests.specs.Standing.{IsEmpty, MayWrite, IsThere}
 
 pub no_floors : (list : List Ledger) → ((p : ℕ) (ledger : Ledger) → slice_get list p ≡ Some ledger → IsEmpty ledger) → (p : ℕ) → floors_of list p ≡ []
@@ -27,7 +33,7 @@ no_floors (one ∷ more) each zero = (each zero one refl).floors
 no_floors (one ∷ more) each (suc p) = no_floors more (λ q ledger is. each (suc q) ledger is) p
 
 module _ {V L : Type 0} {G : sites.Ghosts V} {K : starts.Ghosts (gated_types.Gated L)} where
-  pub none_there : (store : GatedStore V L G K) → ((p : ℕ) → p < 2 → stage_at store.logs p ≡ Resting) → trail_in store.logs ≡ [] → (p : ℕ) (place : Option Bool) → slice_get (None ∷ None ∷ []) p ≡ Some place → IsThere store p place
+  pub none_there : (store : GatedStore V L G K) → ((p : ℕ) → p < 2 → stage_at store.logs p ≡ stages.Resting) → trail_in store.logs ≡ [] → (p : ℕ) (place : Option Bool) → slice_get (None ∷ None ∷ []) p ≡ Some place → IsThere store p place
   none_there store rest trail zero place is = let same : None ≡ place = cc is in subst (λ (x : Option Bool). IsThere store 0 x) same (rest 0 (omega arith), ap (of_part 0) trail)
   none_there store rest trail (suc zero) place is = let same : None ≡ place = cc is in subst (λ (x : Option Bool). IsThere store 1 x) same (rest 1 (omega arith), ap (of_part 1) trail)
   none_there store rest trail (suc (suc p)) place is = absurd (cc is)
@@ -72,3 +78,24 @@ may_take number some low = record {
   goes = ([], record { positions = (refl, tt); reads = (refl, tt); senders = All-from_recursion (λ (one : Sent). Contains (identities_at 1 (taking number ∷ [])) one.posted.entry) [] tt; makes = refl });
   makes = refl;
 }
+
+-- ---- both segments are new
+
+-- making the second left the first as it was
+module _ (before steps : List Step) (first second : Resting) (first_file : first.file ≡ 16) (second_file : second.file ≡ 17) (first_rests : RestsAs before (header 0) [] first) (second_rests : RestsAs steps (header 1) [] second) (only : OnlyFile 17 before steps) where
+  first_there : (first.file ≡ 16) × IsResting (changes_of 16 steps) (header 0) [] first.gate
+  first_there = (
+    first_file,
+    subst (λ (changes : List Change). IsResting changes (header 0) [] first.gate) (sym (only.others 16 (omega arith))) (subst (λ (file : ℕ). IsResting (changes_of file before) (header 0) [] first.gate) first_file first_rests),
+  )
+
+  second_there : (second.file ≡ 17) × IsResting (changes_of 17 steps) (header 1) [] second.gate
+  second_there = (second_file, subst (λ (file : ℕ). IsResting (changes_of file steps) (header 1) [] second.gate) second_file second_rests)
+
+  both_rest : (p : ℕ) (log : Resting) → slice_get (first ∷ second ∷ []) p ≡ Some log → (log.file ≡ 16 + p) × IsResting (changes_of (16 + p) steps) (header p) [] log.gate
+  both_rest zero log is = let same : first ≡ log = cc is in subst (λ (l : Resting). (l.file ≡ 16) × IsResting (changes_of 16 steps) (header 0) [] l.gate) same first_there
+  both_rest (suc zero) log is = let same : second ≡ log = cc is in subst (λ (l : Resting). (l.file ≡ 17) × IsResting (changes_of 17 steps) (header 1) [] l.gate) same second_there
+  both_rest (suc (suc p)) log is = absurd (cc is)
+
+  pub both_begun : HasBegun (origin_with steps) steps (first ∷ second ∷ [])
+  both_begun = record { now = refl; rests = both_rest }

@@ -1,30 +1,21 @@
 -- How the two stand behind a call on the frame of one.
-use Rattle.std.proofs.Common.{◌≡◌, ◌≢◌, ◌⊎◌, inl, inr, ℕ, zero, suc, ◌+◌, ◌<◌, ◌^◌, Bool, true, false, List, [], ◌∷◌, ◌++◌, length, Option, Some, None, slice_set, refl, sym, ap, subst, ◌∙◌, arith}
-use Rattle.std.specs.List.{All, AllByRecursion, slice_get, Contains}
+use Rattle.std.proofs.Common.{◌≡◌, ◌≢◌, ◌⊎◌, inl, inr, ℕ, zero, suc, Bool, true, false, List, [], ◌∷◌, Option, Some, None, slice_set, refl, sym, ap, subst, ◌∙◌}
+use Rattle.std.specs.List.{slice_get}
 use Rattle.std.proofs.lemmas.Bool.{cases_eq}
-use Rattle.std.proofs.lemmas.List.Elements.{All-from_recursion}
 use Rattle.site_model.specs.declared.site.Site as sites
-use Rattle.dura_value.specs.Items.{Item, Entry, Floor, took, got}
-use Rattle.part_items.specs.ItemFits.{FitsItem, FitsEntry, FitsFrame}
-use Rattle.log_items.specs.Streams.{Sent}
-use Rattle.log_items.specs.Entries.{items_in, identities_at}
-use Rattle.commit_gate.specs.Keeping.{GoesInside, IsOfOne}
-use Rattle.commit_gate.specs.Unlost.{IsFrameUnlost}
-use Rattle.commit_gate.specs.Views.{floors_of}
+use Rattle.dura_value.specs.Items.{Entry, Floor}
 use Rattle.gated_store.specs.declared.local.Gated as gated_types
 use Rattle.gated_store.specs.declared.store.GatedStore.{GatedStore}
-use Rattle.gated_store.specs.Following.{own_after, others_after}
+use Rattle.gated_store.specs.Following.{others_after}
 use Rattle.gated_store.specs.Keeps.{KeepsGate}
 use Rattle.gated_store.specs.Kept.{IsKept}
-use Rattle.hub_store.proofs.FramesGo.{frame_goes}
 use Rattle.hub_store.specs.Changes.{stage_at, trail_in, Settles}
 use Rattle.hub_store.specs.Trail.{Settled, of_part}
 use Rattle.hub_store.specs.Ways.{stage_of, way_of}
 use Rattle.hub_store.specs.declared.start.Start as starts
 use Rattle.hub_store.specs.declared.way.Stage.TheVariants as stages
-use Rattle.hub_store.specs.declared.way.Way.{Way}
-use Rattle.crossing_tests.specs.Crossing.{message, first_with, asking, sent_on, taking, ledgers}
-use Rattle.crossing_tests.specs.Standing.{readers, may_make, MayWrite, IsThere, Stands}
+use Rattle.crossing_tests.specs.Crossing.{ledgers}
+use Rattle.crossing_tests.specs.Standing.{readers, may_make, IsThere, Stands}
 
 -- a place that is put in is read back, and the others stay
 put_same : (places : List (Option Bool)) (p : ℕ) (place found : Option Bool) → slice_get (slice_set places p place) p ≡ Some found → found ≡ place

@@ -95,17 +95,17 @@ fn what_was_sent(rt: HostRuntime) {
 #[test]
 fn what_was_sent_and_both_reopened(rt: HostRuntime) {
     let tried = try_all(&rt, rt.alloc(), 1, 8, true);
-    assert!(&rt; tried == Tried { runs: 630, images: 24920 });
+    assert!(&rt; tried == Tried { runs: 630, images: 28040 });
 }
 
 #[test]
 fn another_message(rt: HostRuntime) {
     let tried = try_all(&rt, rt.alloc(), 2, 6, false);
-    assert!(&rt; tried == Tried { runs: 490, images: 24920 });
+    assert!(&rt; tried == Tried { runs: 490, images: 15960 });
 }
 
 #[test]
 fn another_message_and_both_reopened(rt: HostRuntime) {
     let tried = try_all(&rt, rt.alloc(), 2, 6, true);
-    assert!(&rt; tried == Tried { runs: 490, images: 24920 });
+    assert!(&rt; tried == Tried { runs: 490, images: 19080 });
 }

@@ -1,5 +1,4 @@
-use Rattle.std.proofs.Common.{◌≡◌, Err, sym, ap, subst, ◌∙◌}
-use Rattle.crossing_tests.specs.Standing.{Stands}
+use Rattle.std.proofs.Common.{Err, sym, ap, ◌∙◌}
 use Rattle.crossing_tests.proofs.Moved.{not_synced, stands_still}
 use Rattle.crossing_tests.proofs.calls.gate.Goals as goal
 

@@ -1,4 +1,4 @@
-use Rattle.std.proofs.Common.{◌≡◌, Err, sym, ap, ◌∙◌}
+use Rattle.std.proofs.Common.{Err, sym, ap, ◌∙◌}
 use Rattle.crossing_tests.proofs.Moved.{not_bodied, stands_still}
 use Rattle.crossing_tests.proofs.calls.sync.Goals as goal
 

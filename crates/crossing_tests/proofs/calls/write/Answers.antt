@@ -1,11 +1,10 @@
-use Rattle.std.proofs.Common.{◌≡◌, None, Some, false, Err, ℕ, ◌+◌, ◌≤◌, List, [], ◌++◌, length, sym, ap, subst, ◌∙◌, arith}
+use Rattle.std.proofs.Common.{◌≡◌, None, Some, false, ◌+◌, List, [], ◌++◌, sym, ap, subst, ◌∙◌, arith}
 use Rattle.std.proofs.lemmas.List.{length-map}
 use Rattle.dura_value.specs.Items.{Entry}
 use Rattle.log_items.specs.Plain.{entry_of, entries_of}
 use Rattle.commit_gate.specs.Ledgers.{log_length, after_frame}
 use Rattle.commit_gate.specs.Views.{all_sent}
 use Rattle.gated_store.specs.Follows.{GoesOnThere}
-use Rattle.hub_store.specs.Changes.{trail_in}
 use Rattle.hub_store.specs.Frames.{GoesBehind, goes_on}
 use Rattle.hub_store.specs.Origin.{Log}
 use Rattle.hub_store.specs.Trail.{of_part}
