@@ -74,8 +74,8 @@ module _ {V L : Type 0} {G : sites.Ghosts V} {K : starts.Ghosts (gated_types.Gat
     whole = keeps.logs.whole ∙ was.whole;
     floors = λ p. ap (λ (f : ℕ → List Floor). f p) keeps.floors ∙ was.floors p;
     each = λ p place is. elim (cases_eq p part) [
-        | inl same ↦ own old new p place (subst (λ (x : ℕ). stage_at old.logs x ≢ stages.Resting) (sym same) goes) trail (was.each p place is)
-        | inr apart ↦ stays old new p place (keeps.logs.others p apart) (ap (of_part p) trail) (was.each p place is)
+      | inl same ↦ own old new p place (subst (λ (x : ℕ). stage_at old.logs x ≢ stages.Resting) (sym same) goes) trail (was.each p place is)
+      | inr apart ↦ stays old new p place (keeps.logs.others p apart) (ap (of_part p) trail) (was.each p place is)
     ];
   }
 
@@ -87,8 +87,8 @@ module _ {V L : Type 0} {G : sites.Ghosts V} {K : starts.Ghosts (gated_types.Gat
     whole = keeps.logs.whole ∙ was.whole;
     floors = λ p. ap (λ (f : ℕ → List Floor). f p) keeps.floors ∙ was.floors p;
     each = λ p place is. elim (cases_eq p part) [
-        | inl same ↦ subst (λ (x : ℕ). IsThere new x place) (sym same)
-            (subst (λ (x : Option Bool). IsThere new part x) (sym (put_same places part moved place (subst (λ (x : ℕ). slice_get (slice_set places part moved) x ≡ Some place) same is))) there)
-        | inr apart ↦ stays old new p place (keeps.logs.others p apart) (others p apart) (was.each p place (sym (put_other places part p moved apart) ∙ is))
+      | inl same ↦ subst (λ (x : ℕ). IsThere new x place) (sym same)
+          (subst (λ (x : Option Bool). IsThere new part x) (sym (put_same places part moved place (subst (λ (x : ℕ). slice_get (slice_set places part moved) x ≡ Some place) same is))) there)
+      | inr apart ↦ stays old new p place (keeps.logs.others p apart) (others p apart) (was.each p place (sym (put_other places part p moved apart) ∙ is))
     ];
   }

@@ -75,13 +75,7 @@ fn check_end(rt: &impl Abort, alloc: Global, site: &mut MemorySite, reader: LogR
 }
 
 /// Whether a log holds its partition's frame. If not, it holds none.
-fn holds(
-    rt: &impl Abort,
-    alloc: Global,
-    site: &mut MemorySite,
-    part: u32,
-    wanted: &Message,
-) -> bool
+fn holds(rt: &impl Abort, alloc: Global, site: &mut MemorySite, part: u32, wanted: &Message) -> bool
     requires { part < 2 }
 {
     let reader = open_log(site, file_of(part), part).expect(rt, "a log");

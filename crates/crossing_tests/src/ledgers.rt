@@ -50,9 +50,7 @@ fn empty(alloc: Global) -> Result<Ledger, AllocError>
     let nexts = nothing(alloc)?;
     let readers = nobodies(alloc)?;
     let boxes = no_streams(alloc)?;
-    Ok(Ledger::recovered(
-        alloc, past, floors, nexts, readers, boxes,
-    ))
+    Ok(Ledger::recovered(alloc, past, floors, nexts, readers, boxes))
 }
 
 /// What others see of both of them.

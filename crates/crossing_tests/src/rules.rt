@@ -2,8 +2,8 @@
 //!
 //! A frame is written, made safe, its gate is opened, and that is made safe: each is one device call, and a moment. The gate of partition 1's
 //! frame opens only where partition 0's is settled, and only where the frame takes in what that sent. A write that fails stands, and a
-//! sync that fails does nothing. A frame whose gate was never tried is dropped then, by a sync, and one whose gate was tried is
-//! settled: its log is made safe, and the gate reads open.
+//! sync that fails does nothing. Where a log is opened again, a frame whose gate was never tried is dropped, by a sync, and one whose gate
+//! was tried is settled: the log is made safe, and the gate reads open.
 
 use crate::calls::{Call, Told};
 use crate::orders::Order;
@@ -50,6 +50,19 @@ pub(crate) struct Made {
     pub(crate) told: Told,
 }
 
+/// What is done where a call failed.
+#[derive(Clone, Copy, PartialEq, Eq)]
+pub(crate) enum Behind {
+    /// Nothing: the run is over.
+    Nothing,
+    /// The log of the call's frame is opened again.
+    Own,
+    /// And then the other log.
+    Both,
+    /// The other log, and then that of the call's frame.
+    OtherFirst,
+}
+
 /// What a run does.
 #[derive(Clone, Copy)]
 pub(crate) struct Plan {
@@ -59,8 +72,8 @@ pub(crate) struct Plan {
     pub(crate) number: u32,
     /// The device call that fails, counted from 0, if one does.
     pub(crate) fails: u64,
-    /// Whether both logs are opened again where a call failed, or only that of its frame.
-    pub(crate) both: bool,
+    /// What is done then.
+    pub(crate) behind: Behind,
 }
 
 /// A run by the rules.
@@ -69,6 +82,8 @@ pub(crate) struct Run {
     plan: Plan,
     /// How many device calls there were.
     calls: u64,
+    /// Whether it is over before its end.
+    over: bool,
     /// The moment.
     pub(crate) moment: u64,
     /// The frames of the partitions.
@@ -93,6 +108,7 @@ impl Run {
         Run {
             plan,
             calls: 0,
+            over: false,
             moment: BEGIN,
             first: NO_FRAME,
             second: NO_FRAME,
@@ -239,14 +255,29 @@ impl Run {
         told
     }
 
-    /// A call more. Where it fails, its log is opened again, or both are.
+    /// Goes on behind a call that failed.
+    fn go_behind(&mut self, rt: &impl Abort, part: u32) {
+        match self.plan.behind {
+            Behind::Nothing => self.over = true,
+            Behind::Own => {
+                self.make(rt, part, Call::Reopen);
+            }
+            Behind::Both => {
+                self.make(rt, part, Call::Reopen);
+                self.make(rt, other(part), Call::Reopen);
+            }
+            Behind::OtherFirst => {
+                self.make(rt, other(part), Call::Reopen);
+                self.make(rt, part, Call::Reopen);
+            }
+        }
+    }
+
+    /// A call more, and what is done behind it where it fails.
     fn go(&mut self, rt: &impl Abort, part: u32, call: Call) -> Told {
         let told = self.make(rt, part, call);
         if told == Told::Fault {
-            self.make(rt, part, Call::Reopen);
-            if self.plan.both {
-                self.make(rt, other(part), Call::Reopen);
-            }
+            self.go_behind(rt, part);
         }
         told
     }
@@ -255,21 +286,34 @@ impl Run {
     fn go_in_order(&mut self, rt: &impl Abort) {
         let mut counts = (0, 0);
         for part in self.plan.order {
+            if self.over {
+                return;
+            }
             let (next, behind) = next_call(counts, part);
             counts = behind;
             self.go(rt, part, next);
         }
     }
 
-    /// Goes on with the frame of a partition until it is settled, or its gate stays closed.
+    /// What is left to do of the frame of a partition.
+    fn left(&self, part: u32) -> Option<Call> {
+        match self.frame(part).stage {
+            Stage::None => Some(Call::Write),
+            Stage::Written => Some(Call::Sync),
+            Stage::Safe => Some(Call::Gate),
+            Stage::Open => Some(Call::Settle),
+            Stage::BadBody | Stage::BadGate | Stage::Settled => None,
+        }
+    }
+
+    /// Goes on with it until it is settled, or its gate stays closed.
     fn finish(&mut self, rt: &impl Abort, part: u32) {
         for _ in 0..9 {
-            let call = match self.frame(part).stage {
-                Stage::None => Call::Write,
-                Stage::Written => Call::Sync,
-                Stage::Safe => Call::Gate,
-                Stage::Open => Call::Settle,
-                Stage::BadBody | Stage::BadGate | Stage::Settled => return,
+            if self.over {
+                return;
+            }
+            let Some(call) = self.left(part) else {
+                return;
             };
             if self.go(rt, part, call) == Told::Differs {
                 return;
