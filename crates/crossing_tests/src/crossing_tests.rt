@@ -4,7 +4,7 @@ use crate::frames::message;
 use crate::images::{Messages, check_images, is_its};
 use crate::orders::{Order, orders};
 use crate::play::play;
-use crate::rules::{Behind, Plan, Run, run_by};
+use crate::rules::{Behind, Plan, Run, check, run_by};
 use hub_store::{Ended, Settled};
 use site_model::Site;
 use std::alloc::Global;
@@ -57,13 +57,13 @@ fn is_trail(trail: &[Settled], run: &Run, messages: &Messages) -> bool {
 /// Makes a run, and checks what it settles, and what crashes leave of it.
 fn try_run(rt: &impl Abort, alloc: Global, plan: Plan) -> Tried {
     let run = run_by(rt, alloc, plan);
-    let Ended { site, trail } = play(rt, alloc, run.made.as_slice(), plan.number, plan.fails);
+    let Ended { site, trail } = play(rt, alloc, plan, run.made.as_slice());
     let messages = Messages {
         first: message(alloc, 1).expect(rt, "memory"),
         second: message(alloc, plan.number).expect(rt, "memory"),
     };
-    assert!(rt; is_trail(trail.as_slice(), &run, &messages));
-    assert!(rt; site.moment() == run.moment);
+    check(rt, plan, is_trail(trail.as_slice(), &run, &messages));
+    check(rt, plan, site.moment() == run.moment);
     let images = check_images(rt, alloc, &site, &run, &messages);
     Tried { runs: 1, images }
 }
@@ -102,7 +102,14 @@ fn try_all(rt: &impl Abort, alloc: Global, number: u32, calls: u64, behind: Behi
 }
 
 /// So many runs of each order have so many moments in all orders, with four images each.
-fn check(rt: &impl Abort, alloc: Global, number: u32, calls: u64, behind: Behind, moments: u64) {
+fn check_all(
+    rt: &impl Abort,
+    alloc: Global,
+    number: u32,
+    calls: u64,
+    behind: Behind,
+    moments: u64,
+) {
     let tried = try_all(rt, alloc, number, calls, behind);
     let runs = calls.saturating_add(1).saturating_mul(70);
     let images = moments.saturating_mul(4);
@@ -119,20 +126,20 @@ const DROPPED_TOO: u64 = 2 * 96 + 3 * 196;
 #[test]
 fn what_was_sent(rt: HostRuntime) {
     let alloc = rt.alloc();
-    check(&rt, alloc, 1, 8, Behind::Nothing, 70 * (9 + 36 + 4));
-    check(&rt, alloc, 1, 8, Behind::Own, 70 * (9 + 4 * 11 + 4 * 9));
+    check_all(&rt, alloc, 1, 8, Behind::Nothing, 70 * (9 + 36 + 4));
+    check_all(&rt, alloc, 1, 8, Behind::Own, 70 * (9 + 4 * 11 + 4 * 9));
     let both = 70 * (9 + 4 * 11 + 4 * 9) + DROPPED_TOO;
-    check(&rt, alloc, 1, 8, Behind::Both, both);
-    check(&rt, alloc, 1, 8, Behind::OtherFirst, both);
+    check_all(&rt, alloc, 1, 8, Behind::Both, both);
+    check_all(&rt, alloc, 1, 8, Behind::OtherFirst, both);
 }
 
 /// Partition 1's frame takes in another message than was sent, and comes to its gate by two device calls and no further.
 #[test]
 fn another_message(rt: HostRuntime) {
     let alloc = rt.alloc();
-    check(&rt, alloc, 2, 6, Behind::Nothing, 70 * (7 + 21 + 3));
-    check(&rt, alloc, 2, 6, Behind::Own, 70 * (7 + 4 * 9 + 2 * 7));
+    check_all(&rt, alloc, 2, 6, Behind::Nothing, 70 * (7 + 21 + 3));
+    check_all(&rt, alloc, 2, 6, Behind::Own, 70 * (7 + 4 * 9 + 2 * 7));
     let both = 70 * (7 + 4 * 9 + 2 * 7) + DROPPED_TOO;
-    check(&rt, alloc, 2, 6, Behind::Both, both);
-    check(&rt, alloc, 2, 6, Behind::OtherFirst, both);
+    check_all(&rt, alloc, 2, 6, Behind::Both, both);
+    check_all(&rt, alloc, 2, 6, Behind::OtherFirst, both);
 }

@@ -3,7 +3,7 @@
 ghost use Rattle.std.specs.Prelude.{◌<◌};
 
 use crate::calls::{file_of, header_of};
-use crate::rules::{BEGIN, Frame, Run};
+use crate::rules::{BEGIN, Frame, Run, check};
 use commit_log::{LogReader, Next, open_log};
 use dura_value::Message;
 use log_items::{Entry, Item};
@@ -145,12 +145,9 @@ fn check_moment(
     messages: &Messages,
 ) {
     let (first, second) = left_at(rt, alloc, site, moment, messages);
-    assert!(rt;
-        first == left_by(run.first, moment)
-            && second == left_by(run.second, moment)
-            && is_founded(first, second),
-        "at moment {moment}"
-    );
+    check(rt, run.plan, first == left_by(run.first, moment));
+    check(rt, run.plan, second == left_by(run.second, moment));
+    check(rt, run.plan, is_founded(first, second));
 }
 
 /// Checks what a crash leaves at each moment of a run, and says how many images that are.

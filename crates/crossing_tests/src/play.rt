@@ -11,7 +11,7 @@ ghost use Rattle.crossing_tests.specs.Standing.{Stands};
 
 use crate::calls::{Place, Two, begun, file_of, header_of, make};
 use crate::case::Named;
-use crate::rules::Made;
+use crate::rules::{Made, Plan, check};
 use commit_log::Resting;
 use hub_store::Ended;
 use site_memory::{Kind, MemorySite};
@@ -24,8 +24,8 @@ fn make_all<M: Named>(
     rt: &impl Abort,
     alloc: Global,
     store: &mut Two<M>,
+    plan: Plan,
     calls: &[Made],
-    number: u32,
 )
     requires { Stands store.old (None ∷ None ∷ []) }
     ensures { (places : List (Option Bool)) × Stands store.new places }
@@ -34,8 +34,8 @@ fn make_all<M: Named>(
     for made in calls {
         let Made { part, call, told } = *made;
         assert!(rt; part < 2);
-        let found = make(rt, alloc, store, &mut places, part, call, number);
-        assert!(rt; found == told, "not so");
+        let found = make(rt, alloc, store, &mut places, part, call, plan.number);
+        check(rt, plan, found == told);
     }
 }
 
@@ -46,13 +46,13 @@ fn play_named<M: Named, A: Abort>(
     site: MemorySite,
     first: Resting,
     second: Resting,
+    plan: Plan,
     calls: &[Made],
-    number: u32,
 ) -> Ended<MemorySite>
     requires { HasBegun (origin_with M.steps) (memory_history site) (first ∷ second ∷ []) }
 {
     let mut store: Two<M> = begun(rt, alloc, site, first, second);
-    make_all(rt, alloc, &mut store, calls, number);
+    make_all(rt, alloc, &mut store, plan, calls);
     store.end()
 }
 
@@ -70,19 +70,18 @@ fn formatted(rt: &impl Abort, site: &mut MemorySite, part: u32) -> Resting
 /// How many device calls both segments take.
 const FORMATTING: u64 = 14;
 
-/// Makes these calls on a new site, the device call with this number failing.
+/// Makes a run's calls on a new site, whose device call fails that is to fail.
 pub(crate) fn play(
     rt: &impl Abort,
     alloc: Global,
+    plan: Plan,
     calls: &[Made],
-    number: u32,
-    fails: u64,
 ) -> Ended<MemorySite> {
-    let fails = vec![in alloc; (Kind::Device, fails.saturating_add(FORMATTING))];
+    let fails = vec![in alloc; (Kind::Device, plan.fails.saturating_add(FORMATTING))];
     let fails = fails.expect(rt, "memory");
     let mut site = MemorySite::new(alloc, 1000, 40, fails).expect(rt, "memory");
     let first = formatted(rt, &mut site, 0);
     let second = formatted(rt, &mut site, 1);
     assert!(rt; site.calls(Kind::Device) == FORMATTING);
-    play_named::<Brand, _>(rt, alloc, site, first, second, calls, number)
+    play_named::<Brand, _>(rt, alloc, site, first, second, plan, calls)
 }

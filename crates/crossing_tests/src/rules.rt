@@ -76,10 +76,25 @@ pub(crate) struct Plan {
     pub(crate) behind: Behind,
 }
 
+/// This is so in a run. All checks of a run come here, and tell which it is.
+pub(crate) fn check(rt: &impl Abort, plan: Plan, holds: bool) {
+    let Plan {
+        order: [a, b, c, d, e, f, g, h],
+        number,
+        fails,
+        behind: _,
+    } = plan;
+    assert!(rt;
+        holds,
+        "order {a}{b}{c}{d}{e}{f}{g}{h}, request {number}, fault at {fails}"
+    );
+}
+
 /// A run by the rules.
 #[derive(Drop)]
 pub(crate) struct Run {
-    plan: Plan,
+    /// What it does.
+    pub(crate) plan: Plan,
     /// How many device calls there were.
     calls: u64,
     /// Whether it is over before its end.
