@@ -1,0 +1,17 @@
+use Rattle.std.proofs.Common.{Err, sym, ap, ◌∙◌}
+use Rattle.crossing_tests.proofs.Moved.{not_bodied, stands_still}
+use Rattle.crossing_tests.proofs.calls.sync.Goals as goal
+
+-- a frame that rests would have been refused
+pub returns-in-Ok : goal.returns-in-Ok
+returns-in-Ok g c =
+    let e = c.in-Ok.ensures in
+    stands_still c.args.store.now c.sync_body.new.self _ c.args.part c.requires.stands e.kept e.keeps
+    (λ rests. let refused = c.sync_body.ensures.no_frame.1 (λ is. not_bodied (sym rests ∙ is)) in absurd (let e : ⊥ = cc (refused, c.in-Ok.is) in e)) e.trail
+
+pub returns-in-Err-SiteFault : goal.returns-in-Err-SiteFault
+returns-in-Err-SiteFault g c =
+    let e = c.in-Err-SiteFault.ensures in
+    let is = c.in-Err-SiteFault.is ∙ ap Err c.in-Err-SiteFault.field-0-is in
+    stands_still c.args.store.now c.sync_body.new.self _ c.args.part c.requires.stands e.kept e.keeps
+    (λ rests. let refused = c.sync_body.ensures.no_frame.1 (λ is. not_bodied (sym rests ∙ is)) in absurd (let e : ⊥ = cc (refused, is) in e)) e.trail
