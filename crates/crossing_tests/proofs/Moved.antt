@@ -9,8 +9,10 @@ use Rattle.gated_store.specs.declared.store.GatedStore.{GatedStore}
 use Rattle.gated_store.specs.Following.{others_after}
 use Rattle.gated_store.specs.Keeps.{KeepsGate}
 use Rattle.gated_store.specs.Kept.{IsKept}
-use Rattle.hub_store.specs.Changes.{stage_at, trail_in, Settles}
+use Rattle.commit_gate.specs.Views.{floors_of}
+use Rattle.hub_store.specs.Changes.{stage_at, trail_in, Settles, KeepsAll}
 use Rattle.hub_store.specs.Trail.{Settled, of_part}
+use Rattle.hub_store.specs.Waiting.{stage_behind}
 use Rattle.hub_store.specs.Ways.{stage_of, way_of}
 use Rattle.hub_store.specs.declared.start.Start as starts
 use Rattle.hub_store.specs.declared.way.Stage.TheVariants as stages
@@ -36,9 +38,6 @@ not_bodied same = cc
 
 pub not_synced : stages.Resting ≢ stages.Synced
 not_synced same = cc
-
-pub not_gated : stages.Resting ≢ stages.Gated
-not_gated same = cc
 
 -- what is settled of others
 pub others_settled : (tells : Type 0) (moment part : ℕ) (going : Option (List Entry)) (old new : List Settled) → Settles tells moment part going old new → (q : ℕ) → q ≢ part → of_part q new ≡ of_part q old
@@ -92,3 +91,22 @@ module _ {V L : Type 0} {G : sites.Ghosts V} {K : starts.Ghosts (gated_types.Gat
       | inr apart ↦ stays old new p place (keeps.logs.others p apart) (others p apart) (was.each p place (sym (put_other places part p moved apart) ∙ is))
     ];
   }
+
+  -- all files were made safe, or that failed, and nothing was settled
+  pub stands_behind : (old new : GatedStore V L G K) (places : List (Option Bool)) (safe : Bool) → Stands old places → IsKept 2 ledgers readers may_make new → KeepsAll old.logs new.logs → new.ledgers ≡ old.ledgers
+      → ((part : ℕ) → stage_at new.logs part ≡ stage_behind safe (stage_at old.logs part)) → trail_in new.logs ≡ trail_in old.logs → Stands new places
+  stands_behind old new places safe was kept keeps same behind trail = record {
+    kept = kept;
+    whole = keeps.whole ∙ was.whole;
+    floors = λ p. ap (λ (v : _). floors_of v.items p) same ∙ was.floors p;
+    each = λ p place is. still p place (was.each p place is);
+  }
+    where
+      rests_still : (b : Bool) → stage_behind b stages.Resting ≡ stages.Resting
+      rests_still true = refl
+      rests_still false = refl
+
+      still : (p : ℕ) (place : Option Bool) → IsThere old p place → IsThere new p place
+      still p None here = (behind p ∙ ap (stage_behind safe) here.0 ∙ rests_still safe, ap (of_part p) trail ∙ here.1)
+      still p (Some false) here = ap (of_part p) trail ∙ here
+      still p (Some true) here = here

@@ -15,7 +15,7 @@ use crate::ledgers::both;
 use commit_gate::{Sending, Unmet};
 use commit_log::{Header, Resting};
 use gated_store::{BodyRefused, GateRefusal, GatedStore};
-use hub_store::{Refusal, Reopening};
+use hub_store::{Refusal, Reopening, SyncRefusal};
 use log_items::Frame;
 use site_memory::MemorySite;
 use std::alloc::Global;
@@ -60,6 +60,8 @@ pub(crate) enum Call {
     Settle,
     /// Its log is opened again.
     Reopen,
+    /// All that waits is made safe by one call, whichever partition's it is.
+    SyncAll,
 }
 
 /// What a call gives.
@@ -139,6 +141,20 @@ fn sync<M: Named>(store: &mut Two<M>, places: &[Place; 2], part: u32) -> Told
         Ok(()) => Told::Done,
         Err(Refusal::NoFrame) => Told::NoFrame,
         Err(Refusal::SiteFault) => Told::Fault,
+    }
+}
+
+/// Makes all safe that waits.
+fn sync_all<M: Named>(alloc: Global, store: &mut Two<M>, places: &[Place; 2]) -> Told
+    requires stands { Stands store.old places.now }
+    requires going { store.old.logs.halted ≡ false }
+    ensures { Stands store.new places.now }
+{
+    match store.sync_all(alloc) {
+        Ok(()) => Told::Done,
+        Err(SyncRefusal::NoFrame) => Told::NoFrame,
+        Err(SyncRefusal::Memory) => Told::Other,
+        Err(SyncRefusal::SiteFault) => Told::Fault,
     }
 }
 
@@ -267,6 +283,7 @@ pub(crate) fn make<M: Named>(
         Call::Sync => sync(store, places, part),
         Call::Gate => gate(store, places, part),
         Call::Settle => settle(store, places, part),
+        Call::SyncAll => sync_all(alloc, store, places),
         Call::Reopen => Told::Other,
     }
 }

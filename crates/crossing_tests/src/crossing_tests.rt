@@ -76,6 +76,7 @@ fn try_order(
     number: u32,
     calls: u64,
     behind: Behind,
+    together: bool,
 ) -> Tried {
     let mut tried = NOTHING;
     for fails in 0..=calls {
@@ -84,6 +85,7 @@ fn try_order(
             number,
             fails,
             behind,
+            together,
         };
         tried = sum(tried, try_run(rt, alloc, plan));
     }
@@ -91,12 +93,22 @@ fn try_order(
 }
 
 /// Makes the runs in each order.
-fn try_all(rt: &impl Abort, alloc: Global, number: u32, calls: u64, behind: Behind) -> Tried {
+fn try_all(
+    rt: &impl Abort,
+    alloc: Global,
+    number: u32,
+    calls: u64,
+    behind: Behind,
+    together: bool,
+) -> Tried {
     let orders = orders(rt, alloc);
     assert!(rt; orders.len() == 70);
     let mut tried = NOTHING;
     for order in &orders {
-        tried = sum(tried, try_order(rt, alloc, *order, number, calls, behind));
+        tried = sum(
+            tried,
+            try_order(rt, alloc, *order, number, calls, behind, together),
+        );
     }
     tried
 }
@@ -110,7 +122,7 @@ fn check_all(
     behind: Behind,
     moments: u64,
 ) {
-    let tried = try_all(rt, alloc, number, calls, behind);
+    let tried = try_all(rt, alloc, number, calls, behind, false);
     let runs = calls.saturating_add(1).saturating_mul(70);
     let images = moments.saturating_mul(4);
     assert!(rt; tried == Tried { runs, images });
@@ -142,4 +154,24 @@ fn another_message(rt: HostRuntime) {
     let both = 70 * (7 + 4 * 9 + 2 * 7) + DROPPED_TOO;
     check_all(&rt, alloc, 2, 6, Behind::Both, both);
     check_all(&rt, alloc, 2, 6, Behind::OtherFirst, both);
+}
+
+/// All runs of which each sync is one of all files that wait for it. Where nothing is done behind a fault there are as many moments as
+/// with one file after the other: a frame's body and its gate are each synced once.
+fn check_together(rt: &impl Abort, alloc: Global, number: u32, calls: u64, moments: u64) {
+    let runs = calls.saturating_add(1).saturating_mul(70);
+    let tried = try_all(rt, alloc, number, calls, Behind::Nothing, true);
+    let images = moments.saturating_mul(4);
+    assert!(rt; tried == Tried { runs, images });
+    for behind in [Behind::Both, Behind::OtherFirst] {
+        let tried = try_all(rt, alloc, number, calls, behind, true);
+        assert!(rt; tried.runs == runs && tried.images > images);
+    }
+}
+
+#[test]
+fn made_safe_together(rt: HostRuntime) {
+    let alloc = rt.alloc();
+    check_together(&rt, alloc, 1, 8, 70 * (9 + 36 + 4));
+    check_together(&rt, alloc, 2, 6, 70 * (7 + 21 + 3));
 }

@@ -118,10 +118,10 @@ fn is_by(at: Option<u64>, moment: u64) -> bool {
     }
 }
 
-/// What a crash at a moment leaves of a frame by the rules: all of it once it is settled. Before, nothing but where its gate was written:
-/// then it is there where that write is, and where it is torn to an open gate.
+/// What a crash at a moment leaves of a frame by the rules: all of it once its open gate is safe. Before, nothing but where its gate was
+/// written: then it is there where that write is, and where it is torn to an open gate.
 fn left_by(frame: Frame, moment: u64) -> Left {
-    if is_by(frame.settled, moment) {
+    if is_by(frame.safe, moment) {
         [true; 4]
     } else if is_by(frame.gated, moment) {
         [false, true, false, true]

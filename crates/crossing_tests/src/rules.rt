@@ -4,6 +4,10 @@
 //! frame opens only where partition 0's is settled, and only where the frame takes in what that sent. A write that fails stands, and a
 //! sync that fails does nothing. Where a log is opened again, a frame whose gate was never tried is dropped, by a sync, and one whose gate
 //! was tried is settled: the log is made safe, and the gate reads open.
+//!
+//! Where files are made safe together, one call takes the place of each sync: it syncs the file of each frame that waits for that, in the
+//! partitions' order, a device call and a moment each. A frame whose open gate is safe is then settled without a device call. Where one
+//! of the syncs fails, all that waited failed, also what was synced before it.
 
 use crate::calls::{Call, Told};
 use crate::orders::Order;
@@ -21,6 +25,8 @@ enum Stage {
     Safe,
     /// Its gate is open.
     Open,
+    /// And that is safe, together with other files.
+    OpenSafe,
     /// It is settled.
     Settled,
     /// A call before its gate failed.
@@ -35,6 +41,8 @@ pub(crate) struct Frame {
     stage: Stage,
     /// The moment at which its gate was first written open, if it was.
     pub(crate) gated: Option<u64>,
+    /// The moment at which the open gate was made safe, if it was.
+    pub(crate) safe: Option<u64>,
     /// The moment at which it was settled, if it is.
     pub(crate) settled: Option<u64>,
 }
@@ -74,6 +82,8 @@ pub(crate) struct Plan {
     pub(crate) fails: u64,
     /// What is done then.
     pub(crate) behind: Behind,
+    /// Whether files are made safe together.
+    pub(crate) together: bool,
 }
 
 /// This is so in a run. All checks of a run come here, and tell which it is.
@@ -83,10 +93,11 @@ pub(crate) fn check(rt: &impl Abort, plan: Plan, holds: bool) {
         number,
         fails,
         behind: _,
+        together,
     } = plan;
     assert!(rt;
         holds,
-        "order {a}{b}{c}{d}{e}{f}{g}{h}, request {number}, fault at {fails}"
+        "order {a}{b}{c}{d}{e}{f}{g}{h}, request {number}, fault at {fails}, together {together}"
     );
 }
 
@@ -111,6 +122,7 @@ pub(crate) struct Run {
 const NO_FRAME: Frame = Frame {
     stage: Stage::None,
     gated: None,
+    safe: None,
     settled: None,
 };
 
@@ -218,13 +230,25 @@ impl Run {
 
     /// It is settled, by a sync.
     fn settles(&mut self, part: u32) {
+        let now = self.step();
+        self.settled_at(part, now);
+    }
+
+    fn settled_at(&mut self, part: u32, now: u64) {
         let mut frame = self.frame(part);
-        frame.settled = Some(self.step());
+        if frame.safe.is_none() {
+            frame.safe = Some(now);
+        }
+        frame.settled = Some(now);
         frame.stage = Stage::Settled;
         self.put(part, frame);
     }
 
     fn settle(&mut self, part: u32) -> Told {
+        if self.frame(part).stage == Stage::OpenSafe {
+            self.settled_at(part, self.moment);
+            return Told::Done;
+        }
         if self.frame(part).stage != Stage::Open {
             return Told::NoFrame;
         }
@@ -236,11 +260,54 @@ impl Run {
         Told::Done
     }
 
+    /// Whether a frame waits for a sync.
+    fn waits(&self, part: u32) -> bool {
+        matches!(self.frame(part).stage, Stage::Written | Stage::Open)
+    }
+
+    /// The file of a frame is synced, if it waits for that, or the sync fails.
+    fn sync_one(&mut self, part: u32) -> bool {
+        if !self.waits(part) {
+            return true;
+        }
+        if self.fails() {
+            return false;
+        }
+        let mut frame = self.frame(part);
+        let now = self.step();
+        if frame.stage == Stage::Open {
+            frame.safe = Some(now);
+        }
+        self.put(part, frame);
+        true
+    }
+
+    /// A frame behind the call that made all safe, or failed.
+    fn lead_on(&mut self, part: u32, went: bool) {
+        match self.frame(part).stage {
+            Stage::Written if went => self.put_stage(part, Stage::Safe),
+            Stage::Written => self.put_stage(part, Stage::BadBody),
+            Stage::Open if went => self.put_stage(part, Stage::OpenSafe),
+            Stage::Open => self.put_stage(part, Stage::BadGate),
+            _ => {}
+        }
+    }
+
+    fn sync_all(&mut self) -> Told {
+        if !self.waits(0) && !self.waits(1) {
+            return Told::NoFrame;
+        }
+        let went = self.sync_one(0) && self.sync_one(1);
+        self.lead_on(0, went);
+        self.lead_on(1, went);
+        if went { Told::Done } else { Told::Fault }
+    }
+
     /// At most one call fails, and it comes before.
     fn reopen(&mut self, part: u32) -> Told {
         match self.frame(part).stage {
             Stage::None | Stage::Settled => Told::NoFrame,
-            Stage::Open | Stage::BadGate => {
+            Stage::Open | Stage::OpenSafe | Stage::BadGate => {
                 self.settles(part);
                 Told::Settled
             }
@@ -259,6 +326,7 @@ impl Run {
             Call::Gate => self.gate(part),
             Call::Settle => self.settle(part),
             Call::Reopen => self.reopen(part),
+            Call::SyncAll => self.sync_all(),
         }
     }
 
@@ -297,6 +365,21 @@ impl Run {
         told
     }
 
+    /// Where files are made safe together, the call that does it takes the place of a sync, or comes before the frame is settled.
+    fn go_on(&mut self, rt: &impl Abort, part: u32, call: Call) -> Told {
+        let stage = self.frame(part).stage;
+        if self.plan.together && call == Call::Sync && stage == Stage::Written {
+            return self.go(rt, part, Call::SyncAll);
+        }
+        if self.plan.together && call == Call::Settle && stage == Stage::Open {
+            let told = self.go(rt, part, Call::SyncAll);
+            if told != Told::Done {
+                return told;
+            }
+        }
+        self.go(rt, part, call)
+    }
+
     /// The calls in their order.
     fn go_in_order(&mut self, rt: &impl Abort) {
         let mut counts = (0, 0);
@@ -306,7 +389,7 @@ impl Run {
             }
             let (next, behind) = next_call(counts, part);
             counts = behind;
-            self.go(rt, part, next);
+            self.go_on(rt, part, next);
         }
     }
 
@@ -316,7 +399,7 @@ impl Run {
             Stage::None => Some(Call::Write),
             Stage::Written => Some(Call::Sync),
             Stage::Safe => Some(Call::Gate),
-            Stage::Open => Some(Call::Settle),
+            Stage::Open | Stage::OpenSafe => Some(Call::Settle),
             Stage::BadBody | Stage::BadGate | Stage::Settled => None,
         }
     }
@@ -330,7 +413,7 @@ impl Run {
             let Some(call) = self.left(part) else {
                 return;
             };
-            if self.go(rt, part, call) == Told::Differs {
+            if self.go_on(rt, part, call) == Told::Differs {
                 return;
             }
         }

@@ -1,5 +1,6 @@
 use Rattle.std.proofs.Common.{Err, Some, true, sym, ap, ◌∙◌}
-use Rattle.crossing_tests.proofs.Moved.{not_gated, others_settled, stands_still, stands_moved}
+use Rattle.hub_store.specs.Ways.{is_open}
+use Rattle.crossing_tests.proofs.Moved.{others_settled, stands_still, stands_moved}
 use Rattle.crossing_tests.proofs.calls.settle.Goals as goal
 
 pub returns-in-Ok : goal.returns-in-Ok
@@ -13,4 +14,4 @@ returns-in-Err-SiteFault g c =
     let e = c.in-Err-SiteFault.ensures in
     let is = c.in-Err-SiteFault.is ∙ ap Err c.in-Err-SiteFault.field-0-is in
     stands_still c.args.store.now c.settle.new.self _ c.args.part c.requires.stands e.kept e.keeps
-    (λ rests. let refused = c.settle.ensures.no_frame.1 (λ is. not_gated (sym rests ∙ is)) in absurd (let e : ⊥ = cc (refused, is) in e)) e.no_trail
+    (λ rests. let refused = c.settle.ensures.no_frame.1 (ap is_open rests) in absurd (let e : ⊥ = cc (refused, is) in e)) e.no_trail
