@@ -117,6 +117,7 @@ returns-clause-prepared g c tells =
       entries = recovered.entries;
       keeps = record { kept = recovered.kept; made = recovered.placed };
       incarnation_is = recovered.incarnation;
+      past = recovered.past;
       opened = opened_from file.digest old now recovered.entries found.log log recovered.kept recovered.log rests
           (some_with found.log (λ l. (Ok log ≡ Ok l) × (now ≡ g.V.Site.history c.recover_logs.new.site)) (λ l. (log ≡ l) × (now ≡ both_synced old)) (λ l is. (ok_same log l is.0, is.1 ∙ synced)) c.in-Ok.ensures.there)
           (λ is. c.in-Ok.ensures.place is)
@@ -241,7 +242,7 @@ pub returns-clause-asks : goal.returns-clause-asks
 returns-clause-asks g c = λ tells. c.in_ok-file.ensures.reads (c.recover_logs.ensures.tells (c.open_log.ensures.tells tells))
 
 pub returns-clause-can : goal.returns-clause-can
-returns-clause-can g c = record { sound = c.in_ok-state.ensures.begins.sound; alone = c.in_ok-state.ensures.begins.alone; younger = c.in_ok-state.ensures.begins.younger; young = c.in_ok-state.ensures.begins.young }
+returns-clause-can g c = record { sound = c.in_ok-state.ensures.begins.sound; alone = c.in_ok-state.ensures.begins.alone; younger = c.in_ok-state.ensures.begins.younger; young = c.in_ok-state.ensures.begins.young; counted = c.in_ok-state.ensures.begins.counted }
 
 pub returns-clause-answers : goal.returns-clause-answers
 returns-clause-answers g c = λ tells. tt
