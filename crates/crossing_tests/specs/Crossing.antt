@@ -32,7 +32,7 @@ sender = record { partition = 0; incarnation = 0; position = 0 }
 abbrev pub first_with : Item → Entry
 first_with item = record { position = 0; incarnation = 0; items = item ∷ [] }
 
--- it takes the request, and sends that on
+-- partition 0's takes the request, and sends that on
 abbrev pub asking : Entry
 asking = first_with (took (message 1))
 

@@ -128,8 +128,8 @@ fn check_all(
     assert!(rt; tried == Tried { runs, images });
 }
 
-/// Where a frame is dropped too because the other's call failed, it was written for nothing, and is dropped by a sync: two moments, in 96
-/// runs. Where it was safe, these are three, in 196.
+/// Where a frame is dropped because the other's call failed, it was written for nothing, and is dropped by a sync: two moments, in 96 runs
+/// (56 where a call of partition 0 failed, 40 where one of partition 1). Where it was made safe too, these are three, in 196 (168 and 28).
 const DROPPED_TOO: u64 = 2 * 96 + 3 * 196;
 
 /// Of an order's eight device calls each is a moment, behind that of the beginning. A run that ends with a failing call has those before

@@ -1,9 +1,9 @@
 //! What the calls of a run come to, by the rules alone.
 //!
-//! A frame is written, made safe, its gate is opened, and that is made safe: each is one device call, and a moment. The gate of partition 1's
-//! frame opens only where partition 0's is settled, and only where the frame takes in what that sent. A write that fails stands, and a
-//! sync that fails does nothing. Where a log is opened again, a frame whose gate was never tried is dropped, by a sync, and one whose gate
-//! was tried is settled: the log is made safe, and the gate reads open.
+//! A frame is written, made safe, its gate is opened, and that is made safe: each is one device call, and a moment. The gate of
+//! partition 1's frame opens only where partition 0's is settled, and only where the frame takes in what that sent. A write that fails
+//! stands, and a sync that fails does nothing. Where a log is opened again, a frame whose gate was never tried is dropped, by a sync, and
+//! one whose gate was tried is settled: the log is made safe, and the gate reads open.
 //!
 //! Where files are made safe together, one call takes the place of each sync: it syncs the file of each frame that waits for that, in the
 //! partitions' order, a device call and a moment each. A frame whose open gate is safe is then settled without a device call. Where one
