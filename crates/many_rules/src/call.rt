@@ -1,16 +1,20 @@
 //! A call of many partitions over a store whose gate compares.
 
-ghost use Rattle.std.specs.Prelude.{◌≡◌, ◌≤◌, ℕ, List, length};
+ghost use Rattle.std.specs.Prelude.{◌≡◌, ◌≤◌, ◌<◌, ℕ, List, [], length};
+ghost use Rattle.commit_gate.specs.Ledgers.{log_length};
+ghost use Rattle.gated_store.specs.Causal.{Causal};
+ghost use Rattle.gated_store.specs.Follows.{ledgers_at};
 ghost use Rattle.gated_store.specs.Kept.{IsKept};
 ghost use Rattle.hub_store.specs.Changes.{trail_in};
 ghost use Rattle.hub_store.specs.Moments.{AtEveryMoment};
 ghost use Rattle.hub_store.specs.Origin.{Origin};
-ghost use Rattle.hub_store.specs.Trail.{settled_at};
+ghost use Rattle.hub_store.specs.Short.{IsShort};
+ghost use Rattle.hub_store.specs.Trail.{of_part, settled_at};
 ghost use Rattle.many_rules.specs.Leaves.{Begins, BeginsBehind, StandsOn};
 ghost use Rattle.many_rules.specs.Ledgers.{ledgers, readers};
 ghost use Rattle.many_rules.specs.Makes.{Makes};
 ghost use Rattle.many_rules.specs.Rules.{Rules, Follows, Answers};
-ghost use Rattle.site_model.specs.History.{IsImage, back_to};
+ghost use Rattle.site_model.specs.History.{IsImage, back_to, content_of};
 
 use gated_store::{GatedStore, Local};
 use hub_store::Ended;
@@ -62,11 +66,18 @@ impl<M: Picked> Local for ByRules<M> {
     ghost goes = { goes_on M.rules };
 }
 
-/// Ends a call: gives the site back, and what was settled. At each moment of it a crash left files that stand for a run.
+/// Ends a call: gives the site back, and what was settled. Each entry that was settled stands behind all that it depends on, whatever the
+/// site tells, and at each moment of the call a crash left files that stand for a run.
 pub fn end_call<V: Site, M: Picked>(store: GatedStore<V, ByRules<M>>) -> Ended<V>
     requires kept { IsKept M.origin.count (ledgers M.rules) (readers M.rules) (Makes M.rules) store }
     ensures site { result.site ≡ store.logs.site }
     ensures trail { result.trail ≡ trail_in store.logs }
+    ensures short { V.tells store.logs.site → (partition : ℕ) → partition < M.origin.count
+        → IsShort store.logs.segment (of_part partition (trail_in store.logs))
+        (content_of (M.origin.logs partition).file (V.history store.logs.site)) }
+    ensures causal { Causal (λ partition. ledgers M.rules partition [])
+        (λ trail partition. log_length (ledgers_at (ledgers M.rules) trail partition))
+        (trail_in store.logs) }
     ensures every { (digest : ℕ) → V.tells store.logs.site → Begins M.origin M.rules digest
         → BeginsBehind M.rules
         → AtEveryMoment (Follows M.rules store.logs.latest) (Answers M.rules) M.origin
