@@ -1,6 +1,7 @@
 -- What a run begins with.
-use Rattle.std.specs.Prelude.{◌≡◌, ℕ, ◌≤◌, ◌<◌, ◌^◌, List, map}
+use Rattle.std.specs.Prelude.{◌≡◌, ℕ, ◌≤◌, ◌<◌, ◌^◌, List, length, map}
 use Rattle.dura_value.specs.Items.{Entry}
+use Rattle.log_items.specs.Entries.{incarnations_in}
 use Rattle.engine_run.specs.Job.{Job, FilesKeep}
 use Rattle.engine_run.specs.Opened.{IsOpened}
 use Rattle.engine_run.specs.declared.prepared.Prepared.{Prepared}
@@ -16,18 +17,21 @@ use Rattle.site_model.specs.History.{Step}
 abbrev pub job_of : Prepared → Job
 job_of p = record { flows = flows_of p.flows; digest = p.digest; requests = map request_of p.requests.items }
 
--- An entry of the incarnation that begins may begin in the state of the one partition.
+-- An entry of the incarnation that begins may begin in the state of the one partition, whose entries were counted by their incarnations.
 pub record CanGoOn (p : Prepared) : Type 0 where
   pub sound : IsSound p.state
   pub alone : count_of p.state ≡ 1
   pub younger : (state_of p.state).incarnation ≤ p.incarnation
   pub young : p.incarnation < 2 ^ 62
+  pub counted : (state_of p.state).position ≡ length p.past
 
--- What the files held made the state; the incarnation that begins is one later than the last; and the log is opened.
+-- What the files held made the state; it is of entries of these incarnations; the one that begins is one later than the last; and the log
+-- is opened.
 pub record IsPrepared (files : ℕ → List ℕ) (steps : List Step) (p : Prepared) : Type 0 where
   pub entries : List Entry
   pub keeps : FilesKeep (job_of p) files entries (state_of p.state)
   pub incarnation_is : p.incarnation ≡ next_incarnation entries
+  pub past : p.past ≡ incarnations_in entries
   pub opened : IsOpened p.digest entries steps p.log
 
 -- why a run may end before it goes on

@@ -13,6 +13,7 @@ ghost use Rattle.site_model.specs.History.{content_of};
 
 use crate::kept::refuse_clash;
 use crate::opening::{open_log, recover_logs};
+use commit_gate::Past;
 use commit_log::Resting;
 use dura_value::Request;
 use flow_syntax::Flows;
@@ -38,6 +39,8 @@ pub(crate) struct Prepared {
     pub log: Resting,
     /// The incarnation that begins.
     pub incarnation: u64,
+    /// The incarnation of each entry of the log.
+    pub past: Past,
 }
 
 /// Reads what is asked for, recovers what the logs keep, and opens the log, in this order. Where another request was taken
@@ -70,6 +73,7 @@ pub(crate) fn prepare<V: Site>(alloc: Global, site: &mut V) -> Result<Prepared, 
         state,
         log,
         incarnation,
+        past,
     } = recover_logs(alloc, site, &flows, digest)?;
     if let Err(cause) = refuse_clash(&state, &requests) {
         state.let_go();
@@ -89,5 +93,6 @@ pub(crate) fn prepare<V: Site>(alloc: Global, site: &mut V) -> Result<Prepared, 
         state,
         log,
         incarnation,
+        past,
     })
 }

@@ -117,6 +117,7 @@ returns-clause-prepared g c tells =
       entries = recovered.entries;
       keeps = record { kept = recovered.kept; made = recovered.placed };
       incarnation_is = recovered.incarnation;
+      past = recovered.past;
       opened = opened_from file.digest old now recovered.entries found.log log recovered.kept recovered.log rests
           (some_with found.log (λ l. (Ok log ≡ Ok l) × (now ≡ g.V.Site.history c.recover_logs.new.site)) (λ l. (log ≡ l) × (now ≡ both_synced old)) (λ l is. (ok_same log l is.0, is.1 ∙ synced)) c.in-Ok.ensures.there)
           (λ is. c.in-Ok.ensures.place is)
