@@ -5,4 +5,5 @@ pub mod Ending
 pub mod Going
 pub mod LivesSeen
 pub mod Promised
+pub mod Recovered
 pub mod States

@@ -2,6 +2,7 @@
 //! They are said of the definitions alone: the functions do nothing.
 //!
 //! - `state_examples`: definitions of a partition's state (`part_steps`).
+//! - `recovery_examples`: those of what is recovered (`recover_core`).
 //! - `call_examples`: those of the call (`engine_run`); `refusal_examples`: what its files held, and why they are refused;
 //!   `going_examples`: runs that go on,
 //!   `clock_examples`: by their clock, and `ending_examples`: to their end; `life_examples`: calls one after another; `show_examples`: what a call shows;
@@ -14,6 +15,7 @@ mod ending_examples;
 mod going_examples;
 mod life_examples;
 mod promise_examples;
+mod recovery_examples;
 mod refusal_examples;
 mod show_examples;
 mod state_examples;

@@ -242,7 +242,7 @@ pub returns-clause-asks : goal.returns-clause-asks
 returns-clause-asks g c = λ tells. c.in_ok-file.ensures.reads (c.recover_logs.ensures.tells (c.open_log.ensures.tells tells))
 
 pub returns-clause-can : goal.returns-clause-can
-returns-clause-can g c = record { sound = c.in_ok-state.ensures.begins.sound; alone = c.in_ok-state.ensures.begins.alone; younger = c.in_ok-state.ensures.begins.younger; young = c.in_ok-state.ensures.begins.young }
+returns-clause-can g c = record { sound = c.in_ok-state.ensures.begins.sound; alone = c.in_ok-state.ensures.begins.alone; younger = c.in_ok-state.ensures.begins.younger; young = c.in_ok-state.ensures.begins.young; counted = c.in_ok-state.ensures.begins.counted }
 
 pub returns-clause-answers : goal.returns-clause-answers
 returns-clause-answers g c = λ tells. tt
