@@ -241,7 +241,6 @@ pub(crate) fn go<V: Site, N: Ruled, C: Clock, A: Activities>(
         past,
         log,
         incarnation,
-        past: _past,
     } = prepared;
     let nothing = Trail::none(alloc);
     let position = state.position();
