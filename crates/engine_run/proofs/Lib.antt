@@ -3,6 +3,7 @@ pub mod Asking
 pub mod Early
 pub mod Ending
 pub mod FileAsked
+pub mod First
 pub mod Found
 pub mod Going
 pub mod LineAsked
@@ -20,4 +21,5 @@ pub mod Shown
 pub mod Standing
 pub mod Starting
 pub mod Stirred
+pub mod Weaker
 pub mod Words

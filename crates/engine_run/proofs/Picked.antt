@@ -1,7 +1,7 @@
 -- Where a run goes on that a call picks.
-use Rattle.std.proofs.Common.{◌≡◌, ◌≤◌, ◌<◌, ◌+◌, ◌==◌, ℕ, Bool, true, false, List, [], ◌∷◌, Some, Result, Ok, Err, nat_le, refl, sym, ◌∙◌, ap, subst, arith, eqb-true}
+use Rattle.std.proofs.Common.{◌≡◌, ◌≤◌, ◌<◌, ◌+◌, ◌==◌, ℕ, Bool, true, false, cond, List, [], ◌∷◌, length, replicate, Some, Result, Ok, Err, nat_le, refl, sym, ◌∙◌, ap, subst, arith, eqb-true}
 use Rattle.std.proofs.lemmas.Bool.{eq-eqb, leb-true, le-leb, and_parts}
-use Rattle.std.proofs.lemmas.List.{append-nil}
+use Rattle.std.proofs.lemmas.List.{append-nil, length-replicate}
 use Rattle.commit_log.specs.Segment.{first_gate, segment, reading_of}
 use Rattle.commit_log.specs.States.{IsResting}
 use Rattle.commit_log.proofs.Written.{reads_closed}
@@ -9,7 +9,7 @@ use Rattle.dura_model.specs.Partition.{Partition, enter, accepted, with_part}
 use Rattle.dura_model.specs.Placed.{AreShown}
 use Rattle.dura_model.proofs.Kept.{item_keeps, item_stands, enter_keeps}
 use Rattle.dura_value.specs.Items.{Item, Entry}
-use Rattle.engine_run.specs.Picks.{payloads_of, log_of, log_with, goes_on_at, log_at, log_from, log_in_file, origin_with}
+use Rattle.engine_run.specs.Picks.{payloads_of, log_of, log_with, goes_on_at, log_at, log_from, log_in_file, origin_with, past_from}
 use Rattle.flow_syntax.specs.Syntax.{Flows}
 use Rattle.hub_store.specs.Frames.{goes_on}
 use Rattle.hub_store.specs.Opened.{IsOrigin}
@@ -128,3 +128,17 @@ picked_is digest file steps state incarnation gate payloads entries rests read g
     let place : ((goes_on found []).position == state.position) ≡ true = eq-eqb (goes_on found []).position state.position (ap (λ (n : Next). n.position) next) in
     let follows : nat_le (goes_on found []).incarnation incarnation ≡ true = le-leb (goes_on found []).incarnation incarnation (let same = ap (λ (n : Next). n.incarnation) next in omega (arith, same, young)) in
     ap (λ (l : Log). log_from l state.position incarnation) with_is ∙ rw (place, follows) refl
+
+-- ---- recovered entries
+
+-- they are as many as the state has behind it
+pub past_counted : (past : List ℕ) (position : ℕ) → length (past_from past position) ≡ position
+past_counted past position = by (length past == position) refl
+  where
+    by : (test : Bool) → (length past == position) ≡ test → length (cond test past (replicate position 0)) ≡ position
+    by true is = eqb-true (length past) position is
+    by false is = length-replicate position 0
+
+-- the very ones, where they are so many
+pub past_is : (past : List ℕ) (position : ℕ) → position ≡ length past → past_from past position ≡ past
+past_is past position counted = ap (λ (b : Bool). cond b past (replicate position 0)) (eq-eqb (length past) position (sym counted))

@@ -1,5 +1,5 @@
 -- Where a run goes on, as the call picks it that begins it.
-use Rattle.std.specs.Prelude.{ℕ, ◌==◌, ◌&&◌, List, [], Bool, nat_le, if◌then◌else◌, Result, Ok, Err}
+use Rattle.std.specs.Prelude.{ℕ, ◌==◌, ◌&&◌, List, [], length, replicate, Bool, nat_le, if◌then◌else◌, Result, Ok, Err}
 use Rattle.commit_log.specs.Segment.{Reading, fresh, damaged, segment, first_gate, reading_of}
 use Rattle.dura_model.specs.Partition.{Partition}
 use Rattle.dura_value.specs.Items.{Entry}
@@ -48,3 +48,7 @@ origin_with log steps = record { count = 1; logs = λ partition. log; steps = st
 -- the rules of a run from this state on, in this incarnation
 abbrev pub rules_with : Job → Partition → (incarnation : ℕ) → Rules
 rules_with job state incarnation = record { flows = job.flows; begin = state; incarnation = incarnation; requests = job.requests }
+
+-- the incarnations of recovered entries, where they are as many as the state has behind it; else as many of the first
+abbrev pub past_from : List ℕ → (position : ℕ) → List ℕ
+past_from past position = if length past == position then past else replicate position 0

@@ -1,11 +1,11 @@
 //! The name of where a run goes on.
 
-ghost use Rattle.std.specs.Prelude.{List};
+ghost use Rattle.std.specs.Prelude.{◌≡◌, ℕ, List, length};
 ghost use Rattle.hub_store.specs.Origin.{Log};
 ghost use Rattle.run_rules.specs.Rules.{Rules};
 ghost use Rattle.site_model.specs.History.{Step};
 
-use hub_store::Start;
+use gated_store::Local;
 use part_rounds::Ruled;
 use std::marker::{Brand, PhantomData};
 
@@ -19,11 +19,17 @@ pub(crate) trait Named {
 
     /// The rules.
     ghost rules: { Rules };
+
+    /// The incarnations of the entries that were recovered.
+    ghost past: { List ℕ };
+
+    /// The state at the beginning has each of them behind it.
+    ghost counts: { length past ≡ rules.begin.position };
 }
 
 /// The name that a call picks: without a pick there is an empty log, and nobody asks for anything.
 impl Named for Brand {
-    ghost use Rattle.std.specs.Prelude.{[]};
+    ghost use Rattle.std.specs.Prelude.{[], refl};
     ghost use Rattle.dura_model.specs.Partition.{fresh};
     ghost use Rattle.hub_store.specs.Origin.{no_entry};
 
@@ -37,40 +43,61 @@ impl Named for Brand {
       incarnation = 0;
       requests = [];
     } };
+
+    ghost past = { [] };
+
+    ghost counts = { refl };
 }
 
-/// The start of a store that goes on so.
+/// What a store that goes on so may commit and say.
 #[derive(Drop)]
 pub(crate) struct Going<M: Named> {
     of: PhantomData<M>,
 }
 
-impl<M: Named> Start for Going<M> {
+impl<M: Named> Local for Going<M> {
+    ghost use Rattle.engine_run.specs.Ledgers.{ledgers, readers};
+    ghost use Rattle.engine_run.specs.Local.{says, still_makes, later_makes, outside, goes_on};
+    ghost use Rattle.engine_run.specs.Makes.{Makes, answer};
     ghost use Rattle.engine_run.specs.Picks.{origin_with};
-    ghost use Rattle.engine_run.specs.Follows.{said_may, settled_may, later_may};
-    ghost use Rattle.run_laws.specs.Begins.{may_follow, may_say};
+    ghost use Rattle.run_laws.specs.Begins.{may_say};
 
     ghost origin = { origin_with M.log M.steps };
 
-    ghost may_follow = { may_follow M.rules };
+    ghost ledgers = { ledgers M.past };
+
+    ghost readers = { readers };
+
+    ghost may_make = { Makes M.rules M.past };
 
     ghost may_say = { may_say M.rules };
 
-    ghost still_said = { said_may M.rules };
+    ghost answer = { answer M.rules };
 
-    ghost still_settled = { settled_may M.rules };
+    ghost says = { says M.rules };
 
-    ghost later_follows = { later_may M.rules };
+    ghost still_makes = { still_makes M.rules M.past };
+
+    ghost later_makes = { later_makes M.rules M.past };
+
+    ghost outside = { outside M.past };
+
+    ghost goes = { goes_on M.rules M.past };
 }
 
 impl<M: Named> Ruled for Going<M> {
     ghost use Rattle.std.specs.Prelude.{refl};
+    ghost use Rattle.engine_run.specs.Local.{counted, made_by_rules, silent};
 
     ghost rules = { M.rules };
 
     ghost one = { refl };
 
-    ghost follows = { λ latest trail told going may. (refl, may) };
+    ghost counts = { counted M.rules M.past M.counts };
+
+    ghost follows = { made_by_rules M.rules M.past };
+
+    ghost silent = { silent M.rules M.past };
 
     ghost answers = { λ trail told one line may. may };
 }

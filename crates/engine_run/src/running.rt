@@ -11,11 +11,13 @@ ghost use Rattle.engine_run.specs.Order.{no_later};
 ghost use Rattle.engine_run.specs.Picks.{origin_with, rules_with};
 ghost use Rattle.engine_run.specs.Promises.{faults_of, FaultsRise};
 ghost use Rattle.engine_run.specs.Prepared.{job_of, CanGoOn};
+ghost use Rattle.engine_run.specs.Ledgers.{with_entries, readers};
 ghost use Rattle.flow_syntax.specs.Views.{flows_of};
+ghost use Rattle.gated_store.specs.Follows.{Follows};
 ghost use Rattle.hub_store.specs.Changes.{stage_at, trail_in, told_in};
 ghost use Rattle.hub_store.specs.Opened.{IsOrigin, HasBegun};
-ghost use Rattle.hub_store.specs.Sound.{IsSound};
 ghost use Rattle.hub_store.specs.Trail.{of_part};
+ghost use Rattle.part_rounds.specs.Alone.{IsKeptAlone};
 ghost use Rattle.part_rounds.specs.Comes.{count_labels};
 ghost use Rattle.part_rounds.specs.InTime.{GoesByClock};
 ghost use Rattle.part_rounds.specs.Rounds.{HasSaid, StateStands};
@@ -24,6 +26,7 @@ ghost use Rattle.request_reader.specs.Line.{request_of};
 ghost use Rattle.run_causes.specs.Causes.{status_of};
 ghost use Rattle.run_laws.specs.Begins.{may_follow, may_say};
 
+use crate::beginning::open_store;
 use crate::ended::{Ended, end_with};
 use crate::named::{Going, Named};
 use crate::order::comes_no_later;
@@ -34,7 +37,8 @@ use command_words::RunOptions;
 use dura_value::{Name, Request};
 use flow_steps::Machines;
 use flow_syntax::Flows;
-use hub_store::{Ended as Settled, Stage, Store, Trail};
+use gated_store::GatedStore;
+use hub_store::{Ended as Settled, Stage, Trail};
 use part_rounds::{Bounds, End, Ruled, Stop, drive};
 use part_steps::PartState;
 use run_causes::Cause;
@@ -105,7 +109,7 @@ fn rest_cause(port: &Port, clients: &[Name]) -> Result<Cause, AllocError>
 /// Goes on round by round, and says why no more.
 fn drive_on<V: Site, N: Ruled, C: Clock, A: Activities>(
     alloc: Global,
-    store: &mut Store<V, N>,
+    store: &mut GatedStore<V, N>,
     clock: &mut C,
     acts: &A,
     flows: &Flows,
@@ -115,43 +119,44 @@ fn drive_on<V: Site, N: Ruled, C: Clock, A: Activities>(
     incarnation: u64,
     options: RunOptions,
 ) -> Cause
-    requires sound { IsSound store.old }
-    requires going { store.old.halted ≡ false }
-    requires rests { stage_at store.old 0 ≡ Stage.Resting }
-    requires new { trail_in store.old ≡ [] }
-    requires stamp { store.old.latest ≤ C.latest clock.old }
-    requires segment { store.old.segment ≡ options.segment }
+    requires kept { IsKeptAlone N.origin.count N.ledgers N.readers N.may_make store.old }
+    requires going { store.old.logs.halted ≡ false }
+    requires rests { stage_at store.old.logs 0 ≡ Stage.Resting }
+    requires new { trail_in store.old.logs ≡ [] }
+    requires stamp { store.old.logs.latest ≤ C.latest clock.old }
+    requires segment { store.old.logs.segment ≡ options.segment }
     requires fits { 0 < options.segment }
     requires flows { N.rules.flows ≡ flows_of flows.now }
     requires incarnation { incarnation ≡ N.rules.incarnation }
     requires short { incarnation < 2 ^ 62 }
     requires some { 0 < options.batch }
     requires few { options.batch ≤ 64 }
-    requires stands { StateStands N.rules (N.origin.logs 0) (of_part 0 (trail_in store.old))
+    requires stands { StateStands N.rules (N.origin.logs 0) (of_part 0 (trail_in store.old.logs))
         (state_of state) }
     requires own { IsOwnSound state }
     requires one { count_of state ≡ 1 }
     requires room { (state_of state).position < 2 ^ 63 }
-    requires said { HasSaid N.rules (told_in store.old) port.old }
+    requires said { HasSaid N.rules (told_in store.old.logs) port.old }
     requires clients { clients.now ≡ clients_of N.rules.requests }
-    requires asked { V.tells store.old.site → All IsRequest N.rules.requests }
-    ensures tells { V.tells store.new.site → V.tells store.old.site }
-    ensures sound { IsSound store.new }
-    ensures stamp { store.new.latest ≤ C.latest clock.new }
-    ensures segment { store.new.segment ≡ store.old.segment }
-    ensures whole { result ≢ Cause.SayFault → store.new.cut ≡ false }
-    ensures ends { V.tells store.new.site
-        → RoundsEnd (N.may_follow (C.latest clock.new)) N.may_say N.rules (C.latest clock.new)
-        N.origin (V.history store.new.site) (trail_in store.new) options result }
+    requires asked { V.tells store.old.logs.site → All IsRequest N.rules.requests }
+    ensures tells { V.tells store.new.logs.site → V.tells store.old.logs.site }
+    ensures kept { IsKeptAlone N.origin.count N.ledgers N.readers N.may_make store.new }
+    ensures stamp { store.new.logs.latest ≤ C.latest clock.new }
+    ensures segment { store.new.logs.segment ≡ store.old.logs.segment }
+    ensures whole { result ≢ Cause.SayFault → store.new.logs.cut ≡ false }
+    ensures ends { V.tells store.new.logs.site
+        → RoundsEnd (Follows N.ledgers N.may_make (C.latest clock.new)) N.may_say N.rules
+        (C.latest clock.new) N.origin (V.history store.new.logs.site) (trail_in store.new.logs)
+        options result }
     ensures goes { GoesByClock N.rules A.gives options.batch (clients_of N.rules.requests)
-        (C.given clock.old) (of_part 0 (trail_in store.old)) (told_in store.old) (C.given clock.new)
-        (of_part 0 (trail_in store.new)) (told_in store.new) }
-    ensures no_more { count_labels (of_part 0 (trail_in store.new))
+        (C.given clock.old) (of_part 0 (trail_in store.old.logs)) (told_in store.old.logs)
+        (C.given clock.new) (of_part 0 (trail_in store.new.logs)) (told_in store.new.logs) }
+    ensures no_more { count_labels (of_part 0 (trail_in store.new.logs))
         < options.steps + options.batch }
     ensures late { IsLateCause result }
-    ensures faults { FaultsRise result (faults_of (V.disk_faults store.old.site)
-        (V.say_faults store.old.site) (C.clock_faults clock.old))
-        (faults_of (V.disk_faults store.new.site) (V.say_faults store.new.site)
+    ensures faults { FaultsRise result (faults_of (V.disk_faults store.old.logs.site)
+        (V.say_faults store.old.logs.site) (C.clock_faults clock.old))
+        (faults_of (V.disk_faults store.new.logs.site) (V.say_faults store.new.logs.site)
         (C.clock_faults clock.new)) }
 {
     let machines = Machines::of(flows);
@@ -212,11 +217,14 @@ pub(crate) fn go<V: Site, N: Ruled, C: Clock, A: Activities>(
     requires origin { IsOrigin N.origin }
     requires asked { V.tells site → All IsRequest N.rules.requests }
     requires begun { V.tells site → HasBegun N.origin (V.history site) (prepared.log ∷ []) }
+    requires first { N.ledgers 0 [] ≡ with_entries prepared.past }
+    requires nobody { N.readers 0 ≡ readers 0 }
     ensures tells { V.tells result.site → V.tells site }
     ensures status { result.status ≡ status_of result.cause }
     ensures late { IsLateCause result.cause }
-    ensures goes { V.tells result.site → GoesOn (N.may_follow (C.latest result.clock)) N.may_say
-        N.rules (C.latest result.clock) N.origin (V.history result.site) result.trail
+    ensures goes { V.tells result.site
+        → GoesOn (Follows N.ledgers N.may_make (C.latest result.clock)) N.may_say N.rules
+        (C.latest result.clock) N.origin (V.history result.site) result.trail
         (terms_of options A.gives (C.given clock) (C.given result.clock) (C.latest result.clock))
         result.cause ⊎ Stays (V.history site) (V.history result.site) result.trail
         (state_of prepared.state).position result.cause }
@@ -230,9 +238,9 @@ pub(crate) fn go<V: Site, N: Ruled, C: Clock, A: Activities>(
         digest: _,
         requests,
         state,
+        past,
         log,
         incarnation,
-        past: _past,
     } = prepared;
     let nothing = Trail::none(alloc);
     let position = state.position();
@@ -248,11 +256,7 @@ pub(crate) fn go<V: Site, N: Ruled, C: Clock, A: Activities>(
         state.let_go();
         return end_with(Cause::Memory, nothing, site, clock);
     };
-    let Ok(logs) = vec![in alloc; log] else {
-        state.let_go();
-        return end_with(Cause::Memory, nothing, site, clock);
-    };
-    let mut store = match Store::<V, N>::begin(alloc, site, logs, options.segment) {
+    let mut store = match open_store::<V, N>(alloc, site, log, past, options.segment) {
         Ok(store) => store,
         Err(site) => {
             state.let_go();
@@ -296,6 +300,7 @@ pub(crate) fn go_named<V: Site, M: Named, C: Clock, A: Activities>(
     requires asked { V.tells site → All IsRequest M.rules.requests }
     requires begun { V.tells site → HasBegun (origin_with M.log M.steps) (V.history site)
         (prepared.log ∷ []) }
+    requires past { M.past ≡ prepared.past }
     ensures tells { V.tells result.site → V.tells site }
     ensures status { result.status ≡ status_of result.cause }
     ensures late { IsLateCause result.cause }

@@ -15,7 +15,7 @@ use Rattle.engine_run.proofs.Asked.{same_job, same_entries, same_state}
 use Rattle.engine_run.proofs.Early.{one_first}
 use Rattle.engine_run.proofs.FileAsked.{file_asked}
 use Rattle.engine_run.proofs.Going.{runs_on}
-use Rattle.engine_run.proofs.Picked.{picked}
+use Rattle.engine_run.proofs.Picked.{picked, past_is}
 use Rattle.engine_run.proofs.Refusing.{late_answers, late_untouched, late_no_refusal, ready, not_refused}
 use Rattle.engine_run.proofs.Standing.{shown_alone, has_begun}
 use Rattle.engine_run.proofs.call.run_requests.Goals as goal
@@ -53,6 +53,9 @@ go_named-requires-clause-begun g c tells =
     let p = c.in-Ok.prepared in
     let prepared = c.in-Ok.ensures.prepared tells in
     has_begun (job_of p) prepared.entries (g.V.Site.history c.prepare.new.site) p.log prepared.opened (state_of p.state) prepared.keeps.made p.incarnation c.in-Ok.ensures.can.younger
+
+pub go_named-requires-clause-past : goal.go_named-requires-clause-past
+go_named-requires-clause-past g c = let p = c.in-Ok.prepared in past_is p.past (state_of p.state).position c.in-Ok.ensures.can.counted
 
 pub go_named-requires-clause-can : goal.go_named-requires-clause-can
 go_named-requires-clause-can g c = c.in-Ok.ensures.can

@@ -3,6 +3,8 @@ use Rattle.engine_run.specs.Rounds.{RoundsEnd, IsLateCause, IsRestCause}
 use Rattle.engine_run.proofs.Early.{differ, one_some, same_err}
 use Rattle.engine_run.proofs.Ending.{at_rest, rest_ends, rest_late, stop_ends, stop_late, other_stop, site_stop, say_stop, clock_stop, memory_no_site, memory_no_say, memory_no_clock, stamp_above}
 use Rattle.engine_run.proofs.running.drive_on.Goals as goal
+use Rattle.gated_store.specs.Following.{later_follows}
+use Rattle.gated_store.specs.Follows.{Follows as GateFollows}
 use Rattle.hub_store.specs.Changes.{trail_in, told_in}
 use Rattle.hub_store.specs.Trail.{Settled, Said, of_part}
 use Rattle.hub_store.proofs.Later.{with_later}
@@ -17,8 +19,8 @@ use Rattle.part_rounds.specs.declared.stop.Stop.TheVariants as stops
 use Rattle.run_causes.specs.declared.cause.Cause.{Cause}
 use Rattle.run_causes.specs.declared.cause.Cause.TheVariants.{Long, SiteFault, SayFault, ClockFault, Memory}
 
-pub drive-requires-clause-sound : goal.drive-requires-clause-sound
-drive-requires-clause-sound g c = c.requires.sound
+pub drive-requires-clause-kept : goal.drive-requires-clause-kept
+drive-requires-clause-kept g c = c.requires.kept
 
 pub drive-requires-clause-going : goal.drive-requires-clause-going
 drive-requires-clause-going g c = c.requires.going
@@ -62,29 +64,29 @@ drive-requires-clause-said g c = c.requires.said
 pub returns-in-Ok : goal.returns-in-Ok
 returns-in-Ok g c = record {
   tells = c.drive.ensures.tells;
-  sound = c.drive.ensures.sound;
+  kept = c.drive.ensures.kept;
   stamp = stamp_above _ _ _ _ c.drive.ensures.latest c.drive.ensures.stamps c.requires.stamp;
   segment = c.drive.ensures.segment;
-  whole = λ other. c.drive.ensures.sound.uncut c.in-Ok-Rest.ensures.still;
+  whole = λ other. c.drive.ensures.kept.kept.sound.uncut c.in-Ok-Rest.ensures.still;
   ends = λ tells.
-      let new = c.drive.new.store in
+      let new = c.drive.new.store.logs in
       let rules = g.N.Ruled.rules in
-      let o = g.N.Start.origin in
+      let o = g.N.Local.origin in
       let steps = g.V.Site.history new.site in
-      let told = c.drive.ensures.sound.told tells in
+      let told = c.drive.ensures.kept.kept.sound.told tells in
       let latest = g.C.Clock.latest c.drive.new.clock in
       let queues = c.drive.new.port in
       let clients = c.args.clients.now in
       let raised = c.drive.ensures.latest in
       let later = c.drive.ensures.stamps in
       let above : new.latest ≤ latest = stamp_above _ _ _ _ raised later c.requires.stamp in
-      let may : (trail : List Settled) (told : List Said) (partition : ℕ) (going : List Entry) → g.N.Start.may_follow new.latest trail told partition going → g.N.Start.may_follow latest trail told partition going =
-      λ trail told partition going follows. g.N.Start.later_follows new.latest latest trail told partition going above follows in
-      let stands = with_later (g.N.Start.may_follow new.latest) (g.N.Start.may_follow latest) g.N.Start.may_say may o steps (trail_in new) (told_in new) [] (told.rests (c.drive.ensures.sound.uncut c.in-Ok-Rest.ensures.still)) in
+      let may : (trail : List Settled) (told : List Said) (partition : ℕ) (going : List Entry) → GateFollows g.N.Local.ledgers g.N.Local.may_make new.latest trail told partition going → GateFollows g.N.Local.ledgers g.N.Local.may_make latest trail told partition going =
+      λ trail told partition going follows. later_follows g.N.Local.ledgers g.N.Local.may_make g.N.Local.later_makes new.latest latest trail told partition going above follows in
+      let stands = with_later (GateFollows g.N.Local.ledgers g.N.Local.may_make new.latest) (GateFollows g.N.Local.ledgers g.N.Local.may_make latest) g.N.Local.may_say may o steps (trail_in new) (told_in new) [] (told.rests (c.drive.ensures.kept.kept.sound.uncut c.in-Ok-Rest.ensures.still)) in
       let leaves = subst (Leaves rules (o.logs 0) new.latest (of_part 0 (trail_in new)) (pairs_of (told_in new)) queues clients c.args.options.steps) c.in-Ok-Rest.field-0-is c.in-Ok-Rest.ensures.leaves in
-      let rest = at_rest (g.N.Start.may_follow latest) g.N.Start.may_say rules latest o steps (trail_in new) (told_in new) new.latest queues clients c.in-Ok-Rest.state stands c.in-Ok-Rest.ensures.said (c.requires.asked (c.drive.ensures.tells tells)) c.requires.clients leaves.0 leaves.1 in
-      rest_ends (g.N.Start.may_follow latest) g.N.Start.may_say rules latest o steps (trail_in new) (told_in new) queues clients c.args.options c.in-Ok.cause rest c.requires.clients c.in-Ok.ensures;
-  goes = subst (λ (l : List (List ℕ)). GoesByClock g.N.Ruled.rules g.A.Activities.gives c.args.options.batch l (g.C.Clock.given c.args.clock.now) (of_part 0 (trail_in c.args.store.now)) (told_in c.args.store.now) (g.C.Clock.given c.drive.new.clock) (of_part 0 (trail_in c.drive.new.store)) (told_in c.drive.new.store)) c.requires.clients c.drive.ensures.goes;
+      let rest = at_rest (GateFollows g.N.Local.ledgers g.N.Local.may_make latest) g.N.Local.may_say rules latest o steps (trail_in new) (told_in new) new.latest queues clients c.in-Ok-Rest.state stands c.in-Ok-Rest.ensures.said (c.requires.asked (c.drive.ensures.tells tells)) c.requires.clients leaves.0 leaves.1 in
+      rest_ends (GateFollows g.N.Local.ledgers g.N.Local.may_make latest) g.N.Local.may_say rules latest o steps (trail_in new) (told_in new) queues clients c.args.options c.in-Ok.cause rest c.requires.clients c.in-Ok.ensures;
+  goes = subst (λ (l : List (List ℕ)). GoesByClock g.N.Ruled.rules g.A.Activities.gives c.args.options.batch l (g.C.Clock.given c.args.clock.now) (of_part 0 (trail_in c.args.store.now.logs)) (told_in c.args.store.now.logs) (g.C.Clock.given c.drive.new.clock) (of_part 0 (trail_in c.drive.new.store.logs)) (told_in c.drive.new.store.logs)) c.requires.clients c.drive.ensures.goes;
   no_more = c.drive.ensures.no_more;
   late = rest_late c.drive.new.port c.args.clients.now c.in-Ok.cause c.in-Ok.ensures;
   faults = record {
@@ -100,12 +102,12 @@ returns-in-Ok g c = record {
 pub returns-in-Err-rest_cause : goal.returns-in-Err-rest_cause
 returns-in-Err-rest_cause g c = record {
   tells = c.drive.ensures.tells;
-  sound = c.drive.ensures.sound;
+  kept = c.drive.ensures.kept;
   stamp = stamp_above _ _ _ _ c.drive.ensures.latest c.drive.ensures.stamps c.requires.stamp;
   segment = c.drive.ensures.segment;
-  whole = λ other. c.drive.ensures.sound.uncut c.in-Ok-Rest.ensures.still;
+  whole = λ other. c.drive.ensures.kept.kept.sound.uncut c.in-Ok-Rest.ensures.still;
   ends = λ tells. tt;
-  goes = subst (λ (l : List (List ℕ)). GoesByClock g.N.Ruled.rules g.A.Activities.gives c.args.options.batch l (g.C.Clock.given c.args.clock.now) (of_part 0 (trail_in c.args.store.now)) (told_in c.args.store.now) (g.C.Clock.given c.drive.new.clock) (of_part 0 (trail_in c.drive.new.store)) (told_in c.drive.new.store)) c.requires.clients c.drive.ensures.goes;
+  goes = subst (λ (l : List (List ℕ)). GoesByClock g.N.Ruled.rules g.A.Activities.gives c.args.options.batch l (g.C.Clock.given c.args.clock.now) (of_part 0 (trail_in c.args.store.now.logs)) (told_in c.args.store.now.logs) (g.C.Clock.given c.drive.new.clock) (of_part 0 (trail_in c.drive.new.store.logs)) (told_in c.drive.new.store.logs)) c.requires.clients c.drive.ensures.goes;
   no_more = c.drive.ensures.no_more;
   late = tt;
   faults = record {
@@ -121,31 +123,31 @@ returns-in-Err-rest_cause g c = record {
 pub returns-in-Ok-Long : goal.returns-in-Ok-Long
 returns-in-Ok-Long g c = record {
   tells = c.drive.ensures.tells;
-  sound = c.drive.ensures.sound;
+  kept = c.drive.ensures.kept;
   stamp = stamp_above _ _ _ _ c.drive.ensures.latest c.drive.ensures.stamps c.requires.stamp;
   segment = c.drive.ensures.segment;
-  whole = λ other. c.drive.ensures.sound.uncut c.in-Ok-Long.ensures.still;
+  whole = λ other. c.drive.ensures.kept.kept.sound.uncut c.in-Ok-Long.ensures.still;
   ends = λ tells.
-      let new = c.drive.new.store in
-      let o = g.N.Start.origin in
+      let new = c.drive.new.store.logs in
+      let o = g.N.Local.origin in
       let latest = g.C.Clock.latest c.drive.new.clock in
       let raised = c.drive.ensures.latest in
       let later = c.drive.ensures.stamps in
       let above : new.latest ≤ latest = stamp_above _ _ _ _ raised later c.requires.stamp in
-      let may : (trail : List Settled) (told : List Said) (partition : ℕ) (going : List Entry) → g.N.Start.may_follow new.latest trail told partition going → g.N.Start.may_follow latest trail told partition going =
-      λ trail told partition going follows. g.N.Start.later_follows new.latest latest trail told partition going above follows in
-      let told = c.drive.ensures.sound.told tells in
+      let may : (trail : List Settled) (told : List Said) (partition : ℕ) (going : List Entry) → GateFollows g.N.Local.ledgers g.N.Local.may_make new.latest trail told partition going → GateFollows g.N.Local.ledgers g.N.Local.may_make latest trail told partition going =
+      λ trail told partition going follows. later_follows g.N.Local.ledgers g.N.Local.may_make g.N.Local.later_makes new.latest latest trail told partition going above follows in
+      let told = c.drive.ensures.kept.kept.sound.told tells in
       let leaves = subst (Leaves g.N.Ruled.rules (o.logs 0) new.latest (of_part 0 (trail_in new)) (pairs_of (told_in new)) c.drive.new.port c.args.clients.now c.args.options.steps) c.in-Ok-Long.field-0-is c.in-Ok-Long.ensures.leaves in (
         leaves.0,
         leaves.1,
         record {
           told = told_in new;
-          stands = with_later (g.N.Start.may_follow new.latest) (g.N.Start.may_follow latest) g.N.Start.may_say may o (g.V.Site.history new.site) (trail_in new) (told_in new) [] (told.rests (c.drive.ensures.sound.uncut c.in-Ok-Long.ensures.still));
+          stands = with_later (GateFollows g.N.Local.ledgers g.N.Local.may_make new.latest) (GateFollows g.N.Local.ledgers g.N.Local.may_make latest) g.N.Local.may_say may o (g.V.Site.history new.site) (trail_in new) (told_in new) [] (told.rests (c.drive.ensures.kept.kept.sound.uncut c.in-Ok-Long.ensures.still));
           further = leaves.2;
           asked = c.requires.asked (c.drive.ensures.tells tells);
         },
       );
-  goes = subst (λ (l : List (List ℕ)). GoesByClock g.N.Ruled.rules g.A.Activities.gives c.args.options.batch l (g.C.Clock.given c.args.clock.now) (of_part 0 (trail_in c.args.store.now)) (told_in c.args.store.now) (g.C.Clock.given c.drive.new.clock) (of_part 0 (trail_in c.drive.new.store)) (told_in c.drive.new.store)) c.requires.clients c.drive.ensures.goes;
+  goes = subst (λ (l : List (List ℕ)). GoesByClock g.N.Ruled.rules g.A.Activities.gives c.args.options.batch l (g.C.Clock.given c.args.clock.now) (of_part 0 (trail_in c.args.store.now.logs)) (told_in c.args.store.now.logs) (g.C.Clock.given c.drive.new.clock) (of_part 0 (trail_in c.drive.new.store.logs)) (told_in c.drive.new.store.logs)) c.requires.clients c.drive.ensures.goes;
   no_more = c.drive.ensures.no_more;
   late = tt;
   faults = record {
@@ -161,32 +163,32 @@ returns-in-Ok-Long g c = record {
 pub returns-in-Err : goal.returns-in-Err
 returns-in-Err g c = record {
   tells = c.drive.ensures.tells;
-  sound = c.drive.ensures.sound;
+  kept = c.drive.ensures.kept;
   stamp = stamp_above _ _ _ _ c.drive.ensures.latest c.drive.ensures.stamps c.requires.stamp;
   segment = c.drive.ensures.segment;
   whole = λ other. c.drive.ensures.whole (other_stop c.in-Err.stop (subst (λ (cause : Cause). cause ≢ SayFault) c.cause_of.ensures other) c.drive.result c.in-Err.is);
   ends = λ tells.
-      let new = c.drive.new.store in
+      let new = c.drive.new.store.logs in
       let rules = g.N.Ruled.rules in
       let steps = g.V.Site.history new.site in
-      let told = c.drive.ensures.sound.told tells in
-      let fits = told.logs 0 (one_some g.N.Start.origin.count g.met.N.Ruled.one) in
+      let told = c.drive.ensures.kept.kept.sound.told tells in
+      let fits = told.logs 0 (one_some g.N.Local.origin.count g.met.N.Ruled.one) in
       let latest = g.C.Clock.latest c.drive.new.clock in
       let raised = c.drive.ensures.latest in
       let later = c.drive.ensures.stamps in
       let above : new.latest ≤ latest = stamp_above _ _ _ _ raised later c.requires.stamp in
-      let may : (trail : List Settled) (told : List Said) (partition : ℕ) (going : List Entry) → g.N.Start.may_follow new.latest trail told partition going → g.N.Start.may_follow latest trail told partition going =
-      λ trail told partition going follows. g.N.Start.later_follows new.latest latest trail told partition going above follows in
+      let may : (trail : List Settled) (told : List Said) (partition : ℕ) (going : List Entry) → GateFollows g.N.Local.ledgers g.N.Local.may_make new.latest trail told partition going → GateFollows g.N.Local.ledgers g.N.Local.may_make latest trail told partition going =
+      λ trail told partition going follows. later_follows g.N.Local.ledgers g.N.Local.may_make g.N.Local.later_makes new.latest latest trail told partition going above follows in
       let segment = c.drive.ensures.segment ∙ c.requires.segment in
-      subst (λ (cause : Cause). RoundsEnd (g.N.Start.may_follow latest) g.N.Start.may_say rules latest g.N.Start.origin steps (trail_in new) c.args.options cause) (sym c.cause_of.ensures)
-      (stop_ends (g.N.Start.may_follow latest) g.N.Start.may_say rules latest g.N.Start.origin steps (trail_in new) (told_in new) new.latest above c.args.options (way_of new.ways.items 0) c.in-Err.stop c.requires.fits
+      subst (λ (cause : Cause). RoundsEnd (GateFollows g.N.Local.ledgers g.N.Local.may_make latest) g.N.Local.may_say rules latest g.N.Local.origin steps (trail_in new) c.args.options cause) (sym c.cause_of.ensures)
+      (stop_ends (GateFollows g.N.Local.ledgers g.N.Local.may_make latest) g.N.Local.may_say rules latest g.N.Local.origin steps (trail_in new) (told_in new) new.latest above c.args.options (way_of new.ways.items 0) c.in-Err.stop c.requires.fits
       (λ partition length_then is. subst (λ (n : ℕ). IsFull rules c.args.options.batch new.latest (of_part 0 (trail_in new)) (pairs_of (told_in new)) n (way_of new.ways.items 0) partition length_then) segment
       (c.in-Err.ensures.full partition length_then (ap (λ (stop : Stop). Err stop) is)))
       (λ partition number is. c.in-Err.ensures.spent partition number (ap (λ (stop : Stop). Err stop) is))
       fits
-      (λ other. with_later (g.N.Start.may_follow new.latest) (g.N.Start.may_follow latest) g.N.Start.may_say may g.N.Start.origin steps (trail_in new) (told_in new) [] (told.rests (c.drive.ensures.whole (λ is. other (same_err c.drive.result c.in-Err.stop stops.SayFault c.in-Err.is is)))))
+      (λ other. with_later (GateFollows g.N.Local.ledgers g.N.Local.may_make new.latest) (GateFollows g.N.Local.ledgers g.N.Local.may_make latest) g.N.Local.may_say may g.N.Local.origin steps (trail_in new) (told_in new) [] (told.rests (c.drive.ensures.whole (λ is. other (same_err c.drive.result c.in-Err.stop stops.SayFault c.in-Err.is is)))))
       (c.requires.asked (c.drive.ensures.tells tells)));
-  goes = subst (λ (l : List (List ℕ)). GoesByClock g.N.Ruled.rules g.A.Activities.gives c.args.options.batch l (g.C.Clock.given c.args.clock.now) (of_part 0 (trail_in c.args.store.now)) (told_in c.args.store.now) (g.C.Clock.given c.drive.new.clock) (of_part 0 (trail_in c.drive.new.store)) (told_in c.drive.new.store)) c.requires.clients c.drive.ensures.goes;
+  goes = subst (λ (l : List (List ℕ)). GoesByClock g.N.Ruled.rules g.A.Activities.gives c.args.options.batch l (g.C.Clock.given c.args.clock.now) (of_part 0 (trail_in c.args.store.now.logs)) (told_in c.args.store.now.logs) (g.C.Clock.given c.drive.new.clock) (of_part 0 (trail_in c.drive.new.store.logs)) (told_in c.drive.new.store.logs)) c.requires.clients c.drive.ensures.goes;
   no_more = c.drive.ensures.no_more;
   late = subst IsLateCause (sym c.cause_of.ensures) (stop_late c.in-Err.stop (λ partition number is. let spent = c.in-Err.ensures.spent partition number (ap (λ (stop : Stop). Err stop) is) in (spent.alone, spent.reaches)));
   faults = record {
