@@ -1,8 +1,8 @@
 -- What others would see of the one partition as a call begins.
 use Rattle.std.specs.Prelude.{IfOk}
-use Rattle.std.proofs.Common.{◌≡◌, ◌≤◌, ◌+◌, ℕ, zero, suc, List, [], ◌∷◌, length, None, Some, Result, Ok, Err, slice_get, get_or, refl, sym, ap, subst, ◌∙◌, arith}
+use Rattle.std.proofs.Common.{◌≡◌, ◌≤◌, ℕ, zero, suc, List, [], ◌∷◌, None, Some, Result, Ok, Err, slice_get, get_or, refl, sym, ap, subst, ◌∙◌, arith}
 use Rattle.std.specs.List.{Contains}
-use Rattle.commit_gate.specs.Ledgers.{Ledger, IsKnown}
+use Rattle.commit_gate.specs.Ledgers.{Ledger}
 use Rattle.commit_gate.specs.Unlost.{IsUnlost}
 use Rattle.commit_gate.specs.Views.{box_of, whole_box, no_box, boxes_by, nexts_by, no_ledger, nobody, readers_by, floors_in, floors_of, whole_of}
 use Rattle.commit_gate.specs.declared.ledger.Ledger as declared

@@ -32,10 +32,11 @@ module _ (MayFollow Weaker : List Settled → List Said → ℕ → List Entry �
   left_too steps trail left = record { told = left.told; stands = with_later MayFollow Weaker MaySay may o steps trail left.told [] left.stands; further = left.further; asked = left.asked }
 
   end_too : (steps : List Step) (trail : List Settled) (options : RunOptions) (cause : Cause) → RoundsEnd MayFollow MaySay rules latest o steps trail options cause → RoundsEnd Weaker MaySay rules latest o steps trail options cause
+  unfolding left_too
   end_too steps trail options Done end = (end.0, rest_too steps trail end.0 end.1, end.2)
   end_too steps trail options (Waiting client number) end = (end.0, rest_too steps trail end.0 end.1, end.2)
   end_too steps trail options (Long labels) end = (end.0, end.1, left_too steps trail end.2)
-  end_too steps trail options (Full partition length_then) end = (end.0, left_too steps trail end.1.0, end.1.1)
+  end_too steps trail options (Full partition length_then) end = (end.0, (left_too steps trail end.1.0, end.1.1))
   end_too steps trail options (Spent partition number) end = (end.0, end.1, left_too steps trail end.2)
   end_too steps trail options SiteFault end = tt
   end_too steps trail options SayFault end = tt

@@ -1,11 +1,8 @@
-use Rattle.std.proofs.Common.{◌≡◌, ◌∙◌, List, [], ◌∷◌, length, map, refl, sym, ap, subst}
+use Rattle.std.proofs.Common.{◌≡◌, ◌∙◌, List, [], length, map, refl, sym, ap, subst}
 use Rattle.commit_gate.specs.Views.{box_of, whole_box, boxes_by, nexts_by, readers_by}
 use Rattle.commit_gate.specs.declared.ledger.Stream.{Stream}
 use Rattle.dura_value.specs.Views.{posted_of, floor_of}
-use Rattle.dura_value.specs.declared.identity.Identity as identities
-use Rattle.dura_value.specs.declared.identity.Floor as floors
 use Rattle.engine_run.proofs.First.{no_nexts, no_boxes, rest_boxes, no_readers}
-use Rattle.log_items.specs.Streams.{Outbox}
 use Rattle.engine_run.proofs.beginning.ledger_alone.Goals as goal
 
 pub recovered-requires : goal.recovered-requires

@@ -1,9 +1,8 @@
-use Rattle.std.proofs.Common.{◌≡◌, ◌<◌, ◌≤◌, ◌∙◌, ℕ, List, [], ◌∷◌, length, None, Some, slice_get, sym, ap, subst, arith}
+use Rattle.std.proofs.Common.{◌≡◌, ◌∙◌, ℕ, List, [], length, None, Some, slice_get, sym, ap, subst, arith}
 use Rattle.commit_gate.specs.Views.{floors_of}
 use Rattle.commit_gate.specs.declared.ledger.Ledger as declared
 use Rattle.gated_store.specs.Kept.{LedgerFits}
 use Rattle.hub_store.specs.Opened.{HasBegun}
-use Rattle.part_rounds.specs.Alone.{IsKeptAlone}
 use Rattle.engine_run.proofs.Early.{one_some}
 use Rattle.engine_run.proofs.First.{if_ok_both, if_ok, ledger_fits, none_posted, no_floors}
 use Rattle.engine_run.proofs.beginning.open_store.Goals as goal

@@ -13,7 +13,6 @@ use Rattle.engine_run.proofs.running.go.Goals as goal
 use Rattle.gated_store.specs.Following.{later_follows}
 use Rattle.gated_store.specs.Follows.{Follows as GateFollows}
 use Rattle.hub_store.specs.Changes.{trail_in, told_in}
-use Rattle.hub_store.specs.Opened.{HasBegun}
 use Rattle.hub_store.specs.Short.{IsShort}
 use Rattle.hub_store.specs.Trail.{Settled, Said, of_part}
 use Rattle.hub_store.proofs.Later.{with_later, moments_later}

@@ -1,4 +1,4 @@
-use Rattle.std.proofs.Common.{◌⊎◌, inl, inr, ℕ, List, [], ap, refl, sym, ◌∙◌}
+use Rattle.std.proofs.Common.{inl, inr, ap, refl, ◌∙◌}
 use Rattle.engine_run.proofs.Weaker.{goes_too}
 use Rattle.engine_run.specs.Ends.{terms_of}
 use Rattle.engine_run.specs.Ledgers.{ledgers, with_entries}
