@@ -1,16 +1,15 @@
 -- What the one partition makes it makes still later, and goes on where its ledger stands; and what may be said is the line that answers.
-use Rattle.std.proofs.Common.{◌≡◌, ◌≤◌, ◌+◌, ℕ, zero, suc, List, [], ◌∷◌, ◌++◌, length, Some, Result, Ok, refl, sym, ap, subst, ◌∙◌, append_assoc, length-append, arith}
+use Rattle.std.proofs.Common.{◌≡◌, ◌≤◌, ◌+◌, ℕ, zero, suc, List, [], ◌∷◌, ◌++◌, length, Some, refl, sym, ap, subst, ◌∙◌, append_assoc, length-append, arith}
 use Rattle.std.specs.List.{All}
 use Rattle.std.specs.Option.{option_map}
 use Rattle.std.proofs.lemmas.List.{map-append, length-map}
 use Rattle.std.proofs.lemmas.List.Elements.{All-nil, All-tail, All-head}
 use Rattle.client_port.specs.Lines.{line_of}
-use Rattle.commit_gate.specs.Ledgers.{Ledger, log_length, after_frame}
+use Rattle.commit_gate.specs.Ledgers.{log_length, after_frame}
 use Rattle.commit_gate.specs.Views.{no_box, no_ledger}
-use Rattle.dura_model.specs.Partition.{Partition}
 use Rattle.dura_model.specs.Sends.{IsLocal}
 use Rattle.dura_value.specs.Items.{Item, Entry, took, got, ran, ended, fired, trim}
-use Rattle.engine_run.specs.Ledgers.{with_entries, ledgers}
+use Rattle.engine_run.specs.Ledgers.{ledgers}
 use Rattle.engine_run.specs.Makes.{Makes, line_in, answer}
 use Rattle.gated_store.specs.Follows.{Follows as GateFollows, GoesOnThere}
 use Rattle.hub_store.specs.Trail.{Settled, Said, of_part}
