@@ -1,4 +1,4 @@
-use Rattle.std.proofs.Common.{Err, Some, true, sym, ap, ◌∙◌}
+use Rattle.std.proofs.Common.{Err, Some, true, ap, ◌∙◌}
 use Rattle.hub_store.specs.Ways.{is_open}
 use Rattle.crossing_tests.proofs.Moved.{others_settled, stands_still, stands_moved}
 use Rattle.crossing_tests.proofs.calls.settle.Goals as goal
