@@ -1,11 +1,12 @@
 -- What each step of reading answers.
-use Rattle.std.specs.Prelude.{◌≡◌, ℕ, ◌+◌, List, [], ◌∷◌, ◌++◌, length, drop, Result, Ok, Err}
+use Rattle.std.specs.Prelude.{◌≡◌, ℕ, ◌+◌, List, [], ◌∷◌, ◌++◌, length, take, drop, Result, Ok, Err}
 use Rattle.site_model.specs.History.{Step}
 use Rattle.commit_log.specs.declared.header.Header.{Header}
 use Rattle.commit_log.specs.Segment.{first_gate}
 use Rattle.commit_log.specs.States.{IsSegment}
 use Rattle.commit_log.specs.Outcomes.{RestsAs}
 use Rattle.commit_log.specs.declared.reader.LogReader.{LogReader}
+use Rattle.commit_log.specs.declared.reader.OpenedLog.{OpenedLog}
 use Rattle.commit_log.specs.declared.reader.Next.{Next}
 use Rattle.commit_log.specs.declared.reader.Next.TheVariants.{Frame, End}
 use Rattle.commit_log.specs.declared.reader.OpenError.{OpenError}
@@ -15,13 +16,23 @@ use Rattle.commit_log.specs.declared.reader.FrameError.TheVariants as unread
 use Rattle.commit_log.specs.Frames.{fresh, damaged, headed, opening_of, closed, frame, wrong, found_at, HasRead}
 
 -- what is answered of a partition's log whose file has this content
-abbrev pub Opens : ℕ → List ℕ → Result LogReader OpenError → Type 0
-Opens partition content (Ok reader) =
-    (opening_of partition content ≡ headed reader.header) × HasRead content reader.header [] reader.gate
-    × (reader.gate ≡ first_gate) × (reader.size ≡ length content)
+abbrev pub Opens : ℕ → List ℕ → Result OpenedLog OpenError → Type 0
+Opens partition content (Ok opened) =
+    (opening_of partition content ≡ headed opened.header) × HasRead content opened.header [] first_gate × (opened.size ≡ length content)
 Opens partition content (Err unopened.Fresh) = opening_of partition content ≡ fresh
 Opens partition content (Err (unopened.Damaged offset)) = opening_of partition content ≡ damaged offset
 Opens partition content (Err unopened.SiteFault) = Unit {0}
+
+-- The file is as long as this content, in which the bytes that were read ahead stand from the next gate on.
+pub record IsAhead (content : List ℕ) (reader : LogReader) : Type 0 where
+  pub size : reader.size ≡ length content
+  pub ahead : reader.ahead ≡ take (length reader.ahead) (drop reader.gate content)
+
+-- and so they do behind the frame
+abbrev pub StaysAhead : List ℕ → Result Next FrameError → Type 0
+StaysAhead content (Ok (Frame payload next)) = IsAhead content next
+StaysAhead content (Ok (End log)) = Unit {0}
+StaysAhead content (Err error) = Unit {0}
 
 -- what is answered of the next gate, where these payloads stand before it
 abbrev pub Goes : List ℕ → LogReader → List (List ℕ) → Result Next FrameError → Type 0

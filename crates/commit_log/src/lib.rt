@@ -10,14 +10,16 @@
 //! its own (`Bodied::synced`, `Gated::settled`, and `failed` of both), since one call may make several files safe.
 //!
 //! `Resting::format` makes a new segment, and [`open_log`] opens one: it syncs the file, measures it, and reads its header.
-//! [`LogReader::next`] gives the frame behind the next gate and a reader behind that frame, or, at a closed gate, the log at rest.
-//! So a recovery holds one payload in memory, and never the file.
+//! [`OpenedLog::frames`] stands before the first gate, and [`LogReader::next`] gives the frame behind the next gate and a reader behind
+//! that frame, or, at a closed gate, the log at rest. A reader reads ahead in pieces of 1 MiB, or of one frame where that is longer. So
+//! a recovery holds one piece and one payload of each log that it reads, and never the file.
 //!
 //! The format is told in `docs/FORMAT.md`, and as a definition in `specs/Segment.antt`; what stands at a gate, in
 //! `specs/Frames.antt`.
 #![tactic(auto)]
 
 mod after_sync;
+mod ahead;
 mod append;
 mod dropping;
 mod format;
@@ -36,5 +38,5 @@ pub use header::Header;
 pub use laws::the_frames_are_the_whole;
 pub use opening::open_log;
 pub use payload::Payload;
-pub use reader::{FrameError, LogReader, Next, OpenError};
+pub use reader::{FrameError, LogReader, Next, OpenError, OpenedLog};
 pub use states::{Bodied, BodyError, BrokenBody, BrokenGate, Gated, Reopened, Resting, Synced};

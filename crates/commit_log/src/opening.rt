@@ -1,15 +1,18 @@
 // Opening a log.
-ghost use Rattle.std.specs.Prelude.{◌≡◌, ◌≤◌, ◌∷◌, ℕ, Err, OnOk, IfOk, ◌⊎◌, length};
+ghost use Rattle.std.specs.Prelude.{◌≡◌, ◌≤◌, ◌∷◌, ℕ, List, Err, OnOk, IfOk, ◌⊎◌, length};
 ghost use Rattle.site_model.specs.History.{on, synced, changes_of, content_of, Leaves};
 ghost use Rattle.site_model.specs.Calls.{HasRisen, HasCause, Syncs};
 ghost use Rattle.site_model.specs.Moments.{LeavesOnly};
 ghost use Rattle.commit_log.specs.Fronts.{SaysHeader};
-ghost use Rattle.commit_log.specs.Reading.{Opens};
+ghost use Rattle.commit_log.specs.Segment.{first_gate};
+ghost use Rattle.commit_log.specs.Reading.{Opens, IsAhead};
 
+use crate::ahead::Ahead;
 use crate::header::Header;
 use crate::parse::{FIRST_GATE, parse_front};
-use crate::reader::{LogReader, OpenError};
+use crate::reader::{LogReader, OpenError, OpenedLog};
 use site_model::{Failed, Site};
+use std::alloc::Global;
 
 /// Syncs a file, and says how long it is.
 fn synced_length<V: Site>(site: &mut V, file: u32) -> Result<u64, Failed>
@@ -43,7 +46,7 @@ fn read_front<V: Site>(site: &mut V, file: u32, partition: u32) -> Result<Header
 }
 
 /// Opens the log of this partition: syncs the file, measures it, and reads its header.
-pub fn open_log<V: Site>(site: &mut V, file: u32, partition: u32) -> Result<LogReader, OpenError>
+pub fn open_log<V: Site>(site: &mut V, file: u32, partition: u32) -> Result<OpenedLog, OpenError>
     ensures tells { V.tells site.new → V.tells site.old }
     // A crash leaves what it could have left before.
     ensures during { V.tells site.new → LeavesOnly file (V.history site.old) (V.history site.new)
@@ -57,7 +60,7 @@ pub fn open_log<V: Site>(site: &mut V, file: u32, partition: u32) -> Result<LogR
         → V.history site.new ≡ on file synced ∷ V.history site.old }
     ensures synced_damaged { (offset : ℕ) → result ≡ Err (OpenError.Damaged offset)
         → V.history site.new ≡ on file synced ∷ V.history site.old }
-    ensures place { IfOk result (λ reader. reader.file ≡ file) }
+    ensures place { IfOk result (λ opened. opened.file ≡ file) }
     ensures fault { result ≡ Err OpenError.SiteFault
         → HasRisen (V.disk_faults site.old) (V.disk_faults site.new) }
     ensures later { V.disk_faults site.old ≤ V.disk_faults site.new }
@@ -68,10 +71,23 @@ pub fn open_log<V: Site>(site: &mut V, file: u32, partition: u32) -> Result<LogR
         Err(_) => return Err(OpenError::SiteFault),
     };
     let header = read_front(site, file, partition)?;
-    Ok(LogReader {
-        file,
-        header,
-        gate: FIRST_GATE,
-        size,
-    })
+    Ok(OpenedLog { file, header, size })
+}
+
+impl OpenedLog {
+    /// The log before its first frame. Nothing is read yet, and no memory taken.
+    pub fn frames(self, alloc: Global) -> LogReader
+        ensures place { (result.file ≡ self.file) × (result.header ≡ self.header)
+            × (result.gate ≡ first_gate) × (result.size ≡ self.size) }
+        ensures ahead { (content : List ℕ) → length content ≡ self.size → IsAhead content result }
+    {
+        let OpenedLog { file, header, size } = self;
+        LogReader {
+            file,
+            header,
+            gate: FIRST_GATE,
+            size,
+            ahead: Ahead::none(alloc),
+        }
+    }
 }

@@ -1,12 +1,24 @@
 // A log that is read frame by frame, and what a step of reading answers.
 ghost use Rattle.std.specs.Prelude.{◌+◌, ◌<◌, ◌^◌};
 
+use crate::ahead::Ahead;
 use crate::header::Header;
 use crate::payload::Payload;
 use crate::states::Resting;
 use thiserror::Error;
 
-/// A log that is read frame by frame.
+/// A log whose header was read. Its frames may be read from the first on, as often as is asked, without another sync.
+#[derive(Clone, Copy, PartialEq, Eq)]
+pub struct OpenedLog {
+    /// The file's number.
+    pub file: u32,
+    /// The segment's header.
+    pub header: Header,
+    /// How long the file was when it was opened.
+    pub size: u64,
+}
+
+/// A log that is read frame by frame. It holds up to 1 MiB that it read ahead, or a frame that is longer.
 #[derive(Drop)]
 pub struct LogReader {
     /// The file's number.
@@ -17,6 +29,8 @@ pub struct LogReader {
     pub gate: u64,
     /// How long the file was when it was opened.
     pub size: u64,
+    /// What was read from the gate on.
+    pub(crate) ahead: Ahead,
     ghost below: { gate + 1 < 2 ^ 31 },
 }
 

@@ -1,87 +1,86 @@
 // Reading a log frame by frame.
-ghost use Rattle.std.specs.Prelude.{◌≡◌, ◌≤◌, ◌<◌, ◌+◌, ◌^◌, ℕ, List, Err, IfOk, length, drop};
+ghost use Rattle.std.specs.Prelude.{◌≡◌, ◌≤◌, ◌<◌, ◌+◌, ◌-◌, ◌^◌, ℕ, List, Err, IfOk, length, min, take, drop};
 ghost use Rattle.site_model.specs.History.{changes_of, content_of, IsKept};
 ghost use Rattle.site_model.specs.Calls.{HasRisen};
 ghost use Rattle.commit_log.specs.Frames.{HasRead};
-ghost use Rattle.commit_log.specs.Fronts.{SaysGate, SaysPayload};
-ghost use Rattle.commit_log.specs.Reading.{Goes, RestsAtEnd, StaysInFile};
+ghost use Rattle.commit_log.specs.Reading.{IsAhead, Goes, StaysAhead, RestsAtEnd, StaysInFile};
 
 use crate::parse::parse_gate;
 use crate::payload::Payload;
 use crate::reader::{FrameError, LogReader, Next};
 use crate::states::Resting;
 use site_model::Site;
-use std::alloc::Global;
+use std::alloc::{AllocError, Global};
+use std::cmp::{max, min};
 
 /// The length that no segment reaches.
 const END: u64 = 1 << 31;
 
-/// The length of the payload behind a gate, or None where it is closed, by one read.
-fn read_gate<V: Site>(site: &mut V, file: u32, gate: u64) -> Result<Option<u32>, FrameError>
-    requires { gate + 1 < 2 ^ 31 }
-    ensures tells { V.tells site.new → V.tells site.old }
-    ensures says { V.tells site.new → SaysGate gate
-        (drop gate (content_of file (V.history site.old))) result }
-    ensures unchanged { V.history site.new ≡ V.history site.old }
-    ensures fault { result ≡ Err FrameError.SiteFault
-        → HasRisen (V.disk_faults site.old) (V.disk_faults site.new) }
-    ensures later { V.disk_faults site.old ≤ V.disk_faults site.new }
-    ensures say_faults { V.say_faults site.new ≡ V.say_faults site.old }
-{
-    let mut front = [0; 5];
-    match site.read(file, gate, &mut front) {
-        Ok(count) => parse_gate(gate, &front[..count]),
-        Err(_) => Err(FrameError::SiteFault),
-    }
-}
-
-/// The payload of this length behind an open gate, by one read.
-fn read_payload<V: Site>(
-    alloc: Global,
-    site: &mut V,
-    file: u32,
-    gate: u64,
-    payload_len: u32,
-) -> Result<Payload, FrameError>
-    requires { gate + 1 < 2 ^ 31 }
-    ensures tells { V.tells site.new → V.tells site.old }
-    ensures says { V.tells site.new → SaysPayload payload_len
-        (drop (gate + 5) (content_of file (V.history site.old))) result }
-    ensures whole { IfOk result (λ payload. length payload ≡ payload_len) }
-    ensures unchanged { V.history site.new ≡ V.history site.old }
-    ensures fault { result ≡ Err FrameError.SiteFault
-        → HasRisen (V.disk_faults site.old) (V.disk_faults site.new) }
-    ensures later { V.disk_faults site.old ≤ V.disk_faults site.new }
-    ensures say_faults { V.say_faults site.new ≡ V.say_faults site.old }
-{
-    let mut bytes = match vec![in alloc; 0; payload_len as usize] {
-        Ok(bytes) => bytes,
-        Err(_) => return Err(FrameError::Memory),
-    };
-    let count = match site.read(file, gate + 5, &mut bytes) {
-        Ok(count) => count,
-        Err(_) => return Err(FrameError::SiteFault),
-    };
-    // The file is shorter than it was.
-    if count < bytes.len() {
-        return Err(FrameError::Damaged { offset: gate + 1 });
-    }
-    match Payload::copy_of(alloc, &bytes) {
-        Ok(payload) => Ok(payload),
-        Err(_) => Err(FrameError::Memory),
-    }
-}
+/// How many bytes are read ahead by one read, where so many are left of the file.
+const PIECE: u64 = 1 << 20;
 
 impl LogReader {
-    /// Reads the frame behind the next gate, if that is open, by two reads at most. A length is looked at against the
-    /// file's before memory is taken for it.
+    /// The log with so many bytes read ahead, or all up to its end where there are fewer, by one read at most.
+    fn reaching<V: Site>(
+        self,
+        alloc: Global,
+        site: &mut V,
+        wanted: u64,
+    ) -> Result<LogReader, FrameError>
+        ensures tells { V.tells site.new → V.tells site.old }
+        ensures ahead { V.tells site.new
+            → IsAhead (content_of self.file (V.history site.old)) self
+            → IfOk result (IsAhead (content_of self.file (V.history site.old))) }
+        ensures reached { IfOk result (λ reader. min wanted (self.size - self.gate)
+            ≤ length reader.ahead) }
+        ensures short { V.tells site.new → (offset : ℕ) → result ≡ Err (FrameError.Damaged offset)
+            → length (content_of self.file (V.history site.old)) < self.size }
+        ensures place { IfOk result (λ reader. (reader.file ≡ self.file)
+            × (reader.header ≡ self.header) × (reader.gate ≡ self.gate)
+            × (reader.size ≡ self.size)) }
+        ensures unchanged { V.history site.new ≡ V.history site.old }
+        ensures fault { result ≡ Err FrameError.SiteFault
+            → HasRisen (V.disk_faults site.old) (V.disk_faults site.new) }
+        ensures later { V.disk_faults site.old ≤ V.disk_faults site.new }
+        ensures say_faults { V.say_faults site.new ≡ V.say_faults site.old }
+    {
+        let left = self.size.saturating_sub(self.gate);
+        if self.ahead.as_bytes().len() as u64 >= min(wanted, left) {
+            return Ok(self);
+        }
+        let LogReader {
+            file,
+            header,
+            gate,
+            size,
+            ahead,
+        } = self;
+        let count = min(left, max(wanted, PIECE)) as usize;
+        let ahead = ahead.read(alloc, site, file, gate, count)?;
+        Ok(LogReader {
+            file,
+            header,
+            gate,
+            size,
+            ahead,
+        })
+    }
+
+    /// Reads the frame behind the next gate, if that is open. Where it wasn't read ahead, one read fetches 1 MiB from the gate on, or the
+    /// frame where that is longer, or what is left. A length is looked at against the file's before memory is taken for it.
     pub fn next<V: Site>(self, alloc: Global, site: &mut V) -> Result<Next, FrameError>
         ensures tells { V.tells site.new → V.tells site.old }
-        ensures found { V.tells site.new → self.size
-            ≡ length (content_of self.file (V.history site.old)) → (payloads : List (List ℕ))
+        ensures found { V.tells site.new
+            → IsAhead (content_of self.file (V.history site.old)) self
+            → (payloads : List (List ℕ))
             → HasRead (content_of self.file (V.history site.old)) self.header payloads self.gate
             → Goes (content_of self.file (V.history site.old)) self payloads result }
-        ensures rests { V.tells site.new → (payloads : List (List ℕ))
+        ensures ahead { V.tells site.new
+            → IsAhead (content_of self.file (V.history site.old)) self
+            → StaysAhead (content_of self.file (V.history site.old)) result }
+        ensures rests { V.tells site.new
+            → IsAhead (content_of self.file (V.history site.old)) self
+            → (payloads : List (List ℕ))
             → HasRead (content_of self.file (V.history site.old)) self.header payloads self.gate
             → IsKept (changes_of self.file (V.history site.old))
             → RestsAtEnd (V.history site.new) self.header payloads result }
@@ -92,32 +91,61 @@ impl LogReader {
         ensures later { V.disk_faults site.old ≤ V.disk_faults site.new }
         ensures say_faults { V.say_faults site.new ≡ V.say_faults site.old }
     {
+        let reader = self.reaching(alloc, site, 5)?;
+        let gate = reader.gate;
+        let payload_len = match parse_gate(gate, reader.ahead.as_bytes()) {
+            Ok(Some(payload_len)) => payload_len,
+            Ok(None) => {
+                return Ok(Next::End(Resting {
+                    file: reader.file,
+                    gate,
+                }));
+            }
+            Err(error) => return Err(error),
+        };
+        let next = gate + 5 + payload_len as u64;
+        if next >= reader.size || next + 1 >= END {
+            return Err(FrameError::Damaged { offset: gate + 1 });
+        }
+        let reader = reader.reaching(alloc, site, 5 + payload_len as u64)?;
+        match reader.take_frame(alloc, payload_len as usize) {
+            Ok((payload, behind)) => Ok(Next::Frame(payload, behind)),
+            Err(_) => Err(FrameError::Memory),
+        }
+    }
+
+    /// The payload of this length behind an open gate, all of which was read ahead, and the log behind it.
+    fn take_frame(
+        self,
+        alloc: Global,
+        payload_len: usize,
+    ) -> Result<(Payload, LogReader), AllocError>
+        requires there { 5 + payload_len ≤ length self.ahead }
+        requires below { self.gate + 6 + payload_len < 2 ^ 31 }
+        ensures payload { IfOk result (λ found. found.0
+            ≡ take payload_len (drop 5 self.ahead)) }
+        ensures ahead { IfOk result (λ found. found.1.ahead
+            ≡ drop (5 + payload_len) self.ahead) }
+        ensures place { IfOk result (λ found. (found.1.file ≡ self.file)
+            × (found.1.header ≡ self.header) × (found.1.size ≡ self.size)
+            × (found.1.gate ≡ self.gate + 5 + payload_len)) }
+    {
         let LogReader {
             file,
             header,
             gate,
             size,
+            ahead,
         } = self;
-        let payload_len = match read_gate(site, file, gate) {
-            Ok(Some(payload_len)) => payload_len,
-            Ok(None) => return Ok(Next::End(Resting { file, gate })),
-            Err(error) => return Err(error),
+        let end = 5 + payload_len;
+        let payload = Payload::copy_of(alloc, &ahead.as_bytes()[5..end])?;
+        let behind = LogReader {
+            file,
+            header,
+            gate: gate + end as u64,
+            size,
+            ahead: ahead.behind(end),
         };
-        let next = gate + 5 + payload_len as u64;
-        if next >= size || next + 1 >= END {
-            return Err(FrameError::Damaged { offset: gate + 1 });
-        }
-        match read_payload(alloc, site, file, gate, payload_len) {
-            Ok(payload) => Ok(Next::Frame(
-                payload,
-                LogReader {
-                    file,
-                    header,
-                    gate: next,
-                    size,
-                },
-            )),
-            Err(error) => Err(error),
-        }
+        Ok((payload, behind))
     }
 }

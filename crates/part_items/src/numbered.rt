@@ -1,13 +1,15 @@
 //! A log's next frame from bytes, entry by entry: they are numbered on from those before.
 
-ghost use Rattle.std.specs.Prelude.{◌≡◌, ◌<◌, [], None, Err, IfOk, OnErr, length};
+ghost use Rattle.std.specs.Prelude.{◌≡◌, ◌<◌, ◌≤◌, [], None, Err, IfOk, OnErr, length};
 ghost use Rattle.dura_value.specs.Limits.{number_limit};
 ghost use Rattle.dura_codec.specs.Fields.{Takes, fault_in};
 ghost use Rattle.log_items.specs.Plain.{entry_of};
 ghost use Rattle.part_items.specs.Numbered.{next_of, behind, position_at, incarnation_at, next_entry_at};
-ghost use Rattle.part_items.specs.Coming.{Begins, ReadsNext};
+ghost use Rattle.part_items.specs.Grammar.{members_at};
+ghost use Rattle.part_items.specs.Coming.{TakesFrom, Begins, ReadsNext};
 
 use crate::reading::{at_offset, take_entry_items, take_members};
+use commit_log::Payload;
 use dura_codec::{FieldError, take_count};
 use dura_value::ReadError;
 use log_items::Entry;
@@ -86,17 +88,45 @@ fn nothing_left(rest: &[u8], bytes: &[u8]) -> Result<Option<Entry>, ReadError>
     Err(at_offset(FieldError::Bad { left: rest.len() }, bytes))
 }
 
-/// A log's next frame, whose entries are read one after another: memory is the bytes and one entry. A contract sees what is still
+/// How many entries a frame has, by its first bytes, and the offset behind these.
+fn members_in(bytes: &[u8]) -> Result<(u16, usize), ReadError>
+    ensures { TakesFrom (λ n. n) members_at bytes.now 0 result }
+{
+    match take_members(bytes) {
+        Ok((count, rest)) => Ok((count, bytes.len() - rest.len())),
+        Err(error) => Err(at_offset(error, bytes)),
+    }
+}
+
+/// The next entry, which stands at this offset, and the offset behind it.
+fn next_entry_in(
+    alloc: Global,
+    next: Next,
+    bytes: &[u8],
+    at: usize,
+) -> Result<(Entry, usize), ReadError>
+    requires { at ≤ length bytes.now }
+    ensures { TakesFrom entry_of (next_entry_at (next_of next)) bytes.now at result }
+{
+    let rest = &bytes[at..];
+    match take_next_entry(alloc, next, rest) {
+        Ok((entry, behind)) => Ok((entry, at + (rest.len() - behind.len()))),
+        Err(error) => Err(at_offset(error, bytes)),
+    }
+}
+
+/// A log's next frame, whose entries are read one after another: memory is the payload and one entry. A contract sees what is still
 /// to come.
 #[derive(Drop)]
-pub struct FrameReader<'b> {
-    bytes: &'b [u8],
-    rest: &'b [u8],
+pub struct FrameReader {
+    payload: Payload,
+    at: usize,
     next: Next,
     left: u16,
 }
 
-impl<'b> Model for FrameReader<'b> {
+impl Model for FrameReader {
+    ghost use Rattle.std.specs.Prelude.{◌≤◌, length, drop};
     ghost use Rattle.part_items.specs.Numbered.{next_of};
     ghost use Rattle.part_items.specs.Coming.{Coming, to_come};
 
@@ -106,24 +136,26 @@ impl<'b> Model for FrameReader<'b> {
       next = next_of r.next;
       left = r.left;
       entries = to_come
-          (next_of r.next) r.left r.bytes.now r.rest.now;
+          (next_of r.next) r.left r.payload (drop r.at r.payload);
     } };
+
+    ghost invariant = { λ r. r.at ≤ length r.payload };
 }
 
-impl<'b> FrameReader<'b> {
-    /// Before the entries of the next frame of a log, which these bytes are, all of them: they are numbered from this position on,
+impl FrameReader {
+    /// Before the entries of the next frame of a log, which this payload is, all of it: they are numbered from this position on,
     /// and of no incarnation before this one.
-    pub fn begin(next: Next, bytes: &'b [u8]) -> Result<FrameReader<'b>, ReadError>
-        ensures { Begins (next_of next) bytes.now result }
+    pub fn begin(next: Next, payload: Payload) -> Result<FrameReader, ReadError>
+        ensures { Begins (next_of next) payload result }
     {
-        match take_members(bytes) {
-            Ok((left, rest)) => Ok(FrameReader {
-                bytes,
-                rest,
+        match members_in(payload.as_bytes()) {
+            Ok((left, at)) => Ok(FrameReader {
+                payload,
+                at,
                 next,
                 left,
             }),
-            Err(error) => Err(at_offset(error, bytes)),
+            Err(error) => Err(error),
         }
     }
 
@@ -132,17 +164,18 @@ impl<'b> FrameReader<'b> {
     pub fn next(&mut self, alloc: Global) -> Result<Option<Entry>, ReadError>
         ensures { ReadsNext self.old self.new result }
     {
+        let bytes = self.payload.as_bytes();
         if self.left == 0 {
-            return nothing_left(self.rest, self.bytes);
+            return nothing_left(&bytes[self.at..], bytes);
         }
-        match take_next_entry(alloc, self.next, self.rest) {
-            Ok((entry, rest)) => {
+        match next_entry_in(alloc, self.next, bytes, self.at) {
+            Ok((entry, behind)) => {
                 self.next = next_behind(&entry);
                 self.left -= 1;
-                self.rest = rest;
+                self.at = behind;
                 Ok(Some(entry))
             }
-            Err(error) => Err(at_offset(error, self.bytes)),
+            Err(error) => Err(error),
         }
     }
 }
