@@ -4,6 +4,7 @@ pub mod Fronts
 pub mod Gates
 pub mod Headers
 pub mod Opens
+pub mod Reached
 pub mod Steps
 pub mod Whole
 pub mod Written
