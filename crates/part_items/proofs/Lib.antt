@@ -18,6 +18,7 @@ pub mod OnlyMessages
 pub mod OnlyValues
 pub mod PayloadsDecoded
 pub mod PayloadsKept
+pub mod Places
 pub mod Prefixes
 pub mod Steps
 pub mod Values

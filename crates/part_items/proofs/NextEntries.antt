@@ -1,15 +1,18 @@
 -- Reading one entry behind the other, each where the log goes on.
-use Rattle.std.proofs.Common.{◌≡◌, ℕ, zero, suc, ◌+◌, ◌-◌, ◌≤◌, ◌<◌, List, [], ◌∷◌, length, Bool, true, false, ◌&&◌, nat_lt, nat_le, if◌then◌else◌, Option, Some, None, Result, Ok, Err, IfOk, OnErr, refl, sym, subst, add-one, eqb-true, leb-true, arith}
+use Rattle.std.proofs.Common.{◌≡◌, ℕ, zero, suc, ◌+◌, ◌-◌, ◌≤◌, ◌<◌, List, [], ◌∷◌, length, take, drop, Bool, true, false, ◌&&◌, nat_lt, nat_le, if◌then◌else◌, Option, Some, None, Result, Ok, Err, IfOk, OnErr, refl, sym, subst, add-one, eqb-true, leb-true, arith}
 use Rattle.std.proofs.lemmas.Bool.Decides.{nat_tests}
+use Rattle.std.proofs.lemmas.List.{take_all, length-drop}
 use Rattle.std.specs.Int.{w16, w64}
 use Rattle.dura_value.specs.declared.faults.ReadError.{ReadError}
+use Rattle.dura_value.specs.declared.faults.ReadError.TheVariants as places
 use Rattle.dura_value.specs.Items.{Entry}
 use Rattle.dura_value.specs.Limits.{number_limit}
 use Rattle.dura_value.specs.Reading.{◌>>=◌, ReadFails}
 use Rattle.dura_codec.specs.declared.fields.FieldError.{FieldError}
 use Rattle.dura_codec.specs.declared.fields.FieldError.TheVariants.{Bad, Memory}
 use Rattle.dura_codec.specs.Fields.{Read, Stops, number_at, count_at, fault_in}
-use Rattle.part_items.specs.Coming.{Coming, to_come, IsNext, IsFirst, ReadsNext}
+use Rattle.log_items.specs.Plain.{entry_of}
+use Rattle.part_items.specs.Coming.{Coming, TakesFrom, to_come, IsNext, IsFirst, ReadsNext}
 use Rattle.log_items.specs.declared.frames.Entry as read
 use Rattle.part_items.specs.Grammar.{members_at, entry_items_at, alone, whole}
 use Rattle.part_items.specs.Numbered.{Next, behind, position_at, incarnation_at, next_entry_at, next_entries_at, next_frame_at, next_frame_in}
@@ -32,7 +35,7 @@ unfolding next_entries_at
 first_of next left bytes rest after entry h = rw h (in_front bytes entry (next_entries_at (behind entry) left after))
 
 -- where it can't be read there is a fault
-pub first_stops : (next : Next) (left : ℕ) (bytes rest : List ℕ) (e : FieldError) → 0 < left → Stops e (next_entry_at next rest) → ReadFails (fault_in bytes e) (to_come next left bytes rest)
+first_stops : (next : Next) (left : ℕ) (bytes rest : List ℕ) (e : FieldError) → 0 < left → Stops e (next_entry_at next rest) → ReadFails (fault_in bytes e) (to_come next left bytes rest)
 unfolding next_entries_at
 first_stops next zero bytes rest e some h = absurd (omega (arith, some))
 first_stops next (suc left) bytes rest Memory some h = tt
@@ -54,10 +57,20 @@ pub begun : (next : Next) (bytes : List ℕ) (count : ℕ) (rest : List ℕ) →
 unfolding next_frame_at
 begun next bytes count rest h = rw h refl
 
-pub not_begun : (next : Next) (bytes : List ℕ) (e : FieldError) → Stops e (members_at bytes) → ReadFails (fault_in bytes e) (next_frame_in next bytes)
+not_begun : (next : Next) (bytes : List ℕ) (e : FieldError) → Stops e (members_at bytes) → ReadFails (fault_in bytes e) (next_frame_in next bytes)
 unfolding next_frame_at
 not_begun next bytes Memory h = tt
 not_begun next bytes (Bad place) h = rw h refl
+
+-- the same by what was answered of a place
+pub place_stops : (next : Next) (left : ℕ) (bytes : List ℕ) (at : ℕ) (error : ReadError) → 0 < left → TakesFrom entry_of (next_entry_at next) bytes at (Err error) → ReadFails error (to_come next left bytes (drop at bytes))
+place_stops next left bytes at places.Memory some stops = tt
+place_stops next left bytes at (places.Bad offset) some stops =
+    subst (λ (n : ℕ). to_come next left bytes (drop at bytes) ≡ Err n) (sym stops.2) (first_stops next left bytes (drop at bytes) (Bad stops.0) some stops.1)
+
+pub place_not_begun : (next : Next) (bytes : List ℕ) (error : ReadError) → TakesFrom (λ (n : ℕ). n) members_at bytes 0 (Err error) → ReadFails error (next_frame_in next bytes)
+place_not_begun next bytes places.Memory stops = tt
+place_not_begun next bytes (places.Bad offset) stops = subst (λ (n : ℕ). next_frame_in next bytes ≡ Err n) (sym stops.2) (not_begun next bytes (Bad stops.0) stops.1)
 
 -- ---- numbers
 
@@ -126,7 +139,7 @@ taken next left more bytes rest after entry one h = record {
   entries = rw (one, add-one) (first_of next more bytes rest after entry h);
 }
 
-pub at_end : (next : Next) (left : ℕ) (bytes rest : List ℕ) (result : Result (Option read.Entry) ReadError) → left ≡ 0
+at_end : (next : Next) (left : ℕ) (bytes rest : List ℕ) (result : Result (Option read.Entry) ReadError) → left ≡ 0
     → IfOk result (λ entry. (entry ≡ None) × (rest ≡ [])) → OnErr result ((0 < length rest) × (result ≡ Err (fault_in bytes (Bad (length rest)))))
     → ReadsNext (coming_of next left bytes rest) (coming_of next left bytes rest) result
 at_end next zero bytes rest (Ok None) none ok err = (none_left next bytes rest ok.1, refl)
@@ -135,3 +148,14 @@ at_end next zero bytes rest (Err error) none ok err =
     let is : error ≡ fault_in bytes (Bad (length rest)) = cc err.1 in
     (subst (λ (e : ReadError). ReadFails e (to_come next 0 bytes rest)) (sym is) (some_left next bytes rest err.0), refl)
 at_end next (suc left) bytes rest result none ok err = absurd (cc none)
+
+-- the same by what was answered of a place
+pub at_end_there : (next : Next) (left : ℕ) (payload bytes : List ℕ) (at : ℕ) (result : Result (Option read.Entry) ReadError) → bytes ≡ payload → left ≡ 0
+    → IfOk result (λ entry. (entry ≡ None) × (take (length bytes - at) (drop at bytes) ≡ []))
+    → OnErr result ((0 < length (take (length bytes - at) (drop at bytes))) × (result ≡ Err (fault_in bytes (Bad (length (take (length bytes - at) (drop at bytes)))))))
+    → ReadsNext (coming_of next left payload (drop at payload)) (coming_of next left payload (drop at payload)) result
+at_end_there next left payload bytes at result same last none fault =
+    let rest : take (length bytes - at) (drop at bytes) ≡ drop at bytes = take_all (length bytes - at) (drop at bytes) (omega (arith, length-drop at bytes)) in
+    let none_there = subst (λ (l : List ℕ). IfOk result (λ entry. (entry ≡ None) × (l ≡ []))) rest none in
+    let fault_there = subst (λ (l : List ℕ). OnErr result ((0 < length l) × (result ≡ Err (fault_in bytes (Bad (length l)))))) rest fault in
+    subst (λ (l : List ℕ). ReadsNext (coming_of next left l (drop at l)) (coming_of next left l (drop at l)) result) same (at_end next left bytes (drop at bytes) result last none_there fault_there)

@@ -1,5 +1,5 @@
 -- A frame is read with its numbering exactly where it is read without and its entries are numbered.
-use Rattle.std.proofs.Common.{◌≡◌, ℕ, zero, suc, ◌≤◌, List, [], ◌∷◌, true, Ok, Err, refl, ap, ◌∙◌, sym, subst, eqb-true, leb-true}
+use Rattle.std.proofs.Common.{◌≡◌, ℕ, zero, suc, ◌≤◌, List, [], ◌∷◌, Ok, Err, refl, ap, ◌∙◌, sym, subst, eqb-true, leb-true}
 use Rattle.dura_value.specs.Items.{Entry}
 use Rattle.dura_codec.specs.Fields.{Read, count_at, several_at}
 use Rattle.part_items.specs.Grammar.{members_at, entry_items_at, entry_at, frame_at, whole, frame_in}
@@ -35,12 +35,12 @@ unfolding incarnation_at
 incarnation_read next bytes read h within = rw (h, le-leb next.incarnation read.0 within) refl
 
 -- an entry that stands where the log goes on
-record StandsNext (next : Next) (bytes : List ℕ) (read : Entry × List ℕ) : Type 0 where
-  reads : entry_at bytes ≡ Ok read
+pub record StandsNext (next : Next) (bytes : List ℕ) (read : Entry × List ℕ) : Type 0 where
+  pub reads : entry_at bytes ≡ Ok read
   position : read.0.position ≡ next.position
   incarnation : next.incarnation ≤ read.0.incarnation
 
-entry_is : (next : Next) (bytes : List ℕ) (read : Entry × List ℕ) → next_entry_at next bytes ≡ Ok read → StandsNext next bytes read
+pub entry_is : (next : Next) (bytes : List ℕ) (read : Entry × List ℕ) → next_entry_at next bytes ≡ Ok read → StandsNext next bytes read
 unfolding next_entry_at entry_at
 entry_is next bytes read h =
     let place = both_ok (position_at next bytes) _ read h in

@@ -131,7 +131,7 @@ item_only bytes read all h =
       ]
     ]
 
-members_only : (bytes : List ℕ) (read : ℕ × List ℕ) → AreBytes bytes → members_at bytes ≡ Ok read → bytes ≡ to_be_bytes w16 read.0 ++ read.1
+pub members_only : (bytes : List ℕ) (read : ℕ × List ℕ) → AreBytes bytes → members_at bytes ≡ Ok read → bytes ≡ to_be_bytes w16 read.0 ++ read.1
 unfolding members_at
 members_only bytes read all h =
     let s = both_ok (number_at w16 bytes) _ read h in

@@ -108,9 +108,8 @@ fn next_entry_in(
     requires { at ≤ length bytes.now }
     ensures { TakesFrom entry_of (next_entry_at (next_of next)) bytes.now at result }
 {
-    let rest = &bytes[at..];
-    match take_next_entry(alloc, next, rest) {
-        Ok((entry, behind)) => Ok((entry, at + (rest.len() - behind.len()))),
+    match take_next_entry(alloc, next, &bytes[at..]) {
+        Ok((entry, behind)) => Ok((entry, bytes.len() - behind.len())),
         Err(error) => Err(at_offset(error, bytes)),
     }
 }
