@@ -55,7 +55,7 @@ impl Ahead {
         }
     }
 
-    /// Memory for so many bytes: that of these where they came from a read as long, else new.
+    /// Memory for so many bytes: that of the read before where it was as long, else new.
     fn room(self, alloc: Global, count: usize) -> Result<Vec<u8>, FrameError>
         ensures long { IfOk result (λ bytes. length bytes.items ≡ count) }
         ensures cause { IfErr result (λ error. error ≡ FrameError.Memory) }
@@ -64,6 +64,7 @@ impl Ahead {
         if bytes.len() == count {
             return Ok(bytes);
         }
+        drop(bytes);
         match vec![in alloc; 0; count] {
             Ok(bytes) => Ok(bytes),
             Err(_) => Err(FrameError::Memory),

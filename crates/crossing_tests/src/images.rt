@@ -4,7 +4,7 @@ ghost use Rattle.std.specs.Prelude.{◌<◌};
 
 use crate::calls::{file_of, header_of};
 use crate::rules::{BEGIN, Frame, Run, check};
-use commit_log::{LogReader, Next, open_log};
+use commit_log::{LogReader, Next, Payload, open_log};
 use dura_value::Message;
 use log_items::{Entry, Item};
 use part_items::FrameReader;
@@ -54,7 +54,7 @@ pub(crate) fn is_its(
 }
 
 /// The one entry of a payload.
-fn entry_in(rt: &impl Abort, alloc: Global, payload: &[u8]) -> Entry {
+fn entry_in(rt: &impl Abort, alloc: Global, payload: Payload) -> Entry {
     let first = part_items::Next {
         position: 0,
         incarnation: 0,
@@ -78,12 +78,12 @@ fn check_end(rt: &impl Abort, alloc: Global, site: &mut MemorySite, reader: LogR
 fn holds(rt: &impl Abort, alloc: Global, site: &mut MemorySite, part: u32, wanted: &Message) -> bool
     requires { part < 2 }
 {
-    let reader = open_log(site, file_of(part), part).expect(rt, "a log");
-    assert!(rt; reader.header == header_of(part));
-    match reader.next(alloc, site).expect(rt, "a gate") {
+    let log = open_log(site, file_of(part), part).expect(rt, "a log");
+    assert!(rt; log.header == header_of(part));
+    match log.frames(alloc).next(alloc, site).expect(rt, "a gate") {
         Next::End(_) => false,
         Next::Frame(payload, behind) => {
-            let entry = entry_in(rt, alloc, payload.as_bytes());
+            let entry = entry_in(rt, alloc, payload);
             let items = entry.items.as_slice();
             assert!(rt; is_its(entry.position, entry.incarnation, items, part, wanted));
             check_end(rt, alloc, site, behind);

@@ -10,6 +10,7 @@ ghost use Rattle.part_items.specs.Spelling.{CanSpellFrame};
 mod frame;
 mod texts;
 
+use commit_log::Payload;
 use frame::make_frame;
 use log_items::Frame;
 use part_items::{FrameReader, Next, write_frame};
@@ -65,13 +66,16 @@ fn frame_bytes(alloc: Global, long: &str) -> Option<Vec<u8>> {
     }
 }
 
-/// The frame is read as a log is: entry by entry, of which each is let go of before the next.
+/// The frame is read as a log is: copied from what was read ahead, and then entry by entry, of which each is let go of before the next.
 fn read_once(alloc: Global, bytes: &[u8]) -> bool {
     let first = Next {
         position: 0,
         incarnation: 0,
     };
-    let Ok(mut frame) = FrameReader::begin(first, bytes) else {
+    let Ok(payload) = Payload::copy_of(alloc, bytes) else {
+        return false;
+    };
+    let Ok(mut frame) = FrameReader::begin(first, payload) else {
         return false;
     };
     for _ in 0..64 {

@@ -61,8 +61,9 @@ fn frames_in(rt: &impl Abort, alloc: Global, site: &MemorySite) -> u64 {
 
 /// How many frames are read back, which are of the entries from position 0 on.
 fn frames_read(rt: &impl Abort, alloc: Global, site: &mut MemorySite) -> u64 {
-    let mut reader = open_log(site, FILE, 0).expect(rt, "a log");
-    let header = reader.header;
+    let log = open_log(site, FILE, 0).expect(rt, "a log");
+    let header = log.header;
+    let mut reader = log.frames(alloc);
     for position in 0..9u8 {
         match reader.next(alloc, site).expect(rt, "a frame") {
             Next::Frame(payload, behind) => {

@@ -48,7 +48,8 @@ fn opened(rt: &impl Abort, alloc: Global, site: &mut MemorySite, file: u32) -> R
     ensures file { result.file ≡ file }
     ensures synced { memory_history site.new ≡ on file synced ∷ memory_history site.old }
 {
-    let mut reader = open_log(site, file, 0).expect(rt, "a log");
+    let log = open_log(site, file, 0).expect(rt, "a log");
+    let mut reader = log.frames(alloc);
     for _ in 0..9u64 {
         match reader.next(alloc, site).expect(rt, "a frame") {
             Next::Frame(payload, behind) => {
@@ -319,8 +320,7 @@ fn run(rt: &impl Abort, alloc: Global, site: &mut MemorySite, what: &str) -> Tol
 
 /// To format a file takes a length; a read of its first byte, where there are more; a write that closes it, unless it was read closed,
 /// and a sync; a write and a sync for the header; and a write and a sync for the open first byte. To open the example takes a sync, a
-/// length and four reads: of the header, of the gate and the payload of the frame, and of the gate behind it. A commit takes a write, a
-/// sync, a write and a sync. A write that fails stands, but not where it fails for want of room.
+/// length and two reads: of the header, and of all that stands behind it. A commit takes a write, a sync, a write and a sync. A write that fails stands, but not where it fails for want of room.
 const RUNS: &str = "an empty file, fault at call 0; format: fault
 ----
 
@@ -396,16 +396,16 @@ the example, fault at call 7; format: fault
 the example, fault at call 8; format: gate at 33
 1111 1--1 ---- ---- ---- -0-0 0000
 
+the example, fault at call 4; commit: fault
+1111 1111 1111
+
+the example, fault at call 5; commit: fault
+1111 1111 1111
+
 the example, fault at call 6; commit: fault
-1111 1111 1111
-
-the example, fault at call 7; commit: fault
-1111 1111 1111
-
-the example, fault at call 8; commit: fault
 1111 1111 1111 1111 1212
 
-the example, fault at call 9; commit: fault
+the example, fault at call 7; commit: fault
 1111 1111 1111 1111 1212
 
 the example; commit: settled, gate at 84
@@ -420,16 +420,16 @@ the example; commit and drop behind the sync: dropped, gate at 76
 the example; commit and open again behind the gate: settled, gate at 84
 1111 1111 1111 1111 1212 2222
 
-the example, fault at call 8; commit and go on behind a fault: settled, gate at 84
+the example, fault at call 6; commit and go on behind a fault: settled, gate at 84
 1111 1111 1111 1111 1212 2222
 
 the example, room for 85; commit and go on behind a fault: dropped, gate at 76
 1111 1111 1111 1111 1111
 
-the example, fault at call 6; commit and go on behind a fault: dropped, gate at 76
+the example, fault at call 4; commit and go on behind a fault: dropped, gate at 76
 1111 1111 1111 1111
 
-the example, fault at call 7; commit and go on behind a fault: dropped, gate at 76
+the example, fault at call 5; commit and go on behind a fault: dropped, gate at 76
 1111 1111 1111 1111
 
 no file; format and commit: settled, gate at 76

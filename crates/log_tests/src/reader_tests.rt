@@ -150,17 +150,17 @@ fn check_calls(
 }
 
 /// The example with four other bytes at an offset, what it is read as, and the syncs and reads that this takes. A sync, a length and a
-/// read open a log, and then come a read for each gate and one for each payload. A length that doesn't fit into the file is refused when
+/// read open a log, and one read more gives all that stands behind its header. A length that doesn't fit into the file is refused when
 /// its gate is read, and nothing is read behind it.
-const READINGS: &str = "C34E4554 at 0: 1 frame, gate at 76; syncs 1, reads 4
+const READINGS: &str = "C34E4554 at 0: 1 frame, gate at 76; syncs 1, reads 2
 004E4554 at 0: fresh; syncs 1, reads 1
 174E4554 at 0: fresh; syncs 1, reads 1
 00000000 at 33: no frame, gate at 33; syncs 1, reads 2
-000001C3 at 73: damaged at 77; syncs 1, reads 4
+000001C3 at 73: damaged at 77; syncs 1, reads 2
 80000000 at 25: damaged at 25; syncs 1, reads 1
-00000025 at 34: 1 frame, gate at 75; syncs 1, reads 4
+00000025 at 34: 1 frame, gate at 75; syncs 1, reads 2
 00000027 at 34: damaged at 34; syncs 1, reads 2
-00000000 at 34: 1 frame, gate at 38; syncs 1, reads 4
+00000000 at 34: 1 frame, gate at 38; syncs 1, reads 2
 7F000026 at 34: damaged at 34; syncs 1, reads 2
 7FFFFFFF at 34: damaged at 34; syncs 1, reads 2
 FFFFFFFF at 34: damaged at 34; syncs 1, reads 2
@@ -168,8 +168,7 @@ C34E4554 at 0, fault at call 0: not opened; syncs 1, reads 0
 C34E4554 at 0, fault at call 1: not opened; syncs 1, reads 0
 C34E4554 at 0, fault at call 2: not opened; syncs 1, reads 1
 C34E4554 at 0, fault at call 3: fault behind no frame; syncs 1, reads 2
-C34E4554 at 0, fault at call 4: fault behind no frame; syncs 1, reads 3
-C34E4554 at 0, fault at call 5: fault behind 1 frame; syncs 1, reads 4";
+C34E4554 at 0, fault at call 4: 1 frame, gate at 76; syncs 1, reads 2";
 
 /// Plays a line of changed bytes.
 fn check_reading(rt: &impl Abort, alloc: Global, line: &str) {
@@ -187,7 +186,7 @@ fn check_reading(rt: &impl Abort, alloc: Global, line: &str) {
 #[test]
 fn readings(rt: HostRuntime) {
     let alloc = rt.alloc();
-    let three = "3 frames, gate at 89; syncs 1, reads 8";
+    let three = "3 frames, gate at 89; syncs 1, reads 2";
     check_calls(&rt, alloc, "three frames", &THREE_FRAMES, NO_TROUBLE, three);
     for line in READINGS.lines() {
         check_reading(&rt, alloc, line);

@@ -179,15 +179,16 @@ fn step(
 
 /// What this file, of these bytes, is read as by partition 0.
 pub(crate) fn read_as(alloc: Global, site: &mut MemorySite, file: u32, bytes: &[u8]) -> Told {
-    let mut reader = match open_log(site, file, 0) {
-        Ok(reader) => reader,
+    let log = match open_log(site, file, 0) {
+        Ok(log) => log,
         Err(OpenError::Fresh) => return ("fresh", None),
         Err(OpenError::Damaged { offset }) => return ("damaged at", Some(offset)),
         Err(OpenError::SiteFault) => return ("not opened", None),
     };
-    if reader.file != file || !has_header(bytes, reader.header) {
+    if log.file != file || !has_header(bytes, log.header) {
         return OTHER;
     }
+    let mut reader = log.frames(alloc);
     for frames in 0..9u64 {
         match step(alloc, site, reader, bytes, frames) {
             Ok(next) => reader = next,

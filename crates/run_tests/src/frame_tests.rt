@@ -1,6 +1,7 @@
 //! A frame as it is, cut short, with a byte changed, and as a log's next one. The answers of the tables were made by
 //! tools/frame-table, which reads by the grammar of docs/FORMAT.md and shares no code with the crates.
 
+use commit_log::Payload;
 use dura_value::ReadError;
 use log_items::Frame;
 use part_items::{FrameReader, Next, read_frame};
@@ -89,7 +90,8 @@ fn fault_in(rt: &impl Abort, read: Result<Frame, ReadError>) -> Option<usize> {
 
 /// Where the fault is of a log's next frame, or none of one that is read to its end.
 fn next_fault_in(rt: &impl Abort, alloc: Global, next: Next, bytes: &[u8]) -> Option<usize> {
-    let mut frame = match FrameReader::begin(next, bytes) {
+    let payload = Payload::copy_of(alloc, bytes).expect(rt, "memory");
+    let mut frame = match FrameReader::begin(next, payload) {
         Ok(frame) => frame,
         Err(error) => return Some(offset_of(rt, error)),
     };
