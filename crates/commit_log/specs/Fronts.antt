@@ -1,5 +1,5 @@
 -- What the bytes of one read say of the file that they are the front of.
-use Rattle.std.specs.Prelude.{◌≡◌, ℕ, ◌<◌, ◌^◌, Option, Some, None, List, [], ◌∷◌, ◌++◌, length, take, Result, Ok, Err}
+use Rattle.std.specs.Prelude.{◌≡◌, ℕ, ◌<◌, ◌^◌, Option, Some, None, List, [], ◌∷◌, ◌++◌, length, Result, Ok, Err}
 use Rattle.std.specs.Int.{w32, to_be_bytes}
 use Rattle.commit_log.specs.declared.header.Header.{Header}
 use Rattle.commit_log.specs.Segment.{open_gate, first_gate}
@@ -27,13 +27,6 @@ SaysGate gate bytes (Ok (Some size)) = BeginsFrame bytes size
 SaysGate gate bytes (Err (unread.Damaged offset)) = (length bytes < 5) × (found_at gate bytes ≡ wrong offset)
 SaysGate gate bytes (Err unread.SiteFault) = Unit {0}
 SaysGate gate bytes (Err unread.Memory) = Unit {0}
-
--- what is answered of a payload of this length, of the bytes from its first one on
-abbrev pub SaysPayload : ℕ → List ℕ → Result (List ℕ) FrameError → Type 0
-SaysPayload size bytes (Ok payload) = payload ≡ take size bytes
-SaysPayload size bytes (Err (unread.Damaged offset)) = length bytes < size
-SaysPayload size bytes (Err unread.SiteFault) = Unit {0}
-SaysPayload size bytes (Err unread.Memory) = Unit {0}
 
 -- what the bytes before the first gate say of a file with this content
 abbrev pub SaysHeader : ℕ → List ℕ → Result Header OpenError → Type 0
