@@ -1,4 +1,4 @@
-use Rattle.state_lines.proofs.Lines.{nothing_said, by_memory}
+use Rattle.state_lines.proofs.OnTape.{nothing_said, by_memory}
 use Rattle.state_lines.proofs.row.say_line.Goals as goal
 
 pub returns-in_err-line-clause-part : goal.returns-in_err-line-clause-part
