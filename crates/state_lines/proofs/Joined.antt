@@ -31,7 +31,7 @@ module _ {X : Type 0} where
   has_either [] more id found = inr found
   has_either (e ∷ entries) more id found = elim (first_or_other e (entries ++ more) id found) [
     | inl here ↦ inl (subst (λ (i : plain.Id). has_entry (e ∷ entries) i ≡ true) here (has_first e entries))
-    | inr later ↦ elim (has_either entries more id later) [ | inl among ↦ inl (has_other e entries id among) | inr behind ↦ inr behind ]
+    | inr later ↦ elim (has_either entries more id later) [ inl among ↦ inl (has_other e entries id among) | inr behind ↦ inr behind ]
   ]
 
   module _ (rows : PartState → List (Id × X)) where
@@ -60,7 +60,7 @@ module _ {X : Type 0} where
     ]
 
     module _ (states : List PartState) (there : plain.Id → Bool) (kept : ℕ → plain.Id → Bool) (are : AreKept (length states) there kept)
-      (seen : (place : ℕ) (d : PartState) (id : plain.Id) → place < length states → kept place id ≡ has_entry (rows (slice_index_or states place d)) id) (some : PartState) where
+        (seen : (place : ℕ) (d : PartState) (id : plain.Id) → place < length states → kept place id ≡ has_entry (rows (slice_index_or states place d)) id) (some : PartState) where
       same_there : (id : plain.Id) → has_entry (joined states) id ≡ there id
       same_there id = same_bool (has_entry (joined states) id) (there id)
           (λ found. let is : IsJoined states id = is_joined states id found in kept_there (length states) there kept are is.place id is.inside (subst (λ (b : Bool). b ≡ true) (sym (seen is.place some id is.inside)) (is.has some)))

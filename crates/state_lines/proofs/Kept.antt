@@ -1,5 +1,5 @@
 -- The world that the states of all partitions show has lines for just those ids that a state keeps something for, with its answers.
-use Rattle.std.proofs.Common.{◌≡◌, ◌↔◌, ◌∙◌, ℕ, ◌<◌, length, true, List, [], ◌∷◌, Option, Some, None, option_map, is_some, map, slice_index_or, refl, ap, sym, subst}
+use Rattle.std.proofs.Common.{◌≡◌, ◌↔◌, ◌∙◌, ℕ, ◌<◌, length, true, List, [], ◌∷◌, Option, Some, None, option_map, is_some, map, slice_index_or, refl, ap, sym, subst, arith}
 use Rattle.std.proofs.Math.Nat.{mod-lt}
 use Rattle.std.proofs.lemmas.List.{get_or-map}
 use Rattle.dura_model.specs.Partition.{Partition, fresh, instance_in, shown}
@@ -30,7 +30,7 @@ seen_twice f g None = refl
 seen_twice f g (Some x) = refl
 
 pub first_of_all : (states : List PartState) → 0 < length states → PartState
-first_of_all [] some = absurd (cc some)
+first_of_all [] some = absurd (omega arith)
 first_of_all (s ∷ states) some = s
 
 -- what the partition at a place knows is what the state there does
@@ -79,6 +79,7 @@ module _ (flows : Flows) (states : List PartState) where
         answers_kept kind id ∙ ap (λ (p : ℕ). kept_answer kind flows (parts_in states p) id) (home_at kind place id inside found) ∙ ap (λ (p : Partition). kept_answer kind flows p id) (part_at states place d inside)
 
     is_kept : (kind : Kind) (id : Id) → has_line kind world_of id ≡ true ↔ ((place : ℕ) × (place < length states) × (keeps kind (parts_in states place) id ≡ true))
+    unfolding are_kept
     is_kept kind id = (
       λ found. (home (length states) id, mod-lt (fnv1a_64 (written id)) are.some, there_kept (length states) (has_line kind world_of) (λ place. keeps kind (parts_in states place)) (are_kept kind) id found),
       λ has. kept_there (length states) (has_line kind world_of) (λ place. keeps kind (parts_in states place)) (are_kept kind) has.0 id has.1 has.2,

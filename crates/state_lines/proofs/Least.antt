@@ -30,9 +30,9 @@ module _ (heads : List (Option Id)) (more : Option Id) where
   which P place before here past = elim (cases_lt place (length heads)) [
     | inl inside ↦ subst P (sym (among place inside)) before
     | inr beyond ↦ elim (cases_eq place (length heads)) [
-        | inl same ↦ subst (λ (n : ℕ). P (slice_index_or (heads ++ more ∷ []) n None)) (sym same) (subst P (sym at_end) here)
-        | inr apart ↦ let much = long in subst P (sym (get_or_past (heads ++ more ∷ []) place None (omega arith))) past
-      ]
+      | inl same ↦ subst (λ (n : ℕ). P (slice_index_or (heads ++ more ∷ []) n None)) (sym same) (subst P (sym at_end) here)
+      | inr apart ↦ let much = long in subst P (sym (get_or_past (heads ++ more ∷ []) place None (omega arith))) past
+    ]
   ]
 
   -- the least stays, where what comes behind the others is no earlier one

@@ -1,6 +1,7 @@
 pub mod Behind
 pub mod Few
 pub mod Fronts
+pub mod Going
 pub mod Joined
 pub mod Kept
 pub mod Least

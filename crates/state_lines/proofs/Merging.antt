@@ -28,8 +28,9 @@ module _ (count : ℕ) (there : Id → Bool) (kept : ℕ → Id → Bool) (are :
       inside_count : place < count
       inside_count = let inside : place < length heads = least.inside in omega arith
 
-      mine : IsNextBehind (kept place) last id
-      mine = subst (IsHead (kept place) last) least.at (all place least.inside)
+      -- it is its place's
+      pub least_kept : IsNextBehind (kept place) last id
+      least_kept = subst (IsHead (kept place) last) least.at (all place least.inside)
 
       before_head : (at : ℕ) (other : Id) (head : Option Id) → slice_index_or heads at None ≡ head → IsHead (kept at) last head → kept at other ≡ true → is_behind last other ≡ true → is_no_later id other ≡ true
       before_head at other None is none found behind = absurd (none other found behind)
@@ -38,8 +39,8 @@ module _ (count : ℕ) (there : Id → Bool) (kept : ℕ → Id → Bool) (are :
       -- the least head is the next id
       pub least_next : IsNextBehind there last id
       least_next = record {
-        found = kept_there place id inside_count mine.found;
-        behind = mine.behind;
+        found = kept_there place id inside_count least_kept.found;
+        behind = least_kept.behind;
         first = λ other found behind.
             let at : ℕ = are.place_of other in
             let inside : at < length heads = let below : at < count = are.inside other in omega arith in
@@ -47,7 +48,7 @@ module _ (count : ℕ) (there : Id → Bool) (kept : ℕ → Id → Bool) (are :
       }
 
       not_there : (at : ℕ) → (at ≡ place → ⊥) → at < count → kept at id ≡ true → ⊥
-      not_there at apart inside found = apart (sym (are.only at id inside found) ∙ are.only place id inside_count mine.found)
+      not_there at apart inside found = apart (sym (are.only at id inside found) ∙ are.only place id inside_count least_kept.found)
 
       behind_it : (at : ℕ) (head : Id) → (at ≡ place → ⊥) → at < count → kept at head ≡ true → is_no_later id head ≡ true → is_before id head ≡ true
       behind_it at head apart inside found later = elim (same_or_before id head later) [
@@ -57,11 +58,11 @@ module _ (count : ℕ) (there : Id → Bool) (kept : ℕ → Id → Bool) (are :
 
       -- the head of another place stays
       stays : (at : ℕ) (head : Option Id) → (at ≡ place → ⊥) → at < count → slice_index_or heads at None ≡ head → IsHead (kept at) last head → IsHead (kept at) (Some id) head
-      stays at None apart inside is none = λ other found after. none other found (behind_more last id other mine.behind after)
+      stays at None apart inside is none = λ other found after. none other found (behind_more last id other least_kept.behind after)
       stays at (Some head) apart inside is next = record {
         found = next.found;
         behind = behind_it at head apart inside next.found (least.first at head is);
-        first = λ other found after. next.first other found (behind_more last id other mine.behind after);
+        first = λ other found after. next.first other found (behind_more last id other least_kept.behind after);
       }
 
       -- behind the least head its place has a next one, and the others have theirs
