@@ -13,7 +13,7 @@ use Rattle.state_lines.specs.Table.{AreAll, has_entity, has_instance, IsTable}
 use Rattle.state_lines.proofs.Kept.{seen_there}
 use Rattle.state_lines.proofs.Order.{not_itself, no_later_itself}
 
-no_id : (there : Id → Bool) → ((id : Id) → there id ≡ true → ⊥) → AreAll there []
+pub no_id : (there : Id → Bool) → ((id : Id) → there id ≡ true → ⊥) → AreAll there []
 no_id there none = record { next = tt; end = λ id found behind. none id found }
 
 one_id : (there : Id → Bool) (id : Id) → there id ≡ true → ((other : Id) → there other ≡ true → other ≡ id) → AreAll there (id ∷ [])

@@ -1,5 +1,6 @@
 -- The lines of one kind are said one after another, and those of both make the table.
-use Rattle.std.proofs.Common.{◌≡◌, ◌∙◌, ◌⊎◌, inl, inr, ℕ, Bool, List, [], ◌∷◌, ◌++◌, Option, Some, None, refl, sym, ap, subst, append_assoc}
+use Rattle.std.proofs.Common.{◌≡◌, ◌∙◌, ◌⊎◌, inl, inr, ℕ, Bool, List, [], ◌∷◌, ◌++◌, Option, Some, None, Result, Ok, Err, IfErr, refl, sym, ap, subst, append_assoc}
+use Rattle.std.specs.Prelude.{OnOk}
 use Rattle.std.proofs.lemmas.List.{append-nil}
 use Rattle.dura_model.specs.World.{World}
 use Rattle.dura_value.specs.Ids.{Id}
@@ -89,3 +90,13 @@ stops_in_instances flows world error old mid new entities stops =
       said = stops.said ∙ ap (λ (l : List ℕ). (l ++ stops.lines) ++ stops.part) entities.said ∙ ap (λ (l : List ℕ). l ++ stops.part) (append_assoc old first stops.lines);
       whole = stops.whole;
     }
+
+-- ---- what came of a call
+
+pub on_ok : {T E : Type 0} {P Q : Type 0} (result : Result T E) → (P → Q) → OnOk result P → OnOk result Q
+on_ok (Ok value) goes is = goes is
+on_ok (Err error) goes is = tt
+
+pub on_err : {T E : Type 0} {P Q : E → Type 0} (result : Result T E) → ((error : E) → P error → Q error) → IfErr result P → IfErr result Q
+on_err (Ok value) goes is = tt
+on_err (Err error) goes is = goes error is

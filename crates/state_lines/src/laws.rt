@@ -15,7 +15,6 @@ ghost use Rattle.state_lines.specs.Table.{AreAll, IsTable, has_entity, has_insta
 
 /// The world that the states of all partitions show has a table, and so has the one that a state alone shows; and no world has
 /// two.
-#[tactic(auto, using(crate::proofs::Tables::has_table, crate::proofs::Tables::has_table_of_one, crate::proofs::Tables::one_table))]
 pub fn states_have_one_table()
     ensures there { (flows : Flows) (states : List Given) → AreStatesOfAll states
         → (table : List ℕ)
@@ -38,7 +37,6 @@ pub fn tables_are_whole()
 {}
 
 /// What is there in the world that the states of all partitions show is what some state keeps.
-#[tactic(auto, using(crate::proofs::Kept::entities_kept, crate::proofs::Kept::instances_kept))]
 pub fn worlds_are_kept()
     ensures entities { (flows : Flows) (states : List Given) → AreStatesOfAll states → (id : Id)
         → has_entity (shown flows (length states) (parts_in states)) id ≡ true

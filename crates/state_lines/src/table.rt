@@ -18,7 +18,7 @@ use std::alloc::Global;
 /// Says the table of the world that the states of all partitions show: a line for each entity that was delivered to, then one for
 /// each instance of an orchestration, each in the order of their written ids, whatever partition they live in: the id, a blank,
 /// and the answer that a query of it would get.
-#[tactic(auto, using(crate::proofs::Saying::table_said, crate::proofs::Saying::stops_in_entities, crate::proofs::Saying::stops_in_instances))]
+#[tactic(auto, using(crate::proofs::Saying::stops_in_entities))]
 pub fn say_table<V: Site, R: Reactions>(
     alloc: Global,
     site: &mut V,
