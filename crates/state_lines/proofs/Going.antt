@@ -1,6 +1,6 @@
 -- A merge of states goes on by the least head: it is the next line, with the answer of its state, and fewer ids are left behind it.
-use Rattle.std.proofs.Common.{◌≡◌, ◌∙◌, ℕ, ◌<◌, length, map, Bool, true, List, Option, Some, None, slice_index_or, slice_set, refl, ap, sym, subst, arith}
-use Rattle.std.proofs.lemmas.List.{length-map, map-set, get_or_read}
+use Rattle.std.proofs.Common.{◌≡◌, ◌∙◌, ℕ, ◌<◌, length, Bool, List, Option, Some, None, slice_index_or, slice_set, ap, sym, subst, arith}
+use Rattle.std.proofs.lemmas.List.{length-map, map-set}
 use Rattle.std.specs.Borrow.{Bor}
 use Rattle.dura_model.specs.Partition.{Partition, shown}
 use Rattle.dura_model.specs.World.{World}

@@ -2,8 +2,6 @@
 use Rattle.std.proofs.Common.{◌≡◌, ◌⊎◌, inl, inr, ℕ, zero, suc, ◌<◌, length, Bool, true, false, List, [], ◌∷◌, ◌++◌, slice_index_or, refl, sym, subst, arith}
 use Rattle.dura_value.specs.declared.addresses.Id.{Id}
 use Rattle.dura_value.specs.Ids as plain
-use Rattle.dura_value.specs.Views.{id_of}
-use Rattle.part_steps.specs.States.{state_of}
 use Rattle.part_steps.specs.declared.state.PartState.{PartState}
 use Rattle.state_lines.specs.Table.{AreAll}
 use Rattle.state_lines.proofs.Merging.{AreKept, kept_there, there_kept}

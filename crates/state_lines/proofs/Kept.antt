@@ -1,14 +1,13 @@
 -- The world that the states of all partitions show has lines for just those ids that a state keeps something for, with its answers.
-use Rattle.std.proofs.Common.{◌≡◌, ◌↔◌, ◌∙◌, ℕ, ◌<◌, length, true, List, [], ◌∷◌, Option, Some, None, option_map, is_some, map, slice_index_or, refl, ap, sym, subst, arith}
+use Rattle.std.proofs.Common.{◌≡◌, ◌↔◌, ◌∙◌, ℕ, ◌<◌, length, true, List, [], ◌∷◌, Option, Some, None, option_map, is_some, slice_index_or, refl, ap, sym, subst, arith}
 use Rattle.std.proofs.Math.Nat.{mod-lt}
 use Rattle.std.proofs.lemmas.List.{get_or-map}
 use Rattle.dura_model.specs.Partition.{Partition, fresh, instance_in, shown}
 use Rattle.dura_model.specs.World.{World}
 use Rattle.dura_value.specs.Digest.{fnv1a_64}
 use Rattle.dura_value.specs.Ids.{Id, home, written}
-use Rattle.dura_value.specs.Messages.{Answer, is_value}
+use Rattle.dura_value.specs.Messages.{is_value}
 use Rattle.flow_syntax.specs.Syntax.{Flows}
-use Rattle.part_steps.specs.Listing.{instance_standing}
 use Rattle.part_steps.specs.States.{AreStatesOfAll, IsStateOf, parts_in, state_of}
 use Rattle.part_steps.specs.declared.state.PartState.{PartState}
 use Rattle.state_lines.specs.Kinds.{has_line, line_answer, keeps, kept_answer}

@@ -1,5 +1,5 @@
 -- The tables of two partitions.
-use Rattle.std.proofs.Common.{◌≡◌, ◌∙◌, ◌⊎◌, inl, inr, ℕ, zero, suc, Bool, true, false, [], ◌∷◌, ◌++◌, codes, Option, Some, None, is_some, cond, refl, sym}
+use Rattle.std.proofs.Common.{◌≡◌, ◌∙◌, ◌⊎◌, inl, inr, ℕ, zero, suc, Bool, true, false, [], ◌∷◌, ◌++◌, codes, Option, Some, is_some, cond, refl, sym}
 use Rattle.std.specs.Fmt.{digits}
 use Rattle.dura_model.specs.Partition.{Partition, fresh, instance_in}
 use Rattle.dura_value.specs.ById.{at_id}

@@ -1,5 +1,5 @@
 -- Ids that are rising, are there and are the only ones, are all.
-use Rattle.std.proofs.Common.{◌≡◌, ◌⊎◌, inl, inr, Bool, true, List, [], ◌∷◌, Option, Some, None, refl, sym, subst}
+use Rattle.std.proofs.Common.{◌≡◌, ◌⊎◌, inl, inr, Bool, true, List, [], ◌∷◌, Option, Some, None, sym, subst}
 use Rattle.dura_value.specs.Ids.{Id}
 use Rattle.id_maps.specs.Order.{is_before, is_no_later, is_behind, NoneBehind}
 use Rattle.state_lines.specs.Table.{last_of, AreNext, AreAll}

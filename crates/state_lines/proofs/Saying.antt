@@ -1,5 +1,5 @@
 -- The lines of one kind are said one after another, and those of both make the table.
-use Rattle.std.proofs.Common.{◌≡◌, ◌∙◌, ◌⊎◌, inl, inr, ℕ, Bool, List, [], ◌∷◌, ◌++◌, Option, Some, None, Result, Ok, Err, IfErr, refl, sym, ap, subst, append_assoc}
+use Rattle.std.proofs.Common.{◌≡◌, ◌∙◌, inl, inr, ℕ, Bool, List, [], ◌∷◌, ◌++◌, Option, Some, None, Result, Ok, Err, IfErr, refl, sym, ap, subst, append_assoc}
 use Rattle.std.specs.Prelude.{OnOk}
 use Rattle.std.proofs.lemmas.List.{append-nil}
 use Rattle.dura_model.specs.World.{World}
@@ -10,7 +10,7 @@ use Rattle.id_maps.specs.Order.{IsNextBehind, NoneBehind}
 use Rattle.state_lines.specs.declared.error.ShowError.{ShowError}
 use Rattle.state_lines.specs.declared.error.ShowError.TheVariants.{Memory}
 use Rattle.state_lines.specs.Table.{table_line, table_lines, last_of, AreNext, has_entity, has_instance, entity_answer, instance_answer}
-use Rattle.state_lines.specs.Fronts.{IsPartOfNext, SaysTable, StopsInTable}
+use Rattle.state_lines.specs.Fronts.{SaysTable, StopsInTable}
 use Rattle.state_lines.specs.Steps.{SaysPart, SaysAll, StopsAt}
 use Rattle.state_lines.proofs.Next.{last_of-one_more, table_lines-one_more, one_more}
 

@@ -1,9 +1,9 @@
-use Rattle.std.proofs.Common.{◌≡◌, ◌∙◌, ℕ, ◌<◌, ◌++◌, List, Option, Some, None, length, slice_set, ap, subst, sym, le_trans}
+use Rattle.std.proofs.Common.{◌∙◌, ◌++◌, Option, None, length, ap, subst, le_trans}
 use Rattle.std.proofs.lemmas.List.{length-set}
 use Rattle.dura_model.specs.Partition.{shown}
 use Rattle.dura_value.specs.Messages.{Answer}
 use Rattle.dura_value.specs.Views.{id_of}
-use Rattle.part_steps.specs.States.{parts_in, state_of}
+use Rattle.part_steps.specs.States.{parts_in}
 use Rattle.site_model.specs.History.{tape}
 use Rattle.state_lines.specs.declared.error.ShowError.{ShowError}
 use Rattle.state_lines.specs.declared.error.ShowError.TheVariants.{Memory}
