@@ -49,7 +49,7 @@ fn comes_before(a: &Id, b: &Id) -> bool
 }
 
 /// The least of the heads so far, and of the one at the next place.
-#[tactic(auto, using(crate::proofs::Least::no_more, crate::proofs::Least::first_one))]
+#[tactic(auto, using(crate::proofs::Least::no_more))]
 fn lesser<'a>(
     least: Option<(usize, &'a Id)>,
     place: usize,
