@@ -1,6 +1,6 @@
 //! Laws of tables. They are said of the definitions alone: the functions do nothing.
 
-ghost use Rattle.std.specs.Prelude.{◌≡◌, ◌++◌, ◌↔◌, ◌<◌, ℕ, List, Bool, length, is_some, true};
+ghost use Rattle.std.specs.Prelude.{◌≡◌, ◌++◌, ◌↔◌, ◌<◌, ℕ, List, [], ◌∷◌, Bool, length, is_some, true};
 ghost use Rattle.std.specs.List.{AllPairs, Contains};
 ghost use Rattle.dura_model.specs.Entries.{shown_by};
 ghost use Rattle.dura_model.specs.Partition.{shown};
@@ -8,7 +8,7 @@ ghost use Rattle.dura_model.specs.World.{World};
 ghost use Rattle.dura_value.specs.Ids.{Id};
 ghost use Rattle.flow_syntax.specs.Syntax.{Flows};
 ghost use Rattle.id_maps.specs.Order.{is_before};
-ghost use Rattle.part_steps.specs.States.{AreStatesOfAll, parts_in, state_of};
+ghost use Rattle.part_steps.specs.States.{AreStatesOfAll, IsSound, count_of, parts_in, state_of};
 ghost use Rattle.part_steps.specs.declared.state.PartState.{PartState as Given};
 ghost use Rattle.state_lines.specs.Fronts.{AreFirstLines};
 ghost use Rattle.state_lines.specs.Table.{AreAll, IsTable, has_entity, has_instance};
@@ -46,6 +46,14 @@ pub fn worlds_are_kept()
         → has_instance (shown flows (length states) (parts_in states)) id ≡ true
         ↔ ((place : ℕ) × (place < length states)
         × (is_some ((parts_in states place).instances id) ≡ true)) }
+{}
+
+/// One state is the states of all partitions where there is one, and shows the world that it shows by itself.
+pub fn one_state_is_all()
+    ensures all { (state : Given) → IsSound state → count_of state ≡ 1
+        → AreStatesOfAll (state ∷ []) }
+    ensures shows { (flows : Flows) (state : Given) → shown flows 1 (parts_in (state ∷ []))
+        ≡ shown_by flows (state_of state) }
 {}
 
 /// What a call that failed has said of a table is its front.

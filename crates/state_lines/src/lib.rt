@@ -24,5 +24,7 @@ pub use examples::{
     empty_tables, tables_of_later, tables_of_two, tables_with_both, tables_with_none,
     tables_with_one_entity,
 };
-pub use laws::{fronts_begin_tables, states_have_one_table, tables_are_whole, worlds_are_kept};
+pub use laws::{
+    fronts_begin_tables, one_state_is_all, states_have_one_table, tables_are_whole, worlds_are_kept,
+};
 pub use table::say_table;
