@@ -22,49 +22,57 @@ fn standing_of_entity(entity: &Entity) -> Result<Answer, AllocError>
 }
 
 impl PartState {
-    /// The first entity behind the last one, or of all, with the answer that a query of it would get, whoever holds it.
-    pub fn next_entity(&self, last: Option<&Id>) -> Result<Option<(&Id, Answer)>, AllocError>
-        ensures next { IfOk result (λ found.
-            IfSome found (λ one. IsNextBehind (λ id. is_some ((state_of self.now).entities id))
-            (option_map (λ id. id_of id.now) last.entry) (id_of one.0.now))) }
-        ensures answer { IfOk result (λ found.
-            IfSome found (λ one. entity_standing (state_of self.now) (id_of one.0.now)
-            ≡ Some (answer_of one.1))) }
-        ensures none { IfOk result (λ found.
-            IfNone found (NoneBehind (λ id. is_some ((state_of self.now).entities id))
-            (option_map (λ id. id_of id.now) last.entry))) }
+    /// The first entity behind the last one, or of all.
+    pub fn next_entity_id(&self, last: Option<&Id>) -> Option<&Id>
+        ensures next { IfSome result (λ id.
+            IsNextBehind (λ id. is_some ((state_of self.now).entities id))
+            (option_map (λ id. id_of id.now) last.entry) (id_of id.now)) }
+        ensures none { IfNone result (NoneBehind (λ id. is_some ((state_of self.now).entities id))
+            (option_map (λ id. id_of id.now) last.entry)) }
     {
         match self.rows.entities.next(last) {
-            Some((id, entity)) => {
-                let answer = standing_of_entity(entity)?;
-                Ok(Some((id, answer)))
-            }
+            Some((id, _)) => Some(id),
+            None => None,
+        }
+    }
+
+    /// The first instance behind the last one, or of all.
+    pub fn next_instance_id(&self, last: Option<&Id>) -> Option<&Id>
+        ensures next { IfSome result (λ id.
+            IsNextBehind (λ id. is_some ((state_of self.now).instances id))
+            (option_map (λ id. id_of id.now) last.entry) (id_of id.now)) }
+        ensures none { IfNone result (NoneBehind (λ id. is_some ((state_of self.now).instances id))
+            (option_map (λ id. id_of id.now) last.entry)) }
+    {
+        match self.rows.instances.next(last) {
+            Some((id, _)) => Some(id),
+            None => None,
+        }
+    }
+
+    /// The answer that a query of an entity would get, whoever holds it, if the entity is there.
+    pub fn entity_answer(&self, id: &Id) -> Result<Option<Answer>, AllocError>
+        ensures { IfOk result (λ found. option_map answer_of found
+            ≡ entity_standing (state_of self.now) (id_of id.now)) }
+    {
+        match self.rows.entities.get(id) {
+            Some(entity) => Ok(Some(standing_of_entity(entity)?)),
             None => Ok(None),
         }
     }
 
-    /// The first instance behind the last one, or of all, with the answer that a query of it would get: its history is replayed.
-    pub fn next_instance<R: Reactions>(
+    /// The answer that a query of an instance would get, if the instance is there: its history is replayed.
+    pub fn instance_answer<R: Reactions>(
         &self,
         alloc: Global,
         reactions: &R,
-        last: Option<&Id>,
-    ) -> Result<Option<(&Id, Answer)>, AllocError>
-        ensures next { IfOk result (λ found.
-            IfSome found (λ one. IsNextBehind (λ id. is_some ((state_of self.now).instances id))
-            (option_map (λ id. id_of id.now) last.entry) (id_of one.0.now))) }
-        ensures answer { IfOk result (λ found.
-            IfSome found (λ one. instance_standing (R.flows reactions.now) (state_of self.now)
-            (id_of one.0.now) ≡ Some (answer_of one.1))) }
-        ensures none { IfOk result (λ found.
-            IfNone found (NoneBehind (λ id. is_some ((state_of self.now).instances id))
-            (option_map (λ id. id_of id.now) last.entry))) }
+        id: &Id,
+    ) -> Result<Option<Answer>, AllocError>
+        ensures { IfOk result (λ found. option_map answer_of found
+            ≡ instance_standing (R.flows reactions.now) (state_of self.now) (id_of id.now)) }
     {
-        match self.rows.instances.next(last) {
-            Some((id, row)) => {
-                let answer = reactions.standing(alloc, id, row)?;
-                Ok(Some((id, answer)))
-            }
+        match self.rows.instances.get(id) {
+            Some(row) => Ok(Some(reactions.standing(alloc, id, row)?)),
             None => Ok(None),
         }
     }

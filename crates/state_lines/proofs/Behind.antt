@@ -43,7 +43,7 @@ module _ (last : Option plain.Id) (id : plain.Id) (behind : is_behind last id �
   first_no_more : (k : Id) → one_if (is_behind (Some id) (id_of k)) ≤ one_if (is_behind last (id_of k))
   first_no_more k = one_no_more (is_behind (Some id) (id_of k)) (is_behind last (id_of k)) (λ after. behind_more last id (id_of k) behind after)
 
-  no_more : {X : Type 0} (entries : List (Id × X)) → count_behind (Some id) entries ≤ count_behind last entries
+  pub no_more : {X : Type 0} (entries : List (Id × X)) → count_behind (Some id) entries ≤ count_behind last entries
   no_more [] = omega arith
   no_more (e ∷ entries) = let here = first_no_more e.0 in let those = no_more entries in omega arith
 

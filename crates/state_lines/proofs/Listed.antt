@@ -1,5 +1,5 @@
 -- The ids of a map's entries can be listed in order.
-use Rattle.std.proofs.Common.{◌≡◌, ◌∙◌, ◌⊎◌, inl, inr, ℕ, zero, suc, ◌≤◌, Bool, true, false, cond, List, [], ◌∷◌, Option, Some, None, option_map, is_some, refl, ap, sym, subst, arith}
+use Rattle.std.proofs.Common.{◌≡◌, ◌∙◌, ◌⊎◌, inl, inr, ℕ, zero, suc, ◌≤◌, Bool, true, false, cond, List, [], ◌∷◌, Option, Some, None, is_some, refl, ap, sym, subst, arith}
 use Rattle.std.specs.declared.cmp.Ordering.{Ordering}
 use Rattle.std.specs.declared.cmp.Ordering.TheVariants.{Less, Equal, Greater}
 use Rattle.std.specs.Ordering.{is_le, ordering_reverse}
@@ -37,7 +37,7 @@ module _ {X : Type 0} where
   by_first true x o found = inl refl
   by_first false x o found = inr found
 
-  first_or_other : (e : Id × X) (entries : List (Id × X)) (id : plain.Id) → has_entry (e ∷ entries) id ≡ true → (id_of e.0 ≡ id) ⊎ (has_entry entries id ≡ true)
+  pub first_or_other : (e : Id × X) (entries : List (Id × X)) (id : plain.Id) → has_entry (e ∷ entries) id ≡ true → (id_of e.0 ≡ id) ⊎ (has_entry entries id ≡ true)
   first_or_other e entries id found = elim (by_first (is_at (id_cmp (key_of id)) e.0) e.1 (lookup (is_at (id_cmp (key_of id))) entries) found) [
     | inl here ↦ inl (same_key id e.0 here)
     | inr later ↦ inr later
@@ -47,14 +47,14 @@ module _ {X : Type 0} where
   first_is true x o is = refl
   first_is false x o is = absurd (cc is)
 
-  has_first : (e : Id × X) (entries : List (Id × X)) → has_entry (e ∷ entries) (id_of e.0) ≡ true
+  pub has_first : (e : Id × X) (entries : List (Id × X)) → has_entry (e ∷ entries) (id_of e.0) ≡ true
   has_first e entries = first_is (is_at (id_cmp (key_of (id_of e.0))) e.0) e.1 (lookup (is_at (id_cmp (key_of (id_of e.0)))) entries) (at_itself e.0)
 
   still : (b : Bool) (x : X) (o : Option X) → is_some o ≡ true → is_some (cond b (Some x) o) ≡ true
   still true x o found = refl
   still false x o found = found
 
-  has_other : (e : Id × X) (entries : List (Id × X)) (id : plain.Id) → has_entry entries id ≡ true → has_entry (e ∷ entries) id ≡ true
+  pub has_other : (e : Id × X) (entries : List (Id × X)) (id : plain.Id) → has_entry entries id ≡ true → has_entry (e ∷ entries) id ≡ true
   has_other e entries id found = still (is_at (id_cmp (key_of id)) e.0) e.1 (lookup (is_at (id_cmp (key_of id))) entries) found
 
   module _ (last : Option plain.Id) where
@@ -127,15 +127,7 @@ module _ {X : Type 0} where
     | inr none ↦ none_listed entries last none
   ]
 
-  all_listed : (entries : List (Id × X)) → (ids : List plain.Id) × AreAll (has_entry entries) ids
+  pub all_listed : (entries : List (Id × X)) → (ids : List plain.Id) × AreAll (has_entry entries) ids
   all_listed entries =
       let those : Lists entries None = listed (count_behind None entries) entries None (omega arith) in
       (those.ids, record { next = those.next; end = those.end })
-
-seen_there : {X Y : Type 0} (view : X → Y) (o : Option X) → is_some o ≡ is_some (option_map view o)
-seen_there view None = refl
-seen_there view (Some x) = refl
-
--- what is seen of all entries is there for a list of ids
-pub all_seen : {X Y : Type 0} (view : X → Y) (entries : List (Id × X)) → (ids : List plain.Id) × AreAll (λ id. is_some (option_map view (lookup (is_at (id_cmp (key_of id))) entries))) ids
-all_seen view entries = subst (λ (there : plain.Id → Bool). (ids : List plain.Id) × AreAll there ids) (λ i id. seen_there view (lookup (is_at (id_cmp (key_of id))) entries) i) (all_listed entries)

@@ -10,7 +10,8 @@ use Rattle.dura_value.specs.Views.{id_of}
 use Rattle.dura_value.proofs.Ids.{id_same}
 use Rattle.id_maps.specs.Keys.{id_cmp, key_of}
 use Rattle.id_maps.specs.Order.{is_before, is_no_later, is_behind, IsNextBehind}
-use Rattle.id_maps.proofs.Changes.{is_key}
+use Rattle.dura_value.specs.declared.addresses.Id.{Id as Given}
+use Rattle.id_maps.proofs.Changes.{is_key, key_again}
 
 pub id_again : (id : Id) → id_of (key_of id) ≡ id
 id_again (client name) = refl
@@ -72,3 +73,25 @@ by_order a b Greater is low = absurd (cc low)
 -- an id that is no later than another is that one or before it
 pub same_or_before : (a b : Id) → is_no_later a b ≡ true → (a ≡ b) ⊎ (is_before a b ≡ true)
 same_or_before a b low = by_order a b (id_cmp (key_of a) (key_of b)) refl low
+
+le_by_lt : (o : Ordering) → is_lt o ≡ true → is_le o ≡ true
+le_by_lt Less is = refl
+le_by_lt Equal is = absurd (cc is)
+le_by_lt Greater is = absurd (cc is)
+
+back_by_lt : (o : Ordering) → is_lt o ≡ false → is_le (ordering_reverse o) ≡ true
+back_by_lt Less is = absurd (cc is)
+back_by_lt Equal is = refl
+back_by_lt Greater is = refl
+
+-- an id that is before another is no later
+pub before_no_later : (a b : Id) → is_before a b ≡ true → is_no_later a b ≡ true
+before_no_later a b is = le_by_lt (id_cmp (key_of a) (key_of b)) is
+
+-- where an id isn't before another that one is no later
+pub not_before : (a b : Id) → is_before a b ≡ false → is_no_later b a ≡ true
+not_before a b is = ap is_le (total-law.antisymm (key_of b) (key_of a)) ∙ back_by_lt (id_cmp (key_of a) (key_of b)) is
+
+-- the order of ids is that of their keys
+pub before_as_keys : (a b : Given) → is_before (id_of a) (id_of b) ≡ is_lt (id_cmp a b)
+before_as_keys a b = ap (λ (k : Given). is_lt (id_cmp k (key_of (id_of b)))) (key_again a) ∙ ap (λ (k : Given). is_lt (id_cmp a k)) (key_again b)

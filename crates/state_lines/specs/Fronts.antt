@@ -1,14 +1,13 @@
 -- What of a table was said: all of it, or its first lines and a part of the next one.
 use Rattle.std.specs.Prelude.{◌≡◌, ◌⊎◌, ℕ, Bool, List, [], ◌++◌, Option, None}
-use Rattle.dura_model.specs.Partition.{Partition}
+use Rattle.dura_model.specs.World.{World}
 use Rattle.dura_value.specs.Ids.{Id}
 use Rattle.dura_value.specs.Messages.{Answer}
 use Rattle.flow_syntax.specs.Syntax.{Flows}
 use Rattle.id_maps.specs.Order.{IsNextBehind}
-use Rattle.part_steps.specs.Listing.{instance_standing}
 use Rattle.state_lines.specs.declared.error.ShowError.{ShowError}
 use Rattle.state_lines.specs.declared.error.ShowError.TheVariants.{Memory}
-use Rattle.state_lines.specs.Table.{table_line, table_lines, last_of, AreNext, AreAll, has_entity, has_instance, entity_answer, IsTable}
+use Rattle.state_lines.specs.Table.{table_line, table_lines, last_of, AreNext, AreAll, has_entity, has_instance, entity_answer, instance_answer, IsTable}
 
 -- This is a part of the line of the next id behind the last one.
 pub record IsPartOfNext (there : Id → Bool) (standing : Id → Option Answer) (last : Option Id) (part : List ℕ) : Type 0 where
@@ -25,27 +24,27 @@ pub record AreFirst (there : Id → Bool) (standing : Id → Option Answer) (lin
   pub going : (part ≡ []) ⊎ IsPartOfNext there standing (last_of None ids) part
 
 -- These are the lines of all entities and of the first instances, and this is a part of the next one, or nothing.
-pub record AreInInstances (flows : Flows) (p : Partition) (lines part : List ℕ) : Type 0 where
+pub record AreInInstances (flows : Flows) (world : World) (lines part : List ℕ) : Type 0 where
   pub entities : List Id
-  pub all_entities : AreAll (has_entity p) entities
+  pub all_entities : AreAll (has_entity world) entities
   pub more : List ℕ
-  pub first : AreFirst (has_instance p) (instance_standing flows p) more part
-  pub whole : lines ≡ table_lines (entity_answer flows p) entities ++ more
+  pub first : AreFirst (has_instance world) (instance_answer world) more part
+  pub whole : lines ≡ table_lines (entity_answer flows world) entities ++ more
 
 -- these are the first lines of the table, and this is a part of the next one, or nothing
-abbrev pub AreFirstLines : Flows → Partition → (lines part : List ℕ) → Type 0
-AreFirstLines flows p lines part = AreFirst (has_entity p) (entity_answer flows p) lines part ⊎ AreInInstances flows p lines part
+abbrev pub AreFirstLines : Flows → World → (lines part : List ℕ) → Type 0
+AreFirstLines flows world lines part = AreFirst (has_entity world) (entity_answer flows world) lines part ⊎ AreInInstances flows world lines part
 
 -- The tape goes on by the table.
-pub record SaysTable (flows : Flows) (p : Partition) (old new : List ℕ) : Type 0 where
+pub record SaysTable (flows : Flows) (world : World) (old new : List ℕ) : Type 0 where
   pub table : List ℕ
-  pub is : IsTable flows p table
+  pub is : IsTable flows world table
   pub said : new ≡ old ++ table
 
 -- The tape goes on by the first lines of the table and by a part of the next one, of which there is none where memory ran out.
-pub record StopsInTable (flows : Flows) (p : Partition) (error : ShowError) (old new : List ℕ) : Type 0 where
+pub record StopsInTable (flows : Flows) (world : World) (error : ShowError) (old new : List ℕ) : Type 0 where
   pub lines : List ℕ
   pub part : List ℕ
-  pub front : AreFirstLines flows p lines part
+  pub front : AreFirstLines flows world lines part
   pub said : new ≡ old ++ lines ++ part
   pub whole : error ≡ Memory → part ≡ []

@@ -1,12 +1,11 @@
--- How a table is said: one line after another.
-use Rattle.std.specs.Prelude.{◌≡◌, ◌⊎◌, ℕ, Bool, List, [], ◌++◌, Option}
+-- How the lines of one kind are said: one after another.
+use Rattle.std.specs.Prelude.{◌≡◌, ℕ, Bool, List, [], ◌++◌, Option}
 use Rattle.dura_value.specs.Ids.{Id}
 use Rattle.dura_value.specs.Messages.{Answer}
-use Rattle.id_maps.specs.Order.{IsNextBehind, NoneBehind}
 use Rattle.state_lines.specs.declared.error.ShowError.{ShowError}
 use Rattle.state_lines.specs.declared.error.ShowError.TheVariants.{Memory}
-use Rattle.state_lines.specs.Fronts.{IsPartOfNext, AreFirst}
-use Rattle.state_lines.specs.Table.{table_line, table_lines, AreAll}
+use Rattle.state_lines.specs.Fronts.{AreFirst}
+use Rattle.state_lines.specs.Table.{table_lines, AreAll}
 
 -- Of a line a part was said, and none where memory ran out.
 pub record SaysPart (line : List ℕ) (error : ShowError) (old new : List ℕ) : Type 0 where
@@ -14,23 +13,6 @@ pub record SaysPart (line : List ℕ) (error : ShowError) (old new : List ℕ) :
   pub rest : List ℕ
   pub said : new ≡ old ++ part
   pub front : line ≡ part ++ rest
-  pub whole : error ≡ Memory → part ≡ []
-
--- The line of the next id was said.
-pub record SaysNext (there : Id → Bool) (standing : Id → Option Answer) (last : Option Id) (id : Id) (old new : List ℕ) : Type 0 where
-  pub next : IsNextBehind there last id
-  pub said : new ≡ old ++ table_line id (standing id)
-
--- There is no next id, and nothing was said.
-pub record SaysNone (there : Id → Bool) (last : Option Id) (old new : List ℕ) : Type 0 where
-  pub end : NoneBehind there last
-  pub silent : new ≡ old
-
--- Of the line of the next id a part was said, or nothing.
-pub record StopsAtNext (there : Id → Bool) (standing : Id → Option Answer) (last : Option Id) (error : ShowError) (old new : List ℕ) : Type 0 where
-  pub part : List ℕ
-  pub said : new ≡ old ++ part
-  pub going : (part ≡ []) ⊎ IsPartOfNext there standing last part
   pub whole : error ≡ Memory → part ≡ []
 
 -- The lines of all ids were said.

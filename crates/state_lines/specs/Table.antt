@@ -1,12 +1,12 @@
--- The table of a partition's state: a line for each entity that was delivered to, then one for each instance of an orchestration.
+-- The table of a world: a line for each entity that was delivered to, then one for each instance of an orchestration.
 use Rattle.std.specs.Prelude.{◌≡◌, ℕ, Bool, List, [], ◌∷◌, ◌++◌, Option, Some, None, is_some, option_map, if◌then◌else◌}
 use Rattle.client_port.specs.Lines.{answer_text}
-use Rattle.dura_model.specs.Partition.{Partition}
+use Rattle.dura_model.specs.Deliveries.{standing}
+use Rattle.dura_model.specs.World.{World}
 use Rattle.dura_value.specs.Ids.{Id, orchestration, entity, client, written}
-use Rattle.dura_value.specs.Messages.{Answer, is_missing}
+use Rattle.dura_value.specs.Messages.{Answer, is_missing, is_value}
 use Rattle.flow_syntax.specs.Syntax.{Flows, class_of}
 use Rattle.id_maps.specs.Order.{IsNextBehind, NoneBehind}
-use Rattle.part_steps.specs.Listing.{entity_standing, instance_standing}
 
 -- ID ANSWER, and a line feed; no line where there is no answer
 abbrev pub table_line : Id → Option Answer → List ℕ
@@ -33,11 +33,11 @@ pub record AreAll (there : Id → Bool) (ids : List Id) : Type 0 where
   pub next : AreNext there None ids
   pub end : NoneBehind there (last_of None ids)
 
-abbrev pub has_entity : Partition → Id → Bool
-has_entity p id = is_some (p.entities id)
+abbrev pub has_entity : World → Id → Bool
+has_entity world id = is_some (world.entities id)
 
-abbrev pub has_instance : Partition → Id → Bool
-has_instance p id = is_some (p.instances id)
+abbrev pub has_instance : World → Id → Bool
+has_instance world id = is_some (world.orchestrations id)
 
 -- an entity of a class that isn't there has no value to tell
 abbrev pub answer_at : Flows → Id → Answer → Answer
@@ -46,13 +46,17 @@ answer_at flows (orchestration flow key) answer = answer
 answer_at flows (client name) answer = answer
 
 -- the answer that a query of an entity would get, whoever holds it
-abbrev pub entity_answer : Flows → Partition → Id → Option Answer
-entity_answer flows p id = option_map (answer_at flows id) (entity_standing p id)
+abbrev pub entity_answer : Flows → World → Id → Option Answer
+entity_answer flows world id = option_map (λ e. answer_at flows id (is_value e.value)) (world.entities id)
+
+-- the answer that a query of an instance would get
+abbrev pub instance_answer : World → Id → Option Answer
+instance_answer world id = option_map (λ o. standing o.machine.progress) (world.orchestrations id)
 
 -- The lines of all entities, and behind them those of all instances.
-pub record IsTable (flows : Flows) (p : Partition) (table : List ℕ) : Type 0 where
+pub record IsTable (flows : Flows) (world : World) (table : List ℕ) : Type 0 where
   pub entities : List Id
   pub instances : List Id
-  pub all_entities : AreAll (has_entity p) entities
-  pub all_instances : AreAll (has_instance p) instances
-  pub lines : table ≡ table_lines (entity_answer flows p) entities ++ table_lines (instance_standing flows p) instances
+  pub all_entities : AreAll (has_entity world) entities
+  pub all_instances : AreAll (has_instance world) instances
+  pub lines : table ≡ table_lines (entity_answer flows world) entities ++ table_lines (instance_answer world) instances

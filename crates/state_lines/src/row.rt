@@ -28,7 +28,7 @@ fn table_line(alloc: Global, id: &Id, answer: &Answer) -> Result<Vec<u8>, AllocE
 }
 
 /// Says the line of an id.
-#[tactic(auto, using(crate::proofs::Lines::said_whole, crate::proofs::Lines::said_part, crate::proofs::Lines::nothing_said, site_model::proofs::Tape::says_no_file))]
+#[tactic(auto, using(crate::proofs::OnTape::said_whole, crate::proofs::OnTape::said_part, crate::proofs::OnTape::nothing_said, site_model::proofs::Tape::says_no_file))]
 pub(crate) fn say_line<V: Site>(
     alloc: Global,
     site: &mut V,

@@ -25,7 +25,7 @@ said_part line old new result call = record {
 pub nothing_said : (line before : List ℕ) → SaysPart line Memory before before
 nothing_said line before = record { part = []; rest = line; said = sym (append-nil before); front = refl; whole = λ is. refl }
 
--- where the error is that of memory, what holds at it holds of the result
-pub by_memory : {T : Type 0} (result : Result T ShowError) (P : ShowError → Type 0) → IsErrAnd result (λ error. error ≡ Memory) → P Memory → IfErr result P
-by_memory (Ok value) P is holds = tt
-by_memory (Err error) P is holds = subst P (sym is) holds
+-- where the error is a known one, what holds at it holds of the result
+pub by_error : {T : Type 0} (result : Result T ShowError) (known : ShowError) (P : ShowError → Type 0) → IsErrAnd result (λ error. error ≡ known) → P known → IfErr result P
+by_error (Ok value) known P is holds = tt
+by_error (Err error) known P is holds = subst P (sym is) holds
