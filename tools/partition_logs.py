@@ -1,12 +1,12 @@
 #!/usr/bin/env python3
 """Logs of many partitions, by hand: a writer of logs that hold runs of the flow Sum, and a reader that says what recovery owes.
 
-    tools/partition_logs.py write DIR N COUNT [--batch B] [--clients K] [--life ROUNDS] [--trims ROUNDS]
+    tools/partition_logs.py write DIR N RUN.. [--batch B] [--clients K] [--life ROUNDS] [--trims ROUNDS]
     tools/partition_logs.py read DIR N
 
-`write` puts the flows file of examples/sum and the logs of N partitions into a directory: COUNT instances of Sum, each started and
-waited for by one of K clients. `read` prints the table that `show DIR --partitions N` is to print, or the fault's line, and ends with
-its status.
+`write` puts the flows file of examples/sum and the logs of N partitions into a directory. A RUN is CLIENT:KEY, an instance of Sum that a
+client starts and waits for, or a number of instances, each of one of K clients. `read` prints the table that `show DIR --partitions N`
+is to print, or the fault's line, and ends with its status.
 
 The two halves share the homes and the names of files, and nothing else: the writer plays the partitions of an engine that commits each
 entry before the next, and the reader goes by the rules of docs/FORMAT.md and docs/MODEL.md. It knows of flows what Sum needs, and
@@ -260,8 +260,11 @@ def put_logs(folder, logs):
         (Path(folder) / log_name(partition)).write_bytes(log)
 
 
-def many_runs(count, clients):
-    return [(b"c%d" % (i % clients), b"k%d" % i) for i in range(count)]
+def runs_of(word, clients):
+    """The runs that a word of the command stands for."""
+    if word.isdigit():
+        return [(b"c%d" % (i % clients), b"k%d" % i) for i in range(int(word))]
+    return [tuple(word.encode().split(b":"))]
 
 
 # ---- the reader: what bytes are
@@ -676,7 +679,7 @@ class State:
             del box[lengths.get(target, 0) :]
 
     def table(self):
-        """The lines of what lives here, by written id."""
+        """What a query of each that lives here would be answered, by written id."""
         lines = {who: (MISSING, None) for who in self.entities}
         lines.update((who, one.end or (RUNNING, None)) for who, one in self.instances.items())
         return lines
@@ -756,24 +759,25 @@ def flows_in(flows):
 
 
 def value_text(value):
+    """A value as JSON."""
     tag, inside = value
-    parts = {0: lambda: "null", 1: lambda: "false", 2: lambda: "true", 3: lambda: str(inside)}
-    if tag == 4:
-        return json.dumps(inside.decode(), ensure_ascii=False)
-    return "[" + ",".join(map(value_text, inside)) + "]" if tag == 5 else parts[tag]()
+    if tag == 5:
+        return "[" + ",".join(map(value_text, inside)) + "]"
+    return json.dumps(inside.decode(), ensure_ascii=False) if tag == 4 else str(inside) if tag == 3 else ("null", "false", "true")[tag]
 
 
-def line_text(who, answer):
-    words = {DONE: "done", FAILED: "failed", MISSING: "none", RUNNING: "running"}
-    inside = {DONE: value_text, FAILED: lambda text: value_text((4, text))}.get(answer[0], lambda _: "")(answer[1])
-    return f"{who.decode()} {words[answer[0]]} {inside}".rstrip(" ") + "\n" if not inside else f"{who.decode()} {words[answer[0]]} {inside}\n"
+def answer_text(answer):
+    tag, inside = answer
+    if tag in (MISSING, RUNNING):
+        return "none" if tag == MISSING else "running"
+    return f"done {value_text(inside)}" if tag == DONE else f"failed {value_text((4, inside))}"
 
 
 def table_of(states):
     lines = {}
     for state in states:
         lines.update(state.table())
-    return "".join(line_text(who, lines[who]) for who in sorted(lines)).encode()
+    return "".join(f"{who.decode()} {answer_text(lines[who])}\n" for who in sorted(lines)).encode()
 
 
 def owed(flows, files, count):
@@ -805,7 +809,7 @@ def words():
         command.add_argument("folder", type=Path)
         command.add_argument("partitions", type=int)
     write = commands.choices["write"]
-    write.add_argument("count", type=int)
+    write.add_argument("runs", nargs="+")
     for option, default in (("--batch", 16), ("--clients", 4), ("--life", 0), ("--trims", 1)):
         write.add_argument(option, type=int, default=default)
     return parser.parse_args()
@@ -817,7 +821,7 @@ def main():
         asked.folder.mkdir(exist_ok=True)
         flows = SUM_FILE.read_bytes()
         (asked.folder / "flows.json").write_bytes(flows)
-        runs = many_runs(asked.count, asked.clients)
+        runs = [run for word in asked.runs for run in runs_of(word, asked.clients)]
         put_logs(asked.folder, write_logs(runs, asked.partitions, flows, batch=asked.batch, life=asked.life, trims=asked.trims))
         return 0
     status, line, table = owed((asked.folder / "flows.json").read_bytes(), files_in(asked.folder), asked.partitions)

@@ -1,0 +1,282 @@
+#!/usr/bin/env python3
+"""Trials of logs of three partitions: `rows/partitions.py PROGRAM TRIAL [--every K]`.
+
+Each case of a trial is a set of log files. The program shows them, and its status, the first line of its standard error and its
+standard output are to be those that the reader of tools/partition_logs.py owes. Of each case that fails a line is printed, and at the
+end how many passed. With `--every K` each K-th case is tried, of each trial others; without it all are."""
+
+import argparse
+import os
+import sys
+import tempfile
+from pathlib import Path
+from struct import pack
+
+sys.dont_write_bytecode = True
+sys.path.insert(0, str(Path(__file__).resolve().parent.parent / "tools"))
+
+from partition_logs import SUM_FILE, FIRST_GATE, OPEN, Segment, header, log_name, owed, spell_entry, spell_frame, spell_id, write_logs
+
+FLOWS = SUM_FILE.read_bytes()
+COUNT = 3
+# Clients g, a and c live in 0, 1 and 2, and so do Sum/x, Sum/w and Sum/u.
+AROUND = [(b"g", b"w"), (b"a", b"u"), (b"c", b"x")]
+AT_HOME = [(b"g", b"x"), (b"a", b"w"), (b"c", b"u")]
+
+
+def sums(runs=None, count=COUNT, **options):
+    """The log files of these runs, by their names."""
+    return {log_name(p): log for p, log in enumerate(write_logs(AROUND if runs is None else runs, count, FLOWS, **options))}
+
+
+def changed(data, at, byte):
+    return data[:at] + bytes([byte]) + data[at + 1 :]
+
+
+def with_field(data, at, spelled):
+    return data[:at] + spelled + data[at + len(spelled) :]
+
+
+# ---- trials: each gives cases, what they are, the files by name, and how many partitions are asked for
+
+
+def trial_whole():
+    """Logs as an engine leaves them: of other numbers of partitions, entries of other lengths, several incarnations, few Trims."""
+    many = [(b"c%d" % (i % 5), b"k%d" % i) for i in range(40)]
+    for count in (1, 2, 3, 4, 7, 32):
+        for options in ({}, {"batch": 1}, {"batch": 64, "life": 2}, {"batch": 3, "life": 1, "trims": 3}):
+            for runs in ([], AROUND, many):
+                files = sums(runs, count, **options)
+                lines = b"".join(sorted(b"Sum/" + key + b" done 5\n" for _, key in runs))
+                assert owed(FLOWS, files, count) == (0, "", lines), (count, options)
+                yield f"{len(runs)} sums, {count} partitions, {options}", files, count
+
+
+def trial_cut():
+    """Each log is cut at each byte."""
+    files = sums(life=4)
+    for name, log in files.items():
+        for length in range(len(log)):
+            yield f"{name} cut at {length}", {**files, name: log[:length]}, COUNT
+
+
+def each_byte(change):
+    files = sums(life=4)
+    for name, log in files.items():
+        for at, byte in enumerate(log):
+            if change(byte) != byte:
+                yield f"{name} with {change(byte):02x} at {at}", {**files, name: changed(log, at, change(byte))}, COUNT
+
+
+def trial_bytes_00():
+    return each_byte(lambda byte: 0)
+
+
+def trial_bytes_c3():
+    return each_byte(lambda byte: OPEN)
+
+
+def trial_bytes_ff():
+    return each_byte(lambda byte: 0xFF)
+
+
+def trial_bytes_raised():
+    return each_byte(lambda byte: (byte + 1) % 256)
+
+
+FIELDS = [
+    (9, [pack(">I", n) for n in (0, 1, 2, 3, 32, 2**32 - 1)]),
+    (13, [pack(">I", n) for n in (0, 1, 2, 4, 32, 33, 2**32 - 1)]),
+    (17, [pack(">Q", n) for n in (0, 1, 2**63, 2**64 - 1)]),
+    (25, [pack(">Q", n) for n in (1, 2**62, 2**63 - 1, 2**63, 2**64 - 1)]),
+]
+
+
+def trial_headers():
+    """Each number of each header is another, of a log with entries and of one without; other numbers of partitions are asked for."""
+    files = sums()
+    for name, log in files.items():
+        for at, numbers in FIELDS:
+            for number in numbers:
+                changed_log = with_field(log, at, number)
+                yield f"{name} with {number.hex()} at {at}", {**files, name: changed_log}, COUNT
+                yield f"{name} with {number.hex()} at {at}, empty", {**files, name: changed_log[:FIRST_GATE] + b"\0"}, COUNT
+    for count in (1, 2, 4, 32):
+        yield f"shown as {count}", files, count
+
+
+def trial_second_files():
+    """A partition's log lies in the second file, or in both; the first file is fresh in each way."""
+    files = sums()
+    for p in range(COUNT):
+        first, second, log = log_name(p), log_name(p, 1), files[log_name(p)]
+        for front in (b"", b"\xc3", b"\0", changed(log, 0, 0), changed(log, 0, 0xC2), changed(log, 0, 0xFF)):
+            yield f"{second} behind {front[:2].hex()}", {**files, first: front, second: log}, COUNT
+            yield f"{second} of {front[:2].hex()}", {**files, second: front}, COUNT
+        late = header_of(log, 1) + b"\0"
+        for one, other in ((log, log), (log, late), (late, log), (late, late), (late, header_of(log, 2) + b"\0")):
+            yield f"both of {p}, {len(one)} and {len(other)} bytes", {**files, first: one, second: other}, COUNT
+
+
+def header_of(log, base):
+    return with_field(log[:FIRST_GATE], 25, pack(">Q", base))
+
+
+def trial_emptied():
+    """Each log, each two and all are emptied: what needs them is unclosed, and what doesn't is shown."""
+    both = AT_HOME + [(one, b"b" + two) for one, two in AROUND]
+    for runs, what in ((AROUND, "around"), (AT_HOME, "at home"), (both, "both"), (AROUND[:1], "one"), (AROUND[1:], "two")):
+        files = sums(runs)
+        for emptied in range(1, 2**COUNT):
+            for left in (0, 1, FIRST_GATE + 1):
+                lost = {name: log[:FIRST_GATE] + b"\0" if left > 1 else log[:left] for p, (name, log) in enumerate(files.items()) if emptied >> p & 1}
+                yield f"{what}, {' '.join(lost)} of {left}", {**files, **lost}, COUNT
+
+
+# ---- faults: what each makes of a log of a partition, of which more may be wrong already
+
+
+def appended(log, partition, items):
+    """The log with one entry more, in its own frame. A log that is damaged, or has another base, gets none."""
+    try:
+        entries = Segment(log, partition).entries
+    except Exception:
+        return log
+    position, incarnation = (entries[-1][0] + 1, entries[-1][1]) if entries else (0, 0)
+    return log[:-1] + spell_frame([spell_entry(position, incarnation, items)]) + b"\0"
+
+
+def absent(partition):
+    """A delivery of a link where nothing is under way."""
+    return b"\x22" + spell_id(b"#nobody") + spell_id(b"Sum/nothing") + pack(">Q", 2**40)
+
+
+def unsent(log, partition):
+    """The next message of a stream, which nobody sent."""
+    source = (partition + 1) % COUNT
+    number = sum(item[0] == 0x21 and item[1] == source for entry in Segment(log, partition).entries for item in entry[2])
+    request = spell_id(b"#" + AROUND[source][0]) + spell_id(b"Sum/" + AT_HOME[partition][1]) + b"\x13" + pack(">I", 9)
+    return b"\x21" + pack(">IQQQ", source, 0, 99, number) + request
+
+
+def unread(partition):
+    """A Trim of what nobody has read."""
+    return b"\x25" + pack(">IQQQ", (partition + 2) % COUNT, 1000, 0, 0)
+
+
+# (the numbers tell the partitions apart, so that it is seen which one decided)
+FAULTS = {
+    "damaged header": lambda log, p: changed(log, 3, 0x58),
+    "damaged frame": lambda log, p: changed(log, FIRST_GATE + 1, 0x7F),
+    "damaged entry": lambda log, p: appended(log, p, [b"\x1f"]),
+    "other shape": lambda log, p: with_field(log, 13, pack(">I", 4 + p)),
+    "other digest": lambda log, p: changed(log, 24, log[24] ^ (p + 1)),
+    "late base": lambda log, p: header_of(log, 1 + p) + b"\0",
+    "illegal entry": lambda log, p: appended(log, p, [absent(p)]),
+    "unclosed entry": lambda log, p: appended(log, p, [unsent(log, p)]),
+    "unclosed Trim": lambda log, p: appended(log, p, [unread(p)]),
+    "illegal first": lambda log, p: appended(log[:FIRST_GATE] + b"\0", p, [absent(p)]),
+    "unclosed first": lambda log, p: appended(log[:FIRST_GATE] + b"\0", p, [unsent(log[:FIRST_GATE] + b"\0", p)]),
+    "illegal, unclosed": lambda log, p: appended(log, p, [absent(p), unread(p)]),
+    "unclosed, illegal": lambda log, p: appended(log, p, [unread(p), absent(p)]),
+}
+
+
+def put_fault(files, fault, partition):
+    """The files with this fault in this partition."""
+    name = log_name(partition)
+    if fault == "both open":
+        return {**files, log_name(partition, 1): files[name]}
+    return {**files, name: FAULTS[fault](files[name], partition)}
+
+
+def trial_two_faults():
+    """A fault in each of two partitions: the first by the rules decides."""
+    files = sums()
+    names = [*FAULTS, "both open"]
+    for first, second in ((0, 1), (0, 2), (1, 2)):
+        for one in names:
+            for other in names:
+                yield f"{one} in {first}, {other} in {second}", put_fault(put_fault(files, one, first), other, second), COUNT
+
+
+def trial_two_faults_of_one():
+    """A fault in each of the two files of one partition, or in the second alone."""
+    files = sums()
+    for p in range(COUNT):
+        log = files[log_name(p)]
+        wrong = {what: make(log, p) for what, make in FAULTS.items()}
+        for other in wrong:
+            yield f"{other} in the second of {p}", {**files, log_name(p): b"", log_name(p, 1): wrong[other]}, COUNT
+            yield f"{other} in the second of {p}, behind a good one", {**files, log_name(p, 1): wrong[other]}, COUNT
+            for one in wrong:
+                yield f"{one} and {other} in {p}", {**files, log_name(p): wrong[one], log_name(p, 1): wrong[other]}, COUNT
+
+
+# ---- the program
+
+
+class Directory:
+    """A directory with the flows file, whose logs are changed from case to case, and what the program said last."""
+
+    def __init__(self, folder, program):
+        self.folder, self.program = Path(folder, "logs"), program
+        self.folder.mkdir()
+        self.files = {}
+        (self.folder / "flows.json").write_bytes(FLOWS)
+        self.streams = [open(Path(folder, name), "w+b", buffering=0) for name in ("stdout", "stderr")]
+
+    def put(self, files):
+        for name in self.files.keys() - files.keys():
+            (self.folder / name).unlink()
+        for name, data in files.items():
+            if self.files.get(name) != data:
+                (self.folder / name).write_bytes(data)
+        self.files = dict(files)
+
+    def show(self, files, count):
+        """What the program makes of these files: the status, the first line of standard error, and standard output."""
+        self.put(files)
+        for stream in self.streams:
+            stream.seek(0)
+            stream.truncate()
+        words = [self.program, self.folder, "show", "--partitions", str(count)]
+        actions = [(os.POSIX_SPAWN_DUP2, stream.fileno(), to) for to, stream in enumerate(self.streams, 1)]
+        _, status = os.waitpid(os.posix_spawn(self.program, words, os.environ, file_actions=actions), 0)
+        said, fault = (Path(stream.name).read_bytes() for stream in self.streams)
+        code = os.WEXITSTATUS(status) if os.WIFEXITED(status) else -os.WTERMSIG(status)
+        return code, fault.decode(errors="replace").partition("\n")[0], said
+
+
+def expected(files, count):
+    status, line, table = owed(FLOWS, files, count)
+    return status, f"netherite: {line}" if line else "", table
+
+
+def words():
+    trials = [name[len("trial_") :] for name in globals() if name.startswith("trial_")]
+    parser = argparse.ArgumentParser(description=__doc__, formatter_class=argparse.RawDescriptionHelpFormatter)
+    parser.add_argument("program", type=Path)
+    parser.add_argument("trial", choices=trials)
+    parser.add_argument("--every", type=int, default=1)
+    return parser.parse_args()
+
+
+def main():
+    asked = words()
+    cases = globals()["trial_" + asked.trial]()
+    passed, shift = 0, sum(asked.trial.encode()) % asked.every
+    room = "/dev/shm" if os.access("/dev/shm", os.W_OK) else None
+    with tempfile.TemporaryDirectory(dir=room) as folder:
+        directory = Directory(folder, asked.program.resolve())
+        for number, (what, files, count) in enumerate(cases):
+            if number % asked.every == shift:
+                wanted, came = expected(files, count), directory.show(files, count)
+                passed += wanted == came
+                if wanted != came:
+                    print(f"{what}: expected {wanted}, came {came}")
+    print(f"passed {passed}")
+
+
+if __name__ == "__main__":
+    main()
