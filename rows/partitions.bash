@@ -49,6 +49,10 @@ trial_partitions_emptied() {
     by_reader emptied
 }
 
+trial_partitions_walks() {
+    by_reader walks
+}
+
 trial_partitions_two_faults() {
     by_reader two_faults
 }

@@ -15,7 +15,8 @@ from struct import pack
 sys.dont_write_bytecode = True
 sys.path.insert(0, str(Path(__file__).resolve().parent.parent / "tools"))
 
-from partition_logs import SUM_FILE, FIRST_GATE, OPEN, Segment, header, log_name, owed, spell_entry, spell_frame, spell_id, write_logs
+from partition_logs import FIRST_GATE, OPEN, SUM_FILE, Segment, State, fnv1a_64, header, home, is_ready, log_name, owed, table_of
+from partition_logs import spell_entry, spell_frame, spell_id, spell_item, write_logs
 
 FLOWS = SUM_FILE.read_bytes()
 COUNT = 3
@@ -211,6 +212,127 @@ def trial_two_faults_of_one():
             yield f"{other} in the second of {p}, behind a good one", {**files, log_name(p, 1): wrong[other]}, COUNT
             for one in wrong:
                 yield f"{one} and {other} in {p}", {**files, log_name(p): wrong[one], log_name(p, 1): wrong[other]}, COUNT
+
+
+# ---- walks: whatever clients may ask, in any order
+
+
+class Chance:
+    """Numbers below others, the same on each machine."""
+
+    def __init__(self, seed):
+        self.seed = seed + 1
+
+    def below(self, limit):
+        self.seed = self.seed * 6364136223846793005 + 1442695040888963407 & 2**64 - 1
+        return (self.seed >> 33) % limit
+
+    def one_of(self, things):
+        return things[self.below(len(things))]
+
+
+SCALARS = [(0, None), (1, None), (2, None), (3, 0), (3, -1), (3, 2**63 - 1), (4, b""), (4, "d\u00e9j\u00e0 \U0001f600".encode())]
+VALUES = SCALARS + [(5, ()), (5, tuple(SCALARS))]
+CLIENTS = [b"#a", b"#b", b"#c", b"#g"]
+INSTANCES = [b"Sum/x", b"Sum/w", b"Sum/u", b"Sum/v", b"Nope/x", b"Nope/w"]
+ENTITIES = [b"@Pot/a", b"@Pot/b", b"@Pot/c"]
+
+
+class Walk:
+    """Partitions that do at each step one of the things that they may do; each entry is accepted."""
+
+    def __init__(self, seed):
+        self.chance, self.stamp = Chance(seed), 0
+        self.states = [State(p, COUNT, {b"Sum"}) for p in range(COUNT)]
+        self.logs = [[] for _ in range(COUNT)]
+        self.numbers = {who: 0 for who in CLIENTS}
+
+    def request(self, p):
+        """A request of a client who lives here."""
+        who = self.chance.one_of([one for one in CLIENTS if home(one, COUNT) == p])
+        self.numbers[who] += 1 + self.chance.below(2)
+        number, value = self.numbers[who], self.chance.one_of(VALUES)
+        start = (0x10, value, (2, number))
+        body = self.chance.one_of([start, start, (0x11, b"go", value, number), (0x12, number), (0x13, number)])
+        asked = ENTITIES if body[0] == 0x12 and self.chance.below(2) else INSTANCES
+        return (0x20, (who, self.chance.one_of(asked), body))
+
+    def coming(self, p):
+        """The next message of each stream to here that has one."""
+        for source, state in enumerate(self.states):
+            number, box = self.states[p].inboxes.get(source, 0), state.outboxes.get(p, [])
+            if source != p and number < len(box):
+                yield (0x21, *box[number][0], number, box[number][1])
+
+    def letting_go(self, p):
+        """What others have read of the streams from here, or some of it."""
+        for target, box in self.states[p].outboxes.items():
+            read = self.states[target].inboxes.get(p, 0)
+            if read > self.states[p].firsts.get(target, 0):
+                yield (0x25, target, read - self.chance.below(2), self.chance.below(3), self.chance.below(9))
+
+    def possible(self, p):
+        state = self.states[p]
+        ran = [(0x22, sender, to, self.stamp) for (sender, to), link in sorted(state.links.items()) if link]
+        done = [(0x23, who, task, (0, (3, 5))) for who, task in sorted(state.pending)]
+        return [self.request(p), *self.coming(p), *self.letting_go(p), *ran, *ran, *done]
+
+    def step(self):
+        """An entry of one of the partitions."""
+        p = self.chance.below(COUNT)
+        state, items = self.states[p], []
+        state.position, state.incarnation = state.position + 1, state.incarnation + (self.chance.below(9) == 0)
+        self.stamp += self.chance.below(3)
+        for _ in range(1 + self.chance.below(5)):
+            item = self.chance.one_of(self.possible(p))
+            assert is_ready(self.states, p, item) and state.accept(item), item
+            items.append(item)
+        self.logs[p].append((state.position - 1, state.incarnation, items))
+
+
+def spelled(logs, chance):
+    """Log files of these entries, in frames of one to three."""
+    files = {}
+    for p, entries in enumerate(logs):
+        log, at = header(p, COUNT, fnv1a_64(FLOWS)), 0
+        while at < len(entries):
+            some = entries[at : at + 1 + chance.below(3)]
+            log += spell_frame([spell_entry(position, incarnation, [spell_item(item) for item in items]) for position, incarnation, items in some])
+            at += len(some)
+        files[log_name(p)] = log + b"\0"
+    return files
+
+
+def disturbed(logs, chance):
+    """The same entries with one item left out, repeated, changed for another or put elsewhere, or with a log's last entries lost."""
+    logs = [[(position, incarnation, list(items)) for position, incarnation, items in log] for log in logs]
+    log = chance.one_of([log for log in logs if log])
+    items = chance.one_of(log)[2]
+    at, way = chance.below(len(items)), chance.below(5)
+    if way == 0 and len(items) > 1:
+        items.pop(at)
+    elif way == 1:
+        items.insert(at, items[at])
+    elif way == 2:
+        items[at] = chance.one_of(chance.one_of(chance.one_of([log for log in logs if log]))[2])
+    elif way == 3:
+        items.append(items.pop(at))
+    else:
+        del log[chance.below(len(log)) :]
+    return logs
+
+
+def trial_walks():
+    """What clients may ask, in any order, spread over entries and frames; and the same with one thing wrong."""
+    for seed in range(60):
+        walk = Walk(seed)
+        for _ in range(4 + seed):
+            walk.step()
+        files = spelled(walk.logs, walk.chance)
+        assert owed(FLOWS, files, COUNT) == (0, "", table_of(walk.states)), seed
+        yield f"walk {seed}", files, COUNT
+        for number in range(6):
+            yield f"walk {seed}, disturbed {number}", spelled(disturbed(walk.logs, walk.chance), walk.chance), COUNT
 
 
 # ---- the program

@@ -72,6 +72,53 @@ def spell_id(written):
     return (b"\2" if written[:1] == b"@" else b"\1") + spell_word(first) + spell_word(key)
 
 
+def spell_value(value):
+    """The bytes of a value, by a pair of its tag and what it has."""
+    tag, inside = value
+    if tag == 5:
+        return bytes([tag]) + pack(">H", len(inside)) + b"".join(map(spell_value, inside))
+    spelled = {3: lambda: pack(">q", inside), 4: lambda: pack(">H", len(inside)) + inside}
+    return bytes([tag]) + spelled.get(tag, lambda: b"")()
+
+
+def spell_reply(reply):
+    return bytes([reply[0]]) + (pack(">I", reply[1]) if reply[0] else b"")
+
+
+def spell_answer(answer):
+    tag, inside = answer
+    spelled = {0: spell_value, 1: lambda text: pack(">H", len(text)) + text, 9: spell_value}
+    return bytes([tag]) + spelled.get(tag, lambda _: b"")(inside)
+
+
+BODIES = {
+    0x10: lambda argument, reply: spell_value(argument) + spell_reply(reply),
+    0x11: lambda event, value, number: spell_word(event) + spell_value(value) + pack(">I", number),
+    0x12: lambda number: pack(">I", number),
+    0x13: lambda number: pack(">I", number),
+    0x14: lambda reply, answer: spell_reply(reply) + spell_answer(answer),
+}
+
+
+def spell_message(message):
+    """The bytes of a request or a result, by its sender, its receiver and its body: a tag, and what that has."""
+    sender, to, body = message
+    return spell_id(sender) + spell_id(to) + bytes([body[0]]) + BODIES[body[0]](*body[1:])
+
+
+ITEMS = {
+    0x20: spell_message,
+    0x21: lambda source, *rest: pack(">IQQQ", source, *rest[:-1]) + spell_message(rest[-1]),
+    0x22: lambda sender, to, stamp: spell_id(sender) + spell_id(to) + pack(">Q", stamp),
+    0x23: lambda who, task, outcome: spell_id(who) + pack(">I", task) + spell_answer(outcome),
+    0x25: lambda target, *rest: pack(">IQQQ", target, *rest),
+}
+
+
+def spell_item(item):
+    return bytes([item[0]]) + ITEMS[item[0]](*item[1:])
+
+
 FIVE = b"\0\3" + pack(">q", 5)
 START, WAIT, STARTED, ENDED = range(4)
 
