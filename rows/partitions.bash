@@ -4,13 +4,17 @@
 
 # by_reader TRIAL OPTION..: each case of the trial is shown as the reader of logs owes
 by_reader() {
-    local told
+    local told counted='^([0-9]+) passed, ([0-9]+) failed$' ended=0
     while IFS= read -r told; do
-        case $told in
-        'passed '*) passed=$((passed + ${told#passed })) ;;
-        *) wrong "$told" ;;
-        esac
-    done < <(python3 "$here/partitions.py" "$program" "$@" 2>&1 || echo "$1 ended with status $?")
+        if [[ $told =~ $counted ]]; then
+            passed=$((passed + BASH_REMATCH[1]))
+            failed=$((failed + BASH_REMATCH[2]))
+            ended=1
+        else
+            printf 'row %s: %s\n' "$row" "$told"
+        fi
+    done < <(python3 "$here/partitions.py" "$program" "$@" 2>&1)
+    same 'the trial came to its end' 1 "$ended"
 }
 
 trial_partitions_whole() {

@@ -1,22 +1,23 @@
 #!/usr/bin/env python3
 """Trials of logs of three partitions: `rows/partitions.py PROGRAM TRIAL [--every K]`.
 
-Each case of a trial is a set of log files. The program shows them, and its status, the first line of its standard error and its
-standard output are to be those that the reader of tools/partition_logs.py owes. Of each case that fails a line is printed, and at the
-end how many passed. With `--every K` each K-th case is tried, of each trial others; without it all are."""
+Each case of a trial is a set of log files. The program shows them, and its status, the first line of its standard error and its standard
+output are to be those that `tools/log_reader.py` owes. Of the first twenty cases that fail a line is printed, and at the end how many
+passed and failed. With `--every K` each K-th case is tried, of each trial others; without it all are."""
 
 import argparse
 import os
 import sys
 import tempfile
+from itertools import islice, product
 from pathlib import Path
 from struct import pack
 
 sys.dont_write_bytecode = True
 sys.path.insert(0, str(Path(__file__).resolve().parent.parent / "tools"))
 
-from partition_logs import FIRST_GATE, OPEN, SUM_FILE, Segment, State, fnv1a_64, header, home, is_ready, log_name, owed, table_of
-from partition_logs import spell_entry, spell_frame, spell_id, spell_item, write_logs
+from log_reader import OPEN, Segment, State, fnv1a_64, home, is_ready, log_name, owed, table_of
+from log_writer import FIRST_GATE, SUM_FILE, header, spell_entry, spell_frame, spell_id, spell_item, write_logs
 
 FLOWS = SUM_FILE.read_bytes()
 COUNT = 3
@@ -44,13 +45,12 @@ def with_field(data, at, spelled):
 def trial_whole():
     """Logs as an engine leaves them: of other numbers of partitions, entries of other lengths, several incarnations, few Trims."""
     many = [(b"c%d" % (i % 5), b"k%d" % i) for i in range(40)]
-    for count in (1, 2, 3, 4, 7, 32):
-        for options in ({}, {"batch": 1}, {"batch": 64, "life": 2}, {"batch": 3, "life": 1, "trims": 3}):
-            for runs in ([], AROUND, many):
-                files = sums(runs, count, **options)
-                lines = b"".join(sorted(b"Sum/" + key + b" done 5\n" for _, key in runs))
-                assert owed(FLOWS, files, count) == (0, "", lines), (count, options)
-                yield f"{len(runs)} sums, {count} partitions, {options}", files, count
+    ways = ({}, {"batch": 1}, {"batch": 64, "life": 2}, {"batch": 3, "life": 1, "trims": 3})
+    for count, options, runs in product((1, 2, 3, 4, 7, 32), ways, ([], AROUND, many)):
+        files = sums(runs, count, **options)
+        lines = b"".join(sorted(b"Sum/" + key + b" done 5\n" for _, key in runs))
+        assert owed(FLOWS, files, count) == (0, "", lines), (count, options)
+        yield f"{len(runs)} sums, {count} partitions, {options}", files, count
 
 
 def trial_cut():
@@ -86,37 +86,36 @@ def trial_bytes_raised():
 
 
 FIELDS = [
-    (9, [pack(">I", n) for n in (0, 1, 2, 3, 32, 2**32 - 1)]),
-    (13, [pack(">I", n) for n in (0, 1, 2, 4, 32, 33, 2**32 - 1)]),
-    (17, [pack(">Q", n) for n in (0, 1, 2**63, 2**64 - 1)]),
-    (25, [pack(">Q", n) for n in (1, 2**62, 2**63 - 1, 2**63, 2**64 - 1)]),
+    *((9, pack(">I", n)) for n in (0, 1, 2, 3, 32, 2**32 - 1)),
+    *((13, pack(">I", n)) for n in (0, 1, 2, 4, 32, 33, 2**32 - 1)),
+    *((17, pack(">Q", n)) for n in (0, 1, 2**63, 2**64 - 1)),
+    *((25, pack(">Q", n)) for n in (1, 2**62, 2**63 - 1, 2**63, 2**64 - 1)),
 ]
 
 
 def trial_headers():
     """Each number of each header is another, of a log with entries and of one without; other numbers of partitions are asked for."""
     files = sums()
-    for name, log in files.items():
-        for at, numbers in FIELDS:
-            for number in numbers:
-                changed_log = with_field(log, at, number)
-                yield f"{name} with {number.hex()} at {at}", {**files, name: changed_log}, COUNT
-                yield f"{name} with {number.hex()} at {at}, empty", {**files, name: changed_log[:FIRST_GATE] + b"\0"}, COUNT
+    for (name, log), (at, number) in product(files.items(), FIELDS):
+        other = with_field(log, at, number)
+        yield f"{name} with {number.hex()} at {at}", {**files, name: other}, COUNT
+        yield f"{name} with {number.hex()} at {at}, empty", {**files, name: other[:FIRST_GATE] + b"\0"}, COUNT
+    last = log_name(COUNT - 1)
     for count in (1, 2, 4, 32):
         yield f"shown as {count}", files, count
+        yield f"{last} alone, shown as {count}", {last: files[last]}, count
 
 
 def trial_second_files():
-    """A partition's log lies in the second file, or in both; the first file is fresh in each way."""
+    """A partition's log lies in the second file, behind a first one that is fresh in each way, or the other way round; or both are open."""
     files = sums()
-    for p in range(COUNT):
-        first, second, log = log_name(p), log_name(p, 1), files[log_name(p)]
-        for front in (b"", b"\xc3", b"\0", changed(log, 0, 0), changed(log, 0, 0xC2), changed(log, 0, 0xFF)):
-            yield f"{second} behind {front[:2].hex()}", {**files, first: front, second: log}, COUNT
-            yield f"{second} of {front[:2].hex()}", {**files, second: front}, COUNT
-        late = header_of(log, 1) + b"\0"
-        for one, other in ((log, log), (log, late), (late, log), (late, late), (late, header_of(log, 2) + b"\0")):
-            yield f"both of {p}, {len(one)} and {len(other)} bytes", {**files, first: one, second: other}, COUNT
+    for p, first in enumerate(files):
+        second, log, late = log_name(p, 1), files[first], header_of(files[first], 1) + b"\0"
+        fronts = (b"", b"\xc3", b"\0", changed(log, 0, 0), changed(log, 0, 0xC2), changed(log, 0, 0xFF))
+        both = ((log, log), (log, late), (late, log), (late, late), (late, header_of(log, 2) + b"\0"))
+        for one, other in (*((front, log) for front in fronts), *((log, front) for front in fronts), *both):
+            what = f"{p}: {one[:1].hex()} of {len(one)} bytes, {other[:1].hex()} of {len(other)}"
+            yield what, {**files, first: one, second: other}, COUNT
 
 
 def header_of(log, base):
@@ -126,12 +125,10 @@ def header_of(log, base):
 def trial_emptied():
     """Each log, each two and all are emptied: what needs them is unclosed, and what doesn't is shown."""
     both = AT_HOME + [(one, b"b" + two) for one, two in AROUND]
-    for runs, what in ((AROUND, "around"), (AT_HOME, "at home"), (both, "both"), (AROUND[:1], "one"), (AROUND[1:], "two")):
+    for runs, lost, left in product((AROUND, AT_HOME, both, AROUND[:1], AROUND[1:]), range(1, 2**COUNT), (0, 1, FIRST_GATE)):
         files = sums(runs)
-        for emptied in range(1, 2**COUNT):
-            for left in (0, 1, FIRST_GATE + 1):
-                lost = {name: log[:FIRST_GATE] + b"\0" if left > 1 else log[:left] for p, (name, log) in enumerate(files.items()) if emptied >> p & 1}
-                yield f"{what}, {' '.join(lost)} of {left}", {**files, **lost}, COUNT
+        gone = {name: log[:left] + b"\0" * (left > 1) for p, (name, log) in enumerate(files.items()) if lost >> p & 1}
+        yield f"{len(runs)} sums, {' '.join(gone)} of {left}", {**files, **gone}, COUNT
 
 
 # ---- faults: what each makes of a log of a partition, of which more may be wrong already
@@ -193,25 +190,19 @@ def put_fault(files, fault, partition):
 
 def trial_two_faults():
     """A fault in each of two partitions: the first by the rules decides."""
-    files = sums()
-    names = [*FAULTS, "both open"]
-    for first, second in ((0, 1), (0, 2), (1, 2)):
-        for one in names:
-            for other in names:
-                yield f"{one} in {first}, {other} in {second}", put_fault(put_fault(files, one, first), other, second), COUNT
+    files, names = sums(), [*FAULTS, "both open"]
+    for (first, second), one, other in product(((0, 1), (0, 2), (1, 2)), names, names):
+        yield f"{one} in {first}, {other} in {second}", put_fault(put_fault(files, one, first), other, second), COUNT
 
 
 def trial_two_faults_of_one():
-    """A fault in each of the two files of one partition, or in the second alone."""
+    """A fault in each of the two files of one partition, or in the second alone, behind a fresh one or a good one."""
     files = sums()
-    for p in range(COUNT):
-        log = files[log_name(p)]
-        wrong = {what: make(log, p) for what, make in FAULTS.items()}
-        for other in wrong:
-            yield f"{other} in the second of {p}", {**files, log_name(p): b"", log_name(p, 1): wrong[other]}, COUNT
-            yield f"{other} in the second of {p}, behind a good one", {**files, log_name(p, 1): wrong[other]}, COUNT
-            for one in wrong:
-                yield f"{one} and {other} in {p}", {**files, log_name(p): wrong[one], log_name(p, 1): wrong[other]}, COUNT
+    for p, other in product(range(COUNT), FAULTS):
+        first, second, log = log_name(p), log_name(p, 1), files[log_name(p)]
+        firsts = {"a fresh one": b"", "a good one": log, **{what: make(log, p) for what, make in FAULTS.items()}}
+        for one in firsts:
+            yield f"{one} and {other} in {p}", {**files, first: firsts[one], second: FAULTS[other](log, p)}, COUNT
 
 
 # ---- walks: whatever clients may ask, in any order
@@ -297,7 +288,7 @@ def spelled(logs, chance):
         log, at = header(p, COUNT, fnv1a_64(FLOWS)), 0
         while at < len(entries):
             some = entries[at : at + 1 + chance.below(3)]
-            log += spell_frame([spell_entry(position, incarnation, [spell_item(item) for item in items]) for position, incarnation, items in some])
+            log += spell_frame([spell_entry(position, life, [*map(spell_item, items)]) for position, life, items in some])
             at += len(some)
         files[log_name(p)] = log + b"\0"
     return files
@@ -387,17 +378,16 @@ def words():
 def main():
     asked = words()
     cases = globals()["trial_" + asked.trial]()
-    passed, shift = 0, sum(asked.trial.encode()) % asked.every
+    passed, failed, shift = 0, 0, sum(asked.trial.encode()) % asked.every
     room = "/dev/shm" if os.access("/dev/shm", os.W_OK) else None
     with tempfile.TemporaryDirectory(dir=room) as folder:
         directory = Directory(folder, asked.program.resolve())
-        for number, (what, files, count) in enumerate(cases):
-            if number % asked.every == shift:
-                wanted, came = expected(files, count), directory.show(files, count)
-                passed += wanted == came
-                if wanted != came:
-                    print(f"{what}: expected {wanted}, came {came}")
-    print(f"passed {passed}")
+        for what, files, count in islice(cases, shift, None, asked.every):
+            wanted, came = expected(files, count), directory.show(files, count)
+            passed, failed = passed + (wanted == came), failed + (wanted != came)
+            if wanted != came and failed <= 20:
+                print(f"{what}: expected {wanted}, came {came}")
+    print(f"{passed} passed, {failed} failed")
 
 
 if __name__ == "__main__":
