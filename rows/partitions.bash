@@ -13,7 +13,7 @@ by_reader() {
         else
             printf 'row %s: %s\n' "$row" "$told"
         fi
-    done < <(python3 "$here/partitions.py" "$program" "$@" 2>&1)
+    done < <(timeout 300 python3 "$here/partitions.py" "$program" "$@" 2>&1)
     same 'the trial came to its end' 1 "$ended"
 }
 

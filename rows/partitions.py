@@ -131,22 +131,18 @@ def trial_emptied():
         yield f"{len(runs)} sums, {' '.join(gone)} of {left}", {**files, **gone}, COUNT
 
 
-# ---- faults: what each makes of a log of a partition, of which more may be wrong already
+# ---- faults: what each makes of a log of a partition
 
 
 def appended(log, partition, items):
-    """The log with one entry more, in its own frame. A log that is damaged, or has another base, gets none."""
-    try:
-        entries = Segment(log, partition).entries
-    except Exception:
-        return log
+    """The log with one entry more, in its own frame."""
+    entries = Segment(log, partition).entries
     position, incarnation = (entries[-1][0] + 1, entries[-1][1]) if entries else (0, 0)
     return log[:-1] + spell_frame([spell_entry(position, incarnation, items)]) + b"\0"
 
 
-def absent(partition):
-    """A delivery of a link where nothing is under way."""
-    return b"\x22" + spell_id(b"#nobody") + spell_id(b"Sum/nothing") + pack(">Q", 2**40)
+# a delivery of a link where nothing is under way
+ABSENT = b"\x22" + spell_id(b"#nobody") + spell_id(b"Sum/nothing") + pack(">Q", 2**40)
 
 
 def unsent(log, partition):
@@ -170,13 +166,13 @@ FAULTS = {
     "other shape": lambda log, p: with_field(log, 13, pack(">I", 4 + p)),
     "other digest": lambda log, p: changed(log, 24, log[24] ^ (p + 1)),
     "late base": lambda log, p: header_of(log, 1 + p) + b"\0",
-    "illegal entry": lambda log, p: appended(log, p, [absent(p)]),
+    "illegal entry": lambda log, p: appended(log, p, [ABSENT]),
     "unclosed entry": lambda log, p: appended(log, p, [unsent(log, p)]),
     "unclosed Trim": lambda log, p: appended(log, p, [unread(p)]),
-    "illegal first": lambda log, p: appended(log[:FIRST_GATE] + b"\0", p, [absent(p)]),
+    "illegal first": lambda log, p: appended(log[:FIRST_GATE] + b"\0", p, [ABSENT]),
     "unclosed first": lambda log, p: appended(log[:FIRST_GATE] + b"\0", p, [unsent(log[:FIRST_GATE] + b"\0", p)]),
-    "illegal, unclosed": lambda log, p: appended(log, p, [absent(p), unread(p)]),
-    "unclosed, illegal": lambda log, p: appended(log, p, [unread(p), absent(p)]),
+    "illegal, unclosed": lambda log, p: appended(log, p, [ABSENT, unread(p)]),
+    "unclosed, illegal": lambda log, p: appended(log, p, [unread(p), ABSENT]),
 }
 
 

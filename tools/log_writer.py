@@ -98,7 +98,7 @@ START, WAIT, STARTED, ENDED = range(4)
 class Sum:
     """An instance of Sum: who starts it and waits for it, with which numbers, what its bytes are, and how it stands."""
 
-    __slots__ = ("client", "number", "at", "from_home", "to_home", "asking", "telling", "there", "over", "waiting")
+    __slots__ = ("client", "number", "at", "from_home", "to_home", "asking", "telling", "over", "waiting")
 
     def __init__(self, client, key, number, count):
         written = b"Sum/" + key
@@ -106,7 +106,7 @@ class Sum:
         self.client, self.number, self.at = client, number, receiver
         self.from_home, self.to_home = home(b"#" + client, count), home(written, count)
         self.asking, self.telling = sender + receiver, receiver + sender
-        self.there = self.over = False
+        self.over = False
         self.waiting = []
 
     def message(self, kind, number):
@@ -131,7 +131,6 @@ class Cell:
         self.trims = set()
         self.pending, self.due = [], []
         self.log = [header(number, engine.count, engine.digest)]
-        self.labels = 0
 
     def post(self, run, kind, number):
         """A message joins the queue here, or the stream to its receiver's partition."""
@@ -150,7 +149,6 @@ class Cell:
 
     def took(self, run, kind, number):
         self.post(run, kind, number)
-        self.labels += 1
         return b"\x20" + run.message(kind, number)
 
     def done(self, run):
@@ -158,7 +156,6 @@ class Cell:
         for number in run.waiting:
             self.post(run, ENDED, number)
         run.waiting = []
-        self.labels += 1
         return b"\x23" + run.at + b"\0\0\0\0" + FIVE
 
     def got(self, source, incarnation, position, spelled, message):
@@ -181,12 +178,10 @@ class Cell:
         while self.queue and len(items) < limit:
             run, kind, number = self.queue.popleft()
             items.append(b"\x22" + (run.asking if kind <= WAIT else run.telling) + stamp)
-            self.labels += 1
             self.receive(run, kind, number)
 
     def receive(self, run, kind, number):
         if kind == START:
-            run.there = True
             self.pending.append(run)
             self.post(run, STARTED, number)
         elif kind == STARTED:
@@ -227,8 +222,8 @@ class Cell:
 
 
 class Engine:
-    """Partitions that take turns until all these runs, pairs of a client and a key, are over; each client asks for one thing after
-    another. `life` is how many rounds it is until all begin a new incarnation, and `trims` how many until streams are let go of."""
+    """Partitions that take turns until all these runs, pairs of a client and a key of its own, are over; each client asks for one thing
+    after another. `life` is how many rounds it is until all begin a new incarnation, and `trims` how many until streams are let go of."""
 
     def __init__(self, runs, count, flows, batch=16, life=None, trims=1, begin=1_800_000_000_000):
         self.count, self.digest, self.now = count, fnv1a_64(flows), begin
