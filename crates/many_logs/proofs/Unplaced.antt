@@ -28,7 +28,7 @@ module _ (flows : Flows) (count : ℕ) (parts : ℕ → Partition) (partition : 
       by true None ready made is behind = absurd (cc is)
       by false o ready made is behind = absurd (cc is)
 
-  refused_has_item : (entry : Entry) → commit_accepted flows count parts partition entry ≡ None → first_refused flows count parts partition (enter entry.incarnation (parts partition)) entry.items ≡ None → ⊥
+  pub refused_has_item : (entry : Entry) → commit_accepted flows count parts partition entry ≡ None → first_refused flows count parts partition (enter entry.incarnation (parts partition)) entry.items ≡ None → ⊥
   refused_has_item entry refused none =
       let all = all_pass entry.items (enter entry.incarnation (parts partition)) none in
       let taken : commit_accepted flows count parts partition entry ≡ Some all.1.0 = ap (λ (b : Bool). if b then all_accepted flows count (enter entry.incarnation (parts partition)) entry.items else None) all.0 ∙ all.1.1 in

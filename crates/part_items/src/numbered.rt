@@ -158,6 +158,13 @@ impl FrameReader {
         }
     }
 
+    /// Where the log goes on behind the entries so far.
+    pub fn place(&self) -> Next
+        ensures { next_of result ≡ self.now.next }
+    {
+        self.next
+    }
+
     /// The next entry, or none behind the last, where the bytes have to end. A fault is told when its entry is read: those before
     /// it were given.
     pub fn next(&mut self, alloc: Global) -> Result<Option<Entry>, ReadError>

@@ -1,5 +1,6 @@
 pub mod Boxes
 pub mod Copied
+pub mod Left
 pub mod Links
 pub mod Opening
 pub mod Orders

@@ -1,6 +1,7 @@
 //! The streams from and to other partitions.
 
-ghost use Rattle.std.specs.Prelude.{◌≡◌, ◌+◌, ◌++◌, length, nat_le, ◌≤◌, if◌then◌else◌, IfOk, OnOk};
+ghost use Rattle.std.specs.Prelude.{◌≡◌, ◌+◌, ◌++◌, length, nat_le, ◌≤◌, if◌then◌else◌, option_map, IfOk, OnOk};
+ghost use Rattle.std.specs.List.{slice_get};
 ghost use Rattle.dura_model.specs.Partition.{with_inbox};
 ghost use Rattle.log_items.specs.Streams.{with_posted, begins_at, with_first};
 ghost use Rattle.dura_value.specs.Views.{posted_of};
@@ -64,7 +65,23 @@ fn add_copies(copies: &mut VecDeque<Posted>, messages: &VecDeque<Posted>) -> Res
     Ok(())
 }
 
+/// The message at a place among these.
+fn message_at(messages: &VecDeque<Posted>, place: usize) -> Option<&Posted>
+    ensures { option_map (λ posted. posted.now) result ≡ slice_get messages.now.items place }
+{
+    messages.get(place)
+}
+
 impl Outbox {
+    /// The message at this place.
+    #[tactic(auto, using(crate::proofs::Left::seen_at))]
+    fn at(&self, place: u64) -> Option<&Posted>
+        ensures { option_map (λ posted. posted_of posted.now) result
+            ≡ slice_get (outbox_of self.now).messages place }
+    {
+        message_at(&self.messages, place as usize)
+    }
+
     /// The same stream.
     fn copy(&self, alloc: Global) -> Result<Outbox, AllocError>
         ensures { IfOk result (λ copy. outbox_of copy ≡ outbox_of self.now) }
@@ -146,6 +163,27 @@ impl Outboxes {
         match self.boxes.get_mut(&target) {
             Some(outbox) => outbox.begin_at(number),
             None => number == 0,
+        }
+    }
+
+    /// The number of the first message that is left of the stream to a partition.
+    pub fn first(&self, target: u32) -> u64
+        ensures { result ≡ (outboxes_of self.now target).first }
+    {
+        match self.boxes.get(&target) {
+            Some(outbox) => outbox.first,
+            None => 0,
+        }
+    }
+
+    /// The message at this place of what is left of the stream to a partition.
+    pub fn left(&self, target: u32, place: u64) -> Option<&Posted>
+        ensures { option_map (λ posted. posted_of posted.now) result
+            ≡ slice_get (outboxes_of self.now target).messages place }
+    {
+        match self.boxes.get(&target) {
+            Some(outbox) => outbox.at(place),
+            None => None,
         }
     }
 

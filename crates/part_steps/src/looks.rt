@@ -1,7 +1,8 @@
 //! What the engine reads off the state of a partition.
 
 ghost use Rattle.std.specs.Prelude.{◌≡◌, true, false, is_some, IsSome, IfSome, IfNone, option_map};
-ghost use Rattle.dura_value.specs.Views.{id_of, answer_of, message_of};
+ghost use Rattle.dura_value.specs.Views.{id_of, answer_of, message_of, posted_of};
+ghost use Rattle.std.specs.List.{slice_get};
 ghost use Rattle.id_maps.specs.Order.{IsFirst};
 ghost use Rattle.part_rows.specs.Timers.{IsNext, NoTimer};
 ghost use Rattle.part_rows.specs.Views.{activity_of};
@@ -9,10 +10,39 @@ ghost use Rattle.part_steps.specs.Quiet.{NoActivity, IsQuiet};
 ghost use Rattle.part_steps.specs.States.{IsSound, state_of};
 
 use crate::state::PartState;
-use dura_value::{Answer, Id, Message};
+use dura_value::{Answer, Id, Message, Posted};
 use part_rows::Activity;
 
 impl PartState {
+    /// The number of the first message that is left of the stream to a partition.
+    pub fn first_left(&self, target: u32) -> u64
+        ensures { result ≡ ((state_of self.now).outboxes target).first }
+    {
+        self.rows.outboxes.first(target)
+    }
+
+    /// The message at this place of what is left of the stream to a partition.
+    pub fn left(&self, target: u32, place: u64) -> Option<&Posted>
+        ensures { option_map (λ posted. posted_of posted.now) result
+            ≡ slice_get ((state_of self.now).outboxes target).messages place }
+    {
+        self.rows.outboxes.left(target, place)
+    }
+
+    /// How far the stream from a partition was taken in: the number of its next message.
+    pub fn taken_in(&self, source: u32) -> u64
+        ensures { result ≡ ((state_of self.now).inboxes source).next }
+    {
+        self.rows.inboxes.next(source)
+    }
+
+    /// Its incarnation: that of its last entry.
+    pub fn incarnation(&self) -> u64
+        ensures { result ≡ (state_of self.now).incarnation }
+    {
+        self.rows.incarnation
+    }
+
     /// The position of its next entry.
     pub fn position(&self) -> u64
         ensures { result ≡ (state_of self.now).position }

@@ -1,0 +1,4 @@
+pub mod Checked
+pub mod Entries
+pub mod Fitting
+pub mod Fronts
