@@ -2,6 +2,7 @@
 use Rattle.std.proofs.Common.{◌≡◌, inl, inr, ℕ, List, Result, Err, ap, subst}
 use Rattle.std.specs.Prelude.{IfErr}
 use Rattle.std.proofs.lemmas.Result.{IfErr-at_err}
+use Rattle.dura_model.specs.Entries.{shown_by}
 use Rattle.dura_model.specs.Partition.{Partition}
 use Rattle.engine_run.specs.Opening.{cause_of_recovery}
 use Rattle.engine_run.specs.Showing.{ShowsAs, IsThere}
@@ -61,7 +62,7 @@ logs_shown files old new flows digest has errors.Memory recovers same = inl same
 pub stopped : {T : Type 0} (r : Result T ShowError) (P : ShowError → Type 0) (found error : ShowError) → IfErr r P → r ≡ Err found → found ≡ error → P error
 stopped r P found error stops is same = subst P same (IfErr-at_err P is stops)
 
-pub stops_shown : (files : ℕ → List ℕ) (flows own : Flows) (state : Partition) (old mid now : List ℕ) (error : ShowError) → IsThere files flows state → own ≡ flows → mid ≡ old → StopsInTable own state error mid now
-    → (f : Flows) × (p : Partition) × IsThere files f p × StopsInTable f p error old now
+pub stops_shown : (files : ℕ → List ℕ) (flows own : Flows) (state : Partition) (old mid now : List ℕ) (error : ShowError) → IsThere files flows state → own ≡ flows → mid ≡ old → StopsInTable own (shown_by own state) error mid now
+    → (f : Flows) × (p : Partition) × IsThere files f p × StopsInTable f (shown_by f p) error old now
 stops_shown files flows own state old mid now error there is same stops =
-    (flows, state, there, subst (λ (t : List ℕ). StopsInTable flows state error t now) same (subst (λ (f : Flows). StopsInTable f state error mid now) is stops))
+    (flows, state, there, subst (λ (t : List ℕ). StopsInTable flows (shown_by flows state) error t now) same (subst (λ (f : Flows). StopsInTable f (shown_by f state) error mid now) is stops))

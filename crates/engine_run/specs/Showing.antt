@@ -1,6 +1,7 @@
 -- What showing what is there answers, and says.
 use Rattle.std.specs.Prelude.{◌≡◌, ◌⊎◌, ℕ, List, [], Some, Err}
 use Rattle.dura_model.specs.Partition.{Partition}
+use Rattle.dura_model.specs.Entries.{shown_by}
 use Rattle.dura_value.specs.Items.{Entry}
 use Rattle.engine_run.specs.Job.{FilesKeep}
 use Rattle.flow_syntax.specs.Syntax.{Flows}
@@ -28,9 +29,9 @@ RefusesThere files error = (flows : Flows) × (digest : ℕ) × HasFlows files f
 
 -- The cause by what the files held, and what was said: all of the table, its front, or nothing.
 abbrev pub ShowsAs : (ℕ → List ℕ) → (old new : List ℕ) → Cause → Type 0
-ShowsAs files old new Done = (flows : Flows) × (state : Partition) × IsThere files flows state × SaysTable flows state old new
-ShowsAs files old new SayFault = (flows : Flows) × (state : Partition) × IsThere files flows state × StopsInTable flows state stops.SayFault old new
-ShowsAs files old new Memory = (new ≡ old) ⊎ ((flows : Flows) × (state : Partition) × IsThere files flows state × StopsInTable flows state stops.Memory old new)
+ShowsAs files old new Done = (flows : Flows) × (state : Partition) × IsThere files flows state × SaysTable flows (shown_by flows state) old new
+ShowsAs files old new SayFault = (flows : Flows) × (state : Partition) × IsThere files flows state × StopsInTable flows (shown_by flows state) stops.SayFault old new
+ShowsAs files old new Memory = (new ≡ old) ⊎ ((flows : Flows) × (state : Partition) × IsThere files flows state × StopsInTable flows (shown_by flows state) stops.Memory old new)
 ShowsAs files old new SiteFault = new ≡ old
 ShowsAs files old new (BadFlows fault) = (flows_refusal files ≡ Some (BadFlows fault)) × (new ≡ old)
 ShowsAs files old new (TooLong file) = (flows_refusal files ≡ Some (TooLong file)) × (new ≡ old)

@@ -1,5 +1,6 @@
 use Rattle.std.proofs.Common.{◌∙◌, inl, inr, ℕ, List, Ok, Err, refl, sym, ap, subst, le_trans}
 use Rattle.std.proofs.Math.Nat.{le_of_eq}
+use Rattle.dura_model.specs.Entries.{shown_by}
 use Rattle.engine_run.specs.Opening.{IsLogCause, RecoversAs}
 use Rattle.engine_run.specs.Showing.{ShowsAs}
 use Rattle.engine_run.proofs.Early.{differ}
@@ -63,21 +64,21 @@ pub returns-in-Ok-said : goal.returns-in-Ok-said
 returns-in-Ok-said g c =
     let read = c.read_flow_file.ensures in
     let recover = c.recover_logs.ensures in
-    let said = c.say_table-said.ensures in
+    let said = c.say_state-said.ensures in
     let file = c.in-Ok.file in
     let flows = flows_of file.flows in
     let found = c.in-Ok-recover_logs.recovered in
     let state = state_of found.state in
     let old = g.V.Site.history c.args.site.now in
     let mid = g.V.Site.history c.recover_logs.new.site in
-    let now = g.V.Site.history c.say_table-said.new.site in
+    let now = g.V.Site.history c.say_state-said.new.site in
     let syncs = subst (λ (s : List Step). OnlySyncs s mid) read.unchanged recover.syncs in
     let before = recover.say_faults ∙ read.say_faults in record {
       tells = λ tells. read.tells (recover.tells (said.tells tells));
       shows = λ tells.
           let told = said.tells tells in
           let recovers = subst (λ (s : List Step). RecoversAs flows file.digest (λ f. content_of f s) (Ok found)) read.unchanged (c.in-Ok-recover_logs.ensures.recovers told) in
-          (flows, state, record { digest = file.digest; flows_in_file = c.in-Ok.ensures.reads (recover.tells told); entries = recovers.entries; keeps = record { kept = recovers.kept; made = recovers.placed } }, subst (λ (t : List ℕ). SaysTable flows state t (tape now)) (syncs_tape old mid syncs) (subst (λ (f : Flows). SaysTable f state (tape mid) (tape now)) c.of-machines.ensures c.in-Ok-said.ensures.said));
+          (flows, state, record { digest = file.digest; flows_in_file = c.in-Ok.ensures.reads (recover.tells told); entries = recovers.entries; keeps = record { kept = recovers.kept; made = recovers.placed } }, subst (λ (t : List ℕ). SaysTable flows (shown_by flows state) t (tape now)) (syncs_tape old mid syncs) (subst (λ (f : Flows). SaysTable f (shown_by f state) (tape mid) (tape now)) c.of-machines.ensures c.in-Ok-said.ensures.said));
       nothing = record { mid = mid; syncs = syncs; files = said.files };
       fault = λ is. absurd (differ Done SiteFault refl is);
       say_fault = λ is. absurd (differ Done SayFault refl is);
@@ -88,10 +89,10 @@ returns-in-Ok-said g c =
     }
 
 pub returns-in-Err-SayFault-clause-tells : goal.returns-in-Err-SayFault-clause-tells
-returns-in-Err-SayFault-clause-tells g c = let read = c.read_flow_file.ensures in let recover = c.recover_logs.ensures in let said = c.say_table-said.ensures in λ tells. read.tells (recover.tells (said.tells tells))
+returns-in-Err-SayFault-clause-tells g c = let read = c.read_flow_file.ensures in let recover = c.recover_logs.ensures in let said = c.say_state-said.ensures in λ tells. read.tells (recover.tells (said.tells tells))
 
 pub returns-in-Err-SayFault-clause-nothing : goal.returns-in-Err-SayFault-clause-nothing
-returns-in-Err-SayFault-clause-nothing g c = let read = c.read_flow_file.ensures in let recover = c.recover_logs.ensures in let said = c.say_table-said.ensures in let mid = g.V.Site.history c.recover_logs.new.site in let syncs = subst (λ (s : List Step). OnlySyncs s mid) read.unchanged recover.syncs in record { mid = mid; syncs = syncs; files = said.files }
+returns-in-Err-SayFault-clause-nothing g c = let read = c.read_flow_file.ensures in let recover = c.recover_logs.ensures in let said = c.say_state-said.ensures in let mid = g.V.Site.history c.recover_logs.new.site in let syncs = subst (λ (s : List Step). OnlySyncs s mid) read.unchanged recover.syncs in record { mid = mid; syncs = syncs; files = said.files }
 
 pub returns-in-Err-SayFault-clause-fault : goal.returns-in-Err-SayFault-clause-fault
 returns-in-Err-SayFault-clause-fault g c = λ is. absurd (differ SayFault SiteFault refl is)
@@ -103,16 +104,16 @@ pub returns-in-Err-SayFault-clause-no_usage : goal.returns-in-Err-SayFault-claus
 returns-in-Err-SayFault-clause-no_usage g c = differ SayFault Usage refl
 
 pub returns-in-Err-SayFault-clause-later : goal.returns-in-Err-SayFault-clause-later
-returns-in-Err-SayFault-clause-later g c = le_trans (le_trans c.read_flow_file.ensures.later c.recover_logs.ensures.later) (le_of_eq (sym c.say_table-said.ensures.disk_faults))
+returns-in-Err-SayFault-clause-later g c = le_trans (le_trans c.read_flow_file.ensures.later c.recover_logs.ensures.later) (le_of_eq (sym c.say_state-said.ensures.disk_faults))
 
 pub returns-in-Err-SayFault-clause-say_later : goal.returns-in-Err-SayFault-clause-say_later
-returns-in-Err-SayFault-clause-say_later g c = le_trans (le_of_eq (sym (c.recover_logs.ensures.say_faults ∙ c.read_flow_file.ensures.say_faults))) c.say_table-said.ensures.later
+returns-in-Err-SayFault-clause-say_later g c = le_trans (le_of_eq (sym (c.recover_logs.ensures.say_faults ∙ c.read_flow_file.ensures.say_faults))) c.say_state-said.ensures.later
 
 pub returns-clause-tells : goal.returns-clause-tells
-returns-clause-tells g c = let read = c.read_flow_file.ensures in let recover = c.recover_logs.ensures in let said = c.say_table-said.ensures in λ tells. read.tells (recover.tells (said.tells tells))
+returns-clause-tells g c = let read = c.read_flow_file.ensures in let recover = c.recover_logs.ensures in let said = c.say_state-said.ensures in λ tells. read.tells (recover.tells (said.tells tells))
 
 pub returns-clause-nothing : goal.returns-clause-nothing
-returns-clause-nothing g c = let read = c.read_flow_file.ensures in let recover = c.recover_logs.ensures in let said = c.say_table-said.ensures in let mid = g.V.Site.history c.recover_logs.new.site in let syncs = subst (λ (s : List Step). OnlySyncs s mid) read.unchanged recover.syncs in record { mid = mid; syncs = syncs; files = said.files }
+returns-clause-nothing g c = let read = c.read_flow_file.ensures in let recover = c.recover_logs.ensures in let said = c.say_state-said.ensures in let mid = g.V.Site.history c.recover_logs.new.site in let syncs = subst (λ (s : List Step). OnlySyncs s mid) read.unchanged recover.syncs in record { mid = mid; syncs = syncs; files = said.files }
 
 pub returns-clause-fault : goal.returns-clause-fault
 returns-clause-fault g c = λ is. absurd (differ Memory SiteFault refl is)
@@ -127,16 +128,16 @@ pub returns-clause-no_usage : goal.returns-clause-no_usage
 returns-clause-no_usage g c = differ Memory Usage refl
 
 pub returns-clause-later : goal.returns-clause-later
-returns-clause-later g c = le_trans (le_trans c.read_flow_file.ensures.later c.recover_logs.ensures.later) (le_of_eq (sym c.say_table-said.ensures.disk_faults))
+returns-clause-later g c = le_trans (le_trans c.read_flow_file.ensures.later c.recover_logs.ensures.later) (le_of_eq (sym c.say_state-said.ensures.disk_faults))
 
 pub returns-clause-say_later : goal.returns-clause-say_later
-returns-clause-say_later g c = le_trans (le_of_eq (sym (c.recover_logs.ensures.say_faults ∙ c.read_flow_file.ensures.say_faults))) c.say_table-said.ensures.later
+returns-clause-say_later g c = le_trans (le_of_eq (sym (c.recover_logs.ensures.say_faults ∙ c.read_flow_file.ensures.say_faults))) c.say_state-said.ensures.later
 
 pub returns-in-Err-SayFault-clause-shows : goal.returns-in-Err-SayFault-clause-shows
 returns-in-Err-SayFault-clause-shows g c tells =
     let read = c.read_flow_file.ensures in
     let recover = c.recover_logs.ensures in
-    let said = c.say_table-said in
+    let said = c.say_state-said in
     let file = c.in-Ok.file in
     let flows = flows_of file.flows in
     let found = c.in-Ok-recover_logs.recovered in
@@ -151,7 +152,7 @@ returns-in-Err-SayFault-clause-shows g c tells =
 
 pub returns-in-Err-SayFault-clause-say_fault : goal.returns-in-Err-SayFault-clause-say_fault
 returns-in-Err-SayFault-clause-say_fault g c = λ is.
-    let said = c.say_table-said in
+    let said = c.say_state-said in
     subst (λ (n : ℕ). HasRisen n (g.V.Site.say_faults said.new.site)) (c.recover_logs.ensures.say_faults ∙ c.read_flow_file.ensures.say_faults)
     (said.ensures.fault (c.in-Err-SayFault.is ∙ ap (λ (e : ShowError). Err e) (rw c.in-Err-SayFault.is at c.in-Err-SayFault.field-0-is)))
 
@@ -159,7 +160,7 @@ pub returns-clause-shows : goal.returns-clause-shows
 returns-clause-shows g c tells =
     let read = c.read_flow_file.ensures in
     let recover = c.recover_logs.ensures in
-    let said = c.say_table-said in
+    let said = c.say_state-said in
     let file = c.in-Ok.file in
     let flows = flows_of file.flows in
     let found = c.in-Ok-recover_logs.recovered in

@@ -1,4 +1,5 @@
 use Rattle.std.proofs.Common.{◌≡◌, ◌∙◌, inl, inr, [], refl, sym, subst}
+use Rattle.dura_model.specs.Entries.{shown_by}
 use Rattle.dura_model.specs.Partition.{Partition, fresh}
 use Rattle.run_examples.proofs.Shown.{is_there, only_fresh, no_flows_there}
 use Rattle.run_inputs.specs.Examples.{one_flow}
@@ -13,8 +14,8 @@ returns-clause-done c = (one_flow, fresh 0, is_there, record { table = []; is = 
 pub returns-clause-more : goal.returns-clause-more
 returns-clause-more c = λ shows.
     let says = shows.3 in
-    let table = subst (λ (p : Partition). IsTable shows.0 p says.table) (sym (only_fresh shows.0 shows.1 shows.2)) says.is in
-    let none : says.table ≡ [] = one_table shows.0 (fresh 0) says.table [] table (empty_table shows.0) in
+    let table = subst (λ (p : Partition). IsTable shows.0 (shown_by shows.0 p) says.table) (sym (only_fresh shows.0 shows.1 shows.2)) says.is in
+    let none : says.table ≡ [] = one_table shows.0 (shown_by shows.0 (fresh 0)) says.table [] table (empty_table shows.0) in
     cc (says.said, none)
 
 pub returns-clause-not_there : goal.returns-clause-not_there
