@@ -1,9 +1,8 @@
 -- What a step of reading makes of what was read of a log.
-use Rattle.std.proofs.Common.{◌≡◌, ◌∙◌, ℕ, ◌+◌, ◌≤◌, ◌<◌, ◌^◌, List, [], ◌∷◌, ◌++◌, length, drop, Result, Ok, Err, refl, sym, ap, subst, append_assoc, append-nil, arith}
+use Rattle.std.proofs.Common.{◌≡◌, ◌∙◌, ℕ, ◌+◌, List, [], ◌∷◌, ◌++◌, length, drop, Result, Ok, Err, refl, sym, ap, subst, append_assoc, append-nil, arith}
 use Rattle.site_model.specs.History.{Step, content_of, changes_of, IsKept}
-use Rattle.commit_log.specs.Segment.{◌>>=◌, first_gate}
-use Rattle.commit_log.specs.Outcomes.{RestsAs}
-use Rattle.commit_log.specs.Frames.{closed, frame, wrong, found_at, HasRead}
+use Rattle.commit_log.specs.Segment.{◌>>=◌}
+use Rattle.commit_log.specs.Frames.{frame, found_at, HasRead}
 use Rattle.commit_log.specs.Reading.{IsAhead, Goes, RestsAtEnd, StaysAhead}
 use Rattle.commit_log.specs.declared.header.Header.{Header}
 use Rattle.commit_log.specs.declared.reader.FrameError.{FrameError}
@@ -11,7 +10,6 @@ use Rattle.commit_log.specs.declared.reader.FrameError.TheVariants as unread
 use Rattle.commit_log.specs.declared.reader.Next as gates
 use Rattle.commit_log.specs.declared.reader.LogReader.{LogReader}
 use Rattle.commit_log.specs.declared.reader.OpenedLog.{OpenedLog}
-use Rattle.commit_log.specs.declared.states.Resting.{Resting}
 use Rattle.dura_value.specs.Items.{Entry}
 use Rattle.dura_value.specs.Reading.{ReadFails}
 use Rattle.dura_value.specs.declared.faults.ReadError.{ReadError}
@@ -20,9 +18,9 @@ use Rattle.part_items.specs.Coming.{Coming, IsFirst}
 use Rattle.part_items.specs.Numbered.{Next, behind, behind_all, next_frame_in}
 use Rattle.part_items.specs.Kept.{in_file, left_from, first_of}
 use Rattle.part_items.proofs.Behind.{behind_both}
-use Rattle.part_items.proofs.FrameByFrame.{left_frame, left_closed, left_wrong}
+use Rattle.part_items.proofs.FrameByFrame.{left_frame, left_wrong}
 use Rattle.dura_value.proofs.Basics.{both_ok}
-use Rattle.log_files.specs.Entries.{frames_in, with_front, fault_behind, IsFaultBefore, whole_of, IsBefore, IsInside, EndsAs, Turns}
+use Rattle.log_files.specs.Entries.{frames_in, with_front, fault_behind, IsFaultBefore, whole_of, IsBefore, IsInside, Turns}
 use Rattle.log_files.proofs.NextFrames.{fault_inside}
 
 front_front : (a b : List Entry) (read : Result (List Entry × ℕ) ℕ) → with_front a (with_front b read) ≡ with_front (a ++ b) read

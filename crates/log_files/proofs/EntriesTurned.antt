@@ -1,5 +1,5 @@
 -- What steps of reading come to.
-use Rattle.std.proofs.Common.{◌≡◌, ◌∙◌, ℕ, ◌≤◌, List, Result, Ok, Err, sym, subst, arith}
+use Rattle.std.proofs.Common.{◌≡◌, ◌≤◌, List, Result, Err, subst, arith}
 use Rattle.site_model.specs.History.{Step, changes_of, IsKept}
 use Rattle.commit_log.specs.declared.reader.OpenedLog.{OpenedLog}
 use Rattle.commit_log.specs.declared.reader.FrameError.{FrameError}

@@ -4,11 +4,10 @@ use Rattle.std.specs.List.{slice_get}
 use Rattle.std.specs.Result.{is_ok, is_err}
 use Rattle.std.proofs.lemmas.Bool.{cases_lt, eq-eqb}
 use Rattle.std.proofs.lemmas.Option.{slice_get_within}
-use Rattle.site_model.specs.History.{Step, Change, on, synced, reads, changes_of, content_of, IsKept}
+use Rattle.site_model.specs.History.{Step, on, synced, reads, changes_of, content_of, IsKept}
 use Rattle.commit_log.specs.Segment.{first_gate}
 use Rattle.commit_log.specs.Frames.{HasRead}
 use Rattle.part_items.specs.Logs.{first_log, second_log}
-use Rattle.log_files.specs.Entries.{IsOpenedLog}
 use Rattle.log_files.specs.Checked.{IsOpen, AreOpen, AllOpen}
 use Rattle.log_files.specs.Fronts.{IsFront, AreFronts, AllFronts, synced_to, AreSyncs}
 use Rattle.log_files.specs.declared.opening.LogFile.{LogFile}
@@ -57,15 +56,15 @@ both_kept (suc last) partition steps below =
     let then = on (first_log last) synced ∷ mid in
     elim (cases_lt partition last) [
       | inl lower ↦
-        let kept = both_kept last partition steps lower in (
-          kept_on (first_log partition) (second_log last) then (kept_on (first_log partition) (first_log last) mid kept.0),
-          kept_on (second_log partition) (second_log last) then (kept_on (second_log partition) (first_log last) mid kept.1),
-        )
+          let kept = both_kept last partition steps lower in (
+            kept_on (first_log partition) (second_log last) then (kept_on (first_log partition) (first_log last) mid kept.0),
+            kept_on (second_log partition) (second_log last) then (kept_on (second_log partition) (first_log last) mid kept.1),
+          )
       | inr no_lower ↦
-        let is : last ≡ partition = omega (arith, below, no_lower) in (
-          kept_on (first_log partition) (second_log last) then (subst (λ (p : ℕ). IsKept (changes_of (first_log p) then)) is (kept_own (first_log last) mid)),
-          subst (λ (p : ℕ). IsKept (changes_of (second_log p) (on (second_log last) synced ∷ then))) is (kept_own (second_log last) then),
-        )
+          let is : last ≡ partition = omega (arith, below, no_lower) in (
+            kept_on (first_log partition) (second_log last) then (subst (λ (p : ℕ). IsKept (changes_of (first_log p) then)) is (kept_own (first_log last) mid)),
+            subst (λ (p : ℕ). IsKept (changes_of (second_log p) (on (second_log last) synced ∷ then))) is (kept_own (second_log last) then),
+          )
     ]
 
 -- ---- what stands in the files that were synced

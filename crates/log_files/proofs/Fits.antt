@@ -1,10 +1,10 @@
 -- Why files are refused by their fronts.
-use Rattle.std.proofs.Common.{◌≡◌, ◌≢◌, ◌∙◌, ℕ, List, false, ◌==◌, Some, None, inl, inr, refl, sym, ap, eqb-true}
+use Rattle.std.proofs.Common.{◌≡◌, ◌≢◌, ◌∙◌, ℕ, List, false, ◌==◌, Some, None, inl, inr, refl, sym, eqb-true}
 use Rattle.std.proofs.lemmas.Bool.{cases_Bool, eq-eqb}
 use Rattle.commit_log.specs.declared.header.Header.{Header}
 use Rattle.dura_value.specs.Items.{Entry}
 use Rattle.part_items.specs.Kept.{nothing, keeps}
-use Rattle.part_items.specs.Logs.{Asked, damaged_at, other_shape, other_flows, fault_of, late_base, first_log, second_log}
+use Rattle.part_items.specs.Logs.{Asked, damaged_at, other_shape, other_flows, fault_of, first_log, second_log}
 use Rattle.log_files.specs.Fitting.{tied_fault}
 
 pub is_other : (n m : ℕ) → n ≢ m → (n == m) ≡ false
@@ -26,12 +26,6 @@ module _ (partition : ℕ) (a : Header) (some : List Entry) (gate : ℕ) where
 
   pub other_late : a.base ≢ 0 → tied_fault partition nothing (keeps a some gate) ≡ Some (damaged_at (second_log partition) 25)
   other_late late = rw (is_other a.base 0 late) refl
-
-  pub one_begins : a.base ≡ 0 → tied_fault partition (keeps a some gate) nothing ≡ None
-  one_begins first = rw (eq-eqb a.base 0 first) refl
-
-  pub other_begins : a.base ≡ 0 → tied_fault partition nothing (keeps a some gate) ≡ None
-  other_begins first = rw (eq-eqb a.base 0 first) refl
 
 module _ (partition : ℕ) (a b : Header) (some more : List Entry) (gate other : ℕ) where
   pub same_tied : a.base ≡ b.base → tied_fault partition (keeps a some gate) (keeps b more other) ≡ Some (damaged_at (second_log partition) 25)

@@ -1,21 +1,19 @@
 -- Which log two files have by their fronts.
-use Rattle.std.proofs.Common.{◌≡◌, ◌∙◌, ◌⊎◌, inl, inr, ℕ, true, ◌==◌, List, Option, Some, None, Result, Ok, Err, refl, sym, ap, subst}
+use Rattle.std.proofs.Common.{◌≡◌, ◌∙◌, inl, inr, ℕ, true, ◌==◌, List, Option, Some, None, Result, Ok, Err, refl, sym, ap, subst}
 use Rattle.std.specs.Prelude.{IfOk}
 use Rattle.std.proofs.lemmas.Bool.{eq-eqb}
 use Rattle.site_model.specs.History.{Step, content_of}
 use Rattle.commit_log.specs.declared.header.Header.{Header}
 use Rattle.commit_log.specs.declared.reader.OpenedLog.{OpenedLog}
 use Rattle.commit_log.specs.Segment.{first_gate}
-use Rattle.commit_log.specs.Frames.{headed, opening_of}
 use Rattle.dura_value.specs.Items.{Entry}
 use Rattle.part_items.specs.Kept.{Kept, nothing, keeps, kept_under, kept_from, left_from, first_of, kept_in}
-use Rattle.part_items.specs.Logs.{Asked, Logs, no_log, log_in, logs_of, logs_in, first_log, second_log}
+use Rattle.part_items.specs.Logs.{Asked, log_in, logs_of, logs_in, first_log, second_log}
 use Rattle.log_files.specs.Entries.{whole_of}
-use Rattle.log_files.specs.Checked.{IsOpen, AreOpen}
+use Rattle.log_files.specs.Checked.{IsOpen}
 use Rattle.log_files.specs.Fitting.{log_of, FitsFile, Chooses, IsOwn, IsChosen}
 use Rattle.log_files.specs.declared.opening.LogFile.{LogFile}
 use Rattle.log_files.specs.declared.opening.LogFile.TheVariants.{Fresh, Damaged, Log}
-use Rattle.log_files.specs.declared.opening.LogFiles.{LogFiles}
 use Rattle.log_files.proofs.HeadersRead.{own_partition}
 
 log_is : (found : LogFile) (log : OpenedLog) → log_of found ≡ Some log → found ≡ Log log
@@ -30,7 +28,7 @@ nothing_kept asked steps partition file (Damaged offset) opened fits none = absu
 nothing_kept asked steps partition file (Log log) opened fits none = absurd (cc none)
 
 -- and one with a log what is read of this
-pub log_kept : (steps : List Step) (partition file : ℕ) (log : OpenedLog) → IsOpen steps partition file (Log log) → kept_in partition (content_of file steps) ≡ kept_under log.header (whole_of steps log)
+log_kept : (steps : List Step) (partition file : ℕ) (log : OpenedLog) → IsOpen steps partition file (Log log) → kept_in partition (content_of file steps) ≡ kept_under log.header (whole_of steps log)
 log_kept steps partition file log opened =
     ap (kept_from (content_of file steps)) opened.0
     ∙ ap (λ (f : ℕ). kept_under log.header (left_from (content_of f steps) first_gate (first_of log.header))) (sym opened.1)
@@ -71,18 +69,18 @@ module _ (asked : Asked) (steps : List Step) where
         let is = log_is first log here in
         let fits = subst (FitsFile asked) is suits in
         own_log (first_log asked.partition) log (subst (IsOpen steps asked.partition (first_log asked.partition)) is one) fits base (λ entries gate kept.
-            logs_are (keeps log.header entries gate) nothing kept (nothing_kept asked steps asked.partition (second_log asked.partition) second two suits_too none)
-            ∙ first_has asked log.header entries gate (eq-eqb log.header.partitions asked.count fits.0) (eq-eqb log.header.digest asked.digest fits.1) (eq-eqb log.header.base 0 base))
+        logs_are (keeps log.header entries gate) nothing kept (nothing_kept asked steps asked.partition (second_log asked.partition) second two suits_too none)
+        ∙ first_has asked log.header entries gate (eq-eqb log.header.partitions asked.count fits.0) (eq-eqb log.header.digest asked.digest fits.1) (eq-eqb log.header.base 0 base))
 
     second_chosen : (log : OpenedLog) → log.header.base ≡ 0 → log_of first ≡ None → log_of second ≡ Some log → IsOwn asked steps log
     second_chosen log base none there =
         let is = log_is second log there in
         let fits = subst (FitsFile asked) is suits_too in
         own_log (second_log asked.partition) log (subst (IsOpen steps asked.partition (second_log asked.partition)) is two) fits base (λ entries gate kept.
-            logs_are nothing (keeps log.header entries gate) (nothing_kept asked steps asked.partition (first_log asked.partition) first one suits none) kept
-            ∙ second_has asked log.header entries gate (eq-eqb log.header.partitions asked.count fits.0) (eq-eqb log.header.digest asked.digest fits.1) (eq-eqb log.header.base 0 base))
+        logs_are nothing (keeps log.header entries gate) (nothing_kept asked steps asked.partition (first_log asked.partition) first one suits none) kept
+        ∙ second_has asked log.header entries gate (eq-eqb log.header.partitions asked.count fits.0) (eq-eqb log.header.digest asked.digest fits.1) (eq-eqb log.header.base 0 base))
 
-    pub chosen_of : (chosen : Option OpenedLog) → Chooses (log_of first) (log_of second) chosen → IsChosen asked steps chosen
+    chosen_of : (chosen : Option OpenedLog) → Chooses (log_of first) (log_of second) chosen → IsChosen asked steps chosen
     chosen_of None chooses =
         logs_are nothing nothing (nothing_kept asked steps asked.partition (first_log asked.partition) first one suits chooses.0)
         (nothing_kept asked steps asked.partition (second_log asked.partition) second two suits_too chooses.1)

@@ -7,7 +7,7 @@ use Rattle.commit_log.specs.declared.reader.FrameError.{FrameError}
 use Rattle.commit_log.specs.declared.reader.FrameError.TheVariants as unread
 use Rattle.commit_log.specs.declared.reader.OpenedLog.{OpenedLog}
 use Rattle.dura_value.specs.Items.{Entry}
-use Rattle.part_items.specs.Kept.{Kept, broken, kept_in}
+use Rattle.part_items.specs.Kept.{broken, kept_in}
 use Rattle.part_items.specs.Logs.{Asked, Logs, refused, damaged_at, other_shape, other_flows, fault_of, first_log, second_log, logs_in, entries_in}
 use Rattle.log_files.specs.Entries.{IsOpenedLog, whole_of}
 use Rattle.log_files.specs.Fitting.{kept_as, kept_behind, FitsFiles, RefusesFiles}

@@ -17,7 +17,6 @@ use Rattle.log_items.specs.Plain.{entry_of}
 use Rattle.part_items.specs.Coming.{Coming, IsNext}
 use Rattle.part_items.specs.Numbered.{Next, behind, behind_all, next_frame_in, next_of}
 use Rattle.part_items.specs.Kept.{in_file, left_from, first_of}
-use Rattle.part_items.specs.declared.numbered.Next as numbered
 use Rattle.log_files.specs.declared.reader.EntryReader.{EntryReader}
 use Rattle.log_files.specs.declared.reader.EntryReader.TheVariants.{Before, Inside}
 use Rattle.log_files.specs.declared.reader.Turn as turns

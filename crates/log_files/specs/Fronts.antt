@@ -5,7 +5,6 @@ use Rattle.site_model.specs.History.{Step, on, synced}
 use Rattle.commit_log.specs.Segment.{first_gate}
 use Rattle.commit_log.specs.Frames.{fresh, damaged, headed, opening_of, HasRead}
 use Rattle.part_items.specs.Logs.{first_log, second_log}
-use Rattle.log_files.specs.Entries.{IsOpenedLog}
 use Rattle.log_files.specs.declared.opening.LogFile.{LogFile}
 use Rattle.log_files.specs.declared.opening.LogFile.TheVariants.{Fresh, Damaged, Log}
 use Rattle.log_files.specs.declared.opening.LogFiles.{LogFiles}

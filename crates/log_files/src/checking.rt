@@ -1,11 +1,9 @@
 //! Log files are read to their ends, to find the first that is refused.
 
-ghost use Rattle.std.specs.Prelude.{◌≡◌, ◌≤◌, ℕ, List, Err, OnOk, IfOk, IfErr, Ok, length};
-ghost use Rattle.std.specs.List.{slice_get};
+ghost use Rattle.std.specs.Prelude.{◌≡◌, ◌≤◌, ℕ, Err, OnOk, IfOk, length};
 ghost use Rattle.site_model.specs.History.{content_of};
 ghost use Rattle.site_model.specs.Calls.{HasRisen};
-ghost use Rattle.dura_value.specs.Items.{Entry as PlainEntry};
-ghost use Rattle.log_files.specs.Entries.{IsOpenedLog, whole_of};
+ghost use Rattle.log_files.specs.Entries.{IsOpenedLog};
 ghost use Rattle.log_files.specs.Checked.{IsReadWhole, IsOpen, AreOpen, AllOpen, IsChecked, Suits, SaysLogs, SaysAll, FitAll};
 ghost use Rattle.log_files.specs.Fitting.{plain, log_of, FitsFile, FitsFiles};
 
@@ -71,7 +69,6 @@ fn read_file<V: Site>(
 
 /// The log of a file, if there is one, which was read to its end. A file is refused for its bytes first, then for its number of partitions,
 /// then for its flows.
-
 fn check_file<V: Site>(
     alloc: Global,
     site: &mut V,
@@ -114,7 +111,13 @@ fn check_both<V: Site>(
     ensures say_faults { V.say_faults site.new ≡ V.say_faults site.old }
 {
     let first = check_file(alloc, site, asked, first_file(asked.partition), both.first)?;
-    let second = check_file(alloc, site, asked, second_file(asked.partition), both.second)?;
+    let second = check_file(
+        alloc,
+        site,
+        asked,
+        second_file(asked.partition),
+        both.second,
+    )?;
     match tie(asked, first, second) {
         Ok(_) => Ok(()),
         Err(error) => Err(error),

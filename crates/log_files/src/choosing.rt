@@ -17,11 +17,7 @@ const BASE: u64 = 25;
 
 /// The log of a file, if it has one. A file is refused that is damaged, of another number of partitions or of other flows, in this order.
 #[tactic(auto, using(crate::proofs::Fits::shape_fault, crate::proofs::Fits::flows_fault))]
-pub(crate) fn fit(
-    asked: Asked,
-    file: u32,
-    found: LogFile,
-) -> Result<Option<OpenedLog>, FilesError>
+pub(crate) fn fit(asked: Asked, file: u32, found: LogFile) -> Result<Option<OpenedLog>, FilesError>
     ensures log { IfOk result (λ log. log ≡ log_of found) }
     ensures fits { OnOk result (FitsFile (plain asked) found) }
     ensures unfit { OnErr result (FitsFile (plain asked) found → ⊥) }
@@ -52,7 +48,6 @@ pub(crate) fn fit(
 }
 
 /// A log, if it begins at position 0: there is no checkpoint to begin behind.
-
 fn from_first_entry(file: u32, log: OpenedLog) -> Result<OpenedLog, FilesError>
     ensures found { IfOk result (λ same. (same ≡ log) × (log.header.base ≡ 0)) }
     ensures late { OnErr result ((result ≡ Err (FilesError.Damaged file 25))

@@ -2,6 +2,7 @@
 //! another.
 //!
 //! - `opening` syncs the files and reads their fronts ([`open_files`]), and `choosing` finds a partition's log by these ([`choose`]).
+//!   `asked` says what they are read for ([`Asked`]).
 //! - `reader` reads a log entry by entry ([`EntryReader`]): memory is one piece of the file, one payload and one entry.
 //! - `checking` reads all files to their ends and names the first that is refused ([`check_files`]). `error` says why.
 //! - `specs/Entries` says what was read of a log and what is left, `specs/Fronts` what opening leaves, `specs/Fitting` which log a partition

@@ -1,7 +1,6 @@
 //! The log files of all partitions are opened.
 
 ghost use Rattle.std.specs.Prelude.{◌≡◌, ◌≤◌, ◌<◌, ◌⊎◌, ◌∷◌, ℕ, Err, OnOk, IfOk, OnErr, length};
-ghost use Rattle.std.specs.List.{slice_get};
 ghost use Rattle.site_model.specs.History.{on, synced, content_of};
 ghost use Rattle.site_model.specs.Calls.{HasRisen};
 ghost use Rattle.part_items.specs.Logs.{first_log, second_log};

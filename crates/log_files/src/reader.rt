@@ -1,6 +1,6 @@
 //! A log that is read entry by entry.
 
-ghost use Rattle.std.specs.Prelude.{◌≡◌, ◌≤◌, ◌<◌, ◌+◌, ◌^◌, ℕ, List, [], Err, IfOk};
+ghost use Rattle.std.specs.Prelude.{◌≡◌, ◌≤◌, ◌<◌, ◌^◌, ℕ, List, [], Err};
 ghost use Rattle.site_model.specs.History.{Step, changes_of, IsKept};
 ghost use Rattle.site_model.specs.Calls.{HasRisen};
 ghost use Rattle.commit_log.specs.declared.reader.OpenedLog.{OpenedLog as Opened};

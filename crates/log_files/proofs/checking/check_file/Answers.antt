@@ -1,4 +1,3 @@
-use Rattle.std.proofs.Common.{sym}
 use Rattle.std.proofs.lemmas.Result.{err_from_is_err_and}
 use Rattle.log_files.specs.Fitting.{plain}
 use Rattle.log_files.proofs.LogsChecked.{suits_by_front, refused_file}

@@ -1,8 +1,8 @@
-use Rattle.std.proofs.Common.{◌≡◌, ◌∙◌, ◌≤◌, ◌<◌, ◌+◌, ℕ, List, length, Some, Ok, Err, refl, sym, ap, subst, arith}
+use Rattle.std.proofs.Common.{◌≡◌, ◌∙◌, length, Some, Ok, Err, refl, sym, ap, arith}
 use Rattle.std.specs.List.{slice_get}
 use Rattle.std.proofs.lemmas.Option.{slice_get_within}
 use Rattle.std.proofs.lemmas.Result.{err_from_is_err_and}
-use Rattle.site_model.specs.History.{Step, content_of}
+use Rattle.site_model.specs.History.{content_of}
 use Rattle.site_model.proofs.Faults.{risen_later}
 use Rattle.part_items.specs.Logs.{logs_in}
 use Rattle.log_files.specs.Checked.{HasEntries, asked_for}

@@ -1,6 +1,4 @@
-use Rattle.std.proofs.Common.{Option, sym, subst}
-use Rattle.commit_log.specs.declared.reader.OpenedLog.{OpenedLog}
-use Rattle.log_files.specs.Fitting.{plain, log_of, Chooses}
+use Rattle.log_files.specs.Fitting.{plain}
 use Rattle.log_files.proofs.LogsChosen.{if_chosen}
 use Rattle.log_files.proofs.choosing.choose.Goals as goal
 

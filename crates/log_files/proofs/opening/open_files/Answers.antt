@@ -1,7 +1,6 @@
-use Rattle.std.proofs.Common.{◌≡◌, ◌∙◌, ◌≤◌, ◌<◌, ◌+◌, ◌++◌, ◌∷◌, [], ℕ, List, length, Some, Ok, Err, refl, sym, ap, subst, arith, length-append}
-use Rattle.std.specs.List.{slice_get}
+use Rattle.std.proofs.Common.{◌≡◌, ◌∙◌, ◌+◌, ◌++◌, ◌∷◌, [], ℕ, List, length, Err, refl, sym, ap, subst, arith, length-append}
 use Rattle.std.proofs.lemmas.Result.{err_from_is_err_and}
-use Rattle.site_model.specs.History.{Step, content_of}
+use Rattle.site_model.specs.History.{content_of}
 use Rattle.site_model.proofs.Faults.{risen_later}
 use Rattle.log_files.specs.Fronts.{AllFronts, synced_to}
 use Rattle.log_files.specs.declared.error.FilesError.TheVariants as errors
