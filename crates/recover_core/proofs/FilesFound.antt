@@ -6,7 +6,7 @@ use Rattle.site_model.proofs.Paths.{own_change}
 use Rattle.commit_log.specs.declared.header.Header.{Header}
 use Rattle.commit_log.specs.declared.states.Resting.{Resting}
 use Rattle.commit_log.specs.Segment.{first_gate}
-use Rattle.commit_log.specs.declared.reader.LogReader.{LogReader}
+use Rattle.commit_log.specs.declared.reader.OpenedLog.{OpenedLog}
 use Rattle.commit_log.specs.declared.reader.FrameError.{FrameError}
 use Rattle.commit_log.specs.declared.reader.FrameError.TheVariants as unread
 use Rattle.commit_log.specs.Frames.{fresh, damaged, opening_of, HasRead}
@@ -30,13 +30,12 @@ module _ (file : ℕ) (old new : List Step) (is : new ≡ on file synced ∷ old
   pub synced_kept : IsKept (changes_of file new)
   synced_kept = subst IsKept (sym own) (λ image left. left)
 
-  pub is_opened : (reader : LogReader) → reader.file ≡ file → Opens 0 (content_of file old) (Ok reader) → IsOpened new reader
-  is_opened reader file_is opens =
-      let same : content_of reader.file new ≡ content_of file old = ap (λ (f : ℕ). content_of f new) file_is ∙ same_content in
+  pub is_opened : (opened : OpenedLog) → opened.file ≡ file → Opens 0 (content_of file old) (Ok opened) → IsOpened new opened
+  is_opened opened file_is opens =
+      let same : content_of opened.file new ≡ content_of file old = ap (λ (f : ℕ). content_of f new) file_is ∙ same_content in
       record {
-        read = subst (λ (c : List ℕ). HasRead c reader.header [] reader.gate) (sym same) opens.1;
-        first = opens.2;
-        size = opens.3 ∙ ap (λ (c : List ℕ). length c) (sym same);
+        read = subst (λ (c : List ℕ). HasRead c opened.header [] first_gate) (sym same) opens.1;
+        size = opens.2 ∙ ap (λ (c : List ℕ). length c) (sym same);
         kept = subst (λ (f : ℕ). IsKept (changes_of f new)) (sym file_is) synced_kept;
       }
 
@@ -47,35 +46,35 @@ module _ (file : ℕ) (old new : List Step) (is : new ≡ on file synced ∷ old
   damaged_front offset opening = ap (kept_in 0) same_content ∙ ap (kept_from (content_of file old)) opening
 
   -- a file keeps what was read behind its header
-  keeps_read : (reader : LogReader) → reader.file ≡ file → Opens 0 (content_of file old) (Ok reader)
-      → kept_in 0 (content_of file new) ≡ kept_under reader.header (left_from (content_of reader.file new) first_gate (first_of reader.header))
-  keeps_read reader file_is opens =
-      let same : content_of file old ≡ content_of reader.file new = sym (ap (λ (f : ℕ). content_of f new) file_is ∙ same_content) in
-      ap (kept_in 0) same_content ∙ ap (kept_from (content_of file old)) opens.0 ∙ ap (λ (c : List ℕ). kept_under reader.header (left_from c first_gate (first_of reader.header))) same
+  keeps_read : (opened : OpenedLog) → opened.file ≡ file → Opens 0 (content_of file old) (Ok opened)
+      → kept_in 0 (content_of file new) ≡ kept_under opened.header (left_from (content_of opened.file new) first_gate (first_of opened.header))
+  keeps_read opened file_is opens =
+      let same : content_of file old ≡ content_of opened.file new = sym (ap (λ (f : ℕ). content_of f new) file_is ∙ same_content) in
+      ap (kept_in 0) same_content ∙ ap (kept_from (content_of file old)) opens.0 ∙ ap (λ (c : List ℕ). kept_under opened.header (left_from c first_gate (first_of opened.header))) same
 
-  pub is_found : (flows : Flows) (reader : LogReader) (log : Resting) (progress : Progress) → reader.file ≡ file → Opens 0 (content_of file old) (Ok reader) → log.file ≡ reader.file → ReadsAll new flows reader (Ok (log, progress))
-      → IsFound new flows file (record { header = reader.header; log = log; incarnation = progress.incarnation; placing = progress.placing; past = progress.past })
-  is_found flows reader log progress file_is opens there all = record {
+  pub is_found : (flows : Flows) (opened : OpenedLog) (log : Resting) (progress : Progress) → opened.file ≡ file → Opens 0 (content_of file old) (Ok opened) → log.file ≡ opened.file → ReadsAll new flows opened (Ok (log, progress))
+      → IsFound new flows file (record { header = opened.header; log = log; incarnation = progress.incarnation; placing = progress.placing; past = progress.past })
+  is_found flows opened log progress file_is opens there all = record {
     entries = all.1;
     payloads = all.0;
     file_is = there ∙ file_is;
-    kept = keeps_read reader file_is opens ∙ ap (kept_under reader.header) all.3;
+    kept = keeps_read opened file_is opens ∙ ap (kept_under opened.header) all.3;
     placed = all.5.placed;
     past = all.5.past;
     incarnation = all.5.incarnation;
     decoded = all.2;
     rests = all.4;
-    partition = own_partition 0 (content_of file old) reader.header opens.0;
+    partition = own_partition 0 (content_of file old) opened.header opens.0;
   }
 
-  pub damaged_behind : (flows : Flows) (reader : LogReader) (offset : ℕ) → reader.file ≡ file → Opens 0 (content_of file old) (Ok reader) → ReadsAll new flows reader (Err (unread.Damaged offset))
+  pub damaged_behind : (flows : Flows) (opened : OpenedLog) (offset : ℕ) → opened.file ≡ file → Opens 0 (content_of file old) (Ok opened) → ReadsAll new flows opened (Err (unread.Damaged offset))
       → kept_in 0 (content_of file new) ≡ broken offset
-  damaged_behind flows reader offset file_is opens all = keeps_read reader file_is opens ∙ ap (kept_under reader.header) all
+  damaged_behind flows opened offset file_is opens all = keeps_read opened file_is opens ∙ ap (kept_under opened.header) all
 
-  pub file_refused : (flows : Flows) (reader : LogReader) (error : FrameError) → reader.file ≡ file → Opens 0 (content_of file old) (Ok reader) → ReadsAll new flows reader (Err error) → SaysFile new flows file (Err error)
-  file_refused flows reader (unread.Damaged offset) file_is opens all = damaged_behind flows reader offset file_is opens all
-  file_refused flows reader unread.SiteFault file_is opens all = tt
-  file_refused flows reader unread.Memory file_is opens all = tt
+  pub file_refused : (flows : Flows) (opened : OpenedLog) (error : FrameError) → opened.file ≡ file → Opens 0 (content_of file old) (Ok opened) → ReadsAll new flows opened (Err error) → SaysFile new flows file (Err error)
+  file_refused flows opened (unread.Damaged offset) file_is opens all = damaged_behind flows opened offset file_is opens all
+  file_refused flows opened unread.SiteFault file_is opens all = tt
+  file_refused flows opened unread.Memory file_is opens all = tt
 
 -- ---- what a file is refused for
 

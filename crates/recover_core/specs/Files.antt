@@ -6,8 +6,10 @@ use Rattle.commit_log.specs.Segment.{◌>>=◌, first_gate}
 use Rattle.commit_log.specs.Outcomes.{RestsAs}
 use Rattle.commit_log.specs.declared.states.Resting.{Resting}
 use Rattle.commit_log.specs.Frames.{HasRead}
+use Rattle.commit_log.specs.Reading.{IsAhead}
 use Rattle.commit_log.specs.declared.reader.FrameError.{FrameError}
 use Rattle.commit_log.specs.declared.reader.LogReader.{LogReader}
+use Rattle.commit_log.specs.declared.reader.OpenedLog.{OpenedLog}
 use Rattle.commit_log.specs.declared.reader.FrameError.TheVariants as unread
 use Rattle.dura_value.specs.declared.faults.ReadError.{ReadError}
 use Rattle.dura_value.specs.declared.faults.ReadError.TheVariants.{Bad, Memory}
@@ -55,20 +57,20 @@ PlacesFrame flows old gate wanted (Err (unread.Damaged offset)) = in_file (gate 
 PlacesFrame flows old gate wanted (Err unread.SiteFault) = ⊥
 PlacesFrame flows old gate wanted (Err unread.Memory) = Unit {0}
 
--- A log was opened, and nothing of it read.
-pub record IsOpened (steps : List Step) (reader : LogReader) : Type 0 where
-  pub read : HasRead (content_of reader.file steps) reader.header [] reader.gate
-  pub first : reader.gate ≡ first_gate
-  pub size : reader.size ≡ length (content_of reader.file steps)
-  pub kept : IsKept (changes_of reader.file steps)
+-- A log was opened, and its file synced.
+pub record IsOpened (steps : List Step) (opened : OpenedLog) : Type 0 where
+  pub read : HasRead (content_of opened.file steps) opened.header [] first_gate
+  pub size : opened.size ≡ length (content_of opened.file steps)
+  pub kept : IsKept (changes_of opened.file steps)
 
--- Of a file with this content these payloads were read up to the gate at this offset, they are of these entries, and those
--- were placed.
-pub record HasReadTo (flows : Flows) (content : List ℕ) (header : Header) (payloads : List (List ℕ)) (entries : List Entry) (gate : ℕ) (p : Progress) : Type 0 where
-  pub read : HasRead content header payloads gate
+-- Of a file with this content these payloads were read up to the reader's gate, they are of these entries, and those were
+-- placed.
+pub record HasReadTo (flows : Flows) (content : List ℕ) (header : Header) (payloads : List (List ℕ)) (entries : List Entry) (reader : LogReader) (p : Progress) : Type 0 where
+  pub read : HasRead content header payloads reader.gate
+  pub ahead : IsAhead content reader
   pub decoded : frames_in (first_of header) payloads ≡ Ok entries
   -- what is left stands behind them
-  pub left : (left_from content gate (next_of p.next) >>= λ more. Ok (entries ++ more.0, more.1)) ≡ left_from content first_gate (first_of header)
+  pub left : (left_from content reader.gate (next_of p.next) >>= λ more. Ok (entries ++ more.0, more.1)) ≡ left_from content first_gate (first_of header)
   pub progress : IsProgress flows (first_of header) entries p
 
 -- the log's entries may go on, and there were at most 64 for each byte
@@ -79,7 +81,7 @@ pub record CanGoOn (reading : Reading) : Type 0 where
 -- what came of one step of reading
 abbrev pub ReadsOn : Flows → (content : List ℕ) → Header → List (List ℕ) → List Entry → Result Turn FrameError → Type 0
 ReadsOn flows content header payloads entries (Ok (More new)) =
-    (payload : List ℕ) × (more : List Entry) × HasReadTo flows content header (payloads ++ payload ∷ []) (entries ++ more) new.reader.gate new.progress
+    (payload : List ℕ) × (more : List Entry) × HasReadTo flows content header (payloads ++ payload ∷ []) (entries ++ more) new.reader new.progress
 ReadsOn flows content header payloads entries (Ok (End log progress)) =
     (left_from content first_gate (first_of header) ≡ Ok (entries, log.gate)) × IsProgress flows (first_of header) entries progress
 ReadsOn flows content header payloads entries (Err (unread.Damaged offset)) = left_from content first_gate (first_of header) ≡ Err offset
@@ -96,7 +98,6 @@ RestsAfter steps header payloads (Err error) = Unit {0}
 pub record IsBehindStep (old new : Reading) : Type 0 where
   pub file : new.reader.file ≡ old.reader.file
   pub header : new.reader.header ≡ old.reader.header
-  pub size : new.reader.size ≡ old.reader.size
   pub further : old.reader.gate < new.reader.gate
   pub can : CanGoOn new
 
@@ -106,13 +107,13 @@ StaysThere old (Ok (End log progress)) = (log.file ≡ old.reader.file) × IsRea
 StaysThere old (Err error) = Unit {0}
 
 -- what all steps came to
-abbrev pub ReadsAll : List Step → Flows → LogReader → Result (Resting × Progress) FrameError → Type 0
-ReadsAll steps flows reader (Ok (log, progress)) = (payloads : List (List ℕ)) × (entries : List Entry) × (frames_in (first_of reader.header) payloads ≡ Ok entries)
-    × (left_from (content_of reader.file steps) first_gate (first_of reader.header) ≡ Ok (entries, log.gate))
-    × RestsAs steps reader.header payloads log × IsProgress flows (first_of reader.header) entries progress
-ReadsAll steps flows reader (Err (unread.Damaged offset)) = left_from (content_of reader.file steps) first_gate (first_of reader.header) ≡ Err offset
-ReadsAll steps flows reader (Err unread.SiteFault) = Unit {0}
-ReadsAll steps flows reader (Err unread.Memory) = Unit {0}
+abbrev pub ReadsAll : List Step → Flows → OpenedLog → Result (Resting × Progress) FrameError → Type 0
+ReadsAll steps flows opened (Ok (log, progress)) = (payloads : List (List ℕ)) × (entries : List Entry) × (frames_in (first_of opened.header) payloads ≡ Ok entries)
+    × (left_from (content_of opened.file steps) first_gate (first_of opened.header) ≡ Ok (entries, log.gate))
+    × RestsAs steps opened.header payloads log × IsProgress flows (first_of opened.header) entries progress
+ReadsAll steps flows opened (Err (unread.Damaged offset)) = left_from (content_of opened.file steps) first_gate (first_of opened.header) ≡ Err offset
+ReadsAll steps flows opened (Err unread.SiteFault) = Unit {0}
+ReadsAll steps flows opened (Err unread.Memory) = Unit {0}
 
 -- ---- a file that was read
 

@@ -66,14 +66,14 @@ fn read_file<V: Site, R: Reactions>(
     ensures later { V.disk_faults site.old ≤ V.disk_faults site.new }
     ensures say_faults { V.say_faults site.new ≡ V.say_faults site.old }
 {
-    let reader = match open_log(site, file, PARTITION) {
-        Ok(reader) => reader,
+    let opened = match open_log(site, file, PARTITION) {
+        Ok(opened) => opened,
         Err(OpenError::Fresh) => return Ok(LogFile::Fresh),
         Err(OpenError::Damaged { offset }) => return Err(FrameError::Damaged { offset }),
         Err(OpenError::SiteFault) => return Err(FrameError::SiteFault),
     };
-    let header = reader.header;
-    let (log, progress) = read_on(alloc, site, reactions, reader)?;
+    let header = opened.header;
+    let (log, progress) = read_on(alloc, site, reactions, opened)?;
     Ok(LogFile::Log(Found {
         header,
         log,

@@ -3,8 +3,8 @@
 //!
 //! - `recovery` opens both files and says what stands in them ([`recover`]). `files` reads one of them, `reading` its frames,
 //!   `choosing` finds the log in what the two files hold. `error` says why nothing was recovered.
-//! - `placing` lets the entries of a log make the state as they are read, so that memory is the state, one payload and one entry.
-//!   `progress` is how far that has come.
+//! - `placing` lets the entries of a log make the state as they are read, so that memory is the state, one piece of the log, one payload
+//!   and one entry. `progress` is how far that has come.
 //! - `specs/Recovering` says what is recovered, by the definitions of `part_items` and `run_rules`. `laws` are laws of it.
 #![tactic(auto)]
 

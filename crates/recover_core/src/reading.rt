@@ -4,6 +4,7 @@ ghost use Rattle.site_model.specs.History.{changes_of, content_of, IsKept};
 ghost use Rattle.site_model.specs.Calls.{HasRisen};
 ghost use Rattle.dura_value.specs.Items.{Entry};
 ghost use Rattle.commit_log.specs.Frames.{HasRead};
+ghost use Rattle.commit_log.specs.Reading.{IsAhead};
 ghost use Rattle.part_items.specs.Numbered.{next_frame_in};
 ghost use Rattle.part_items.specs.Numbered.{next_of};
 ghost use Rattle.recover_core.specs.Files.{IsInside, fault_behind, PlacesFrame, IsOpened, HasReadTo, CanGoOn, ReadsOn, RestsAfter, StaysThere, ReadsAll};
@@ -11,7 +12,7 @@ ghost use Rattle.recover_core.specs.Progress.{IsReady, position_in};
 
 use crate::placing::place_entry;
 use crate::progress::{Placing, Progress};
-use commit_log::{FrameError, LogReader, Next, Resting};
+use commit_log::{FrameError, LogReader, Next, OpenedLog, Payload, Resting};
 use dura_value::ReadError;
 use part_items::FrameReader;
 use part_rows::Reactions;
@@ -56,13 +57,13 @@ fn place_frame<R: Reactions>(
     reactions: &R,
     progress: Progress,
     gate: u64,
-    payload: &[u8],
+    payload: Payload,
 ) -> Result<Progress, FrameError>
     requires ready { IsReady progress }
     requires room { position_in progress.placing ≤ 64 * gate }
-    requires below { gate + 5 + length payload.now < 2 ^ 31 }
+    requires below { gate + 5 + length payload < 2 ^ 31 }
     ensures { PlacesFrame (R.flows reactions.now) progress gate
-        (next_frame_in (next_of progress.next) payload.now) result }
+        (next_frame_in (next_of progress.next) payload) result }
 {
     let mut frame = match FrameReader::begin(progress.next, payload) {
         Ok(frame) => frame,
@@ -91,14 +92,14 @@ fn read_step<V: Site, R: Reactions>(
 ) -> Result<Turn, FrameError>
     requires { CanGoOn reading }
     ensures tells { V.tells site.new → V.tells site.old }
-    ensures reads { V.tells site.new → reading.reader.size
-        ≡ length (content_of reading.reader.file (V.history site.old))
-        → (payloads : List (List ℕ)) (entries : List Entry)
+    ensures reads { V.tells site.new → (payloads : List (List ℕ)) (entries : List Entry)
         → HasReadTo (R.flows reactions.now) (content_of reading.reader.file (V.history site.old))
-        reading.reader.header payloads entries reading.reader.gate reading.progress
+        reading.reader.header payloads entries reading.reader reading.progress
         → ReadsOn (R.flows reactions.now) (content_of reading.reader.file (V.history site.old))
         reading.reader.header payloads entries result }
-    ensures rests { V.tells site.new → (payloads : List (List ℕ))
+    ensures rests { V.tells site.new
+        → IsAhead (content_of reading.reader.file (V.history site.old)) reading.reader
+        → (payloads : List (List ℕ))
         → HasRead (content_of reading.reader.file (V.history site.old)) reading.reader.header
         payloads reading.reader.gate → IsKept (changes_of reading.reader.file (V.history site.old))
         → RestsAfter (V.history site.new) reading.reader.header payloads result }
@@ -119,7 +120,7 @@ fn read_step<V: Site, R: Reactions>(
             return Err(error);
         }
     };
-    let progress = place_frame(alloc, reactions, progress, gate, payload.as_bytes())?;
+    let progress = place_frame(alloc, reactions, progress, gate, payload)?;
     Ok(Turn::More(Reading {
         reader: behind,
         progress,
@@ -131,12 +132,12 @@ pub(crate) fn read_on<V: Site, R: Reactions>(
     alloc: Global,
     site: &mut V,
     reactions: &R,
-    reader: LogReader,
+    opened: OpenedLog,
 ) -> Result<(Resting, Progress), FrameError>
     ensures tells { V.tells site.new → V.tells site.old }
-    ensures reads { V.tells site.new → IsOpened (V.history site.old) reader
-        → ReadsAll (V.history site.old) (R.flows reactions.now) reader result }
-    ensures there { IfOk result (λ end. end.0.file ≡ reader.file) }
+    ensures reads { V.tells site.new → IsOpened (V.history site.old) opened
+        → ReadsAll (V.history site.old) (R.flows reactions.now) opened result }
+    ensures there { IfOk result (λ end. end.0.file ≡ opened.file) }
     ensures ready { IfOk result (λ end. IsReady end.1) }
     ensures unchanged { V.history site.new ≡ V.history site.old }
     ensures fault { result ≡ Err FrameError.SiteFault
@@ -144,6 +145,7 @@ pub(crate) fn read_on<V: Site, R: Reactions>(
     ensures later { V.disk_faults site.old ≤ V.disk_faults site.new }
     ensures say_faults { V.say_faults site.new ≡ V.say_faults site.old }
 {
+    let reader = opened.frames(alloc);
     let progress = Progress::new(alloc, reader.header.base);
     let mut reading = Reading { reader, progress };
     'frames: loop {

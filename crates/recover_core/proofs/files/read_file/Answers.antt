@@ -28,23 +28,23 @@ returns-clause-says g c tells =
     let old = g.V.Site.history c.args.site.now in
     let mid = g.V.Site.history c.open_log.new.site in
     let flows = g.R.Reactions.flows c.args.reactions.now in
-    let reader = c.in-Ok.reader in
+    let opened = c.in-Ok.opened in
     let opens = c.in-Ok.ensures.opens (c.read_on.ensures.tells tells) in
-    let all = c.in_ok-log.ensures.reads tells (is_opened c.args.file old mid c.in-Ok.ensures.synced reader c.in-Ok.ensures.place opens) in
-    subst (λ (s : List Step). IsFound s flows c.args.file (record { header = reader.header; log = c.in_ok-log.log; incarnation = c.in_ok-log.progress.incarnation; placing = c.in_ok-log.progress.placing; past = c.in_ok-log.progress.past })) (sym c.read_on.ensures.unchanged)
-    (is_found c.args.file old mid c.in-Ok.ensures.synced flows reader c.in_ok-log.log c.in_ok-log.progress c.in-Ok.ensures.place opens c.in_ok-log.ensures.there all)
+    let all = c.in_ok-log.ensures.reads tells (is_opened c.args.file old mid c.in-Ok.ensures.synced opened c.in-Ok.ensures.place opens) in
+    subst (λ (s : List Step). IsFound s flows c.args.file (record { header = opened.header; log = c.in_ok-log.log; incarnation = c.in_ok-log.progress.incarnation; placing = c.in_ok-log.progress.placing; past = c.in_ok-log.progress.past })) (sym c.read_on.ensures.unchanged)
+    (is_found c.args.file old mid c.in-Ok.ensures.synced flows opened c.in_ok-log.log c.in_ok-log.progress c.in-Ok.ensures.place opens c.in_ok-log.ensures.there all)
 
 pub returns-in_err-log-clause-says : goal.returns-in_err-log-clause-says
 returns-in_err-log-clause-says g c tells =
     let old = g.V.Site.history c.args.site.now in
     let mid = g.V.Site.history c.open_log.new.site in
     let flows = g.R.Reactions.flows c.args.reactions.now in
-    let reader = c.in-Ok.reader in
+    let opened = c.in-Ok.opened in
     let p = err_from_is_err_and c.from_residual.result c.from_residual.ensures.1 in
     let opens = c.in-Ok.ensures.opens (c.read_on.ensures.tells tells) in
-    let all = c.in_err-log.ensures.reads tells (is_opened c.args.file old mid c.in-Ok.ensures.synced reader c.in-Ok.ensures.place opens) in
+    let all = c.in_err-log.ensures.reads tells (is_opened c.args.file old mid c.in-Ok.ensures.synced opened c.in-Ok.ensures.place opens) in
     rw (p.1, p.2) (subst (λ (s : List Step). SaysFile s flows c.args.file (Err c.in_err-log.field-0.0)) (sym c.read_on.ensures.unchanged)
-    (file_refused c.args.file old mid c.in-Ok.ensures.synced flows reader c.in_err-log.field-0.0 c.in-Ok.ensures.place opens all))
+    (file_refused c.args.file old mid c.in-Ok.ensures.synced flows opened c.in_err-log.field-0.0 c.in-Ok.ensures.place opens all))
 
 pub returns-clause-syncs : goal.returns-clause-syncs
 returns-clause-syncs g c = inl (c.read_on.ensures.unchanged ∙ c.in-Ok.ensures.synced)

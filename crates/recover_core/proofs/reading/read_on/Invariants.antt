@@ -8,13 +8,12 @@ use Rattle.recover_core.proofs.reading.read_on.Given as goal
 abbrev pub invariant-frames : goal.invariant-frames
 invariant-frames g l = record {
   can : CanGoOn l.reading;
-  file : l.reading.reader.file ≡ l.fn.reader.file;
-  header : l.reading.reader.header ≡ l.fn.reader.header;
-  size : l.reading.reader.size ≡ l.fn.reader.size;
+  file : l.reading.reader.file ≡ l.fn.opened.file;
+  header : l.reading.reader.header ≡ l.fn.opened.header;
   told : g.V.Site.tells l.site → g.V.Site.tells l.fn.site;
   unchanged : g.V.Site.history l.site ≡ g.V.Site.history l.fn.site;
-  read : g.V.Site.tells l.site → IsOpened (g.V.Site.history l.fn.site) l.fn.reader
-      → (payloads : List (List ℕ)) × (entries : List Entry) × HasReadTo (g.R.Reactions.flows l.reactions) (content_of l.fn.reader.file (g.V.Site.history l.fn.site)) l.fn.reader.header payloads entries l.reading.reader.gate l.reading.progress;
+  read : g.V.Site.tells l.site → IsOpened (g.V.Site.history l.fn.site) l.fn.opened
+      → (payloads : List (List ℕ)) × (entries : List Entry) × HasReadTo (g.R.Reactions.flows l.reactions) (content_of l.fn.opened.file (g.V.Site.history l.fn.site)) l.fn.opened.header payloads entries l.reading.reader l.reading.progress;
   later : g.V.Site.disk_faults l.fn.site ≤ g.V.Site.disk_faults l.site;
   say_faults : g.V.Site.say_faults l.site ≡ g.V.Site.say_faults l.fn.site;
 }
