@@ -1,0 +1,14 @@
+pub mod EntriesPlaced
+pub mod FirstRefused
+pub mod Going
+pub mod LogFronts
+pub mod NextTried
+pub mod PlacedAt
+pub mod Rounded
+pub mod SameIncarnation
+pub mod StateRestored
+pub mod States
+pub mod StreamsSent
+pub mod Walks
+pub mod Turned
+pub mod WentOn
