@@ -15,7 +15,7 @@ returns-clause-said g c =
     let old = tape (g.V.Site.history c.args.site.now) in
     let new = tape (g.V.Site.history c.say_table.new.site) in
     let same : shown flows (length c.from_ref.result.now) (parts_in c.from_ref.result.now) ≡ shown_by flows (state_of c.args.state.now) =
-    ap (λ (l : List PartState). shown flows (length l) (parts_in l)) c.from_ref.ensures ∙ one_shows flows c.args.state.now in
+    ap (λ (l : List PartState). shown flows (length l) (parts_in l)) c.from_ref.ensures.value ∙ one_shows flows c.args.state.now in
     subst (λ (w : World). OnOk c.say_table.result (SaysTable flows w old new)) same c.say_table.ensures.said
 
 pub returns-clause-part : goal.returns-clause-part
@@ -24,5 +24,5 @@ returns-clause-part g c =
     let old = tape (g.V.Site.history c.args.site.now) in
     let new = tape (g.V.Site.history c.say_table.new.site) in
     let same : shown flows (length c.from_ref.result.now) (parts_in c.from_ref.result.now) ≡ shown_by flows (state_of c.args.state.now) =
-    ap (λ (l : List PartState). shown flows (length l) (parts_in l)) c.from_ref.ensures ∙ one_shows flows c.args.state.now in
+    ap (λ (l : List PartState). shown flows (length l) (parts_in l)) c.from_ref.ensures.value ∙ one_shows flows c.args.state.now in
     subst (λ (w : World). IfErr c.say_table.result (λ error. StopsInTable flows w error old new)) same c.say_table.ensures.part
