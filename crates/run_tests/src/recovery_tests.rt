@@ -192,7 +192,7 @@ fn log_files(rt: HostRuntime) {
 #[test]
 fn the_disk_fails(rt: HostRuntime) {
     let alloc = rt.alloc();
-    for call in 0..9 {
+    for call in 0..7 {
         check_at(
             &rt,
             alloc,
@@ -204,6 +204,6 @@ fn the_disk_fails(rt: HostRuntime) {
         &rt,
         alloc,
         "header, entry, byte 0 | empty | log 16 to 76, incarnation 1, taken true false",
-        9,
+        7,
     );
 }
