@@ -4,7 +4,7 @@ ghost use Rattle.std.specs.Prelude.{◌≡◌, ◌+◌, ◌++◌, length, nat_le
 ghost use Rattle.std.specs.List.{slice_get};
 ghost use Rattle.dura_model.specs.Partition.{with_inbox};
 ghost use Rattle.log_items.specs.Streams.{with_posted, begins_at, with_first};
-ghost use Rattle.dura_value.specs.Views.{posted_of};
+ghost use Rattle.dura_value.specs.Views.{posted_of, identity_of};
 ghost use Rattle.part_rows.specs.Views.{inbox_of, outbox_of, inboxes_of, outboxes_of, no_outbox, no_inbox};
 
 use crate::copies::copy_message;
@@ -214,6 +214,20 @@ impl Inboxes {
         match self.boxes.get(&source) {
             Some(inbox) => inbox.next,
             None => 0,
+        }
+    }
+
+    /// The entry that took in the last message of the stream from a partition.
+    pub fn reader(&self, source: u32) -> Identity
+        ensures { identity_of result ≡ (inboxes_of self.now source).reader }
+    {
+        match self.boxes.get(&source) {
+            Some(inbox) => inbox.reader,
+            None => Identity {
+                partition: 0,
+                incarnation: 0,
+                position: 0,
+            },
         }
     }
 

@@ -1,7 +1,7 @@
 //! What the engine reads off the state of a partition.
 
 ghost use Rattle.std.specs.Prelude.{◌≡◌, true, false, is_some, IsSome, IfSome, IfNone, option_map};
-ghost use Rattle.dura_value.specs.Views.{id_of, answer_of, message_of, posted_of};
+ghost use Rattle.dura_value.specs.Views.{id_of, answer_of, message_of, posted_of, identity_of};
 ghost use Rattle.std.specs.List.{slice_get};
 ghost use Rattle.id_maps.specs.Order.{IsFirst};
 ghost use Rattle.part_rows.specs.Timers.{IsNext, NoTimer};
@@ -10,7 +10,7 @@ ghost use Rattle.part_steps.specs.Quiet.{NoActivity, IsQuiet};
 ghost use Rattle.part_steps.specs.States.{IsSound, state_of};
 
 use crate::state::PartState;
-use dura_value::{Answer, Id, Message, Posted};
+use dura_value::{Answer, Id, Identity, Message, Posted};
 use part_rows::Activity;
 
 impl PartState {
@@ -34,6 +34,13 @@ impl PartState {
         ensures { result ≡ ((state_of self.now).inboxes source).next }
     {
         self.rows.inboxes.next(source)
+    }
+
+    /// The entry that took in the last message of the stream from a partition.
+    pub fn taken_by(&self, source: u32) -> Identity
+        ensures { identity_of result ≡ ((state_of self.now).inboxes source).reader }
+    {
+        self.rows.inboxes.reader(source)
     }
 
     /// Its incarnation: that of its last entry.
