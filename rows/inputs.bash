@@ -33,7 +33,7 @@ trial_input_limit() {
     refused 'a plan that is too long' 2 'too long 2' "$work/d" run
 }
 
-# Words that the command doesn't take. Of the partitions it takes one alone, so far.
+# Words that the command doesn't take. A run is of one partition, so far.
 trial_usage_of_options() {
     local words
     fresh d
@@ -42,7 +42,7 @@ trial_usage_of_options() {
         'run --partitions -1' 'run --partitions 1.0' 'run --partitions one' 'run --partition 1' 'run --partitions 1 --partitions 1' \
         'run --batch 0' 'run --batch 65' 'run --batch 08' 'run --steps 0' 'run --steps 1048577' 'run --segment 4095' \
         'run --segment 2147483649' 'run --segment 99999999999999999999' 'run --batch' 'run --size 4' \
-        'show --batch 1' 'show --partitions 2' 'show now'; do
+        'show --batch 1' 'show --partitions 0' 'show --partitions 33' 'show --partitions 02' 'show now'; do
         # shellcheck disable=SC2086
         refused "$words" 1 usage "$work/d" $words
     done

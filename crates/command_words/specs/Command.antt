@@ -48,11 +48,11 @@ IsCommand app command = (app_of command ≡ app) × ((out-Command command).has_g
 abbrev pub number_of : Text → ℕ → ℕ → List Row → Option ℕ
 number_of name least most rows = first_of name rows >>= number_in least most
 
-abbrev pub partitions_of : List Row → Option ℕ
-partitions_of rows = number_of (codes "partitions") 1 1 rows
+abbrev pub partitions_of : (most : ℕ) → List Row → Option ℕ
+partitions_of most rows = number_of (codes "partitions") 1 most rows
 
 abbrev pub run_of : List Row → Option RunOptions
-run_of rows = partitions_of rows >>= λ partitions. number_of (codes "batch") 1 64 rows >>= λ batch.
+run_of rows = partitions_of 1 rows >>= λ partitions. number_of (codes "batch") 1 64 rows >>= λ batch.
     number_of (codes "steps") 1 1_048_576 rows >>= λ steps. number_of (codes "segment") 4096 2_147_483_648 rows >>= λ segment.
     Some (record { partitions = partitions; batch = batch; steps = steps; segment = segment })
 
@@ -60,7 +60,7 @@ run_of rows = partitions_of rows >>= λ partitions. number_of (codes "batch") 1 
 abbrev pub call_of : Text → List Row → Option Call
 call_of name rows =
     if bytes_eq name (codes "run") then (run_of rows >>= λ options. Some (Run options))
-    else (partitions_of rows >>= λ partitions. Some (Show partitions))
+    else (partitions_of 32 rows >>= λ partitions. Some (Show partitions))
 
 -- what the words ask for, where the command takes them
 abbrev pub call_in : List Text → Option Call

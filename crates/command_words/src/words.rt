@@ -19,8 +19,11 @@ use dura_value::Text;
 use std::alloc::{AllocError, Global};
 use thiserror::Error;
 
-/// The most partitions.
-const PARTITIONS_LIMIT: u64 = 1;
+/// The most partitions of a run, so far.
+const RUN_LIMIT: u64 = 1;
+
+/// The most partitions that are shown.
+const SHOWN_LIMIT: u64 = 32;
 
 /// The most items of an entry.
 const BATCH_LIMIT: u64 = 64;
@@ -113,10 +116,11 @@ fn number_of(matches: &ArgMatches, name: &str, least: u64, most: u64) -> Option<
     }
 }
 
-fn partitions_of(matches: &ArgMatches) -> Option<u32>
-    ensures { result ≡ partitions_of (rows_of (found_of matches.now)) }
+fn partitions_of(matches: &ArgMatches, most: u64) -> Option<u32>
+    requires { most < 2 ^ 32 }
+    ensures { result ≡ partitions_of most (rows_of (found_of matches.now)) }
 {
-    match number_of(matches, "partitions", 1, PARTITIONS_LIMIT) {
+    match number_of(matches, "partitions", 1, most) {
         Some(partitions) => Some(partitions as u32),
         None => None,
     }
@@ -125,7 +129,7 @@ fn partitions_of(matches: &ArgMatches) -> Option<u32>
 fn run_of(matches: &ArgMatches) -> Option<RunOptions>
     ensures { result ≡ run_of (rows_of (found_of matches.now)) }
 {
-    let partitions = partitions_of(matches)?;
+    let partitions = partitions_of(matches, RUN_LIMIT)?;
     let batch = number_of(matches, "batch", 1, BATCH_LIMIT)?;
     let steps = number_of(matches, "steps", 1, STEPS_LIMIT)?;
     let segment = number_of(matches, "segment", LEAST_SEGMENT, SEGMENT_LIMIT)?;
@@ -144,7 +148,7 @@ fn call_of(name: &str, matches: &ArgMatches) -> Option<Call>
     if name == "run" {
         Some(Call::Run(run_of(matches)?))
     } else {
-        Some(Call::Show(partitions_of(matches)?))
+        Some(Call::Show(partitions_of(matches, SHOWN_LIMIT)?))
     }
 }
 

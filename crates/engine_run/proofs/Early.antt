@@ -3,11 +3,11 @@ use Rattle.std.proofs.Common.{◌≡◌, ◌<◌, ◌^◌, inl, false, ℕ, List
 use Rattle.std.proofs.lemmas.Bool.Decides.{nat_tests}
 use Rattle.std.specs.Prelude.{nat_eq, IsErrAnd, IfErr}
 use Rattle.dura_model.specs.Partition.{Partition}
+use Rattle.engine_run.specs.Alone.{OnlySyncs}
 use Rattle.engine_run.specs.Causes.{CauseHolds, Untouched}
 use Rattle.engine_run.specs.Kept.{RefusesKept as ClashRefuses}
-use Rattle.engine_run.specs.Opening.{IsLogCause}
+use Rattle.engine_run.specs.Opening.{IsLogCauseOrSpent}
 use Rattle.engine_run.specs.Prepared.{IsEarlyCause}
-use Rattle.recover_core.specs.Recovering.{OnlySyncs}
 use Rattle.request_reader.specs.Line.{Request}
 use Rattle.run_causes.specs.Causes.{status_of}
 use Rattle.run_causes.specs.declared.cause.Cause.{Cause}
@@ -119,7 +119,7 @@ input_untouched old new (Spent partition number) is same = absurd is
 
 -- ---- the logs, and what was taken before
 
-pub log_early : (cause : Cause) → IsLogCause cause → IsEarlyCause cause
+pub log_early : (cause : Cause) → IsLogCauseOrSpent cause → IsEarlyCause cause
 log_early Done is = absurd is
 log_early Usage is = absurd is
 log_early (BadFlows fault) is = absurd is
@@ -134,7 +134,7 @@ log_early SayFault is = absurd is
 log_early ClockFault is = absurd is
 log_early (Damaged file offset) is = tt
 log_early (Illegal partition position) is = tt
-log_early (Unclosed partition position src seq) is = absurd is
+log_early (Unclosed partition position src seq) is = tt
 log_early (OtherShape found asked) is = tt
 log_early (OtherFlows found given) is = tt
 log_early Memory is = tt

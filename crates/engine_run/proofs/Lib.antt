@@ -8,6 +8,7 @@ pub mod Found
 pub mod Going
 pub mod LineAsked
 pub mod Lives
+pub mod OnlyOne
 pub mod Opens
 pub mod Ordered
 pub mod Picked

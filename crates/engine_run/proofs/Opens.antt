@@ -11,7 +11,7 @@ use Rattle.part_items.specs.Kept.{Kept, nothing, broken, keeps, kept_in}
 use Rattle.part_items.specs.Logs.{Refusal, Logs, log_in, no_log, damaged_at, base_place, or_else, unless, fault_of, same_base, late_base, first_fault, the_log, logs_of, logs_in, entries_in, alone_with}
 use Rattle.run_rules.proofs.LabelsStand.{labels_stand}
 use Rattle.part_items.proofs.PayloadsKept.{reading_kept, nothing_yet}
-use Rattle.recover_core.specs.Recovering.{one_synced, both_synced, OnlySyncs}
+use Rattle.engine_run.specs.Alone.{one_synced, both_synced, OnlySyncs}
 use Rattle.run_laws.specs.Begins.{header_with}
 use Rattle.run_laws.proofs.Images.{entries_alone}
 use Rattle.site_model.specs.History.{Step, on, synced, reads, changes_of, content_of, Leaves, IsImage, IsKept, writes_inside}

@@ -7,14 +7,15 @@ use Rattle.commit_log.specs.Outcomes.{RestsAs}
 use Rattle.commit_log.specs.Segment.{first_gate, ◌>>=◌}
 use Rattle.commit_log.specs.States.{IsFormatting}
 use Rattle.dura_value.specs.Items.{Entry}
+use Rattle.engine_run.specs.Alone.{both_synced}
 use Rattle.engine_run.specs.Job.{Job}
 use Rattle.engine_run.specs.Opened.{IsOpening, IsOpened}
 use Rattle.engine_run.proofs.Opens.{other_nothing, both_nothing, opening_both, opening_new, second_kept}
+use Rattle.log_files.specs.Entries.{frames_in}
 use Rattle.part_items.specs.Kept.{kept_in, first_of, in_file, decoded}
 use Rattle.part_items.specs.Logs.{Logs, no_log, log_in, logs_in, entries_in, alone_with}
 use Rattle.part_items.specs.Numbered.{Next, behind_all, next_frame_in}
-use Rattle.recover_core.specs.Files.{frames_in}
-use Rattle.recover_core.specs.Recovering.{IsLogOf, RestsFor, both_synced}
+use Rattle.recover_core.specs.Recovering.{IsLogOf, RestsFor}
 use Rattle.run_laws.specs.Begins.{header_with}
 use Rattle.site_model.specs.History.{Step, changes_of, content_of, writes_inside, Leaves}
 use Rattle.site_model.specs.Moments.{Always, LeavesOnly}
@@ -49,7 +50,7 @@ module _ (digest : ℕ) (old : List Step) where
   first_image : (image : List ℕ) → Leaves (changes_of 16 (both_synced old)) image → image ≡ content_of 16 old
   first_image image leaves = leaves
 
-  pub log_there : (entries : List Entry) (log : Resting) → entries_in logs ≡ Some entries → logs ≡ log_in log.file entries log.gate → RestsFor (both_synced old) digest logs log → IsOpened digest entries (both_synced old) log
+  pub log_there : (entries : List Entry) (log : Resting) → entries_in logs ≡ Some entries → logs ≡ log_in log.file entries log.gate → RestsFor (both_synced old) (alone_with digest) logs log → IsOpened digest entries (both_synced old) log
   log_there entries log kept is rests =
       let header = header_is digest rests.header rests.partition rests.partitions rests.of_flows rests.base in
       let same : rests.entries ≡ entries = cc (rests.kept, kept) in
@@ -88,7 +89,7 @@ module _ (digest : ℕ) (old : List Step) where
   -- ---- either
 
   -- the log that was there, or the new one
-  pub opened_from : (new : List Step) (entries : List Entry) (found : Option Resting) (log : Resting) → entries_in logs ≡ Some entries → IsLogOf entries found logs → IfSome found (λ l. RestsFor (both_synced old) digest logs l)
+  pub opened_from : (new : List Step) (entries : List Entry) (found : Option Resting) (log : Resting) → entries_in logs ≡ Some entries → IsLogOf entries found logs → IfSome found (λ l. RestsFor (both_synced old) (alone_with digest) logs l)
       → IfSome found (λ l. (log ≡ l) × (new ≡ both_synced old)) → (found ≡ None → log.file ≡ 16) → (found ≡ None → RestsAs new (header_with digest) [] log)
       → (found ≡ None → LeavesOnly 16 (both_synced old) new (IsFormatting (content_of 16 (both_synced old)) (header_with digest))) → IsOpened digest entries new log
   opened_from new entries (Some l) log kept is rests there file none leaves =

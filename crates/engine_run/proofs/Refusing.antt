@@ -3,17 +3,25 @@ use Rattle.std.proofs.Common.{◌≡◌, ◌<◌, ◌^◌, ◌∙◌, inr, true,
 use Rattle.std.proofs.lemmas.List.Elements.{All-contains}
 use Rattle.dura_model.specs.Partition.{Partition, fresh}
 use Rattle.dura_value.specs.Items.{Entry}
+use Rattle.engine_run.specs.Alone.{IsSpent, OnlySyncs}
 use Rattle.engine_run.specs.Causes.{AsksFor, IsReady, CauseHolds, IsRefusal, IsLogRefusal, AreRefused, Untouched}
-use Rattle.engine_run.specs.Causes.AreRefused.{for_input, for_logs, for_clash}
+use Rattle.engine_run.specs.Causes.AreRefused.{for_input, for_logs, for_spent, for_clash}
 use Rattle.engine_run.specs.Rounds.{IsLateCause}
 use Rattle.engine_run.specs.Job.{Job, FilesKeep}
 use Rattle.engine_run.specs.Kept.{clashes, IsClash, NoClash, RefusesKept}
-use Rattle.engine_run.specs.Opening.{cause_of_recovery, IsLogCause}
+use Rattle.engine_run.specs.Opening.{cause_of_recovery, IsLogCauseOrSpent, RecoversAs, RefusesAs}
 use Rattle.engine_run.proofs.Asked.{same_job, same_state}
 use Rattle.flow_syntax.specs.Syntax.{Flows}
-use Rattle.part_items.specs.Logs.{logs_in, entries_in, alone_with}
+use Rattle.part_items.specs.Logs.{Logs, Refusal, refused, logs_in, entries_in, alone_with}
 use Rattle.dura_model.specs.Entries.{placed, next_incarnation}
-use Rattle.recover_core.specs.Recovering.{Recovers, OnlySyncs}
+use Rattle.many_logs.specs.Placing.{placed as placed_all}
+use Rattle.many_logs.specs.Unplaced.{Unplaced, unplaced}
+use Rattle.many_logs.proofs.Unplaced.{none_has_none}
+use Rattle.log_files.specs.Checked.{RefusesFirst, RefusesLogs as RefusesFiles, asked_for}
+use Rattle.log_files.specs.declared.error.FilesError.{FilesError}
+use Rattle.log_files.specs.declared.error.FilesError.TheVariants as unfit
+use Rattle.recover_core.specs.Recovering.{Refuses, IsLeft}
+use Rattle.run_rules.proofs.OneOfMany.{none_left}
 use Rattle.recover_core.specs.declared.error.RecoverError.{RecoverError}
 use Rattle.recover_core.specs.declared.error.RecoverError.TheVariants as errors
 use Rattle.run_causes.specs.declared.cause.Cause.{Cause}
@@ -22,14 +30,40 @@ use Rattle.request_reader.specs.Line.{Request}
 use Rattle.site_model.specs.History.{Step}
 
 -- the logs are refused
-pub logs_refused : (files : ℕ → List ℕ) (job : Job) (error : RecoverError) → AsksFor files job → Recovers job.flows job.digest files (Err error) → CauseHolds files (cause_of_recovery error)
-logs_refused files job (errors.Damaged file offset) asks recovers = (job, asks, recovers)
-logs_refused files job (errors.OtherShape found asked) asks recovers = (job, asks, recovers)
-logs_refused files job (errors.OtherFlows found given) asks recovers = (job, asks, recovers)
-logs_refused files job (errors.Illegal partition position) asks recovers = (job, asks, recovers)
-logs_refused files job (errors.Spent partition number) asks recovers = inl (job, asks, recovers)
-logs_refused files job errors.SiteFault asks recovers = tt
-logs_refused files job errors.Memory asks recovers = tt
+logs_refused : (files : ℕ → List ℕ) (job : Job) (error : RecoverError) → AsksFor files job → Refuses job.flows 1 job.digest files error → CauseHolds files (cause_of_recovery error)
+logs_refused files job (errors.Damaged file offset) asks refuses = (job, asks, refuses)
+logs_refused files job (errors.OtherShape found asked) asks refuses = (job, asks, refuses)
+logs_refused files job (errors.OtherFlows found given) asks refuses = (job, asks, refuses)
+logs_refused files job (errors.Illegal partition position) asks refuses = (job, asks, refuses)
+logs_refused files job (errors.Unclosed partition position src seq) asks refuses = (job, asks, refuses)
+logs_refused files job errors.SiteFault asks refuses = tt
+logs_refused files job errors.Memory asks refuses = tt
+
+refused_for : (files : ℕ → List ℕ) (job : Job) (cause : Cause) → AsksFor files job → RefusesAs job.flows 1 job.digest files cause → CauseHolds files cause
+refused_for files job cause asks refuses = subst (CauseHolds files) (sym refuses.cause_is) (logs_refused files job refuses.error asks refuses.refuses)
+
+-- or no incarnation is left
+pub not_recovered : (files : ℕ → List ℕ) (job : Job) (cause : Cause) → IsLogCauseOrSpent cause → AsksFor files job → RecoversAs job.flows job.digest files (Err cause) → CauseHolds files cause
+not_recovered files job (Spent partition number) is asks spent = inl (job, asks, spent)
+not_recovered files job (Damaged file offset) is asks refuses = refused_for files job (Damaged file offset) asks refuses
+not_recovered files job (OtherShape found asked) is asks refuses = refused_for files job (OtherShape found asked) asks refuses
+not_recovered files job (OtherFlows found given) is asks refuses = refused_for files job (OtherFlows found given) asks refuses
+not_recovered files job (Illegal partition position) is asks refuses = refused_for files job (Illegal partition position) asks refuses
+not_recovered files job (Unclosed partition position src seq) is asks refuses = refused_for files job (Unclosed partition position src seq) asks refuses
+not_recovered files job SiteFault is asks refuses = tt
+not_recovered files job Memory is asks refuses = tt
+not_recovered files job Done is asks refuses = absurd is
+not_recovered files job Usage is asks refuses = absurd is
+not_recovered files job (BadFlows fault) is asks refuses = absurd is
+not_recovered files job (BadRequests line) is asks refuses = absurd is
+not_recovered files job (Clash name number) is asks refuses = absurd is
+not_recovered files job (BadPlan place) is asks refuses = absurd is
+not_recovered files job (TooLong file) is asks refuses = absurd is
+not_recovered files job (Waiting name number) is asks refuses = absurd is
+not_recovered files job (Long labels) is asks refuses = absurd is
+not_recovered files job SayFault is asks refuses = absurd is
+not_recovered files job ClockFault is asks refuses = absurd is
+not_recovered files job (Full partition length) is asks refuses = absurd is
 
 -- another request was taken
 pub clash_refused : (files : ℕ → List ℕ) (job : Job) (entries : List Entry) (state : Partition) (cause : Cause) → AsksFor files job → FilesKeep job files entries state → RefusesKept state job.requests cause → CauseHolds files cause
@@ -55,7 +89,7 @@ clash_refused files job entries state (Full partition length) asks keeps clash =
 clash_refused files job entries state (Spent partition number) asks keeps clash = absurd clash
 
 -- a refusal of the logs syncs them alone
-pub logs_untouched : (old new : List Step) (cause : Cause) → IsLogCause cause → OnlySyncs old new → Untouched old new cause
+pub logs_untouched : (old new : List Step) (cause : Cause) → IsLogCauseOrSpent cause → OnlySyncs old new → Untouched old new cause
 logs_untouched old new SiteFault is syncs = tt
 logs_untouched old new Memory is syncs = tt
 logs_untouched old new (Damaged file offset) is syncs = syncs
@@ -74,7 +108,7 @@ logs_untouched old new (Waiting name number) is syncs = absurd is
 logs_untouched old new (Long labels) is syncs = absurd is
 logs_untouched old new SayFault is syncs = absurd is
 logs_untouched old new ClockFault is syncs = absurd is
-logs_untouched old new (Unclosed partition position src seq) is syncs = absurd is
+logs_untouched old new (Unclosed partition position src seq) is syncs = syncs
 logs_untouched old new (Full partition length) is syncs = absurd is
 
 -- ---- a run that went on
@@ -125,21 +159,38 @@ late_untouched old new (Spent partition number) is = tt
 
 -- ---- files that are accepted
 
-no_log_refusal : (flows : Flows) (digest : ℕ) (files : ℕ → List ℕ) (entries : List Entry) (state : Partition) (error : RecoverError) → entries_in (logs_in (alone_with digest) files) ≡ Some entries → placed flows 1 (fresh 0) entries ≡ Ok state
-    → next_incarnation entries < 2 ^ 62 → IsLogRefusal error → Recovers flows digest files (Err error) → ⊥
-no_log_refusal flows digest files entries state (errors.Damaged file offset) kept made young is refused = let wrong : None ≡ Some entries = ap entries_in (sym refused) ∙ kept in cc wrong
-no_log_refusal flows digest files entries state (errors.OtherShape found asked) kept made young is refused = let wrong : None ≡ Some entries = ap entries_in (sym refused.0) ∙ kept in cc wrong
-no_log_refusal flows digest files entries state (errors.OtherFlows found given) kept made young is refused = let wrong : None ≡ Some entries = ap entries_in (sym refused.0) ∙ kept in cc wrong
-no_log_refusal flows digest files entries state (errors.Illegal partition position) kept made young is refused =
-    let same : refused.entries ≡ entries = cc (refused.kept, kept) in
-    let wrong : Err position ≡ Ok state = sym refused.placed ∙ ap (placed flows 1 (fresh 0)) same ∙ made in
-    cc wrong
-no_log_refusal flows digest files entries state (errors.Spent partition number) kept made young is refused =
-    let same : refused.entries ≡ entries = cc (refused.kept, kept) in
-    let incarnation : next_incarnation entries ≡ number = ap next_incarnation (sym same) ∙ refused.incarnation in
-    omega (arith, incarnation, refused.old, young)
-no_log_refusal flows digest files entries state errors.SiteFault kept made young is refused = is
-no_log_refusal flows digest files entries state errors.Memory kept made young is refused = is
+nothing_there : (logs : Logs) (refusal : Refusal) (entries : List Entry) → logs ≡ refused refusal → entries_in logs ≡ Some entries → ⊥
+nothing_there logs refusal entries is kept = let wrong : None ≡ Some entries = ap entries_in (sym is) ∙ kept in cc wrong
+
+-- the files of the one partition have no first fault
+module _ (digest : ℕ) (files : ℕ → List ℕ) (entries : List Entry) (kept : entries_in (logs_in (alone_with digest) files) ≡ Some entries) where
+  refuses_here : (error : FilesError) → RefusesFirst 1 digest files error → RefusesFiles (asked_for 1 digest 0) error (logs_in (alone_with digest) files)
+  refuses_here error first =
+      let below = first.below in
+      let here : first.partition ≡ 0 = omega (arith, below) in
+      subst (λ (p : ℕ). RefusesFiles (asked_for 1 digest p) error (logs_in (asked_for 1 digest p) files)) here first.refused
+
+  none_left_over : (flows : Flows) (state : Partition) (reason : Unplaced) → placed flows 1 (fresh 0) entries ≡ Ok state → IsLeft flows 1 digest files reason → ⊥
+  none_left_over flows state reason made left =
+      let its : left.logs 0 ≡ entries = cc (left.kept 0 (omega arith), kept) in
+      let none = none_has_none flows 1 left.logs (none_left flows entries state left.logs its made).left in
+      let wrong : None ≡ Some reason = sym none ∙ left.why in
+      cc wrong
+
+  no_log_refusal : (flows : Flows) (state : Partition) (error : RecoverError) → placed flows 1 (fresh 0) entries ≡ Ok state → IsLogRefusal error → Refuses flows 1 digest files error → ⊥
+  no_log_refusal flows state (errors.Damaged file offset) made is refuses = nothing_there _ _ entries (refuses_here (unfit.Damaged file offset) refuses) kept
+  no_log_refusal flows state (errors.OtherShape found asked) made is refuses = nothing_there _ _ entries (refuses_here (unfit.OtherShape found asked) refuses).0 kept
+  no_log_refusal flows state (errors.OtherFlows found given) made is refuses = nothing_there _ _ entries (refuses_here (unfit.OtherFlows found given) refuses).0 kept
+  no_log_refusal flows state (errors.Illegal partition position) made is refuses = none_left_over flows state _ made refuses
+  no_log_refusal flows state (errors.Unclosed partition position src seq) made is refuses = none_left_over flows state _ made refuses
+  no_log_refusal flows state errors.SiteFault made is refuses = is
+  no_log_refusal flows state errors.Memory made is refuses = is
+
+  not_spent : (flows : Flows) (partition number : ℕ) → next_incarnation entries < 2 ^ 62 → IsSpent flows (logs_in (alone_with digest) files) partition number → ⊥
+  not_spent flows partition number young spent =
+      let same : spent.entries ≡ entries = cc (spent.kept, kept) in
+      let incarnation : next_incarnation entries ≡ number = ap next_incarnation (sym same) ∙ spent.incarnation in
+      omega (arith, incarnation, spent.old, young)
 
 none_clash : (state : Partition) (requests : List Request) (name : List ℕ) (number : ℕ) → NoClash state requests → IsClash state requests name number → ⊥
 none_clash state requests name number none clash = let wrong : true ≡ false = sym clash.there.clashes ∙ All-contains (λ r. clashes state r ≡ false) requests clash.there.request none clash.there.asked in cc wrong
@@ -152,8 +203,11 @@ pub not_refused : (files : ℕ → List ℕ) → IsReady files → AreRefused fi
 not_refused files is_ready (for_input cause refused) = let wrong : None ≡ Some cause = sym is_ready.asks.accepted ∙ refused in cc wrong
 not_refused files is_ready (for_logs error is refused) =
     let same = same_job files refused.0 is_ready.job refused.1 is_ready.asks in
-    no_log_refusal is_ready.job.flows is_ready.job.digest files is_ready.entries is_ready.state error is_ready.keeps.kept is_ready.keeps.made is_ready.young is
-    (subst (λ (j : Job). Recovers j.flows j.digest files (Err error)) same refused.2)
+    no_log_refusal is_ready.job.digest files is_ready.entries is_ready.keeps.kept is_ready.job.flows is_ready.state error is_ready.keeps.made is (subst (λ (j : Job). Refuses j.flows 1 j.digest files error) same refused.2)
+not_refused files is_ready (for_spent partition number spent) =
+    let same = same_job files spent.0 is_ready.job spent.1 is_ready.asks in
+    not_spent is_ready.job.digest files is_ready.entries is_ready.keeps.kept is_ready.job.flows partition number is_ready.young
+    (subst (λ (j : Job). IsSpent j.flows (logs_in (alone_with j.digest) files) partition number) same spent.2)
 not_refused files is_ready (for_clash name number refused) =
     let same = same_job files refused.0 is_ready.job refused.1 is_ready.asks in
     let kept : FilesKeep is_ready.job files refused.2.0 refused.2.1 = subst (λ (j : Job). FilesKeep j files refused.2.0 refused.2.1) same refused.2.2 in
@@ -177,7 +231,7 @@ late_no_refusal SayFault is refusal = refusal
 late_no_refusal ClockFault is refusal = refusal
 late_no_refusal (Damaged file offset) is refusal = is
 late_no_refusal (Illegal partition position) is refusal = is
-late_no_refusal (Unclosed partition position src seq) is refusal = refusal
+late_no_refusal (Unclosed partition position src seq) is refusal = is
 late_no_refusal (OtherShape found asked) is refusal = is
 late_no_refusal (OtherFlows found given) is refusal = is
 late_no_refusal Memory is refusal = refusal

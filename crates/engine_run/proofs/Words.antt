@@ -44,7 +44,7 @@ pub record IsWithin (options : RunOptions) : Type 0 where
 
 run_within : (rows : List Row) (options : RunOptions) → run_of rows ≡ Some options → IsWithin options
 run_within rows options is =
-    let one = both_there (partitions_of rows) _ options is in
+    let one = both_there (partitions_of 1 rows) _ options is in
     let two = both_there (number_of (codes "batch") 1 64 rows) _ options one.2 in
     let three = both_there (number_of (codes "steps") 1 1048576 rows) _ options two.2 in
     let four = both_there (number_of (codes "segment") 4096 2147483648 rows) _ options three.2 in
@@ -57,18 +57,41 @@ run_within rows options is =
 call_within : (name : Text) (rows : List Row) (options : RunOptions) → call_of name rows ≡ Some (Run options) → IsWithin options
 call_within name rows options is = by (bytes_eq name (codes "run")) is
   where
-    by : (test : Bool) → cond test (run_of rows >>= λ o. Some (Run o)) (partitions_of rows >>= λ p. Some (Show p)) ≡ Some (Run options) → IsWithin options
+    by : (test : Bool) → cond test (run_of rows >>= λ o. Some (Run o)) (partitions_of 32 rows >>= λ p. Some (Show p)) ≡ Some (Run options) → IsWithin options
     by true is = let step = both_there (run_of rows) (λ o. Some (Run o)) (Run options) is in let same : step.0 ≡ options = cc step.2 in subst IsWithin same (run_within rows step.0 step.1)
-    by false is = let step = both_there (partitions_of rows) (λ p. Some (Show p)) (Run options) is in absurd (cc step.2)
+    by false is = let step = both_there (partitions_of 32 rows) (λ p. Some (Show p)) (Run options) is in absurd (cc step.2)
 
 pub run_is_within : (words : List (List ℕ)) (options : RunOptions) → call_in words ≡ Some (Run options) → IsWithin options
 run_is_within words options is =
     let step = both_there (subcommand_of netherite words) (λ sub. call_of sub.0 sub.1) (Run options) (guarded (length (fault_of netherite words) == 0) _ (Run options) is) in
     call_within step.0.0 step.0.1 options step.2
 
+-- of the partitions that are shown there is one at least, and no more than 32
+pub record AreShownWithin (partitions : ℕ) : Type 0 where
+  pub some : 0 < partitions
+  pub few : partitions ≤ 32
+
+shown_within : (rows : List Row) (partitions : ℕ) → partitions_of 32 rows ≡ Some partitions → AreShownWithin partitions
+shown_within rows partitions is = let within = within_rows (codes "partitions") 1 32 rows partitions is in record { some = let some = within.0 in omega (arith, some); few = within.1 }
+
+show_within : (name : Text) (rows : List Row) (partitions : ℕ) → call_of name rows ≡ Some (Show partitions) → AreShownWithin partitions
+show_within name rows partitions is = by (bytes_eq name (codes "run")) is
+  where
+    by : (test : Bool) → cond test (run_of rows >>= λ o. Some (Run o)) (partitions_of 32 rows >>= λ p. Some (Show p)) ≡ Some (Show partitions) → AreShownWithin partitions
+    by true is = let step = both_there (run_of rows) (λ o. Some (Run o)) (Show partitions) is in absurd (cc step.2)
+    by false is = let step = both_there (partitions_of 32 rows) (λ p. Some (Show p)) (Show partitions) is in let same : step.0 ≡ partitions = cc step.2 in subst AreShownWithin same (shown_within rows step.0 step.1)
+
+pub show_is_within : (words : List (List ℕ)) (partitions : ℕ) → call_in words ≡ Some (Show partitions) → AreShownWithin partitions
+show_is_within words partitions is =
+    let step = both_there (subcommand_of netherite words) (λ sub. call_of sub.0 sub.1) (Show partitions) (guarded (length (fault_of netherite words) == 0) _ (Show partitions) is) in
+    show_within step.0.0 step.0.1 partitions step.2
+
 -- words call for one thing
 pub run_same : (call : Option Call) (one other : RunOptions) → call ≡ Some (Run one) → call ≡ Some (Run other) → one ≡ other
 run_same call one other is also = cc (is, also)
+
+pub show_same : (call : Option Call) (one other : ℕ) → call ≡ Some (Show one) → call ≡ Some (Show other) → one ≡ other
+show_same call one other is also = cc (is, also)
 
 pub run_no_show : (call : Option Call) (options : RunOptions) (partitions : ℕ) → call ≡ Some (Run options) → call ≡ Some (Show partitions) → ⊥
 run_no_show call options partitions is also = absurd (cc (is, also))

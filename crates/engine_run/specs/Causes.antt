@@ -1,5 +1,5 @@
 -- Which causes a run may end with, by what its files held at the start.
-use Rattle.std.specs.Prelude.{◌≡◌, ◌⊎◌, ◌<◌, ◌≤◌, ◌^◌, ℕ, List, [], Option, Some, None, Err}
+use Rattle.std.specs.Prelude.{◌≡◌, ◌⊎◌, ◌<◌, ◌≤◌, ◌^◌, ℕ, List, [], Option, Some, None}
 use Rattle.command_words.specs.declared.words.Call.{Call}
 use Rattle.command_words.specs.declared.words.Call.TheVariants.{Run, Show}
 use Rattle.dura_model.specs.Partition.{Partition}
@@ -8,7 +8,9 @@ use Rattle.engine_run.specs.Job.{Job, FilesKeep}
 use Rattle.engine_run.specs.Kept.{IsClash, NoClash}
 use Rattle.hub_store.specs.Trail.{Settled}
 use Rattle.dura_model.specs.Entries.{next_incarnation}
-use Rattle.recover_core.specs.Recovering.{Recovers, OnlySyncs}
+use Rattle.engine_run.specs.Alone.{IsSpent, OnlySyncs}
+use Rattle.part_items.specs.Logs.{logs_in, alone_with}
+use Rattle.recover_core.specs.Recovering.{Refuses}
 use Rattle.recover_core.specs.declared.error.RecoverError.{RecoverError}
 use Rattle.recover_core.specs.declared.error.RecoverError.TheVariants as errors
 use Rattle.run_causes.specs.declared.cause.Cause.{Cause}
@@ -37,7 +39,11 @@ ClashesWithKept files client number = (job : Job) × AsksFor files job × ((entr
 
 -- the logs are refused for this
 abbrev pub RefusesLogs : (ℕ → List ℕ) → RecoverError → Type 0
-RefusesLogs files error = (job : Job) × AsksFor files job × Recovers job.flows job.digest files (Err error)
+RefusesLogs files error = (job : Job) × AsksFor files job × Refuses job.flows 1 job.digest files error
+
+-- no incarnation is left behind what the logs kept
+abbrev pub AreSpent : (ℕ → List ℕ) → (partition number : ℕ) → Type 0
+AreSpent files partition number = (job : Job) × AsksFor files job × IsSpent job.flows (logs_in (alone_with job.digest) files) partition number
 
 -- A fault of the outside and want of memory may come at any time; the faults have a clause of their own.
 abbrev pub CauseHolds : (ℕ → List ℕ) → Cause → Type 0
@@ -58,8 +64,8 @@ CauseHolds files (Damaged file offset) = RefusesLogs files (errors.Damaged file 
 CauseHolds files (OtherShape found asked) = RefusesLogs files (errors.OtherShape found asked)
 CauseHolds files (OtherFlows found given) = RefusesLogs files (errors.OtherFlows found given)
 CauseHolds files (Illegal partition position) = RefusesLogs files (errors.Illegal partition position)
-CauseHolds files (Spent partition number) = RefusesLogs files (errors.Spent partition number) ⊎ (IsReady files × (partition ≡ 0) × (2 ^ 62 ≤ number))
-CauseHolds files (Unclosed partition position src seq) = ⊥
+CauseHolds files (Spent partition number) = AreSpent files partition number ⊎ (IsReady files × (partition ≡ 0) × (2 ^ 62 ≤ number))
+CauseHolds files (Unclosed partition position src seq) = RefusesLogs files (errors.Unclosed partition position src seq)
 CauseHolds files Usage = ⊥
 
 -- why files are refused
@@ -73,6 +79,7 @@ IsRefusal (Damaged file offset) = Unit {0}
 IsRefusal (OtherShape found asked) = Unit {0}
 IsRefusal (OtherFlows found given) = Unit {0}
 IsRefusal (Illegal partition position) = Unit {0}
+IsRefusal (Unclosed partition position src seq) = Unit {0}
 IsRefusal other = ⊥
 
 -- why logs are refused, and not for a fault or for want of memory
@@ -81,10 +88,11 @@ IsLogRefusal errors.SiteFault = ⊥
 IsLogRefusal errors.Memory = ⊥
 IsLogRefusal other = Unit {0}
 
--- The files are to be refused: the input files, or the logs, or a request that clashes with what was taken.
+-- The files are to be refused: the input files, or the logs, or they leave no incarnation, or a request clashes with what was taken.
 pub data AreRefused (files : ℕ → List ℕ) : Type 0 where
   for_input : (cause : Cause) → refusal_of files ≡ Some cause → AreRefused files
   for_logs : (error : RecoverError) → IsLogRefusal error → RefusesLogs files error → AreRefused files
+  for_spent : (partition number : ℕ) → AreSpent files partition number → AreRefused files
   for_clash : (client : List ℕ) (number : ℕ) → ClashesWithKept files client number → AreRefused files
 
 -- Nothing was written, said or settled: each log file may have been synced once.

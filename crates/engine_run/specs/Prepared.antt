@@ -10,7 +10,7 @@ use Rattle.dura_model.specs.Entries.{next_incarnation}
 use Rattle.part_steps.specs.States.{state_of, count_of, IsSound}
 use Rattle.request_reader.specs.Line.{request_of}
 use Rattle.run_causes.specs.declared.cause.Cause.{Cause}
-use Rattle.run_causes.specs.declared.cause.Cause.TheVariants.{Done, Usage, Waiting, Long, SayFault, ClockFault, Unclosed, Full}
+use Rattle.run_causes.specs.declared.cause.Cause.TheVariants.{Done, Usage, Waiting, Long, SayFault, ClockFault, Full}
 use Rattle.site_model.specs.History.{Step}
 
 -- what the input asks for
@@ -42,6 +42,5 @@ IsEarlyCause (Waiting client number) = ⊥
 IsEarlyCause (Long labels) = ⊥
 IsEarlyCause SayFault = ⊥
 IsEarlyCause ClockFault = ⊥
-IsEarlyCause (Unclosed partition position src seq) = ⊥
 IsEarlyCause (Full partition length) = ⊥
 IsEarlyCause other = Unit {0}

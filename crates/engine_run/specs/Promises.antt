@@ -50,5 +50,5 @@ pub record Promises (words : List (List ℕ)) (tells : Type 0) (old new : List S
   pub headline : tells → (options : RunOptions) → call_in words ≡ Some (Run options) → (job : Job) → AsksFor (λ file. content_of file old) job
       → Headline job (λ file. content_of file old) old new trail (terms options) cause
   -- what is shown, and that nothing is written then
-  pub shows : tells → (partitions : ℕ) → call_in words ≡ Some (Show partitions) → ShowsAs (λ file. content_of file old) (tape old) (tape new) cause
-  pub writes_nothing : (partitions : ℕ) → call_in words ≡ Some (Show partitions) → WritesNothing old new
+  pub shows : tells → (partitions : ℕ) → call_in words ≡ Some (Show partitions) → ShowsAs (λ file. content_of file old) partitions (tape old) (tape new) cause
+  pub writes_nothing : (partitions : ℕ) → call_in words ≡ Some (Show partitions) → WritesNothing partitions old new

@@ -1,49 +1,51 @@
 -- What showing what is there answers, and says.
-use Rattle.std.specs.Prelude.{◌≡◌, ◌⊎◌, ℕ, List, [], Some, Err}
-use Rattle.dura_model.specs.Partition.{Partition}
-use Rattle.dura_model.specs.Entries.{shown_by}
+use Rattle.std.specs.Prelude.{◌≡◌, ◌⊎◌, ℕ, ◌<◌, List, [], Some}
+use Rattle.dura_model.specs.Partition.{Partition, shown}
 use Rattle.dura_value.specs.Items.{Entry}
-use Rattle.engine_run.specs.Job.{FilesKeep}
 use Rattle.flow_syntax.specs.Syntax.{Flows}
-use Rattle.recover_core.specs.Recovering.{Recovers, OnlySyncs}
+use Rattle.log_files.specs.Fronts.{AreSyncs}
+use Rattle.many_logs.specs.Placing.{placed}
+use Rattle.recover_core.specs.Recovering.{AreLogs, Refuses}
 use Rattle.recover_core.specs.declared.error.RecoverError.{RecoverError}
 use Rattle.recover_core.specs.declared.error.RecoverError.TheVariants as errors
 use Rattle.run_causes.specs.declared.cause.Cause.{Cause}
-use Rattle.run_causes.specs.declared.cause.Cause.TheVariants.{Done, BadFlows, TooLong, SiteFault, SayFault, Damaged, Illegal, OtherShape, OtherFlows, Memory, Spent}
+use Rattle.run_causes.specs.declared.cause.Cause.TheVariants.{Done, BadFlows, TooLong, SiteFault, SayFault, Damaged, Illegal, Unclosed, OtherShape, OtherFlows, Memory}
 use Rattle.run_inputs.specs.Input.{HasFlows}
 use Rattle.run_inputs.specs.Refusal.{flows_refusal}
 use Rattle.site_model.specs.History.{Step, changes_of}
 use Rattle.state_lines.specs.Fronts.{SaysTable, StopsInTable}
 use Rattle.state_lines.specs.declared.error.ShowError.TheVariants as stops
 
--- The flows file has these flows, and what the logs kept made this state.
-pub record IsThere (files : ℕ → List ℕ) (flows : Flows) (state : Partition) : Type 0 where
+-- The flows file has these flows, and all that the logs of so many partitions kept made these states.
+pub record AreThere (files : ℕ → List ℕ) (count : ℕ) (flows : Flows) (states : ℕ → Partition) : Type 0 where
   pub digest : ℕ
   pub flows_in_file : HasFlows files flows digest
-  pub entries : List Entry
-  pub keeps : FilesKeep (record { flows = flows; digest = digest; requests = [] }) files entries state
+  pub logs : ℕ → List Entry
+  pub kept : AreLogs count digest files logs
+  pub none_left : (partition : ℕ) → partition < count → (placed flows count logs).left partition ≡ []
+  pub made : states ≡ (placed flows count logs).states
 
--- the logs are refused for this
-abbrev pub RefusesThere : (ℕ → List ℕ) → RecoverError → Type 0
-RefusesThere files error = (flows : Flows) × (digest : ℕ) × HasFlows files flows digest × Recovers flows digest files (Err error)
+-- the logs of so many partitions are refused for this
+abbrev pub RefusesThere : (ℕ → List ℕ) → (count : ℕ) → RecoverError → Type 0
+RefusesThere files count error = (flows : Flows) × (digest : ℕ) × HasFlows files flows digest × Refuses flows count digest files error
 
 -- The cause by what the files held, and what was said: all of the table, its front, or nothing.
-abbrev pub ShowsAs : (ℕ → List ℕ) → (old new : List ℕ) → Cause → Type 0
-ShowsAs files old new Done = (flows : Flows) × (state : Partition) × IsThere files flows state × SaysTable flows (shown_by flows state) old new
-ShowsAs files old new SayFault = (flows : Flows) × (state : Partition) × IsThere files flows state × StopsInTable flows (shown_by flows state) stops.SayFault old new
-ShowsAs files old new Memory = (new ≡ old) ⊎ ((flows : Flows) × (state : Partition) × IsThere files flows state × StopsInTable flows (shown_by flows state) stops.Memory old new)
-ShowsAs files old new SiteFault = new ≡ old
-ShowsAs files old new (BadFlows fault) = (flows_refusal files ≡ Some (BadFlows fault)) × (new ≡ old)
-ShowsAs files old new (TooLong file) = (flows_refusal files ≡ Some (TooLong file)) × (new ≡ old)
-ShowsAs files old new (Damaged file offset) = RefusesThere files (errors.Damaged file offset) × (new ≡ old)
-ShowsAs files old new (OtherShape found asked) = RefusesThere files (errors.OtherShape found asked) × (new ≡ old)
-ShowsAs files old new (OtherFlows found given) = RefusesThere files (errors.OtherFlows found given) × (new ≡ old)
-ShowsAs files old new (Illegal partition position) = RefusesThere files (errors.Illegal partition position) × (new ≡ old)
-ShowsAs files old new (Spent partition number) = RefusesThere files (errors.Spent partition number) × (new ≡ old)
-ShowsAs files old new other = ⊥
+abbrev pub ShowsAs : (ℕ → List ℕ) → (count : ℕ) → (old new : List ℕ) → Cause → Type 0
+ShowsAs files count old new Done = (flows : Flows) × (states : ℕ → Partition) × AreThere files count flows states × SaysTable flows (shown flows count states) old new
+ShowsAs files count old new SayFault = (flows : Flows) × (states : ℕ → Partition) × AreThere files count flows states × StopsInTable flows (shown flows count states) stops.SayFault old new
+ShowsAs files count old new Memory = (new ≡ old) ⊎ ((flows : Flows) × (states : ℕ → Partition) × AreThere files count flows states × StopsInTable flows (shown flows count states) stops.Memory old new)
+ShowsAs files count old new SiteFault = new ≡ old
+ShowsAs files count old new (BadFlows fault) = (flows_refusal files ≡ Some (BadFlows fault)) × (new ≡ old)
+ShowsAs files count old new (TooLong file) = (flows_refusal files ≡ Some (TooLong file)) × (new ≡ old)
+ShowsAs files count old new (Damaged file offset) = RefusesThere files count (errors.Damaged file offset) × (new ≡ old)
+ShowsAs files count old new (OtherShape found asked) = RefusesThere files count (errors.OtherShape found asked) × (new ≡ old)
+ShowsAs files count old new (OtherFlows found given) = RefusesThere files count (errors.OtherFlows found given) × (new ≡ old)
+ShowsAs files count old new (Illegal partition position) = RefusesThere files count (errors.Illegal partition position) × (new ≡ old)
+ShowsAs files count old new (Unclosed partition position src seq) = RefusesThere files count (errors.Unclosed partition position src seq) × (new ≡ old)
+ShowsAs files count old new other = ⊥
 
--- nothing was written: the log files may have been synced, and lines may have been said
-pub record WritesNothing (old new : List Step) : Type 0 where
+-- nothing was written: the log files of so many partitions may have been synced, and lines may have been said
+pub record WritesNothing (count : ℕ) (old new : List Step) : Type 0 where
   pub mid : List Step
-  pub syncs : OnlySyncs old mid
+  pub syncs : AreSyncs count old mid
   pub files : (file : ℕ) → changes_of file new ≡ changes_of file mid

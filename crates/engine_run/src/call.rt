@@ -93,8 +93,8 @@ pub fn run_alone<V: Site, C: Clock, A: Activities>(
 {
     match read_words(alloc, words) {
         Ok(Call::Run(options)) => run_requests(alloc, site, clock, acts, options),
-        Ok(Call::Show(_)) => {
-            let cause = show(alloc, &mut site);
+        Ok(Call::Show(partitions)) => {
+            let cause = show(alloc, &mut site, partitions);
             end_with(cause, Trail::none(alloc), site, clock)
         }
         Err(WordsError::Usage) => end_with(Cause::Usage, Trail::none(alloc), site, clock),

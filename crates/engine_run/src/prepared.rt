@@ -1,24 +1,23 @@
 //! What a run begins with.
 
 ghost use Rattle.std.specs.Prelude.{◌≡◌, ◌≤◌, Err, IfOk, IfErr};
+ghost use Rattle.engine_run.specs.Alone.{OnlySyncs};
 ghost use Rattle.engine_run.specs.Causes.{AsksFor, CauseHolds, AreRefused, Untouched};
 ghost use Rattle.engine_run.specs.Job.{Job};
 ghost use Rattle.engine_run.specs.Kept.{NoClash};
 ghost use Rattle.engine_run.specs.Opened.{OpensOnly};
 ghost use Rattle.engine_run.specs.Prepared.{job_of, CanGoOn, IsPrepared, IsEarlyCause};
 ghost use Rattle.part_steps.specs.States.{state_of};
-ghost use Rattle.recover_core.specs.Recovering.{OnlySyncs};
 ghost use Rattle.site_model.specs.Calls.{HasRisen};
 ghost use Rattle.site_model.specs.History.{content_of};
 
 use crate::kept::refuse_clash;
-use crate::opening::{open_log, recover_logs};
+use crate::opening::{Recovered, open_log, recover_logs};
 use commit_gate::Past;
 use commit_log::Resting;
 use dura_value::Request;
 use flow_syntax::Flows;
 use part_steps::PartState;
-use recover_core::Recovered;
 use run_causes::Cause;
 use run_inputs::{FlowFile, Input, read_input};
 use site_model::Site;

@@ -11,7 +11,7 @@ use Rattle.part_items.specs.Kept.{Kept, nothing, keeps, kept_under, kept_from, l
 use Rattle.part_items.specs.Logs.{Asked, log_in, logs_of, logs_in, first_log, second_log}
 use Rattle.log_files.specs.Entries.{whole_of}
 use Rattle.log_files.specs.Checked.{IsOpen}
-use Rattle.log_files.specs.Fitting.{log_of, FitsFile, Chooses, IsOwn, IsChosen}
+use Rattle.log_files.specs.Fitting.{log_of, logs_with, FitsFile, Chooses, IsOwn, IsChosen}
 use Rattle.log_files.specs.declared.opening.LogFile.{LogFile}
 use Rattle.log_files.specs.declared.opening.LogFile.TheVariants.{Fresh, Damaged, Log}
 use Rattle.log_files.proofs.HeadersRead.{own_partition}
@@ -41,6 +41,25 @@ module _ (asked : Asked) (h : Header) (entries : List Entry) (gate : ℕ) where
   second_has : (h.partitions == asked.count) ≡ true → (h.digest == asked.digest) ≡ true → (h.base == 0) ≡ true → logs_of asked nothing (keeps h entries gate) ≡ log_in (second_log asked.partition) entries gate
   second_has shape own base = rw (shape, own, base) refl
 
+-- and what is read of it, to its end or not
+module _ (asked : Asked) (log : OpenedLog) (fits : FitsFile asked (Log log)) (base : log.header.base ≡ 0) where
+  shape_is : (log.header.partitions == asked.count) ≡ true
+  shape_is = eq-eqb log.header.partitions asked.count fits.0
+
+  flows_are : (log.header.digest == asked.digest) ≡ true
+  flows_are = eq-eqb log.header.digest asked.digest fits.1
+
+  base_is : (log.header.base == 0) ≡ true
+  base_is = eq-eqb log.header.base 0 base
+
+  first_reads : (read : Result (List Entry × ℕ) ℕ) → logs_of asked (kept_under log.header read) nothing ≡ logs_with (first_log asked.partition) read
+  first_reads (Ok read) = first_has asked log.header read.0 read.1 shape_is flows_are base_is
+  first_reads (Err offset) = refl
+
+  second_reads : (read : Result (List Entry × ℕ) ℕ) → logs_of asked nothing (kept_under log.header read) ≡ logs_with (second_log asked.partition) read
+  second_reads (Ok read) = second_has asked log.header read.0 read.1 shape_is flows_are base_is
+  second_reads (Err offset) = refl
+
 module _ (asked : Asked) (steps : List Step) where
   -- the logs by what is kept
   logs_are : (first second : Kept) → kept_in asked.partition (content_of (first_log asked.partition) steps) ≡ first → kept_in asked.partition (content_of (second_log asked.partition) steps) ≡ second
@@ -49,7 +68,7 @@ module _ (asked : Asked) (steps : List Step) where
 
   -- a log that is opened in a file, and that alone is there
   own_log : (file : ℕ) (log : OpenedLog) → IsOpen steps asked.partition file (Log log) → FitsFile asked (Log log) → log.header.base ≡ 0
-      → ((entries : List Entry) (gate : ℕ) → kept_in asked.partition (content_of file steps) ≡ keeps log.header entries gate → logs_in asked (λ f. content_of f steps) ≡ log_in file entries gate)
+      → (kept_in asked.partition (content_of file steps) ≡ kept_under log.header (whole_of steps log) → logs_in asked (λ f. content_of f steps) ≡ logs_with file (whole_of steps log))
       → IsOwn asked steps log
   own_log file log opened fits base logs = record {
     opened = opened.2;
@@ -57,9 +76,7 @@ module _ (asked : Asked) (steps : List Step) where
     partitions = fits.0;
     digest = fits.1;
     base = base;
-    is = λ entries gate whole.
-        logs entries gate (log_kept steps asked.partition file log opened ∙ ap (kept_under log.header) whole)
-        ∙ ap (λ (f : ℕ). log_in f entries gate) (sym opened.1);
+    is = logs (log_kept steps asked.partition file log opened) ∙ ap (λ (f : ℕ). logs_with f (whole_of steps log)) (sym opened.1);
   }
 
   module _ (first second : LogFile) (one : IsOpen steps asked.partition (first_log asked.partition) first) (two : IsOpen steps asked.partition (second_log asked.partition) second) (suits : FitsFile asked first)
@@ -68,17 +85,17 @@ module _ (asked : Asked) (steps : List Step) where
     first_chosen log base here none =
         let is = log_is first log here in
         let fits = subst (FitsFile asked) is suits in
-        own_log (first_log asked.partition) log (subst (IsOpen steps asked.partition (first_log asked.partition)) is one) fits base (λ entries gate kept.
-        logs_are (keeps log.header entries gate) nothing kept (nothing_kept asked steps asked.partition (second_log asked.partition) second two suits_too none)
-        ∙ first_has asked log.header entries gate (eq-eqb log.header.partitions asked.count fits.0) (eq-eqb log.header.digest asked.digest fits.1) (eq-eqb log.header.base 0 base))
+        own_log (first_log asked.partition) log (subst (IsOpen steps asked.partition (first_log asked.partition)) is one) fits base (λ kept.
+        logs_are (kept_under log.header (whole_of steps log)) nothing kept (nothing_kept asked steps asked.partition (second_log asked.partition) second two suits_too none)
+        ∙ first_reads asked log fits base (whole_of steps log))
 
     second_chosen : (log : OpenedLog) → log.header.base ≡ 0 → log_of first ≡ None → log_of second ≡ Some log → IsOwn asked steps log
     second_chosen log base none there =
         let is = log_is second log there in
         let fits = subst (FitsFile asked) is suits_too in
-        own_log (second_log asked.partition) log (subst (IsOpen steps asked.partition (second_log asked.partition)) is two) fits base (λ entries gate kept.
-        logs_are nothing (keeps log.header entries gate) (nothing_kept asked steps asked.partition (first_log asked.partition) first one suits none) kept
-        ∙ second_has asked log.header entries gate (eq-eqb log.header.partitions asked.count fits.0) (eq-eqb log.header.digest asked.digest fits.1) (eq-eqb log.header.base 0 base))
+        own_log (second_log asked.partition) log (subst (IsOpen steps asked.partition (second_log asked.partition)) is two) fits base (λ kept.
+        logs_are nothing (kept_under log.header (whole_of steps log)) (nothing_kept asked steps asked.partition (first_log asked.partition) first one suits none) kept
+        ∙ second_reads asked log fits base (whole_of steps log))
 
     chosen_of : (chosen : Option OpenedLog) → Chooses (log_of first) (log_of second) chosen → IsChosen asked steps chosen
     chosen_of None chooses =

@@ -1,10 +1,10 @@
 -- Which log a partition has in its two files, by their fronts, and why they are refused.
-use Rattle.std.specs.Prelude.{◌≡◌, ◌⊎◌, ℕ, List, Option, Some, None, Ok}
+use Rattle.std.specs.Prelude.{◌≡◌, ◌⊎◌, ℕ, List, Option, Some, None, Result, Ok, Err}
 use Rattle.site_model.specs.History.{Step, content_of}
 use Rattle.commit_log.specs.declared.reader.OpenedLog.{OpenedLog}
 use Rattle.dura_value.specs.Items.{Entry}
 use Rattle.part_items.specs.Kept.{Kept, nothing, broken, keeps}
-use Rattle.part_items.specs.Logs.{Asked, Refusal, damaged_at, other_shape, other_flows, same_base, late_base, or_else, no_log, log_in, logs_in, first_log, second_log}
+use Rattle.part_items.specs.Logs.{Asked, Refusal, Logs, refused, damaged_at, other_shape, other_flows, same_base, late_base, or_else, no_log, log_in, logs_in, first_log, second_log}
 use Rattle.log_files.specs.Entries.{IsOpenedLog, whole_of}
 use Rattle.log_files.specs.declared.asked.Asked as given
 use Rattle.log_files.specs.declared.error.FilesError.{FilesError}
@@ -67,15 +67,20 @@ abbrev pub Chooses : (first second chosen : Option OpenedLog) → Type 0
 Chooses first second None = (first ≡ None) × (second ≡ None)
 Chooses first second (Some log) = (log.header.base ≡ 0) × (((first ≡ Some log) × (second ≡ None)) ⊎ ((first ≡ None) × (second ≡ Some log)))
 
--- The log of a partition that was opened: it is of this number of partitions, of these flows, and begins at position 0; and where it can be
--- read to its end, it is what the partition has in its files.
+-- what a partition has in its files where its log in this file was read so
+abbrev pub logs_with : (file : ℕ) → Result (List Entry × ℕ) ℕ → Logs
+logs_with file (Ok read) = log_in file read.0 read.1
+logs_with file (Err offset) = refused (damaged_at file offset)
+
+-- The log of a partition that was opened: it is of this number of partitions, of these flows, and begins at position 0; and what is read of it
+-- is what the partition has in its files.
 pub record IsOwn (asked : Asked) (steps : List Step) (log : OpenedLog) : Type 0 where
   pub opened : IsOpenedLog steps log
   pub partition : log.header.partition ≡ asked.partition
   pub partitions : log.header.partitions ≡ asked.count
   pub digest : log.header.digest ≡ asked.digest
   pub base : log.header.base ≡ 0
-  pub is : (entries : List Entry) (gate : ℕ) → whole_of steps log ≡ Ok (entries, gate) → logs_in asked (λ file. content_of file steps) ≡ log_in log.file entries gate
+  pub is : logs_in asked (λ file. content_of file steps) ≡ logs_with log.file (whole_of steps log)
 
 -- a partition's log, or there is none yet
 abbrev pub IsChosen : Asked → List Step → Option OpenedLog → Type 0

@@ -98,6 +98,7 @@ pub(crate) fn tie(
 pub fn choose(asked: Asked, both: LogFiles) -> Result<Option<OpenedLog>, FilesError>
     ensures chosen { (steps : List Step) → AreOpen steps asked.partition both
         → IfOk result (IsChosen (plain asked) steps) }
+    ensures chooses { IfOk result (Chooses (log_of both.first) (log_of both.second)) }
     ensures fits { OnOk result (FitsFiles (plain asked) both) }
     ensures unfit { OnErr result (FitsFiles (plain asked) both → ⊥) }
     ensures no_fault { result ≡ Err FilesError.SiteFault → ⊥ }

@@ -1,4 +1,4 @@
--- An item leaves the partition in its incarnation.
+-- An item leaves the partition in its incarnation, and in its place.
 use Rattle.std.proofs.Common.{◌≡◌, ◌∙◌, ◌==◌, ◌&&◌, ◌+◌, ◌++◌, ◌∷◌, [], length, cond, Bool, ◌<◌, ℕ, Some, None, refl, ap, sym}
 use Rattle.std.specs.Prelude.{not, nat_lt, nat_le}
 use Rattle.dura_value.specs.Ids.{home}
@@ -8,7 +8,7 @@ use Rattle.dura_model.specs.Partition.{Partition, entry_of, with_inbox, accepted
 use Rattle.log_items.specs.Streams.{with_first}
 use Rattle.dura_model.specs.Placed.{Belongs}
 use Rattle.dura_model.proofs.Basics.{passed}
-use Rattle.dura_model.proofs.Kept.{label_comes}
+use Rattle.dura_model.proofs.Kept.{label_comes, item_belongs}
 use Rattle.part_steps.specs.declared.state.PartState.{PartState}
 use Rattle.part_steps.specs.States.{IsSound, state_of, count_of}
 
@@ -29,3 +29,6 @@ same_incarnation flows count place (trim reader number) q next below belongs beg
 
 pub stays_in_incarnation : (flows : Flows) (item : Item) (old : PartState) (next : Partition) → IsSound old → 0 < (state_of old).position → accepted flows (count_of old) (state_of old) item ≡ Some next → next.incarnation ≡ (state_of old).incarnation
 stays_in_incarnation flows item old next sound begun is = same_incarnation flows (count_of old) old.rows.number item (state_of old) next sound.below sound.belongs begun is
+
+pub stays_in_place : (flows : Flows) (item : Item) (old : PartState) (next : Partition) → IsSound old → 0 < (state_of old).position → accepted flows (count_of old) (state_of old) item ≡ Some next → next.number ≡ (state_of old).number
+stays_in_place flows item old next sound begun is = (item_belongs flows (count_of old) old.rows.number item (state_of old) next sound.below sound.belongs begun is).number

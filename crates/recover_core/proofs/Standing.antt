@@ -1,52 +1,61 @@
 -- Files that stand for a run are recovered.
-use Rattle.std.proofs.Common.{◌≡◌, ◌∙◌, ℕ, List, Some, None, Result, Ok, Err, sym, ap, subst}
+use Rattle.std.proofs.Common.{◌≡◌, ◌∙◌, ℕ, ◌<◌, List, [], ◌++◌, Some, None, Result, Ok, Err, sym, ap, subst, append-nil}
 use Rattle.dura_value.specs.Items.{Entry}
 use Rattle.flow_syntax.specs.Syntax.{Flows}
 use Rattle.dura_model.specs.Legal.{Legal}
-use Rattle.dura_model.specs.Partition.{Partition, fresh}
+use Rattle.dura_model.specs.Partition.{Partition, shown}
 use Rattle.dura_model.specs.Steps.{Label}
-use Rattle.part_steps.specs.States.{state_of}
-use Rattle.part_items.specs.Logs.{Logs, Refusal, refused, entries_in, logs_in, alone_with}
-use Rattle.dura_model.specs.Entries.{placed, shown_by}
+use Rattle.dura_model.specs.World.{World}
+use Rattle.log_files.specs.Checked.{asked_for, RefusesFirst}
+use Rattle.log_files.specs.declared.error.FilesError.{FilesError}
+use Rattle.log_files.specs.declared.error.FilesError.TheVariants as unfit
+use Rattle.many_logs.specs.Placing.{HasPlaced, of_partition, placed}
 use Rattle.many_logs.specs.Stands.{FilesStand}
+use Rattle.many_logs.specs.Unplaced.{Unplaced, illegal, unclosed, unplaced}
+use Rattle.many_logs.proofs.Orders.{any_order}
+use Rattle.many_logs.proofs.OrdersStand.{placed_in_order}
+use Rattle.many_logs.proofs.Unplaced.{none_has_none}
+use Rattle.part_items.specs.Logs.{Logs, Refusal, refused, entries_in, logs_in}
+use Rattle.part_steps.specs.States.{parts_in}
+use Rattle.recover_core.specs.Recovering.{AreLogs, IsLeft, Opens, IsNotRefused, ShowsRun}
 use Rattle.recover_core.specs.declared.error.RecoverError.{RecoverError}
-use Rattle.recover_core.specs.declared.error.RecoverError.TheVariants.{Damaged, OtherShape, OtherFlows, Illegal, Spent, SiteFault, Memory}
-use Rattle.recover_core.specs.declared.recovery.Recovered.{Recovered}
-use Rattle.recover_core.specs.Recovering.{Recovers, IsNotRefused, ShowsRun}
-use Rattle.run_rules.proofs.OneOfMany.{StandsAlone, stands_alone}
+use Rattle.recover_core.specs.declared.error.RecoverError.TheVariants.{Damaged, OtherShape, OtherFlows, Illegal, Unclosed, SiteFault, Memory}
+use Rattle.recover_core.specs.declared.recovery.Opened.{Opened}
 
 -- there are no entries where the files are refused
 nothing_there : (logs : Logs) (refusal : Refusal) (entries : List Entry) → logs ≡ refused refusal → entries_in logs ≡ Some entries → ⊥
 nothing_there logs refusal entries is kept = let none : None ≡ Some entries = sym (ap entries_in is) ∙ kept in cc none
 
--- the entries of the files are those that stand for the run
-placed_there : (flows : Flows) (digest : ℕ) (files : ℕ → List ℕ) (run : List Label) (entries : List Entry) (s : StandsAlone flows digest files run)
-    → entries_in (logs_in (alone_with digest) files) ≡ Some entries → placed flows 1 (fresh 0) entries ≡ Ok s.state
-placed_there flows digest files run entries s kept =
-    let same : s.entries ≡ entries = let both : Some s.entries ≡ Some entries = sym s.kept ∙ kept in cc both in
-    subst (λ (e : List Entry). placed flows 1 (fresh 0) e ≡ Ok s.state) same s.all
+-- the same entries make the same states, and none of them is left
+same_placed : (flows : Flows) (count : ℕ) (logs other : ℕ → List Entry) → ((partition : ℕ) → partition < count → other partition ≡ logs partition) → ((partition : ℕ) → partition < count → (placed flows count logs).left partition ≡ [])
+    → HasPlaced count (placed flows count other) (placed flows count logs).states (λ partition. [])
+same_placed flows count logs other same none =
+    let order = placed_in_order flows count logs in
+    any_order flows count order.run other (placed flows count logs).states order.below order.all
+    (λ partition below. same partition below ∙ order.left partition ∙ ap (λ (l : List Entry). of_partition partition order.run ++ l) (none partition below) ∙ append-nil (of_partition partition order.run))
 
-refused_not : (flows : Flows) (digest : ℕ) (files : ℕ → List ℕ) (run : List Label) (result : Result Recovered RecoverError) → StandsAlone flows digest files run → Recovers flows digest files result → IsNotRefused result
-refused_not flows digest files run (Ok r) s recovers = tt
-refused_not flows digest files run (Err (Damaged file offset)) s recovers = nothing_there _ _ s.entries recovers s.kept
-refused_not flows digest files run (Err (OtherShape found asked)) s recovers = nothing_there _ _ s.entries recovers.0 s.kept
-refused_not flows digest files run (Err (OtherFlows found given)) s recovers = nothing_there _ _ s.entries recovers.0 s.kept
-refused_not flows digest files run (Err (Illegal partition position)) s recovers =
-    let both : Ok s.state ≡ Err position = sym (placed_there flows digest files run recovers.entries s recovers.kept) ∙ recovers.placed in
-    cc both
-refused_not flows digest files run (Err (Spent partition number)) s recovers = tt
-refused_not flows digest files run (Err SiteFault) s recovers = tt
-refused_not flows digest files run (Err Memory) s recovers = tt
+module _ (flows : Flows) (count digest : ℕ) (files : ℕ → List ℕ) (run : List Label) (stands : FilesStand flows count digest files run) where
+  same_logs : (logs : ℕ → List Entry) → AreLogs count digest files logs → (partition : ℕ) → partition < count → logs partition ≡ stands.logs partition
+  same_logs logs kept partition below = cc (kept partition below, stands.kept partition below)
 
-alone_shows : (flows : Flows) (digest : ℕ) (files : ℕ → List ℕ) (run : List Label) (result : Result Recovered RecoverError) → StandsAlone flows digest files run → Recovers flows digest files result → ShowsRun flows run result
-alone_shows flows digest files run (Ok r) s recovers =
-    let both : Ok s.state ≡ Ok (state_of r.state) = sym (placed_there flows digest files run recovers.entries s recovers.kept) ∙ recovers.placed in
-    let same : s.state ≡ state_of r.state = cc both in
-    subst (λ (p : Partition). Legal flows run (shown_by flows p)) same s.legal
-alone_shows flows digest files run (Err error) s recovers = tt
+  they : (logs : ℕ → List Entry) → AreLogs count digest files logs → HasPlaced count (placed flows count logs) (placed flows count stands.logs).states (λ partition. [])
+  they logs kept = same_placed flows count stands.logs logs (same_logs logs kept) stands.none_left
 
-pub never_refused : (flows : Flows) (digest : ℕ) (files : ℕ → List ℕ) (run : List Label) (result : Result Recovered RecoverError) → FilesStand flows 1 digest files run → Recovers flows digest files result → IsNotRefused result
-never_refused flows digest files run result stands = refused_not flows digest files run result (stands_alone flows digest files run stands)
+  none_left_over : (reason : Unplaced) → IsLeft flows count digest files reason → ⊥
+  none_left_over reason left = let wrong : None ≡ Some reason = sym (none_has_none flows count left.logs (they left.logs left.kept).left) ∙ left.why in cc wrong
 
-pub shows_run : (flows : Flows) (digest : ℕ) (files : ℕ → List ℕ) (run : List Label) (result : Result Recovered RecoverError) → FilesStand flows 1 digest files run → Recovers flows digest files result → ShowsRun flows run result
-shows_run flows digest files run result stands = alone_shows flows digest files run result (stands_alone flows digest files run stands)
+  pub never_refused : (result : Result Opened RecoverError) → Opens flows count digest files result → IsNotRefused result
+  never_refused (Ok opened) opens = tt
+  never_refused (Err (Damaged file offset)) opens = nothing_there _ _ (stands.logs opens.partition) opens.refused (stands.kept opens.partition opens.below)
+  never_refused (Err (OtherShape found asked)) opens = nothing_there _ _ (stands.logs opens.partition) opens.refused.0 (stands.kept opens.partition opens.below)
+  never_refused (Err (OtherFlows found given)) opens = nothing_there _ _ (stands.logs opens.partition) opens.refused.0 (stands.kept opens.partition opens.below)
+  never_refused (Err (Illegal partition position)) opens = none_left_over (illegal partition position) opens
+  never_refused (Err (Unclosed partition position src seq)) opens = none_left_over (unclosed partition position src seq) opens
+  never_refused (Err SiteFault) opens = tt
+  never_refused (Err Memory) opens = tt
+
+  pub shows_run : (result : Result Opened RecoverError) → Opens flows count digest files result → ShowsRun flows count run result
+  shows_run (Ok opened) opens =
+      let same : (placed flows count stands.logs).states ≡ parts_in opened.states.items = sym (they opens.logs opens.kept).states ∙ sym opens.states in
+      subst (λ (f : ℕ → Partition). Legal flows run (shown flows count f)) same stands.legal
+  shows_run (Err error) opens = tt

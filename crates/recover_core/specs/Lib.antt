@@ -1,5 +1,9 @@
-pub mod Chosen
-pub mod Files
-pub mod Progress
+pub mod Begun
+pub mod Courses
+pub mod Ended
+pub mod Placed
+pub mod Reasons
 pub mod Recovering
-pub mod Refusals
+pub mod Restored
+pub mod Rounds
+pub mod Told

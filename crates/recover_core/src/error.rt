@@ -1,10 +1,11 @@
-// Why nothing was recovered.
+//! Why nothing was recovered.
+
 use thiserror::Error;
 
 /// Why nothing was recovered.
 #[derive(Clone, Copy, Debug, Drop, PartialEq, Eq, Error)]
 pub enum RecoverError {
-    /// A log file isn't one of this partition's that can stand here.
+    /// A log file isn't one of its partition's that can stand here.
     #[error("file {file} is damaged at offset {offset}")]
     Damaged {
         /// The number of the file.
@@ -28,7 +29,7 @@ pub enum RecoverError {
         /// The digest of the flows file.
         given: u64,
     },
-    /// An entry isn't one that the state before it accepts.
+    /// An item of an entry isn't one that the state before it accepts.
     #[error("partition {partition} has an illegal entry at position {position}")]
     Illegal {
         /// The number of the partition.
@@ -36,13 +37,17 @@ pub enum RecoverError {
         /// The position of the entry.
         position: u64,
     },
-    /// The incarnations of the partition are used up.
-    #[error("partition {partition} is past its last incarnation with {number}")]
-    Spent {
+    /// An entry takes in what another partition's log hasn't sent, or lets go of what it hasn't read.
+    #[error("partition {partition} needs at position {position} what partition {src} lacks: number {seq} of their stream")]
+    Unclosed {
         /// The number of the partition.
         partition: u32,
-        /// The incarnation that would begin.
-        number: u64,
+        /// The position of the entry.
+        position: u64,
+        /// The other partition.
+        src: u32,
+        /// The number in the stream between them.
+        seq: u64,
     },
     /// The disk failed.
     #[error("the disk failed")]

@@ -1,22 +1,30 @@
-//! Recovery of a partition that is alone: from any bytes in its two log files to the state that they stand for, or a
-//! refusal that names the place. Nothing is written, and the two files are synced.
+//! Recovery of many partitions: from any bytes in their log files to the states that they stand for, or a refusal that names the place.
+//! Nothing is written, and the files are synced.
 //!
-//! - `recovery` opens both files and says what stands in them ([`recover`]). `files` reads one of them, `reading` its frames,
-//!   `choosing` finds the log in what the two files hold. `error` says why nothing was recovered.
-//! - `placing` lets the entries of a log make the state as they are read, so that memory is the state, one piece of the log, one payload
-//!   and one entry. `progress` is how far that has come.
-//! - `specs/Recovering` says what is recovered, by the definitions of `part_items` and `run_rules`. `laws` are laws of it.
+//! - `recovery` opens all files and says what they stand for ([`recover`]). `error` says why nothing was recovered, and `ending` what is kept
+//!   of a log that ended ([`Life`]).
+//! - `beginning` finds each partition's log. `course` is how far a log has come into its partition's state, `trying` lets it go on, and
+//!   `rounds` lets all go on until none can: memory is the states, and of each log one piece, one payload and one entry.
+//! - `placing` lets an entry make the next state, and `ready` says whether the other partitions are as far as it needs. `reasons` says why an
+//!   entry isn't placed, and `restoring` makes a state again that an entry spoiled which isn't accepted.
+//! - `specs/Recovering` says what is recovered, by the definitions of `part_items` and `many_logs`; `specs/Courses` what was placed of one log,
+//!   `specs/Rounds` what was placed of all. `laws` are laws of it.
 #![tactic(auto)]
 
-mod choosing;
+mod beginning;
+mod course;
+mod ending;
 mod error;
-mod files;
 mod laws;
 mod placing;
-mod progress;
-mod reading;
+mod ready;
+mod reasons;
 mod recovery;
+mod restoring;
+mod rounds;
+mod trying;
 
+pub use ending::Life;
 pub use error::RecoverError;
 pub use laws::what_stands_is_recovered;
-pub use recovery::{Recovered, recover};
+pub use recovery::{Opened, recover};

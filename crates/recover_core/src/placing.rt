@@ -1,15 +1,12 @@
-// The entries of a log make the state, one after another.
-ghost use Rattle.std.specs.Prelude.{◌<◌, ◌^◌, [], ◌∷◌, IfOk};
-ghost use Rattle.part_items.specs.Coming.{IsNext};
-ghost use Rattle.log_items.specs.Plain.{items_of, entry_of};
-ghost use Rattle.part_items.specs.Numbered.{next_of};
-ghost use Rattle.part_steps.specs.States.{IsSound, state_of, count_of};
-ghost use Rattle.dura_model.specs.Entries.{all_accepted};
-ghost use Rattle.recover_core.specs.Progress.{Makes, GoesOnAs, PlacesOn, IsReady, IsReadyFor, position_in};
+//! The entries of logs make the states, one after another.
 
-use crate::progress::{Placing, Progress};
+ghost use Rattle.std.specs.Prelude.{◌≡◌, ◌<◌, ◌≤◌, ◌^◌, IfOk, length};
+ghost use Rattle.log_items.specs.Plain.{items_of, entry_of};
+ghost use Rattle.part_steps.specs.States.{IsSound, IsStateOf, state_of, count_of, parts_in};
+ghost use Rattle.dura_model.specs.Entries.{all_accepted, entry_accepted};
+ghost use Rattle.recover_core.specs.Placed.{Makes, MakesEntry};
+
 use log_items::{Entry, Item};
-use part_items::Next;
 use part_rows::Reactions;
 use part_steps::{PartState, Verdict};
 use std::alloc::{AllocError, Global};
@@ -43,58 +40,20 @@ fn place_items<R: Reactions>(
     Ok(Some(state))
 }
 
-/// What an entry makes of a state, or that it isn't accepted.
-fn place_on<R: Reactions>(
+/// The state that an entry makes of this one, or none where it isn't accepted: then this one is gone.
+pub(crate) fn place_on<R: Reactions>(
     alloc: Global,
     reactions: &R,
-    placing: Placing,
+    state: PartState,
     entry: &Entry,
-) -> Result<Placing, AllocError>
-    requires ready { IsReadyFor entry.now.incarnation placing }
-    requires room { position_in placing < 2 ^ 62 }
-    ensures { IfOk result (λ new. GoesOnAs (R.flows reactions.now) (entry_of entry.now) placing
-        new) }
+) -> Result<Option<PartState>, AllocError>
+    requires sound { IsSound state }
+    requires younger { (state_of state).incarnation ≤ entry.now.incarnation }
+    requires room { (state_of state).position < 2 ^ 63 }
+    ensures { IfOk result (λ made. MakesEntry made state (entry_of entry.now)
+        (entry_accepted (R.flows reactions.now) (count_of state) (state_of state)
+        (entry_of entry.now))) }
 {
-    let state = match placing {
-        Placing::Stuck(position) => return Ok(Placing::Stuck(position)),
-        Placing::On(state) => state,
-    };
     let entered = state.enter(entry.incarnation);
-    match place_items(alloc, reactions, entered, entry.items.as_slice())? {
-        Some(made) => Ok(Placing::On(made)),
-        None => Ok(Placing::Stuck(entry.position)),
-    }
-}
-
-/// An entry is placed behind those before, and let go of.
-pub(crate) fn place_entry<R: Reactions>(
-    alloc: Global,
-    reactions: &R,
-    progress: Progress,
-    entry: Entry,
-) -> Result<Progress, AllocError>
-    requires ready { IsReady progress }
-    requires room { position_in progress.placing < 2 ^ 62 }
-    requires next { IsNext (next_of progress.next) (entry_of entry) }
-    ensures { IfOk result (λ new. PlacesOn (R.flows reactions.now) (entry_of entry ∷ []) progress
-        new) }
-{
-    let next = Next {
-        position: entry.position + 1,
-        incarnation: entry.incarnation,
-    };
-    let mut past = progress.past;
-    let placing = place_on(alloc, reactions, progress.placing, &entry);
-    entry.let_go();
-    let placing = placing?;
-    if past.push(next.incarnation).is_err() {
-        placing.let_go();
-        return Err(AllocError);
-    }
-    Ok(Progress {
-        next,
-        incarnation: next.incarnation + 1,
-        placing,
-        past,
-    })
+    place_items(alloc, reactions, entered, entry.items.as_slice())
 }

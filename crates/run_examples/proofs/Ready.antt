@@ -8,6 +8,8 @@ use Rattle.engine_run.specs.Job.{FilesKeep}
 use Rattle.engine_run.specs.Kept.{clashes}
 use Rattle.engine_run.specs.Order.{no_later}
 use Rattle.engine_run.proofs.Refusing.{not_refused}
+use Rattle.log_files.specs.Checked.{RefusesFirst}
+use Rattle.log_files.specs.declared.error.FilesError.TheVariants as unfit
 use Rattle.part_items.specs.Examples.{digest, empty_log, taking}
 use Rattle.run_rules.specs.Examples.{request_taken}
 use Rattle.recover_core.specs.declared.error.RecoverError.TheVariants as errors
@@ -40,11 +42,15 @@ ready = record {
   young = omega arith;
 }
 
+-- the log of the one partition is of other flows
+pub other_first : RefusesFirst 1 one_asked.digest (directory requests_bytes empty_log) (unfit.OtherFlows digest one_asked.digest)
+other_first = record { partition = 0; below = omega arith; lower = λ other below. absurd (omega (arith, below)); refused = (other_kept, refl) }
+
 pub refused_input : AreRefused (three_files (codes "{}") [] (codes "{}"))
 refused_input = for_input (causes.BadPlan places.Whole) refusal_plan
 
 pub refused_logs : AreRefused (directory requests_bytes empty_log)
-refused_logs = for_logs (errors.OtherFlows digest one_asked.digest) tt (one_asked, asks_here empty_log, (other_kept, refl))
+refused_logs = for_logs (errors.OtherFlows digest one_asked.digest) tt (one_asked, asks_here empty_log, other_first)
 
 pub refused_clash : AreRefused (directory requests_bytes earlier_log)
 refused_clash = for_clash one_request.client 1 (

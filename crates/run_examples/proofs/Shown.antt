@@ -1,14 +1,16 @@
 -- What is there on single directories.
-use Rattle.std.proofs.Common.{◌≡◌, ◌∙◌, ℕ, [], Some, Ok, refl, ap, subst}
+use Rattle.std.proofs.Common.{◌≡◌, ◌∙◌, ℕ, List, [], length, Some, refl, sym, ap, subst, arith}
 use Rattle.std.specs.Fmt.{digits}
 use Rattle.std.specs.Str.{chars, is_utf8}
 use Rattle.dura_model.specs.Partition.{Partition, fresh}
 use Rattle.engine_run.specs.Causes.{IsLogRefusal}
 use Rattle.engine_run.specs.Causes.AreRefused.{for_logs}
-use Rattle.engine_run.specs.Showing.{IsThere, RefusesThere}
+use Rattle.engine_run.specs.Showing.{AreThere, RefusesThere}
 use Rattle.flow_syntax.specs.Syntax.{Flows}
 use Rattle.part_items.specs.Logs.{logs_in, entries_in, alone_with}
-use Rattle.dura_model.specs.Entries.{placed}
+use Rattle.dura_value.specs.Items.{Entry}
+use Rattle.log_files.specs.Checked.{asked_for}
+use Rattle.many_logs.specs.Placing.{count_entries, placed_in}
 use Rattle.recover_core.specs.declared.error.RecoverError.{RecoverError}
 use Rattle.run_causes.specs.declared.cause.Cause.TheVariants.{BadFlows}
 use Rattle.run_causes.specs.declared.cause.FlowsFault.TheVariants.{NotJson}
@@ -20,12 +22,14 @@ use Rattle.run_inputs.specs.Refusal.{flows_refused}
 use Rattle.run_inputs.proofs.Computed.{flows_of_one, flows_refusal_one, requests_of_one, refusal_good}
 use Rattle.serde_json.proofs.OnLiterals.{serde_json_on_literals}
 
-pub is_there : IsThere good_files one_flow (fresh 0)
+pub is_there : AreThere good_files 1 one_flow fresh
 is_there = record {
   digest = one_asked.digest;
   flows_in_file = record { accepted = flows_refusal_one; flows_in_file = flows_of_one; digest_of_file = refl };
-  entries = [];
-  keeps = record { kept = fresh_kept; made = refl };
+  logs = λ partition. [];
+  kept = λ partition below. let is : 0 ≡ partition = omega (arith, below) in subst (λ (p : ℕ). entries_in (logs_in (asked_for 1 one_asked.digest p) good_files) ≡ Some []) is fresh_kept;
+  none_left = λ partition below. refl;
+  made = refl;
 }
 
 -- an empty file is no JSON
@@ -34,15 +38,15 @@ unfolding serde_json_on_literals is_utf8 chars digits
 no_flows_there = refl
 
 -- nothing was done in a fresh directory
-pub only_fresh : (flows : Flows) (state : Partition) → IsThere good_files flows state → fresh 0 ≡ state
-only_fresh flows state there =
-    let kept = subst (λ (n : ℕ). entries_in (logs_in (alone_with n) good_files) ≡ Some there.entries) there.flows_in_file.digest_of_file there.keeps.kept in
-    let none : [] ≡ there.entries = cc (fresh_kept, kept) in
-    let made : Ok (fresh 0) ≡ Ok state = ap (placed flows 1 (fresh 0)) none ∙ there.keeps.made in
-    cc made
+pub only_fresh : (flows : Flows) (states : ℕ → Partition) → AreThere good_files 1 flows states → fresh ≡ states
+only_fresh flows states there =
+    let kept = subst (λ (n : ℕ). entries_in (logs_in (alone_with n) good_files) ≡ Some (there.logs 0)) there.flows_in_file.digest_of_file (there.kept 0 (omega arith)) in
+    let none : [] ≡ there.logs 0 = cc (fresh_kept, kept) in
+    let many : 0 ≡ count_entries 1 there.logs = ap (λ (l : List Entry). length l) none in
+    ap (λ (n : ℕ). (placed_in flows 1 n (record { states = fresh; left = there.logs })).states) many ∙ sym there.made
 
 -- and its logs aren't refused
-pub no_refusal : (error : RecoverError) → IsLogRefusal error → RefusesThere good_files error → ⊥
+pub no_refusal : (error : RecoverError) → IsLogRefusal error → RefusesThere good_files 1 error → ⊥
 no_refusal error is refuses = not_ready good_files (for_logs error is (
   record { flows = refuses.0; digest = refuses.1; requests = one_asked.requests },
   record { flows_in_file = refuses.2.flows_in_file; digest_of_file = refuses.2.digest_of_file; requests_in_file = requests_of_one; accepted = refusal_good },

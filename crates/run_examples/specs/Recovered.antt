@@ -1,7 +1,7 @@
 -- What is recovered where there is no log.
 use Rattle.std.specs.Prelude.{ℕ, List, None}
 use Rattle.part_steps.specs.declared.state.PartState.{PartState}
-use Rattle.recover_core.specs.declared.recovery.Recovered.{Recovered}
+use Rattle.engine_run.specs.declared.opening.Recovered.{Recovered}
 
 -- this state, of entries of these incarnations
 abbrev pub without_log : PartState → List ℕ → Recovered

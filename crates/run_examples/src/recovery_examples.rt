@@ -2,11 +2,11 @@
 
 ghost use Rattle.std.specs.Prelude.{◌≡◌, [], ◌∷◌};
 ghost use Rattle.dura_model.specs.Partition.{fresh};
+ghost use Rattle.engine_run.specs.Alone.{IsRecovered, CanBegin};
 ghost use Rattle.flow_syntax.specs.Syntax.{Flows};
 ghost use Rattle.part_items.specs.Logs.{no_log};
 ghost use Rattle.part_steps.specs.States.{IsSound, state_of, count_of};
 ghost use Rattle.part_steps.specs.declared.state.PartState.{PartState};
-ghost use Rattle.recover_core.specs.Recovering.{IsRecovered, CanBegin};
 ghost use Rattle.run_examples.specs.Recovered.{without_log};
 
 /// Without a log the fresh state of the one partition is recovered, of no entry: not where an entry's incarnation is told.

@@ -4,12 +4,12 @@ ghost use Rattle.std.specs.Prelude.{◌≡◌, ℕ, List, [], ◌∷◌, None, S
 ghost use Rattle.command_words.specs.declared.words.Call.TheVariants as calls;
 ghost use Rattle.command_words.specs.declared.words.RunOptions.{RunOptions};
 ghost use Rattle.dura_model.specs.Partition.{fresh};
+ghost use Rattle.engine_run.specs.Alone.{both_synced};
 ghost use Rattle.engine_run.specs.Causes.{AsksFor, CauseHolds, AreRefused, IsReady, IsRefusal, IsLogRefusal, LeavesAll, SettlesNothing, Untouched};
 ghost use Rattle.engine_run.specs.Job.{FilesKeep, AreGivenIn};
 ghost use Rattle.engine_run.specs.Kept.{IsClash};
 ghost use Rattle.part_items.specs.Examples.{taking, empty_log};
 ghost use Rattle.run_rules.specs.Examples.{request_taken};
-ghost use Rattle.recover_core.specs.Recovering.{both_synced};
 ghost use Rattle.recover_core.specs.declared.error.RecoverError.TheVariants as errors;
 ghost use Rattle.run_causes.specs.declared.cause.Cause.TheVariants as causes;
 ghost use Rattle.run_causes.specs.declared.cause.FlowsFault.TheVariants as faults;
@@ -82,6 +82,8 @@ pub fn refusals_touch_nothing()
     ensures other_flows { Untouched [] (on 16 (wrote 0 1 (0 ∷ [])) ∷ []) (causes.OtherFlows 1 2)
         → ⊥ }
     ensures illegal { Untouched [] (on 16 (wrote 0 1 (0 ∷ [])) ∷ []) (causes.Illegal 0 1) → ⊥ }
+    ensures unclosed { Untouched [] (on 16 (wrote 0 1 (0 ∷ [])) ∷ []) (causes.Unclosed 0 1 0 0)
+        → ⊥ }
 {}
 
 /// No refusal is the answer where files are accepted, and none but the right one where they are refused; what comes of a run that
@@ -97,7 +99,7 @@ pub fn causes_of_files()
     ensures other_flows { CauseHolds good_files (causes.OtherFlows 1 2) → ⊥ }
     ensures illegal { CauseHolds good_files (causes.Illegal 0 0) → ⊥ }
     ensures spent { CauseHolds good_files (causes.Spent 0 0) → ⊥ }
-    ensures unclosed { (files : ℕ → List ℕ) → CauseHolds files (causes.Unclosed 0 0 0 0) → ⊥ }
+    ensures unclosed { CauseHolds good_files (causes.Unclosed 0 0 0 0) → ⊥ }
     ensures done { CauseHolds (directory requests_bytes empty_log) causes.Done → ⊥ }
     ensures waiting { CauseHolds (directory requests_bytes empty_log) (causes.Waiting (codes "a") 1)
         → ⊥ }

@@ -15,7 +15,7 @@ use Rattle.dura_model.specs.Entries.{all_accepted, entry_accepted}
 use Rattle.dura_model.specs.Legal.{Legal}
 use Rattle.dura_model.proofs.Alone.{shown_alone}
 use Rattle.dura_model.proofs.Appending.{both_placed}
-use Rattle.many_logs.specs.Placing.{is_ready, are_ready, of_partition, placed, commits_at, AllReady}
+use Rattle.many_logs.specs.Placing.{is_ready, are_ready, of_partition, placed, commits_at, AllReady, HasPlaced}
 use Rattle.part_items.specs.Logs.{alone_with, logs_in, entries_in}
 use Rattle.many_logs.specs.Stands.{asked_at, FilesStand}
 use Rattle.many_logs.proofs.Streams.{item_grows, entry_grows}
@@ -64,12 +64,17 @@ all_ready flows parts (entry ∷ entries) p q number made =
     let first = both_placed entry.position (entry_accepted flows 1 p entry) (λ next. alone.placed flows 1 next entries) q made in
     (items_ready flows parts entry.items (enter entry.incarnation p) first.0 number first.1, all_ready flows parts entries first.0 q ((entry_grows flows 1 entry p first.0 first.1).number ∙ number) first.2)
 
+-- where a log's entries are all accepted, none of them is left
+pub none_left : (flows : Flows) (entries : List Entry) (state : Partition) (logs : ℕ → List Entry) → logs 0 ≡ entries → alone.placed flows 1 (fresh 0) entries ≡ Ok state → HasPlaced 1 (placed flows 1 logs) (with_part fresh 0 state) (λ partition. [])
+none_left flows entries state logs its all =
+    any_order flows 1 (commits_at 0 entries) logs (with_part fresh 0 state) (below_at 1 0 entries (omega arith)) (chain_goes flows 1 entries fresh 0 state (all_ready flows fresh entries (fresh 0) state refl all) all)
+    (λ partition below. let is : 0 ≡ partition = omega (arith, below) in subst (λ (p : ℕ). logs p ≡ of_partition p (commits_at 0 entries)) is (its ∙ sym (of_own 0 entries)))
+
 pub stands_among : (flows : Flows) (digest : ℕ) (files : ℕ → List ℕ) (run : List Label) → StandsAlone flows digest files run → FilesStand flows 1 digest files run
 stands_among flows digest files run stands =
     let logs : ℕ → List Entry = λ partition. of_partition partition (commits_at 0 stands.entries) in
     let final = with_part fresh 0 stands.state in
-    let made = chain_goes flows 1 stands.entries fresh 0 stands.state (all_ready flows fresh stands.entries (fresh 0) stands.state refl stands.all) stands.all in
-    let they = any_order flows 1 (commits_at 0 stands.entries) logs final (below_at 1 0 stands.entries (omega arith)) made (λ partition below. refl) in
+    let they = none_left flows stands.entries stands.state logs (of_own 0 stands.entries) stands.all in
     record {
       logs = logs;
       kept = λ partition below. let is : 0 ≡ partition = omega (arith, below) in subst (λ (p : ℕ). Kept p) is (stands.kept ∙ ap (λ (l : List Entry). Some l) (sym (of_own 0 stands.entries)));

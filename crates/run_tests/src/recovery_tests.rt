@@ -4,7 +4,7 @@ use crate::frame_tests::EXAMPLE;
 use dura_value::{Id, Name};
 use flow_steps::Machines;
 use flow_syntax::Flows;
-use recover_core::{RecoverError, Recovered, recover};
+use recover_core::{Opened, RecoverError, recover};
 use site_memory::{Kind, MemorySite};
 use std::alloc::Global;
 use std::process::Abort;
@@ -94,27 +94,29 @@ fn site_of(rt: &impl Abort, alloc: Global, first: &str, second: &str, fails: u64
 }
 
 /// The file and the gate of the log, the incarnation that begins, and whether client a's requests 1 and 2 were taken. No log is in file 0.
-fn state_text(rt: &impl Abort, alloc: Global, recovered: Recovered) -> String {
+fn state_text(rt: &impl Abort, alloc: Global, opened: Opened) -> String {
     let client = Id::Client(Name::of(alloc, b"a").expect(rt, "memory"));
-    let first = recovered.state.has_taken(&client, 1);
-    let second = recovered.state.has_taken(&client, 2);
+    let state = opened.states.first().expect(rt, "a state");
+    let first = state.has_taken(&client, 1);
+    let second = state.has_taken(&client, 2);
     drop(client);
-    let incarnation = recovered.incarnation;
-    let (file, gate) = match &recovered.log {
+    let life = opened.lives.first().expect(rt, "a log");
+    let incarnation = life.incarnation;
+    let (file, gate) = match &life.log {
         Some(log) => (log.file, log.gate),
         None => (0, 0),
     };
-    assert!(rt; recovered.log.is_some() == (file != 0));
-    drop(recovered);
+    assert!(rt; life.log.is_some() == (file != 0));
+    drop(opened);
     format!(in alloc;
         "log {file} to {gate}, incarnation {incarnation}, taken {first} {second}"
     ).expect(rt, "memory")
 }
 
 /// What was recovered, or why nothing was.
-fn told(rt: &impl Abort, alloc: Global, found: Result<Recovered, RecoverError>) -> String {
+fn told(rt: &impl Abort, alloc: Global, found: Result<Opened, RecoverError>) -> String {
     match found {
-        Ok(recovered) => state_text(rt, alloc, recovered),
+        Ok(opened) => state_text(rt, alloc, opened),
         Err(error) => error.to_string(alloc).expect(rt, "memory"),
     }
 }
@@ -122,7 +124,7 @@ fn told(rt: &impl Abort, alloc: Global, found: Result<Recovered, RecoverError>) 
 /// What is recovered of these files. Nothing is written.
 fn recovered_of(rt: &impl Abort, alloc: Global, mut site: MemorySite) -> String {
     let flows = Flows::new(alloc);
-    let result = recover(alloc, &mut site, &Machines::of(&flows), DIGEST);
+    let result = recover(alloc, &mut site, &Machines::of(&flows), DIGEST, 1);
     drop(flows);
     assert!(rt; site.calls(Kind::Write) == 0);
     drop(site);
@@ -158,11 +160,11 @@ byte 0 | header, entry, byte 0 | log 17 to 76, incarnation 1, taken true false";
 const LIFE_BEHIND_THE_LAST: &str =
     "header, entry, entry 9=1 17=5 37=2, byte 0 | empty | log 16 to 119, incarnation 6, taken true true";
 
-/// The same request once more; bytes that are wrong behind it, which come first; the last incarnation.
-const ENTRIES_THAT_CANNOT_BE: &str =
+/// The same request once more; bytes that are wrong behind it, which come first; the last incarnation, behind which none is left for a run.
+const LAST_ENTRIES: &str =
     "header, entry, entry 9=1, byte 0 | empty | partition 0 has an illegal entry at position 1
 header, entry, entry 9=1, entry, byte 0 | empty | file 16 is damaged at offset 126
-header, entry 10=63 11=255 12=255 13=255 14=255 15=255 16=255 17=255, byte 0 | empty | partition 0 is past its last incarnation with 4611686018427387904";
+header, entry 10=63 11=255 12=255 13=255 14=255 15=255 16=255 17=255, byte 0 | empty | log 16 to 76, incarnation 4611686018427387904, taken true false";
 
 const OTHER_LOGS: &str =
     "header 16=2, entry, byte 0 | empty | the log is of 2 partitions, and 1 are asked for
@@ -184,7 +186,7 @@ fn log_files(rt: HostRuntime) {
     check(&rt, alloc, NOTHING_YET);
     check(&rt, alloc, ONE_ENTRY);
     check(&rt, alloc, LIFE_BEHIND_THE_LAST);
-    check(&rt, alloc, ENTRIES_THAT_CANNOT_BE);
+    check(&rt, alloc, LAST_ENTRIES);
     check(&rt, alloc, OTHER_LOGS);
     check(&rt, alloc, CUT_SHORT);
 }

@@ -12,7 +12,7 @@ use Rattle.engine_run.specs.Showing.{ShowsAs, WritesNothing}
 use Rattle.engine_run.proofs.Early.{differ}
 use Rattle.engine_run.proofs.Ending.{memory_no_site, memory_no_say, memory_no_clock}
 use Rattle.engine_run.proofs.Opens.{opening_first}
-use Rattle.engine_run.proofs.Words.{run_is_within, run_same, run_no_show, none_no_call}
+use Rattle.engine_run.proofs.Words.{run_is_within, show_is_within, run_same, run_no_show, show_same, none_no_call}
 use Rattle.engine_run.proofs.call.run_alone.Goals as goal
 use Rattle.run_causes.specs.Causes.{status_of}
 use Rattle.run_causes.specs.declared.cause.Cause.{Cause}
@@ -66,19 +66,23 @@ returns-in-Ok-Show g c =
     let now = c.show-cause.new.site in record {
       tells = λ tells. shown.tells (subst g.V.Site.tells end.site tells);
       status = end.status ∙ ap status_of (sym end.cause);
-      usage = λ none. absurd (none_no_call (call_in c.args.words.now) (Show c.in-Ok-Show.field-0-0) none is);
+      usage = λ none. absurd (none_no_call (call_in c.args.words.now) (Show c.in-Ok-Show.partitions) none is);
       only_usage = λ usage. absurd (shown.no_usage (sym end.cause ∙ usage));
       promises = record {
-        idle = λ none. absurd (none_no_call (call_in c.args.words.now) (Show c.in-Ok-Show.field-0-0) none is);
-        answers = λ tells options asked. absurd (run_no_show (call_in c.args.words.now) options c.in-Ok-Show.field-0-0 asked is);
-        untouched = λ options asked. absurd (run_no_show (call_in c.args.words.now) options c.in-Ok-Show.field-0-0 asked is);
-        refused = λ tells options asked. absurd (run_no_show (call_in c.args.words.now) options c.in-Ok-Show.field-0-0 asked is);
+        idle = λ none. absurd (none_no_call (call_in c.args.words.now) (Show c.in-Ok-Show.partitions) none is);
+        answers = λ tells options asked. absurd (run_no_show (call_in c.args.words.now) options c.in-Ok-Show.partitions asked is);
+        untouched = λ options asked. absurd (run_no_show (call_in c.args.words.now) options c.in-Ok-Show.partitions asked is);
+        refused = λ tells options asked. absurd (run_no_show (call_in c.args.words.now) options c.in-Ok-Show.partitions asked is);
         settles_nothing = λ settles. end.trail ∙ c.none.ensures;
-        headline = λ tells options asked. absurd (run_no_show (call_in c.args.words.now) options c.in-Ok-Show.field-0-0 asked is);
+        headline = λ tells options asked. absurd (run_no_show (call_in c.args.words.now) options c.in-Ok-Show.partitions asked is);
         shows = λ tells partitions asked.
-            subst (λ (cause : Cause). ShowsAs (λ file. content_of file old) (tape old) (tape (g.V.Site.history c.end_with.result.site)) cause) (sym end.cause)
-            (subst (λ site. ShowsAs (λ file. content_of file old) (tape old) (tape (g.V.Site.history site)) c.show-cause.result) (sym end.site) (shown.shows (subst g.V.Site.tells end.site tells)));
-        writes_nothing = λ partitions asked. subst (λ site. WritesNothing old (g.V.Site.history site)) (sym end.site) shown.nothing;
+            let same : c.in-Ok-Show.partitions ≡ partitions = show_same (call_in c.args.words.now) c.in-Ok-Show.partitions partitions is asked in
+            subst (λ (n : ℕ). ShowsAs (λ file. content_of file old) n (tape old) (tape (g.V.Site.history c.end_with.result.site)) c.end_with.result.cause) same
+            (subst (λ (cause : Cause). ShowsAs (λ file. content_of file old) c.in-Ok-Show.partitions (tape old) (tape (g.V.Site.history c.end_with.result.site)) cause) (sym end.cause)
+            (subst (λ site. ShowsAs (λ file. content_of file old) c.in-Ok-Show.partitions (tape old) (tape (g.V.Site.history site)) c.show-cause.result) (sym end.site) (shown.shows (subst g.V.Site.tells end.site tells))));
+        writes_nothing = λ partitions asked.
+            let same : c.in-Ok-Show.partitions ≡ partitions = show_same (call_in c.args.words.now) c.in-Ok-Show.partitions partitions is asked in
+            subst (λ (n : ℕ). WritesNothing n old (g.V.Site.history c.end_with.result.site)) same (subst (λ site. WritesNothing c.in-Ok-Show.partitions old (g.V.Site.history site)) (sym end.site) shown.nothing);
       };
       faults = record {
         of_disk = λ is. subst (λ site. HasRisen (g.V.Site.disk_faults c.args.site) (g.V.Site.disk_faults site)) (sym end.site) (shown.fault (sym end.cause ∙ is));

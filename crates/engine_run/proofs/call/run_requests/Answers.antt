@@ -20,7 +20,7 @@ use Rattle.engine_run.proofs.Refusing.{late_answers, late_untouched, late_no_ref
 use Rattle.engine_run.proofs.Standing.{shown_alone, has_begun}
 use Rattle.engine_run.proofs.call.run_requests.Goals as goal
 use Rattle.part_steps.specs.States.{state_of, count_of}
-use Rattle.recover_core.specs.Recovering.{OnlySyncs}
+use Rattle.engine_run.specs.Alone.{OnlySyncs}
 use Rattle.run_causes.specs.Causes.{status_of}
 use Rattle.run_causes.specs.declared.cause.Cause.{Cause}
 use Rattle.site_model.specs.Calls.{HasRisen}

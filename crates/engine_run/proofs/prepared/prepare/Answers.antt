@@ -3,6 +3,7 @@ use Rattle.std.specs.Prelude.{IfSome}
 use Rattle.std.proofs.lemmas.Result.{err_from_is_err_and}
 use Rattle.commit_log.specs.States.{IsFormatting}
 use Rattle.dura_value.specs.declared.messages.Request.{Request as OwnRequest}
+use Rattle.engine_run.specs.Alone.{OnlySyncs, both_synced}
 use Rattle.engine_run.specs.Causes.{CauseHolds, Untouched}
 use Rattle.engine_run.specs.Job.{Job, FilesKeep}
 use Rattle.engine_run.specs.Kept.{NoClash, RefusesKept}
@@ -14,12 +15,12 @@ use Rattle.engine_run.proofs.Early.{ok_same, err_same, residual_err, residual_sa
 use Rattle.engine_run.proofs.Found.{some_with}
 use Rattle.engine_run.proofs.Opens.{opening_first, opening_synced, first_kept}
 use Rattle.engine_run.proofs.Preparing.{opened_from, opens_from}
-use Rattle.engine_run.proofs.Refusing.{logs_refused, clash_refused, logs_untouched, ready, not_refused}
+use Rattle.engine_run.proofs.Refusing.{not_recovered, clash_refused, logs_untouched, ready, not_refused}
 use Rattle.engine_run.proofs.prepared.prepare.Goals as goal
 use Rattle.flow_syntax.specs.Views.{flows_of}
 use Rattle.part_items.specs.Logs.{Logs, logs_in, alone_with}
 use Rattle.part_steps.specs.States.{state_of}
-use Rattle.recover_core.specs.Recovering.{IsLogOf, RestsFor, OnlySyncs, both_synced}
+use Rattle.recover_core.specs.Recovering.{IsLogOf, RestsFor}
 use Rattle.request_reader.specs.Line.{request_of}
 use Rattle.run_causes.specs.declared.cause.Cause.{Cause}
 use Rattle.run_causes.specs.declared.cause.Cause.TheVariants.{SiteFault}
@@ -42,7 +43,7 @@ returns-in_err-state-clause-answers g c tells =
     let asks = c.in_ok-file.ensures.reads (c.recover_logs.ensures.tells tells) in
     let recovers = subst (λ (s : List Step). RecoversAs (flows_of file.flows) file.digest (λ f. content_of f s) (Err c.in_err-state.field-0.0)) c.read_input.ensures.unchanged (c.in_err-state.ensures.recovers tells) in
     let p = err_from_is_err_and c.from_residual-in_err-state.result c.from_residual-in_err-state.ensures.1 in
-    rw (p.1, p.2, recovers.1) (logs_refused (λ f. content_of f old) job recovers.0 asks recovers.2)
+    rw (p.1, p.2) (not_recovered (λ f. content_of f old) job c.in_err-state.field-0.0 c.in_err-state.ensures.early asks recovers)
 
 pub returns-in_err-state-clause-untouched : goal.returns-in_err-state-clause-untouched
 returns-in_err-state-clause-untouched g c =
@@ -111,8 +112,8 @@ returns-clause-prepared g c tells =
     let logs : List Step → Logs = λ s. logs_in (alone_with file.digest) (λ f. content_of f s) in
     let synced = c.in_ok-state.ensures.synced ∙ ap both_synced c.read_input.ensures.unchanged in
     let kept = subst (λ (s : List Step). IsKept (changes_of 16 s)) (sym synced) (first_kept old) in
-    let rests = subst (λ (s : List Step). IfSome found.log (λ l. RestsFor s file.digest (logs old) l)) synced
-    (subst (λ (s : List Step). IfSome found.log (λ l. RestsFor (g.V.Site.history c.recover_logs.new.site) file.digest (logs s) l)) c.read_input.ensures.unchanged (c.in_ok-state.ensures.rests tells_then)) in
+    let rests = subst (λ (s : List Step). IfSome found.log (λ l. RestsFor s (alone_with file.digest) (logs old) l)) synced
+    (subst (λ (s : List Step). IfSome found.log (λ l. RestsFor (g.V.Site.history c.recover_logs.new.site) (alone_with file.digest) (logs s) l)) c.read_input.ensures.unchanged (c.in_ok-state.ensures.rests tells_then)) in
     record {
       entries = recovered.entries;
       keeps = record { kept = recovered.kept; made = recovered.placed };

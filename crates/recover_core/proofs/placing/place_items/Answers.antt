@@ -7,7 +7,7 @@ use Rattle.part_steps.specs.Outputs.{outputs_by}
 use Rattle.part_steps.specs.States.{state_of, count_of}
 use Rattle.part_steps.specs.declared.state.Verdict.{Verdict}
 use Rattle.recover_core.proofs.EntriesPlaced.{HasApplied, none_applied, one_applied, one_refused, all_applied}
-use Rattle.recover_core.proofs.SameIncarnation.{stays_in_incarnation}
+use Rattle.recover_core.proofs.SameIncarnation.{stays_in_incarnation, stays_in_place}
 use Rattle.recover_core.proofs.Walks.{rest_is, none_left}
 use Rattle.recover_core.proofs.placing.place_items.Goals as goal
 
@@ -27,6 +27,7 @@ loop-item-preserved g c =
     let so_far = subst (λ (l : List plain.Item). HasApplied flows c.args.state s (items_of all) l) (rest_is item_of all c.loop-item.item-index c.item-item.result c.loop-item-test.true c.item-item.is) c.loop-item.invariant in
     let begun : 0 < (state_of s).position = let same = so_far.position in let some = c.requires.begun in omega (arith, same, some) in
     one_applied flows c.args.state s c.in-Accepted.next (items_of all) (items_of (drop (c.loop-item.item-index + 1) all)) item so_far done.0 done.4 done.2 done.3 (stays_in_incarnation flows item s (state_of c.in-Accepted.next) so_far.sound begun done.0)
+    (stays_in_place flows item s (state_of c.in-Accepted.next) so_far.sound begun done.0)
 
 pub returns-in-Refused : goal.returns-in-Refused
 returns-in-Refused g c =

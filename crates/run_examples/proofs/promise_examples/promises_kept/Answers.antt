@@ -1,10 +1,12 @@
-use Rattle.std.proofs.Common.{◌≡◌, ◌∙◌, inl, inr, List, Option, Some, None, refl, sym, ap, subst}
+use Rattle.std.proofs.Common.{◌≡◌, ◌∙◌, inl, inr, ℕ, List, [], ◌∷◌, Option, Some, None, refl, sym, ap, subst}
 use Rattle.command_words.specs.declared.words.Call.{Call}
 use Rattle.engine_run.specs.Causes.{SettlesNothing}
 use Rattle.run_causes.specs.declared.cause.Cause.TheVariants.{Usage}
 use Rattle.run_examples.proofs.Unread.{nothing_unread}
 use Rattle.run_examples.proofs.promise_examples.promises_kept.Goals as goal
-use Rattle.site_model.specs.History.{Step, changes_of}
+use Rattle.log_files.specs.Fronts.{AreSyncs, synced_to}
+use Rattle.log_files.proofs.FilesOpened.{stopped_contents}
+use Rattle.site_model.specs.History.{Step, reads, content_of}
 
 -- words that ask for nothing ask for no call
 no_call : (asked : Option Call) (call : Call) → asked ≡ None → asked ≡ Some call → ⊥
@@ -46,12 +48,13 @@ returns-clause-unread c = λ words options old job entries begin is asks kept gi
 pub returns-clause-waiting : goal.returns-clause-waiting
 returns-clause-waiting c = λ words partitions is keeps. keeps.shows tt partitions is
 
+-- syncs leave each file's content
+syncs_leave : (count : ℕ) (mid : List Step) → AreSyncs count [] mid → content_of 16 mid ≡ []
+syncs_leave count mid (most, below, inl is) = stopped_contents most [] (synced_to most []) mid refl (inl is) 16
+syncs_leave count mid (most, below, inr last) = stopped_contents most [] (synced_to most []) mid refl (inr (inl last.1)) 16
+
 pub returns-clause-written : goal.returns-clause-written
 returns-clause-written c = λ words partitions is keeps.
-    let nothing = keeps.writes_nothing partitions is in elim nothing.syncs [
-      | inl same ↦ cc (nothing.files 16 ∙ ap (λ (steps : List Step). changes_of 16 steps) same)
-      | inr more ↦ elim more [
-        | inl one ↦ cc (nothing.files 16 ∙ ap (λ (steps : List Step). changes_of 16 steps) one)
-        | inr both ↦ cc (nothing.files 16 ∙ ap (λ (steps : List Step). changes_of 16 steps) both)
-      ]
-    ]
+    let nothing = keeps.writes_nothing partitions is in
+    let wrong : 0 ∷ [] ≡ [] = ap reads (nothing.files 16) ∙ syncs_leave partitions nothing.mid nothing.syncs in
+    cc wrong

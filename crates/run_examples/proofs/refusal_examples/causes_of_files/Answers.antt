@@ -1,5 +1,5 @@
 use Rattle.std.proofs.Common.{inl, inr, codes, arith}
-use Rattle.engine_run.specs.Causes.AreRefused.{for_input, for_logs, for_clash}
+use Rattle.engine_run.specs.Causes.AreRefused.{for_input, for_logs, for_spent, for_clash}
 use Rattle.recover_core.specs.declared.error.RecoverError.TheVariants as errors
 use Rattle.run_causes.specs.declared.cause.Cause.TheVariants as causes
 use Rattle.run_causes.specs.declared.cause.FlowsFault.TheVariants as faults
@@ -35,7 +35,7 @@ pub returns-clause-illegal : goal.returns-clause-illegal
 returns-clause-illegal c = λ is. not_ready _ (for_logs (errors.Illegal 0 0) tt is) ready
 
 pub returns-clause-unclosed : goal.returns-clause-unclosed
-returns-clause-unclosed c = λ files is. is
+returns-clause-unclosed c = λ is. not_ready _ (for_logs (errors.Unclosed 0 0 0 0) tt is) ready
 
 pub returns-clause-done : goal.returns-clause-done
 returns-clause-done c = λ is. not_ready _ refused_logs is
@@ -56,4 +56,4 @@ pub returns-clause-clock_fault : goal.returns-clause-clock_fault
 returns-clause-clock_fault c = λ is. not_ready _ refused_logs is
 
 pub returns-clause-spent : goal.returns-clause-spent
-returns-clause-spent c = λ is. elim is [ inl logs ↦ not_ready _ (for_logs (errors.Spent 0 0) tt logs) ready | inr late ↦ let reaches = late.2 in omega (arith, reaches) ]
+returns-clause-spent c = λ is. elim is [ inl logs ↦ not_ready _ (for_spent 0 0 logs) ready | inr late ↦ let reaches = late.2 in omega (arith, reaches) ]

@@ -1,0 +1,98 @@
+-- The logs of all partitions on their way into the states.
+use Rattle.std.specs.Prelude.{◌≡◌, ◌≢◌, ℕ, ◌+◌, ◌≤◌, ◌<◌, List, [], ◌∷◌, ◌++◌, length, Bool, true, false, Option, Some, None, Result, Ok, Err}
+use Rattle.std.specs.List.{slice_get}
+use Rattle.dura_value.specs.Items.{Entry}
+use Rattle.site_model.specs.History.{Step}
+use Rattle.commit_log.specs.declared.reader.FrameError.{FrameError}
+use Rattle.commit_log.specs.declared.reader.FrameError.TheVariants as unread
+use Rattle.commit_log.specs.declared.reader.OpenedLog.{OpenedLog}
+use Rattle.flow_syntax.specs.Syntax.{Flows}
+use Rattle.dura_model.specs.Partition.{Partition, fresh}
+use Rattle.many_logs.specs.Placing.{Commit, AllBelow, states_after, of_partition}
+use Rattle.part_steps.specs.declared.state.PartState.{PartState}
+use Rattle.part_steps.specs.States.{AreStatesOfAll, parts_in}
+use Rattle.recover_core.specs.Courses.{IsCourse, IsWhole, IsStill, Halts, FitsCourse, to_go}
+use Rattle.recover_core.specs.declared.course.Course.{Course}
+use Rattle.recover_core.specs.declared.error.RecoverError.{RecoverError}
+use Rattle.recover_core.specs.declared.error.RecoverError.TheVariants as errors
+
+-- a fault in a file
+abbrev pub error_in : (file : ℕ) → FrameError → RecoverError
+error_in file (unread.Damaged offset) = errors.Damaged file offset
+error_in file unread.SiteFault = errors.SiteFault
+error_in file unread.Memory = errors.Memory
+
+-- There is a course for each state, and each goes on from its partition's.
+pub record AreReady (states : List PartState) (courses : List Course) : Type 0 where
+  pub all : AreStatesOfAll states
+  pub many : length courses ≡ length states
+  pub each : (place : ℕ) (course : Course) → slice_get courses place ≡ Some course → FitsCourse (parts_in states place) course
+
+abbrev pub all_to_go : List Course → ℕ
+all_to_go [] = 0
+all_to_go (course ∷ courses) = to_go course.comes + all_to_go courses
+
+-- they have no more to go than before, and less where one moved
+pub record HasLess (old new : List Course) (moved : Bool) : Type 0 where
+  pub no_more : all_to_go new ≤ all_to_go old
+  pub less : moved ≡ true → all_to_go new < all_to_go old
+
+-- each course is of its partition's log, whose entries were read and placed so far
+abbrev pub AllRead : List Step → (logs : ℕ → Option OpenedLog) → List Course → Type 0
+AllRead steps logs courses = (place : ℕ) (course : Course) → slice_get courses place ≡ Some course → (course.log ≡ logs place) × ((done : List Entry) × IsCourse steps done course)
+
+-- all logs can be read to their ends
+abbrev pub AllWhole : List Step → (logs : ℕ → Option OpenedLog) → Type 0
+AllWhole steps logs = (place : ℕ) → IsWhole steps (logs place)
+
+-- it lies with the disk or with memory
+abbrev pub IsOutside : RecoverError → Type 0
+IsOutside errors.SiteFault = Unit {0}
+IsOutside errors.Memory = Unit {0}
+IsOutside other = ⊥
+
+-- What was placed of one partition's log, in an order of all.
+pub record IsOfRun (flows : Flows) (count : ℕ) (steps : List Step) (parts : ℕ → Partition) (run : List Commit) (place : ℕ) (course : Course) : Type 0 where
+  pub course_is : IsCourse steps (of_partition place run) course
+  pub still : IsStill flows count (parts place) course.comes
+
+-- The entries that were placed were accepted in some order, and made these states.
+pub record ArePlaced (flows : Flows) (count : ℕ) (steps : List Step) (parts : ℕ → Partition) (courses : List Course) : Type 0 where
+  pub run : List Commit
+  pub below : AllBelow count run
+  pub made : states_after flows count fresh run ≡ Some parts
+  pub each : (place : ℕ) (course : Course) → slice_get courses place ≡ Some course → IsOfRun flows count steps parts run place course
+
+-- no partition can go on
+abbrev pub AllHalt : Flows → (count : ℕ) → (ℕ → Partition) → List Course → Type 0
+AllHalt flows count parts courses = (place : ℕ) (course : Course) → slice_get courses place ≡ Some course → Halts flows count parts place course.comes
+
+-- One partition went on, the others stayed; where it didn't go on all states are as they were.
+pub record HasTurned (flows : Flows) (count : ℕ) (steps : List Step) (place : ℕ) (old new : ℕ → Partition) (was courses : List Course) (moved : Bool) : Type 0 where
+  pub placed : ArePlaced flows count steps new courses
+  pub halts : (course : Course) → slice_get courses place ≡ Some course → Halts flows count new place course.comes
+  pub others : (other : ℕ) (course : Course) → other ≢ place → slice_get courses other ≡ Some course → slice_get was other ≡ Some course
+  pub stays : moved ≡ false → new ≡ old
+
+-- All partitions went on, and where none did none can.
+pub record HasGoneRound (flows : Flows) (count : ℕ) (steps : List Step) (parts : ℕ → Partition) (courses : List Course) (moved : Bool) : Type 0 where
+  pub placed : ArePlaced flows count steps parts courses
+  pub halt : moved ≡ false → AllHalt flows count parts courses
+
+-- All went on until none can.
+pub record HasPlacedAll (flows : Flows) (count : ℕ) (steps : List Step) (parts : ℕ → Partition) (courses : List Course) : Type 0 where
+  pub placed : ArePlaced flows count steps parts courses
+  pub halt : AllHalt flows count parts courses
+
+-- what is answered where all logs can be read to their ends
+abbrev pub Turns : Flows → (count : ℕ) → List Step → (place : ℕ) → (old new : ℕ → Partition) → (was courses : List Course) → Result Bool RecoverError → Type 0
+Turns flows count steps place old new was courses (Ok moved) = HasTurned flows count steps place old new was courses moved
+Turns flows count steps place old new was courses (Err error) = IsOutside error
+
+abbrev pub GoesRound : Flows → (count : ℕ) → List Step → (ℕ → Partition) → List Course → Result Bool RecoverError → Type 0
+GoesRound flows count steps parts courses (Ok moved) = HasGoneRound flows count steps parts courses moved
+GoesRound flows count steps parts courses (Err error) = IsOutside error
+
+abbrev pub PlacesAll : {X : Type 0} → Flows → (count : ℕ) → List Step → (ℕ → Partition) → List Course → Result X RecoverError → Type 0
+PlacesAll flows count steps parts courses (Ok x) = HasPlacedAll flows count steps parts courses
+PlacesAll flows count steps parts courses (Err error) = IsOutside error
