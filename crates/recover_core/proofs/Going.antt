@@ -1,13 +1,12 @@
 -- A partition goes on by entries.
-use Rattle.std.proofs.Common.{◌≡◌, ◌≢◌, ◌∙◌, ℕ, ◌+◌, ◌*◌, ◌<◌, ◌≤◌, Bool, true, false, cond, if◌then◌else◌, List, [], ◌∷◌, ◌++◌, length, Option, Some, None, Result, Ok, Err, refl, sym, ap, subst, length-append, append_assoc, append-nil, arith}
+use Rattle.std.proofs.Common.{◌≡◌, ◌∙◌, ℕ, ◌+◌, Bool, true, false, if◌then◌else◌, List, [], ◌∷◌, ◌++◌, length, Option, Some, None, Result, Ok, Err, refl, sym, ap, subst, length-append, append_assoc, append-nil, arith}
 use Rattle.std.specs.Option.{option_and_then}
 use Rattle.std.proofs.lemmas.List.{map-append, length-map}
 use Rattle.site_model.specs.History.{Step, content_of, changes_of, IsKept}
 use Rattle.commit_log.specs.declared.reader.FrameError.{FrameError}
 use Rattle.commit_log.specs.declared.reader.FrameError.TheVariants as unread
 use Rattle.commit_log.specs.declared.reader.OpenedLog.{OpenedLog}
-use Rattle.dura_value.specs.Items.{Entry, Item}
-use Rattle.dura_value.specs.Limits.{number_limit}
+use Rattle.dura_value.specs.Items.{Entry}
 use Rattle.dura_value.specs.Reading.{◌>>=◌}
 use Rattle.log_items.specs.Entries.{incarnations_in}
 use Rattle.log_items.specs.Plain.{entry_of}
@@ -21,11 +20,11 @@ use Rattle.many_logs.specs.Placing.{Commit, are_ready, commit_accepted, states_a
 use Rattle.many_logs.proofs.Apart.{part_here, accepted_parts}
 use Rattle.many_logs.proofs.Frames.{put_then}
 use Rattle.part_items.specs.Numbered.{Next, behind}
-use Rattle.log_files.specs.Entries.{IsOpenedLog, Reads, Gives, EndsAs, IsEntry, whole_of, next_in, fuel_of, with_front, left_in}
+use Rattle.log_files.specs.Entries.{Reads, Gives, IsEntry, next_in, with_front, left_in}
 use Rattle.log_files.specs.declared.reader.Ahead.{Ahead}
 use Rattle.log_files.specs.declared.reader.Ahead.TheVariants as ahead
 use Rattle.log_files.specs.declared.reader.EntryReader.{EntryReader}
-use Rattle.recover_core.specs.Courses.{IsLog, IsWhole, IsCourse, ReadsFurther, IsBrokenLog, Counts, FitsNext, FitsCourse, IsFromFirst, IsStill, Halts, IsChain, HasTaken, HasHalted, GoesFar, to_go}
+use Rattle.recover_core.specs.Courses.{IsLog, IsWhole, IsCourse, ReadsFurther, IsBrokenLog, FitsCourse, IsStill, Halts, IsChain, HasTaken, HasHalted, GoesFar}
 use Rattle.recover_core.specs.Restored.{IsFront}
 use Rattle.recover_core.specs.declared.course.Comes.{Comes}
 use Rattle.recover_core.specs.declared.course.Comes.TheVariants.{More, Waits, Refused, End}

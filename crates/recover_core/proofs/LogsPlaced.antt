@@ -1,8 +1,8 @@
 -- What the files stand for, by how far all logs have come.
-use Rattle.std.proofs.Common.{◌≡◌, ◌∙◌, inl, inr, ℕ, zero, suc, ◌+◌, ◌<◌, ◌≤◌, Bool, true, false, List, [], ◌∷◌, ◌++◌, length, drop, Option, Some, None, Result, Ok, Err, refl, sym, ap, subst, arith}
+use Rattle.std.proofs.Common.{◌≡◌, ◌∙◌, inl, inr, ℕ, zero, suc, ◌<◌, ◌≤◌, Bool, true, false, List, [], ◌∷◌, ◌++◌, length, drop, Option, Some, None, Result, Ok, Err, refl, sym, ap, subst, arith}
 use Rattle.std.specs.Prelude.{IfSome, IfOk, OnErr, if◌then◌else◌}
 use Rattle.std.specs.List.{slice_get}
-use Rattle.std.proofs.lemmas.Bool.{cases_lt, cases_eq}
+use Rattle.std.proofs.lemmas.Bool.{cases_lt}
 use Rattle.std.proofs.lemmas.Option.{slice_get_within}
 use Rattle.site_model.specs.History.{Step, content_of}
 use Rattle.commit_log.specs.declared.reader.OpenedLog.{OpenedLog}
@@ -14,20 +14,18 @@ use Rattle.dura_model.specs.Partition.{Partition, fresh}
 use Rattle.log_files.specs.Checked.{asked_for}
 use Rattle.log_files.specs.Fitting.{IsChosen}
 use Rattle.log_items.specs.Plain.{entry_of}
-use Rattle.log_items.specs.declared.frames.Entry as read
-use Rattle.many_logs.specs.Placing.{Commit, Placing, of_partition, states_after, placed, HasPlaced, IsStuck, are_ready, commit_accepted}
+use Rattle.many_logs.specs.Placing.{Commit, Placing, of_partition, placed, HasPlaced, IsStuck, are_ready, commit_accepted}
 use Rattle.many_logs.specs.Unplaced.{Unplaced, illegal, unclosed, unplaced, why, why_of, lowest_left, next_of}
 use Rattle.many_logs.proofs.Orders.{any_order, any_order_so_far}
-use Rattle.part_items.specs.Logs.{Asked, Logs, logs_in, entries_in, or_else}
+use Rattle.part_items.specs.Logs.{Asked, logs_in, entries_in, or_else}
 use Rattle.part_steps.specs.declared.state.PartState.{PartState}
 use Rattle.part_steps.specs.States.{AreStatesOfAll, parts_in}
 use Rattle.recover_core.specs.Begun.{AllBegun, AllFromFresh}
-use Rattle.recover_core.specs.Courses.{IsLog, IsCourse, FitsNext, IsStill, IsWhole, Halts, Counts, FitsCourse, StandsNext, is_refused}
+use Rattle.recover_core.specs.Courses.{IsLog, IsCourse, FitsNext, IsStill, IsWhole, Halts, Counts, FitsCourse, is_refused}
 use Rattle.recover_core.specs.Ended.{has_ended, EndsBelow, IsEndOf, AreEndsOf}
-use Rattle.recover_core.specs.Reasons.{IsReason, IsReasonOf}
-use Rattle.recover_core.specs.Recovering.{AreLogs, IsLogOf, IsLifeOf, AreOpened, IsLeft, Opens, Refuses, CanGoOn, RestsFor, AllRest}
-use Rattle.recover_core.specs.Rounds.{AreReady, AllRead, AllWhole, ArePlaced, HasPlacedAll, AllHalt, IsOutside}
-use Rattle.recover_core.specs.Told.{AllKeep, RefusesAll, error_of, TellsLeft, TellsWhy, IsReasonOr}
+use Rattle.recover_core.specs.Recovering.{AreLogs, IsLifeOf, AreOpened, IsLeft, Opens, Refuses, CanGoOn, RestsFor, AllRest}
+use Rattle.recover_core.specs.Rounds.{AreReady, AllRead, ArePlaced, HasPlacedAll, IsOutside}
+use Rattle.recover_core.specs.Told.{AllKeep, RefusesAll, error_of, TellsLeft, IsReasonOr}
 use Rattle.recover_core.specs.declared.course.Comes.{Comes}
 use Rattle.recover_core.specs.declared.course.Comes.TheVariants.{More, Waits, Refused, End}
 use Rattle.recover_core.specs.declared.course.Course.{Course}
@@ -37,8 +35,8 @@ use Rattle.recover_core.specs.declared.error.RecoverError.TheVariants as errors
 use Rattle.recover_core.specs.declared.recovery.Opened.{Opened}
 use Rattle.log_files.specs.declared.error.FilesError.{FilesError}
 use Rattle.log_files.specs.declared.error.FilesError.TheVariants as unfit
-use Rattle.log_files.specs.Checked.{RefusesFirst, HasEntries}
-use Rattle.recover_core.proofs.LogsWhole.{logs_of, not_past, chosen_at, kept_whole_all, ended_whole_all, ended_log, ended_entries, logs_here, part_of_course, Begins, IsPart}
+use Rattle.log_files.specs.Checked.{RefusesFirst}
+use Rattle.recover_core.proofs.LogsWhole.{logs_of, not_past, chosen_at, kept_whole_all, ended_log, ended_entries, logs_here, part_of_course, Begins, IsPart}
 
 -- ---- why files are refused
 

@@ -1,5 +1,5 @@
 -- Which logs can be read to their ends, and what partitions have in their files then.
-use Rattle.std.proofs.Common.{◌≡◌, ◌∙◌, inl, inr, ℕ, ◌<◌, ◌≤◌, Bool, true, false, List, [], ◌∷◌, ◌++◌, length, get_or, Option, Some, None, Result, Ok, Err, refl, sym, ap, subst, append_assoc, append-nil, arith}
+use Rattle.std.proofs.Common.{◌≡◌, ◌∙◌, inl, inr, ℕ, ◌<◌, ◌≤◌, true, List, [], ◌∷◌, ◌++◌, length, get_or, Option, Some, None, Result, Ok, Err, refl, sym, ap, subst, append_assoc, append-nil, arith}
 use Rattle.std.specs.List.{slice_get}
 use Rattle.std.specs.Option.{option_and_then}
 use Rattle.std.proofs.lemmas.Bool.{cases_lt}
@@ -8,16 +8,15 @@ use Rattle.site_model.specs.History.{Step, content_of}
 use Rattle.commit_log.specs.declared.reader.OpenedLog.{OpenedLog}
 use Rattle.commit_log.specs.declared.states.Resting.{Resting}
 use Rattle.dura_value.specs.Items.{Entry}
-use Rattle.dura_value.specs.Reading.{◌>>=◌}
 use Rattle.log_files.specs.Checked.{HasEntries, asked_for}
-use Rattle.log_files.specs.Entries.{whole_of, left_in, with_front, EndsAs, Reads}
-use Rattle.log_files.specs.Fitting.{IsOwn, IsChosen, logs_with}
+use Rattle.log_files.specs.Entries.{whole_of, left_in, with_front, Reads}
+use Rattle.log_files.specs.Fitting.{IsOwn, IsChosen, Chooses, logs_with}
 use Rattle.log_files.specs.declared.reader.EntryReader.{EntryReader}
 use Rattle.log_items.specs.Plain.{entry_of}
 use Rattle.log_items.specs.declared.frames.Entry as read
 use Rattle.part_items.specs.Logs.{Asked, Logs, log_in, logs_in, entries_in}
-use Rattle.recover_core.specs.Begun.{IsBegun, AllBegun}
-use Rattle.recover_core.specs.Courses.{IsLog, IsWhole, IsCourse}
+use Rattle.recover_core.specs.Begun.{AllBegun}
+use Rattle.recover_core.specs.Courses.{IsOpenedOr, IsFromFirst, IsLog, IsWhole}
 use Rattle.recover_core.specs.Ended.{has_ended, EndsBelow}
 use Rattle.recover_core.specs.Recovering.{IsLogOf}
 use Rattle.recover_core.specs.Rounds.{AllRead, AllWhole}
@@ -39,6 +38,15 @@ abbrev pub logs_of : List Course → ℕ → Option OpenedLog
 logs_of courses place = option_and_then (λ (c : Course). c.log) (slice_get courses place)
 
 -- ---- one log
+
+-- a log that is found was opened, and begins with its partition's first entry
+pub chosen_opened : (asked : Asked) (steps : List Step) (log : Option OpenedLog) → IsChosen asked steps log → IsOpenedOr steps log
+chosen_opened asked steps None chosen = tt
+chosen_opened asked steps (Some log) own = own.opened
+
+pub chosen_first : (first second log : Option OpenedLog) → Chooses first second log → IsFromFirst log
+chosen_first first second None chooses = tt
+chosen_first first second (Some log) chooses = chooses.0
 
 module _ (asked : Asked) (steps : List Step) where
   abbrev pub logs_here : Logs

@@ -1,5 +1,5 @@
 -- The next entry of a partition is tried.
-use Rattle.std.proofs.Common.{◌≡◌, ◌∙◌, ℕ, ◌+◌, ◌<◌, Bool, true, false, List, [], ◌∷◌, ◌++◌, length, Option, Some, None, Ok, Err, refl, sym, ap, subst, arith}
+use Rattle.std.proofs.Common.{◌≡◌, ◌∙◌, ℕ, ◌+◌, true, false, List, [], ◌∷◌, ◌++◌, length, Option, Some, Ok, refl, sym, ap, subst}
 use Rattle.site_model.specs.History.{Step}
 use Rattle.commit_log.specs.declared.reader.FrameError.{FrameError}
 use Rattle.commit_log.specs.declared.reader.OpenedLog.{OpenedLog}

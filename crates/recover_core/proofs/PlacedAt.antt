@@ -1,5 +1,5 @@
 -- An entry is placed on the state of its partition, which stands among all.
-use Rattle.std.proofs.Common.{◌≡◌, ◌≢◌, ◌∙◌, ℕ, ◌<◌, ◌+◌, Bool, true, false, List, length, slice_index_or, Option, Some, None, Ok, Err, refl, sym, ap, subst, arith}
+use Rattle.std.proofs.Common.{◌≡◌, ◌≢◌, ◌∙◌, ℕ, ◌<◌, ◌+◌, true, false, List, length, slice_index_or, Option, Some, None, Ok, Err, sym, ap, subst, arith}
 use Rattle.std.proofs.Math.ListN.{set}
 use Rattle.std.proofs.lemmas.List.{length-set}
 use Rattle.site_model.specs.History.{Step}

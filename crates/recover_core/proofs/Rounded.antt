@@ -1,5 +1,5 @@
 -- All partitions went on, one after the other.
-use Rattle.std.proofs.Common.{◌≡◌, ◌≢◌, ◌∙◌, inl, inr, ℕ, ◌+◌, ◌<◌, ◌≤◌, ◌||◌, Bool, true, false, List, length, Option, Some, Result, Ok, refl, sym, ap, subst, arith}
+use Rattle.std.proofs.Common.{◌≡◌, inl, inr, ℕ, ◌+◌, ◌<◌, ◌≤◌, ◌||◌, Bool, true, false, List, length, Option, Some, Result, refl, sym, subst, arith}
 use Rattle.std.specs.List.{slice_get}
 use Rattle.std.proofs.lemmas.Bool.{cases_eq}
 use Rattle.std.proofs.lemmas.Option.{slice_get_within}
@@ -10,7 +10,7 @@ use Rattle.dura_model.specs.Partition.{Partition}
 use Rattle.part_steps.specs.declared.state.PartState.{PartState}
 use Rattle.part_steps.specs.States.{parts_in}
 use Rattle.recover_core.specs.Courses.{Halts}
-use Rattle.recover_core.specs.Rounds.{AllRead, AllWhole, ArePlaced, HasLess, HasTurned, Turns, HasGoneRound, GoesRound, HasPlacedAll, all_to_go}
+use Rattle.recover_core.specs.Rounds.{AllRead, AllWhole, ArePlaced, HasLess, HasTurned, Turns, HasGoneRound, GoesRound, HasPlacedAll}
 use Rattle.recover_core.specs.declared.course.Course.{Course}
 use Rattle.recover_core.specs.declared.error.RecoverError.{RecoverError}
 

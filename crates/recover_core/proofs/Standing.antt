@@ -5,17 +5,13 @@ use Rattle.flow_syntax.specs.Syntax.{Flows}
 use Rattle.dura_model.specs.Legal.{Legal}
 use Rattle.dura_model.specs.Partition.{Partition, shown}
 use Rattle.dura_model.specs.Steps.{Label}
-use Rattle.dura_model.specs.World.{World}
-use Rattle.log_files.specs.Checked.{asked_for, RefusesFirst}
-use Rattle.log_files.specs.declared.error.FilesError.{FilesError}
-use Rattle.log_files.specs.declared.error.FilesError.TheVariants as unfit
 use Rattle.many_logs.specs.Placing.{HasPlaced, of_partition, placed}
 use Rattle.many_logs.specs.Stands.{FilesStand}
-use Rattle.many_logs.specs.Unplaced.{Unplaced, illegal, unclosed, unplaced}
+use Rattle.many_logs.specs.Unplaced.{Unplaced, illegal, unclosed}
 use Rattle.many_logs.proofs.Orders.{any_order}
 use Rattle.many_logs.proofs.OrdersStand.{placed_in_order}
 use Rattle.many_logs.proofs.Unplaced.{none_has_none}
-use Rattle.part_items.specs.Logs.{Logs, Refusal, refused, entries_in, logs_in}
+use Rattle.part_items.specs.Logs.{Logs, Refusal, refused, entries_in}
 use Rattle.part_steps.specs.States.{parts_in}
 use Rattle.recover_core.specs.Recovering.{AreLogs, IsLeft, Opens, IsNotRefused, ShowsRun}
 use Rattle.recover_core.specs.declared.error.RecoverError.{RecoverError}

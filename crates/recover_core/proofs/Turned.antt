@@ -1,5 +1,5 @@
 -- One of the partitions went on.
-use Rattle.std.proofs.Common.{◌≡◌, ◌≢◌, ◌∙◌, inl, inr, ℕ, zero, suc, ◌+◌, ◌<◌, ◌≤◌, Bool, true, false, List, [], ◌∷◌, ◌++◌, length, get_or, Option, Some, None, Result, Ok, Err, refl, sym, ap, subst, append-nil, arith}
+use Rattle.std.proofs.Common.{◌≡◌, ◌≢◌, ◌∙◌, inl, inr, ℕ, zero, suc, ◌+◌, ◌<◌, Bool, List, [], ◌∷◌, ◌++◌, length, get_or, Option, Some, None, sym, ap, subst, append-nil, arith}
 use Rattle.std.proofs.Math.ListN.{set}
 use Rattle.std.specs.List.{slice_get}
 use Rattle.std.proofs.lemmas.Bool.{cases_eq}
@@ -12,11 +12,11 @@ use Rattle.commit_log.specs.declared.reader.OpenedLog.{OpenedLog}
 use Rattle.dura_value.specs.Items.{Entry}
 use Rattle.flow_syntax.specs.Syntax.{Flows}
 use Rattle.dura_model.specs.Partition.{Partition, fresh}
-use Rattle.many_logs.specs.Placing.{Commit, states_after, of_partition, commits_at, AllBelow}
+use Rattle.many_logs.specs.Placing.{states_after, of_partition, commits_at}
 use Rattle.many_logs.proofs.Frames.{of_both, of_own, of_other, below_both, below_at, put_then}
 use Rattle.many_logs.proofs.Own.{own_chain}
 use Rattle.part_steps.specs.declared.state.PartState.{PartState}
-use Rattle.part_steps.specs.States.{AreStatesOfAll, parts_in}
+use Rattle.part_steps.specs.States.{parts_in}
 use Rattle.recover_core.specs.Courses.{IsCourse, IsWhole, ReadsFurther, IsBrokenLog, IsStill, IsChain, Halts, FitsCourse, GoesFar, GoesFitting, to_go}
 use Rattle.recover_core.specs.Rounds.{AreReady, all_to_go, HasLess, AllRead, IsOutside, error_in, IsOfRun, ArePlaced, HasTurned}
 use Rattle.recover_core.specs.declared.course.Course.{Course}

@@ -1,5 +1,5 @@
 -- A partition goes on, entry after entry.
-use Rattle.std.proofs.Common.{◌≡◌, ◌∙◌, ℕ, ◌+◌, ◌<◌, ◌≤◌, Bool, true, false, List, ◌++◌, length, Option, Result, Ok, Err, refl, sym, ap, subst, arith}
+use Rattle.std.proofs.Common.{◌≡◌, ◌∙◌, ℕ, Bool, true, false, List, ◌++◌, length, Option, Result, Ok, Err, refl, sym, subst, arith}
 use Rattle.site_model.specs.History.{Step}
 use Rattle.commit_log.specs.declared.reader.FrameError.{FrameError}
 use Rattle.commit_log.specs.declared.reader.OpenedLog.{OpenedLog}

@@ -2,7 +2,7 @@
 use Rattle.std.specs.Prelude.{◌≡◌, ℕ, ◌<◌, List, length, Bool, true, false, Option, Some, None}
 use Rattle.std.specs.List.{slice_get}
 use Rattle.recover_core.specs.declared.course.Comes.{Comes}
-use Rattle.recover_core.specs.declared.course.Comes.TheVariants.{More, Waits, Refused, End}
+use Rattle.recover_core.specs.declared.course.Comes.TheVariants.{End}
 use Rattle.recover_core.specs.declared.course.Course.{Course}
 use Rattle.recover_core.specs.declared.ending.Life.{Life}
 

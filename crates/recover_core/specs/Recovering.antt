@@ -8,7 +8,7 @@ use Rattle.commit_log.specs.Outcomes.{RestsAs}
 use Rattle.dura_value.specs.Items.{Entry}
 use Rattle.dura_model.specs.Entries.{next_incarnation}
 use Rattle.dura_model.specs.Legal.{Legal}
-use Rattle.dura_model.specs.Partition.{Partition, shown}
+use Rattle.dura_model.specs.Partition.{shown}
 use Rattle.dura_model.specs.Steps.{Label}
 use Rattle.flow_syntax.specs.Syntax.{Flows}
 use Rattle.log_files.specs.Checked.{asked_for, RefusesFirst}

@@ -1,6 +1,5 @@
 -- What the steps of a recovery tell of why nothing is recovered.
 use Rattle.std.specs.Prelude.{◌≡◌, ◌⊎◌, ℕ, ◌<◌, List, Option, None, Result, Ok, Err}
-use Rattle.dura_value.specs.Items.{Entry}
 use Rattle.flow_syntax.specs.Syntax.{Flows}
 use Rattle.dura_model.specs.Partition.{Partition}
 use Rattle.log_files.specs.Checked.{asked_for, HasEntries, RefusesFirst}

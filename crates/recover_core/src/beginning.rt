@@ -23,7 +23,10 @@ pub(crate) fn fresh_states(alloc: Global, count: u32) -> Result<Vec<PartState>, 
 {
     let mut states = Vec::new(alloc);
     'partitions: for partition in 0..count {
-        if states.push(PartState::new(alloc, count, partition)).is_err() {
+        if states
+            .push(PartState::new(alloc, count, partition))
+            .is_err()
+        {
             return Err(AllocError);
         }
     }

@@ -72,12 +72,7 @@ fn check<V: Site>(
 }
 
 /// Why files are refused whose fronts don't fit.
-fn why_unfit<V: Site>(
-    alloc: Global,
-    site: &mut V,
-    digest: u64,
-    fronts: &[LogFiles],
-) -> RecoverError
+fn why_unfit<V: Site>(alloc: Global, site: &mut V, digest: u64, fronts: &[LogFiles]) -> RecoverError
     requires few { length fronts.now ≤ 32 }
     requires unfit { FitAll (length fronts.now) digest fronts.now → ⊥ }
     ensures tells { V.tells site.new → V.tells site.old }
@@ -229,13 +224,7 @@ fn recover_from<V: Site, R: Reactions>(
         return with_lives(alloc, states, courses);
     };
     match check(alloc, site, digest, fronts) {
-        Ok(()) => Err(why_next(
-            alloc,
-            reactions,
-            &states,
-            place,
-            &courses[place].comes,
-        )),
+        Ok(()) => Err(why_next(alloc, reactions, &states, place, &courses[place].comes)),
         Err(error) => Err(error),
     }
 }

@@ -21,7 +21,7 @@ partitions-preserved c =
     record {
       many = ap length items ∙ length-append before (state ∷ []) ∙ ap (λ (n : ℕ). n + 1) inv.many;
       each = subst (λ (l : List PartState). (place : ℕ) (s : PartState) → slice_get l place ≡ Some s → IsFresh c.args.count place s) (sym items)
-      (pushed (IsFresh c.args.count) before state inv.each (subst (λ (p : ℕ). IsFresh c.args.count p state) (sym inv.many) here));
+          (pushed (IsFresh c.args.count) before state inv.each (subst (λ (p : ℕ). IsFresh c.args.count p state) (sym inv.many) here));
     }
 
 pub returns-clause-all : goal.returns-clause-all

@@ -1,7 +1,6 @@
-use Rattle.std.proofs.Common.{◌≡◌, ◌∙◌, ◌++◌, ◌∷◌, ◌+◌, [], ℕ, List, length, refl, sym, ap, subst, arith, append_assoc, append-nil}
+use Rattle.std.proofs.Common.{◌≡◌, ◌∙◌, ◌++◌, ◌∷◌, [], List, length, refl, sym, ap, subst, arith, append_assoc, append-nil}
 use Rattle.recover_core.specs.Ended.{AreEndsOf}
 use Rattle.recover_core.specs.declared.course.Course.{Course}
-use Rattle.recover_core.specs.declared.ending.Life.{Life}
 use Rattle.recover_core.proofs.LogsEnded.{no_ends, one_more_end}
 use Rattle.recover_core.proofs.Pushed.{pushed_items}
 use Rattle.recover_core.proofs.ending.ends_of.Goals as goal

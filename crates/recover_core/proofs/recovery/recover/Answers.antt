@@ -1,27 +1,61 @@
-use Rattle.std.proofs.Common.{rules, ◌≡◌, ◌⊎◌, ◌≤◌, ◌<◌, Err, OnOk, OnErr, IfOk, length, ℕ, ◌+◌, ◌-◌, ◌*◌, ◌/◌, ◌%◌, Bool, true, false, nat_eq, nat_lt, List, [], ◌∷◌, ◌++◌, slice_index_or, slice_set, bit_and, bit_or, Fits, w8, w32, w64, Bor, MutBor}
-use Rattle.site_model.specs.History.{content_of}
-use Rattle.site_model.specs.Calls.{HasRisen}
+use Rattle.std.proofs.Common.{◌≡◌, ◌∙◌, ℕ, List, length, Ok, sym, ap, subst}
+use Rattle.std.specs.Prelude.{IfOk, IfSome}
+use Rattle.site_model.specs.History.{Step, content_of}
 use Rattle.log_files.specs.Checked.{AllOpen, FitAll}
-use Rattle.log_files.specs.Fronts.{synced_to, AreSyncs}
-use Rattle.part_steps.specs.States.{AreStatesOfAll, parts_in}
-use Rattle.recover_core.specs.Begun.{AllBegun, AllFromFresh}
-use Rattle.recover_core.specs.Ended.{EndsBelow, AreEndsOf}
-use Rattle.recover_core.specs.Recovering.{Opens, CanGoOn, AllRest}
-use Rattle.recover_core.specs.Told.{error_of, ChecksAll, RefusesAll, WhyBroken, TellsLeft, TellsWhy}
+use Rattle.log_files.specs.declared.opening.LogFiles.{LogFiles}
+use Rattle.recover_core.specs.Begun.{AllBegun}
+use Rattle.recover_core.specs.Recovering.{Opens, AllRest}
+use Rattle.recover_core.specs.Told.{RefusesAll}
+use Rattle.recover_core.proofs.LogsPlaced.{all_refuses}
 use Rattle.recover_core.proofs.recovery.recover.Goals as goal
 
--- src/recovery.rt:276:32
 pub why_unfit-requires-clause-unfit : goal.why_unfit-requires-clause-unfit
-why_unfit-requires-clause-unfit g c = ?
+why_unfit-requires-clause-unfit g c = λ fit.
+    c.in-Ok-None.ensures.refused (ap (λ o. Ok o) c.in-Ok-None.field-0-is) (subst (λ (l : List LogFiles). FitAll (length l) c.args.digest l) (c.deref-in-Ok-None.ensures.value ∙ sym c.deref.ensures.value) fit)
 
--- src/recovery.rt:276:21
 pub returns-in-Ok-None-clause-opens : goal.returns-in-Ok-None-clause-opens
-returns-in-Ok-None-clause-opens g c = ?
+returns-in-Ok-None-clause-opens g c tells =
+    let flows = g.R.Reactions.flows c.args.reactions.now in
+    let old = g.V.Site.history c.args.site.now in
+    let mid = g.V.Site.history c.open_files.new.site in
+    let digest = c.args.digest in
+    let opened = c.in-Ok.ensures.open (c.why_unfit.ensures.tells tells) in
+    let here = subst (λ (l : List LogFiles). AllOpen mid l → RefusesAll (length l) digest (λ f. content_of f mid) c.why_unfit.result) c.deref-in-Ok-None.ensures.value (c.why_unfit.ensures.says tells) opened in
+    let asked = subst (λ (n : ℕ). RefusesAll n digest (λ f. content_of f mid) c.why_unfit.result) c.in-Ok.ensures.many here in
+    let same : ◌≡◌ {A = ℕ → List ℕ} (λ f. content_of f mid) (λ f. content_of f old) = λ i f. c.in-Ok.ensures.contents f i in
+    all_refuses flows c.args.count digest (λ f. content_of f old) c.why_unfit.result (subst (λ (files : ℕ → List ℕ). RefusesAll c.args.count digest files c.why_unfit.result) same asked)
 
--- src/recovery.rt:247:1
 pub returns-clause-opens : goal.returns-clause-opens
-returns-clause-opens g c = ?
+returns-clause-opens g c tells =
+    let flows = g.R.Reactions.flows c.args.reactions.now in
+    let old = g.V.Site.history c.args.site.now in
+    let mid = g.V.Site.history c.open_files.new.site in
+    let digest = c.args.digest in
+    let result = c.recover_from.result in
+    let courses = c.in-Ok-Some.courses in
+    let opened = c.in-Ok.ensures.open (c.recover_from.ensures.tells tells) in
+    let to_first = subst (λ (l : List LogFiles). AllOpen mid l) (sym c.deref.ensures.value) opened in
+    let begun_here = subst (λ o. IfSome o (λ found. AllBegun (length c.deref.result.now) digest mid found.items)) c.in-Ok-Some.field-0-is (c.in-Ok-Some.ensures.begun mid to_first) in
+    let begun = subst (λ (l : List LogFiles). AllBegun (length l) digest mid courses.items) c.deref.ensures.value begun_here in
+    let here = subst (λ (l : List LogFiles). AllOpen mid l → AllBegun (length l) digest mid courses.items → Opens flows (length l) digest (λ f. content_of f mid) result) c.deref-2.ensures.value (c.recover_from.ensures.opens tells) opened begun in
+    let asked = subst (λ (n : ℕ). Opens flows n digest (λ f. content_of f mid) result) c.in-Ok.ensures.many here in
+    let same : ◌≡◌ {A = ℕ → List ℕ} (λ f. content_of f mid) (λ f. content_of f old) = λ i f. c.in-Ok.ensures.contents f i in
+    subst (λ (files : ℕ → List ℕ). Opens flows c.args.count digest files result) same asked
 
--- src/recovery.rt:247:1
 pub returns-clause-rests : goal.returns-clause-rests
-returns-clause-rests g c = ?
+returns-clause-rests g c tells =
+    let old = g.V.Site.history c.args.site.now in
+    let mid = g.V.Site.history c.open_files.new.site in
+    let digest = c.args.digest in
+    let result = c.recover_from.result in
+    let courses = c.in-Ok-Some.courses in
+    let opened = c.in-Ok.ensures.open (c.recover_from.ensures.tells tells) in
+    let to_first = subst (λ (l : List LogFiles). AllOpen mid l) (sym c.deref.ensures.value) opened in
+    let begun_here = subst (λ o. IfSome o (λ found. AllBegun (length c.deref.result.now) digest mid found.items)) c.in-Ok-Some.field-0-is (c.in-Ok-Some.ensures.begun mid to_first) in
+    let begun = subst (λ (l : List LogFiles). AllBegun (length l) digest mid courses.items) c.deref.ensures.value begun_here in
+    let Rests : List Step → ℕ → (ℕ → List ℕ) → Type 0 = λ steps count files. IfOk result (λ o. AllRest steps count digest files o.lives.items) in
+    let here = subst (λ (l : List LogFiles). AllBegun (length l) digest mid courses.items → Rests mid (length l) (λ f. content_of f mid)) c.deref-2.ensures.value (c.recover_from.ensures.rests tells) begun in
+    let asked = subst (λ (n : ℕ). Rests mid n (λ f. content_of f mid)) c.in-Ok.ensures.many here in
+    let same : ◌≡◌ {A = ℕ → List ℕ} (λ f. content_of f mid) (λ f. content_of f old) = λ i f. c.in-Ok.ensures.contents f i in
+    let told = subst (λ (files : ℕ → List ℕ). Rests mid c.args.count files) same asked in
+    subst (λ (steps : List Step). Rests steps c.args.count (λ f. content_of f old)) (sym c.recover_from.ensures.unchanged) told

@@ -1,7 +1,6 @@
-use Rattle.std.proofs.Common.{◌≡◌, ◌∙◌, ◌<◌, inl, inr, false, ℕ, List, length, Ok, Err, Some, sym, ap, subst, arith}
+use Rattle.std.proofs.Common.{◌≡◌, ◌∙◌, ◌<◌, inl, inr, false, ℕ, List, length, Ok, Some, sym, ap, subst, arith}
 use Rattle.std.specs.List.{slice_get}
 use Rattle.std.proofs.lemmas.Option.{slice_get-get_or}
-use Rattle.dura_model.specs.Partition.{Partition, fresh}
 use Rattle.site_model.specs.History.{Step, content_of}
 use Rattle.log_files.specs.Checked.{AllOpen}
 use Rattle.part_steps.specs.declared.state.PartState.{PartState}

@@ -1,4 +1,4 @@
-use Rattle.std.proofs.Common.{◌≡◌, ◌∙◌, ◌≤◌, length, Bool, true, false, Ok, Err, subst, arith}
+use Rattle.std.proofs.Common.{◌∙◌, length, Ok, Err, arith}
 use Rattle.part_steps.specs.States.{parts_in}
 use Rattle.recover_core.proofs.Rounded.{reads_over, rounds_over, all_placed}
 use Rattle.recover_core.proofs.rounds.place_all.Goals as goal

@@ -1,4 +1,4 @@
-use Rattle.std.proofs.Common.{◌≡◌, ◌∙◌, ◌≤◌, ◌<◌, ◌+◌, ◌||◌, ℕ, length, Ok, Err, refl, sym, ap, subst, arith}
+use Rattle.std.proofs.Common.{◌∙◌, ◌≤◌, length, Ok, Err, arith}
 use Rattle.part_steps.specs.States.{parts_in}
 use Rattle.recover_core.proofs.Rounded.{round_on, round_over, less_on, reads_over, turns_over}
 use Rattle.recover_core.proofs.rounds.round.Goals as goal

@@ -1,6 +1,4 @@
-use Rattle.std.proofs.Common.{◌≡◌, ◌∙◌, ◌<◌, ℕ, List, length, slice_set, Option, Err, sym, ap, subst, arith}
-use Rattle.site_model.specs.History.{Step}
-use Rattle.commit_log.specs.declared.reader.OpenedLog.{OpenedLog}
+use Rattle.std.proofs.Common.{◌∙◌, ◌<◌, List, length, slice_set, sym, ap, subst, arith}
 use Rattle.dura_model.specs.Partition.{fresh}
 use Rattle.many_logs.specs.Placing.{of_partition}
 use Rattle.many_logs.proofs.Own.{own_chain}
