@@ -5,17 +5,29 @@ use log_items::{Entry, Frame, Item, Items};
 use std::alloc::Global;
 use std::process::Abort;
 
-/// The message that raises an event with this text.
-pub(crate) fn message_of(rt: &impl Abort, alloc: Global, text: &str) -> Message {
-    let from = Id::read(alloc, b"#a").expect(rt, "a client");
-    let to = Id::read(alloc, b"Flow/x").expect(rt, "a flow");
+/// A client's request with this number, which raises an event with this text at an instance.
+pub(crate) fn request_of(
+    rt: &impl Abort,
+    alloc: Global,
+    client: &[u8],
+    instance: &[u8],
+    number: u32,
+    text: &str,
+) -> Message {
+    let from = Id::read(alloc, client).expect(rt, "a client");
+    let to = Id::read(alloc, instance).expect(rt, "an instance");
     let event = Name::of(alloc, b"answer").expect(rt, "memory");
     let value = Value::Text(Text::read(alloc, text.as_bytes()).expect(rt, "a text"));
     Message {
         from,
         to,
-        body: Body::Raise(event, value, 1),
+        body: Body::Raise(event, value, number),
     }
+}
+
+/// The message that raises an event with this text.
+pub(crate) fn message_of(rt: &impl Abort, alloc: Global, text: &str) -> Message {
+    request_of(rt, alloc, b"#a", b"Flow/x", 1, text)
 }
 
 fn number_in(rt: &impl Abort, text: &str) -> u64 {

@@ -40,7 +40,7 @@ fn told(rt: &impl Abort, alloc: Global, found: Result<(), Unmet>) -> String {
 }
 
 /// What a line says is so, where this is settled.
-fn check_line(rt: &impl Abort, alloc: Global, ledgers: &[Ledger], line: &str)
+pub(crate) fn check_line(rt: &impl Abort, alloc: Global, ledgers: &[Ledger], line: &str)
     requires { AreUnlost ledgers.now }
 {
     let (items, wanted) = line.split_once(": ").expect(rt, "what it comes to");

@@ -12,7 +12,7 @@ use std::collections::VecDeque;
 use std::process::Abort;
 
 /// Of partition 0 nothing is settled.
-fn reader(rt: &impl Abort, alloc: Global) -> Ledger
+pub(crate) fn reader(rt: &impl Abort, alloc: Global) -> Ledger
     ensures { IsUnlost (ledger_of result) (floors_in result) }
 {
     Ledger::recovered(
@@ -45,7 +45,7 @@ fn stream(rt: &impl Abort, alloc: Global) -> Stream
 }
 
 /// Entries of these incarnations, one after another.
-fn past_of(rt: &impl Abort, alloc: Global, incarnations: &[u64]) -> Past
+pub(crate) fn past_of(rt: &impl Abort, alloc: Global, incarnations: &[u64]) -> Past
     ensures { result ≡ incarnations.now }
 {
     let mut past = Past::none(alloc);
@@ -78,7 +78,7 @@ fn sender(rt: &impl Abort, alloc: Global) -> Ledger
     Ledger::recovered(alloc, past, floors, nexts, readers, boxes)
 }
 
-fn both(rt: &impl Abort, alloc: Global, first: Ledger, second: Ledger) -> Vec<Ledger>
+pub(crate) fn both(rt: &impl Abort, alloc: Global, first: Ledger, second: Ledger) -> Vec<Ledger>
     ensures { result.items ≡ first ∷ second ∷ [] }
 {
     vec![in alloc; first, second].expect(rt, "memory")

@@ -39,7 +39,7 @@ use Rattle.part_items.specs.Numbered.{Next, behind, IsNumbered}
 
 -- ---- lists
 
-first_drop : (xs : List Posted) (n : ℕ) (x : Posted) → slice_get xs n ≡ Some x → first_of (drop n xs) ≡ Some x
+pub first_drop : (xs : List Posted) (n : ℕ) (x : Posted) → slice_get xs n ≡ Some x → first_of (drop n xs) ≡ Some x
 first_drop [] n x is = absurd (cc is)
 first_drop (y ∷ xs) zero x is = is
 first_drop (y ∷ xs) (suc n) x is = first_drop xs n x is
@@ -50,7 +50,7 @@ entry_at (entry ∷ entries) zero incarnation is = (entry, refl, cc is)
 entry_at (entry ∷ entries) (suc k) incarnation is = entry_at entries k incarnation is
 
 -- numbered entries stand at their positions
-numbered_at : (next : Next) (entries : List Entry) (i : ℕ) (entry : Entry) → IsNumbered next entries → slice_get entries i ≡ Some entry → entry.position ≡ next.position + i
+pub numbered_at : (next : Next) (entries : List Entry) (i : ℕ) (entry : Entry) → IsNumbered next entries → slice_get entries i ≡ Some entry → entry.position ≡ next.position + i
 numbered_at next [] i entry numbered is = absurd (cc is)
 numbered_at next (first ∷ entries) zero entry numbered is = let same : first ≡ entry = cc is in let e : first.position ≡ next.position + 0 = omega (arith, numbered.0) in subst (λ (x : Entry). x.position ≡ next.position + 0) same e
 numbered_at next (first ∷ entries) (suc i) entry numbered is = let rest = numbered_at (behind first) entries i entry numbered.2 is in omega (arith, rest, numbered.0)
@@ -68,7 +68,7 @@ among_all q (one ∷ run) i entry is = by (λ j at. among_all q run j entry at) 
     by behind true same (suc i) at = Contains-append_right (identity_at one.partition one.entry ∷ []) (identities_in run) (identity_at q entry) (behind i at)
     by behind false same i at = Contains-append_right (identity_at one.partition one.entry ∷ []) (identities_in run) (identity_at q entry) (behind i at)
 
-own_among : (run : List Commit) (e : Identity) (k : ℕ) → slice_get (identities_in run) k ≡ Some e → (i : ℕ) × (entry : Entry) × (slice_get (of_partition e.partition run) i ≡ Some entry) × (identity_at e.partition entry ≡ e)
+pub own_among : (run : List Commit) (e : Identity) (k : ℕ) → slice_get (identities_in run) k ≡ Some e → (i : ℕ) × (entry : Entry) × (slice_get (of_partition e.partition run) i ≡ Some entry) × (identity_at e.partition entry ≡ e)
 own_among [] e k is = absurd (cc is)
 own_among (one ∷ run) e zero is =
     let same : identity_at one.partition one.entry ≡ e = cc is in
@@ -93,7 +93,7 @@ below_or a b = by (ltb a b) refl
 and_both : (a b : Bool) → a ≡ true → b ≡ true → (a && b) ≡ true
 and_both a b one other = ap (λ (x : Bool). x && b) one ∙ other
 
-slice_of : {X : Type 0} (xs : List X) (i : ℕ) (x : X) → i < length xs → get_or xs i x ≡ x → slice_get xs i ≡ Some x
+pub slice_of : {X : Type 0} (xs : List X) (i : ℕ) (x : X) → i < length xs → get_or xs i x ≡ x → slice_get xs i ≡ Some x
 slice_of xs i x low is = slice_get-get_or xs i x low ∙ ap (λ (y : _). Some y) is
 
 same_identity : (q : ℕ) (entry : Entry) (e : Identity) → q ≡ e.partition → entry.incarnation ≡ e.incarnation → entry.position ≡ e.position → identity_at q entry ≡ e

@@ -1,17 +1,18 @@
 //! Laws. The functions do nothing.
 
-ghost use Rattle.std.specs.Prelude.{◌≡◌, ◌≢◌, ◌≤◌, ℕ, List, [], ◌++◌, length, Some};
+ghost use Rattle.std.specs.Prelude.{◌≡◌, ◌≢◌, ◌<◌, ◌≤◌, ℕ, List, [], ◌++◌, length, Some};
 ghost use Rattle.dura_value.specs.Items.{Entry};
 ghost use Rattle.hub_store.specs.Moments.{AtEveryMoment};
 ghost use Rattle.hub_store.specs.Origin.{Origin};
 ghost use Rattle.hub_store.specs.Trail.{Settled, Said, of_part, settling, settled_at};
-ghost use Rattle.many_logs.specs.Placing.{states_after};
+ghost use Rattle.many_logs.specs.Placing.{states_after, of_partition, AllBelow};
 ghost use Rattle.many_rules.specs.Rules.{Rules, Follows, Answers, Passes, GoesFrom, commits_of, known_of};
-ghost use Rattle.dura_model.specs.Partition.{Partition, fresh};
+ghost use Rattle.dura_model.specs.Partition.{Partition, nobody, fresh};
 ghost use Rattle.many_logs.specs.Labels.{AreNumbered};
 ghost use Rattle.many_rules.specs.Leaves.{Begins, BeginsBehind, StandsOn};
 ghost use Rattle.gated_store.specs.Follows.{Follows as GateFollows};
-ghost use Rattle.many_rules.specs.Ledgers.{ledgers};
+ghost use Rattle.gated_store.specs.Kept.{AreRecovered};
+ghost use Rattle.many_rules.specs.Ledgers.{ledger_of, ledgers};
 ghost use Rattle.many_rules.specs.Makes.{Makes};
 ghost use Rattle.site_model.specs.History.{Step, IsImage, back_to};
 
@@ -75,4 +76,24 @@ pub fn each_crash_leaves_a_run()
         → length o.steps ≤ moment → moment ≤ length now → (files : ℕ → List ℕ)
         → IsImage (back_to moment now) files
         → StandsOn rules latest digest o (back_to moment now) (settled_at moment trail) files }
+{}
+
+/// Before anything is settled others see of each partition what the entries that were recovered made, and nobody took in a message from
+/// past the count.
+pub fn recovered_ledgers()
+    ensures shown { (rules : Rules) (partition : ℕ) → partition < rules.count
+        → ledgers rules partition []
+        ≡ ledger_of (of_partition partition rules.recovered) (rules.begin partition) }
+    ensures unread { (rules : Rules)
+        → states_after rules.flows rules.count fresh rules.recovered ≡ Some rules.begin
+        → AreNumbered fresh rules.recovered → (partition source : ℕ) → partition < rules.count
+        → rules.count ≤ source → ((rules.begin partition).inboxes source).reader ≡ nobody }
+{}
+
+/// Each message that stands in a stream when a call begins was sent by an entry that was recovered, and which is known.
+pub fn recovered_streams_are_known()
+    ensures { (rules : Rules)
+        → states_after rules.flows rules.count fresh rules.recovered ≡ Some rules.begin
+        → AreNumbered fresh rules.recovered → AllBelow rules.count rules.recovered
+        → AreRecovered (ledgers rules) }
 {}

@@ -1,0 +1,3 @@
+pub mod CopiesAreFirst
+pub mod LedgerFitsStore
+pub mod LedgerShowsState
