@@ -81,6 +81,10 @@ stopped r P found error stops is same = subst P same (IfErr-at_err P is stops)
 
 pub stops_shown : (files : ℕ → List ℕ) (count many : ℕ) (flows own : Flows) (states : ℕ → Partition) (old mid now : List ℕ) (error : ShowError) → AreThere files count flows states → own ≡ flows → many ≡ count → mid ≡ old → StopsInTable own (shown own many states) error mid now
     → (f : Flows) × (p : ℕ → Partition) × AreThere files count f p × StopsInTable f (shown f count p) error old now
-stops_shown files count many flows own states old mid now error there is long same stops =
-    (flows, states, there, subst (λ (t : List ℕ). StopsInTable flows (shown flows count states) error t now) same
-    (subst (λ (n : ℕ). StopsInTable flows (shown flows n states) error mid now) long (subst (λ (f : Flows). StopsInTable f (shown f many states) error mid now) is stops)))
+stops_shown files count many flows own states old mid now error there is long same stops = (
+  flows,
+  states,
+  there,
+  subst (λ (t : List ℕ). StopsInTable flows (shown flows count states) error t now) same
+      (subst (λ (n : ℕ). StopsInTable flows (shown flows n states) error mid now) long (subst (λ (f : Flows). StopsInTable f (shown f many states) error mid now) is stops)),
+)

@@ -1,12 +1,13 @@
-use Rattle.std.proofs.Common.{◌∙◌, inl, inr, ℕ, List, Ok, Err, refl, sym, ap, subst, le_trans, arith}
+use Rattle.std.proofs.Common.{◌∙◌, inl, inr, ℕ, List, length, Ok, Err, refl, sym, ap, subst, le_trans, arith}
 use Rattle.std.proofs.Math.Nat.{le_of_eq}
 use Rattle.engine_run.specs.Opening.{IsLogCause, RefusesAs}
-use Rattle.engine_run.specs.Showing.{ShowsAs}
+use Rattle.engine_run.specs.Showing.{ShowsAs, AreThere}
 use Rattle.engine_run.proofs.Early.{differ}
 use Rattle.engine_run.proofs.Shown.{syncs_tape, flows_shown, logs_shown, are_there, table_shown, stopped, stops_shown}
 use Rattle.engine_run.proofs.showing.show.Goals as goal
 use Rattle.flow_syntax.specs.Syntax.{Flows}
 use Rattle.flow_syntax.specs.Views.{flows_of}
+use Rattle.part_steps.specs.declared.state.PartState.{PartState}
 use Rattle.part_steps.specs.States.{parts_in}
 use Rattle.log_files.specs.Fronts.{AreSyncs}
 use Rattle.recover_core.specs.Recovering.{AreOpened}
@@ -75,7 +76,7 @@ returns-in-Ok-say_table g c =
       shows = λ tells.
           let told = said.tells tells in
           let opened = subst (λ (s : List Step). AreOpened flows c.args.count file.digest (λ f. content_of f s) found) read.unchanged (c.in-Ok-recover_all.ensures.opens told) in
-          table_shown (λ f. content_of f old) c.args.count _ flows _ (parts_in found.states.items) (tape old) (tape mid) (tape now) (are_there (λ f. content_of f old) c.args.count flows file.digest found (c.in-Ok.ensures.reads (recover.tells told)) opened) c.of-machines.ensures c.in-Ok-recover_all.ensures.begins.many
+          table_shown (λ f. content_of f old) c.args.count _ flows _ (parts_in c.deref.result.now) (tape old) (tape mid) (tape now) (subst (λ (l : List PartState). AreThere (λ f. content_of f old) c.args.count flows (parts_in l)) (sym c.deref.ensures.value) (are_there (λ f. content_of f old) c.args.count flows file.digest found (c.in-Ok.ensures.reads (recover.tells told)) opened)) c.of-machines.ensures (ap (λ (l : List PartState). length l) c.deref.ensures.value ∙ c.in-Ok-recover_all.ensures.begins.many)
           (syncs_tape c.args.count old mid syncs) c.in-Ok-say_table.ensures.said;
       nothing = record { mid = mid; syncs = syncs; files = said.files };
       fault = λ is. absurd (differ Done SiteFault refl is);
@@ -144,15 +145,15 @@ returns-in-Err-SayFault-clause-shows g c tells =
     let syncs = subst (λ (s : List Step). AreSyncs c.args.count s mid) read.unchanged recover.syncs in
     let told = said.ensures.tells tells in
     let opened = subst (λ (s : List Step). AreOpened flows c.args.count file.digest (λ f. content_of f s) found) read.unchanged (c.in-Ok-recover_all.ensures.opens told) in
-    stops_shown (λ f. content_of f old) c.args.count _ flows _ (parts_in found.states.items) (tape old) (tape mid) (tape (g.V.Site.history said.new.site)) stops.SayFault
-    (are_there (λ f. content_of f old) c.args.count flows file.digest found (c.in-Ok.ensures.reads (recover.tells told)) opened)
-    c.of-machines.ensures c.in-Ok-recover_all.ensures.begins.many (syncs_tape c.args.count old mid syncs) (stopped said.result _ c.in-Err-SayFault.field-0 stops.SayFault said.ensures.part c.in-Err-SayFault.is (rw c.in-Err-SayFault.is at c.in-Err-SayFault.field-0-is))
+    stops_shown (λ f. content_of f old) c.args.count _ flows _ (parts_in c.deref.result.now) (tape old) (tape mid) (tape (g.V.Site.history said.new.site)) stops.SayFault
+    (subst (λ (l : List PartState). AreThere (λ f. content_of f old) c.args.count flows (parts_in l)) (sym c.deref.ensures.value) (are_there (λ f. content_of f old) c.args.count flows file.digest found (c.in-Ok.ensures.reads (recover.tells told)) opened))
+    c.of-machines.ensures (ap (λ (l : List PartState). length l) c.deref.ensures.value ∙ c.in-Ok-recover_all.ensures.begins.many) (syncs_tape c.args.count old mid syncs) (stopped said.result _ c.in-Err-SayFault.field-0 stops.SayFault said.ensures.part c.in-Err-SayFault.is c.in-Err-SayFault.field-0-is)
 
 pub returns-in-Err-SayFault-clause-say_fault : goal.returns-in-Err-SayFault-clause-say_fault
 returns-in-Err-SayFault-clause-say_fault g c = λ is.
     let said = c.say_table in
     subst (λ (n : ℕ). HasRisen n (g.V.Site.say_faults said.new.site)) (c.recover_all.ensures.say_faults ∙ c.read_flow_file.ensures.say_faults)
-    (said.ensures.fault (c.in-Err-SayFault.is ∙ ap (λ (e : ShowError). Err e) (rw c.in-Err-SayFault.is at c.in-Err-SayFault.field-0-is)))
+    (said.ensures.fault (c.in-Err-SayFault.is ∙ ap (λ (e : ShowError). Err e) c.in-Err-SayFault.field-0-is))
 
 pub returns-clause-shows : goal.returns-clause-shows
 returns-clause-shows g c tells =
@@ -167,6 +168,6 @@ returns-clause-shows g c tells =
     let syncs = subst (λ (s : List Step). AreSyncs c.args.count s mid) read.unchanged recover.syncs in
     let told = said.ensures.tells tells in
     let opened = subst (λ (s : List Step). AreOpened flows c.args.count file.digest (λ f. content_of f s) found) read.unchanged (c.in-Ok-recover_all.ensures.opens told) in
-    inr (stops_shown (λ f. content_of f old) c.args.count _ flows _ (parts_in found.states.items) (tape old) (tape mid) (tape (g.V.Site.history said.new.site)) stops.Memory
-    (are_there (λ f. content_of f old) c.args.count flows file.digest found (c.in-Ok.ensures.reads (recover.tells told)) opened)
-    c.of-machines.ensures c.in-Ok-recover_all.ensures.begins.many (syncs_tape c.args.count old mid syncs) (stopped said.result _ c.in-Err-Memory.field-0 stops.Memory said.ensures.part c.in-Err-Memory.is (rw c.in-Err-Memory.is at c.in-Err-Memory.field-0-is)))
+    inr (stops_shown (λ f. content_of f old) c.args.count _ flows _ (parts_in c.deref.result.now) (tape old) (tape mid) (tape (g.V.Site.history said.new.site)) stops.Memory
+    (subst (λ (l : List PartState). AreThere (λ f. content_of f old) c.args.count flows (parts_in l)) (sym c.deref.ensures.value) (are_there (λ f. content_of f old) c.args.count flows file.digest found (c.in-Ok.ensures.reads (recover.tells told)) opened))
+    c.of-machines.ensures (ap (λ (l : List PartState). length l) c.deref.ensures.value ∙ c.in-Ok-recover_all.ensures.begins.many) (syncs_tape c.args.count old mid syncs) (stopped said.result _ c.in-Err-Memory.field-0 stops.Memory said.ensures.part c.in-Err-Memory.is c.in-Err-Memory.field-0-is))
