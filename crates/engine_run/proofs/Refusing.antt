@@ -200,20 +200,20 @@ ready files job entries state asks keeps no_clash young = record { job = job; as
 
 -- files that are accepted aren't refused
 pub not_refused : (files : ℕ → List ℕ) → IsReady files → AreRefused files → ⊥
-not_refused files is_ready (for_input cause refused) = let wrong : None ≡ Some cause = sym is_ready.asks.accepted ∙ refused in cc wrong
-not_refused files is_ready (for_logs error is refused) =
-    let same = same_job files refused.0 is_ready.job refused.1 is_ready.asks in
-    no_log_refusal is_ready.job.digest files is_ready.entries is_ready.keeps.kept is_ready.job.flows is_ready.state error is_ready.keeps.made is (subst (λ (j : Job). Refuses j.flows 1 j.digest files error) same refused.2)
+not_refused files is_ready (for_input cause for_it) = let wrong : None ≡ Some cause = sym is_ready.asks.accepted ∙ for_it in cc wrong
+not_refused files is_ready (for_logs error is for_it) =
+    let same = same_job files for_it.0 is_ready.job for_it.1 is_ready.asks in
+    no_log_refusal is_ready.job.digest files is_ready.entries is_ready.keeps.kept is_ready.job.flows is_ready.state error is_ready.keeps.made is (subst (λ (j : Job). Refuses j.flows 1 j.digest files error) same for_it.2)
 not_refused files is_ready (for_spent partition number spent) =
     let same = same_job files spent.0 is_ready.job spent.1 is_ready.asks in
     not_spent is_ready.job.digest files is_ready.entries is_ready.keeps.kept is_ready.job.flows partition number is_ready.young
     (subst (λ (j : Job). IsSpent j.flows (logs_in (alone_with j.digest) files) partition number) same spent.2)
-not_refused files is_ready (for_clash name number refused) =
-    let same = same_job files refused.0 is_ready.job refused.1 is_ready.asks in
-    let kept : FilesKeep is_ready.job files refused.2.0 refused.2.1 = subst (λ (j : Job). FilesKeep j files refused.2.0 refused.2.1) same refused.2.2 in
-    let state = same_state is_ready.job files refused.2.0 is_ready.entries refused.2.1 is_ready.state kept is_ready.keeps in
+not_refused files is_ready (for_clash name number for_it) =
+    let same = same_job files for_it.0 is_ready.job for_it.1 is_ready.asks in
+    let kept : FilesKeep is_ready.job files for_it.2.0 for_it.2.1 = subst (λ (j : Job). FilesKeep j files for_it.2.0 for_it.2.1) same for_it.2.2 in
+    let state = same_state is_ready.job files for_it.2.0 is_ready.entries for_it.2.1 is_ready.state kept is_ready.keeps in
     none_clash is_ready.state is_ready.job.requests name number is_ready.no_clash
-    (subst (λ (p : Partition). IsClash p is_ready.job.requests name number) state (subst (λ (j : Job). IsClash refused.2.1 j.requests name number) same refused.2.3))
+    (subst (λ (p : Partition). IsClash p is_ready.job.requests name number) state (subst (λ (j : Job). IsClash for_it.2.1 j.requests name number) same for_it.2.3))
 
 -- a run that went on refused nothing
 pub late_no_refusal : (cause : Cause) → IsLateCause cause → IsRefusal cause → ⊥

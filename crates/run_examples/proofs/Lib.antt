@@ -5,6 +5,7 @@ pub mod Idle
 pub mod InOrder
 pub mod LogsKept
 pub mod Moves
+pub mod NoLogs
 pub mod Orders
 pub mod Places
 pub mod Quiescent

@@ -1,4 +1,4 @@
-use Rattle.std.proofs.Common.{◌≡◌, ◌≤◌, ◌∙◌, inl, inr, Some, refl, sym, ap, subst, arith}
+use Rattle.std.proofs.Common.{◌≡◌, ◌≤◌, ◌∙◌, inl, inr, ℕ, Some, refl, sym, ap, subst, arith}
 use Rattle.std.proofs.Math.Nat.{le_of_eq}
 use Rattle.command_words.specs.Command.{call_in}
 use Rattle.command_words.specs.declared.words.Call.TheVariants.{Run, Show}
@@ -148,8 +148,8 @@ returns-in-Err-Memory g c =
               nothing = c.end_with-in-Err-Memory.ensures.trail ∙ c.none-in-Err-Memory.ensures;
               opening = subst (λ site. Always (IsOpening job entries old) old (g.V.Site.history site)) (sym site_is) (opening_first job entries old (λ f. g.met.V.Site.inside c.args.site f told));
             });
-        shows = λ tells partitions asked. subst (ShowsAs (λ file. content_of file old) (tape old) (tape now)) (sym end.cause) (inl (ap (λ site. tape (g.V.Site.history site)) end.site));
-        writes_nothing = λ partitions asked. record { mid = g.V.Site.history c.args.site; syncs = inl refl; files = λ file. ap (λ site. changes_of file (g.V.Site.history site)) c.end_with-in-Err-Memory.ensures.site };
+        shows = λ tells partitions asked. subst (ShowsAs (λ file. content_of file old) partitions (tape old) (tape now)) (sym end.cause) (inl (ap (λ site. tape (g.V.Site.history site)) end.site));
+        writes_nothing = λ partitions asked. record { mid = g.V.Site.history c.args.site; syncs = (0, omega arith, inl refl); files = λ file. ap (λ site. changes_of file (g.V.Site.history site)) c.end_with-in-Err-Memory.ensures.site };
       };
       faults = record {
         of_disk = λ is. absurd (memory_no_site c.end_with-in-Err-Memory.result.cause end.cause is);
