@@ -16,7 +16,7 @@ use Rattle.commit_log.specs.declared.states.Resting.{Resting}
 use Rattle.hub_store.specs.Moments.{AtEveryMoment}
 use Rattle.hub_store.specs.Origin.{Origin}
 use Rattle.hub_store.specs.Trail.{Settled, of_part, settled_at}
-use Rattle.dura_model.specs.Entries.{next_incarnation, labels_in, shown_by}
+use Rattle.dura_model.specs.Entries.{next_incarnation, labels_in}
 use Rattle.run_causes.specs.declared.cause.Cause.{Cause}
 use Rattle.run_laws.specs.Begins.{BeginsAlone, may_follow, may_say}
 use Rattle.run_laws.proofs.Images.{moment_stands}

@@ -1,5 +1,5 @@
 -- Calls one after another come to one run.
-use Rattle.std.proofs.Common.{◌≡◌, ◌≤◌, ◌-◌, ◌⊎◌, inl, inr, ℕ, ◌+◌, suc, List, [], ◌∷◌, ◌++◌, length, drop, Some, refl, sym, ◌∙◌, ap, subst, arith, append_assoc}
+use Rattle.std.proofs.Common.{◌≡◌, ◌≤◌, ◌-◌, ◌⊎◌, inl, inr, ℕ, suc, List, [], ◌∷◌, ◌++◌, length, drop, Some, refl, sym, ◌∙◌, ap, subst, arith, append_assoc}
 use Rattle.std.proofs.lemmas.Bool.{cases_lt}
 use Rattle.std.proofs.lemmas.List.{append-nil}
 use Rattle.std.proofs.lemmas.List.Elements.{All-push}
@@ -16,7 +16,7 @@ use Rattle.flow_syntax.specs.Syntax.{Flows}
 use Rattle.hub_store.specs.Origin.{Origin}
 use Rattle.hub_store.specs.Trail.{Settled, Said, of_part, settled_at}
 use Rattle.part_items.specs.Logs.{logs_in, entries_in, alone_with}
-use Rattle.dura_model.specs.Entries.{placed, next_incarnation, labels_in, AllGiven, shown_by}
+use Rattle.dura_model.specs.Entries.{placed, next_incarnation, labels_in, AllGiven}
 use Rattle.many_logs.specs.Stands.{FilesStand}
 use Rattle.run_rules.proofs.LabelsStand.{labels_stand}
 use Rattle.run_laws.proofs.Ordered.{never_overlaps}

@@ -1,20 +1,19 @@
 -- What was recovered of all partitions, where there is one.
-use Rattle.std.proofs.Common.{◌≡◌, ◌∙◌, inl, inr, ℕ, zero, suc, ◌+◌, ◌<◌, ◌≤◌, ◌^◌, List, [], ◌∷◌, ◌++◌, length, get_or, Some, Ok, refl, sym, ap, subst, arith, append-nil, length-append}
+use Rattle.std.proofs.Common.{◌≡◌, ◌∙◌, inl, inr, ℕ, zero, suc, ◌<◌, ◌≤◌, ◌^◌, List, [], ◌∷◌, ◌++◌, length, get_or, Some, Ok, refl, sym, ap, subst, arith, append-nil, length-append}
 use Rattle.std.specs.List.{slice_get}
 use Rattle.dura_value.specs.Items.{Entry}
 use Rattle.dura_model.specs.Entries as alone
 use Rattle.dura_model.specs.Partition.{Partition, fresh}
 use Rattle.engine_run.specs.Alone.{IsRecovered, CanBegin, IsSpent, OnlySyncs}
-use Rattle.engine_run.specs.declared.opening.Recovered.{Recovered}
 use Rattle.flow_syntax.specs.Syntax.{Flows}
 use Rattle.log_files.specs.Fronts.{AreSyncs}
 use Rattle.many_logs.specs.Placing.{placed, of_partition}
 use Rattle.many_logs.proofs.OrdersStand.{placed_in_order}
 use Rattle.many_logs.proofs.Own.{own_chain}
-use Rattle.part_items.specs.Logs.{Logs, logs_in, alone_with}
+use Rattle.part_items.specs.Logs.{logs_in, alone_with}
 use Rattle.part_steps.specs.declared.state.PartState.{PartState}
 use Rattle.part_steps.specs.States.{IsStateOf, state_of, parts_in}
-use Rattle.recover_core.specs.Recovering.{AreOpened, CanGoOn, AllRest}
+use Rattle.recover_core.specs.Recovering.{AreOpened, CanGoOn}
 use Rattle.recover_core.specs.declared.ending.Life.{Life}
 use Rattle.recover_core.specs.declared.recovery.Opened.{Opened}
 use Rattle.site_model.specs.History.{Step}

@@ -14,8 +14,7 @@ use Rattle.engine_run.proofs.Asked.{same_job, same_state}
 use Rattle.flow_syntax.specs.Syntax.{Flows}
 use Rattle.part_items.specs.Logs.{Logs, Refusal, refused, logs_in, entries_in, alone_with}
 use Rattle.dura_model.specs.Entries.{placed, next_incarnation}
-use Rattle.many_logs.specs.Placing.{placed as placed_all}
-use Rattle.many_logs.specs.Unplaced.{Unplaced, unplaced}
+use Rattle.many_logs.specs.Unplaced.{Unplaced}
 use Rattle.many_logs.proofs.Unplaced.{none_has_none}
 use Rattle.log_files.specs.Checked.{RefusesFirst, RefusesLogs as RefusesFiles, asked_for}
 use Rattle.log_files.specs.declared.error.FilesError.{FilesError}

@@ -13,7 +13,6 @@ ghost use Rattle.site_calls.specs.Events.{file_numbers, start_of};
 ghost use Rattle.site_model.specs.History.{Step, IsImage};
 
 /// Files that are accepted aren't refused.
-#[tactic(auto, using(crate::proofs::Refusing::not_refused))]
 pub fn accepted_files()
     ensures { (files : ℕ → List ℕ) → IsReady files → AreRefused files → ⊥ }
 {}

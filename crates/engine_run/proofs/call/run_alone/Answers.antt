@@ -12,7 +12,7 @@ use Rattle.engine_run.specs.Showing.{ShowsAs, WritesNothing}
 use Rattle.engine_run.proofs.Early.{differ}
 use Rattle.engine_run.proofs.Ending.{memory_no_site, memory_no_say, memory_no_clock}
 use Rattle.engine_run.proofs.Opens.{opening_first}
-use Rattle.engine_run.proofs.Words.{run_is_within, show_is_within, run_same, run_no_show, show_same, none_no_call}
+use Rattle.engine_run.proofs.Words.{run_is_within, run_same, run_no_show, show_same, none_no_call}
 use Rattle.engine_run.proofs.call.run_alone.Goals as goal
 use Rattle.run_causes.specs.Causes.{status_of}
 use Rattle.run_causes.specs.declared.cause.Cause.{Cause}

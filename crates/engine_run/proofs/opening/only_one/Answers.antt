@@ -1,7 +1,5 @@
 use Rattle.std.proofs.Common.{◌≡◌, ◌∷◌, []}
 use Rattle.engine_run.proofs.OnlyOne.{one_item, one_recovered, one_spent, one_begins}
-use Rattle.part_steps.specs.declared.state.PartState.{PartState}
-use Rattle.recover_core.specs.declared.ending.Life.{Life}
 use Rattle.engine_run.proofs.opening.only_one.Goals as goal
 
 pub returns-then-incarnation-ge-INCARNATION_LIMIT-clause-recovers : goal.returns-then-incarnation-ge-INCARNATION_LIMIT-clause-recovers

@@ -1,4 +1,3 @@
-use Rattle.std.proofs.Common.{ℕ}
 use Rattle.site_model.specs.History.{content_of}
 use Rattle.engine_run.proofs.OnlyOne.{only_syncs}
 use Rattle.engine_run.proofs.opening.recover_logs.Goals as goal
