@@ -19,7 +19,7 @@ hint text = codes "  " ++ text ++ 10 ∷ []
 -- which words are understood
 abbrev pub usage_text : Bool → List ℕ
 usage_text is_foreign =
-    hint (codes "netherite DIRECTORY run [--batch N] [--steps N] [--segment BYTES]") ++ hint (codes "netherite DIRECTORY show")
+    hint (codes "netherite DIRECTORY run [--batch N] [--steps N] [--segment BYTES]") ++ hint (codes "netherite DIRECTORY show [--partitions N]")
     ++ (if is_foreign then hint (codes "a word isn't UTF-8; a directory of such a name is called . from within") else [])
 
 -- what isn't there

@@ -74,12 +74,12 @@ fn usage_lines(is_foreign: bool) -> &'static str
 {
     if is_foreign {
         "  netherite DIRECTORY run [--batch N] [--steps N] [--segment BYTES]
-  netherite DIRECTORY show
+  netherite DIRECTORY show [--partitions N]
   a word isn't UTF-8; a directory of such a name is called . from within
 "
     } else {
         "  netherite DIRECTORY run [--batch N] [--steps N] [--segment BYTES]
-  netherite DIRECTORY show
+  netherite DIRECTORY show [--partitions N]
 "
     }
 }

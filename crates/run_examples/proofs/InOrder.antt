@@ -5,7 +5,7 @@ use Rattle.engine_run.specs.Headline.{StandsOrderly}
 use Rattle.hub_store.specs.Moments.{AtEveryMoment}
 use Rattle.hub_store.specs.Origin.{Origin}
 use Rattle.hub_store.specs.Trail.{of_part}
-use Rattle.dura_model.specs.Entries.{labels_in, shown_by}
+use Rattle.dura_model.specs.Entries.{labels_in}
 use Rattle.run_laws.specs.Begins.{BeginsAlone, may_follow, may_say}
 use Rattle.run_laws.proofs.Images.{moment_stands}
 use Rattle.run_laws.proofs.Ordered.{never_overlaps}

@@ -12,4 +12,5 @@ pub mod Quiescent
 pub mod Ready
 pub mod Shown
 pub mod Stillness
+pub mod SyncsLeave
 pub mod Unread

@@ -1,6 +1,6 @@
 -- Files of two partitions of which none has a log.
-use Rattle.std.proofs.Common.{◌≡◌, ◌∙◌, ◌<◌, ◌+◌, ℕ, List, [], length, Some, None, sym, ap, arith}
-use Rattle.dura_model.specs.Partition.{Partition, fresh}
+use Rattle.std.proofs.Common.{◌≡◌, ◌∙◌, ◌<◌, ℕ, List, [], length, Some, None, sym, ap, arith}
+use Rattle.dura_model.specs.Partition.{fresh}
 use Rattle.dura_value.specs.Items.{Entry}
 use Rattle.flow_syntax.specs.Syntax.{Flows}
 use Rattle.many_logs.specs.Placing.{count_entries, placed, placed_in}

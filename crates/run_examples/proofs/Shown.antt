@@ -42,7 +42,8 @@ pub only_fresh : (flows : Flows) (states : ℕ → Partition) → AreThere good_
 only_fresh flows states there =
     let kept = subst (λ (n : ℕ). entries_in (logs_in (alone_with n) good_files) ≡ Some (there.logs 0)) there.flows_in_file.digest_of_file (there.kept 0 (omega arith)) in
     let none : [] ≡ there.logs 0 = cc (fresh_kept, kept) in
-    let many : 0 ≡ count_entries 1 there.logs = ap (λ (l : List Entry). length l) none in
+    let long : length (there.logs 0) ≡ 0 = ap (λ (l : List Entry). length l) (sym none) in
+    let many : 0 ≡ count_entries 1 there.logs = omega (arith, long) in
     ap (λ (n : ℕ). (placed_in flows 1 n (record { states = fresh; left = there.logs })).states) many ∙ sym there.made
 
 -- and its logs aren't refused

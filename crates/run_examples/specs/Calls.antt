@@ -1,5 +1,5 @@
 -- What a call's clauses say, by example.
-use Rattle.std.specs.Prelude.{ℕ, List, [], ◌∷◌, ◌++◌, codes, Some}
+use Rattle.std.specs.Prelude.{ℕ, List, [], ◌∷◌, codes, Some}
 use Rattle.client_port.specs.Ports.{Queue}
 use Rattle.command_words.specs.declared.words.RunOptions.{RunOptions}
 use Rattle.dura_model.specs.Partition.{Partition, fresh}

@@ -5,5 +5,4 @@ pub mod Ending
 pub mod Going
 pub mod LivesSeen
 pub mod Promised
-pub mod Recovered
 pub mod States

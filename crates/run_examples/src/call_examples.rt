@@ -125,13 +125,13 @@ pub fn runs_in_order()
 
 /// To show what is there writes nothing. With a fault of the disk nothing was shown, and no request is waited for.
 pub fn shows()
-    ensures nothing { WritesNothing [] [] }
-    ensures synced { WritesNothing [] (on 16 synced ∷ []) }
-    ensures written { WritesNothing [] (on 16 (wrote 0 1 (0 ∷ [])) ∷ []) → ⊥ }
-    ensures fault { (files : ℕ → List ℕ) → ShowsAs files [] [] causes.SiteFault }
-    ensures shown { (files : ℕ → List ℕ) → ShowsAs files [] (97 ∷ []) causes.SiteFault → ⊥ }
+    ensures nothing { WritesNothing 2 [] [] }
+    ensures synced { WritesNothing 2 [] (on 16 synced ∷ []) }
+    ensures written { WritesNothing 2 [] (on 16 (wrote 0 1 (0 ∷ [])) ∷ []) → ⊥ }
+    ensures fault { (files : ℕ → List ℕ) → ShowsAs files 2 [] [] causes.SiteFault }
+    ensures shown { (files : ℕ → List ℕ) → ShowsAs files 2 [] (97 ∷ []) causes.SiteFault → ⊥ }
     ensures waiting { (files : ℕ → List ℕ) (number : ℕ)
-        → ShowsAs files [] [] (causes.Waiting (codes "a") number) → ⊥ }
+        → ShowsAs files 2 [] [] (causes.Waiting (codes "a") number) → ⊥ }
 {}
 
 /// A request is its client's under its number, and under no other. What is due of a client was taken, or it wasn't.

@@ -3,32 +3,13 @@
 ghost use Rattle.std.specs.List.{slice_get};
 ghost use Rattle.std.specs.Prelude.{◌≡◌, ℕ, [], ◌∷◌, Some};
 ghost use Rattle.dura_model.specs.Partition.{fresh};
-ghost use Rattle.engine_run.specs.Alone.{IsRecovered, CanBegin};
 ghost use Rattle.flow_syntax.specs.Syntax.{Flows};
-ghost use Rattle.part_items.specs.Logs.{no_log};
 ghost use Rattle.recover_core.specs.Recovering.{AreOpened, CanGoOn, Refuses};
 ghost use Rattle.recover_core.specs.declared.ending.Life.{Life};
 ghost use Rattle.recover_core.specs.declared.error.RecoverError.TheVariants as errors;
 ghost use Rattle.recover_core.specs.declared.recovery.Opened.{Opened};
-ghost use Rattle.part_steps.specs.States.{IsSound, state_of, count_of, parts_in};
+ghost use Rattle.part_steps.specs.States.{parts_in};
 ghost use Rattle.part_steps.specs.declared.state.PartState.{PartState};
-ghost use Rattle.run_examples.specs.Recovered.{without_log};
-
-/// Without a log the fresh state of the one partition is recovered, of no entry: not where an entry's incarnation is told.
-pub fn recovered_without_log()
-    ensures nothing { (flows : Flows) (state : PartState) → IsSound state → count_of state ≡ 1
-        → state_of state ≡ fresh 0 → IsRecovered flows no_log (without_log state []) }
-    ensures entry_told { (flows : Flows) (state : PartState)
-        → IsRecovered flows no_log (without_log state (0 ∷ [])) → ⊥ }
-{}
-
-/// In that state an entry may begin: not where an entry was counted that it hasn't.
-pub fn begins_without_log()
-    ensures nothing { (state : PartState) → IsSound state → count_of state ≡ 1
-        → state_of state ≡ fresh 0 → CanBegin (without_log state []) }
-    ensures entry_counted { (state : PartState) → state_of state ≡ fresh 0
-        → CanBegin (without_log state (0 ∷ [])) → ⊥ }
-{}
 
 /// Where none of two partitions has a log the fresh states are recovered: not where a state has an entry, nor where an incarnation of one is
 /// told, or another one than the first begins.
@@ -61,8 +42,15 @@ pub fn nothing_refused_without_logs()
         → Refuses flows 2 digest (λ f. []) (errors.Unclosed partition position src seq) → ⊥ }
 {}
 
-/// What is recovered of two partitions has two logs: with one an entry can't begin in each.
+/// What is recovered of two partitions has two states and two logs: with one an entry can't begin in each; nor where an entry was counted
+/// that its partition's state hasn't, or the incarnation that begins is one before the state's.
 pub fn each_goes_on()
+    ensures entry_counted { (opened : Opened) (life : Life)
+        → slice_get opened.lives.items 1 ≡ Some life → life.past ≡ 0 ∷ []
+        → parts_in opened.states.items 1 ≡ fresh 1 → CanGoOn 2 opened → ⊥ }
+    ensures older { (opened : Opened) (life : Life) → slice_get opened.lives.items 1 ≡ Some life
+        → life.incarnation ≡ 0 → (parts_in opened.states.items 1).incarnation ≡ 1
+        → CanGoOn 2 opened → ⊥ }
     ensures one_log { (opened : Opened) (life : Life) → opened.lives.items ≡ life ∷ []
         → CanGoOn 2 opened → ⊥ }
     ensures one_state { (opened : Opened) (state : PartState) → opened.states.items ≡ state ∷ []

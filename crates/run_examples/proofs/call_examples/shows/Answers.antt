@@ -1,21 +1,18 @@
-use Rattle.std.proofs.Common.{inl, inr, List, refl, ◌∙◌, ap}
+use Rattle.std.proofs.Common.{◌≡◌, ◌∙◌, inl, inr, [], ◌∷◌, refl, ap, arith}
+use Rattle.run_examples.proofs.SyncsLeave.{syncs_leave}
 use Rattle.run_examples.proofs.call_examples.shows.Goals as goal
-use Rattle.site_model.specs.History.{Step, changes_of}
+use Rattle.site_model.specs.History.{reads}
 
 pub returns-clause-nothing : goal.returns-clause-nothing
-returns-clause-nothing c = record { mid = _; syncs = inl refl; files = λ file. refl }
+returns-clause-nothing c = record { mid = _; syncs = (0, omega arith, inl refl); files = λ file. refl }
 
 pub returns-clause-synced : goal.returns-clause-synced
-returns-clause-synced c = record { mid = _; syncs = inr (inl refl); files = λ file. refl }
+returns-clause-synced c = record { mid = _; syncs = (0, omega arith, inr (omega arith, refl)); files = λ file. refl }
 
 pub returns-clause-written : goal.returns-clause-written
-returns-clause-written c = λ nothing. elim nothing.syncs [
-  | inl same ↦ cc (nothing.files 16 ∙ ap (λ (steps : List Step). changes_of 16 steps) same)
-  | inr more ↦ elim more [
-    | inl one ↦ cc (nothing.files 16 ∙ ap (λ (steps : List Step). changes_of 16 steps) one)
-    | inr both ↦ cc (nothing.files 16 ∙ ap (λ (steps : List Step). changes_of 16 steps) both)
-  ]
-]
+returns-clause-written c = λ nothing.
+    let wrong : 0 ∷ [] ≡ [] = ap reads (nothing.files 16) ∙ syncs_leave 2 nothing.mid nothing.syncs in
+    cc wrong
 
 pub returns-clause-fault : goal.returns-clause-fault
 returns-clause-fault c = λ files. refl

@@ -6,7 +6,7 @@ use Rattle.dura_value.specs.Items.{Entry}
 use Rattle.engine_run.specs.Lives.{KeepsOn, IsSaidBy, IsSettledIn}
 use Rattle.engine_run.specs.Picks.{rules_with}
 use Rattle.part_items.specs.Examples.{digest, two_files, empty_log, taking}
-use Rattle.dura_model.specs.Entries.{next_incarnation, shown_by}
+use Rattle.dura_model.specs.Entries.{next_incarnation}
 use Rattle.run_rules.proofs.LabelsStand.{labels_stand}
 use Rattle.run_examples.specs.Calls.{no_flows, nothing_asked}
 use Rattle.run_examples.specs.LivesSeen.{idle_life, settled_life, spoken_life}

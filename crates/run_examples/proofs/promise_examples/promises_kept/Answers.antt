@@ -1,12 +1,11 @@
-use Rattle.std.proofs.Common.{◌≡◌, ◌∙◌, inl, inr, ℕ, List, [], ◌∷◌, Option, Some, None, refl, sym, ap, subst}
+use Rattle.std.proofs.Common.{◌≡◌, ◌∙◌, inl, inr, [], ◌∷◌, Option, Some, None, refl, sym, ap, subst}
 use Rattle.command_words.specs.declared.words.Call.{Call}
 use Rattle.engine_run.specs.Causes.{SettlesNothing}
 use Rattle.run_causes.specs.declared.cause.Cause.TheVariants.{Usage}
 use Rattle.run_examples.proofs.Unread.{nothing_unread}
 use Rattle.run_examples.proofs.promise_examples.promises_kept.Goals as goal
-use Rattle.log_files.specs.Fronts.{AreSyncs, synced_to}
-use Rattle.log_files.proofs.FilesOpened.{stopped_contents}
-use Rattle.site_model.specs.History.{Step, reads, content_of}
+use Rattle.run_examples.proofs.SyncsLeave.{syncs_leave}
+use Rattle.site_model.specs.History.{reads}
 
 -- words that ask for nothing ask for no call
 no_call : (asked : Option Call) (call : Call) → asked ≡ None → asked ≡ Some call → ⊥
@@ -47,11 +46,6 @@ returns-clause-unread c = λ words options old job entries begin is asks kept gi
 
 pub returns-clause-waiting : goal.returns-clause-waiting
 returns-clause-waiting c = λ words partitions is keeps. keeps.shows tt partitions is
-
--- syncs leave each file's content
-syncs_leave : (count : ℕ) (mid : List Step) → AreSyncs count [] mid → content_of 16 mid ≡ []
-syncs_leave count mid (most, below, inl is) = stopped_contents most [] (synced_to most []) mid refl (inl is) 16
-syncs_leave count mid (most, below, inr last) = stopped_contents most [] (synced_to most []) mid refl (inr (inl last.1)) 16
 
 pub returns-clause-written : goal.returns-clause-written
 returns-clause-written c = λ words partitions is keeps.

@@ -1,9 +1,8 @@
-use Rattle.std.proofs.Common.{◌≡◌, ◌∙◌, ℕ, List, [], ◌∷◌, length, Some, sym, ap, subst, refl, arith}
+use Rattle.std.proofs.Common.{◌≡◌, ◌∙◌, ℕ, List, [], ◌∷◌, map, Some, sym, ap, subst, refl, arith}
 use Rattle.std.specs.List.{slice_get}
 use Rattle.dura_model.specs.Entries.{next_incarnation}
 use Rattle.dura_model.specs.Partition.{Partition, fresh}
 use Rattle.dura_value.specs.Items.{Entry}
-use Rattle.log_items.specs.Entries.{incarnations_in}
 use Rattle.recover_core.specs.declared.ending.Life.{Life}
 use Rattle.run_examples.proofs.NoLogs.{none_kept, none_placed}
 use Rattle.run_examples.proofs.recovery_examples.opened_without_logs.Goals as goal
@@ -25,7 +24,7 @@ returns-clause-entry_there c = λ flows digest opened one is.
 
 pub returns-clause-entry_told : goal.returns-clause-entry_told
 returns-clause-entry_told c = λ flows digest opened life at one is.
-    let told : 0 ∷ [] ≡ [] = sym one ∙ (is.lives 1 life at).past ∙ ap incarnations_in (none_kept digest is.logs is.kept 1 (omega arith)) in
+    let told : 0 ∷ [] ≡ [] = sym one ∙ (is.lives 1 life at).past ∙ ap (map (λ (e : Entry). e.incarnation)) (none_kept digest is.logs is.kept 1 (omega arith)) in
     cc told
 
 pub returns-clause-incarnation_told : goal.returns-clause-incarnation_told
