@@ -1,6 +1,6 @@
 # Trials, which `rows/run` reads, of logs of many partitions that are shown. What is owed of them `tools/partition_logs.py` works out by
-# the rules, from the bytes; `rows/partitions.py` makes the files of each case and runs the program on them. Of the trials in which each
-# byte has its case every second case is tried; EVERY=1 in the environment tries all.
+# the rules, from the bytes; `rows/partitions.py` makes the files of each case and runs the program on them. In some each byte of three
+# partitions' logs has its case; with EVERY=2 in the environment every second of these is tried.
 
 # by_reader TRIAL OPTION..: each case of the trial is shown as the reader of logs owes
 by_reader() {
@@ -22,23 +22,23 @@ trial_partitions_whole() {
 }
 
 trial_partitions_cut() {
-    by_reader cut --every "${EVERY:-2}"
+    by_reader cut --every "${EVERY:-1}"
 }
 
 trial_partitions_bytes_00() {
-    by_reader bytes_00 --every "${EVERY:-2}"
+    by_reader bytes_00 --every "${EVERY:-1}"
 }
 
 trial_partitions_bytes_c3() {
-    by_reader bytes_c3 --every "${EVERY:-2}"
+    by_reader bytes_c3 --every "${EVERY:-1}"
 }
 
 trial_partitions_bytes_ff() {
-    by_reader bytes_ff --every "${EVERY:-2}"
+    by_reader bytes_ff --every "${EVERY:-1}"
 }
 
 trial_partitions_bytes_raised() {
-    by_reader bytes_raised --every "${EVERY:-2}"
+    by_reader bytes_raised --every "${EVERY:-1}"
 }
 
 trial_partitions_headers() {
