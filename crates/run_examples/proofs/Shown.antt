@@ -1,8 +1,8 @@
 -- What is there on single directories.
-use Rattle.std.proofs.Common.{◌≡◌, ◌∙◌, ℕ, List, [], length, Some, refl, sym, ap, subst, arith}
+use Rattle.std.proofs.Common.{◌≡◌, ◌∙◌, ◌==◌, if◌then◌else◌, ℕ, List, [], ◌∷◌, length, Some, refl, sym, ap, subst, arith}
 use Rattle.std.specs.Fmt.{digits}
 use Rattle.std.specs.Str.{chars, is_utf8}
-use Rattle.dura_model.specs.Partition.{Partition, fresh}
+use Rattle.dura_model.specs.Partition.{Partition, fresh, with_part}
 use Rattle.engine_run.specs.Causes.{IsLogRefusal}
 use Rattle.engine_run.specs.Causes.AreRefused.{for_logs}
 use Rattle.engine_run.specs.Showing.{AreThere, RefusesThere}
@@ -10,14 +10,18 @@ use Rattle.flow_syntax.specs.Syntax.{Flows}
 use Rattle.part_items.specs.Logs.{logs_in, entries_in, alone_with}
 use Rattle.dura_value.specs.Items.{Entry}
 use Rattle.log_files.specs.Checked.{asked_for}
-use Rattle.many_logs.specs.Placing.{count_entries, placed_in}
+use Rattle.many_logs.specs.Placing.{count_entries, placed_in, placed}
+use Rattle.part_items.specs.Examples.{taking}
+use Rattle.run_rules.proofs.OneOfMany.{none_left}
+use Rattle.run_rules.specs.Examples.{request_taken}
+use Rattle.run_examples.specs.Directories.{directory, earlier_log}
 use Rattle.recover_core.specs.declared.error.RecoverError.{RecoverError}
 use Rattle.run_causes.specs.declared.cause.Cause.TheVariants.{BadFlows}
 use Rattle.run_causes.specs.declared.cause.FlowsFault.TheVariants.{NotJson}
 use Rattle.run_examples.specs.Calls.{one_asked}
-use Rattle.run_examples.proofs.LogsKept.{fresh_kept}
+use Rattle.run_examples.proofs.LogsKept.{fresh_kept, earlier_kept}
 use Rattle.run_examples.proofs.Ready.{ready, not_ready}
-use Rattle.run_inputs.specs.Examples.{good_files, one_flow}
+use Rattle.run_inputs.specs.Examples.{good_files, one_flow, requests_bytes}
 use Rattle.run_inputs.specs.Refusal.{flows_refused}
 use Rattle.run_inputs.proofs.Computed.{flows_of_one, flows_refusal_one, requests_of_one, refusal_good}
 use Rattle.serde_json.proofs.OnLiterals.{serde_json_on_literals}
@@ -53,3 +57,30 @@ no_refusal error is refuses = not_ready good_files (for_logs error is (
   record { flows_in_file = refuses.2.flows_in_file; digest_of_file = refuses.2.digest_of_file; requests_in_file = requests_of_one; accepted = refusal_good },
   refuses.3,
 )) ready
+
+-- ---- an earlier run
+
+-- the entries of the one partition there is
+abbrev earlier_logs : ℕ → List Entry
+earlier_logs partition = if partition == 0 then taking 0 ∷ [] else []
+
+-- what it took is there
+pub earlier_there : AreThere (directory requests_bytes earlier_log) 1 one_flow (with_part fresh 0 request_taken)
+earlier_there = record {
+  digest = one_asked.digest;
+  flows_in_file = record { accepted = flows_refusal_one; flows_in_file = flows_of_one; digest_of_file = refl };
+  logs = earlier_logs;
+  kept = λ partition below. let is : 0 ≡ partition = omega (arith, below) in
+      subst (λ (p : ℕ). entries_in (logs_in (asked_for 1 one_asked.digest p) (directory requests_bytes earlier_log)) ≡ Some (earlier_logs p)) is earlier_kept;
+  none_left = λ partition below. let is : 0 ≡ partition = omega (arith, below) in subst (λ (p : ℕ). (placed one_flow 1 earlier_logs).left p ≡ []) is refl;
+  made = refl;
+}
+
+-- and the state isn't that in which nothing happened
+pub earlier_done : (states : ℕ → Partition) → AreThere (directory requests_bytes earlier_log) 1 one_flow states → (states 0).position ≡ 0 → ⊥
+earlier_done states there none =
+    let kept = subst (λ (n : ℕ). entries_in (logs_in (alone_with n) (directory requests_bytes earlier_log)) ≡ Some (there.logs 0)) there.flows_in_file.digest_of_file (there.kept 0 (omega arith)) in
+    let its : there.logs 0 ≡ taking 0 ∷ [] = cc (kept, earlier_kept) in
+    let they = none_left one_flow (taking 0 ∷ []) request_taken there.logs its refl in
+    let place : (states 0).position ≡ 1 = ap (λ (f : ℕ → Partition). (f 0).position) (there.made ∙ they.states) in
+    omega (arith, none, place)

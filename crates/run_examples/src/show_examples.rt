@@ -1,7 +1,7 @@
 //! Examples of what a call that shows what is there answers, and says.
 
 ghost use Rattle.std.specs.Prelude.{ℕ, List, [], ◌∷◌, codes};
-ghost use Rattle.dura_model.specs.Partition.{fresh};
+ghost use Rattle.dura_model.specs.Partition.{fresh, with_part};
 ghost use Rattle.engine_run.specs.Showing.{AreThere, RefusesThere, ShowsAs};
 ghost use Rattle.part_items.specs.Examples.{digest, empty_log};
 ghost use Rattle.run_rules.specs.Examples.{request_taken};
@@ -9,7 +9,7 @@ ghost use Rattle.recover_core.specs.declared.error.RecoverError.TheVariants as e
 ghost use Rattle.run_causes.specs.declared.cause.Cause.TheVariants as causes;
 ghost use Rattle.run_causes.specs.declared.cause.FlowsFault.TheVariants as faults;
 ghost use Rattle.run_examples.specs.Calls.{one_asked, no_flows};
-ghost use Rattle.run_examples.specs.Directories.{directory};
+ghost use Rattle.run_examples.specs.Directories.{directory, earlier_log};
 ghost use Rattle.run_inputs.specs.Examples.{three_files, good_files, one_flow, requests_bytes};
 
 /// What is there is what the flows file and the logs say: no other flows, and no other state.
@@ -17,6 +17,9 @@ pub fn states_there()
     ensures there { AreThere good_files 1 one_flow fresh }
     ensures other_flows { AreThere good_files 1 no_flows fresh → ⊥ }
     ensures other_state { AreThere good_files 1 one_flow (λ partition. request_taken) → ⊥ }
+    ensures earlier { AreThere (directory requests_bytes earlier_log) 1 one_flow
+        (with_part fresh 0 request_taken) }
+    ensures earlier_undone { AreThere (directory requests_bytes earlier_log) 1 one_flow fresh → ⊥ }
     ensures refused { RefusesThere (directory requests_bytes empty_log) 1
         (errors.OtherFlows digest one_asked.digest) }
     ensures other_digest { RefusesThere (directory requests_bytes empty_log) 1

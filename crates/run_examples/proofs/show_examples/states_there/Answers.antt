@@ -1,5 +1,5 @@
 use Rattle.std.proofs.Common.{◌≡◌, ℕ, ap, subst, refl, arith}
-use Rattle.dura_model.specs.Partition.{Partition}
+use Rattle.dura_model.specs.Partition.{Partition, fresh}
 use Rattle.flow_syntax.specs.Syntax.{Flows}
 use Rattle.part_items.specs.Examples.{digest, empty_log}
 use Rattle.run_rules.specs.Examples.{request_taken}
@@ -10,7 +10,7 @@ use Rattle.run_examples.specs.Directories.{directory}
 use Rattle.log_files.specs.Checked.{asked_for}
 use Rattle.run_examples.proofs.LogsKept.{other_kept}
 use Rattle.run_examples.proofs.Ready.{other_first}
-use Rattle.run_examples.proofs.Shown.{is_there, only_fresh, no_refusal}
+use Rattle.run_examples.proofs.Shown.{is_there, only_fresh, no_refusal, earlier_there, earlier_done}
 use Rattle.run_inputs.specs.Examples.{one_flow, requests_bytes}
 use Rattle.run_inputs.proofs.Computed.{flows_of_one, flows_refusal_one}
 use Rattle.run_examples.proofs.show_examples.states_there.Goals as goal
@@ -41,3 +41,9 @@ returns-clause-other_digest c = λ refuses.
 
 pub returns-clause-accepted : goal.returns-clause-accepted
 returns-clause-accepted c = λ refuses. no_refusal (errors.OtherFlows digest one_asked.digest) tt refuses
+
+pub returns-clause-earlier : goal.returns-clause-earlier
+returns-clause-earlier c = earlier_there
+
+pub returns-clause-earlier_undone : goal.returns-clause-earlier_undone
+returns-clause-earlier_undone c = λ there. earlier_done fresh there refl
