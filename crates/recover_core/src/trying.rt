@@ -173,44 +173,32 @@ fn try_next<V: Site, R: Reactions>(
         log,
         comes,
         past,
-        incarnation,
+        incarnation: next,
     } = course;
     let (entry, behind) = match comes {
         Comes::Waits(entry, behind) => (entry, behind),
-        Comes::More(reader) => return Ok((
-            halted(log, Comes::More(reader), past, incarnation),
-            false,
-        )),
+        Comes::More(reader) => return Ok((halted(log, Comes::More(reader), past, next), false)),
         Comes::Refused(entry, behind) => {
             return Ok((
-                halted(log, Comes::Refused(entry, behind), past, incarnation),
+                halted(log, Comes::Refused(entry, behind), past, next),
                 false,
             ));
         }
-        Comes::End(end) => return Ok((halted(log, Comes::End(end), past, incarnation), false)),
+        Comes::End(end) => return Ok((halted(log, Comes::End(end), past, next), false)),
     };
     let Some(opened) = log else {
-        return Ok((
-            halted(log, Comes::Waits(entry, behind), past, incarnation),
-            false,
-        ));
+        return Ok((halted(log, Comes::Waits(entry, behind), past, next), false));
     };
     if !are_items_ready(states, place as u32, entry.items.as_slice()) {
-        return Ok((
-            halted(log, Comes::Waits(entry, behind), past, incarnation),
-            false,
-        ));
+        return Ok((halted(log, Comes::Waits(entry, behind), past, next), false));
     }
     let placed = match place_at(alloc, site, reactions, states, place, opened, &entry) {
         Ok(placed) => placed,
-        Err(error) => {
-            entry.let_go();
-            return Err(error);
-        }
+        Err(error) => return Err(error),
     };
     if !placed {
         return Ok((
-            halted(log, Comes::Refused(entry, behind), past, incarnation),
+            halted(log, Comes::Refused(entry, behind), past, next),
             false,
         ));
     }
