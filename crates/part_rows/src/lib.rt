@@ -29,6 +29,6 @@ pub use queue::Queue;
 pub use reactions::{Reaction, Reactions};
 pub use requests::number_in;
 pub use rows::{Activity, Row, Waiting};
-pub use streams::{Inbox, Inboxes, Outbox, Outboxes};
+pub use streams::{Inbox, Inboxes, Outbox, Outboxes, copy_posted};
 pub use timer::Timer;
 pub use timers::TimerRow;

@@ -44,7 +44,7 @@ pub struct Outboxes {
 }
 
 /// The same message of the same entry.
-fn copy_posted(posted: &Posted) -> Result<Posted, AllocError>
+pub fn copy_posted(posted: &Posted) -> Result<Posted, AllocError>
     ensures { IfOk result (λ copy. copy ≡ posted.now) }
 {
     Ok(Posted {
@@ -73,6 +73,14 @@ fn message_at(messages: &VecDeque<Posted>, place: usize) -> Option<&Posted>
 }
 
 impl Outbox {
+    /// How many messages are left.
+    #[tactic(auto, using(crate::proofs::Left::same_count))]
+    fn count(&self) -> usize
+        ensures { result ≡ length (outbox_of self.now).messages }
+    {
+        self.messages.len()
+    }
+
     /// The message at this place.
     #[tactic(auto, using(crate::proofs::Left::seen_at))]
     fn at(&self, place: u64) -> Option<&Posted>
@@ -172,6 +180,16 @@ impl Outboxes {
     {
         match self.boxes.get(&target) {
             Some(outbox) => outbox.first,
+            None => 0,
+        }
+    }
+
+    /// How many messages are left of the stream to a partition.
+    pub fn left_len(&self, target: u32) -> usize
+        ensures { result ≡ length (outboxes_of self.now target).messages }
+    {
+        match self.boxes.get(&target) {
+            Some(outbox) => outbox.count(),
             None => 0,
         }
     }

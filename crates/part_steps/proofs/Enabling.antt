@@ -1,18 +1,20 @@
 -- What is possible now.
 use Rattle.std.proofs.Common.{◌≡◌, ◌∙◌, ◌==◌, ◌&&◌, ◌≤◌, ℕ, Bool, true, false, cond, Option, Some, None, refl, ap, arith, eq-eqb}
-use Rattle.std.specs.Prelude.{nat_le, is_some, option_map}
+use Rattle.std.specs.Prelude.{nat_le, is_some, option_map, Result, Ok, Err, IfOk, IfSome, IfNone}
 use Rattle.std.proofs.lemmas.Bool.{leb-true, le-leb}
 use Rattle.dura_value.specs.Ids.{Id, orchestration, entity, client}
-use Rattle.dura_value.specs.Items.{ran, fired}
+use Rattle.dura_value.specs.Items.{Item, took, got, ran, ended, fired, trim}
 use Rattle.dura_value.specs.Messages.{Body}
 use Rattle.dura_value.proofs.Ids.{and_true}
+use Rattle.log_items.specs.Plain.{item_of}
+use Rattle.log_items.specs.declared.items.Item as logged
 use Rattle.flow_syntax.specs.Syntax.{Flows}
 use Rattle.flow_syntax.specs.Entity.{Entity}
 use Rattle.part_rows.specs.Timers.{IsFirstDue, NoneDue}
 use Rattle.dura_model.specs.Partition.{Row, Partition, instance_in, first_in, last_in, accepted}
 use Rattle.dura_model.specs.Placed.{Belongs, AreOfInstances}
-use Rattle.part_rows.specs.Open.{lets_in, last_of_entity, last_at, IsOpen, NoneOpen}
-use Rattle.part_steps.specs.Enabled.{stamp_at, IsEnabled, NoneEnabled}
+use Rattle.part_rows.specs.Open.{lets_in, oldest_open, last_of_entity, last_at, IsOpen, NoneOpen}
+use Rattle.part_steps.specs.Enabled.{stamp_at, ComesNext, FiresFirst, IsEnabled, NoneEnabled}
 use Rattle.part_steps.specs.Reached.{takes_at, fires_at}
 use Rattle.part_steps.proofs.Delivering.{not_taken, nothing_there, delivered}
 use Rattle.part_steps.proofs.Ending.{not_due, fires}
@@ -89,3 +91,25 @@ module _ (count place : ℕ) (p : Partition) (b : Belongs count place p) (now : 
     deliveries = λ from to. closed_by flows from to (first_in p.queue from to) refl closed;
     timers = λ id task. not_due flows count p id task (stamp_at p now) (waits_by id task (p.instances id) (p.timers id task) refl none);
   }
+
+-- where no receiver takes a message, the timer that is due first comes next
+comes_next : (p : Partition) (stamp : ℕ) (item : Item) → oldest_open p ≡ None → FiresFirst p stamp item → ComesNext p stamp item
+comes_next p stamp (took message) none is = absurd is
+comes_next p stamp (got source number message) none is = absurd is
+comes_next p stamp (ran from to at) none is = absurd is
+comes_next p stamp (ended id task outcome) none is = absurd is
+comes_next p stamp (fired id task at) none is = (none, is.1)
+comes_next p stamp (trim reader number) none is = absurd is
+
+pub if_next : {E : Type 0} (p : Partition) (stamp : ℕ) (made : Result (Option logged.Item) E) → oldest_open p ≡ None
+    → IfOk made (λ item. IfSome item (λ one. FiresFirst p stamp (item_of one))) → IfOk made (λ item. IfSome item (λ one. ComesNext p stamp (item_of one)))
+if_next p stamp (Ok (Some one)) none is = comes_next p stamp (item_of one) none is
+if_next p stamp (Ok None) none is = is
+if_next p stamp (Err error) none is = is
+
+-- and where none is due either, nothing is enabled
+pub if_none : {E : Type 0} (count place : ℕ) (p : Partition) → Belongs count place p → (now : ℕ) (made : Result (Option logged.Item) E) → NoneOpen p
+    → IfOk made (λ item. IfNone item (NoneDue p.timers (stamp_at p now))) → IfOk made (λ item. IfNone item ((flows : Flows) → NoneEnabled flows count p (stamp_at p now)))
+if_none count place p b now (Ok (Some one)) closed is = is
+if_none count place p b now (Ok None) closed is = λ flows. none_enabled count place p b now flows closed is
+if_none count place p b now (Err error) closed is = is

@@ -36,6 +36,11 @@ ComesNext p now (ran from to stamp) = option_map link_of (oldest_open p) ≡ Som
 ComesNext p now (fired id task stamp) = (oldest_open p ≡ None) × ((due : ℕ) × IsFirstDue p.timers now due id task)
 ComesNext p now other = ⊥
 
+-- whether an item fires, at this stamp, the timer that is due first by it
+abbrev pub FiresFirst : Partition → (stamp : ℕ) → Item → Type 0
+FiresFirst p stamp (fired id task at) = (at ≡ stamp) × ((due : ℕ) × IsFirstDue p.timers stamp due id task)
+FiresFirst p stamp other = ⊥
+
 -- No delivery and no timer is accepted at this stamp.
 pub record NoneEnabled (flows : Flows) (count : ℕ) (p : Partition) (stamp : ℕ) : Type 0 where
   pub deliveries : (from to : Id) → accepted flows count p (ran from to stamp) ≡ None

@@ -1,24 +1,45 @@
 //! What the engine reads off the state of a partition.
 
-ghost use Rattle.std.specs.Prelude.{◌≡◌, true, false, is_some, IsSome, IfSome, IfNone, option_map};
+ghost use Rattle.std.specs.Prelude.{◌≡◌, true, false, length, is_some, IsSome, IfSome, IfNone, option_map};
 ghost use Rattle.dura_value.specs.Views.{id_of, answer_of, message_of, posted_of, identity_of};
 ghost use Rattle.std.specs.List.{slice_get};
 ghost use Rattle.id_maps.specs.Order.{IsFirst};
 ghost use Rattle.part_rows.specs.Timers.{IsNext, NoTimer};
 ghost use Rattle.part_rows.specs.Views.{activity_of};
 ghost use Rattle.part_steps.specs.Quiet.{NoActivity, IsQuiet};
-ghost use Rattle.part_steps.specs.States.{IsSound, state_of};
+ghost use Rattle.part_steps.specs.States.{IsSound, state_of, count_of};
 
 use crate::state::PartState;
 use dura_value::{Answer, Id, Identity, Message, Posted};
 use part_rows::Activity;
 
 impl PartState {
+    /// Which of the partitions it is.
+    pub fn number(&self) -> u32
+        ensures { result ≡ (state_of self.now).number }
+    {
+        self.rows.number
+    }
+
+    /// How many partitions there are.
+    pub fn partitions(&self) -> u32
+        ensures { result ≡ count_of self.now }
+    {
+        self.rows.partitions
+    }
+
     /// The number of the first message that is left of the stream to a partition.
     pub fn first_left(&self, target: u32) -> u64
         ensures { result ≡ ((state_of self.now).outboxes target).first }
     {
         self.rows.outboxes.first(target)
+    }
+
+    /// How many messages are left of the stream to a partition.
+    pub fn left_len(&self, target: u32) -> usize
+        ensures { result ≡ length ((state_of self.now).outboxes target).messages }
+    {
+        self.rows.outboxes.left_len(target)
     }
 
     /// The message at this place of what is left of the stream to a partition.

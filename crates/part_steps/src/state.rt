@@ -4,8 +4,9 @@ ghost use Rattle.std.specs.Prelude.{◌≡◌, ◌<◌, ◌≤◌, ◌^◌, Some
 ghost use Rattle.flow_syntax.specs.Syntax.{Flows as PlainFlows};
 ghost use Rattle.log_items.specs.Plain.{item_of};
 ghost use Rattle.dura_model.specs.Partition.{fresh, enter, accepted};
+ghost use Rattle.part_rows.specs.Timers.{NoneDue};
 ghost use Rattle.part_steps.specs.Applied.{Becomes};
-ghost use Rattle.part_steps.specs.Enabled.{ComesNext, stamp_at, IsEnabled, NoneEnabled};
+ghost use Rattle.part_steps.specs.Enabled.{ComesNext, FiresFirst, stamp_at, IsEnabled, NoneEnabled};
 ghost use Rattle.part_steps.specs.Outputs.{outputs_by};
 ghost use Rattle.part_steps.specs.States.{IsSound, state_of, count_of};
 
@@ -115,9 +116,28 @@ impl PartState {
         }
     }
 
+    /// The timer that is due first by now, as the item that it fires, if one is due.
+    pub fn due(&self, now: u64) -> Result<Option<Item>, AllocError>
+        requires { IsSound self.now }
+        ensures first { IfOk result (λ item.
+            IfSome item (λ one. FiresFirst (state_of self.now) (stamp_at (state_of self.now) now)
+            (item_of one))) }
+        ensures enabled { IfOk result (λ item.
+            IfSome item (λ one. (flows : PlainFlows)
+            → IsEnabled flows (count_of self.now) (state_of self.now)
+            (stamp_at (state_of self.now) now) (item_of one))) }
+        ensures none { IfOk result (λ item.
+            IfNone item (NoneDue (state_of self.now).timers (stamp_at (state_of self.now) now))) }
+    {
+        let stamp = self.stamp(now);
+        match self.rows.timers.due(stamp) {
+            Some(timer) => Ok(Some(Item::Fired(copy_id(&timer.id)?, timer.task, stamp))),
+            None => Ok(None),
+        }
+    }
+
     /// A delivery or a timer that is possible now, if there is one: the message that has waited longest of those that their
     /// receivers take, else the timer that is due first.
-    #[tactic(auto, using(crate::proofs::Enabling::none_enabled))]
     pub fn enabled(&self, now: u64) -> Result<Option<Item>, AllocError>
         requires { IsSound self.now }
         ensures some { IfOk result (λ item.
@@ -132,13 +152,10 @@ impl PartState {
             → NoneEnabled flows (count_of self.now) (state_of self.now)
             (stamp_at (state_of self.now) now))) }
     {
-        let stamp = self.stamp(now);
         if let Some(message) = self.rows.first_open() {
+            let stamp = self.stamp(now);
             return Ok(Some(Item::Ran(copy_id(&message.from)?, copy_id(&message.to)?, stamp)));
         }
-        match self.rows.timers.due(stamp) {
-            Some(timer) => Ok(Some(Item::Fired(copy_id(&timer.id)?, timer.task, stamp))),
-            None => Ok(None),
-        }
+        self.due(now)
     }
 }
