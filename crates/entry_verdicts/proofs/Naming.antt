@@ -1,5 +1,5 @@
 -- What items name, one item after another.
-use Rattle.std.proofs.Common.{◌≡◌, ◌∙◌, ℕ, ◌<◌, ◌≤◌, ◌+◌, List, [], ◌∷◌, ◌++◌, length, get_or, Option, Some, None, option_map, option_to_list, refl, sym, ap, subst, append_assoc, append-nil, arith}
+use Rattle.std.proofs.Common.{◌≡◌, ◌∙◌, List, [], ◌∷◌, ◌++◌, get_or, Option, Some, None, option_map, option_to_list, refl, sym, ap, subst, append_assoc, arith}
 use Rattle.std.specs.List.{All, Contains}
 use Rattle.std.proofs.lemmas.List.{get_or_default}
 use Rattle.std.proofs.lemmas.List.Elements.{All-append, All-cons, All-nil, All-contains, Contains-append_right, Contains-append_left}
@@ -23,18 +23,13 @@ pub record HasPassed (P : Identity → Type 0) (all rest : List Item) : Type 0 w
   pub is : named_by all ≡ front ++ named_by rest
   pub passed : All P front
 
-pub none_passed : (P : Identity → Type 0) (all : List Item) → HasPassed P all all
-none_passed P all = record { front = []; is = refl; passed = All-nil P }
-
+-- one more has passed
 pub one_passed : (P : Identity → Type 0) (all rest : List Item) (item : Item) → HasPassed P all (item ∷ rest) → All P (named_by (item ∷ [])) → HasPassed P all rest
 one_passed P all rest item so_far one = record {
   front = so_far.front ++ named_by (item ∷ []);
   is = so_far.is ∙ ap (λ (l : List Identity). so_far.front ++ l) (named_cons item rest) ∙ sym (append_assoc so_far.front (named_by (item ∷ [])) (named_by rest));
   passed = All-append P so_far.front (named_by (item ∷ [])) so_far.passed one;
 }
-
-pub all_passed : (P : Identity → Type 0) (all : List Item) → HasPassed P all [] → All P (named_by all)
-all_passed P all so_far = subst (All P) (sym (so_far.is ∙ append-nil so_far.front)) so_far.passed
 
 -- what the next item names is among what all name
 pub is_named : (P : Identity → Type 0) (all rest : List Item) (item : Item) (e : Identity) → HasPassed P all (item ∷ rest) → Contains (named_by (item ∷ [])) e → Contains (named_by all) e
