@@ -61,7 +61,7 @@ pub first_key : {X : Type 0} (k : Id) (numbers : BTreeMap ℕ X) (rest : List (I
 unfolding IsStrictlySortedBy
 first_key k numbers rest sorted other n x found = first_by k numbers rest (key_of other) n x (is_at (id_cmp (key_of other)) k) refl sorted.0 found
 
-is_there : {X : Type 0} (kept : Option X) → is_some kept ≡ true → (x : X) × (kept ≡ Some x)
+pub is_there : {X : Type 0} (kept : Option X) → is_some kept ≡ true → (x : X) × (kept ≡ Some x)
 is_there None there = absurd (cc there)
 is_there (Some x) there = (x, refl)
 

@@ -3,3 +3,4 @@ pub mod Copying
 pub mod Firsts
 pub mod Least
 pub mod Seen
+pub mod Tasks

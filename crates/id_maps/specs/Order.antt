@@ -1,6 +1,7 @@
 -- The ids that something is there for, one after another.
 use Rattle.std.specs.Prelude.{◌≡◌, ◌≤◌, ℕ, Bool, true, Option, Some, None}
-use Rattle.std.specs.Ordering.{is_lt, is_le}
+use Rattle.std.specs.declared.cmp.Ordering.{Ordering}
+use Rattle.std.specs.Ordering.{is_lt, is_le, nat_cmp, ordering_then}
 use Rattle.dura_value.specs.Ids.{Id}
 use Rattle.id_maps.specs.Keys.{id_cmp, key_of}
 
@@ -32,3 +33,22 @@ pub record IsFirst (there : Id → ℕ → Bool) (id : Id) (number : ℕ) : Type
   pub found : there id number ≡ true
   pub first : (other : Id) (n : ℕ) → there other n ≡ true → is_no_later id other ≡ true
   pub least : (n : ℕ) → there id n ≡ true → number ≤ n
+
+-- the order of ids with numbers: by id, and of one id by number
+abbrev pub task_cmp : Id × ℕ → Id × ℕ → Ordering
+task_cmp a b = ordering_then (id_cmp (key_of a.0) (key_of b.0)) (nat_cmp a.1 b.1)
+
+-- whether an id's number comes behind the last one, if there was one
+abbrev pub is_task_behind : Option (Id × ℕ) → Id × ℕ → Bool
+is_task_behind None task = true
+is_task_behind (Some last) task = is_lt (task_cmp last task)
+
+-- Something is there for this id and number, which are the first such behind the last ones.
+pub record IsNextTask (there : Id → ℕ → Bool) (last : Option (Id × ℕ)) (id : Id) (number : ℕ) : Type 0 where
+  pub found : there id number ≡ true
+  pub behind : is_task_behind last (id, number) ≡ true
+  pub first : (other : Id) (n : ℕ) → there other n ≡ true → is_task_behind last (other, n) ≡ true → is_le (task_cmp (id, number) (other, n)) ≡ true
+
+-- nothing is there behind the last id and number
+abbrev pub NoTaskBehind : (there : Id → ℕ → Bool) → Option (Id × ℕ) → Type 0
+NoTaskBehind there last = (id : Id) (number : ℕ) → there id number ≡ true → is_task_behind last (id, number) ≡ true → ⊥
