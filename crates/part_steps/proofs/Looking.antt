@@ -2,7 +2,7 @@
 use Rattle.std.proofs.Common.{◌≡◌, ◌∙◌, ℕ, true, false, Option, Some, None, IsSome, refl, ap, sym}
 use Rattle.std.specs.Prelude.{option_map, is_some}
 use Rattle.dura_value.specs.Ids.{Id}
-use Rattle.id_maps.specs.Order.{IsFirst}
+use Rattle.id_maps.specs.Order.{IsFirst, IsNextTask, NoTaskBehind}
 use Rattle.part_rows.specs.Timers.{IsNext, NoTimer}
 use Rattle.dura_model.specs.Partition.{Partition}
 use Rattle.part_rows.specs.Open.{IsOpen, NoneOpen}
@@ -29,6 +29,17 @@ seen_first g f id number is = record {
 
 pub seen_nowhere : {X Y : Type 0} (g : X → Y) (f : Id → ℕ → Option X) → ((id : Id) (n : ℕ) → f id n ≡ None) → (id : Id) (n : ℕ) → option_map g (f id n) ≡ None
 seen_nowhere g f none id n = ap (option_map g) (none id n)
+
+pub seen_next : {X Y : Type 0} (g : X → Y) (f : Id → ℕ → Option X) (last : Option (Id × ℕ)) (id : Id) (number : ℕ) → IsNextTask (λ i n. is_some (f i n)) last id number
+    → IsNextTask (λ i n. is_some (option_map g (f i n))) last id number
+seen_next g f last id number is = record {
+  found = test_seen g (f id number) ∙ is.found;
+  behind = is.behind;
+  first = λ other n there. is.first other n (sym (test_seen g (f other n)) ∙ there);
+}
+
+pub seen_none_behind : {X Y : Type 0} (g : X → Y) (f : Id → ℕ → Option X) (last : Option (Id × ℕ)) → NoTaskBehind (λ i n. is_some (f i n)) last → NoTaskBehind (λ i n. is_some (option_map g (f i n))) last
+seen_none_behind g f last none id number there = none id number (sym (test_seen g (f id number)) ∙ there)
 
 pub is_open_somewhere : (p : Partition) (from to : Id) → IsOpen p from to → IsQuiet p → ⊥
 is_open_somewhere p from to is quiet = let wrong : true ≡ false = sym is.taken ∙ quiet.deliveries from to is.body is.first in cc wrong

@@ -3,7 +3,7 @@
 ghost use Rattle.std.specs.Prelude.{◌≡◌, true, false, length, is_some, IsSome, IfSome, IfNone, option_map};
 ghost use Rattle.dura_value.specs.Views.{id_of, answer_of, message_of, posted_of, identity_of};
 ghost use Rattle.std.specs.List.{slice_get};
-ghost use Rattle.id_maps.specs.Order.{IsFirst};
+ghost use Rattle.id_maps.specs.Order.{IsFirst, IsNextTask, NoTaskBehind};
 ghost use Rattle.part_rows.specs.Timers.{IsNext, NoTimer};
 ghost use Rattle.part_rows.specs.Views.{activity_of};
 ghost use Rattle.part_steps.specs.Quiet.{NoActivity, IsQuiet};
@@ -123,6 +123,20 @@ impl PartState {
         ensures none { IfNone result (NoActivity (state_of self.now)) }
     {
         self.rows.activities.first()
+    }
+
+    /// The first instance and task behind the last ones, or of all, that have a pending activity: in the order of ids, and of one
+    /// instance in that of its tasks.
+    #[tactic(auto, using(crate::proofs::Looking::seen_next, crate::proofs::Looking::seen_none_behind))]
+    pub fn next_pending(&self, last: Option<(&Id, u32)>) -> Option<(&Id, u32)>
+        ensures next { IfSome result (λ one.
+            IsNextTask (λ id task. is_some ((state_of self.now).activities id task))
+            (option_map (λ task. (id_of task.0.now, task.1)) last.entry) (id_of one.0.now) one.1) }
+        ensures none { IfNone result (NoTaskBehind
+            (λ id task. is_some ((state_of self.now).activities id task))
+            (option_map (λ task. (id_of task.0.now, task.1)) last.entry)) }
+    {
+        self.rows.activities.next(last)
     }
 
     /// The stamp at which the first timer is due.
