@@ -1,0 +1,4 @@
+pub mod CutStreams
+pub mod Indices
+pub mod Keys
+pub mod Waits
