@@ -1,0 +1,15 @@
+use Rattle.std.proofs.Common.{None}
+use Rattle.std.proofs.lemmas.Result.{on_ok_weaker, on_err_weaker}
+use Rattle.dura_value.specs.Views.{id_of}
+use Rattle.shared_maps.specs.Entries.{find}
+use Rattle.shared_maps.specs.Digests.{hashed_place}
+use Rattle.shared_maps.specs.Places.{place_sought}
+use Rattle.shared_maps.proofs.Seen.{id_changes}
+use Rattle.shared_maps.proofs.id_map.IdMap.take.Goals as goal
+
+pub returns-clause-taken : goal.returns-clause-taken
+returns-clause-taken g c =
+    on_ok_weaker c.take.result (id_changes (find c.args.self.now.entries) (find c.take.new.self) (place_sought c.hashed_sought.result) None (id_of c.args.id.now) c.hashed_sought.ensures) c.take.ensures.taken
+
+pub returns-clause-same : goal.returns-clause-same
+returns-clause-same g c = on_err_weaker c.take.result (λ same. λ i id. same i (hashed_place id 0)) c.take.ensures.same

@@ -1,0 +1,15 @@
+use Rattle.std.proofs.Common.{Some}
+use Rattle.std.proofs.lemmas.Result.{on_ok_weaker, on_err_weaker}
+use Rattle.dura_value.specs.Views.{id_of}
+use Rattle.shared_maps.specs.Entries.{find}
+use Rattle.shared_maps.specs.Digests.{hashed_place}
+use Rattle.shared_maps.specs.Places.{place_of}
+use Rattle.shared_maps.proofs.Seen.{number_changes}
+use Rattle.shared_maps.proofs.number_map.NumberMap.put.Goals as goal
+
+pub returns-clause-put : goal.returns-clause-put
+returns-clause-put g c =
+    on_ok_weaker c.put.result (number_changes (find c.args.self.now.entries) (find c.put.new.self) (place_of c.in_ok-key.key) (Some c.args.value) (id_of c.args.id) c.args.number c.in_ok-key.ensures) c.put.ensures.put
+
+pub returns-clause-same : goal.returns-clause-same
+returns-clause-same g c = on_err_weaker c.put.result (λ same. λ i id number. same i (hashed_place id number)) c.put.ensures.same

@@ -1,0 +1,7 @@
+pub mod Ids
+pub mod Places
+pub mod Entries
+pub mod Tree
+pub mod Digests
+pub mod Maps
+pub mod Order

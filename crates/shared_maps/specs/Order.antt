@@ -1,0 +1,35 @@
+-- The order of ids, and of ids with numbers.
+use Rattle.std.specs.Prelude.{◌≡◌, ◌≤◌, ℕ, Bool, true, Option, Some, None}
+use Rattle.std.specs.declared.cmp.Ordering.{Ordering}
+use Rattle.std.specs.Ordering.{is_lt, is_le, nat_cmp, ordering_then}
+use Rattle.dura_value.specs.Ids.{Id}
+use Rattle.shared_maps.specs.Ids.{id_cmp, key_of}
+
+-- whether an id comes before another or is it
+abbrev pub is_no_later : Id → Id → Bool
+is_no_later a b = is_le (id_cmp (key_of a) (key_of b))
+
+-- Something is there for this id and number: for the first id that has any, and of its numbers the least.
+pub record IsFirst (there : Id → ℕ → Bool) (id : Id) (number : ℕ) : Type 0 where
+  pub found : there id number ≡ true
+  pub first : (other : Id) (n : ℕ) → there other n ≡ true → is_no_later id other ≡ true
+  pub least : (n : ℕ) → there id n ≡ true → number ≤ n
+
+-- by ids, then by numbers
+abbrev pub task_cmp : Id × ℕ → Id × ℕ → Ordering
+task_cmp a b = ordering_then (id_cmp (key_of a.0) (key_of b.0)) (nat_cmp a.1 b.1)
+
+-- whether an id and number come behind the last ones, if there were any
+abbrev pub is_behind : Option (Id × ℕ) → Id × ℕ → Bool
+is_behind None task = true
+is_behind (Some last) task = is_lt (task_cmp last task)
+
+-- Something is there for this id and number, the first such behind the last ones.
+pub record IsNextBehind (there : Id → ℕ → Bool) (last : Option (Id × ℕ)) (task : Id × ℕ) : Type 0 where
+  pub found : there task.0 task.1 ≡ true
+  pub behind : is_behind last task ≡ true
+  pub first : (other : Id × ℕ) → there other.0 other.1 ≡ true → is_behind last other ≡ true → is_le (task_cmp task other) ≡ true
+
+-- nothing is there behind the last ones
+abbrev pub NoneBehind : (there : Id → ℕ → Bool) → Option (Id × ℕ) → Type 0
+NoneBehind there last = (task : Id × ℕ) → there task.0 task.1 ≡ true → is_behind last task ≡ true → ⊥
