@@ -1,0 +1,270 @@
+-- A cell by its view.
+use Rattle.std.proofs.Common.{◌≡◌, ◌≤◌, ◌<◌, ◌^◌, ◌+◌, inl, inr, ℕ, zero, suc, true, List, [], ◌∷◌, ◌++◌, Option, Some, None, Result, Ok, refl, sym, ◌∙◌, ap, subst, arith}
+use Rattle.std.specs.Prelude.{◌⊎◌, max, length, take, drop, is_some}
+use Rattle.std.specs.List.{All}
+use Rattle.std.proofs.lemmas.List.{length-append, length-map, map-append, append-nil, take-map, drop-map}
+use Rattle.std.proofs.lemmas.List.Elements.{All-append, All-cons, All-head, All-tail}
+use Rattle.cell_waits.specs.Waits.{Waiting, MayWait, waits_of}
+use Rattle.cell_waits.specs.Indices.{IsIndexed}
+use Rattle.dura_model.proofs.Appending.{placed_both}
+use Rattle.dura_model.specs.Entries.{placed}
+use Rattle.dura_model.specs.Partition.{Partition, enter}
+use Rattle.dura_value.specs.Items.{Entry}
+use Rattle.dura_value.specs.Reading.{◌>>=◌}
+use Rattle.flow_syntax.specs.Syntax.{Flows}
+use Rattle.log_items.specs.Plain.{entry_of, item_of}
+use Rattle.part_items.specs.Numbered.{Next}
+use Rattle.part_steps.specs.Enabled.{NoneEnabled, stamp_at}
+use Rattle.part_steps.specs.States.{IsSound, state_of, count_of}
+use Rattle.part_steps.specs.declared.state.PartState.{PartState}
+use Rattle.spec_cell.specs.Ahead.{MayTurn, LeavesWaits, HasStep, Rests, Ends, ahead_of, begun_of}
+use Rattle.spec_cell.specs.Fills.{Filled}
+use Rattle.spec_cell.specs.Seats.{Slot}
+use Rattle.spec_cell.specs.Steps.{AreSteps, last_of, entries_in}
+use Rattle.spec_cell.specs.Turns.{IsBegun, NonePossible, MakesEntry, IsIdle, IsSpent, CellTurns, next_round}
+use Rattle.spec_cell.specs.Views.{CellView, Stands, StandsIn, HasFacts, HasSettled, AreBy, IsAhead, entries_of_live, incarnation_of, waits_of_live}
+use Rattle.spec_cell.specs.declared.cell.CellTurn.{CellTurn}
+use Rattle.spec_cell.specs.declared.cell.Mode.{Mode}
+use Rattle.spec_cell.specs.declared.live.Live.{Live}
+use Rattle.spec_cell.specs.declared.step.Step.{Step}
+use Rattle.spec_cell.proofs.Chains.{steps_both, steps_front, steps_back, last_both, last_many, last_sound, steps_placed, steps_given, steps_numbered, step_next}
+use Rattle.spec_cell.proofs.Filled.{filled_by}
+
+all_taken : {X : Type 0} (P : X → Type 0) (n : ℕ) (xs : List X) → All P xs → All P (take n xs)
+all_taken P zero xs all = λ k d inside. absurd (omega (arith, inside))
+all_taken P (suc n) [] all = all
+all_taken P (suc n) (x ∷ xs) all = All-cons P x (take n xs) (All-head P x xs all) (all_taken P n xs (All-tail P x xs all))
+
+all_dropped : {X : Type 0} (P : X → Type 0) (n : ℕ) (xs : List X) → All P xs → All P (drop n xs)
+all_dropped P zero xs all = all
+all_dropped P (suc n) [] all = all
+all_dropped P (suc n) (x ∷ xs) all = all_dropped P n xs (All-tail P x xs all)
+
+take-drop : {X : Type 0} (n : ℕ) (xs : List X) → take n xs ++ drop n xs ≡ xs
+take-drop zero xs = refl
+take-drop (suc n) [] = refl
+take-drop (suc n) (x ∷ xs) = ap (λ (l : List _). x ∷ l) (take-drop n xs)
+
+-- a cell's view, by what it has
+abbrev pub view : (number : ℕ) → Slot → Option Live → (now out owner round : ℕ) → CellView
+view number slot live now out owner round = record { number = number; slot = slot; entries = entries_of_live live; incarnation = incarnation_of live; waits = waits_of_live live; now = now; out = out; owner = owner; round = round }
+
+last_by : (now : ℕ) (before : PartState) (steps : List Step) → (state_of before).stamp ≤ now → AreBy now steps → (state_of (last_of before steps)).stamp ≤ now
+last_by now before [] low by = low
+last_by now before (s ∷ steps) low by =
+    last_by now s.after steps (All-head (λ (one : Step). (state_of one.after).stamp ≤ now) s steps by) (All-tail (λ (one : Step). (state_of one.after).stamp ≤ now) s steps by)
+
+module _ (flows : Flows) (count : ℕ) (begin : Partition) (number : ℕ) (slot : Slot) (now out owner round : ℕ) (live : Live) (stands : Stands flows count begin slot.mine now out live) where
+  abbrev old : CellView
+  old = view number slot (Some live) now out owner round
+
+  pub ahead_is : IsAhead flows count begin old (state_of (ahead_of live))
+  ahead_is =
+      placed_both flows count begin slot.mine (entries_in live.steps.items) ∙ ap (λ (r : Result Partition ℕ). r >>= λ p. placed flows count p (entries_in live.steps.items)) stands.base
+      ∙ steps_placed flows count live.base live.steps.items stands.partitions stands.steps
+
+  pub many : count_of (ahead_of live) ≡ count
+  many = last_many flows live.base live.steps.items stands.steps ∙ stands.partitions
+
+  pub may_turn : MayTurn live
+  may_turn = record {
+    sound = last_sound flows live.base live.steps.items stands.sound stands.steps;
+    younger = stands.younger;
+    room = stands.room;
+    indexed = stands.indexed;
+    waits = stands.waits;
+  }
+
+  abbrev begun_is : IsBegun flows count begin old (begun_of live)
+  begun_is = record { ahead = state_of (ahead_of live); is_ahead = ahead_is; entered = refl }
+
+  -- other steps behind the same settled state
+  pub stands_with : (new : Live) (steps : List Step) (less : ℕ) → new.base ≡ live.base → new.steps.items ≡ steps → AreSteps flows live.base steps → (state_of (last_of live.base steps)).incarnation ≤ new.incarnation → (state_of (last_of live.base steps)).position ≤ 2 ^ 62
+      → AreBy (max begin.stamp now) steps → less ≤ length steps → IsIndexed new.waits → All MayWait (waits_of new.waits) → Stands flows count begin slot.mine now less new
+  stands_with new steps less base steps_is are younger room by within indexed waits = record {
+    base = stands.base ∙ ap (λ (s : PartState). Ok (state_of s)) (sym base);
+    sound = subst IsSound (sym base) stands.sound;
+    partitions = ap count_of base ∙ stands.partitions;
+    steps = subst (λ (l : List Step). AreSteps flows new.base l) (sym steps_is) (subst (λ (s : PartState). AreSteps flows s steps) (sym base) are);
+    younger = subst (λ (l : List Step). (state_of (last_of new.base l)).incarnation ≤ new.incarnation) (sym steps_is) (subst (λ (s : PartState). (state_of (last_of s steps)).incarnation ≤ new.incarnation) (sym base) younger);
+    room = subst (λ (l : List Step). (state_of (last_of new.base l)).position ≤ 2 ^ 62) (sym steps_is) (subst (λ (s : PartState). (state_of (last_of s steps)).position ≤ 2 ^ 62) (sym base) room);
+    base_by = subst (λ (s : PartState). (state_of s).stamp ≤ max begin.stamp now) (sym base) stands.base_by;
+    by = subst (AreBy (max begin.stamp now)) (sym steps_is) by;
+    within = subst (λ (l : List Step). less ≤ length l) (sym steps_is) within;
+    indexed = indexed;
+    waits = waits;
+  }
+
+  none_here : NonePossible flows (count_of (ahead_of live)) now (begun_of live) (waits_of live.waits) → NonePossible flows count now (begun_of live) (waits_of live.waits)
+  none_here none = subst (λ (n : ℕ). NonePossible flows n now (begun_of live) (waits_of live.waits)) many none
+
+  pub made_stands : (limit : ℕ) (new : Live) → HasStep flows now limit round live new → Stands flows count begin slot.mine now out new
+  made_stands limit new has =
+      let next = step_next flows (ahead_of live) has.step may_turn.sound has.makes in
+      let last_is : last_of live.base (live.steps.items ++ has.step ∷ []) ≡ has.step.after = last_both live.base live.steps.items (has.step ∷ []) in
+      let position = ap (λ (s : PartState). (state_of s).position) last_is ∙ ap (λ (n : Next). n.position) next in
+      let incarnation = ap (λ (s : PartState). (state_of s).incarnation) last_is ∙ ap (λ (n : Next). n.incarnation) next in
+      let own = has.incarnation in
+      let same = has.leaves.incarnation in
+      let low = has.low in
+      let ahead_by = last_by (max begin.stamp now) live.base live.steps.items stands.base_by stands.by in
+      let by = filled_by flows (count_of (ahead_of live)) now has.filled in
+      let within = stands.within in
+      let long = length-append live.steps.items (has.step ∷ []) in
+      stands_with new (live.steps.items ++ has.step ∷ []) out has.leaves.base has.steps (steps_both flows live.base live.steps.items (has.step ∷ []) stands.steps (has.makes, tt))
+      (omega (arith, incarnation, own, same)) (omega (arith, position, low))
+      (All-append (λ (s : Step). (state_of s.after).stamp ≤ max begin.stamp now) live.steps.items (has.step ∷ []) stands.by
+      (All-cons (λ (s : Step). (state_of s.after).stamp ≤ max begin.stamp now) has.step [] (omega (arith, ahead_by, by)) (λ k d inside. absurd (omega (arith, inside)))))
+      (omega (arith, within, long)) has.leaves.indexed has.leaves.waits
+
+  pub made : (limit : ℕ) (new : Live) (position : ℕ) → position ≡ (state_of (ahead_of live)).position → HasStep flows now limit round live new → MakesEntry flows count begin limit old (view number slot (Some new) now out owner (next_round round)) position
+  made limit new position position_is has = record {
+    begun = begun_of live;
+    is_begun = begun_is;
+    entry = entry_of has.step.entry;
+    place = has.makes.position ∙ sym position_is;
+    made_by = has.incarnation;
+    some = let some = has.makes.some in let long = length-map has.step.entry.items item_of in omega (arith, some, long);
+    few = let few = has.few in let long = length-map has.step.entry.items item_of in omega (arith, few, long);
+    looked = has.looked;
+    rest = waits_of new.waits;
+    left = has.leaves.left;
+    after = state_of has.step.after;
+    filled = subst (λ (n : ℕ). Filled flows n now (begun_of live) has.looked (entry_of has.step.entry).items (state_of has.step.after)) many has.filled;
+    full = λ less.
+        let long = length-map has.step.entry.items item_of in
+        let both = has.full (omega (arith, less, long)) in
+        (both.0, subst (λ (n : ℕ). NoneEnabled flows n (state_of has.step.after) (stamp_at (state_of has.step.after) now)) many both.1);
+    first = has.first;
+    becomes =
+        let entries : entries_in new.steps.items ≡ entries_in live.steps.items ++ entry_of has.step.entry ∷ [] = ap entries_in has.steps ∙ map-append (λ (s : Step). entry_of s.entry) live.steps.items (has.step ∷ []) in
+        λ i. record old { entries = entries i; incarnation = has.leaves.incarnation i; waits = waits_of new.waits; round = next_round round };
+  }
+
+  still_stands : (new : Live) (looked : List Waiting) → new.steps ≡ live.steps → LeavesWaits live new looked → Stands flows count begin slot.mine now out new
+  still_stands new looked steps leaves =
+      let young = stands.younger in
+      let same = leaves.incarnation in
+      stands_with new live.steps.items out leaves.base (ap (λ v. v.items) steps) stands.steps (omega (arith, young, same)) stands.room stands.by stands.within leaves.indexed leaves.waits
+
+  pub idle_stands : (new : Live) → Rests flows now live new → Stands flows count begin slot.mine now out new
+  idle_stands new rests = still_stands new rests.looked rests.steps rests.leaves
+
+  pub idle : (new : Live) → Rests flows now live new → IsIdle flows count begin old (view number slot (Some new) now out owner (next_round round))
+  idle new rests = record {
+    begun = begun_of live;
+    is_begun = begun_is;
+    none = none_here rests.none;
+    becomes = λ i. record old { entries = (ap (λ v. entries_in v.items) rests.steps) i; incarnation = rests.leaves.incarnation i; waits = rests.gone i; round = next_round round };
+  }
+
+  pub spent_stands : (new : Live) (n : ℕ) → Ends flows now live new n → Stands flows count begin slot.mine now out new
+  spent_stands new n ends = still_stands new ends.looked ends.steps ends.leaves
+
+  pub spent : (new : Live) (n : ℕ) → Ends flows now live new n → IsSpent flows count begin old (view number slot (Some new) now out owner (next_round round)) n
+  spent new n ends = record {
+    begun = begun_of live;
+    is_begun = begun_is;
+    some = λ none. ends.some (subst (λ (n : ℕ). NonePossible flows n now (begun_of live) (waits_of live.waits)) (sym many) none);
+    number_is = ends.number_is;
+    past = ends.past;
+    looked = ends.looked;
+    rest = waits_of new.waits;
+    left = ends.leaves.left;
+    becomes = λ i. record old { entries = (ap (λ v. entries_in v.items) ends.steps) i; incarnation = ends.leaves.incarnation i; waits = waits_of new.waits; round = next_round round };
+  }
+
+-- what a turn made, where the cell is kept so
+pub as_turn : (flows : Flows) (count : ℕ) (begin : ℕ → Partition) (mode : Mode) (limit number : ℕ) (slot : Slot) (now out owner round behind : ℕ) (live new : Live) (place : Option Live) (self : CellView) (turned : CellTurn)
+    → view number slot (Some live) now out owner round ≡ self → place ≡ Some new → behind ≡ next_round round
+    → CellTurns flows count (begin number) mode limit (view number slot (Some live) now out owner round) turned (view number slot (Some new) now out owner (next_round round))
+    → CellTurns flows count (begin self.number) mode limit self turned (view number slot place now out owner behind)
+as_turn flows count begin mode limit number slot now out owner round behind live new place self turned view_is place_is round_is fact =
+    subst (λ (v : CellView). CellTurns flows count (begin v.number) mode limit v turned (view number slot place now out owner behind)) view_is
+    (subst (λ (o : Option Live). CellTurns flows count (begin number) mode limit (view number slot (Some live) now out owner round) turned (view number slot o now out owner behind)) (sym place_is)
+    (subst (λ (n : ℕ). CellTurns flows count (begin number) mode limit (view number slot (Some live) now out owner round) turned (view number slot (Some new) now out owner n)) (sym round_is) fact))
+
+-- a state that has no steps begins
+pub begins : (flows : Flows) (count : ℕ) (begin : Partition) (mine : List Entry) (live : Live) → live.steps.items ≡ [] → IsSound live.base → count_of live.base ≡ count → placed flows count begin mine ≡ Ok (state_of live.base) → (state_of live.base).stamp ≤ begin.stamp
+    → (state_of live.base).incarnation ≤ live.incarnation → (state_of live.base).position ≤ 2 ^ 62 → IsIndexed live.waits → waits_of live.waits ≡ [] → Stands flows count begin mine 0 0 live
+begins flows count begin mine live none sound partitions made stamp younger room indexed empty = record {
+  base = made;
+  sound = sound;
+  partitions = partitions;
+  steps = subst (AreSteps flows live.base) (sym none) tt;
+  younger = subst (λ (l : List Step). (state_of (last_of live.base l)).incarnation ≤ live.incarnation) (sym none) younger;
+  room = subst (λ (l : List Step). (state_of (last_of live.base l)).position ≤ 2 ^ 62) (sym none) room;
+  base_by = omega (arith, stamp);
+  by = subst (AreBy (max begin.stamp 0)) (sym none) (λ k d inside. absurd (omega (arith, inside)));
+  within = omega arith;
+  indexed = indexed;
+  waits = subst (All MayWait) (sym empty) (λ k d inside. absurd (omega (arith, inside)));
+}
+
+-- what its type knows of a cell
+pub facts_in : (flows : Flows) (count : ℕ) (begin : Partition) (number : ℕ) (slot : Slot) (now out owner round : ℕ) (place : Option Live) → StandsIn flows count begin slot.mine now out place → is_some place ≡ true → HasFacts flows count begin (view number slot place now out owner round)
+facts_in flows count begin number slot now out owner round None stands there = absurd (cc there)
+facts_in flows count begin number slot now out owner round (Some live) stands there = record {
+  base = state_of live.base;
+  ahead = state_of (ahead_of live);
+  settled = stands.base;
+  made = steps_placed flows count live.base live.steps.items stands.partitions stands.steps;
+  given = steps_given flows count live.base live.steps.items stands.partitions stands.steps;
+  numbered = steps_numbered flows live.base live.steps.items stands.sound stands.steps;
+  younger = stands.younger;
+  by = last_by (max begin.stamp now) live.base live.steps.items stands.base_by stands.by;
+  within = let within = stands.within in let long = length-map live.steps.items (λ (s : Step). entry_of s.entry) in omega (arith, within, long);
+  waits = stands.waits;
+}
+
+-- the settled state moves on by what the seat has settled
+pub settles : (flows : Flows) (count : ℕ) (begin : Partition) (mine : List Entry) (now out n : ℕ) (live new : Live) → Stands flows count begin mine now out live → n ≤ length live.steps.items → new.base ≡ last_of live.base (take n live.steps.items) → new.steps.items ≡ drop n live.steps.items
+    → new.incarnation ≡ live.incarnation → new.waits ≡ live.waits → Stands flows count begin (mine ++ take n (entries_in live.steps.items)) now 0 new
+settles flows count begin mine now out n live new stands few base steps incarnation waits =
+    let front = take n live.steps.items in
+    let back = drop n live.steps.items in
+    let front_are = steps_front flows n live.base live.steps.items stands.steps in
+    let back_are = steps_back flows n live.base live.steps.items stands.steps in
+    let last_is : last_of (last_of live.base front) back ≡ last_of live.base live.steps.items = sym (last_both live.base front back) ∙ ap (last_of live.base) (take-drop n live.steps.items) in
+    let entries_are : take n (entries_in live.steps.items) ≡ entries_in front = take-map (λ (s : Step). entry_of s.entry) n live.steps.items in
+    record {
+      base =
+          placed_both flows count begin mine (take n (entries_in live.steps.items)) ∙ ap (λ (r : Result Partition ℕ). r >>= λ p. placed flows count p (take n (entries_in live.steps.items))) stands.base
+          ∙ ap (placed flows count (state_of live.base)) entries_are ∙ steps_placed flows count live.base front stands.partitions front_are ∙ ap (λ (s : PartState). Ok (state_of s)) (sym base);
+      sound = subst IsSound (sym base) (last_sound flows live.base front stands.sound front_are);
+      partitions = ap count_of base ∙ last_many flows live.base front front_are ∙ stands.partitions;
+      steps = subst (λ (l : List Step). AreSteps flows new.base l) (sym steps) (subst (λ (s : PartState). AreSteps flows s back) (sym base) back_are);
+      younger = subst (λ (l : List Step). (state_of (last_of new.base l)).incarnation ≤ new.incarnation) (sym steps) (subst (λ (s : PartState). (state_of (last_of s back)).incarnation ≤ new.incarnation) (sym base)
+          (subst (λ (s : PartState). (state_of s).incarnation ≤ new.incarnation) (sym last_is) (let young = stands.younger in omega (arith, young, incarnation))));
+      room = subst (λ (l : List Step). (state_of (last_of new.base l)).position ≤ 2 ^ 62) (sym steps) (subst (λ (s : PartState). (state_of (last_of s back)).position ≤ 2 ^ 62) (sym base)
+          (subst (λ (s : PartState). (state_of s).position ≤ 2 ^ 62) (sym last_is) stands.room));
+      base_by = subst (λ (s : PartState). (state_of s).stamp ≤ max begin.stamp now) (sym base) (last_by (max begin.stamp now) live.base front stands.base_by (all_taken (λ (s : Step). (state_of s.after).stamp ≤ max begin.stamp now) n live.steps.items stands.by));
+      by = subst (AreBy (max begin.stamp now)) (sym steps) (all_dropped (λ (s : Step). (state_of s.after).stamp ≤ max begin.stamp now) n live.steps.items stands.by);
+      within = omega arith;
+      indexed = subst IsIndexed (sym waits) stands.indexed;
+      waits = subst (λ w. All MayWait (waits_of w)) (sym waits) stands.waits;
+    }
+
+-- a state where its cell's seat is another
+pub move_seat : (flows : Flows) (count : ℕ) (begin : ℕ → Partition) (number other : ℕ) (mine more : List Entry) (now out : ℕ) (place : Option Live) (live : Live) → other ≡ number → more ≡ mine → place ≡ Some live
+    → Stands flows count (begin number) mine now out live → StandsIn flows count (begin other) more now out place
+move_seat flows count begin number other mine more now out place live number_is mine_is place_is stands =
+    subst (λ (n : ℕ). StandsIn flows count (begin n) more now out place) (sym number_is)
+    (subst (λ (l : List Entry). StandsIn flows count (begin number) l now out place) (sym mine_is)
+    (subst (λ (o : Option Live). StandsIn flows count (begin number) mine now out o) (sym place_is) stands))
+
+pub settled_view : (number other : ℕ) (slot its : Slot) (now out owner round n : ℕ) (live new : Live) (place : Option Live) (self : CellView) → view number slot (Some live) now out owner round ≡ self → other ≡ number → place ≡ Some new
+    → new.steps.items ≡ drop n live.steps.items → new.incarnation ≡ live.incarnation → new.waits ≡ live.waits → HasSettled n its self (view other its place now 0 owner round)
+settled_view number other slot its now out owner round n live new place self view_is number_is place_is steps incarnation waits =
+    subst (λ (v : CellView). HasSettled n its v (view other its place now 0 owner round)) view_is
+    (λ i. record {
+      number = number_is i;
+      slot = its;
+      entries = (ap entries_of_live place_is ∙ ap entries_in steps ∙ sym (drop-map (λ (s : Step). entry_of s.entry) n live.steps.items)) i;
+      incarnation = (ap incarnation_of place_is ∙ incarnation) i;
+      waits = (ap waits_of_live place_is ∙ ap waits_of waits) i;
+      now = now;
+      out = 0;
+      owner = owner;
+      round = round;
+    })

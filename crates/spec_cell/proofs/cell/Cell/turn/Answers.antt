@@ -1,0 +1,120 @@
+use Rattle.std.proofs.Common.{◌≡◌, ◌∙◌, Option, Some, sym, ap, subst}
+use Rattle.flow_syntax.specs.Syntax.{Flows}
+use Rattle.part_steps.specs.States.{state_of}
+use Rattle.part_steps.specs.declared.state.PartState.{PartState}
+use Rattle.spec_cell.specs.Ahead.{Turns}
+use Rattle.spec_cell.specs.Turns.{IsHeld}
+use Rattle.spec_cell.specs.Views.{CellView, Stands, StandsIn}
+use Rattle.spec_cell.specs.declared.live.Live.{Live}
+use Rattle.spec_cell.specs.declared.cell.CellTurn.TheVariants.{Turned as ATurn, Idle as AnIdle, Spent as ASpent}
+use Rattle.spec_cell.specs.declared.turning.Turned.{Turned}
+use Rattle.spec_cell.specs.declared.turning.Turned.TheVariants as turns
+use Rattle.spec_cell.proofs.CellFacts.{view, may_turn, made, made_stands, idle, idle_stands, spent, spent_stands, as_turn}
+use Rattle.spec_cell.proofs.cell.Cell.turn.Goals as goal
+
+pub turn-requires-clause-may : goal.turn-requires-clause-may
+turn-requires-clause-may g c =
+    let inside = c.self.inside in
+    let number = g.S.Mine.number inside.seat in
+    let slot = g.S.Mine.slot inside.seat in
+    let live = c.in-Some.live in
+    let live_is : inside.live ≡ Some live = sym c.take.ensures.value ∙ c.in-Some.is in
+    let stands : Stands g.S.Mine.flows g.S.Mine.count (g.S.Mine.begin number) slot.mine inside.now inside.out live =
+    subst (λ (o : Option Live). StandsIn g.S.Mine.flows g.S.Mine.count (g.S.Mine.begin number) slot.mine inside.now inside.out o) live_is c.self.invariant in
+    may_turn g.S.Mine.flows g.S.Mine.count (g.S.Mine.begin number) number slot inside.now inside.out inside.owner inside.round live stands
+
+pub invariant_of-self-in-Made : goal.invariant_of-self-in-Made
+invariant_of-self-in-Made g c =
+    let inside = c.self.inside in
+    let number = g.S.Mine.number inside.seat in
+    let slot = g.S.Mine.slot inside.seat in
+    let live = c.in-Some.live in
+    let live_is : inside.live ≡ Some live = sym c.take.ensures.value ∙ c.in-Some.is in
+    let stands : Stands g.S.Mine.flows g.S.Mine.count (g.S.Mine.begin number) slot.mine inside.now inside.out live =
+    subst (λ (o : Option Live). StandsIn g.S.Mine.flows g.S.Mine.count (g.S.Mine.begin number) slot.mine inside.now inside.out o) live_is c.self.invariant in
+    let has = subst (λ (f : Flows). Turns f inside.now c.args.limit inside.round live (turns.Made c.in-Made.made)) c.requires.flows
+    (subst (λ (t : Turned). Turns (g.R.Reactions.flows c.args.reactions.now) inside.now c.args.limit inside.round live t) c.in-Made.is c.in_ok-turned.ensures) in
+    subst (λ (o : Option Live). StandsIn g.S.Mine.flows g.S.Mine.count (g.S.Mine.begin number) slot.mine inside.now inside.out o) (sym c.put-in-Made.ensures) (made_stands g.S.Mine.flows g.S.Mine.count (g.S.Mine.begin number) number slot inside.now inside.out inside.owner inside.round live stands c.args.limit c.in-Made.made has)
+
+pub invariant_of-self-in-Idle : goal.invariant_of-self-in-Idle
+invariant_of-self-in-Idle g c =
+    let inside = c.self.inside in
+    let number = g.S.Mine.number inside.seat in
+    let slot = g.S.Mine.slot inside.seat in
+    let live = c.in-Some.live in
+    let live_is : inside.live ≡ Some live = sym c.take.ensures.value ∙ c.in-Some.is in
+    let stands : Stands g.S.Mine.flows g.S.Mine.count (g.S.Mine.begin number) slot.mine inside.now inside.out live =
+    subst (λ (o : Option Live). StandsIn g.S.Mine.flows g.S.Mine.count (g.S.Mine.begin number) slot.mine inside.now inside.out o) live_is c.self.invariant in
+    let has = subst (λ (f : Flows). Turns f inside.now c.args.limit inside.round live (turns.Idle c.in-Idle.same)) c.requires.flows
+    (subst (λ (t : Turned). Turns (g.R.Reactions.flows c.args.reactions.now) inside.now c.args.limit inside.round live t) c.in-Idle.is c.in_ok-turned.ensures) in
+    subst (λ (o : Option Live). StandsIn g.S.Mine.flows g.S.Mine.count (g.S.Mine.begin number) slot.mine inside.now inside.out o) (sym c.put-in-Idle.ensures) (idle_stands g.S.Mine.flows g.S.Mine.count (g.S.Mine.begin number) number slot inside.now inside.out inside.owner inside.round live stands c.in-Idle.same has)
+
+pub invariant_of-self-in-Spent : goal.invariant_of-self-in-Spent
+invariant_of-self-in-Spent g c =
+    let inside = c.self.inside in
+    let number = g.S.Mine.number inside.seat in
+    let slot = g.S.Mine.slot inside.seat in
+    let live = c.in-Some.live in
+    let live_is : inside.live ≡ Some live = sym c.take.ensures.value ∙ c.in-Some.is in
+    let stands : Stands g.S.Mine.flows g.S.Mine.count (g.S.Mine.begin number) slot.mine inside.now inside.out live =
+    subst (λ (o : Option Live). StandsIn g.S.Mine.flows g.S.Mine.count (g.S.Mine.begin number) slot.mine inside.now inside.out o) live_is c.self.invariant in
+    let has = subst (λ (f : Flows). Turns f inside.now c.args.limit inside.round live (turns.Spent c.in-Spent.same c.in-Spent.number)) c.requires.flows
+    (subst (λ (t : Turned). Turns (g.R.Reactions.flows c.args.reactions.now) inside.now c.args.limit inside.round live t) c.in-Spent.is c.in_ok-turned.ensures) in
+    subst (λ (o : Option Live). StandsIn g.S.Mine.flows g.S.Mine.count (g.S.Mine.begin number) slot.mine inside.now inside.out o) (sym c.put-in-Spent.ensures) (spent_stands g.S.Mine.flows g.S.Mine.count (g.S.Mine.begin number) number slot inside.now inside.out inside.owner inside.round live stands c.in-Spent.same c.in-Spent.number has)
+
+pub returns-in-Made : goal.returns-in-Made
+returns-in-Made g c =
+    let inside = c.self.inside in
+    let number = g.S.Mine.number inside.seat in
+    let slot = g.S.Mine.slot inside.seat in
+    let live = c.in-Some.live in
+    let live_is : inside.live ≡ Some live = sym c.take.ensures.value ∙ c.in-Some.is in
+    let stands : Stands g.S.Mine.flows g.S.Mine.count (g.S.Mine.begin number) slot.mine inside.now inside.out live =
+    subst (λ (o : Option Live). StandsIn g.S.Mine.flows g.S.Mine.count (g.S.Mine.begin number) slot.mine inside.now inside.out o) live_is c.self.invariant in
+    let has = subst (λ (f : Flows). Turns f inside.now c.args.limit inside.round live (turns.Made c.in-Made.made)) c.requires.flows
+    (subst (λ (t : Turned). Turns (g.R.Reactions.flows c.args.reactions.now) inside.now c.args.limit inside.round live t) c.in-Made.is c.in_ok-turned.ensures) in
+    let view_is : view number slot (Some live) inside.now inside.out inside.owner inside.round ≡ c.args.self.now =
+    ap (λ (o : Option Live). view number slot o inside.now inside.out inside.owner inside.round) (sym live_is) ∙ c.self.view_is in
+    let free : IsHeld c.args.mode (view number slot (Some live) inside.now inside.out inside.owner inside.round).entries → ⊥ = c.is_held.ensures.free c.if-is_held.false in
+    record {
+      turns = as_turn g.S.Mine.flows g.S.Mine.count g.S.Mine.begin c.args.mode c.args.limit number slot inside.now inside.out inside.owner inside.round c.after_round-self-inside.result live c.in-Made.made c.put-in-Made.new.place c.args.self.now (ATurn c.position-position.result)
+          view_is c.put-in-Made.ensures c.after_round-self-inside.ensures (free, made g.S.Mine.flows g.S.Mine.count (g.S.Mine.begin number) number slot inside.now inside.out inside.owner inside.round live stands c.args.limit c.in-Made.made c.position-position.result (c.position-position.ensures ∙ ap (λ (s : PartState). (state_of s).position) c.ahead.ensures) has);
+    }
+
+pub returns-in-Idle : goal.returns-in-Idle
+returns-in-Idle g c =
+    let inside = c.self.inside in
+    let number = g.S.Mine.number inside.seat in
+    let slot = g.S.Mine.slot inside.seat in
+    let live = c.in-Some.live in
+    let live_is : inside.live ≡ Some live = sym c.take.ensures.value ∙ c.in-Some.is in
+    let stands : Stands g.S.Mine.flows g.S.Mine.count (g.S.Mine.begin number) slot.mine inside.now inside.out live =
+    subst (λ (o : Option Live). StandsIn g.S.Mine.flows g.S.Mine.count (g.S.Mine.begin number) slot.mine inside.now inside.out o) live_is c.self.invariant in
+    let has = subst (λ (f : Flows). Turns f inside.now c.args.limit inside.round live (turns.Idle c.in-Idle.same)) c.requires.flows
+    (subst (λ (t : Turned). Turns (g.R.Reactions.flows c.args.reactions.now) inside.now c.args.limit inside.round live t) c.in-Idle.is c.in_ok-turned.ensures) in
+    let view_is : view number slot (Some live) inside.now inside.out inside.owner inside.round ≡ c.args.self.now =
+    ap (λ (o : Option Live). view number slot o inside.now inside.out inside.owner inside.round) (sym live_is) ∙ c.self.view_is in
+    let free : IsHeld c.args.mode (view number slot (Some live) inside.now inside.out inside.owner inside.round).entries → ⊥ = c.is_held.ensures.free c.if-is_held.false in
+    record {
+      turns = as_turn g.S.Mine.flows g.S.Mine.count g.S.Mine.begin c.args.mode c.args.limit number slot inside.now inside.out inside.owner inside.round c.after_round-self-inside.result live c.in-Idle.same c.put-in-Idle.new.place c.args.self.now (AnIdle)
+          view_is c.put-in-Idle.ensures c.after_round-self-inside.ensures (free, idle g.S.Mine.flows g.S.Mine.count (g.S.Mine.begin number) number slot inside.now inside.out inside.owner inside.round live stands c.in-Idle.same has);
+    }
+
+pub returns-in-Spent : goal.returns-in-Spent
+returns-in-Spent g c =
+    let inside = c.self.inside in
+    let number = g.S.Mine.number inside.seat in
+    let slot = g.S.Mine.slot inside.seat in
+    let live = c.in-Some.live in
+    let live_is : inside.live ≡ Some live = sym c.take.ensures.value ∙ c.in-Some.is in
+    let stands : Stands g.S.Mine.flows g.S.Mine.count (g.S.Mine.begin number) slot.mine inside.now inside.out live =
+    subst (λ (o : Option Live). StandsIn g.S.Mine.flows g.S.Mine.count (g.S.Mine.begin number) slot.mine inside.now inside.out o) live_is c.self.invariant in
+    let has = subst (λ (f : Flows). Turns f inside.now c.args.limit inside.round live (turns.Spent c.in-Spent.same c.in-Spent.number)) c.requires.flows
+    (subst (λ (t : Turned). Turns (g.R.Reactions.flows c.args.reactions.now) inside.now c.args.limit inside.round live t) c.in-Spent.is c.in_ok-turned.ensures) in
+    let view_is : view number slot (Some live) inside.now inside.out inside.owner inside.round ≡ c.args.self.now =
+    ap (λ (o : Option Live). view number slot o inside.now inside.out inside.owner inside.round) (sym live_is) ∙ c.self.view_is in
+    let free : IsHeld c.args.mode (view number slot (Some live) inside.now inside.out inside.owner inside.round).entries → ⊥ = c.is_held.ensures.free c.if-is_held.false in
+    record {
+      turns = as_turn g.S.Mine.flows g.S.Mine.count g.S.Mine.begin c.args.mode c.args.limit number slot inside.now inside.out inside.owner inside.round c.after_round-self-inside.result live c.in-Spent.same c.put-in-Spent.new.place c.args.self.now (ASpent c.in-Spent.number)
+          view_is c.put-in-Spent.ensures c.after_round-self-inside.ensures (free, spent g.S.Mine.flows g.S.Mine.count (g.S.Mine.begin number) number slot inside.now inside.out inside.owner inside.round live stands c.in-Spent.same c.in-Spent.number has);
+    }

@@ -1,0 +1,140 @@
+//! A cell: one partition that runs ahead of what is settled, with what waits for it.
+
+ghost use Rattle.std.specs.Prelude.{◌≡◌, ◌<◌, ◌≤◌, true, false, Some, IfOk};
+ghost use Rattle.spec_cell.specs.Steps.{entries_in};
+ghost use Rattle.spec_cell.specs.Turns.{IsHeld, CellTurns, next_round};
+
+use crate::live::Live;
+use crate::mine::Mine;
+use crate::turning::{Turned, turn};
+use part_rows::Reactions;
+use std::alloc::{AllocError, Global};
+use std::marker::Model;
+
+/// How far entries may run ahead.
+#[derive(Clone, Copy)]
+pub enum Mode {
+    /// Not at all: an entry is settled before the next is made.
+    None,
+    /// Within the partition: messages to others go out once their entry is settled.
+    Local,
+    /// Everywhere: messages go out at once.
+    Global,
+}
+
+/// What came of a turn.
+pub enum CellTurn {
+    /// An entry was made at this position.
+    Turned(u64),
+    /// An entry isn't settled.
+    Held,
+    /// Nothing is possible.
+    Idle,
+    /// The entry would have this number, which is past those that there are.
+    Spent(u64),
+}
+
+/// A partition that runs ahead of what its seat has settled. Want of memory in a call leaves it without a state, and each later call says
+/// so again.
+pub struct Cell<S: Mine> {
+    /// Its state, unless memory ran out.
+    pub(crate) live: Option<Live>,
+    /// The greatest moment that was handed in.
+    pub(crate) now: u64,
+    /// How many of the first entries are in the frame that is out.
+    pub(crate) out: usize,
+    /// The node that owns it.
+    pub(crate) owner: u32,
+    /// Which side of a turn is first next.
+    pub(crate) round: u8,
+    /// The seat, or what stands for it while it is out.
+    pub(crate) seat: S,
+}
+
+impl<S: Mine> Model for Cell<S> {
+    ghost use Rattle.spec_cell.specs.Views.{CellView, StandsIn, entries_of_live, incarnation_of, waits_of_live};
+
+    ghost Value = { CellView };
+
+    ghost view = { λ c. record {
+      number = S.number c.seat;
+      slot = S.slot c.seat;
+      entries = entries_of_live c.live;
+      incarnation = incarnation_of c.live;
+      waits = waits_of_live c.live;
+      now = c.now;
+      out = c.out;
+      owner = c.owner;
+      round = c.round;
+    } };
+
+    ghost invariant = { λ c. StandsIn S.flows S.count (S.begin (S.number c.seat)) (S.slot c.seat).mine c.now c.out c.live };
+}
+
+/// Whether an entry isn't settled in the mode that has one at a time.
+fn is_held(mode: Mode, live: &Live) -> bool
+    ensures held { result ≡ true → IsHeld mode (entries_in live.now.steps.items) }
+    ensures free { result ≡ false → IsHeld mode (entries_in live.now.steps.items) → ⊥ }
+{
+    match mode {
+        Mode::None => !live.steps.is_empty(),
+        Mode::Local | Mode::Global => false,
+    }
+}
+
+/// A state comes to its place.
+pub(crate) fn put(place: &mut Option<Live>, live: Live)
+    ensures { place.new ≡ Some live }
+{
+    *place = Some(live);
+}
+
+/// The round behind this one.
+fn after_round(round: u8) -> u8
+    ensures { result ≡ next_round round }
+{
+    if round >= 3 { 0 } else { round + 1 }
+}
+
+impl<S: Mine> Cell<S> {
+    /// One entry more: of 1 to so many items, of what waits and of the deliveries and timers that are possible, until nothing is. Else it
+    /// is held, or nothing is possible.
+    pub fn turn<R: Reactions>(
+        &mut self,
+        alloc: Global,
+        reactions: &R,
+        limit: u32,
+        mode: Mode,
+    ) -> Result<CellTurn, AllocError>
+        requires flows { R.flows reactions.now ≡ S.flows }
+        requires some { 0 < limit }
+        requires most { limit ≤ 64 }
+        ensures turns { IfOk result (λ turned.
+            CellTurns S.flows S.count (S.begin self.old.number) mode limit self.old turned self.new) }
+    {
+        let Some(live) = self.live.take() else {
+            return Err(AllocError);
+        };
+        if is_held(mode, &live) {
+            put(&mut self.live, live);
+            return Ok(CellTurn::Held);
+        }
+        let position = live.ahead().position();
+        let turned = turn(alloc, reactions, live, self.now, limit, self.round)?;
+        self.round = after_round(self.round);
+        match turned {
+            Turned::Made(made) => {
+                put(&mut self.live, made);
+                Ok(CellTurn::Turned(position))
+            }
+            Turned::Idle(same) => {
+                put(&mut self.live, same);
+                Ok(CellTurn::Idle)
+            }
+            Turned::Spent(same, number) => {
+                put(&mut self.live, same);
+                Ok(CellTurn::Spent(number))
+            }
+        }
+    }
+}

@@ -1,0 +1,118 @@
+//! An entry as far as it is filled: its items, the state that they make, and what puts one more or several behind them.
+
+ghost use Rattle.std.specs.Prelude.{◌≡◌, ◌<◌, ◌≤◌, List, true, false, IfOk, length};
+ghost use Rattle.std.specs.List.{All};
+ghost use Rattle.cell_waits.specs.Waits.{Waiting};
+ghost use Rattle.log_items.specs.Plain.{items_of};
+ghost use Rattle.part_items.specs.ItemFits.{FitsItem};
+ghost use Rattle.part_steps.specs.Enabled.{NoneEnabled, stamp_at};
+ghost use Rattle.part_steps.specs.States.{state_of, count_of};
+ghost use Rattle.spec_cell.specs.Fills.{IsUnderWay, LooksOn, Puts};
+
+use log_items::Item;
+use part_items::item_fits;
+use part_rows::Reactions;
+use part_steps::{Batch, PartState, Verdict, next_items};
+use std::alloc::{AllocError, Global};
+
+/// The items that an entry is filled with so far, and the state that they make.
+pub(crate) struct Filling {
+    /// The state.
+    pub(crate) state: PartState,
+    /// The items.
+    pub(crate) items: Vec<Item>,
+}
+
+impl Filling {
+    /// Lets go of both.
+    pub(crate) fn let_go(self) {
+        let Filling { state, items } = self;
+        state.let_go();
+        drop(items);
+    }
+}
+
+/// Puts an item behind the others, where it is accepted.
+pub(crate) fn put<R: Reactions>(
+    alloc: Global,
+    reactions: &R,
+    filling: Filling,
+    item: Item,
+) -> Result<Filling, AllocError>
+    requires way { IsUnderWay filling }
+    ensures puts { IfOk result (λ next. Puts (R.flows reactions.now) filling item next) }
+{
+    let Filling { state, mut items } = filling;
+    let verdict = match state.apply(alloc, reactions, &item) {
+        Ok(verdict) => verdict,
+        Err(error) => {
+            drop(item);
+            return Err(error);
+        }
+    };
+    match verdict {
+        Verdict::Accepted(state, outputs) => {
+            drop(outputs);
+            match items.push(item) {
+                Ok(()) => Ok(Filling { state, items }),
+                Err(error) => {
+                    state.let_go();
+                    Err(error.into())
+                }
+            }
+        }
+        Verdict::Refused(state) => {
+            drop(item);
+            Ok(Filling { state, items })
+        }
+    }
+}
+
+/// Puts the deliveries and timers that are possible now behind the others, up to so many items in all; fewer only where none is possible
+/// behind them.
+pub(crate) fn fill<R: Reactions>(
+    alloc: Global,
+    reactions: &R,
+    filling: Filling,
+    now: u64,
+    limit: u32,
+) -> Result<Filling, AllocError>
+    requires way { IsUnderWay filling }
+    ensures on { (waits : List Waiting)
+        → IfOk result (λ next. LooksOn (R.flows reactions.now) now filling next waits waits) }
+    ensures few { length filling.items.items ≤ limit
+        → IfOk result (λ next. length next.items.items ≤ limit) }
+    ensures less { IfOk result (λ next. length next.items.items < limit
+        → NoneEnabled (R.flows reactions.now) (count_of filling.state) (state_of next.state)
+        (stamp_at (state_of next.state) now)) }
+{
+    let Filling { state, mut items } = filling;
+    let room = (limit as usize).saturating_sub(items.len());
+    let batch = next_items(alloc, reactions, state, now, room as u32)?;
+    let Batch {
+        state,
+        items: mut more,
+        outputs,
+    } = batch;
+    drop(outputs);
+    match items.append(&mut more) {
+        Ok(()) => Ok(Filling { state, items }),
+        Err(error) => {
+            state.let_go();
+            Err(error)
+        }
+    }
+}
+
+/// Whether all of these can be written.
+pub(crate) fn all_fit(items: &[Item]) -> bool
+    ensures fits { result ≡ true → All FitsItem (items_of items.now) }
+    ensures misfit { result ≡ false → All FitsItem (items_of items.now) → ⊥ }
+{
+    for item in items {
+        if !item_fits(item) {
+            return false;
+        }
+    }
+    true
+}

@@ -1,0 +1,19 @@
+//! A cell: one partition that runs ahead of what its log has settled.
+//!
+//! - `step`: an entry that isn't settled, with the state after it. `live`: the settled state and the steps behind it.
+//! - `filling`: an entry as far as it is filled, with `waiting`, what waits; `turning`: one entry more.
+//! - `cell`: the cell, its type and its turn; `seats`: how it begins; `moving`: its settled state moves on. `mine`: what its seat shows.
+#![tactic(auto)]
+
+mod cell;
+mod filling;
+mod live;
+mod mine;
+mod moving;
+mod seats;
+mod step;
+mod turning;
+mod waiting;
+
+pub use cell::{Cell, CellTurn, Mode};
+pub use mine::Mine;
