@@ -1,15 +1,16 @@
 -- A cell by its view.
 use Rattle.std.proofs.Common.{◌≡◌, ◌≤◌, ◌<◌, ◌^◌, ◌+◌, inl, inr, ℕ, zero, suc, true, List, [], ◌∷◌, ◌++◌, Option, Some, None, Result, Ok, refl, sym, ◌∙◌, ap, subst, arith}
-use Rattle.std.specs.Prelude.{◌⊎◌, max, length, take, drop, is_some}
+use Rattle.std.specs.Prelude.{◌⊎◌, ◌-◌, min, max, length, take, drop, filter, is_some}
 use Rattle.std.specs.List.{All}
-use Rattle.std.proofs.lemmas.List.{length-append, length-map, map-append, append-nil, take-map, drop-map}
+use Rattle.std.proofs.lemmas.Bool.{cases_lt}
+use Rattle.std.proofs.lemmas.List.{length-append, length-map, map-append, append-nil, take-map, drop-map, length-take-le}
 use Rattle.std.proofs.lemmas.List.Elements.{All-append, All-cons, All-head, All-tail}
-use Rattle.cell_waits.specs.Waits.{Waiting, MayWait, waits_of}
+use Rattle.cell_waits.specs.Waits.{Waiting, MayWait, waits_of, lasting, lost_by, without_lost}
 use Rattle.cell_waits.specs.Indices.{IsIndexed}
 use Rattle.dura_model.proofs.Appending.{placed_both}
 use Rattle.dura_model.specs.Entries.{placed}
 use Rattle.dura_model.specs.Partition.{Partition, enter}
-use Rattle.dura_value.specs.Items.{Entry}
+use Rattle.dura_value.specs.Items.{Entry, Floor}
 use Rattle.dura_value.specs.Reading.{◌>>=◌}
 use Rattle.flow_syntax.specs.Syntax.{Flows}
 use Rattle.log_items.specs.Plain.{entry_of, item_of}
@@ -18,16 +19,18 @@ use Rattle.part_steps.specs.Enabled.{NoneEnabled, stamp_at}
 use Rattle.part_steps.specs.States.{IsSound, state_of, count_of}
 use Rattle.part_steps.specs.declared.state.PartState.{PartState}
 use Rattle.spec_cell.specs.Ahead.{MayTurn, LeavesWaits, HasStep, Rests, Ends, ahead_of, begun_of}
+use Rattle.spec_cell.specs.Comes.{with_wait}
 use Rattle.spec_cell.specs.Fills.{Filled}
+use Rattle.spec_cell.specs.Moves.{given_up}
 use Rattle.spec_cell.specs.Seats.{Slot}
 use Rattle.spec_cell.specs.Steps.{AreSteps, last_of, entries_in}
 use Rattle.spec_cell.specs.Turns.{IsBegun, NonePossible, MakesEntry, IsIdle, IsSpent, CellTurns, next_round}
-use Rattle.spec_cell.specs.Views.{CellView, Stands, StandsIn, HasFacts, HasSettled, AreBy, IsAhead, entries_of_live, incarnation_of, waits_of_live}
+use Rattle.spec_cell.specs.Views.{CellView, Stands, StandsIn, HasFacts, HasSettled, AreBy, IsAhead, IsBase, entries_of_live, incarnation_of, waits_of_live}
 use Rattle.spec_cell.specs.declared.cell.CellTurn.{CellTurn}
 use Rattle.spec_cell.specs.declared.cell.Mode.{Mode}
 use Rattle.spec_cell.specs.declared.live.Live.{Live}
 use Rattle.spec_cell.specs.declared.step.Step.{Step}
-use Rattle.spec_cell.proofs.Chains.{steps_both, steps_front, steps_back, last_both, last_many, last_sound, steps_placed, steps_given, steps_numbered, step_next}
+use Rattle.spec_cell.proofs.Chains.{steps_both, steps_front, steps_back, last_both, last_many, last_sound, steps_placed, steps_given, steps_numbered, step_next, last_position}
 use Rattle.spec_cell.proofs.Filled.{filled_by}
 
 all_taken : {X : Type 0} (P : X → Type 0) (n : ℕ) (xs : List X) → All P xs → All P (take n xs)
@@ -80,8 +83,9 @@ module _ (flows : Flows) (count : ℕ) (begin : Partition) (number : ℕ) (slot 
 
   -- other steps behind the same settled state
   pub stands_with : (new : Live) (steps : List Step) (less : ℕ) → new.base ≡ live.base → new.steps.items ≡ steps → AreSteps flows live.base steps → (state_of (last_of live.base steps)).incarnation ≤ new.incarnation → (state_of (last_of live.base steps)).position ≤ 2 ^ 62
-      → AreBy (max begin.stamp now) steps → less ≤ length steps → IsIndexed new.waits → All MayWait (waits_of new.waits) → Stands flows count begin slot.mine now less new
-  stands_with new steps less base steps_is are younger room by within indexed waits = record {
+      → new.incarnation ≤ 2 ^ 63 → AreBy (max begin.stamp now) steps → less ≤ length steps → IsIndexed new.waits → All MayWait (waits_of new.waits) → Stands flows count begin slot.mine now less new
+  stands_with new steps less base steps_is are younger room low by within indexed waits = record {
+    low = low;
     base = stands.base ∙ ap (λ (s : PartState). Ok (state_of s)) (sym base);
     sound = subst IsSound (sym base) stands.sound;
     partitions = ap count_of base ∙ stands.partitions;
@@ -112,7 +116,7 @@ module _ (flows : Flows) (count : ℕ) (begin : Partition) (number : ℕ) (slot 
       let within = stands.within in
       let long = length-append live.steps.items (has.step ∷ []) in
       stands_with new (live.steps.items ++ has.step ∷ []) out has.leaves.base has.steps (steps_both flows live.base live.steps.items (has.step ∷ []) stands.steps (has.makes, tt))
-      (omega (arith, incarnation, own, same)) (omega (arith, position, low))
+      (omega (arith, incarnation, own, same)) (omega (arith, position, low)) (let before = stands.low in omega (arith, before, same))
       (All-append (λ (s : Step). (state_of s.after).stamp ≤ max begin.stamp now) live.steps.items (has.step ∷ []) stands.by
       (All-cons (λ (s : Step). (state_of s.after).stamp ≤ max begin.stamp now) has.step [] (omega (arith, ahead_by, by)) (λ k d inside. absurd (omega (arith, inside)))))
       (omega (arith, within, long)) has.leaves.indexed has.leaves.waits
@@ -145,7 +149,7 @@ module _ (flows : Flows) (count : ℕ) (begin : Partition) (number : ℕ) (slot 
   still_stands new looked steps leaves =
       let young = stands.younger in
       let same = leaves.incarnation in
-      stands_with new live.steps.items out leaves.base (ap (λ v. v.items) steps) stands.steps (omega (arith, young, same)) stands.room stands.by stands.within leaves.indexed leaves.waits
+      stands_with new live.steps.items out leaves.base (ap (λ v. v.items) steps) stands.steps (omega (arith, young, same)) stands.room (let before = stands.low in omega (arith, before, same)) stands.by stands.within leaves.indexed leaves.waits
 
   pub idle_stands : (new : Live) → Rests flows now live new → Stands flows count begin slot.mine now out new
   idle_stands new rests = still_stands new rests.looked rests.steps rests.leaves
@@ -186,14 +190,15 @@ as_turn flows count begin mode limit number slot now out owner round behind live
 
 -- a state that has no steps begins
 pub begins : (flows : Flows) (count : ℕ) (begin : Partition) (mine : List Entry) (live : Live) → live.steps.items ≡ [] → IsSound live.base → count_of live.base ≡ count → placed flows count begin mine ≡ Ok (state_of live.base) → (state_of live.base).stamp ≤ begin.stamp
-    → (state_of live.base).incarnation ≤ live.incarnation → (state_of live.base).position ≤ 2 ^ 62 → IsIndexed live.waits → waits_of live.waits ≡ [] → Stands flows count begin mine 0 0 live
-begins flows count begin mine live none sound partitions made stamp younger room indexed empty = record {
+    → (state_of live.base).incarnation ≤ live.incarnation → (state_of live.base).position ≤ 2 ^ 62 → live.incarnation ≤ 2 ^ 63 → IsIndexed live.waits → waits_of live.waits ≡ [] → Stands flows count begin mine 0 0 live
+begins flows count begin mine live none sound partitions made stamp younger room low indexed empty = record {
   base = made;
   sound = sound;
   partitions = partitions;
   steps = subst (AreSteps flows live.base) (sym none) tt;
   younger = subst (λ (l : List Step). (state_of (last_of live.base l)).incarnation ≤ live.incarnation) (sym none) younger;
   room = subst (λ (l : List Step). (state_of (last_of live.base l)).position ≤ 2 ^ 62) (sym none) room;
+  low = low;
   base_by = omega (arith, stamp);
   by = subst (AreBy (max begin.stamp 0)) (sym none) (λ k d inside. absurd (omega (arith, inside)));
   within = omega arith;
@@ -238,6 +243,7 @@ settles flows count begin mine now out n live new stands few base steps incarnat
           (subst (λ (s : PartState). (state_of s).incarnation ≤ new.incarnation) (sym last_is) (let young = stands.younger in omega (arith, young, incarnation))));
       room = subst (λ (l : List Step). (state_of (last_of new.base l)).position ≤ 2 ^ 62) (sym steps) (subst (λ (s : PartState). (state_of (last_of s back)).position ≤ 2 ^ 62) (sym base)
           (subst (λ (s : PartState). (state_of s).position ≤ 2 ^ 62) (sym last_is) stands.room));
+      low = let before = stands.low in omega (arith, before, incarnation);
       base_by = subst (λ (s : PartState). (state_of s).stamp ≤ max begin.stamp now) (sym base) (last_by (max begin.stamp now) live.base front stands.base_by (all_taken (λ (s : Step). (state_of s.after).stamp ≤ max begin.stamp now) n live.steps.items stands.by));
       by = subst (AreBy (max begin.stamp now)) (sym steps) (all_dropped (λ (s : Step). (state_of s.after).stamp ≤ max begin.stamp now) n live.steps.items stands.by);
       within = omega arith;
@@ -268,3 +274,159 @@ settled_view number other slot its now out owner round n live new place self vie
       owner = owner;
       round = round;
     })
+
+module _ (flows : Flows) (count : ℕ) (begin : ℕ → Partition) (number : ℕ) (slot : Slot) (now out owner round : ℕ) (live : Live) (stands : Stands flows count (begin number) slot.mine now out live)
+    (self : CellView) (view_is : view number slot (Some live) now out owner round ≡ self) where
+  pub ahead_of_self : IsAhead flows count (begin self.number) self (state_of (ahead_of live))
+  ahead_of_self = subst (λ (v : CellView). IsAhead flows count (begin v.number) v (state_of (ahead_of live))) view_is (ahead_is flows count (begin number) number slot now out owner round live stands)
+
+  pub base_of_self : IsBase flows count (begin self.number) self (state_of live.base)
+  base_of_self = subst (λ (v : CellView). IsBase flows count (begin v.number) v (state_of live.base)) view_is stands.base
+
+  pub same_view : (place : Option Live) → place ≡ Some live → view number slot place now out owner round ≡ self
+  same_view place place_is = ap (λ (o : Option Live). view number slot o now out owner round) place_is ∙ view_is
+
+  -- what the state holds of what waits is what the view does
+  pub waits_are : waits_of live.waits ≡ self.waits
+  waits_are = ap (λ (v : CellView). v.waits) view_is
+
+  -- one more waits
+  pub queued_view : (new : Live) (place : Option Live) (w : Waiting) → place ≡ Some new → new.steps ≡ live.steps → new.incarnation ≡ live.incarnation → waits_of new.waits ≡ waits_of live.waits ++ w ∷ [] → view number slot place now out owner round ≡ with_wait w self
+  queued_view new place w place_is steps incarnation waits =
+      subst (λ (v : CellView). view number slot place now out owner round ≡ with_wait w v) view_is
+      (λ i. record {
+        number = number;
+        slot = slot;
+        entries = (ap entries_of_live place_is ∙ ap (λ v. entries_in v.items) steps) i;
+        incarnation = (ap incarnation_of place_is ∙ incarnation) i;
+        waits = (ap waits_of_live place_is ∙ waits) i;
+        now = now;
+        out = out;
+        owner = owner;
+        round = round;
+      })
+
+  pub queued_stands : (new : Live) (place : Option Live) (w : Waiting) → place ≡ Some new → new.base ≡ live.base → new.steps ≡ live.steps → new.incarnation ≡ live.incarnation → waits_of new.waits ≡ waits_of live.waits ++ w ∷ [] → IsIndexed new.waits → MayWait w
+      → StandsIn flows count (begin number) slot.mine now out place
+  queued_stands new place w place_is base steps incarnation waits indexed may =
+      let young = stands.younger in
+      subst (λ (o : Option Live). StandsIn flows count (begin number) slot.mine now out o) (sym place_is)
+      (stands_with flows count (begin number) number slot now out owner round live stands new live.steps.items out base (ap (λ v. v.items) steps) stands.steps (omega (arith, young, incarnation)) stands.room (let before = stands.low in omega (arith, before, incarnation)) stands.by stands.within indexed
+      (subst (All MayWait) (sym waits) (All-append MayWait (waits_of live.waits) (w ∷ []) stands.waits (All-cons MayWait w [] may (λ k d inside. absurd (omega (arith, inside)))))))
+
+-- ---- entries are given up
+
+rises : (flows : Flows) (before : PartState) (steps : List Step) → IsSound before → AreSteps flows before steps → (state_of before).incarnation ≤ (state_of (last_of before steps)).incarnation
+rises flows before [] sound are = omega arith
+rises flows before (s ∷ steps) sound are =
+    let rest = rises flows s.after steps are.0.sound are.1 in
+    let next = ap (λ (n : Next). n.incarnation) (step_next flows before s sound are.0) in
+    let young = are.0.younger in
+    omega (arith, rest, next, young)
+
+module _ (flows : Flows) (count : ℕ) (begin : ℕ → Partition) (number : ℕ) (slot : Slot) (now out owner round : ℕ) (live : Live) (stands : Stands flows count (begin number) slot.mine now out live)
+    (self : CellView) (view_is : view number slot (Some live) now out owner round ≡ self) where
+  pub given_up_stands : (new : Live) (place : Option Live) (kept less : ℕ) → place ≡ Some new → kept ≤ length live.steps.items → less ≤ kept → new.base ≡ live.base → new.steps.items ≡ take kept live.steps.items → new.incarnation ≡ live.incarnation + 1 → new.incarnation ≤ 2 ^ 63
+      → IsIndexed new.waits → All MayWait (waits_of new.waits) → StandsIn flows count (begin number) slot.mine now less place
+  given_up_stands new place kept less place_is few behind base steps incarnation low indexed may =
+      let front = take kept live.steps.items in
+      let back = drop kept live.steps.items in
+      let front_are = steps_front flows kept live.base live.steps.items stands.steps in
+      let back_are = steps_back flows kept live.base live.steps.items stands.steps in
+      let last_is : last_of (last_of live.base front) back ≡ last_of live.base live.steps.items = sym (last_both live.base front back) ∙ ap (last_of live.base) (take-drop kept live.steps.items) in
+      let sound = last_sound flows live.base front stands.sound front_are in
+      let rise = rises flows (last_of live.base front) back sound back_are in
+      let position = last_position flows (last_of live.base front) back sound back_are in
+      let incarnation_is = ap (λ (s : PartState). (state_of s).incarnation) last_is in
+      let position_is = ap (λ (s : PartState). (state_of s).position) last_is in
+      let young = stands.younger in
+      let room = stands.room in
+      let long = length-take-le kept live.steps.items few in
+      subst (λ (o : Option Live). StandsIn flows count (begin number) slot.mine now less o) (sym place_is)
+      (stands_with flows count (begin number) number slot now out owner round live stands new front less base steps front_are (omega (arith, rise, incarnation_is, young, incarnation)) (omega (arith, position, position_is, room)) low
+      (all_taken (λ (s : Step). (state_of s.after).stamp ≤ max (begin number).stamp now) kept live.steps.items stands.by) (omega (arith, long, behind)) indexed may)
+
+  pub given_up_view : (new : Live) (place : Option Live) (kept less : ℕ) → place ≡ Some new → new.steps.items ≡ take kept live.steps.items → new.incarnation ≡ live.incarnation + 1 → waits_of new.waits ≡ filter lasting (waits_of live.waits) → view number slot place now less owner round ≡ given_up kept less self
+  given_up_view new place kept less place_is steps incarnation waits =
+      subst (λ (v : CellView). view number slot place now less owner round ≡ given_up kept less v) view_is
+      (λ i. record {
+        number = number;
+        slot = slot;
+        entries = (ap entries_of_live place_is ∙ ap entries_in steps ∙ sym (take-map (λ (s : Step). entry_of s.entry) kept live.steps.items)) i;
+        incarnation = (ap incarnation_of place_is ∙ incarnation) i;
+        waits = (ap waits_of_live place_is ∙ waits) i;
+        now = now;
+        out = less;
+        owner = owner;
+        round = round;
+      })
+
+  -- packets that were sent by what was given up are gone
+  pub cut_stands : (new : Live) (place : Option Live) → place ≡ Some new → new.base ≡ live.base → new.steps ≡ live.steps → new.incarnation ≡ live.incarnation → IsIndexed new.waits → All MayWait (waits_of new.waits) → StandsIn flows count (begin number) slot.mine now out place
+  cut_stands new place place_is base steps incarnation indexed may =
+      let young = stands.younger in
+      let before = stands.low in
+      subst (λ (o : Option Live). StandsIn flows count (begin number) slot.mine now out o) (sym place_is)
+      (stands_with flows count (begin number) number slot now out owner round live stands new live.steps.items out base (ap (λ v. v.items) steps) stands.steps (omega (arith, young, incarnation)) stands.room (omega (arith, before, incarnation)) stands.by stands.within indexed may)
+
+  pub cut_view : (new : Live) (place : Option Live) (floors : List Floor) → place ≡ Some new → new.steps ≡ live.steps → new.incarnation ≡ live.incarnation → waits_of new.waits ≡ without_lost (lost_by floors) (waits_of live.waits) → view number slot place now out owner round ≡ record self { waits = without_lost (lost_by floors) self.waits }
+  cut_view new place floors place_is steps incarnation waits =
+      subst (λ (v : CellView). view number slot place now out owner round ≡ record v { waits = without_lost (lost_by floors) v.waits }) view_is
+      (λ i. record {
+        number = number;
+        slot = slot;
+        entries = (ap entries_of_live place_is ∙ ap (λ v. entries_in v.items) steps) i;
+        incarnation = (ap incarnation_of place_is ∙ incarnation) i;
+        waits = (ap waits_of_live place_is ∙ waits) i;
+        now = now;
+        out = out;
+        owner = owner;
+        round = round;
+      })
+
+  pub entries_are : entries_in live.steps.items ≡ self.entries
+  entries_are = ap (λ (v : CellView). v.entries) view_is
+
+  pub out_is : out ≡ self.out
+  out_is = ap (λ (v : CellView). v.out) view_is
+
+  pub incarnation_is : live.incarnation ≡ self.incarnation
+  incarnation_is = ap (λ (v : CellView). v.incarnation) view_is
+
+-- the entries before a position are the first so many
+pub before_floor : (flows : Flows) (before : PartState) (steps : List Step) (floor kept : ℕ) → IsSound before → AreSteps flows before steps → kept + (state_of before).position ≤ floor → All (λ (e : Entry). e.position < floor) (take kept (entries_in steps))
+before_floor flows before steps floor zero sound are low = λ k d inside. absurd (omega (arith, inside))
+before_floor flows before [] floor (suc kept) sound are low = λ k d inside. absurd (omega (arith, inside))
+before_floor flows before (s ∷ steps) floor (suc kept) sound are low =
+    let at = are.0.position in
+    let next = ap (λ (n : Next). n.position) (step_next flows before s sound are.0) in
+    All-cons (λ (e : Entry). e.position < floor) (entry_of s.entry) (take kept (entries_in steps)) (omega (arith, at, low)) (before_floor flows s.after steps floor kept are.0.sound are.1 (omega (arith, low, next, at)))
+
+pub behind_floor : (flows : Flows) (before : PartState) (steps : List Step) (floor kept : ℕ) → IsSound before → AreSteps flows before steps → floor ≤ kept + (state_of before).position → All (λ (e : Entry). floor ≤ e.position) (drop kept (entries_in steps))
+behind_floor flows before [] floor zero sound are low = λ k d inside. absurd (omega (arith, inside))
+behind_floor flows before [] floor (suc kept) sound are low = λ k d inside. absurd (omega (arith, inside))
+behind_floor flows before (s ∷ steps) floor zero sound are low =
+    let at = are.0.position in
+    let next = ap (λ (n : Next). n.position) (step_next flows before s sound are.0) in
+    All-cons (λ (e : Entry). floor ≤ e.position) (entry_of s.entry) (entries_in steps) (omega (arith, at, low)) (behind_floor flows s.after steps floor zero are.0.sound are.1 (omega (arith, low, next, at)))
+behind_floor flows before (s ∷ steps) floor (suc kept) sound are low =
+    let at = are.0.position in
+    let next = ap (λ (n : Next). n.position) (step_next flows before s sound are.0) in
+    behind_floor flows s.after steps floor kept are.0.sound are.1 (omega (arith, low, next, at))
+
+-- so many of the entries stand before a position as it is behind the settled state's, or all of them
+pub by_before : (flows : Flows) (before : PartState) (steps : List Step) (floor kept : ℕ) → IsSound before → AreSteps flows before steps → kept ≡ min (floor - (state_of before).position) (length steps) → All (λ (e : Entry). e.position < floor) (take kept (entries_in steps))
+by_before flows before steps floor zero sound are is = λ k d inside. absurd (omega (arith, inside))
+by_before flows before steps floor (suc kept) sound are is = before_floor flows before steps floor (suc kept) sound are (omega (arith, is))
+
+none_dropped : (P : Entry → Type 0) (n : ℕ) (entries : List Entry) → length entries ≤ n → All P (drop n entries)
+none_dropped P zero [] low = λ k d inside. absurd (omega (arith, inside))
+none_dropped P zero (e ∷ entries) low = absurd (omega (arith, low))
+none_dropped P (suc n) [] low = λ k d inside. absurd (omega (arith, inside))
+none_dropped P (suc n) (e ∷ entries) low = none_dropped P n entries (omega (arith, low))
+
+pub by_behind : (flows : Flows) (before : PartState) (steps : List Step) (floor kept : ℕ) → IsSound before → AreSteps flows before steps → kept ≡ min (floor - (state_of before).position) (length steps) → All (λ (e : Entry). floor ≤ e.position) (drop kept (entries_in steps))
+by_behind flows before steps floor kept sound are is = elim (cases_lt kept (length steps)) [
+  | inl fewer ↦ behind_floor flows before steps floor kept sound are (omega (arith, fewer, is))
+  | inr all ↦ let long = length-map steps (λ (s : Step). entry_of s.entry) in none_dropped (λ (e : Entry). floor ≤ e.position) kept (entries_in steps) (omega (arith, all, long))
+]

@@ -7,3 +7,5 @@ pub mod Walks
 pub mod Queueing
 pub mod Made
 pub mod CellFacts
+pub mod Offering
+pub mod Losing

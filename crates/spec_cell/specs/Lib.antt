@@ -1,5 +1,8 @@
 pub mod Ahead
+pub mod Comes
+pub mod Depends
 pub mod Fills
+pub mod Moves
 pub mod Seats
 pub mod Steps
 pub mod Turns

@@ -54,6 +54,7 @@ pub record Stands (flows : Flows) (count : ℕ) (begin : Partition) (mine : List
   pub steps : AreSteps flows live.base live.steps.items
   pub younger : (state_of (last_of live.base live.steps.items)).incarnation ≤ live.incarnation
   pub room : (state_of (last_of live.base live.steps.items)).position ≤ 2 ^ 62
+  pub low : live.incarnation ≤ 2 ^ 63
   pub base_by : (state_of live.base).stamp ≤ max begin.stamp now
   pub by : AreBy (max begin.stamp now) live.steps.items
   pub within : out ≤ length live.steps.items

@@ -2,10 +2,13 @@
 //!
 //! - `step`: an entry that isn't settled, with the state after it. `live`: the settled state and the steps behind it.
 //! - `filling`: an entry as far as it is filled, with `waiting`, what waits; `turning`: one entry more.
-//! - `cell`: the cell, its type and its turn; `seats`: how it begins; `moving`: its settled state moves on. `mine`: what its seat shows.
+//! - `cell`: the cell, its type and its turn; `coming`: what comes to it; `seats`: how it begins; `moving`: its settled state moves on, and entries are given
+//!   up, by `depending`, what they depend on. `mine`: what its seat shows.
 #![tactic(auto)]
 
 mod cell;
+mod coming;
+mod depending;
 mod filling;
 mod live;
 mod mine;
@@ -16,4 +19,6 @@ mod turning;
 mod waiting;
 
 pub use cell::{Cell, CellTurn, Mode};
+pub use coming::{Arrived, Offered, Recorded};
 pub use mine::Mine;
+pub use moving::{CellReset, CellRewind};

@@ -1,16 +1,43 @@
-//! The settled state moves on.
+//! The settled state moves on, and entries are given up.
 
-ghost use Rattle.std.specs.Prelude.{◌≡◌, ◌≤◌, ◌++◌, take, drop, length, IfOk, OnOk};
+ghost use Rattle.std.specs.Prelude.{◌≡◌, ◌<◌, ◌≤◌, ◌+◌, ◌-◌, ◌^◌, ◌++◌, min, take, drop, filter, length, IfOk, OnOk};
+ghost use Rattle.std.specs.List.{All};
+ghost use Rattle.cell_waits.specs.Indices.{IsIndexed};
+ghost use Rattle.cell_waits.specs.Waits.{MayWait, waits_of, lasting, lost_by, without_lost};
+ghost use Rattle.part_steps.specs.States.{state_of};
+ghost use Rattle.spec_cell.specs.Moves.{CellRewinds, CellResets};
+ghost use Rattle.spec_tracker.specs.Marks.{floors_of};
 ghost use Rattle.spec_cell.specs.Steps.{last_of};
 ghost use Rattle.spec_cell.specs.Views.{HasSettled};
 
 use crate::cell::{Cell, put};
+use crate::depending::{first_lost, last_made};
 use crate::live::Live;
 use crate::mine::Mine;
 use crate::step::Step;
+use crate::turning::NUMBER_LIMIT;
 use part_steps::PartState;
-use std::alloc::AllocError;
+use spec_tracker::{Dep, Marks};
+use std::alloc::{AllocError, Global};
 use std::mem;
+
+/// What came of looking for what was given up.
+pub enum CellRewind {
+    /// No entry behind those that are out depends on it.
+    Kept,
+    /// The entries from this position on are given up: the first of them depends on this entry, which was.
+    Rewound(u64, Dep),
+    /// The incarnation that would begin has this number, which is past those that there are.
+    Spent(u64),
+}
+
+/// What came of giving up.
+pub enum CellReset {
+    /// It is done.
+    Done,
+    /// The incarnation that would begin has this number, which is past those that there are.
+    Spent(u64),
+}
 
 /// The state after the last of these steps, or this one where there is none.
 fn state_behind(base: PartState, steps: Vec<Step>) -> PartState
@@ -51,6 +78,64 @@ fn settle(live: Live, count: usize) -> Result<Live, AllocError>
     })
 }
 
+/// All steps but the first so many are given up, with the packets and outcomes that wait, and a later incarnation begins.
+fn give_up(alloc: Global, live: Live, kept: usize) -> Result<Live, AllocError>
+    requires few { kept ≤ length live.steps.items }
+    requires room { live.incarnation < 2 ^ 62 }
+    ensures base { IfOk result (λ new. new.base ≡ live.base) }
+    ensures steps { IfOk result (λ new. new.steps.items ≡ take kept live.steps.items) }
+    ensures incarnation { IfOk result (λ new. new.incarnation ≡ live.incarnation + 1) }
+    ensures waits { IfOk result (λ new. waits_of new.waits ≡ filter lasting (waits_of live.waits)) }
+    ensures indexed { IfOk result (λ new. IsIndexed new.waits) }
+    ensures may { All MayWait (waits_of live.waits)
+        → IfOk result (λ new. All MayWait (waits_of new.waits)) }
+{
+    let mut live = live;
+    live.steps.truncate(kept);
+    live.incarnation += 1;
+    match live.waits.keep_lasting(alloc) {
+        Ok(()) => Ok(live),
+        Err(error) => {
+            live.let_go();
+            Err(error)
+        }
+    }
+}
+
+/// Packets that were sent by what was given up are let go of, and so are those of their streams behind them.
+fn cut_lost(alloc: Global, live: Live, marks: &Marks) -> Result<Live, AllocError>
+    ensures base { IfOk result (λ new. new.base ≡ live.base) }
+    ensures steps { IfOk result (λ new. new.steps ≡ live.steps) }
+    ensures incarnation { IfOk result (λ new. new.incarnation ≡ live.incarnation) }
+    ensures waits { IfOk result (λ new. waits_of new.waits
+        ≡ without_lost (lost_by (floors_of marks.now)) (waits_of live.waits)) }
+    ensures indexed { IfOk result (λ new. IsIndexed new.waits) }
+    ensures may { All MayWait (waits_of live.waits)
+        → IfOk result (λ new. All MayWait (waits_of new.waits)) }
+{
+    let mut live = live;
+    match live.waits.cut_lost(alloc, marks) {
+        Ok(()) => Ok(live),
+        Err(error) => {
+            live.let_go();
+            Err(error)
+        }
+    }
+}
+
+/// How many of the first steps stand before a position.
+fn count_before(live: &Live, floor: u64) -> usize
+    ensures { result ≡ min (floor - (state_of live.now.base).position)
+        (length live.now.steps.items) }
+{
+    let many = floor.saturating_sub(live.base.position());
+    if many < live.steps.len() as u64 {
+        many as usize
+    } else {
+        live.steps.len()
+    }
+}
+
 impl<S: Mine> Cell<S> {
     /// The settled state moves on by the first so many entries, which the seat that comes back has settled. What stood for it is given
     /// back, and no frame is out.
@@ -75,5 +160,51 @@ impl<S: Mine> Cell<S> {
             }
             Err(error) => (stub, Err(error)),
         }
+    }
+
+    /// Gives up entries behind those that are out, from the first on that depends on what was given up; where none does, of the packets
+    /// that wait those that were sent by what was.
+    pub fn rewind(&mut self, alloc: Global, marks: &Marks) -> Result<CellRewind, AllocError>
+        ensures rewinds { IfOk result (λ rewound. CellRewinds S.flows S.count
+            (S.begin self.old.number) marks.now self.old rewound self.new) }
+    {
+        let Some(live) = self.live.take() else {
+            return Err(AllocError);
+        };
+        let before = last_made(&live.base);
+        let lost = first_lost(marks, live.base.number(), before, &live.steps, self.out);
+        let Some((kept, dep)) = lost else {
+            let next = cut_lost(alloc, live, marks)?;
+            put(&mut self.live, next);
+            return Ok(CellRewind::Kept);
+        };
+        let incarnation = live.incarnation.saturating_add(1);
+        if incarnation >= NUMBER_LIMIT {
+            put(&mut self.live, live);
+            return Ok(CellRewind::Spent(incarnation));
+        }
+        let floor = live.steps[kept].entry.position;
+        let next = give_up(alloc, live, kept)?;
+        put(&mut self.live, next);
+        Ok(CellRewind::Rewound(floor, dep))
+    }
+
+    /// Gives up all entries from a position on, those in a frame that is out too.
+    pub fn reset(&mut self, alloc: Global, floor: u64) -> Result<CellReset, AllocError>
+        ensures resets { IfOk result (λ reset. CellResets floor self.old reset self.new) }
+    {
+        let Some(live) = self.live.take() else {
+            return Err(AllocError);
+        };
+        let incarnation = live.incarnation.saturating_add(1);
+        if incarnation >= NUMBER_LIMIT {
+            put(&mut self.live, live);
+            return Ok(CellReset::Spent(incarnation));
+        }
+        let kept = count_before(&live, floor);
+        let next = give_up(alloc, live, kept)?;
+        self.out = 0;
+        put(&mut self.live, next);
+        Ok(CellReset::Done)
     }
 }

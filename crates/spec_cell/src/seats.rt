@@ -21,6 +21,7 @@ impl<S: Mine> Cell<S> {
             ≡ Ok (state_of base) }
         requires stamp { (state_of base).stamp ≤ (S.begin (S.number seat)).stamp }
         requires younger { (state_of base).incarnation ≤ incarnation }
+        requires low { incarnation ≤ 2 ^ 63 }
         requires room { (state_of base).position ≤ 2 ^ 62 }
         ensures { IsNew (S.number seat) (S.slot seat) owner incarnation result }
     {

@@ -20,7 +20,7 @@ use part_rows::Reactions;
 use std::alloc::{AllocError, Global};
 
 /// Numbers of entries and incarnations stay below this.
-const NUMBER_LIMIT: u64 = 1 << 62;
+pub(crate) const NUMBER_LIMIT: u64 = 1 << 62;
 
 /// What came of a turn.
 pub(crate) enum Turned {
