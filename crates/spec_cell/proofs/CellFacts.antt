@@ -1,15 +1,15 @@
 -- A cell by its view.
 use Rattle.std.proofs.Common.{◌≡◌, ◌≤◌, ◌<◌, ◌^◌, ◌+◌, inl, inr, ℕ, zero, suc, true, List, [], ◌∷◌, ◌++◌, Option, Some, None, Result, Ok, refl, sym, ◌∙◌, ap, subst, arith}
-use Rattle.std.specs.Prelude.{◌⊎◌, ◌-◌, min, max, length, take, drop, filter, is_some}
+use Rattle.std.specs.Prelude.{◌-◌, min, max, length, take, drop, filter, is_some}
 use Rattle.std.specs.List.{All}
 use Rattle.std.proofs.lemmas.Bool.{cases_lt}
-use Rattle.std.proofs.lemmas.List.{length-append, length-map, map-append, append-nil, take-map, drop-map, length-take-le}
+use Rattle.std.proofs.lemmas.List.{length-append, length-map, map-append, take-map, drop-map, length-take-le}
 use Rattle.std.proofs.lemmas.List.Elements.{All-append, All-cons, All-head, All-tail}
 use Rattle.cell_waits.specs.Waits.{Waiting, MayWait, waits_of, lasting, lost_by, without_lost}
 use Rattle.cell_waits.specs.Indices.{IsIndexed}
 use Rattle.dura_model.proofs.Appending.{placed_both}
 use Rattle.dura_model.specs.Entries.{placed}
-use Rattle.dura_model.specs.Partition.{Partition, enter}
+use Rattle.dura_model.specs.Partition.{Partition}
 use Rattle.dura_value.specs.Items.{Entry, Floor}
 use Rattle.dura_value.specs.Reading.{◌>>=◌}
 use Rattle.flow_syntax.specs.Syntax.{Flows}

@@ -1,10 +1,8 @@
 -- Steps, cut in two and joined.
-use Rattle.std.proofs.Common.{◌≡◌, ◌≤◌, ◌<◌, ◌+◌, ℕ, zero, suc, List, [], ◌∷◌, ◌++◌, Option, Some, Result, Ok, refl, sym, ◌∙◌, ap, subst, arith}
+use Rattle.std.proofs.Common.{◌≡◌, ◌+◌, ℕ, zero, suc, List, [], ◌∷◌, ◌++◌, Option, Some, Ok, refl, sym, ◌∙◌, ap, subst, arith}
 use Rattle.std.specs.Prelude.{◌-◌, length, take, drop, slice_get}
-use Rattle.std.specs.List.{All}
-use Rattle.dura_model.specs.Entries.{all_accepted, entry_accepted, or_place, placed, AllGiven, AreGiven}
+use Rattle.dura_model.specs.Entries.{entry_accepted, or_place, placed, AllGiven, AreGiven}
 use Rattle.dura_model.specs.Partition.{Partition, enter}
-use Rattle.dura_value.specs.Items.{Entry}
 use Rattle.dura_value.specs.Reading.{◌>>=◌}
 use Rattle.flow_syntax.specs.Syntax.{Flows}
 use Rattle.log_items.specs.Plain.{entry_of, items_of}

@@ -1,5 +1,5 @@
 -- Items that fill an entry.
-use Rattle.std.proofs.Common.{◌≡◌, ◌≤◌, ◌<◌, ◌+◌, inl, inr, ℕ, suc, List, [], ◌∷◌, ◌++◌, true, Option, Some, None, refl, sym, ◌∙◌, ap, subst, arith, append_assoc}
+use Rattle.std.proofs.Common.{◌≡◌, ◌≤◌, ◌+◌, inl, inr, ℕ, List, [], ◌∷◌, ◌++◌, true, Option, Some, None, refl, sym, ◌∙◌, ap, subst, arith, append_assoc}
 use Rattle.std.specs.Prelude.{max, length}
 use Rattle.std.specs.Option.{option_and_then}
 use Rattle.std.proofs.lemmas.Bool.{eqb-true}
@@ -21,7 +21,7 @@ use Rattle.part_steps.specs.Enabled.Makes.{nothing as makes_nothing, one_more as
 use Rattle.part_steps.specs.Outputs.{Outputs}
 use Rattle.part_steps.specs.States.{state_of, count_of, IsSound}
 use Rattle.cell_waits.specs.Waits.{Waiting, MayWait}
-use Rattle.spec_cell.specs.Fills.{IsPending, IsFor, CantCome, Filled, IsUnderWay, FillsOn, Puts, LooksOn}
+use Rattle.spec_cell.specs.Fills.{IsFor, CantCome, Filled, IsUnderWay, FillsOn, Puts, LooksOn}
 use Rattle.spec_cell.specs.Fills.Filled.{nothing, puts, lets_go, goes_on}
 use Rattle.spec_cell.specs.declared.filling.Filling.{Filling}
 use Rattle.spec_cell.proofs.Stamps.{stamp_of, stamp_after, raised_max}

@@ -1,5 +1,5 @@
 -- What a filled entry makes of the state ahead.
-use Rattle.std.proofs.Common.{◌≡◌, ◌≤◌, ◌<◌, ◌^◌, ◌+◌, inl, inr, ℕ, suc, Bool, true, false, List, [], ◌∷◌, ◌++◌, Option, Some, None, refl, sym, ◌∙◌, ap, subst, arith, get_or}
+use Rattle.std.proofs.Common.{◌≡◌, ◌≤◌, ◌<◌, ◌^◌, ℕ, Bool, true, false, List, [], ◌∷◌, ◌++◌, Some, None, refl, sym, ◌∙◌, ap, subst, arith}
 use Rattle.std.specs.Prelude.{◌⊎◌, ◌==◌, length}
 use Rattle.std.specs.List.{All}
 use Rattle.std.proofs.lemmas.Bool.{eqb-true}
@@ -13,20 +13,18 @@ use Rattle.dura_model.specs.Entries.{AreGiven, all_accepted}
 use Rattle.dura_model.specs.Partition.{Partition, accepted, enter}
 use Rattle.dura_value.specs.Items.{Item, took, got, ran, ended, fired, trim}
 use Rattle.flow_syntax.specs.Syntax.{Flows}
-use Rattle.log_items.specs.Plain.{item_of, items_of, entry_of}
+use Rattle.log_items.specs.Plain.{item_of, items_of}
 use Rattle.log_items.specs.declared.frames.Entry.{Entry as OwnEntry}
 use Rattle.log_items.specs.declared.items.Item.{Item as OwnItem}
 use Rattle.part_items.specs.ItemFits.{FitsItem}
 use Rattle.part_steps.specs.Enabled.{NoneEnabled, stamp_at, is_at}
-use Rattle.part_steps.specs.States.{IsSound, state_of, count_of}
-use Rattle.spec_cell.specs.Ahead.{MayTurn, LeavesWaits, HasStep, Rests, Ends, ahead_of, begun_of}
-use Rattle.spec_cell.specs.Fills.{IsFor, CantCome, Filled, FillsOn, LooksOn}
+use Rattle.part_steps.specs.States.{state_of, count_of}
+use Rattle.spec_cell.specs.Ahead.{LeavesWaits, HasStep, Rests, Ends, ahead_of, begun_of}
+use Rattle.spec_cell.specs.Fills.{IsFor, CantCome, Filled, LooksOn}
 use Rattle.spec_cell.specs.Fills.Filled.{nothing, puts, lets_go, goes_on}
-use Rattle.spec_cell.specs.Steps.{Makes}
-use Rattle.spec_cell.specs.Turns.{NonePossible, waits_first}
+use Rattle.spec_cell.specs.Turns.{waits_first}
 use Rattle.spec_cell.specs.declared.filling.Filling.{Filling}
 use Rattle.spec_cell.specs.declared.live.Live.{Live}
-use Rattle.spec_cell.specs.declared.step.Step.{Step}
 use Rattle.spec_cell.proofs.Filled.{filled_accepted, filled_given, filled_nothing}
 
 pub empty_is : (items : List OwnItem) (n : ℕ) (empty : Bool) → n ≡ length items → empty ≡ (n == 0) → empty ≡ true → items ≡ []

@@ -1,5 +1,5 @@
 -- What is known of a request is told.
-use Rattle.std.proofs.Common.{◌≡◌, Option, Some, None}
+use Rattle.std.proofs.Common.{◌≡◌, Some}
 use Rattle.dura_model.specs.Partition.{Partition}
 use Rattle.dura_value.specs.Messages.{Message}
 use Rattle.spec_cell.specs.Comes.{IsKnownAs, Offers}

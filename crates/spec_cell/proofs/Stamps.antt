@@ -1,5 +1,5 @@
 -- How far the greatest stamp of a state goes.
-use Rattle.std.proofs.Common.{◌≡◌, ◌≤◌, ◌&&◌, ℕ, Bool, true, false, List, [], ◌∷◌, ◌++◌, cond, Option, Some, None, refl, sym, ◌∙◌, ap, arith}
+use Rattle.std.proofs.Common.{◌≡◌, ◌&&◌, ℕ, Bool, true, false, List, [], ◌∷◌, ◌++◌, cond, Option, Some, None, refl, sym, ◌∙◌, ap, arith}
 use Rattle.std.specs.Prelude.{not, nat_le, nat_lt, max, length, ◌==◌, ◌+◌, option_map}
 use Rattle.dura_model.specs.Deliveries.{Effect, to_instance, goes_on_from}
 use Rattle.dura_model.specs.Steps.{is_request, number_in, entity_of, answer_of}

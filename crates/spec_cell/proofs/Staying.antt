@@ -1,13 +1,12 @@
 -- An item leaves a state in its partition and its entry.
-use Rattle.std.proofs.Common.{◌≡◌, ◌<◌, ◌&&◌, ℕ, Bool, true, false, cond, List, [], ◌∷◌, ◌++◌, Option, Some, None, refl, sym, ap, subst, ◌∙◌}
+use Rattle.std.proofs.Common.{◌≡◌, ◌<◌, ◌&&◌, ℕ, Bool, true, false, cond, List, [], ◌∷◌, ◌++◌, Some, None, refl, sym, subst}
 use Rattle.std.specs.Prelude.{not, nat_le, nat_lt, length, ◌==◌, ◌+◌}
-use Rattle.std.specs.Option.{option_and_then}
-use Rattle.dura_model.proofs.Joining.{IsIn, Joins, label_joins, same_entry_then}
+use Rattle.dura_model.proofs.Joining.{label_joins, same_entry_then}
 use Rattle.dura_model.specs.Entries.{all_accepted}
 use Rattle.dura_model.specs.Partition.{Partition, accepted, entry_of, with_inbox}
 use Rattle.dura_model.specs.Placed.{IsSameEntry}
 use Rattle.dura_value.proofs.Basics.{both_some}
-use Rattle.dura_value.specs.Ids.{Id, home}
+use Rattle.dura_value.specs.Ids.{home}
 use Rattle.dura_value.specs.Items.{Item, took, got, ran, ended, fired, trim}
 use Rattle.flow_syntax.specs.Syntax.{Flows}
 use Rattle.log_items.specs.Streams.{with_first}

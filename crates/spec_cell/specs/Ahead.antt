@@ -1,5 +1,5 @@
 -- What a turn makes of the state ahead.
-use Rattle.std.specs.Prelude.{◌≡◌, ◌⊎◌, ℕ, ◌+◌, ◌<◌, ◌≤◌, ◌^◌, max, true, List, [], ◌∷◌, ◌++◌, length}
+use Rattle.std.specs.Prelude.{◌≡◌, ◌⊎◌, ℕ, ◌<◌, ◌≤◌, ◌^◌, true, List, [], ◌∷◌, ◌++◌, length}
 use Rattle.std.specs.List.{All}
 use Rattle.cell_waits.specs.Waits.{Waiting, MayWait, waits_of}
 use Rattle.cell_waits.specs.Indices.{IsIndexed}
@@ -10,7 +10,7 @@ use Rattle.part_steps.specs.Enabled.{NoneEnabled, stamp_at}
 use Rattle.part_steps.specs.States.{IsSound, state_of, count_of}
 use Rattle.part_steps.specs.declared.state.PartState.{PartState}
 use Rattle.spec_cell.specs.Fills.{Filled}
-use Rattle.spec_cell.specs.Steps.{Makes, AreSteps, last_of}
+use Rattle.spec_cell.specs.Steps.{Makes, last_of}
 use Rattle.spec_cell.specs.Turns.{NonePossible, waits_first}
 use Rattle.spec_cell.specs.declared.live.Live.{Live}
 use Rattle.spec_cell.specs.declared.step.Step.{Step}

@@ -1,5 +1,5 @@
 -- What comes to a cell.
-use Rattle.std.specs.Prelude.{◌≡◌, ◌<◌, ◌+◌, ◌&&◌, ℕ, Bool, true, false, not, List, [], ◌∷◌, ◌++◌, count_by, Option, Some, None}
+use Rattle.std.specs.Prelude.{◌≡◌, ◌<◌, ◌+◌, ℕ, true, false, List, [], ◌∷◌, ◌++◌, count_by, Option, Some, None}
 use Rattle.std.specs.List.{list_any}
 use Rattle.cell_waits.specs.Waits.{Waiting, is_of_stream, is_outcome_of, request_in}
 use Rattle.dura_model.specs.Partition.{Partition}

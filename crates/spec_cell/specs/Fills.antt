@@ -1,5 +1,5 @@
 -- What an entry is filled with.
-use Rattle.std.specs.Prelude.{◌≡◌, ◌⊎◌, ◌<◌, ◌≤◌, ℕ, true, List, [], ◌∷◌, ◌++◌, Option, Some, None}
+use Rattle.std.specs.Prelude.{◌≡◌, ◌⊎◌, ◌<◌, ℕ, true, List, [], ◌∷◌, ◌++◌, Option, Some, None}
 use Rattle.cell_waits.specs.Waits.{Waiting, MayWait}
 use Rattle.dura_model.specs.Partition.{Partition, accepted}
 use Rattle.dura_model.specs.World.{Activity}

@@ -1,8 +1,8 @@
 -- Entries that aren't settled, each with the state after it.
-use Rattle.std.specs.Prelude.{◌≡◌, ◌<◌, ◌≤◌, ℕ, List, [], ◌∷◌, length, map, Some}
+use Rattle.std.specs.Prelude.{◌≡◌, ◌<◌, ◌≤◌, List, [], ◌∷◌, length, map, Some}
 use Rattle.std.specs.List.{All}
 use Rattle.dura_model.specs.Entries.{entry_accepted, AreGiven}
-use Rattle.dura_model.specs.Partition.{Partition, enter}
+use Rattle.dura_model.specs.Partition.{enter}
 use Rattle.dura_value.specs.Items.{Entry}
 use Rattle.flow_syntax.specs.Syntax.{Flows}
 use Rattle.log_items.specs.Plain.{entry_of, items_of}

@@ -1,15 +1,14 @@
 -- A cell as its clauses see it.
-use Rattle.std.specs.Prelude.{◌≡◌, ◌≤◌, ℕ, ◌^◌, max, List, [], ◌∷◌, ◌++◌, length, drop, Option, Some, None, Ok}
+use Rattle.std.specs.Prelude.{◌≡◌, ◌≤◌, ℕ, ◌^◌, max, List, [], ◌++◌, length, drop, Option, Some, None, Ok}
 use Rattle.std.specs.List.{All}
 use Rattle.cell_waits.specs.Waits.{Waiting, MayWait, waits_of}
 use Rattle.cell_waits.specs.Indices.{IsIndexed}
 use Rattle.dura_model.specs.Entries.{placed, AllGiven}
-use Rattle.dura_model.specs.Partition.{Partition, enter}
+use Rattle.dura_model.specs.Partition.{Partition}
 use Rattle.dura_value.specs.Items.{Entry}
 use Rattle.flow_syntax.specs.Syntax.{Flows}
 use Rattle.part_items.specs.Numbered.{Next, IsNumbered}
 use Rattle.part_steps.specs.States.{IsSound, state_of, count_of}
-use Rattle.part_steps.specs.declared.state.PartState.{PartState}
 use Rattle.spec_cell.specs.Seats.{Slot}
 use Rattle.spec_cell.specs.Steps.{AreSteps, last_of, entries_in}
 use Rattle.spec_cell.specs.declared.live.Live.{Live}

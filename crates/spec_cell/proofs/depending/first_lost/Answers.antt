@@ -1,4 +1,4 @@
-use Rattle.std.proofs.Common.{◌≡◌, ◌+◌, Option, Some, option_map, sym, subst}
+use Rattle.std.proofs.Common.{◌+◌, Some, option_map, sym, subst}
 use Rattle.dura_value.specs.Items.{Identity}
 use Rattle.spec_tracker.specs.Marks.{identity_of}
 use Rattle.spec_cell.proofs.Losing.{HasLooked, looked_one, first_is, looked_so, so_looked}

@@ -1,8 +1,7 @@
-use Rattle.std.proofs.Common.{◌≡◌, ◌∙◌, List, Option, Some, None, option_map, sym, subst}
+use Rattle.std.proofs.Common.{List, Option, option_map, sym, subst}
 use Rattle.std.specs.Prelude.{IfSome, IfNone}
-use Rattle.std.specs.List.{All, Contains}
+use Rattle.std.specs.List.{Contains}
 use Rattle.dura_value.specs.Dependencies.{named_by, Lost}
-use Rattle.dura_value.specs.Items.{Identity}
 use Rattle.log_items.specs.Plain.{items_of, entry_of}
 use Rattle.log_items.specs.declared.items.Item.{Item}
 use Rattle.spec_tracker.specs.Marks.{identity_of, floors_of}

@@ -1,6 +1,5 @@
 use Rattle.std.proofs.Common.{◌≡◌, ◌++◌, map, arith}
 use Rattle.part_steps.specs.Outputs.{outputs_of}
-use Rattle.part_steps.specs.States.{state_of, count_of}
 use Rattle.spec_cell.proofs.Filled.{filled_on}
 use Rattle.spec_cell.proofs.filling.fill.Goals as goal
 

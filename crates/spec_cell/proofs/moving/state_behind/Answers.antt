@@ -1,4 +1,4 @@
-use Rattle.std.proofs.Common.{◌≡◌, ◌∙◌, ◌∷◌, ◌++◌, [], List, Option, Some, option_to_list, sym, ap, subst}
+use Rattle.std.proofs.Common.{◌≡◌, ◌∙◌, ◌∷◌, ◌++◌, [], List, Option, option_to_list, sym, ap}
 use Rattle.spec_cell.specs.Steps.{last_of}
 use Rattle.spec_cell.specs.declared.step.Step.{Step}
 use Rattle.spec_cell.proofs.Chains.{last_both}

@@ -1,8 +1,7 @@
-use Rattle.std.proofs.Common.{◌≡◌, ◌∙◌, ◌<◌, [], ℕ, length, ap, sym, subst, arith}
+use Rattle.std.proofs.Common.{◌∙◌, [], ℕ, length, ap, subst, arith}
 use Rattle.cell_waits.specs.Waits.{waits_of}
 use Rattle.part_steps.specs.Enabled.{NoneEnabled, stamp_at}
-use Rattle.part_steps.specs.States.{state_of, count_of}
-use Rattle.spec_cell.specs.Fills.{LooksOn}
+use Rattle.part_steps.specs.States.{state_of}
 use Rattle.spec_cell.proofs.Filled.{looks_both, looks_grow, looks_leave}
 use Rattle.spec_cell.proofs.turning.gather.Goals as goal
 

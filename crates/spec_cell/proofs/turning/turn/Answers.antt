@@ -1,4 +1,4 @@
-use Rattle.std.proofs.Common.{◌≡◌, ◌∙◌, ◌<◌, ◌≤◌, inl, inr, ℕ, List, [], length, vec_len, refl, sym, ap, subst, arith, ◌==◌}
+use Rattle.std.proofs.Common.{◌≡◌, ◌∙◌, ◌<◌, inl, inr, List, [], length, vec_len, refl, ap, subst, arith}
 use Rattle.std.specs.List.{All}
 use Rattle.dura_model.specs.Partition.{Partition, enter}
 use Rattle.log_items.specs.declared.items.Item.{Item}

@@ -1,5 +1,5 @@
-use Rattle.std.proofs.Common.{◌≡◌, refl, sym, ap, subst}
-use Rattle.cell_waits.specs.Waits.{MayWait, wait_of}
+use Rattle.std.proofs.Common.{sym, ap, subst}
+use Rattle.cell_waits.specs.Waits.{wait_of}
 use Rattle.cell_waits.specs.declared.wait.Wait.{Wait}
 use Rattle.log_items.specs.declared.items.Item.TheVariants.{Done}
 use Rattle.part_steps.specs.States.{state_of}

@@ -1,4 +1,4 @@
-use Rattle.std.proofs.Common.{◌≡◌, ◌∷◌, Option, Some, subst, arith}
+use Rattle.std.proofs.Common.{◌≡◌, ◌∷◌, Option, subst, arith}
 use Rattle.std.specs.List.{All}
 use Rattle.std.specs.Prelude.{[], MatchOption}
 use Rattle.std.proofs.lemmas.List.Elements.{All-head}

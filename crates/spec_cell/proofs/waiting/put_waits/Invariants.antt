@@ -1,4 +1,4 @@
-use Rattle.std.proofs.Common.{ℕ, length}
+use Rattle.std.proofs.Common.{length}
 use Rattle.cell_waits.specs.Waits.{waits_of}
 use Rattle.spec_cell.proofs.Queueing.{HasPut}
 use Rattle.spec_cell.proofs.waiting.put_waits.Given as goal

@@ -1,4 +1,4 @@
-use Rattle.std.proofs.Common.{◌≡◌, ◌∙◌, sym, subst}
+use Rattle.std.proofs.Common.{◌∙◌, sym, subst}
 use Rattle.spec_cell.specs.Views.{CellView, HasFacts}
 use Rattle.spec_cell.proofs.CellFacts.{facts_in}
 use Rattle.spec_cell.proofs.cell.Cell.is_going.Goals as goal

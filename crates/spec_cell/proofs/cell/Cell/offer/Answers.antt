@@ -1,17 +1,14 @@
-use Rattle.std.proofs.Common.{◌≡◌, ◌∙◌, ◌+◌, ◌<◌, ◌≤◌, true, false, ℕ, List, Option, Some, None, refl, sym, ap, ap₂, subst, arith}
-use Rattle.cell_waits.specs.Waits.{Waiting, MayWait, wait_of, waits_of}
-use Rattle.cell_waits.specs.declared.wait.Wait.{Wait}
+use Rattle.std.proofs.Common.{◌≡◌, ◌∙◌, List, Option, Some, None, sym, ap, subst}
+use Rattle.cell_waits.specs.Waits.{Waiting, wait_of, waits_of}
 use Rattle.cell_waits.specs.declared.wait.Wait.TheVariants as waiting
 use Rattle.part_steps.specs.States.{state_of}
-use Rattle.part_steps.specs.declared.state.PartState.{PartState}
 use Rattle.spec_cell.specs.Ahead.{ahead_of}
-use Rattle.spec_cell.specs.Views.{CellView, Stands, StandsIn}
+use Rattle.spec_cell.specs.Views.{Stands, StandsIn}
 use Rattle.spec_cell.specs.declared.live.Live.{Live}
 use Rattle.spec_cell.proofs.CellFacts.{view, ahead_of_self, base_of_self, same_view, waits_are, queued_view, queued_stands}
-use Rattle.dura_model.specs.Partition.{Partition}
 use Rattle.dura_value.specs.Views.{message_of}
 use Rattle.log_items.specs.declared.items.Item.TheVariants.{Took}
-use Rattle.spec_cell.specs.Comes.{IsKnownAs, Offers}
+use Rattle.spec_cell.specs.Comes.{IsKnownAs}
 use Rattle.spec_cell.specs.declared.coming.Offered.{Offered}
 use Rattle.spec_cell.proofs.Offering.{known_offer}
 use Rattle.spec_cell.proofs.cell.Cell.offer.Goals as goal

@@ -1,20 +1,17 @@
-use Rattle.std.proofs.Common.{◌≡◌, ◌∙◌, ◌+◌, ◌<◌, ◌≤◌, true, false, ℕ, List, Bool, Option, Some, refl, sym, ap, ap₂, subst, arith}
-use Rattle.cell_waits.specs.Waits.{Waiting, MayWait, wait_of, waits_of}
-use Rattle.cell_waits.specs.declared.wait.Wait.{Wait}
+use Rattle.std.proofs.Common.{◌≡◌, ◌∙◌, true, false, List, Option, Some, sym, ap, subst}
+use Rattle.cell_waits.specs.Waits.{Waiting, wait_of}
 use Rattle.cell_waits.specs.declared.wait.Wait.TheVariants as waiting
 use Rattle.part_steps.specs.States.{state_of}
 use Rattle.part_steps.specs.declared.state.PartState.{PartState}
 use Rattle.spec_cell.specs.Ahead.{ahead_of}
-use Rattle.spec_cell.specs.Views.{CellView, Stands, StandsIn}
+use Rattle.spec_cell.specs.Views.{Stands, StandsIn}
 use Rattle.spec_cell.specs.declared.live.Live.{Live}
-use Rattle.spec_cell.proofs.CellFacts.{view, ahead_of_self, base_of_self, same_view, waits_are, queued_view, queued_stands}
+use Rattle.spec_cell.proofs.CellFacts.{view, ahead_of_self, same_view, waits_are, queued_view, queued_stands}
 use Rattle.dura_value.specs.Views.{id_of}
 use Rattle.part_rows.specs.Views.{activity_of}
 use Rattle.std.specs.List.{list_any}
 use Rattle.cell_waits.specs.Waits.{is_outcome_of}
-use Rattle.dura_model.specs.Partition.{Partition}
 use Rattle.spec_cell.specs.Fills.{IsFor}
-use Rattle.spec_cell.specs.Comes.{IsAwaited}
 use Rattle.spec_cell.proofs.cell.Cell.outcome.Goals as goal
 
 pub returns-then-not-is_pending : goal.returns-then-not-is_pending

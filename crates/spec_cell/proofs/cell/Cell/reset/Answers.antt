@@ -1,10 +1,8 @@
-use Rattle.std.proofs.Common.{◌≡◌, ◌∙◌, ◌+◌, ◌<◌, ◌≤◌, ◌^◌, ℕ, List, Option, Some, refl, sym, ap, subst, arith}
-use Rattle.std.specs.Prelude.{length, take, drop}
+use Rattle.std.proofs.Common.{◌≡◌, ◌∙◌, ◌<◌, ◌≤◌, List, Option, Some, sym, ap, subst, arith}
+use Rattle.std.specs.Prelude.{take, drop}
 use Rattle.std.specs.List.{All}
 use Rattle.dura_value.specs.Items.{Entry}
-use Rattle.part_steps.specs.States.{state_of}
-use Rattle.spec_cell.specs.Steps.{entries_in}
-use Rattle.spec_cell.specs.Views.{CellView, Stands, StandsIn}
+use Rattle.spec_cell.specs.Views.{Stands, StandsIn}
 use Rattle.spec_cell.specs.declared.live.Live.{Live}
 use Rattle.spec_cell.proofs.CellFacts.{view, same_view, given_up_stands, given_up_view, entries_are, incarnation_is, by_before, by_behind}
 use Rattle.spec_cell.proofs.cell.Cell.reset.Goals as goal

@@ -1,4 +1,4 @@
-use Rattle.std.proofs.Common.{◌≡◌, ◌∙◌, ◌+◌, ◌<◌, ◌≤◌, ◌^◌, ℕ, List, Option, Some, option_map, length, refl, sym, ap, subst, arith}
+use Rattle.std.proofs.Common.{◌≡◌, ◌∙◌, ℕ, List, Option, Some, option_map, length, sym, ap, subst, arith}
 use Rattle.std.specs.Prelude.{drop}
 use Rattle.std.specs.List.{All, HoldsAt}
 use Rattle.std.proofs.lemmas.List.{length-map}
@@ -9,10 +9,10 @@ use Rattle.spec_tracker.specs.Marks.{identity_of, floors_of}
 use Rattle.spec_cell.specs.Depends.{last_made, dependencies, AreKept, IsFirstLost}
 use Rattle.spec_cell.specs.Moves.{given_up, dependencies_in}
 use Rattle.spec_cell.specs.Steps.{entries_in}
-use Rattle.spec_cell.specs.Views.{CellView, Stands, StandsIn}
+use Rattle.spec_cell.specs.Views.{Stands, StandsIn}
 use Rattle.spec_cell.specs.declared.live.Live.{Live}
 use Rattle.spec_cell.specs.declared.step.Step.{Step}
-use Rattle.spec_cell.proofs.CellFacts.{view, base_of_self, same_view, given_up_stands, given_up_view, cut_stands, cut_view, entries_are, out_is, incarnation_is}
+use Rattle.spec_cell.proofs.CellFacts.{view, base_of_self, same_view, given_up_stands, given_up_view, cut_view, entries_are, out_is, incarnation_is}
 use Rattle.spec_cell.proofs.Losing.{floor_at}
 use Rattle.spec_cell.proofs.cell.Cell.rewind.Goals as goal
 

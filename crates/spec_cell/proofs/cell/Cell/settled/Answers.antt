@@ -1,6 +1,5 @@
-use Rattle.std.proofs.Common.{◌≡◌, ◌∙◌, ◌++◌, ◌≤◌, ℕ, List, Option, Some, length, take, sym, ap, subst, arith}
+use Rattle.std.proofs.Common.{◌≡◌, ◌∙◌, ◌++◌, ◌≤◌, Option, Some, length, take, sym, ap, subst, arith}
 use Rattle.std.proofs.lemmas.List.{length-map}
-use Rattle.dura_value.specs.Items.{Entry}
 use Rattle.log_items.specs.Plain.{entry_of}
 use Rattle.spec_cell.specs.Seats.{Slot}
 use Rattle.spec_cell.specs.Steps.{entries_in}

@@ -4,7 +4,7 @@ use Rattle.part_steps.specs.States.{state_of}
 use Rattle.part_steps.specs.declared.state.PartState.{PartState}
 use Rattle.spec_cell.specs.Ahead.{Turns}
 use Rattle.spec_cell.specs.Turns.{IsHeld}
-use Rattle.spec_cell.specs.Views.{CellView, Stands, StandsIn}
+use Rattle.spec_cell.specs.Views.{Stands, StandsIn}
 use Rattle.spec_cell.specs.declared.live.Live.{Live}
 use Rattle.spec_cell.specs.declared.cell.CellTurn.TheVariants.{Turned as ATurn, Idle as AnIdle, Spent as ASpent}
 use Rattle.spec_cell.specs.declared.turning.Turned.{Turned}
