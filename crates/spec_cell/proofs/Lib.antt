@@ -9,3 +9,5 @@ pub mod Made
 pub mod CellFacts
 pub mod Offering
 pub mod Losing
+pub mod FrontReady
+pub mod Frames

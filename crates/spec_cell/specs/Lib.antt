@@ -3,6 +3,7 @@ pub mod Comes
 pub mod Depends
 pub mod Fills
 pub mod Moves
+pub mod Picks
 pub mod Seats
 pub mod Steps
 pub mod Turns

@@ -2,8 +2,9 @@
 //!
 //! - `step`: an entry that isn't settled, with the state after it. `live`: the settled state and the steps behind it.
 //! - `filling`: an entry as far as it is filled, with `waiting`, what waits; `turning`: one entry more.
-//! - `cell`: the cell, its type and its turn; `coming`: what comes to it; `seats`: how it begins; `moving`: its settled state moves on, and entries are given
-//!   up, by `depending`, what they depend on. `mine`: what its seat shows.
+//! - `cell`: the cell, its type and its turn; `coming`: what comes to it; `seats`: how it begins, its seat, and moments.
+//! - `moving`: its settled state moves on, and entries are given up, by `depending`, what they depend on; `picking`: a frame of entries.
+//! - `mine`: what its seat shows. `specs/Views` says what its clauses see of it.
 #![tactic(auto)]
 
 mod cell;
@@ -13,6 +14,7 @@ mod filling;
 mod live;
 mod mine;
 mod moving;
+mod picking;
 mod seats;
 mod step;
 mod turning;

@@ -1,9 +1,9 @@
-//! A cell begins, and what it shows of its settled state.
+//! A cell begins, its seat goes out and comes back, and moments are handed in.
 
-ghost use Rattle.std.specs.Prelude.{◌≡◌, ◌≤◌, ◌^◌, [], Ok, true};
+ghost use Rattle.std.specs.Prelude.{◌≡◌, ◌≤◌, ◌^◌, max, Ok, true, IfSome};
 ghost use Rattle.dura_model.specs.Entries.{placed};
 ghost use Rattle.part_steps.specs.States.{IsSound, state_of, count_of};
-ghost use Rattle.spec_cell.specs.Views.{IsNew, HasFacts};
+ghost use Rattle.spec_cell.specs.Views.{IsNew, IsBase, HasFacts};
 
 use crate::cell::Cell;
 use crate::live::Live;
@@ -11,6 +11,7 @@ use crate::mine::Mine;
 use cell_waits::Waits;
 use part_steps::PartState;
 use std::alloc::Global;
+use std::mem;
 
 impl<S: Mine> Cell<S> {
     /// A cell whose seat has settled all that made this state, where this incarnation makes entries, and which this node owns.
@@ -61,5 +62,36 @@ impl<S: Mine> Cell<S> {
         ensures { self.new ≡ record self.old { out = 0 } }
     {
         self.out = 0;
+    }
+
+    /// The settled state, unless memory ran out.
+    pub fn base(&self) -> Option<&PartState>
+        ensures base { IfSome result (λ s. IsBase S.flows S.count
+            (S.begin self.entry.now.number) self.entry.now (state_of s.now)) }
+        ensures sound { IfSome result (λ s. IsSound s.now) }
+        ensures partitions { IfSome result (λ s. count_of s.now ≡ S.count) }
+    {
+        match &self.live {
+            Some(live) => Some(&live.base),
+            None => None,
+        }
+    }
+
+    /// It is this moment, in milliseconds, or later: what the cell does from now on carries it.
+    pub fn at_moment(&mut self, now: u64)
+        ensures { self.new ≡ record self.old { now = max self.old.now now } }
+    {
+        self.now = self.now.max(now);
+    }
+
+    /// What stands for the seat while it is out comes in its place, or the seat in the place of that.
+    pub fn exchange_seat(&mut self, other: S) -> S
+        requires number { S.number other ≡ self.old.number }
+        requires slot { S.slot other ≡ self.old.slot }
+        ensures same { self.new ≡ self.old }
+        ensures number { S.number result ≡ self.old.number }
+        ensures slot { S.slot result ≡ self.old.slot }
+    {
+        mem::replace(&mut self.seat, other)
     }
 }
