@@ -1,0 +1,15 @@
+//! Tests of cells that are run, as transcripts: texts with a line for each call of a cell, and what it answers. A line that fails is told
+//! by its text.
+//!
+//! - `seat` is the seat of a cell that a test begins, and `calls` are the calls of a line. `cell_tests` are the transcripts.
+//! - `stream_tests` has many packets of many streams come in no order.
+#![tactic(auto)]
+
+#[cfg(test)]
+mod calls;
+#[cfg(test)]
+mod cell_tests;
+#[cfg(test)]
+mod seat;
+#[cfg(test)]
+mod stream_tests;
