@@ -16,7 +16,7 @@ use Rattle.dura_value.specs.Messages.{Body}
 use Rattle.flow_syntax.specs.Syntax.{Flows}
 use Rattle.log_items.specs.Plain.{item_of, items_of}
 use Rattle.log_items.specs.declared.items.Item.{Item as OwnItem}
-use Rattle.part_steps.specs.Enabled.{Makes, is_at, stamp_at}
+use Rattle.part_steps.specs.Enabled.{Makes, IsEnabled, is_at, stamp_at}
 use Rattle.part_steps.specs.Enabled.Makes.{nothing as makes_nothing, one_more as makes_more}
 use Rattle.part_steps.specs.Outputs.{Outputs}
 use Rattle.part_steps.specs.States.{state_of, count_of, IsSound}
@@ -256,3 +256,30 @@ accepted_puts flows old new item way made count position sound items = (
 -- one item more is one longer
 pub longer_by : (old new : List OwnItem) (item : Item) → items_of new ≡ items_of old ++ item ∷ [] → length new ≡ length old + 1
 longer_by old new item is = sym (length-map new item_of) ∙ ap length is ∙ length-append (items_of old) (item ∷ []) ∙ ap (λ (n : ℕ). n + 1) (length-map old item_of)
+
+-- a delivery or a timer that is possible is put
+pub step_looks : (flows : Flows) (now : ℕ) (old new : Filling) (item : OwnItem) → IsUnderWay old → Puts flows old item new → IsEnabled flows (count_of old.state) (state_of old.state) (stamp_at (state_of old.state) now) (item_of item) → (waits : List Waiting) → LooksOn flows now old new waits waits
+step_looks flows now old new item way made enabled waits = elim made.2 [
+  | inl put ↦ record {
+    looked = [];
+    more = item_of item ∷ [];
+    left = refl;
+    on = record {
+      way = made.0;
+      count = made.1;
+      items = put.1;
+      filled = goes_on nothing (item_of item) enabled.at put.0;
+    };
+  }
+  | inr refused ↦ absurd (let taken = enabled.taken in let not = refused.0 in cc (taken, not))
+]
+
+pub step_longer : (flows : Flows) (now : ℕ) (old new : Filling) (item : OwnItem) → Puts flows old item new → IsEnabled flows (count_of old.state) (state_of old.state) (stamp_at (state_of old.state) now) (item_of item) → length new.items.items ≡ length old.items.items + 1
+step_longer flows now old new item made enabled = elim made.2 [
+  | inl put ↦ longer_by old.items.items new.items.items (item_of item) put.1
+  | inr refused ↦ absurd (let taken = enabled.taken in let not = refused.0 in cc (taken, not))
+]
+
+-- more timers
+pub looks_more : (flows : Flows) (now : ℕ) (a b c : Filling) → ((waits : List Waiting) → LooksOn flows now a b waits waits) → ((waits : List Waiting) → LooksOn flows now b c waits waits) → (waits : List Waiting) → LooksOn flows now a c waits waits
+looks_more flows now a b c first second waits = looks_both flows now a b c waits waits waits (first waits) (second waits)

@@ -1,11 +1,11 @@
 //! An entry as far as it is filled: its items, the state that they make, and what puts one more or several behind them.
 
-ghost use Rattle.std.specs.Prelude.{◌≡◌, ◌<◌, ◌≤◌, List, true, false, IfOk, length};
+ghost use Rattle.std.specs.Prelude.{◌≡◌, ◌<◌, ◌≤◌, List, true, false, IfOk, length, ◌+◌, max};
 ghost use Rattle.std.specs.List.{All};
 ghost use Rattle.cell_waits.specs.Waits.{Waiting};
-ghost use Rattle.log_items.specs.Plain.{items_of};
+ghost use Rattle.log_items.specs.Plain.{item_of, items_of};
 ghost use Rattle.part_items.specs.ItemFits.{FitsItem};
-ghost use Rattle.part_steps.specs.Enabled.{NoneEnabled, stamp_at};
+ghost use Rattle.part_steps.specs.Enabled.{IsEnabled, NoneEnabled, stamp_at};
 ghost use Rattle.part_steps.specs.States.{state_of, count_of};
 ghost use Rattle.spec_cell.specs.Fills.{IsUnderWay, LooksOn, Puts};
 
@@ -102,6 +102,57 @@ pub(crate) fn fill<R: Reactions>(
             Err(error)
         }
     }
+}
+
+/// Puts a delivery or a timer behind the others, which is possible there.
+fn put_step<R: Reactions>(
+    alloc: Global,
+    reactions: &R,
+    filling: Filling,
+    item: Item,
+    now: u64,
+) -> Result<Filling, AllocError>
+    requires way { IsUnderWay filling }
+    requires enabled { IsEnabled (R.flows reactions.now) (count_of filling.state)
+        (state_of filling.state) (stamp_at (state_of filling.state) now) (item_of item) }
+    ensures on { (waits : List Waiting)
+        → IfOk result (λ next. LooksOn (R.flows reactions.now) now filling next waits waits) }
+    ensures one { IfOk result (λ next. length next.items.items
+        ≡ length filling.items.items + 1) }
+{
+    let next = put(alloc, reactions, filling, item)?;
+    Ok(next)
+}
+
+/// Puts the timers that are due behind the others, the first one first, up to so many items in all.
+pub(crate) fn fire_due<R: Reactions>(
+    alloc: Global,
+    reactions: &R,
+    filling: Filling,
+    now: u64,
+    limit: u32,
+) -> Result<Filling, AllocError>
+    requires way { IsUnderWay filling }
+    ensures on { (waits : List Waiting)
+        → IfOk result (λ next. LooksOn (R.flows reactions.now) now filling next waits waits) }
+    ensures few { IfOk result (λ next. length next.items.items
+        ≤ max (length filling.items.items) limit) }
+{
+    let mut filling = filling;
+    'fires: while (filling.items.len() as u64) < limit as u64 {
+        let due = match filling.state.due(now) {
+            Ok(due) => due,
+            Err(error) => {
+                filling.let_go();
+                return Err(error);
+            }
+        };
+        let Some(item) = due else {
+            return Ok(filling);
+        };
+        filling = put_step(alloc, reactions, filling, item, now)?;
+    }
+    Ok(filling)
 }
 
 /// Whether all of these can be written.

@@ -10,7 +10,7 @@ ghost use Rattle.spec_cell.specs.Ahead.{MayTurn, Turns};
 ghost use Rattle.spec_cell.specs.Fills.{IsUnderWay, LooksOn};
 ghost use Rattle.spec_cell.specs.Turns.{waits_first};
 
-use crate::filling::{Filling, all_fit, fill};
+use crate::filling::{Filling, all_fit, fill, fire_due};
 use crate::live::Live;
 use crate::step::Step;
 use crate::waiting::put_waits;
@@ -32,19 +32,23 @@ pub(crate) enum Turned {
     Spent(Live, u64),
 }
 
-/// How many items a turn takes of what waits at first, and up to how many it does deliveries and timers then.
+/// How many items a turn takes of what waits at first, up to how many it fires timers then, and up to how many it does deliveries.
 #[derive(Clone, Copy)]
 pub(crate) struct Shares {
     /// Of what waits.
     waits: u32,
+    /// In all, with timers that are due.
+    timers: u32,
     /// In all, with deliveries and timers.
     own: u32,
 }
 
 impl Shares {
-    /// The side that is first has half of the room, and the rest of it too where the other has less.
+    /// The side that is first has half of the room, and the rest of it too where the other has less. In every fourth turn timers that are due
+    /// come before deliveries, so that they aren't put off while messages go on for ever.
     fn of(limit: u32, round: u8) -> Shares
         ensures waits { result.waits ≤ result.own }
+        ensures timers { result.timers ≤ result.own }
         ensures own { result.own ≤ limit }
         ensures first { waits_first round ≡ true → 0 < limit → 0 < result.waits }
     {
@@ -52,11 +56,13 @@ impl Shares {
         if round == 0 || round == 2 {
             return Shares {
                 waits: half,
+                timers: 0,
                 own: limit,
             };
         }
         Shares {
             waits: 0,
+            timers: if round == 1 { half } else { 0 },
             own: half,
         }
     }
@@ -76,6 +82,7 @@ fn gather<R: Reactions>(
     requires way { IsUnderWay begun }
     requires empty { begun.items.items ≡ [] }
     requires share { shares.waits ≤ shares.own }
+    requires timers { shares.timers ≤ shares.own }
     requires within { shares.own ≤ limit }
     requires indexed { IsIndexed waits.old }
     requires may { All MayWait (waits_of waits.old) }
@@ -93,7 +100,8 @@ fn gather<R: Reactions>(
         → length (waits_of waits.new) < length (waits_of waits.old)) }
 {
     let first = put_waits(alloc, reactions, begun, waits, shares.waits)?;
-    let second = fill(alloc, reactions, first, now, shares.own)?;
+    let timed = fire_due(alloc, reactions, first, now, shares.timers)?;
+    let second = fill(alloc, reactions, timed, now, shares.own)?;
     let third = put_waits(alloc, reactions, second, waits, limit)?;
     let fourth = fill(alloc, reactions, third, now, limit)?;
     Ok(fourth)

@@ -5,8 +5,11 @@ use Rattle.part_steps.specs.States.{state_of}
 use Rattle.spec_cell.proofs.Filled.{looks_both, looks_grow, looks_leave}
 use Rattle.spec_cell.proofs.turning.gather.Goals as goal
 
+pub fire_due-requires : goal.fire_due-requires
+fire_due-requires g c = record { way = (c.in_ok-first.ensures.on c.args.now).on.way }
+
 pub fill-requires : goal.fill-requires
-fill-requires g c = record { way = (c.in_ok-first.ensures.on c.args.now).on.way }
+fill-requires g c = record { way = (c.in_ok-timed.ensures.on []).on.way }
 
 pub put_waits-requires-2-clause-way : goal.put_waits-requires-2-clause-way
 put_waits-requires-2-clause-way g c = (c.in_ok-second.ensures.on []).on.way
@@ -21,7 +24,8 @@ returns-clause-on g c =
     let w0 = waits_of c.args.waits.now in
     let w1 = waits_of c.put_waits.new.waits in
     let w2 = waits_of c.put_waits-2.new.waits in
-    let one = looks_both flows now c.args.begun c.in_ok-first.first c.in_ok-second.second w0 w1 w1 (c.in_ok-first.ensures.on now) (c.in_ok-second.ensures.on w1) in
+    let timed = looks_both flows now c.args.begun c.in_ok-first.first c.in_ok-timed.timed w0 w1 w1 (c.in_ok-first.ensures.on now) (c.in_ok-timed.ensures.on w1) in
+    let one = looks_both flows now c.args.begun c.in_ok-timed.timed c.in_ok-second.second w0 w1 w1 timed (c.in_ok-second.ensures.on w1) in
     let two = looks_both flows now c.args.begun c.in_ok-second.second c.in_ok-third.third w0 w1 w2 one (c.in_ok-third.ensures.on now) in
     looks_both flows now c.args.begun c.in_ok-third.third c.in_ok-fourth.fourth w0 w2 w2 two (c.in_ok-fourth.ensures.on w2)
 
@@ -35,9 +39,10 @@ pub returns-clause-none : goal.returns-clause-none
 returns-clause-none g c = λ low.
     let p = state_of c.in_ok-fourth.fourth.state in
     let first = (c.in_ok-first.ensures.on c.args.now).on.count in
+    let timed = (c.in_ok-timed.ensures.on []).on.count in
     let second = (c.in_ok-second.ensures.on []).on.count in
     let third = (c.in_ok-third.ensures.on c.args.now).on.count in
-    subst (λ (n : ℕ). NoneEnabled (g.R.Reactions.flows c.args.reactions.now) n p (stamp_at p c.args.now)) (third ∙ second ∙ first) (c.in_ok-fourth.ensures.less low)
+    subst (λ (n : ℕ). NoneEnabled (g.R.Reactions.flows c.args.reactions.now) n p (stamp_at p c.args.now)) (third ∙ second ∙ timed ∙ first) (c.in_ok-fourth.ensures.less low)
 
 pub returns-clause-first : goal.returns-clause-first
 returns-clause-first g c = λ some have.
