@@ -7,7 +7,6 @@ use part_steps::PartState;
 use spec_cell::{Cell, Mine};
 use std::alloc::Global;
 use std::marker::{Brand, PhantomData};
-use std::mem::ManuallyDrop;
 
 /// What is fixed when a test begins, which it picks.
 pub(crate) trait Named {
@@ -66,8 +65,7 @@ pub(crate) fn new_cell<N: Named>(alloc: Global, partitions: u32) -> Cell<TestSea
     Cell::new(alloc, base, seat, 0, 0)
 }
 
-/// The test is over. No call lets go of a cell, so its memory stays with the process, which ends.
+/// The test is over.
 pub(crate) fn leave<N: Named>(cell: Cell<TestSeat<N>>) {
-    // Nobody looks at it again.
-    let _left = unsafe { ManuallyDrop::new_unchecked(cell) };
+    let TestSeat { number: _, of: _ } = cell.end();
 }

@@ -50,6 +50,23 @@ impl<S: Mine> Cell<S> {
         self.live.is_some()
     }
 
+    /// Lets go of its state, and gives its seat back.
+    pub fn end(self) -> S
+        ensures number { S.number result ≡ self.number }
+        ensures slot { S.slot result ≡ self.slot }
+    {
+        let Cell {
+            live,
+            now: _,
+            out: _,
+            owner: _,
+            round: _,
+            seat,
+        } = self;
+        drop(live);
+        seat
+    }
+
     /// The node that owns it is this one.
     pub fn own(&mut self, node: u32)
         ensures { self.new ≡ record self.old { owner = node } }
