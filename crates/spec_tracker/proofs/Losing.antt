@@ -1,5 +1,5 @@
 -- Lost or not, by the floors one after another.
-use Rattle.std.proofs.Common.{◌≡◌, ◌∙◌, ℕ, ◌<◌, ◌≤◌, true, false, List, length, map, get_or, refl, sym, ap, eq-eqb, eqb-true, lt-ltb, ltb-true, le-leb, leb-true, arith}
+use Rattle.std.proofs.Common.{◌≡◌, ◌∙◌, ℕ, ◌<◌, true, false, List, length, map, get_or, sym, ap, eq-eqb, eqb-true, lt-ltb, ltb-true, le-leb, leb-true, arith}
 use Rattle.std.proofs.lemmas.List.{get_or-map, length-map}
 use Rattle.dura_value.specs.Items.{Identity, Floor as PlainFloor}
 use Rattle.std.proofs.lemmas.Bool.{and_parts}

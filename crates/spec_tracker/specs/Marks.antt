@@ -1,6 +1,6 @@
 -- What is known of entries.
-use Rattle.std.specs.Prelude.{◌≡◌, ℕ, ◌≤◌, ◌<◌, ◌&&◌, ◌==◌, Bool, nat_lt, nat_le, List, map, Option, Some, None, slice_get}
-use Rattle.std.specs.List.{All, Contains}
+use Rattle.std.specs.Prelude.{ℕ, ◌≤◌, ◌&&◌, ◌==◌, Bool, nat_lt, nat_le, List, map, Option, Some, None, slice_get}
+use Rattle.std.specs.List.{find}
 use Rattle.dura_value.specs.Items.{Identity, Floor}
 use Rattle.dura_value.specs.Dependencies.{Lost, Ready}
 use Rattle.dura_value.specs.Views.{floor_of}
@@ -35,8 +35,10 @@ IsVerdict floors lengths e verdicts.Lost = Lost floors e
 IsVerdict floors lengths e verdicts.Ready = Ready lengths floors e
 IsVerdict floors lengths e verdicts.Undecided = (Lost floors e → ⊥) × (lengths e.partition ≤ e.position)
 
-abbrev pub IsRead : Marks → (reader source : ℕ) → Read → Type 0
-IsRead marks reader source read = Contains marks.reads.items read × (read.reader ≡ reader) × (read.source ≡ source)
+-- whether this tells how far a partition has read the stream from another
+abbrev pub is_read_of : (reader source : ℕ) → Read → Bool
+is_read_of reader source read = read.reader == reader && read.source == source
 
-abbrev pub NotRead : Marks → (reader source : ℕ) → Type 0
-NotRead marks reader source = All (λ r. (r.reader ≡ reader) → (r.source ≡ source) → ⊥) marks.reads.items
+-- how far a partition has read the stream from another: what is told of that first
+abbrev pub read_in : Marks → (reader source : ℕ) → Option Read
+read_in marks reader source = find (is_read_of reader source) marks.reads.items

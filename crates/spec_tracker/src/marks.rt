@@ -1,9 +1,9 @@
 //! What is known of the partitions' logs.
 
-ghost use Rattle.std.specs.Prelude.{◌≡◌, ◌≤◌, true, false, IfSome, IfNone};
+ghost use Rattle.std.specs.Prelude.{◌≡◌, ◌≤◌, true, false, option_map};
 ghost use Rattle.dura_value.specs.Dependencies.{Lost};
 ghost use Rattle.dura_value.specs.Views.{floor_of};
-ghost use Rattle.spec_tracker.specs.Marks.{identity_of, floors_of, length_in, gives_up, IsVerdict, IsRead, NotRead};
+ghost use Rattle.spec_tracker.specs.Marks.{identity_of, floors_of, length_in, gives_up, IsVerdict, read_in};
 
 use dura_value::Floor;
 
@@ -105,16 +105,12 @@ impl Marks {
         Verdict::Undecided
     }
 
-    /// How far a partition has read the stream from another, if anything is known of it.
+    /// How far a partition has read the stream from another, if anything is known of it: what is told of that first.
     pub fn read_of(&self, reader: u32, source: u32) -> Option<&Read>
-        ensures some { IfSome result (λ read. IsRead self.now reader source read.now) }
-        ensures none { IfNone result (NotRead self.now reader source) }
+        ensures { option_map (λ read. read.now) result ≡ read_in self.now reader source }
     {
-        for read in &self.reads {
-            if read.reader == reader && read.source == source {
-                return Some(read);
-            }
-        }
-        None
+        self.reads
+            .iter()
+            .find(|read| read.reader == reader && read.source == source)
     }
 }

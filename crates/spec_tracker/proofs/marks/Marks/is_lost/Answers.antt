@@ -1,7 +1,7 @@
-use Rattle.std.proofs.Common.{◌≡◌, ◌∙◌, ℕ, ◌<◌, false, List, map, get_or, length, sym, subst, arith}
+use Rattle.std.proofs.Common.{◌∙◌, List, map, sym, subst, arith}
 use Rattle.dura_value.specs.Dependencies.{Lost}
 use Rattle.dura_value.specs.Views.{floor_of}
-use Rattle.spec_tracker.specs.Marks.{identity_of, gives_up}
+use Rattle.spec_tracker.specs.Marks.{identity_of}
 use Rattle.dura_value.specs.declared.identity.Floor.{Floor}
 use Rattle.spec_tracker.proofs.Losing.{lost_at, never_lost}
 use Rattle.spec_tracker.proofs.marks.Marks.is_lost.Goals as goal
