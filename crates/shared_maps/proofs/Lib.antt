@@ -7,3 +7,5 @@ pub mod Seen
 pub mod Numbers
 pub mod Tasks
 pub mod Clears
+pub mod Listing
+pub mod Times

@@ -6,11 +6,11 @@ use Rattle.dura_value.specs.Ids.{Id, id_eq}
 use Rattle.dura_value.specs.ById.{at_id, at_number}
 use Rattle.dura_value.proofs.Ids.{id_same}
 use Rattle.shared_maps.specs.Ids.{id_cmp, key_of}
-use Rattle.shared_maps.specs.Digests.{digest_of, hashed_place, task_place}
+use Rattle.shared_maps.specs.Digests.{digest_of, hashed_place, task_place, time_place}
 use Rattle.std.proofs.lemmas.Bool.{and_parts}
 use Rattle.shared_maps.specs.Places.{Place, is_same, key_place, is_key_place}
 use Rattle.shared_maps.specs.Entries.{at_place}
-use Rattle.shared_maps.specs.Maps.{at_key}
+use Rattle.shared_maps.specs.Maps.{at_key, at_time}
 use Rattle.shared_maps.proofs.Ids.{is_key, plain_again}
 
 both_eq : (r s : Ordering) → is_eq (ordering_then r s) ≡ is_eq r && is_eq s
@@ -49,6 +49,11 @@ same_hashed a b m n =
 pub same_tasks : (a b : Id) (m n : ℕ) → is_same (task_place a m) (task_place b n) ≡ id_eq a b && m == n
 same_tasks a b m n = same_rest a b m n
 
+pub same_times : (s t : ℕ) (a b : Id) (m n : ℕ) → is_same (time_place s a m) (time_place t b n) ≡ s == t && (id_eq a b && m == n)
+same_times s t a b m n =
+    both_eq (nat_cmp s t) (ordering_then (id_cmp (key_of a) (key_of b)) (nat_cmp m n))
+    ∙ ap (λ (x : Bool). x && is_eq (ordering_then (id_cmp (key_of a) (key_of b)) (nat_cmp m n))) (unsigned_tied s t) ∙ ap (λ (x : Bool). s == t && x) (same_rest a b m n)
+
 module _ {X : Type 0} (f g : Place → Option X) (place : Place) (w : Option X) where
   seen_at : (at : Place) → g ≡ at_place f place w → (b : Bool) → is_same place at ≡ b → g at ≡ cond b w (f at)
   seen_at at changed b same = ap (λ h. h at) changed ∙ ap (λ (x : Bool). cond x w (f at)) same
@@ -64,6 +69,10 @@ module _ {X : Type 0} (f g : Place → Option X) (place : Place) (w : Option X) 
 
   pub task_changes : (id : Id) (number : ℕ) → place ≡ task_place id number → g ≡ at_place f place w → (λ k n. g (task_place k n)) ≡ at_number (λ k n. f (task_place k n)) id number w
   task_changes id number is changed = λ i k n. seen_at (task_place k n) changed (id_eq id k && number == n) (ap (λ p. is_same p (task_place k n)) is ∙ same_tasks id k number n) i
+
+  pub time_changes : (time : ℕ) (id : Id) (number : ℕ) → place ≡ time_place time id number → g ≡ at_place f place w → (λ t k n. g (time_place t k n)) ≡ at_time (λ t k n. f (time_place t k n)) time id number w
+  time_changes time id number is changed =
+      λ i t k n. seen_at (time_place t k n) changed (time == t && (id_eq id k && number == n)) (ap (λ p. is_same p (time_place t k n)) is ∙ same_times time t id k number n) i
 
 none_is : {A : Type 0} (o : Option A) → is_none o ≡ true → o ≡ None
 none_is None is = refl

@@ -40,7 +40,7 @@ not_false : (b : Bool) → not b ≡ false → b ≡ true
 not_false true is = refl
 not_false false is = absurd (cc is)
 
-le_by : (r : Ordering) → is_lt (ordering_reverse r) ≡ false → is_le r ≡ true
+pub le_by : (r : Ordering) → is_lt (ordering_reverse r) ≡ false → is_le r ≡ true
 le_by Less is = refl
 le_by Equal is = refl
 le_by Greater is = absurd (cc is)

@@ -1,5 +1,5 @@
 -- Where ids are kept: by a digest first.
-use Rattle.std.specs.Prelude.{ℕ, ◌*◌, ◌%◌, ◌^◌, bit_xor, ◌+◌, ◌==◌, ◌&&◌, Bool, Option, Some, None, is_some}
+use Rattle.std.specs.Prelude.{ℕ, ◌*◌, ◌%◌, ◌^◌, bit_xor, ◌+◌, ◌==◌, ◌&&◌, Bool, Option, Some, None, is_some, option_map}
 use Rattle.dura_value.specs.Digest.{fnv1a_64}
 use Rattle.dura_value.specs.Ids.{Id, orchestration, entity, client}
 use Rattle.shared_maps.specs.Ids.{key_of}
@@ -27,3 +27,19 @@ behind_task (Some last) = task_place last.0 (last.1 + 1)
 -- whether something is kept in the order of ids
 abbrev pub is_task_place : Place → Bool
 is_task_place place = place.lead == 0 && is_some place.id
+
+-- whether an id is kept here in the order of ids
+abbrev pub is_id_place : Place → Bool
+is_id_place place = is_task_place place && place.number == 0
+
+-- from where on ids are behind the last one
+abbrev pub behind_id : Option Id → Place
+behind_id last = behind_task (option_map (λ id. (id, 0)) last)
+
+-- where something is kept for a stamp, an id and a number
+abbrev pub time_place : ℕ → Id → ℕ → Place
+time_place time id number = record { lead = time; id = Some (key_of id); number = number }
+
+-- whether something is kept for a stamp, an id and a number
+abbrev pub is_time_place : Place → Bool
+is_time_place place = is_some place.id

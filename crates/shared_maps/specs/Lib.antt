@@ -1,4 +1,5 @@
 pub mod Ids
+pub mod IdOrder
 pub mod Places
 pub mod Entries
 pub mod Tree

@@ -1,9 +1,9 @@
 -- What maps hold, as functions.
-use Rattle.std.specs.Prelude.{ℕ, ◌==◌, Option, None, if◌then◌else◌}
-use Rattle.dura_value.specs.Ids.{Id}
+use Rattle.std.specs.Prelude.{ℕ, Bool, ◌==◌, ◌&&◌, Option, None, is_some, if◌then◌else◌}
+use Rattle.dura_value.specs.Ids.{Id, id_eq}
 use Rattle.shared_maps.specs.declared.id_map.IdMap.{IdMap}
 use Rattle.shared_maps.specs.declared.number_map.NumberMap.{NumberMap}
-use Rattle.shared_maps.specs.Digests.{hashed_place, task_place}
+use Rattle.shared_maps.specs.Digests.{hashed_place, task_place, time_place}
 use Rattle.shared_maps.specs.Entries.{Entries, find}
 use Rattle.shared_maps.specs.Places.{key_place}
 
@@ -38,3 +38,20 @@ by_task map id number = find map (task_place id number)
 -- no number has anything
 abbrev pub no_number : {X : Type 0} → Id → ℕ → Option X
 no_number id number = None
+
+-- whether an id is among these
+abbrev pub has_id : Entries (Unit {0}) → Id → Bool
+has_id ids id = is_some (find ids (task_place id 0))
+
+-- what is kept for a stamp, an id and a number
+abbrev pub by_time : {X : Type 0} → Entries X → ℕ → Id → ℕ → Option X
+by_time map time id number = find map (time_place time id number)
+
+-- no stamp has anything
+abbrev pub no_time : {X : Type 0} → ℕ → Id → ℕ → Option X
+no_time time id number = None
+
+-- at one stamp, id and number this, elsewhere as before
+abbrev pub at_time : {X : Type 0} → (ℕ → Id → ℕ → X) → ℕ → Id → ℕ → X → ℕ → Id → ℕ → X
+at_time f time id number x other_time other other_number =
+    if time == other_time && (id_eq id other && number == other_number) then x else f other_time other other_number

@@ -33,3 +33,12 @@ pub record IsNextBehind (there : Id → ℕ → Bool) (last : Option (Id × ℕ)
 -- nothing is there behind the last ones
 abbrev pub NoneBehind : (there : Id → ℕ → Bool) → Option (Id × ℕ) → Type 0
 NoneBehind there last = (task : Id × ℕ) → there task.0 task.1 ≡ true → is_behind last task ≡ true → ⊥
+
+-- by stamps, then by ids, then by numbers
+abbrev pub time_cmp : ℕ × Id × ℕ → ℕ × Id × ℕ → Ordering
+time_cmp a b = ordering_then (nat_cmp a.0 b.0) (task_cmp (a.1, a.2) (b.1, b.2))
+
+-- Something is there for this stamp, id and number, the first such of all.
+pub record IsFirstTime (there : ℕ → Id → ℕ → Bool) (time : ℕ) (id : Id) (number : ℕ) : Type 0 where
+  pub found : there time id number ≡ true
+  pub first : (other_time : ℕ) (other : Id) (other_number : ℕ) → there other_time other other_number ≡ true → is_le (time_cmp (time, id, number) (other_time, other, other_number)) ≡ true

@@ -1,12 +1,13 @@
 //! What is kept for each id.
 
-ghost use Rattle.std.specs.Prelude.{◌≡◌, Some, None, IfOk, OnOk, OnErr, option_map};
+ghost use Rattle.std.specs.Prelude.{◌≡◌, Some, None, IfOk, OnOk, OnErr, is_some, option_map};
 ghost use Rattle.dura_value.specs.ById.{at_id};
 ghost use Rattle.dura_value.specs.Views.{id_of};
 ghost use Rattle.shared_maps.specs.Entries.{AreExact};
-ghost use Rattle.shared_maps.specs.Maps.{by_id, nothing};
+ghost use Rattle.shared_maps.specs.Maps.{by_id, has_id, nothing};
 
 use crate::digests::{hashed_key, hashed_sought};
+use crate::ordered_ids::OrderedIds;
 use crate::sorted::Sorted;
 use dura_value::Id;
 use std::alloc::{AllocError, Global};
@@ -40,6 +41,15 @@ impl<V> IdMap<V> {
         ensures { option_map (λ x. x.now) result ≡ by_id self.now (id_of id.now) }
     {
         self.entries.get(&hashed_sought(id, 0))
+    }
+
+    /// The ids that something is kept for, in their order.
+    pub fn ids(&self, alloc: Global) -> Result<OrderedIds, AllocError>
+        ensures { IfOk result (λ ids. has_id ids ≡ (λ id. is_some (by_id self.now id))) }
+    {
+        let mut ids = OrderedIds::new();
+        self.entries.add_ids(alloc, &mut ids)?;
+        Ok(ids)
     }
 
     /// Keeps this for the id, in place of what was kept for it. Without memory an Err, and the map is as it was.

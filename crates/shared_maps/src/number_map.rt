@@ -43,7 +43,7 @@ impl<V> NumberMap<V> {
     }
 
     /// The least number of this id, from one on, that something is kept for.
-    fn next_of(&self, id: &Id, from: u64) -> Option<u32>
+    pub fn next_of(&self, id: &Id, from: u64) -> Option<u32>
         ensures there { IfSome result (λ number.
             IsSome (by_number self.now (id_of id.now) number)) }
         ensures behind { IfSome result (λ number. from ≤ number) }

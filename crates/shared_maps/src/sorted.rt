@@ -1,10 +1,14 @@
 //! A tree whose entries are in order.
 
-ghost use Rattle.std.specs.Prelude.{◌≡◌, [], ◌∷◌, Bool, true, ℕ, Some, None, IfOk, IfSome, IfNone, OnOk, OnErr, option_map, if◌then◌else◌};
+ghost use Rattle.std.specs.Prelude.{◌≡◌, [], ◌∷◌, Bool, true, ℕ, Some, None, IfOk, IfSome, IfNone, OnOk, OnErr, ◌||◌, is_some, option_map, if◌then◌else◌};
+ghost use Rattle.dura_value.specs.Ids.{Id};
+ghost use Rattle.shared_maps.specs.Digests.{hashed_place};
 ghost use Rattle.shared_maps.specs.Entries.{find, at_place, AreExact, IsFirstFrom, NoneFrom, StayAmong};
+ghost use Rattle.shared_maps.specs.Maps.{has_id};
 ghost use Rattle.shared_maps.specs.Places.{place_of, place_sought};
 
 use crate::keys::{Key, Sought};
+use crate::ordered_ids::OrderedIds;
 use crate::tree::Tree;
 use std::alloc::{AllocError, Global};
 use std::marker::Model;
@@ -59,6 +63,14 @@ impl<V> Sorted<V> {
         ensures none { IfNone result (NoneFrom (find self.now) (place_sought from.now)) }
     {
         self.tree.first_from(from)
+    }
+
+    /// The ids that something is kept for by their digests come among the others.
+    pub(crate) fn add_ids(&self, alloc: Global, ids: &mut OrderedIds) -> Result<(), AllocError>
+        ensures { OnOk result ((id : Id)
+            → has_id ids.new id ≡ (is_some (find self.now (hashed_place id 0)) || has_id ids.old id)) }
+    {
+        self.tree.add_ids(alloc, ids)
     }
 
     /// Keeps this under the key, in place of what was kept there.

@@ -1,7 +1,7 @@
 //! What is kept for each id and number, in the order of ids.
 
-ghost use Rattle.std.specs.Prelude.{◌≡◌, ℕ, Some, None, is_some, IsSome, IfSome, IfNone, IfOk, OnOk, OnErr, option_map};
-ghost use Rattle.dura_value.specs.ById.{at_number};
+ghost use Rattle.std.specs.Prelude.{◌≡◌, ◌≤◌, ℕ, Some, None, is_some, IsSome, IfSome, IfNone, IfOk, OnOk, OnErr, option_map};
+ghost use Rattle.dura_value.specs.ById.{at_number, cleared};
 ghost use Rattle.dura_value.specs.Ids.{Id as PlainId};
 ghost use Rattle.dura_value.specs.Views.{id_of};
 ghost use Rattle.shared_maps.specs.Digests.{behind_task};
@@ -108,6 +108,26 @@ impl<V> TaskMap<V> {
         Some((id, key.number))
     }
 
+    /// The least number of this id, from one on, that something is kept for.
+    fn next_of(&self, id: &Id, from: u64) -> Option<u32>
+        ensures there { IfSome result (λ number. IsSome (by_task self.now (id_of id.now) number)) }
+        ensures behind { IfSome result (λ number. from ≤ number) }
+        ensures least { IfSome result (λ number. (other : ℕ)
+            → IsSome (by_task self.now (id_of id.now) other) → from ≤ other → number ≤ other) }
+        ensures none { IfNone result ((number : ℕ) → from ≤ number
+            → by_task self.now (id_of id.now) number ≡ None) }
+    {
+        let sought = task_sought(id, from);
+        let Some((key, _)) = self.entries.first_from(&sought) else {
+            return None;
+        };
+        if sought.is_beside(key) {
+            Some(key.number)
+        } else {
+            None
+        }
+    }
+
     /// Keeps this for the id and the number, in place of what was kept for both. Without memory an Err, and the map is as it was.
     pub fn put(&mut self, alloc: Global, id: Id, number: u32, value: V) -> Result<(), AllocError>
     where
@@ -133,5 +153,39 @@ impl<V> TaskMap<V> {
     {
         self.entries
             .take(alloc, &task_sought(id, number as u64), true)
+    }
+
+    /// Lets go of what is kept for this id and number.
+    fn remove(&mut self, alloc: Global, id: &Id, number: u32) -> Result<(), AllocError>
+    where
+        V: Clone,
+        requires exact { AreExact V.is_clone }
+        ensures { OnOk result (by_task self.new
+            ≡ at_number (by_task self.old) (id_of id.now) number None) }
+    {
+        let gone = self
+            .entries
+            .take(alloc, &task_sought(id, number as u64), false)?;
+        drop(gone);
+        Ok(())
+    }
+
+    /// Takes out what is kept for this id. Without memory an Err, and the map is as it was.
+    pub fn clear(&mut self, alloc: Global, id: &Id) -> Result<(), AllocError>
+    where
+        V: Clone,
+        requires exact { AreExact V.is_clone }
+        ensures cleared { OnOk result (by_task self.new
+            ≡ cleared (by_task self.old) (id_of id.now)) }
+        ensures same { OnErr result (by_task self.new ≡ by_task self.old) }
+    {
+        let mut left = self.copy()?;
+        let mut from: u64 = 0;
+        while let Some(number) = left.next_of(id, from) {
+            left.remove(alloc, id, number)?;
+            from = number as u64 + 1;
+        }
+        *self = left;
+        Ok(())
     }
 }
