@@ -5,7 +5,9 @@ ghost use Rattle.dura_value.specs.Views.{id_of};
 ghost use Rattle.flow_syntax.specs.Entity.{takes};
 ghost use Rattle.flow_messages.specs.Views.{entity_of};
 
+use crate::copies::copy_value;
 use dura_value::{Id, Value};
+use std::alloc::AllocError;
 
 /// An entity.
 #[derive(Drop)]
@@ -16,6 +18,18 @@ pub struct Entity {
     pub holder: Option<Id>,
     /// Its last stamp.
     pub last: u64,
+}
+
+impl Clone for Entity {
+    ghost is_clone = { λ entity copy. copy ≡ entity };
+
+    fn clone(&self) -> Result<Self, AllocError> {
+        Ok(Entity {
+            value: copy_value(&self.value)?,
+            holder: self.holder.clone()?,
+            last: self.last,
+        })
+    }
 }
 
 impl Entity {

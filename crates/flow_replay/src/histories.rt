@@ -18,14 +18,15 @@ pub fn replay<'f>(
     alloc: Global,
     id: &Id,
     body: Option<&'f [Stmt]>,
-    history: &[Past],
+    history: &[&Past],
 ) -> Result<Machine<'f>, AllocError>
     ensures { IfOk result (λ m. machine_of m
         ≡ replayed (new_machine (id_of id.now) (option_map body_of body.entry))
-        (map past_of history.now)) }
+        (map past_of (map (λ past. past.now) history.now))) }
 {
     let mut machine = Machine::new(alloc, id, body)?;
     for past in history {
+        let past: &Past = past;
         match advance(&mut machine, alloc, &past.event, past.stamp) {
             Ok(made) => drop(made),
             Err(fault) => {

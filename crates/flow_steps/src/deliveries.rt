@@ -60,8 +60,9 @@ pub(crate) fn instance_of_row<'f>(
     ensures { IfOk result (λ o. instance_of o
         ≡ instance_in (flows_of flows.now) (id_of id.now) (row_of row.now)) }
 {
-    let machine = replay(alloc, id, flow_in(flows, id), &row.history)?;
-    let (waiting, mut machine) = with(copy_waiting(&row.waiting), machine)?;
+    let history = row.history.all(alloc)?;
+    let machine = replay(alloc, id, flow_in(flows, id), &history)?;
+    let (waiting, mut machine) = with(copy_waiting(row.waiting.get()), machine)?;
     machine.last = row.stamp;
     Ok(Instance { machine, waiting })
 }

@@ -1,11 +1,10 @@
 -- The timers of a partition, and which is due first.
-use Rattle.std.specs.Prelude.{◌≡◌, ℕ, ◌≤◌, ◌<◌, ◌==◌, Bool, false, Option, Some, None}
+use Rattle.std.specs.Prelude.{◌≡◌, ℕ, ◌≤◌, ◌<◌, ◌==◌, Bool, false, Option, Some, None, if◌then◌else◌}
 use Rattle.std.specs.declared.cmp.Ordering.{Ordering}
 use Rattle.std.specs.Ordering.{is_gt}
-use Rattle.std.specs.BTreeSet.{contains}
 use Rattle.dura_value.specs.Ids.{Id}
-use Rattle.id_maps.specs.Keys.{key_of}
-use Rattle.id_maps.specs.Maps.{by_number, count_of}
+use Rattle.shared_maps.specs.Ids.{key_of}
+use Rattle.shared_maps.specs.Maps.{by_number, by_time}
 use Rattle.part_rows.specs.declared.timer.Timer.{Timer}
 use Rattle.part_rows.specs.declared.timers.TimerRow.{TimerRow}
 use Rattle.part_rows.specs.contracts.timer.TimerOrd.TheImpl as ord
@@ -22,17 +21,17 @@ timer_of due id task = record { due = due; id = key_of id; task = task }
 abbrev pub timers_in : TimerRow → Id → ℕ → Option ℕ
 timers_in row = by_number row.stamps
 
--- how many timers an instance has
-abbrev pub count_in : TimerRow → Id → ℕ
-count_in row = count_of row.stamps
-
 abbrev pub is_at : Option ℕ → ℕ → Bool
 is_at None due = false
 is_at (Some stamp) due = stamp == due
 
+-- a task's timer, if it is due at a stamp
+abbrev pub timer_if : Bool → ℕ → Id → ℕ → Option Timer
+timer_if is due id task = if is then Some (timer_of due id task) else None
+
 -- The order has just the timers that there are.
 abbrev pub InOrder : TimerRow → Type 0
-InOrder row = (due : ℕ) (id : Id) (task : ℕ) → contains timer_cmp row.order (timer_of due id task) ≡ is_at (timers_in row id task) due
+InOrder row = (due : ℕ) (id : Id) (task : ℕ) → by_time row.order due id task ≡ timer_if (is_at (timers_in row id task) due) due id task
 
 -- the first timer of these, which is due by now
 pub record IsFirstDue (timers : Id → ℕ → Option ℕ) (now due : ℕ) (id : Id) (task : ℕ) : Type 0 where

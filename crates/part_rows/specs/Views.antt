@@ -1,8 +1,9 @@
 -- The plain data that a partition's rows and streams stand for.
-use Rattle.std.specs.Prelude.{ℕ, [], map, Option, Some, None}
+use Rattle.std.specs.Prelude.{◌≡◌, ℕ, [], map, Option, Some, None, slice_get}
 use Rattle.std.specs.BTreeMap.{get}
 use Rattle.std.specs.Ordering.{nat_cmp}
 use Rattle.dura_value.specs.Ids as ids
+use Rattle.dura_value.specs.Items.{Posted}
 use Rattle.dura_value.specs.Views.{identity_of, posted_of, id_of}
 use Rattle.flow_messages.specs.Views.{past_of}
 use Rattle.dura_model.specs.World as world
@@ -20,7 +21,7 @@ abbrev pub waiting_of : Waiting → ids.Id × ℕ
 waiting_of one = (id_of one.client, one.number)
 
 abbrev pub row_of : Row → plain.Row
-row_of row = record { stamp = row.stamp; history = map past_of row.history.items; waiting = map waiting_of row.waiting.items }
+row_of row = record { stamp = row.stamp; history = map past_of row.history; waiting = map waiting_of row.waiting.items }
 
 abbrev pub activity_of : Activity → world.Activity
 activity_of one = record { name = one.name; argument = one.argument }
@@ -51,3 +52,7 @@ no_outbox target = record { first = 0; messages = [] }
 
 abbrev pub no_inbox : ℕ → plain.Inbox
 no_inbox source = record { next = 0; reader = plain.nobody }
+
+-- what is left of the streams was sent by entries of this partition
+abbrev pub AreSentBy : (number : ℕ) → (ℕ → streams.Outbox) → Type 0
+AreSentBy number boxes = (target place : ℕ) (posted : Posted) → slice_get (boxes target).messages place ≡ Some posted → posted.entry.partition ≡ number

@@ -1,6 +1,6 @@
 //! The rows of instances and entities.
 
-ghost use Rattle.std.specs.Prelude.{◌≡◌, Some, None, OnOk, IfSome, IfNone, option_map};
+ghost use Rattle.std.specs.Prelude.{◌≡◌, Some, None, IfOk, OnOk, IfSome, IfNone, option_map};
 ghost use Rattle.dura_value.specs.Views.{id_of, message_of};
 ghost use Rattle.flow_messages.specs.Views.{entity_of};
 ghost use Rattle.dura_value.specs.ById.{at_id};
@@ -12,7 +12,7 @@ use crate::parts::PartRows;
 use crate::rows::Row;
 use dura_value::{Id, Message, with};
 use flow_messages::{Entity, copy_id};
-use std::alloc::AllocError;
+use std::alloc::{AllocError, Global};
 
 impl PartRows {
     /// Whether a receiver takes what a sender sends: an entity that is held takes only what its holder sends.
@@ -67,7 +67,7 @@ impl PartRows {
     }
 
     /// An instance is kept.
-    pub fn put_instance(&mut self, id: &Id, row: Row) -> Result<(), AllocError>
+    pub fn put_instance(&mut self, alloc: Global, id: &Id, row: Row) -> Result<(), AllocError>
         ensures put { OnOk result (part_of self.new
             ≡ record (part_of self.old)
             { instances = at_id (part_of self.old).instances (id_of id.now) (Some (row_of row)) }) }
@@ -75,12 +75,12 @@ impl PartRows {
         ensures partitions { self.new.partitions ≡ self.old.partitions }
     {
         let id = copy_id(id)?;
-        self.instances.put(id, row)?;
+        self.instances.put(alloc, id, row)?;
         Ok(())
     }
 
     /// An entity is kept.
-    pub fn put_entity(&mut self, id: &Id, entity: Entity) -> Result<(), AllocError>
+    pub fn put_entity(&mut self, alloc: Global, id: &Id, entity: Entity) -> Result<(), AllocError>
         ensures put { OnOk result (part_of self.new
             ≡ record (part_of self.old) {
               entities = at_id (part_of self.old).entities (id_of id.now) (Some (entity_of entity));
@@ -89,34 +89,43 @@ impl PartRows {
         ensures partitions { self.new.partitions ≡ self.old.partitions }
     {
         let (id, entity) = with(copy_id(id), entity)?;
-        self.entities.put(id, entity)?;
+        self.entities.put(alloc, id, entity)?;
         Ok(())
     }
 
     /// An instance is taken out of its row.
-    pub fn take_instance(&mut self, id: &Id) -> Option<Row>
-        ensures row { option_map row_of result ≡ (part_of self.old).instances (id_of id.now) }
-        ensures taken { part_of self.new ≡ record (part_of self.old)
-            { instances = at_id (part_of self.old).instances (id_of id.now) None } }
+    pub fn take_instance(&mut self, alloc: Global, id: &Id) -> Result<Option<Row>, AllocError>
+        ensures row { IfOk result (λ row. option_map row_of row
+            ≡ (part_of self.old).instances (id_of id.now)) }
+        ensures taken { OnOk result (part_of self.new ≡ record (part_of self.old)
+            { instances = at_id (part_of self.old).instances (id_of id.now) None }) }
         ensures timers { self.new.timers ≡ self.old.timers }
         ensures partitions { self.new.partitions ≡ self.old.partitions }
     {
-        self.instances.take(id)
+        let row = self.instances.take(alloc, id)?;
+        Ok(row)
     }
 
     /// An entity is taken out of its row.
-    pub fn take_entity(&mut self, id: &Id) -> Option<Entity>
-        ensures entity { option_map entity_of result ≡ (part_of self.old).entities (id_of id.now) }
-        ensures taken { part_of self.new ≡ record (part_of self.old)
-            { entities = at_id (part_of self.old).entities (id_of id.now) None } }
+    pub fn take_entity(&mut self, alloc: Global, id: &Id) -> Result<Option<Entity>, AllocError>
+        ensures entity { IfOk result (λ entity. option_map entity_of entity
+            ≡ (part_of self.old).entities (id_of id.now)) }
+        ensures taken { OnOk result (part_of self.new ≡ record (part_of self.old)
+            { entities = at_id (part_of self.old).entities (id_of id.now) None }) }
         ensures timers { self.new.timers ≡ self.old.timers }
         ensures partitions { self.new.partitions ≡ self.old.partitions }
     {
-        self.entities.take(id)
+        let entity = self.entities.take(alloc, id)?;
+        Ok(entity)
     }
 
     /// An instance is kept in the place of its row, or no longer where there is none.
-    pub fn replace_instance(&mut self, id: &Id, row: Option<Row>) -> Result<(), AllocError>
+    pub fn replace_instance(
+        &mut self,
+        alloc: Global,
+        id: &Id,
+        row: Option<Row>,
+    ) -> Result<(), AllocError>
         ensures put { OnOk result (part_of self.new
             ≡ record (part_of self.old) {
               instances = at_id (part_of self.old).instances (id_of id.now) (option_map row_of row);
@@ -125,9 +134,9 @@ impl PartRows {
         ensures partitions { self.new.partitions ≡ self.old.partitions }
     {
         match row {
-            Some(row) => self.put_instance(id, row),
+            Some(row) => self.put_instance(alloc, id, row),
             None => {
-                drop(self.take_instance(id));
+                drop(self.take_instance(alloc, id)?);
                 Ok(())
             }
         }

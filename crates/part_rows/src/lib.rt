@@ -3,7 +3,7 @@
 //!
 //! - `rows`: an instance as it is kept, a pending activity.
 //! - `parts`: all that a partition knows, and what is posted. `holders`, `pending`, `requests`, `incoming`: what changes it.
-//! - `queue`: the messages to receivers here. `copies`: copies of messages, rows, entities and activities.
+//! - `queue`: the messages to receivers here. `copies`: copies of messages.
 //! - `timers`: the timers of instances, of which `timer` is one, and which of them is due first.
 //! - `reactions`: what instances and entities make of what reaches them, as a trait; who implements it runs their machines.
 //! - `streams`: what came in from other partitions, and what goes out to them.

@@ -6,14 +6,13 @@ ghost use Rattle.part_rows.specs.Timers.{InOrder};
 ghost use Rattle.dura_model.specs.Partition.{fresh, entry_of, post, post_all};
 ghost use Rattle.part_rows.specs.Parts.{part_of};
 
-use crate::copies::{copy_activity, copy_answer, copy_entity, copy_message, copy_row};
 use crate::queue::Queue;
 use crate::rows::{Activity, Row};
 use crate::streams::{Inboxes, Outboxes};
 use crate::timers::TimerRow;
 use dura_value::{Answer, Identity, Message, Posted, home, with};
 use flow_messages::Entity;
-use id_maps::{IdMap, NumberMap};
+use shared_maps::{IdMap, NumberMap, TaskMap};
 use std::alloc::{AllocError, Global};
 
 /// What a partition among so many knows. After an Err, which is want of memory, it is only dropped.
@@ -38,7 +37,7 @@ pub struct PartRows {
     /// Its entities.
     pub entities: IdMap<Entity>,
     /// The activities that are pending.
-    pub activities: NumberMap<Activity>,
+    pub activities: TaskMap<Activity>,
     /// The timers that are pending.
     pub timers: TimerRow,
     /// The messages to receivers here.
@@ -67,7 +66,7 @@ impl PartRows {
             answers: NumberMap::new(alloc),
             instances: IdMap::new(alloc),
             entities: IdMap::new(alloc),
-            activities: NumberMap::new(alloc),
+            activities: TaskMap::new(alloc),
             timers: TimerRow::new(alloc),
             queue: Queue::new(alloc),
             inboxes: Inboxes::new(alloc),
@@ -102,12 +101,12 @@ impl PartRows {
         self.position = other.position;
         self.incarnation = other.incarnation;
         self.stamp = other.stamp;
-        self.taken = other.taken.copied(alloc, copy_message)?;
-        self.answers = other.answers.copied(alloc, copy_answer)?;
-        self.instances = other.instances.copied(alloc, |row| copy_row(alloc, row))?;
-        self.entities = other.entities.copied(alloc, copy_entity)?;
-        self.activities = other.activities.copied(alloc, copy_activity)?;
-        self.timers = other.timers.copy(alloc)?;
+        self.taken = other.taken.copy()?;
+        self.answers = other.answers.copy()?;
+        self.instances = other.instances.copy()?;
+        self.entities = other.entities.copy()?;
+        self.activities = other.activities.copy()?;
+        self.timers = other.timers.copy()?;
         self.queue = other.queue.copy(alloc)?;
         self.inboxes = other.inboxes.copy()?;
         self.outboxes = other.outboxes.copy(alloc)?;

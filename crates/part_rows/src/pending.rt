@@ -1,6 +1,6 @@
 //! What instances wait for, and what is given up.
 
-ghost use Rattle.std.specs.Prelude.{◌≡◌, ◌∷◌, [], map, option_map, true, Some, None, OnOk};
+ghost use Rattle.std.specs.Prelude.{◌≡◌, ◌∷◌, [], map, option_map, true, Some, None, IfOk, OnOk};
 ghost use Rattle.dura_value.specs.Views.{id_of};
 ghost use Rattle.flow_messages.specs.Views.{asked_of};
 ghost use Rattle.part_rows.specs.Timers.{InOrder};
@@ -38,19 +38,25 @@ impl PartRows {
     }
 
     /// A pending activity of an instance's task is taken out.
-    pub fn take_activity(&mut self, id: &Id, task: u32) -> Option<Activity>
-        ensures activity { option_map activity_of result
-            ≡ (part_of self.old).activities (id_of id.now) task }
-        ensures taken { part_of self.new ≡ record (part_of self.old)
-            { activities = at_number (part_of self.old).activities (id_of id.now) task None } }
+    pub fn take_activity(
+        &mut self,
+        alloc: Global,
+        id: &Id,
+        task: u32,
+    ) -> Result<Option<Activity>, AllocError>
+        ensures activity { IfOk result (λ activity. option_map activity_of activity
+            ≡ (part_of self.old).activities (id_of id.now) task) }
+        ensures taken { OnOk result (part_of self.new ≡ record (part_of self.old)
+            { activities = at_number (part_of self.old).activities (id_of id.now) task None }) }
         ensures timers { self.new.timers ≡ self.old.timers }
         ensures partitions { self.new.partitions ≡ self.old.partitions }
     {
-        self.activities.take(id, task)
+        let activity = self.activities.take(alloc, id, task)?;
+        Ok(activity)
     }
 
     /// A pending timer of an instance's task is taken out.
-    pub fn take_timer(&mut self, id: &Id, task: u32) -> Result<(), AllocError>
+    pub fn take_timer(&mut self, alloc: Global, id: &Id, task: u32) -> Result<(), AllocError>
         requires { InOrder self.old.timers }
         ensures taken { OnOk result (part_of self.new
             ≡ record (part_of self.old)
@@ -58,18 +64,19 @@ impl PartRows {
         ensures order { OnOk result (InOrder self.new.timers) }
         ensures partitions { self.new.partitions ≡ self.old.partitions }
     {
-        self.timers.take(id, task)?;
+        self.timers.take(alloc, id, task)?;
         Ok(())
     }
 
     /// No activity of an instance is pending.
-    fn clear_activities(&mut self, id: &Id)
-        ensures cleared { part_of self.new ≡ record (part_of self.old)
-            { activities = cleared (part_of self.old).activities (id_of id.now) } }
+    fn clear_activities(&mut self, alloc: Global, id: &Id) -> Result<(), AllocError>
+        ensures cleared { OnOk result (part_of self.new ≡ record (part_of self.old)
+            { activities = cleared (part_of self.old).activities (id_of id.now) }) }
         ensures timers { self.new.timers ≡ self.old.timers }
         ensures partitions { self.new.partitions ≡ self.old.partitions }
     {
-        self.activities.clear(id);
+        self.activities.clear(alloc, id)?;
+        Ok(())
     }
 
     /// An activity or a timer of an instance is pending.
@@ -104,15 +111,15 @@ impl PartRows {
     }
 
     /// What is pending of an instance is given up.
-    pub fn give_up(&mut self, id: &Id) -> Result<(), AllocError>
+    pub fn give_up(&mut self, alloc: Global, id: &Id) -> Result<(), AllocError>
         requires { InOrder self.old.timers }
         ensures given_up { OnOk result (part_of self.new
             ≡ given_up_in (part_of self.old) (id_of id.now) true) }
         ensures order { OnOk result (InOrder self.new.timers) }
         ensures partitions { self.new.partitions ≡ self.old.partitions }
     {
-        self.clear_activities(id);
-        self.timers.drop_of(id)?;
+        self.clear_activities(alloc, id)?;
+        self.timers.drop_of(alloc, id)?;
         Ok(())
     }
 

@@ -1,24 +1,24 @@
 //! The timers of a partition.
 
-ghost use Rattle.std.specs.Prelude.{◌≡◌, ◌+◌, if◌then◌else◌, is_some, Some, None, IfOk, OnOk, IfSome, IfNone};
+ghost use Rattle.std.specs.Prelude.{◌≡◌, Some, None, IfOk, OnOk, IfSome, IfNone};
 ghost use Rattle.dura_value.specs.Views.{id_of};
-ghost use Rattle.id_maps.specs.Maps.{no_number};
 ghost use Rattle.dura_value.specs.ById.{at_number, cleared};
-ghost use Rattle.part_rows.specs.Timers.{timers_in, count_in, InOrder, IsFirstDue, NoneDue, IsNext, NoTimer};
+ghost use Rattle.shared_maps.specs.Maps.{no_number};
+ghost use Rattle.part_rows.specs.Timers.{timers_in, InOrder, IsFirstDue, NoneDue, IsNext, NoTimer};
 
 use crate::timer::Timer;
 use dura_value::Id;
-use id_maps::NumberMap;
+use flow_messages::copy_id;
+use shared_maps::{NumberMap, TimeMap};
 use std::alloc::{AllocError, Global};
-use std::collections::BTreeSet;
 
-/// The timers of a partition: at most one for each task of an instance. A contract sees when each is due.
+/// The timers of a partition: at most one for each task of an instance. A contract sees when each is due. Copies share them.
 ///
 /// After an Err, which is want of memory, a row is only dropped.
 #[derive(Drop)]
 pub struct TimerRow {
     stamps: NumberMap<u64>,
-    order: BTreeSet<Timer>,
+    order: TimeMap<Timer>,
 }
 
 impl TimerRow {
@@ -29,7 +29,7 @@ impl TimerRow {
     {
         TimerRow {
             stamps: NumberMap::new(alloc),
-            order: BTreeSet::new(alloc),
+            order: TimeMap::new(alloc),
         }
     }
 
@@ -47,39 +47,39 @@ impl TimerRow {
             ≡ at_number (timers_in self.old) (id_of id) task (Some due)) }
         ensures order { OnOk result (InOrder self.new) }
     {
-        self.take(&id, task)?;
-        self.order.insert(Timer::of(due, &id, task)?)?;
+        self.take(alloc, &id, task)?;
+        let timer = Timer::of(due, &id, task)?;
+        self.order.put(alloc, due, copy_id(&id)?, task, timer)?;
         self.stamps.put(alloc, id, task, due)?;
         Ok(())
     }
 
     /// Takes out the timer of this task, and says when it was due.
-    pub fn take(&mut self, id: &Id, task: u32) -> Result<Option<u64>, AllocError>
+    pub fn take(&mut self, alloc: Global, id: &Id, task: u32) -> Result<Option<u64>, AllocError>
         requires { InOrder self.old }
         ensures due { IfOk result (λ due. due ≡ timers_in self.old (id_of id.now) task) }
         ensures taken { OnOk result (timers_in self.new
             ≡ at_number (timers_in self.old) (id_of id.now) task None) }
-        ensures count { IfOk result (λ due.
-            count_in self.new (id_of id.now) + (if is_some due then 1 else 0)
-            ≡ count_in self.old (id_of id.now)) }
         ensures order { OnOk result (InOrder self.new) }
     {
-        let Some(due) = self.stamps.take(id, task) else {
+        let Some(due) = self.stamps.take(alloc, id, task)? else {
             return Ok(None);
         };
-        self.order.remove(&Timer::of(due, id, task)?);
+        self.order.remove(alloc, due, id, task)?;
         Ok(Some(due))
     }
 
     /// Takes out the timers of this instance.
-    pub fn drop_of(&mut self, id: &Id) -> Result<(), AllocError>
+    pub fn drop_of(&mut self, alloc: Global, id: &Id) -> Result<(), AllocError>
         requires { InOrder self.old }
         ensures dropped { OnOk result (timers_in self.new
             ≡ cleared (timers_in self.old) (id_of id.now)) }
         ensures order { OnOk result (InOrder self.new) }
     {
-        while let Some(task) = self.stamps.first_of(id) {
-            self.take(id, task)?;
+        let mut from: u64 = 0;
+        while let Some(task) = self.stamps.next_of(id, from) {
+            self.take(alloc, id, task)?;
+            from = task as u64 + 1;
         }
         Ok(())
     }
@@ -109,15 +109,14 @@ impl TimerRow {
         }
     }
 
-    /// The same timers.
-    pub fn copy(&self, alloc: Global) -> Result<TimerRow, AllocError>
+    /// The same timers, shared.
+    pub fn copy(&self) -> Result<TimerRow, AllocError>
         requires { InOrder self.now }
         ensures same { IfOk result (λ copy. timers_in copy ≡ timers_in self.now) }
         ensures order { IfOk result InOrder }
     {
-        Ok(TimerRow {
-            stamps: self.stamps.copied(alloc, |due| Ok(*due))?,
-            order: self.order.clone()?,
-        })
+        let stamps = self.stamps.copy()?;
+        let order = self.order.copy()?;
+        Ok(TimerRow { stamps, order })
     }
 }

@@ -5,4 +5,5 @@ pub mod Enabling
 pub mod Ending
 pub mod Looking
 pub mod PutBack
+pub mod Sending
 pub mod Sound

@@ -203,13 +203,14 @@ fn is_pending(rows: &PartRows, id: &Id, task: u32) -> bool
 }
 
 /// An activity of an instance's task is no longer pending.
-fn drop_activity(rows: &mut PartRows, id: &Id, task: u32)
-    ensures dropped { part_of rows.new ≡ record (part_of rows.old)
-        { activities = at_number (part_of rows.old).activities (id_of id.now) task None } }
+fn drop_activity(alloc: Global, rows: &mut PartRows, id: &Id, task: u32) -> Result<(), AllocError>
+    ensures dropped { OnOk result (part_of rows.new ≡ record (part_of rows.old)
+        { activities = at_number (part_of rows.old).activities (id_of id.now) task None }) }
     ensures timers { rows.new.timers ≡ rows.old.timers }
     ensures partitions { rows.new.partitions ≡ rows.old.partitions }
 {
-    rows.take_activity(id, task);
+    drop(rows.take_activity(alloc, id, task)?);
+    Ok(())
 }
 
 /// A pending activity is over.
@@ -241,7 +242,7 @@ fn finish<R: Reactions>(
     let stamp = row.stamp;
     let answer = answer_of(outcome)?;
     let made = reactions.go_on(alloc, id, row, Event::Resulted(task, answer), stamp)?;
-    drop_activity(rows, id, task);
+    let (_, made) = with(drop_activity(alloc, rows, id, task), made)?;
     let outputs = keep_event(alloc, rows, id, stamp, made)?;
     Ok(Some(outputs))
 }
@@ -283,7 +284,7 @@ fn fire<R: Reactions>(
         return Ok(None);
     };
     let made = reactions.go_on(alloc, id, row, Event::Fired(task), stamp)?;
-    let (_, made) = with(rows.take_timer(id, task), made)?;
+    let (_, made) = with(rows.take_timer(alloc, id, task), made)?;
     rows.raise_to(stamp);
     let outputs = keep_event(alloc, rows, id, stamp, made)?;
     Ok(Some(outputs))

@@ -14,29 +14,31 @@ ghost use Rattle.part_steps.specs.Kept.{next_row, kept_in};
 use dura_value::{Id, Message, with};
 use flow_messages::{Event, Past};
 use part_rows::{PartRows, Reaction, Row, Waiting, copy_message};
+use shared_lists::{Shared, SharedList};
 use std::alloc::{AllocError, Global};
 
 /// The history of a row, or none where there is no row.
-fn history_in(alloc: Global, row: Option<Row>) -> Vec<Past>
-    ensures { map past_of result.items ≡ history_of (option_map row_of row) }
+fn history_in(row: Option<Row>) -> SharedList<Past>
+    ensures { map past_of result ≡ history_of (option_map row_of row) }
 {
     match row {
         Some(row) => row.history,
-        None => Vec::new(alloc),
+        None => SharedList::new(),
     }
 }
 
 /// A history with this event behind, if there is one.
 fn add_event(
-    mut history: Vec<Past>,
+    alloc: Global,
+    mut history: SharedList<Past>,
     stamp: u64,
     event: Option<Event>,
-) -> Result<Vec<Past>, AllocError>
-    ensures { IfOk result (λ all. map past_of all.items
-        ≡ with_event (map past_of history.items) stamp (option_map event_of event)) }
+) -> Result<SharedList<Past>, AllocError>
+    ensures { IfOk result (λ all. map past_of all
+        ≡ with_event (map past_of history) stamp (option_map event_of event)) }
 {
     if let Some(event) = event {
-        history.push(Past { event, stamp })?;
+        history.push(alloc, Past { event, stamp })?;
     }
     Ok(history)
 }
@@ -53,7 +55,9 @@ fn next_row(
         ≡ next_row (option_map row_of row) stamp (option_map event_of event)
         (waits_of waiting.items)) }
 {
-    let (history, waiting) = with(add_event(history_in(alloc, row), stamp, event), waiting)?;
+    let added = add_event(alloc, history_in(row), stamp, event);
+    let (history, waiting) = with(added, waiting)?;
+    let (waiting, history) = with(Shared::new(alloc, waiting), history)?;
     Ok(Row {
         stamp,
         history,
@@ -104,14 +108,14 @@ fn put_row(
     ensures timers { rows.new.timers ≡ rows.old.timers }
     ensures partitions { rows.new.partitions ≡ rows.old.partitions }
 {
-    let row = rows.take_instance(id);
+    let row = rows.take_instance(alloc, id)?;
     let next = next_or_none(alloc, row, stamp, event, waiting)?;
-    rows.replace_instance(id, next)?;
+    rows.replace_instance(alloc, id, next)?;
     Ok(())
 }
 
 /// What is pending of an instance is given up, if so it is.
-fn give_up_if(rows: &mut PartRows, id: &Id, gives_up: bool) -> Result<(), AllocError>
+fn give_up_if(alloc: Global, rows: &mut PartRows, id: &Id, gives_up: bool) -> Result<(), AllocError>
     requires { InOrder rows.old.timers }
     ensures given_up { OnOk result (part_of rows.new
         ≡ given_up_in (part_of rows.old) (id_of id.now) gives_up) }
@@ -119,7 +123,7 @@ fn give_up_if(rows: &mut PartRows, id: &Id, gives_up: bool) -> Result<(), AllocE
     ensures partitions { rows.new.partitions ≡ rows.old.partitions }
 {
     if gives_up {
-        rows.give_up(id)?;
+        rows.give_up(alloc, id)?;
     }
     Ok(())
 }
@@ -180,7 +184,7 @@ pub(crate) fn keep(
     ensures partitions { rows.new.partitions ≡ rows.old.partitions }
 {
     put_row(alloc, rows, id, stamp, made.event, made.waiting)?;
-    give_up_if(rows, id, made.gives_up)?;
+    give_up_if(alloc, rows, id, made.gives_up)?;
     rows.ask_all(alloc, id, made.asked)?;
     let sent = send(alloc, rows, made.sent)?;
     Ok(sent)

@@ -1,10 +1,10 @@
-//! What a listing of a partition tells, one instance and one entity after another.
+//! What a listing of a partition tells: the ids of its instances and entities, and how each of them stands.
 
-ghost use Rattle.std.specs.Prelude.{◌≡◌, Some, is_some, IfOk, IfSome, IfNone, option_map};
+ghost use Rattle.std.specs.Prelude.{◌≡◌, Some, is_some, IfOk, option_map};
 ghost use Rattle.dura_value.specs.Messages.{is_value};
 ghost use Rattle.dura_value.specs.Views.{id_of, answer_of};
 ghost use Rattle.flow_messages.specs.Views.{entity_of};
-ghost use Rattle.id_maps.specs.Order.{IsNextBehind, NoneBehind};
+ghost use Rattle.shared_maps.specs.Maps.{has_id};
 ghost use Rattle.part_steps.specs.Listing.{entity_standing, instance_standing};
 ghost use Rattle.part_steps.specs.States.{state_of};
 
@@ -12,6 +12,7 @@ use crate::state::PartState;
 use dura_value::{Answer, Id};
 use flow_messages::{Entity, copy_value};
 use part_rows::Reactions;
+use shared_maps::OrderedIds;
 use std::alloc::{AllocError, Global};
 
 /// What a query of an entity is answered.
@@ -22,32 +23,22 @@ fn standing_of_entity(entity: &Entity) -> Result<Answer, AllocError>
 }
 
 impl PartState {
-    /// The first entity behind the last one, or of all.
-    pub fn next_entity_id(&self, last: Option<&Id>) -> Option<&Id>
-        ensures next { IfSome result (λ id.
-            IsNextBehind (λ id. is_some ((state_of self.now).entities id))
-            (option_map (λ id. id_of id.now) last.entry) (id_of id.now)) }
-        ensures none { IfNone result (NoneBehind (λ id. is_some ((state_of self.now).entities id))
-            (option_map (λ id. id_of id.now) last.entry)) }
+    /// The ids of its entities, in their order.
+    pub fn entity_ids(&self, alloc: Global) -> Result<OrderedIds, AllocError>
+        ensures { IfOk result (λ ids. has_id ids
+            ≡ (λ id. is_some ((state_of self.now).entities id))) }
     {
-        match self.rows.entities.next(last) {
-            Some((id, _)) => Some(id),
-            None => None,
-        }
+        let ids = self.rows.entities.ids(alloc)?;
+        Ok(ids)
     }
 
-    /// The first instance behind the last one, or of all.
-    pub fn next_instance_id(&self, last: Option<&Id>) -> Option<&Id>
-        ensures next { IfSome result (λ id.
-            IsNextBehind (λ id. is_some ((state_of self.now).instances id))
-            (option_map (λ id. id_of id.now) last.entry) (id_of id.now)) }
-        ensures none { IfNone result (NoneBehind (λ id. is_some ((state_of self.now).instances id))
-            (option_map (λ id. id_of id.now) last.entry)) }
+    /// The ids of its instances, in their order.
+    pub fn instance_ids(&self, alloc: Global) -> Result<OrderedIds, AllocError>
+        ensures { IfOk result (λ ids. has_id ids
+            ≡ (λ id. is_some ((state_of self.now).instances id))) }
     {
-        match self.rows.instances.next(last) {
-            Some((id, _)) => Some(id),
-            None => None,
-        }
+        let ids = self.rows.instances.ids(alloc)?;
+        Ok(ids)
     }
 
     /// The answer that a query of an entity would get, whoever holds it, if the entity is there.

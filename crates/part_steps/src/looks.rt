@@ -1,17 +1,20 @@
 //! What the engine reads off the state of a partition.
 
-ghost use Rattle.std.specs.Prelude.{◌≡◌, true, false, length, is_some, IsSome, IfSome, IfNone, option_map};
+ghost use Rattle.std.specs.Prelude.{◌≡◌, ℕ, true, false, length, is_some, IsSome, IfSome, IfNone, option_map};
+ghost use Rattle.dura_value.specs.Ids.{Id as PlainId};
 ghost use Rattle.dura_value.specs.Views.{id_of, answer_of, message_of, posted_of, identity_of};
 ghost use Rattle.std.specs.List.{slice_get};
-ghost use Rattle.id_maps.specs.Order.{IsFirst, IsNextTask, NoTaskBehind};
+ghost use Rattle.shared_maps.specs.Maps.{by_task};
+ghost use Rattle.shared_maps.specs.Order.{IsFirst, IsNextBehind, NoneBehind};
 ghost use Rattle.part_rows.specs.Timers.{IsNext, NoTimer};
-ghost use Rattle.part_rows.specs.Views.{activity_of};
+ghost use Rattle.part_rows.specs.Views.{activity_of, outboxes_of, AreSentBy};
 ghost use Rattle.part_steps.specs.Quiet.{NoActivity, IsQuiet};
 ghost use Rattle.part_steps.specs.States.{IsSound, state_of, count_of};
 
 use crate::state::PartState;
 use dura_value::{Answer, Id, Identity, Message, Posted};
-use part_rows::Activity;
+use part_rows::{Activity, Outboxes};
+use shared_maps::TaskMap;
 
 impl PartState {
     /// Which of the partitions it is.
@@ -48,6 +51,16 @@ impl PartState {
             ≡ slice_get ((state_of self.now).outboxes target).messages place }
     {
         self.rows.outboxes.left(target, place)
+    }
+
+    /// The streams to other partitions, which its own entries sent.
+    #[tactic(auto, using(crate::proofs::Sending::are_sent_here))]
+    pub fn outboxes(&self) -> &Outboxes
+        requires { IsSound self.now }
+        ensures streams { outboxes_of result.now ≡ (state_of self.now).outboxes }
+        ensures own { AreSentBy (state_of self.now).number (outboxes_of result.now) }
+    {
+        &self.rows.outboxes
     }
 
     /// How far the stream from a partition was taken in: the number of its next message.
@@ -112,6 +125,15 @@ impl PartState {
         self.rows.activities.get(id, task)
     }
 
+    /// The activities that are pending.
+    #[tactic(auto, using(crate::proofs::Looking::test_seen))]
+    pub fn activities(&self) -> &TaskMap<Activity>
+        ensures { (id : PlainId) (task : ℕ) → is_some (by_task result.now id task)
+            ≡ is_some ((state_of self.now).activities id task) }
+    {
+        &self.rows.activities
+    }
+
     /// The first instance that has a pending activity, and the least of its tasks that have one.
     #[tactic(auto, using(crate::proofs::Looking::seen_there, crate::proofs::Looking::seen_first, crate::proofs::Looking::seen_nowhere))]
     pub fn pending_task(&self) -> Option<(&Id, u32)>
@@ -130,9 +152,10 @@ impl PartState {
     #[tactic(auto, using(crate::proofs::Looking::seen_next, crate::proofs::Looking::seen_none_behind))]
     pub fn next_pending(&self, last: Option<(&Id, u32)>) -> Option<(&Id, u32)>
         ensures next { IfSome result (λ one.
-            IsNextTask (λ id task. is_some ((state_of self.now).activities id task))
-            (option_map (λ task. (id_of task.0.now, task.1)) last.entry) (id_of one.0.now) one.1) }
-        ensures none { IfNone result (NoTaskBehind
+            IsNextBehind (λ id task. is_some ((state_of self.now).activities id task))
+            (option_map (λ task. (id_of task.0.now, task.1)) last.entry)
+            (id_of one.0.now, one.1)) }
+        ensures none { IfNone result (NoneBehind
             (λ id task. is_some ((state_of self.now).activities id task))
             (option_map (λ task. (id_of task.0.now, task.1)) last.entry)) }
     {

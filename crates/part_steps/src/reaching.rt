@@ -71,9 +71,9 @@ fn change_entity<R: Reactions>(
     ensures timers { rows.new.timers ≡ rows.old.timers }
     ensures partitions { rows.new.partitions ≡ rows.old.partitions }
 {
-    let kept = rows.take_entity(&message.to);
+    let kept = rows.take_entity(alloc, &message.to)?;
     let (entity, sent) = reactions.deliver(alloc, class, kept, message, stamp)?;
-    let (_, sent) = with(rows.put_entity(&message.to, entity), sent)?;
+    let (_, sent) = with(rows.put_entity(alloc, &message.to, entity), sent)?;
     Ok(sent)
 }
 

@@ -2,7 +2,7 @@
 use Rattle.std.proofs.Common.{◌≡◌, ◌∙◌, true, false, Some, None, refl, ap, subst}
 use Rattle.dura_value.specs.Ids.{Id, id_eq}
 use Rattle.dura_value.proofs.Ids.{id_same}
-use Rattle.id_maps.specs.Order.{is_before, is_no_later, IsNextBehind, NoneBehind}
+use Rattle.shared_maps.specs.IdOrder.{is_before, is_no_later, IsNextBehind, NoneBehind}
 use Rattle.run_examples.specs.States.{sum, account}
 
 pub first_of_all : IsNextBehind (id_eq account) None account

@@ -5,7 +5,7 @@ ghost use Rattle.dura_value.specs.declared.data.Value.TheVariants as values;
 ghost use Rattle.dura_value.specs.Ids.{id_eq};
 ghost use Rattle.dura_value.specs.Items.{Item, ran, took};
 ghost use Rattle.dura_value.specs.Messages.{is_value, is_running};
-ghost use Rattle.id_maps.specs.Order.{IsNextBehind, NoneBehind};
+ghost use Rattle.shared_maps.specs.IdOrder.{IsNextBehind, NoneBehind};
 ghost use Rattle.dura_model.specs.Partition.{Partition};
 ghost use Rattle.dura_model.specs.Placed.{Belongs, AreOfInstances};
 ghost use Rattle.part_steps.specs.Enabled.{stamp_at, IsEnabled, NoneEnabled, Makes};

@@ -1,15 +1,15 @@
--- Fewer entries of a map lie behind the next id than behind the last one.
+-- Fewer keys lie behind the next id than behind the last one.
 use Rattle.std.proofs.Common.{◌≡◌, ◌∙◌, ℕ, ◌+◌, ◌<◌, ◌≤◌, Bool, true, false, cond, List, [], ◌∷◌, Option, Some, None, option_map, is_some, refl, ap, sym, subst, arith}
-use Rattle.std.specs.BTreeMap.{BTreeMap, get, is_at}
+use Rattle.std.specs.BTreeMap.{is_at}
 use Rattle.std.specs.Map.{lookup}
 use Rattle.dura_value.specs.declared.addresses.Id.{Id}
 use Rattle.dura_value.specs.Ids as plain
 use Rattle.dura_value.specs.Ids.{id_eq}
 use Rattle.dura_value.specs.Views.{id_of}
 use Rattle.dura_value.proofs.Ids.{id_same, id_self}
-use Rattle.id_maps.specs.Keys.{id_cmp, key_of}
-use Rattle.id_maps.specs.Order.{is_behind, IsNextBehind}
-use Rattle.id_maps.proofs.Changes.{is_key, key_again}
+use Rattle.shared_maps.specs.Ids.{id_cmp, key_of}
+use Rattle.shared_maps.specs.IdOrder.{is_behind}
+use Rattle.shared_maps.proofs.Ids.{is_key, key_again}
 use Rattle.state_lines.proofs.Order.{id_again, not_itself, behind_more}
 
 abbrev pub one_if : Bool → ℕ
@@ -66,11 +66,6 @@ module _ (last : Option plain.Id) (id : plain.Id) (behind : is_behind last id �
   fewer [] found = absurd (cc found)
   fewer (e ∷ entries) found = fewer_by e entries (is_at (id_cmp (key_of id)) e.0) refl found (fewer entries)
 
-is_there : {X Y : Type 0} (view : X → Y) (o : Option X) → is_some (option_map view o) ≡ true → is_some o ≡ true
+pub is_there : {X Y : Type 0} (view : X → Y) (o : Option X) → is_some (option_map view o) ≡ true → is_some o ≡ true
 is_there view None found = absurd (cc found)
 is_there view (Some x) found = refl
-
--- fewer lie behind the next id than behind the last one
-pub fewer_behind : {X Y : Type 0} (view : X → Y) (map : BTreeMap Id X) (last : Option plain.Id) (id : plain.Id) → IsNextBehind (λ other. is_some (option_map view (get id_cmp map (key_of other)))) last id
-    → count_behind (Some id) map.entries < count_behind last map.entries
-fewer_behind view map last id next = fewer last id next.behind map.entries (is_there view (get id_cmp map (key_of id)) next.found)

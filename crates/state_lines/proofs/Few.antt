@@ -7,7 +7,7 @@ use Rattle.dura_value.specs.ById.{at_id}
 use Rattle.dura_value.specs.Ids.{Id, id_eq}
 use Rattle.dura_value.proofs.Ids.{id_same}
 use Rattle.flow_syntax.specs.Syntax.{Flows}
-use Rattle.id_maps.specs.Order.{is_before, is_no_later}
+use Rattle.shared_maps.specs.IdOrder.{is_before, is_no_later}
 use Rattle.state_lines.specs.Examples.{accounts, no_flows, account, sum, ninety, begun, one_entity, both_kinds}
 use Rattle.state_lines.specs.Table.{AreAll, has_entity, has_instance, IsTable}
 use Rattle.state_lines.proofs.Kept.{seen_there}

@@ -3,7 +3,7 @@ use Rattle.std.proofs.Common.{◌≡◌, ◌∙◌, ◌⊎◌, inl, inr, ℕ, Bo
 use Rattle.std.proofs.lemmas.List.{append-nil}
 use Rattle.dura_value.specs.Ids.{Id}
 use Rattle.dura_value.specs.Messages.{Answer}
-use Rattle.id_maps.specs.Order.{NoneBehind}
+use Rattle.shared_maps.specs.IdOrder.{NoneBehind}
 use Rattle.state_lines.specs.Table.{table_line, table_lines, last_of, AreNext, AreAll}
 use Rattle.state_lines.specs.Fronts.{IsPartOfNext, AreFirst}
 use Rattle.state_lines.proofs.Next.{table_lines-append}

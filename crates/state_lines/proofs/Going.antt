@@ -8,7 +8,7 @@ use Rattle.dura_value.specs.declared.addresses.Id.{Id as Given}
 use Rattle.dura_value.specs.Ids.{Id}
 use Rattle.dura_value.specs.Views.{id_of}
 use Rattle.flow_syntax.specs.Syntax.{Flows}
-use Rattle.id_maps.specs.Order.{IsNextBehind, NoneBehind}
+use Rattle.shared_maps.specs.IdOrder.{IsNextBehind, NoneBehind}
 use Rattle.part_steps.specs.States.{AreStatesOfAll, parts_in, state_of}
 use Rattle.part_steps.specs.declared.state.PartState.{PartState}
 use Rattle.state_lines.specs.Heads.{IsHead, AreHeads, IsLeast, IsLeastOf, head_of, heads_of}
@@ -44,19 +44,15 @@ module _ (flows : Flows) (states : List PartState) (are : AreStatesOfAll states)
       pub next_line : IsNextBehind (has_line kind world) (head_of last) (id_of id.now)
       next_line = least_next (length states) (has_line kind world) kept (are_kept flows states are kind) (head_of last) (heads_of heads) as_many all place (id_of id.now) least
 
-      module _ (state : PartState) (at : state ≡ slice_index_or states place state) where
-        part_is : parts_in states place ≡ state_of state
-        part_is = part_at states place state inside ∙ ap state_of (sym at)
+      -- its state moves on
+      pub heads_go_on : (found : Option (Bor Given)) → IsHead (kept place) (Some (id_of id.now)) (head_of found) → AreHeads kept (Some (id_of id.now)) (heads_of (slice_set heads place found))
+      heads_go_on found is = subst (AreHeads kept (Some (id_of id.now))) (sym (map-set head_of heads place found))
+          (heads_after (length states) (has_line kind world) kept (are_kept flows states are kind) (head_of last) (heads_of heads) as_many all place (id_of id.now) least (head_of found) is)
 
+      module _ (state : PartState) (at : state ≡ slice_index_or states place state) where
         -- its state has the answer
         pub next_answer : kept_answer kind flows (state_of state) (id_of id.now) ≡ line_answer kind flows world (id_of id.now)
         next_answer = ap (λ (s : PartState). kept_answer kind flows (state_of s) (id_of id.now)) at ∙ sym (answer_kept flows states are kind place (id_of id.now) state inside mine.found)
-
-        -- its state moves on
-        pub heads_go_on : (found : Option (Bor Given)) → IsHead (keeps kind (state_of state)) (Some (id_of id.now)) (head_of found) → AreHeads kept (Some (id_of id.now)) (heads_of (slice_set heads place found))
-        heads_go_on found is = subst (AreHeads kept (Some (id_of id.now))) (sym (map-set head_of heads place found))
-            (heads_after (length states) (has_line kind world) kept (are_kept flows states are kind) (head_of last) (heads_of heads) as_many all place (id_of id.now) least (head_of found)
-            (subst (λ (p : Partition). IsHead (keeps kind p) (Some (id_of id.now)) (head_of found)) (sym part_is) is))
 
         pub fewer_lines : left kind (Some (id_of id.now)) states < left kind (head_of last) states
         fewer_lines = fewer_left kind (head_of last) (id_of id.now) states place state inside

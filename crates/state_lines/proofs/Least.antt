@@ -6,7 +6,7 @@ use Rattle.std.specs.Borrow.{Bor}
 use Rattle.dura_value.specs.declared.addresses.Id.{Id as Given}
 use Rattle.dura_value.specs.Ids.{Id}
 use Rattle.dura_value.specs.Views.{id_of}
-use Rattle.id_maps.specs.Order.{is_before, is_no_later, IsNextBehind, NoneBehind}
+use Rattle.shared_maps.specs.IdOrder.{is_before, is_no_later, IsNextBehind, NoneBehind}
 use Rattle.state_lines.specs.Heads.{IsHead, IsLeast, IsLeastOf, head_of}
 use Rattle.state_lines.proofs.Order.{no_later_itself, no_later_trans, before_no_later, not_before}
 

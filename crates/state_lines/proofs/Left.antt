@@ -2,19 +2,20 @@
 use Rattle.std.proofs.Common.{◌≡◌, ℕ, zero, suc, ◌+◌, ◌<◌, ◌≤◌, length, true, List, [], ◌∷◌, Option, Some, slice_index_or, arith}
 use Rattle.dura_value.specs.Ids.{Id}
 use Rattle.flow_messages.specs.Views.{entity_of}
-use Rattle.id_maps.specs.Order.{is_behind, IsNextBehind}
+use Rattle.shared_maps.specs.IdOrder.{is_behind, IsNextBehind}
 use Rattle.part_rows.specs.Views.{row_of}
 use Rattle.part_steps.specs.States.{state_of}
 use Rattle.part_steps.specs.declared.state.PartState.{PartState}
 use Rattle.state_lines.specs.Kinds.{keeps}
 use Rattle.state_lines.specs.declared.kind.Kind.{Kind}
 use Rattle.state_lines.specs.declared.kind.Kind.TheVariants.{Entity, Instance}
-use Rattle.state_lines.proofs.Behind.{count_behind, no_more, fewer_behind}
+use Rattle.state_lines.proofs.Behind.{count_behind, no_more}
+use Rattle.state_lines.proofs.Keys.{fewer_behind, keys_in}
 
 -- how many ids a state has left behind the last one
 abbrev pub left_in : Kind → Option Id → PartState → ℕ
-left_in Entity last s = count_behind last s.rows.entities.entries.entries
-left_in Instance last s = count_behind last s.rows.instances.entries.entries
+left_in Entity last s = count_behind last (keys_in s.rows.entities.entries)
+left_in Instance last s = count_behind last (keys_in s.rows.instances.entries)
 
 -- how many these states have left
 abbrev pub left : Kind → Option Id → List PartState → ℕ
@@ -23,8 +24,8 @@ left kind last (s ∷ states) = left_in kind last s + left kind last states
 
 module _ (last : Option Id) (id : Id) (behind : is_behind last id ≡ true) where
   no_more_in : (kind : Kind) (s : PartState) → left_in kind (Some id) s ≤ left_in kind last s
-  no_more_in Entity s = no_more last id behind s.rows.entities.entries.entries
-  no_more_in Instance s = no_more last id behind s.rows.instances.entries.entries
+  no_more_in Entity s = no_more last id behind (keys_in s.rows.entities.entries)
+  no_more_in Instance s = no_more last id behind (keys_in s.rows.instances.entries)
 
   no_more_left : (kind : Kind) (states : List PartState) → left kind (Some id) states ≤ left kind last states
   no_more_left kind [] = omega arith

@@ -5,6 +5,8 @@ pub mod Fronts
 pub mod Going
 pub mod Joined
 pub mod Kept
+pub mod Keys
+pub mod Listing
 pub mod Least
 pub mod Left
 pub mod Listed

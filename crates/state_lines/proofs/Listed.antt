@@ -9,8 +9,8 @@ use Rattle.dura_value.specs.declared.addresses.Id.{Id}
 use Rattle.dura_value.specs.Ids as plain
 use Rattle.dura_value.specs.Views.{id_of}
 use Rattle.dura_value.specs.contracts.addresses.IdOrd.TheImpl.Laws.{total-law}
-use Rattle.id_maps.specs.Keys.{id_cmp, key_of}
-use Rattle.id_maps.specs.Order.{is_behind, is_no_later, IsNextBehind, NoneBehind}
+use Rattle.shared_maps.specs.Ids.{id_cmp, key_of}
+use Rattle.shared_maps.specs.IdOrder.{is_behind, is_no_later, IsNextBehind, NoneBehind}
 use Rattle.state_lines.specs.Table.{last_of, AreNext, AreAll}
 use Rattle.state_lines.proofs.Behind.{count_behind, fewer, same_key, at_itself}
 use Rattle.state_lines.proofs.Order.{no_later_trans, no_later_itself}

@@ -3,7 +3,7 @@ use Rattle.std.proofs.Common.{◌≡◌, ◌∙◌, inl, inr, ℕ, ◌<◌, leng
 use Rattle.std.proofs.lemmas.Bool.{cases_eq, cases_lt}
 use Rattle.std.proofs.lemmas.List.{get_or-set_same, get_or-set_other, length-set, get_or_append_left, get_or_push, length-append}
 use Rattle.dura_value.specs.Ids.{Id}
-use Rattle.id_maps.specs.Order.{is_before, is_no_later, is_behind, IsNextBehind, NoneBehind}
+use Rattle.shared_maps.specs.IdOrder.{is_before, is_no_later, is_behind, IsNextBehind, NoneBehind}
 use Rattle.state_lines.specs.Heads.{IsHead, AreHeads, IsLeast, IsLeastOf}
 use Rattle.state_lines.proofs.Order.{no_later_trans, behind_more, same_or_before}
 

@@ -3,7 +3,7 @@ use Rattle.std.proofs.Common.{◌≡◌, ◌∙◌, ℕ, Bool, List, [], ◌∷�
 use Rattle.std.proofs.lemmas.List.{append-nil}
 use Rattle.dura_value.specs.Ids.{Id}
 use Rattle.dura_value.specs.Messages.{Answer}
-use Rattle.id_maps.specs.Order.{IsNextBehind}
+use Rattle.shared_maps.specs.IdOrder.{IsNextBehind}
 use Rattle.state_lines.specs.Table.{table_line, table_lines, last_of, AreNext}
 
 pub last_of-one_more : (last : Option Id) (ids : List Id) (id : Id) → last_of last (ids ++ id ∷ []) ≡ Some id

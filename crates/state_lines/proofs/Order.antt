@@ -8,10 +8,10 @@ use Rattle.dura_value.specs.contracts.addresses.IdOrd.TheImpl.Laws.{total-law}
 use Rattle.dura_value.specs.Ids.{Id, orchestration, entity, client, id_eq}
 use Rattle.dura_value.specs.Views.{id_of}
 use Rattle.dura_value.proofs.Ids.{id_same}
-use Rattle.id_maps.specs.Keys.{id_cmp, key_of}
-use Rattle.id_maps.specs.Order.{is_before, is_no_later, is_behind, IsNextBehind}
+use Rattle.shared_maps.specs.Ids.{id_cmp, key_of}
+use Rattle.shared_maps.specs.IdOrder.{is_before, is_no_later, is_behind, IsNextBehind}
 use Rattle.dura_value.specs.declared.addresses.Id.{Id as Given}
-use Rattle.id_maps.proofs.Changes.{is_key, key_again}
+use Rattle.shared_maps.proofs.Ids.{is_key, key_again}
 
 pub id_again : (id : Id) → id_of (key_of id) ≡ id
 id_again (client name) = refl

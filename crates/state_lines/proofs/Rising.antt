@@ -1,7 +1,7 @@
 -- Ids that are rising, are there and are the only ones, are all.
 use Rattle.std.proofs.Common.{◌≡◌, ◌⊎◌, inl, inr, Bool, true, List, [], ◌∷◌, Option, Some, None, sym, subst}
 use Rattle.dura_value.specs.Ids.{Id}
-use Rattle.id_maps.specs.Order.{is_before, is_no_later, is_behind, NoneBehind}
+use Rattle.shared_maps.specs.IdOrder.{is_before, is_no_later, is_behind, NoneBehind}
 use Rattle.state_lines.specs.Table.{last_of, AreNext, AreAll}
 use Rattle.state_lines.proofs.Order.{not_itself, no_later_itself, before_no_later, behind_more}
 

@@ -6,7 +6,7 @@ use Rattle.dura_model.specs.World.{World}
 use Rattle.dura_value.specs.Ids.{Id}
 use Rattle.dura_value.specs.Messages.{Answer}
 use Rattle.flow_syntax.specs.Syntax.{Flows}
-use Rattle.id_maps.specs.Order.{IsNextBehind, NoneBehind}
+use Rattle.shared_maps.specs.IdOrder.{IsNextBehind, NoneBehind}
 use Rattle.state_lines.specs.declared.error.ShowError.{ShowError}
 use Rattle.state_lines.specs.declared.error.ShowError.TheVariants.{Memory}
 use Rattle.state_lines.specs.Table.{table_line, table_lines, last_of, AreNext, has_entity, has_instance, entity_answer, instance_answer}

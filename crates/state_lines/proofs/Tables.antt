@@ -1,14 +1,13 @@
 -- States show a world that has a table; a world has one, and what is said of it first is its front.
 use Rattle.std.proofs.Common.{◌≡◌, ◌∙◌, inl, inr, ℕ, zero, suc, ◌<◌, length, Bool, List, [], ◌∷◌, ◌++◌, slice_index_or, refl, sym, ap, append_assoc, arith}
-use Rattle.std.specs.BTreeMap.{is_at}
-use Rattle.std.specs.Map.{lookup}
 use Rattle.dura_model.specs.Entries.{shown_by}
 use Rattle.dura_model.specs.Partition.{Partition, instance_in, shown}
 use Rattle.dura_model.specs.World.{World}
 use Rattle.dura_value.specs.Ids.{Id}
 use Rattle.flow_messages.specs.Views.{entity_of}
 use Rattle.flow_syntax.specs.Syntax.{Flows}
-use Rattle.id_maps.specs.Keys.{id_cmp, key_of}
+use Rattle.shared_maps.specs.Digests.{hashed_place}
+use Rattle.shared_maps.specs.Entries.{find}
 use Rattle.part_rows.specs.Views.{row_of}
 use Rattle.part_steps.specs.States.{AreStatesOfAll, parts_in, state_of}
 use Rattle.part_steps.specs.declared.state.PartState.{PartState}
@@ -20,6 +19,7 @@ use Rattle.state_lines.specs.Fronts.{AreFirstLines}
 use Rattle.state_lines.proofs.Fronts.{one_list, front_of_all}
 use Rattle.state_lines.proofs.Merging.{AreKept}
 use Rattle.state_lines.proofs.Joined.{kept_listed}
+use Rattle.state_lines.proofs.Keys.{keys_found, keys_in}
 use Rattle.state_lines.proofs.Kept.{are_kept, first_of_all, part_at, seen_there, world_of}
 
 pub one_table : (flows : Flows) (world : World) (a b : List ℕ) → IsTable flows world a → IsTable flows world b → a ≡ b
@@ -38,10 +38,10 @@ tabled flows world entities instances = (
 -- the ids that states keep something for can be listed
 listed : (kind : Kind) (states : List PartState) (there : Id → Bool) (kept : ℕ → Id → Bool) → AreKept (length states) there kept
     → ((place : ℕ) (d : PartState) (id : Id) → place < length states → kept place id ≡ keeps kind (state_of (slice_index_or states place d)) id) → PartState → (ids : List Id) × AreAll there ids
-listed Entity states there kept are at some = kept_listed (λ (s : PartState). s.rows.entities.entries.entries) states there kept are
-    (λ place d id inside. at place d id inside ∙ seen_there entity_of (lookup (is_at (id_cmp (key_of id))) (slice_index_or states place d).rows.entities.entries.entries)) some
-listed Instance states there kept are at some = kept_listed (λ (s : PartState). s.rows.instances.entries.entries) states there kept are
-    (λ place d id inside. at place d id inside ∙ seen_there row_of (lookup (is_at (id_cmp (key_of id))) (slice_index_or states place d).rows.instances.entries.entries)) some
+listed Entity states there kept are at some = kept_listed (λ (s : PartState). keys_in s.rows.entities.entries) states there kept are
+    (λ place d id inside. at place d id inside ∙ seen_there entity_of (find (slice_index_or states place d).rows.entities.entries (hashed_place id 0)) ∙ sym (keys_found (slice_index_or states place d).rows.entities.entries id)) some
+listed Instance states there kept are at some = kept_listed (λ (s : PartState). keys_in s.rows.instances.entries) states there kept are
+    (λ place d id inside. at place d id inside ∙ seen_there row_of (find (slice_index_or states place d).rows.instances.entries (hashed_place id 0)) ∙ sym (keys_found (slice_index_or states place d).rows.instances.entries id)) some
 
 all_listed : (flows : Flows) (states : List PartState) → AreStatesOfAll states → (kind : Kind) → (ids : List Id) × AreAll (has_line kind (world_of flows states)) ids
 all_listed flows states are kind = listed kind states (has_line kind (world_of flows states)) (λ place. keeps kind (parts_in states place)) (are_kept flows states are kind)

@@ -2,7 +2,7 @@
 use Rattle.std.proofs.Common.{◌≡◌, inl, inr, ℕ, zero, suc, ◌<◌, length, Bool, true, List, [], ◌∷◌, Option, Some, None, slice_index_or, refl, subst, arith}
 use Rattle.std.specs.List.{AllPairs, Contains}
 use Rattle.dura_value.specs.Ids.{Id}
-use Rattle.id_maps.specs.Order.{is_before, is_behind, NoneBehind}
+use Rattle.shared_maps.specs.IdOrder.{is_before, is_behind, NoneBehind}
 use Rattle.state_lines.specs.Table.{last_of, AreNext, AreAll}
 use Rattle.state_lines.proofs.Order.{behind_more, same_or_before}
 

@@ -1,10 +1,12 @@
 -- How far the states of partitions were listed: of each the first id behind the last one that was said.
-use Rattle.std.specs.Prelude.{◌≡◌, ℕ, ◌<◌, Bool, true, List, length, map, Option, Some, None, option_map, slice_index_or}
+use Rattle.std.specs.Prelude.{◌≡◌, ℕ, ◌<◌, Bool, true, List, [], length, map, Option, Some, None, option_map, slice_index_or}
 use Rattle.std.specs.Borrow.{Bor}
 use Rattle.dura_value.specs.declared.addresses.Id.{Id as Given}
 use Rattle.dura_value.specs.Ids.{Id}
 use Rattle.dura_value.specs.Views.{id_of}
-use Rattle.id_maps.specs.Order.{is_no_later, IsNextBehind, NoneBehind}
+use Rattle.shared_maps.specs.Entries.{Entries}
+use Rattle.shared_maps.specs.Maps.{has_id}
+use Rattle.shared_maps.specs.IdOrder.{is_no_later, IsNextBehind, NoneBehind}
 
 -- the first id behind the last one, if there is any
 abbrev pub IsHead : (there : Id → Bool) → Option Id → Option Id → Type 0
@@ -14,6 +16,10 @@ IsHead there last (Some id) = IsNextBehind there last id
 -- the head of each place behind the last id
 abbrev pub AreHeads : (there : ℕ → Id → Bool) → Option Id → List (Option Id) → Type 0
 AreHeads there last heads = (place : ℕ) → place < length heads → IsHead (there place) last (slice_index_or heads place None)
+
+-- each list has the ids that are there at its place
+abbrev pub AreListed : (there : ℕ → Id → Bool) → List (Entries (Unit {0})) → Type 0
+AreListed there lists = (place : ℕ) → place < length lists → has_id (slice_index_or lists place []) ≡ there place
 
 -- A head that no other is before: its place and its id.
 pub record IsLeast (heads : List (Option Id)) (least : ℕ × Id) : Type 0 where

@@ -6,7 +6,7 @@ use Rattle.dura_model.specs.World.{World}
 use Rattle.dura_value.specs.Ids.{Id, orchestration, entity, client, written}
 use Rattle.dura_value.specs.Messages.{Answer, is_missing, is_value}
 use Rattle.flow_syntax.specs.Syntax.{Flows, class_of}
-use Rattle.id_maps.specs.Order.{IsNextBehind, NoneBehind}
+use Rattle.shared_maps.specs.IdOrder.{IsNextBehind, NoneBehind}
 
 -- ID ANSWER, and a line feed; no line where there is no answer
 abbrev pub table_line : Id → Option Answer → List ℕ

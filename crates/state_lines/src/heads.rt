@@ -1,16 +1,18 @@
-//! How far states were listed: of each the first id behind the last one that was said.
+//! The ids of states, and how far they were listed: of each state the first id behind the last one that was said.
 
-ghost use Rattle.std.specs.Prelude.{◌≡◌, ◌++◌, ℕ, List, [], ◌∷◌, Option, length, vec_len, IfOk};
+ghost use Rattle.std.specs.Prelude.{◌≡◌, ◌++◌, ℕ, Bool, List, [], ◌∷◌, Option, None, length, vec_len, IfOk};
 ghost use Rattle.dura_value.specs.Ids.{Id as PlainId};
 ghost use Rattle.dura_value.specs.Views.{id_of};
-ghost use Rattle.id_maps.specs.Order.{is_before};
+ghost use Rattle.shared_maps.specs.IdOrder.{is_before};
 ghost use Rattle.part_steps.specs.States.{parts_in};
-ghost use Rattle.state_lines.specs.Heads.{AreHeads, IsLeastOf, head_of, heads_of, least_of};
+ghost use Rattle.shared_maps.specs.Maps.{has_id};
+ghost use Rattle.state_lines.specs.Heads.{AreHeads, AreListed, IsHead, IsLeastOf, head_of, heads_of, least_of};
 ghost use Rattle.state_lines.specs.Kinds.{keeps};
 
 use crate::kind::Kind;
 use dura_value::Id;
 use part_steps::PartState;
+use shared_maps::OrderedIds;
 use std::alloc::{AllocError, Global};
 
 /// How far states were listed.
@@ -22,20 +24,43 @@ pub(crate) struct Heads<'a> {
     pub(crate) next: Vec<Option<&'a Id>>,
 }
 
-/// Of each state the first id behind the last one, or of all.
-pub(crate) fn next_ids<'a>(
+/// The ids that each state keeps something of this kind for, in their order.
+pub(crate) fn all_ids(
     alloc: Global,
     kind: Kind,
-    states: &'a [PartState],
-    last: Option<&Id>,
+    states: &[PartState],
+) -> Result<Vec<OrderedIds>, AllocError>
+    ensures length { IfOk result (λ lists. vec_len lists ≡ length states.now) }
+    ensures lists { IfOk result (λ lists.
+        AreListed (λ place. keeps kind (parts_in states.now place)) lists.items) }
+{
+    let mut lists = Vec::new(alloc);
+    for state in states {
+        lists.push(kind.ids(alloc, state)?)?;
+    }
+    Ok(lists)
+}
+
+/// The first id of a list behind the last one, or of all.
+#[tactic(auto, using(crate::proofs::Least::is_head))]
+pub(crate) fn head<'a>(ids: &'a OrderedIds, last: Option<&Id>) -> Option<&'a Id>
+    ensures { IsHead (has_id ids.now) (head_of last.entry) (head_of result) }
+{
+    ids.next(last)
+}
+
+/// The first id of each list.
+pub(crate) fn first_ids<'a>(
+    alloc: Global,
+    lists: &'a [OrderedIds],
 ) -> Result<Vec<Option<&'a Id>>, AllocError>
-    ensures length { IfOk result (λ heads. vec_len heads ≡ length states.now) }
-    ensures heads { IfOk result (λ heads. AreHeads (λ place. keeps kind (parts_in states.now place))
-        (head_of last.entry) (heads_of heads.items)) }
+    ensures length { IfOk result (λ heads. vec_len heads ≡ length lists.now) }
+    ensures heads { IfOk result (λ heads. (there : ℕ → PlainId → Bool) → AreListed there lists.now
+        → AreHeads there None (heads_of heads.items)) }
 {
     let mut heads = Vec::new(alloc);
-    for state in states {
-        heads.push(kind.next_id(state, last))?;
+    for ids in lists {
+        heads.push(head(ids, None))?;
     }
     Ok(heads)
 }

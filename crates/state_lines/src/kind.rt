@@ -3,13 +3,14 @@
 ghost use Rattle.std.specs.Prelude.{◌≡◌, IfOk, option_map};
 ghost use Rattle.dura_value.specs.Views.{id_of, answer_of};
 ghost use Rattle.part_steps.specs.States.{state_of};
-ghost use Rattle.state_lines.specs.Heads.{IsHead, head_of};
+ghost use Rattle.shared_maps.specs.Maps.{has_id};
 ghost use Rattle.state_lines.specs.Kinds.{keeps, kept_answer};
 ghost use Rattle.state_lines.specs.Table.{answer_at};
 
 use dura_value::{Answer, Id};
 use part_rows::Reactions;
 use part_steps::PartState;
+use shared_maps::OrderedIds;
 use std::alloc::{AllocError, Global};
 
 /// What a line of a table is for.
@@ -51,14 +52,13 @@ fn entity_answer<R: Reactions>(
 }
 
 impl Kind {
-    /// The first id that a state keeps something of this kind for behind the last one, or of all.
-    #[tactic(auto, using(crate::proofs::Least::is_head))]
-    pub(crate) fn next_id<'a>(self, state: &'a PartState, last: Option<&Id>) -> Option<&'a Id>
-        ensures { IsHead (keeps self (state_of state.now)) (head_of last.entry) (head_of result) }
+    /// The ids that a state keeps something of this kind for, in their order.
+    pub(crate) fn ids(self, alloc: Global, state: &PartState) -> Result<OrderedIds, AllocError>
+        ensures { IfOk result (λ ids. has_id ids ≡ keeps self (state_of state.now)) }
     {
         match self {
-            Kind::Entity => state.next_entity_id(last),
-            Kind::Instance => state.next_instance_id(last),
+            Kind::Entity => state.entity_ids(alloc),
+            Kind::Instance => state.instance_ids(alloc),
         }
     }
 

@@ -7,7 +7,7 @@ ghost use Rattle.dura_model.specs.Partition.{shown};
 ghost use Rattle.dura_model.specs.World.{World};
 ghost use Rattle.dura_value.specs.Ids.{Id};
 ghost use Rattle.flow_syntax.specs.Syntax.{Flows};
-ghost use Rattle.id_maps.specs.Order.{is_before};
+ghost use Rattle.shared_maps.specs.IdOrder.{is_before};
 ghost use Rattle.part_steps.specs.States.{AreStatesOfAll, IsSound, count_of, parts_in, state_of};
 ghost use Rattle.part_steps.specs.declared.state.PartState.{PartState as Given};
 ghost use Rattle.state_lines.specs.Fronts.{AreFirstLines};

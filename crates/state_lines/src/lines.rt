@@ -11,7 +11,7 @@ ghost use Rattle.state_lines.specs.Steps.{SaysPart, SaysAll, StopsAt};
 ghost use Rattle.state_lines.specs.Table.{table_line};
 
 use crate::error::ShowError;
-use crate::heads::{Heads, least, next_ids};
+use crate::heads::{Heads, all_ids, first_ids, head, least};
 use crate::kind::Kind;
 use crate::row::say_line;
 use dura_value::Id;
@@ -54,8 +54,8 @@ fn say_one<V: Site, R: Reactions>(
     }
 }
 
-/// Says the lines of a kind for all ids, in their order. Each state is asked for its next id behind the one that was said last
-/// from it, and answers where that id is the least.
+/// Says the lines of a kind for all ids, in their order. The ids of each state are listed once; a state answers where the next of
+/// its ids is the least.
 pub(crate) fn say_lines<V: Site, R: Reactions>(
     alloc: Global,
     site: &mut V,
@@ -80,12 +80,13 @@ pub(crate) fn say_lines<V: Site, R: Reactions>(
     ensures later { V.say_faults site.old ≤ V.say_faults site.new }
     ensures disk_faults { V.disk_faults site.new ≡ V.disk_faults site.old }
 {
-    let next = next_ids(alloc, kind, states, None)?;
+    let lists = all_ids(alloc, kind, states)?;
+    let next = first_ids(alloc, &lists)?;
     let mut heads = Heads { last: None, next };
     'lines: while let Some((place, id)) = least(&heads.next) {
         say_one(alloc, site, reactions, kind, &states[place], id)?;
         heads.last = Some(id);
-        heads.next[place] = kind.next_id(&states[place], heads.last);
+        heads.next[place] = head(&lists[place], heads.last);
     }
     Ok(())
 }

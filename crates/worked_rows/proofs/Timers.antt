@@ -3,7 +3,7 @@ use Rattle.std.proofs.Common.{◌≡◌, ◌&&◌, ◌==◌, ◌<◌, ◌≤◌,
 use Rattle.std.specs.Ordering.{is_gt}
 use Rattle.dura_value.specs.Ids.{Id, id_eq}
 use Rattle.dura_value.proofs.Ids.{id_same}
-use Rattle.id_maps.specs.Maps.{no_number}
+use Rattle.shared_maps.specs.Maps.{no_number}
 use Rattle.dura_value.specs.ById.{at_number}
 use Rattle.part_rows.specs.Timers.{timer_cmp, timer_of, IsFirstDue, NoneDue}
 use Rattle.worked_rows.specs.Tables.Timers.{sum_x, draw_x, draw_y, timers, without_one, GoInOrder}

@@ -1,7 +1,7 @@
 -- Which timers are due, and which of them first.
 use Rattle.std.specs.Prelude.{◌≡◌, ℕ, codes, Option, Some, None}
 use Rattle.dura_value.specs.Ids.{Id, orchestration}
-use Rattle.id_maps.specs.Maps.{no_number}
+use Rattle.shared_maps.specs.Maps.{no_number}
 use Rattle.dura_value.specs.ById.{at_number, cleared}
 use Rattle.part_rows.specs.Timers.{IsFirstDue, NoneDue, IsNext}
 

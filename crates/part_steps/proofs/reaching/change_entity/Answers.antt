@@ -12,12 +12,12 @@ use Rattle.part_steps.proofs.reaching.change_entity.Goals as goal
 pub returns-clause-kept : goal.returns-clause-kept
 returns-clause-kept g c =
     let to = id_of c.args.message.now.to in
-    let mid = part_of c.take_entity-kept.new.self in
+    let mid = part_of c.take_entity.new.self in
     let new = part_of c.put_entity.new.self in
     let after = entity_of c.in_ok-entity.entity in
     let put = subst (λ r. OnOk r (new ≡ record mid { entities = at_id mid.entities to (Some after) })) c.in_ok-sent.ensures.ok.0 c.put_entity.ensures.put in
-    entity_put_back (g.R.Reactions.flows c.args.reactions.now) (part_of c.args.rows.now) mid new c.args.class.now (id_of c.args.message.now.from) to c.args.stamp (body_of c.args.message.now.body) (option_map entity_of c.take_entity-kept.result) after
-    c.take_entity-kept.ensures.entity c.take_entity-kept.ensures.taken c.in_ok-entity.ensures.entity put
+    entity_put_back (g.R.Reactions.flows c.args.reactions.now) (part_of c.args.rows.now) mid new c.args.class.now (id_of c.args.message.now.from) to c.args.stamp (body_of c.args.message.now.body) (option_map entity_of c.in_ok-kept.kept) after
+    c.in_ok-kept.ensures.entity c.in_ok-kept.ensures.taken c.in_ok-entity.ensures.entity put
 
 pub returns-clause-sent : goal.returns-clause-sent
 returns-clause-sent g c =
@@ -26,4 +26,4 @@ returns-clause-sent g c =
     let to = id_of c.args.message.now.to in
     let body = body_of c.args.message.now.body in
     ap (λ s. messages_of s.items) c.in_ok-sent.ensures.ok.1
-    ∙ c.in_ok-entity.ensures.sent ∙ ap (λ (k : Option Entity). (delivered flows c.args.class.now k from to c.args.stamp body).sent) c.take_entity-kept.ensures.entity
+    ∙ c.in_ok-entity.ensures.sent ∙ ap (λ (k : Option Entity). (delivered flows c.args.class.now k from to c.args.stamp body).sent) c.in_ok-kept.ensures.entity

@@ -2,7 +2,7 @@ use Rattle.std.proofs.Common.{◌∙◌, ap}
 use Rattle.dura_value.specs.Views.{id_of, body_of}
 use Rattle.dura_model.specs.Deliveries.{to_instance}
 use Rattle.dura_model.specs.Partition.{instance_in, instance_at, event_of}
-use Rattle.id_maps.specs.Maps.{by_id}
+use Rattle.shared_maps.specs.Maps.{by_id}
 use Rattle.part_rows.specs.Parts.{part_of}
 use Rattle.part_rows.specs.Reactions.{Reaction, reaction_of}
 use Rattle.part_rows.specs.Views.{row_of}

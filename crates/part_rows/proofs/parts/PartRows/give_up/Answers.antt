@@ -10,6 +10,6 @@ pub returns-clause-given_up : goal.returns-clause-given_up
 returns-clause-given_up c =
     let was = part_of c.args.self.now in
     let id = id_of c.args.id.now in
-    let dropped = c.in_ok-drop_of.ensures.dropped ∙ ap (λ t. cleared (timers_in t) id) c.clear_activities.ensures.timers in
-    ap (λ (p : Partition). record p { timers = timers_in c.drop_of.new.self }) c.clear_activities.ensures.cleared
+    let dropped = c.in_ok-drop_of.ensures.dropped ∙ ap (λ t. cleared (timers_in t) id) c.in_ok-clear_activities.ensures.timers in
+    ap (λ (p : Partition). record p { timers = timers_in c.drop_of.new.self }) c.in_ok-clear_activities.ensures.cleared
     ∙ ap (λ t. record was { activities = cleared was.activities id; timers = t }) dropped

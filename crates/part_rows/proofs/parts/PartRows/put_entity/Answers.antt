@@ -1,6 +1,6 @@
 use Rattle.std.proofs.Common.{◌≡◌, ◌∙◌, IfOk, Some, ap, subst}
 use Rattle.dura_value.specs.Views.{id_of}
-use Rattle.id_maps.specs.Maps.{by_id}
+use Rattle.shared_maps.specs.Maps.{by_id}
 use Rattle.dura_value.specs.ById.{at_id}
 use Rattle.part_rows.specs.Parts.{part_of}
 use Rattle.part_rows.proofs.Seen.{entities_put}

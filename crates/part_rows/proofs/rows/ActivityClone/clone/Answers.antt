@@ -1,4 +1,0 @@
-use Rattle.part_rows.proofs.rows.ActivityClone.clone.Goals as goal
-
-pub returns : goal.returns
-returns c = record { cases = (c.in-Ok.ensures.cases, c.in-Ok-2.ensures.cases) }
