@@ -6,8 +6,6 @@ use Rattle.std.proofs.lemmas.List.{drop_more}
 use Rattle.std.proofs.lemmas.List.FromFn.{get_or-enumerate_from, length-enumerate_from}
 use Rattle.std.proofs.lemmas.Option.{slice_get_within, slice_get_cases, slice_get_past, slice_get-get_or, get_or_from_slice_get, slice_get-map}
 use Rattle.dura_value.specs.Items.{Posted}
-use Rattle.dura_model.specs.Partition.{Partition}
-use Rattle.dura_model.specs.Placed.{Belongs}
 use Rattle.log_items.specs.Streams.{Outbox, Sent}
 use Rattle.cell_packets.specs.Packets.{Packet, packet_with, packets_in, packets_from, sent_to, sent_in, sent_from}
 
@@ -73,12 +71,6 @@ packet_joined source target number box posted made old new all begun is same joi
 pub packets_joined : (source target number : ℕ) (box : Outbox) (old all : List Packet) → slice_get box.messages (number - box.first) ≡ None → old ++ packets_from source target number box ≡ all → old ≡ all
 packets_joined source target number box old all is so_far =
     none_joined old (packets_from source target number box) all (none_behind (packets_in source target box) (number - box.first) (packet_nowhere source target (number - box.first) box is)) so_far
-
--- a message of a partition's stream is of an entry of its own
-pub sent_from_here : (count place : ℕ) (p : Partition) → Belongs count place p → (target at : ℕ) (posted : Posted) → slice_get (p.outboxes target).messages at ≡ Some posted → posted.entry.partition ≡ place
-sent_from_here count place p belongs target at posted is =
-    let messages = (p.outboxes target).messages in
-    (belongs.outboxes.earlier target posted (at, slice_get_within messages at posted is, get_or_from_slice_get messages at posted posted is)).here
 
 -- ---- what a frame sends
 

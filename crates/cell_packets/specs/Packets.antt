@@ -3,7 +3,6 @@ use Rattle.std.specs.Prelude.{ℕ, ◌+◌, ◌-◌, List, length, map, drop, Op
 use Rattle.std.specs.List.{flat_map, enumerate_from, range_with_len}
 use Rattle.dura_value.specs.Items.{Posted}
 use Rattle.dura_value.specs.Views.{message_of}
-use Rattle.dura_model.specs.Partition.{Partition}
 use Rattle.log_items.specs.Streams.{Outbox, Sent}
 use Rattle.log_items.specs.declared.items.Packet as declared
 
@@ -30,10 +29,10 @@ packet_of packet = record {
 abbrev pub end_of : Outbox → ℕ
 end_of box = box.first + length box.messages
 
--- where the streams of a partition end, by the partition that they go to; with no partition each ends at its beginning
-abbrev pub ends_of : Option Partition → (target : ℕ) → ℕ
+-- where streams end, by the partition that they go to; where there are none each ends at its beginning
+abbrev pub ends_of : Option (ℕ → Outbox) → (target : ℕ) → ℕ
 ends_of None target = 0
-ends_of (Some p) target = end_of (p.outboxes target)
+ends_of (Some boxes) target = end_of (boxes target)
 
 -- a message with its number, on its way
 abbrev pub packet_with : (source target : ℕ) → ℕ × Posted → Packet

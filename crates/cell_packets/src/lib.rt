@@ -1,4 +1,4 @@
-//! The messages that the streams of a partition's state have beyond where those of an earlier state ended.
+//! The messages that the streams of a partition have beyond where earlier ones ended.
 //!
 //! - `beyond`: as packets to other partitions, and as what a frame sends.
 //! - `streams`: where a stream ends, and its message under a number.

@@ -4,10 +4,10 @@ ghost use Rattle.std.specs.Prelude.{◌≡◌, ◌≤◌, ◌-◌, ◌+◌, opti
 ghost use Rattle.std.specs.List.{slice_get};
 ghost use Rattle.cell_packets.specs.Packets.{ends_of, end_of};
 ghost use Rattle.dura_value.specs.Views.{posted_of};
-ghost use Rattle.part_steps.specs.States.{state_of};
+ghost use Rattle.part_rows.specs.Views.{outboxes_of};
 
 use dura_value::Posted;
-use part_steps::PartState;
+use part_rows::Outboxes;
 use std::alloc::AllocError;
 
 /// The number behind this one. Past 2^64 there is none: no memory has so many messages.
@@ -20,30 +20,30 @@ pub(crate) fn number_behind(number: u64, count: u64) -> Result<u64, AllocError>
     }
 }
 
-/// The number behind the last message of a state's stream to a partition.
-fn state_end(state: &PartState, target: u32) -> Result<u64, AllocError>
-    ensures { IfOk result (λ end. end ≡ end_of ((state_of state.now).outboxes target)) }
+/// The number behind the last message of the stream to a partition.
+fn box_end(boxes: &Outboxes, target: u32) -> Result<u64, AllocError>
+    ensures { IfOk result (λ end. end ≡ end_of (outboxes_of boxes.now target)) }
 {
-    number_behind(state.first_left(target), state.left_len(target) as u64)
+    number_behind(boxes.first(target), boxes.left_len(target) as u64)
 }
 
-/// The number behind the last message of a state's stream to a partition, and 0 where there is no state.
-pub(crate) fn stream_end(before: Option<&PartState>, target: u32) -> Result<u64, AllocError>
+/// The number behind the last message of the stream to a partition, and 0 where there are no streams.
+pub(crate) fn stream_end(before: Option<&Outboxes>, target: u32) -> Result<u64, AllocError>
     ensures { IfOk result (λ end. end
-        ≡ ends_of (option_map (λ state. state_of state.now) before.entry) target) }
+        ≡ ends_of (option_map (λ boxes. outboxes_of boxes.now) before.entry) target) }
 {
     match before {
-        Some(state) => state_end(state, target),
+        Some(boxes) => box_end(boxes, target),
         None => Ok(0),
     }
 }
 
-/// The message of a state's stream to a partition under a number, if the stream has it. What is left begins no later.
-pub(crate) fn posted_at(state: &PartState, target: u32, number: u64) -> Option<&Posted>
-    requires { ((state_of state.now).outboxes target).first ≤ number }
+/// The message of the stream to a partition under a number, if the stream has it. What is left begins no later.
+pub(crate) fn posted_at(boxes: &Outboxes, target: u32, number: u64) -> Option<&Posted>
+    requires { (outboxes_of boxes.now target).first ≤ number }
     ensures { option_map (λ posted. posted_of posted.now) result
-        ≡ slice_get ((state_of state.now).outboxes target).messages
-        (number - ((state_of state.now).outboxes target).first) }
+        ≡ slice_get (outboxes_of boxes.now target).messages
+        (number - (outboxes_of boxes.now target).first) }
 {
-    state.left(target, number - state.first_left(target))
+    boxes.left(target, number - boxes.first(target))
 }

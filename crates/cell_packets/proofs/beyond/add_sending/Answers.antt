@@ -5,16 +5,15 @@ use Rattle.commit_gate.specs.Views.{all_sent, sent_of}
 use Rattle.commit_gate.specs.declared.ledger.Sending.{Sending}
 use Rattle.dura_value.specs.Views.{posted_of}
 use Rattle.dura_value.specs.declared.identity.Posted.{Posted}
-use Rattle.part_steps.specs.States.{state_of}
+use Rattle.part_rows.specs.Views.{outboxes_of}
 use Rattle.cell_packets.specs.Packets.{sent_to, sent_from}
 use Rattle.cell_packets.proofs.Numbered.{sending_joined, sendings_joined}
 use Rattle.cell_packets.proofs.beyond.add_sending.Goals as goal
 
 pub loop-posted-preserved : goal.loop-posted-preserved
 loop-posted-preserved c =
-    let p = state_of c.args.state.now in
     let target = c.args.target in
-    let box = p.outboxes target in
+    let box = outboxes_of c.args.boxes.now target in
     let number = c.loop-posted.number in
     let posted = posted_of c.in-Some.posted.now in
     let before = c.loop-posted.sending.items in
@@ -35,6 +34,6 @@ loop-posted-preserved c =
 pub returns : goal.returns
 returns c =
     let target = c.args.target in
-    let box = (state_of c.args.state.now).outboxes target in
+    let box = outboxes_of c.args.boxes.now target in
     sendings_joined target c.loop-posted.number box (all_sent c.loop-posted.sending.items) (all_sent c.args.sending.now.items ++ sent_from target c.args.from box)
     (sym c.in_default.ensures) c.loop-posted.invariant.so_far
