@@ -1,19 +1,22 @@
 -- A cell by its view.
-use Rattle.std.proofs.Common.{◌≡◌, ◌≤◌, ◌<◌, ◌^◌, ◌+◌, inl, inr, ℕ, zero, suc, true, List, [], ◌∷◌, ◌++◌, Option, Some, None, Result, Ok, refl, sym, ◌∙◌, ap, subst, arith}
+use Rattle.std.proofs.Common.{◌≡◌, ◌≤◌, ◌<◌, ◌^◌, ◌+◌, inl, inr, ℕ, zero, suc, Bool, true, List, [], ◌∷◌, ◌++◌, Option, Some, None, Result, Ok, refl, sym, ◌∙◌, ap, subst, arith}
 use Rattle.std.specs.Prelude.{◌-◌, min, max, length, take, drop, filter, is_some}
 use Rattle.std.specs.List.{All}
 use Rattle.std.proofs.lemmas.Bool.{cases_lt}
 use Rattle.std.proofs.lemmas.List.{length-append, length-map, map-append, take-map, drop-map, length-take-le}
 use Rattle.std.proofs.lemmas.List.Elements.{All-append, All-cons, All-head, All-tail}
-use Rattle.cell_waits.specs.Waits.{Waiting, MayWait, waits_of, lasting, lost_by, without_lost}
+use Rattle.cell_tasks.specs.Tasks.{is_out, none_out, IsAhead as LooksFrom}
+use Rattle.cell_waits.specs.Waits.{Waiting, MayWait, waits_of, lasting}
 use Rattle.cell_waits.specs.Indices.{IsIndexed}
 use Rattle.dura_model.proofs.Appending.{placed_both}
 use Rattle.dura_model.specs.Entries.{placed}
 use Rattle.dura_model.specs.Partition.{Partition}
-use Rattle.dura_value.specs.Items.{Entry, Floor}
+use Rattle.dura_value.specs.Ids.{Id}
+use Rattle.dura_value.specs.Items.{Entry}
 use Rattle.dura_value.specs.Reading.{◌>>=◌}
 use Rattle.flow_syntax.specs.Syntax.{Flows}
 use Rattle.log_items.specs.Plain.{entry_of, item_of}
+use Rattle.log_items.specs.declared.items.Packet.{Packet}
 use Rattle.part_items.specs.Numbered.{Next}
 use Rattle.part_steps.specs.Enabled.{NoneEnabled, stamp_at}
 use Rattle.part_steps.specs.States.{IsSound, state_of, count_of}
@@ -23,9 +26,11 @@ use Rattle.spec_cell.specs.Comes.{with_wait}
 use Rattle.spec_cell.specs.Fills.{Filled}
 use Rattle.spec_cell.specs.Moves.{given_up}
 use Rattle.spec_cell.specs.Seats.{Slot}
+use Rattle.spec_cell.specs.Sends.{SendsAtOnce}
 use Rattle.spec_cell.specs.Steps.{AreSteps, last_of, entries_in}
+use Rattle.spec_cell.specs.Tasks.{StandsAhead, pending_in, given_by, without_settled}
 use Rattle.spec_cell.specs.Turns.{IsBegun, NonePossible, MakesEntry, IsIdle, IsSpent, CellTurns, next_round}
-use Rattle.spec_cell.specs.Views.{CellView, Stands, StandsIn, HasFacts, HasSettled, AreBy, IsAhead, IsBase, entries_of_live, incarnation_of, waits_of_live}
+use Rattle.spec_cell.specs.Views.{CellView, Stands, StandsIn, HasFacts, HasSettled, AreBy, IsAhead, IsBase, entries_of_live, incarnation_of, waits_of_live, given_of_live}
 use Rattle.spec_cell.specs.declared.cell.CellTurn.{CellTurn}
 use Rattle.spec_cell.specs.declared.cell.Mode.{Mode}
 use Rattle.spec_cell.specs.declared.live.Live.{Live}
@@ -50,7 +55,7 @@ take-drop (suc n) (x ∷ xs) = ap (λ (l : List _). x ∷ l) (take-drop n xs)
 
 -- a cell's view, by what it has
 abbrev pub view : (number : ℕ) → Slot → Option Live → (now out owner round : ℕ) → CellView
-view number slot live now out owner round = record { number = number; slot = slot; entries = entries_of_live live; incarnation = incarnation_of live; waits = waits_of_live live; now = now; out = out; owner = owner; round = round }
+view number slot live now out owner round = record { number = number; slot = slot; going = is_some live; entries = entries_of_live live; incarnation = incarnation_of live; waits = waits_of_live live; given = given_of_live live; now = now; out = out; owner = owner; round = round }
 
 last_by : (now : ℕ) (before : PartState) (steps : List Step) → (state_of before).stamp ≤ now → AreBy now steps → (state_of (last_of before steps)).stamp ≤ now
 last_by now before [] low by = low
@@ -83,8 +88,8 @@ module _ (flows : Flows) (count : ℕ) (begin : Partition) (number : ℕ) (slot 
 
   -- other steps behind the same settled state
   pub stands_with : (new : Live) (steps : List Step) (less : ℕ) → new.base ≡ live.base → new.steps.items ≡ steps → AreSteps flows live.base steps → (state_of (last_of live.base steps)).incarnation ≤ new.incarnation → (state_of (last_of live.base steps)).position ≤ 2 ^ 62
-      → new.incarnation ≤ 2 ^ 63 → AreBy (max begin.stamp now) steps → less ≤ length steps → IsIndexed new.waits → All MayWait (waits_of new.waits) → Stands flows count begin slot.mine now less new
-  stands_with new steps less base steps_is are younger room low by within indexed waits = record {
+      → new.incarnation ≤ 2 ^ 63 → AreBy (max begin.stamp now) steps → less ≤ length steps → IsIndexed new.waits → All MayWait (waits_of new.waits) → StandsAhead (state_of live.base) new.given → Stands flows count begin slot.mine now less new
+  stands_with new steps less base steps_is are younger room low by within indexed waits given = record {
     low = low;
     base = stands.base ∙ ap (λ (s : PartState). Ok (state_of s)) (sym base);
     sound = subst IsSound (sym base) stands.sound;
@@ -97,13 +102,18 @@ module _ (flows : Flows) (count : ℕ) (begin : Partition) (number : ℕ) (slot 
     within = subst (λ (l : List Step). less ≤ length l) (sym steps_is) within;
     indexed = indexed;
     waits = waits;
+    given = subst (λ (s : PartState). StandsAhead (state_of s) new.given) (sym base) given;
   }
+
+  -- what was given out is the same
+  given_same : (new : Live) → new.given ≡ live.given → StandsAhead (state_of live.base) new.given
+  given_same new same = subst (StandsAhead (state_of live.base)) (sym same) stands.given
 
   none_here : NonePossible flows (count_of (ahead_of live)) now (begun_of live) (waits_of live.waits) → NonePossible flows count now (begun_of live) (waits_of live.waits)
   none_here none = subst (λ (n : ℕ). NonePossible flows n now (begun_of live) (waits_of live.waits)) many none
 
-  pub made_stands : (limit : ℕ) (new : Live) → HasStep flows now limit round live new → Stands flows count begin slot.mine now out new
-  made_stands limit new has =
+  pub made_stands : (mode : Mode) (limit : ℕ) (new : Live) (packets : List Packet) → HasStep flows mode now limit round live new packets → Stands flows count begin slot.mine now out new
+  made_stands mode limit new packets has =
       let next = step_next flows (ahead_of live) has.step may_turn.sound has.makes in
       let last_is : last_of live.base (live.steps.items ++ has.step ∷ []) ≡ has.step.after = last_both live.base live.steps.items (has.step ∷ []) in
       let position = ap (λ (s : PartState). (state_of s).position) last_is ∙ ap (λ (n : Next). n.position) next in
@@ -119,10 +129,11 @@ module _ (flows : Flows) (count : ℕ) (begin : Partition) (number : ℕ) (slot 
       (omega (arith, incarnation, own, same)) (omega (arith, position, low)) (let before = stands.low in omega (arith, before, same))
       (All-append (λ (s : Step). (state_of s.after).stamp ≤ max begin.stamp now) live.steps.items (has.step ∷ []) stands.by
       (All-cons (λ (s : Step). (state_of s.after).stamp ≤ max begin.stamp now) has.step [] (omega (arith, ahead_by, by)) (λ k d inside. absurd (omega (arith, inside)))))
-      (omega (arith, within, long)) has.leaves.indexed has.leaves.waits
+      (omega (arith, within, long)) has.leaves.indexed has.leaves.waits (given_same new has.leaves.given)
 
-  pub made : (limit : ℕ) (new : Live) (position : ℕ) → position ≡ (state_of (ahead_of live)).position → HasStep flows now limit round live new → MakesEntry flows count begin limit old (view number slot (Some new) now out owner (next_round round)) position
-  made limit new position position_is has = record {
+  pub made : (mode : Mode) (limit : ℕ) (new : Live) (packets : List Packet) (position : ℕ) → position ≡ (state_of (ahead_of live)).position → HasStep flows mode now limit round live new packets
+      → MakesEntry flows count begin mode limit old (view number slot (Some new) now out owner (next_round round)) position packets
+  made mode limit new packets position position_is has = record {
     begun = begun_of live;
     is_begun = begun_is;
     entry = entry_of has.step.entry;
@@ -139,17 +150,18 @@ module _ (flows : Flows) (count : ℕ) (begin : Partition) (number : ℕ) (slot 
         let long = length-map has.step.entry.items item_of in
         let both = has.full (omega (arith, less, long)) in
         (both.0, subst (λ (n : ℕ). NoneEnabled flows n (state_of has.step.after) (stamp_at (state_of has.step.after) now)) many both.1);
+    sends = subst (λ (n : ℕ). SendsAtOnce mode n (begun_of live) (state_of has.step.after) packets) many has.sends;
     first = has.first;
     becomes =
         let entries : entries_in new.steps.items ≡ entries_in live.steps.items ++ entry_of has.step.entry ∷ [] = ap entries_in has.steps ∙ map-append (λ (s : Step). entry_of s.entry) live.steps.items (has.step ∷ []) in
-        λ i. record old { entries = entries i; incarnation = has.leaves.incarnation i; waits = waits_of new.waits; round = next_round round };
+        λ i. record old { entries = entries i; incarnation = has.leaves.incarnation i; waits = waits_of new.waits; given = (ap Some has.leaves.given) i; round = next_round round };
   }
 
   still_stands : (new : Live) (looked : List Waiting) → new.steps ≡ live.steps → LeavesWaits live new looked → Stands flows count begin slot.mine now out new
   still_stands new looked steps leaves =
       let young = stands.younger in
       let same = leaves.incarnation in
-      stands_with new live.steps.items out leaves.base (ap (λ v. v.items) steps) stands.steps (omega (arith, young, same)) stands.room (let before = stands.low in omega (arith, before, same)) stands.by stands.within leaves.indexed leaves.waits
+      stands_with new live.steps.items out leaves.base (ap (λ v. v.items) steps) stands.steps (omega (arith, young, same)) stands.room (let before = stands.low in omega (arith, before, same)) stands.by stands.within leaves.indexed leaves.waits (given_same new leaves.given)
 
   pub idle_stands : (new : Live) → Rests flows now live new → Stands flows count begin slot.mine now out new
   idle_stands new rests = still_stands new rests.looked rests.steps rests.leaves
@@ -159,7 +171,7 @@ module _ (flows : Flows) (count : ℕ) (begin : Partition) (number : ℕ) (slot 
     begun = begun_of live;
     is_begun = begun_is;
     none = none_here rests.none;
-    becomes = λ i. record old { entries = (ap (λ v. entries_in v.items) rests.steps) i; incarnation = rests.leaves.incarnation i; waits = rests.gone i; round = next_round round };
+    becomes = λ i. record old { entries = (ap (λ v. entries_in v.items) rests.steps) i; incarnation = rests.leaves.incarnation i; waits = rests.gone i; given = (ap Some rests.leaves.given) i; round = next_round round };
   }
 
   pub spent_stands : (new : Live) (n : ℕ) → Ends flows now live new n → Stands flows count begin slot.mine now out new
@@ -175,7 +187,7 @@ module _ (flows : Flows) (count : ℕ) (begin : Partition) (number : ℕ) (slot 
     looked = ends.looked;
     rest = waits_of new.waits;
     left = ends.leaves.left;
-    becomes = λ i. record old { entries = (ap (λ v. entries_in v.items) ends.steps) i; incarnation = ends.leaves.incarnation i; waits = waits_of new.waits; round = next_round round };
+    becomes = λ i. record old { entries = (ap (λ v. entries_in v.items) ends.steps) i; incarnation = ends.leaves.incarnation i; waits = waits_of new.waits; given = (ap Some ends.leaves.given) i; round = next_round round };
   }
 
 -- what a turn made, where the cell is kept so
@@ -190,8 +202,8 @@ as_turn flows count begin mode limit number slot now out owner round behind live
 
 -- a state that has no steps begins
 pub begins : (flows : Flows) (count : ℕ) (begin : Partition) (mine : List Entry) (live : Live) → live.steps.items ≡ [] → IsSound live.base → count_of live.base ≡ count → placed flows count begin mine ≡ Ok (state_of live.base) → (state_of live.base).stamp ≤ begin.stamp
-    → (state_of live.base).incarnation ≤ live.incarnation → (state_of live.base).position ≤ 2 ^ 62 → live.incarnation ≤ 2 ^ 63 → IsIndexed live.waits → waits_of live.waits ≡ [] → Stands flows count begin mine 0 0 live
-begins flows count begin mine live none sound partitions made stamp younger room low indexed empty = record {
+    → (state_of live.base).incarnation ≤ live.incarnation → (state_of live.base).position ≤ 2 ^ 62 → live.incarnation ≤ 2 ^ 63 → IsIndexed live.waits → waits_of live.waits ≡ [] → StandsAhead (state_of live.base) live.given → Stands flows count begin mine 0 0 live
+begins flows count begin mine live none sound partitions made stamp younger room low indexed empty given = record {
   base = made;
   sound = sound;
   partitions = partitions;
@@ -204,6 +216,7 @@ begins flows count begin mine live none sound partitions made stamp younger room
   within = omega arith;
   indexed = indexed;
   waits = subst (All MayWait) (sym empty) (λ k d inside. absurd (omega (arith, inside)));
+  given = given;
 }
 
 -- what its type knows of a cell
@@ -224,8 +237,8 @@ facts_in flows count begin number slot now out owner round (Some live) stands th
 
 -- the settled state moves on by what the seat has settled
 pub settles : (flows : Flows) (count : ℕ) (begin : Partition) (mine : List Entry) (now out n : ℕ) (live new : Live) → Stands flows count begin mine now out live → n ≤ length live.steps.items → new.base ≡ last_of live.base (take n live.steps.items) → new.steps.items ≡ drop n live.steps.items
-    → new.incarnation ≡ live.incarnation → new.waits ≡ live.waits → Stands flows count begin (mine ++ take n (entries_in live.steps.items)) now 0 new
-settles flows count begin mine now out n live new stands few base steps incarnation waits =
+    → new.incarnation ≡ live.incarnation → new.waits ≡ live.waits → ((there : Id → ℕ → Bool) → LooksFrom new.given there) → Stands flows count begin (mine ++ take n (entries_in live.steps.items)) now 0 new
+settles flows count begin mine now out n live new stands few base steps incarnation waits anew =
     let front = take n live.steps.items in
     let back = drop n live.steps.items in
     let front_are = steps_front flows n live.base live.steps.items stands.steps in
@@ -249,6 +262,7 @@ settles flows count begin mine now out n live new stands few base steps incarnat
       within = omega arith;
       indexed = subst IsIndexed (sym waits) stands.indexed;
       waits = subst (λ w. All MayWait (waits_of w)) (sym waits) stands.waits;
+      given = anew (pending_in (state_of new.base));
     }
 
 -- a state where its cell's seat is another
@@ -260,20 +274,24 @@ move_seat flows count begin number other mine more now out place live number_is 
     (subst (λ (o : Option Live). StandsIn flows count (begin number) mine now out o) (sym place_is) stands))
 
 pub settled_view : (number other : ℕ) (slot its : Slot) (now out owner round n : ℕ) (live new : Live) (place : Option Live) (self : CellView) → view number slot (Some live) now out owner round ≡ self → other ≡ number → place ≡ Some new
-    → new.steps.items ≡ drop n live.steps.items → new.incarnation ≡ live.incarnation → new.waits ≡ live.waits → HasSettled n its self (view other its place now 0 owner round)
-settled_view number other slot its now out owner round n live new place self view_is number_is place_is steps incarnation waits =
-    subst (λ (v : CellView). HasSettled n its v (view other its place now 0 owner round)) view_is
-    (λ i. record {
-      number = number_is i;
-      slot = its;
-      entries = (ap entries_of_live place_is ∙ ap entries_in steps ∙ sym (drop-map (λ (s : Step). entry_of s.entry) n live.steps.items)) i;
-      incarnation = (ap incarnation_of place_is ∙ incarnation) i;
-      waits = (ap waits_of_live place_is ∙ ap waits_of waits) i;
-      now = now;
-      out = 0;
-      owner = owner;
-      round = round;
-    })
+    → new.steps.items ≡ drop n live.steps.items → new.incarnation ≡ live.incarnation → new.waits ≡ live.waits → is_out new.given ≡ without_settled (is_out live.given) (take n (entries_in live.steps.items)) → HasSettled n its self (view other its place now 0 owner round)
+settled_view number other slot its now out owner round n live new place self view_is number_is place_is steps incarnation waits given =
+    subst (λ (v : CellView). HasSettled n its v (view other its place now 0 owner round)) view_is (
+      λ i. record {
+        number = number_is i;
+        slot = its;
+        going = (ap is_some place_is) i;
+        entries = (ap entries_of_live place_is ∙ ap entries_in steps ∙ sym (drop-map (λ (s : Step). entry_of s.entry) n live.steps.items)) i;
+        incarnation = (ap incarnation_of place_is ∙ incarnation) i;
+        waits = (ap waits_of_live place_is ∙ ap waits_of waits) i;
+        given = given_of_live place;
+        now = now;
+        out = 0;
+        owner = owner;
+        round = round;
+      },
+      ap (λ (o : Option Live). given_by (given_of_live o)) place_is ∙ given,
+    )
 
 module _ (flows : Flows) (count : ℕ) (begin : ℕ → Partition) (number : ℕ) (slot : Slot) (now out owner round : ℕ) (live : Live) (stands : Stands flows count (begin number) slot.mine now out live)
     (self : CellView) (view_is : view number slot (Some live) now out owner round ≡ self) where
@@ -290,29 +308,40 @@ module _ (flows : Flows) (count : ℕ) (begin : ℕ → Partition) (number : ℕ
   pub waits_are : waits_of live.waits ≡ self.waits
   waits_are = ap (λ (v : CellView). v.waits) view_is
 
-  -- one more waits
-  pub queued_view : (new : Live) (place : Option Live) (w : Waiting) → place ≡ Some new → new.steps ≡ live.steps → new.incarnation ≡ live.incarnation → waits_of new.waits ≡ waits_of live.waits ++ w ∷ [] → view number slot place now out owner round ≡ with_wait w self
-  queued_view new place w place_is steps incarnation waits =
-      subst (λ (v : CellView). view number slot place now out owner round ≡ with_wait w v) view_is
+  -- other things wait
+  pub waits_view : (new : Live) (place : Option Live) (waits : List Waiting) → place ≡ Some new → new.steps ≡ live.steps → new.incarnation ≡ live.incarnation → new.given ≡ live.given → waits_of new.waits ≡ waits → view number slot place now out owner round ≡ record self { waits = waits }
+  waits_view new place waits place_is steps incarnation given waits_is =
+      subst (λ (v : CellView). view number slot place now out owner round ≡ record v { waits = waits }) view_is
       (λ i. record {
         number = number;
         slot = slot;
+        going = (ap is_some place_is) i;
         entries = (ap entries_of_live place_is ∙ ap (λ v. entries_in v.items) steps) i;
         incarnation = (ap incarnation_of place_is ∙ incarnation) i;
-        waits = (ap waits_of_live place_is ∙ waits) i;
+        waits = (ap waits_of_live place_is ∙ waits_is) i;
+        given = (ap given_of_live place_is ∙ ap Some given) i;
         now = now;
         out = out;
         owner = owner;
         round = round;
       })
 
-  pub queued_stands : (new : Live) (place : Option Live) (w : Waiting) → place ≡ Some new → new.base ≡ live.base → new.steps ≡ live.steps → new.incarnation ≡ live.incarnation → waits_of new.waits ≡ waits_of live.waits ++ w ∷ [] → IsIndexed new.waits → MayWait w
-      → StandsIn flows count (begin number) slot.mine now out place
-  queued_stands new place w place_is base steps incarnation waits indexed may =
+  pub waits_stand : (new : Live) (place : Option Live) → place ≡ Some new → new.base ≡ live.base → new.steps ≡ live.steps → new.incarnation ≡ live.incarnation → new.given ≡ live.given → IsIndexed new.waits → All MayWait (waits_of new.waits) → StandsIn flows count (begin number) slot.mine now out place
+  waits_stand new place place_is base steps incarnation given indexed may =
       let young = stands.younger in
+      let before = stands.low in
       subst (λ (o : Option Live). StandsIn flows count (begin number) slot.mine now out o) (sym place_is)
-      (stands_with flows count (begin number) number slot now out owner round live stands new live.steps.items out base (ap (λ v. v.items) steps) stands.steps (omega (arith, young, incarnation)) stands.room (let before = stands.low in omega (arith, before, incarnation)) stands.by stands.within indexed
-      (subst (All MayWait) (sym waits) (All-append MayWait (waits_of live.waits) (w ∷ []) stands.waits (All-cons MayWait w [] may (λ k d inside. absurd (omega (arith, inside)))))))
+      (stands_with flows count (begin number) number slot now out owner round live stands new live.steps.items out base (ap (λ v. v.items) steps) stands.steps (omega (arith, young, incarnation)) stands.room (omega (arith, before, incarnation)) stands.by stands.within indexed may (subst (StandsAhead (state_of live.base)) (sym given) stands.given))
+
+  -- one more waits
+  pub queued_view : (new : Live) (place : Option Live) (w : Waiting) → place ≡ Some new → new.steps ≡ live.steps → new.incarnation ≡ live.incarnation → new.given ≡ live.given → waits_of new.waits ≡ waits_of live.waits ++ w ∷ [] → view number slot place now out owner round ≡ with_wait w self
+  queued_view new place w place_is steps incarnation given waits =
+      waits_view new place (self.waits ++ w ∷ []) place_is steps incarnation given (waits ∙ ap (λ (l : List Waiting). l ++ w ∷ []) waits_are)
+
+  pub queued_stands : (new : Live) (place : Option Live) (w : Waiting) → place ≡ Some new → new.base ≡ live.base → new.steps ≡ live.steps → new.incarnation ≡ live.incarnation → new.given ≡ live.given → waits_of new.waits ≡ waits_of live.waits ++ w ∷ [] → IsIndexed new.waits → MayWait w
+      → StandsIn flows count (begin number) slot.mine now out place
+  queued_stands new place w place_is base steps incarnation given waits indexed may =
+      waits_stand new place place_is base steps incarnation given indexed (subst (All MayWait) (sym waits) (All-append MayWait (waits_of live.waits) (w ∷ []) stands.waits (All-cons MayWait w [] may (λ k d inside. absurd (omega (arith, inside))))))
 
 -- ---- entries are given up
 
@@ -327,8 +356,8 @@ rises flows before (s ∷ steps) sound are =
 module _ (flows : Flows) (count : ℕ) (begin : ℕ → Partition) (number : ℕ) (slot : Slot) (now out owner round : ℕ) (live : Live) (stands : Stands flows count (begin number) slot.mine now out live)
     (self : CellView) (view_is : view number slot (Some live) now out owner round ≡ self) where
   pub given_up_stands : (new : Live) (place : Option Live) (kept less : ℕ) → place ≡ Some new → kept ≤ length live.steps.items → less ≤ kept → new.base ≡ live.base → new.steps.items ≡ take kept live.steps.items → new.incarnation ≡ live.incarnation + 1 → new.incarnation ≤ 2 ^ 63
-      → IsIndexed new.waits → All MayWait (waits_of new.waits) → StandsIn flows count (begin number) slot.mine now less place
-  given_up_stands new place kept less place_is few behind base steps incarnation low indexed may =
+      → IsIndexed new.waits → All MayWait (waits_of new.waits) → ((there : Id → ℕ → Bool) → LooksFrom new.given there) → StandsIn flows count (begin number) slot.mine now less place
+  given_up_stands new place kept less place_is few behind base steps incarnation low indexed may anew =
       let front = take kept live.steps.items in
       let back = drop kept live.steps.items in
       let front_are = steps_front flows kept live.base live.steps.items stands.steps in
@@ -344,45 +373,28 @@ module _ (flows : Flows) (count : ℕ) (begin : ℕ → Partition) (number : ℕ
       let long = length-take-le kept live.steps.items few in
       subst (λ (o : Option Live). StandsIn flows count (begin number) slot.mine now less o) (sym place_is)
       (stands_with flows count (begin number) number slot now out owner round live stands new front less base steps front_are (omega (arith, rise, incarnation_is, young, incarnation)) (omega (arith, position, position_is, room)) low
-      (all_taken (λ (s : Step). (state_of s.after).stamp ≤ max (begin number).stamp now) kept live.steps.items stands.by) (omega (arith, long, behind)) indexed may)
+      (all_taken (λ (s : Step). (state_of s.after).stamp ≤ max (begin number).stamp now) kept live.steps.items stands.by) (omega (arith, long, behind)) indexed may (anew (pending_in (state_of live.base))))
 
-  pub given_up_view : (new : Live) (place : Option Live) (kept less : ℕ) → place ≡ Some new → new.steps.items ≡ take kept live.steps.items → new.incarnation ≡ live.incarnation + 1 → waits_of new.waits ≡ filter lasting (waits_of live.waits) → view number slot place now less owner round ≡ given_up kept less self
+  pub given_up_view : (new : Live) (place : Option Live) (kept less : ℕ) → place ≡ Some new → new.steps.items ≡ take kept live.steps.items → new.incarnation ≡ live.incarnation + 1 → waits_of new.waits ≡ filter lasting (waits_of live.waits) → view number slot place now less owner round ≡ given_up kept less (given_of_live place) self
   given_up_view new place kept less place_is steps incarnation waits =
-      subst (λ (v : CellView). view number slot place now less owner round ≡ given_up kept less v) view_is
+      subst (λ (v : CellView). view number slot place now less owner round ≡ given_up kept less (given_of_live place) v) view_is
       (λ i. record {
         number = number;
         slot = slot;
+        going = (ap is_some place_is) i;
         entries = (ap entries_of_live place_is ∙ ap entries_in steps ∙ sym (take-map (λ (s : Step). entry_of s.entry) kept live.steps.items)) i;
         incarnation = (ap incarnation_of place_is ∙ incarnation) i;
         waits = (ap waits_of_live place_is ∙ waits) i;
+        given = given_of_live place;
         now = now;
         out = less;
         owner = owner;
         round = round;
       })
 
-  -- packets that were sent by what was given up are gone
-  pub cut_stands : (new : Live) (place : Option Live) → place ≡ Some new → new.base ≡ live.base → new.steps ≡ live.steps → new.incarnation ≡ live.incarnation → IsIndexed new.waits → All MayWait (waits_of new.waits) → StandsIn flows count (begin number) slot.mine now out place
-  cut_stands new place place_is base steps incarnation indexed may =
-      let young = stands.younger in
-      let before = stands.low in
-      subst (λ (o : Option Live). StandsIn flows count (begin number) slot.mine now out o) (sym place_is)
-      (stands_with flows count (begin number) number slot now out owner round live stands new live.steps.items out base (ap (λ v. v.items) steps) stands.steps (omega (arith, young, incarnation)) stands.room (omega (arith, before, incarnation)) stands.by stands.within indexed may)
-
-  pub cut_view : (new : Live) (place : Option Live) (floors : List Floor) → place ≡ Some new → new.steps ≡ live.steps → new.incarnation ≡ live.incarnation → waits_of new.waits ≡ without_lost (lost_by floors) (waits_of live.waits) → view number slot place now out owner round ≡ record self { waits = without_lost (lost_by floors) self.waits }
-  cut_view new place floors place_is steps incarnation waits =
-      subst (λ (v : CellView). view number slot place now out owner round ≡ record v { waits = without_lost (lost_by floors) v.waits }) view_is
-      (λ i. record {
-        number = number;
-        slot = slot;
-        entries = (ap entries_of_live place_is ∙ ap (λ v. entries_in v.items) steps) i;
-        incarnation = (ap incarnation_of place_is ∙ incarnation) i;
-        waits = (ap waits_of_live place_is ∙ waits) i;
-        now = now;
-        out = out;
-        owner = owner;
-        round = round;
-      })
+  -- and no task is out
+  pub none_given : (new : Live) (place : Option Live) → place ≡ Some new → is_out new.given ≡ none_out → given_by (given_of_live place) ≡ none_out
+  none_given new place place_is none = ap (λ (o : Option Live). given_by (given_of_live o)) place_is ∙ none
 
   pub entries_are : entries_in live.steps.items ≡ self.entries
   entries_are = ap (λ (v : CellView). v.entries) view_is

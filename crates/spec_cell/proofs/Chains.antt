@@ -1,5 +1,5 @@
 -- Steps, cut in two and joined.
-use Rattle.std.proofs.Common.{◌≡◌, ◌+◌, ℕ, zero, suc, List, [], ◌∷◌, ◌++◌, Option, Some, Ok, refl, sym, ◌∙◌, ap, subst, arith}
+use Rattle.std.proofs.Common.{◌≡◌, ◌+◌, ◌<◌, ℕ, zero, suc, List, [], ◌∷◌, ◌++◌, Option, Some, Ok, get_or, refl, sym, ◌∙◌, ap, subst, arith}
 use Rattle.std.specs.Prelude.{◌-◌, length, take, drop, slice_get}
 use Rattle.dura_model.specs.Entries.{entry_accepted, or_place, placed, AllGiven, AreGiven}
 use Rattle.dura_model.specs.Partition.{Partition, enter}
@@ -29,6 +29,12 @@ last_at before [] s at = absurd (cc at)
 last_at before (x ∷ steps) s at =
     let one : suc (length steps) - 1 ≡ length steps = omega arith in
     last_place (length steps) before (x ∷ steps) s refl (subst (λ (k : ℕ). slice_get (x ∷ steps) k ≡ Some s) one at)
+
+-- the step at a place makes the state behind those up to it
+pub front_at : (n : ℕ) (before : PartState) (steps : List Step) (s : Step) → n < length steps → s ≡ get_or steps n s → last_of before (take (suc n) steps) ≡ s.after
+front_at n before [] s inside at = absurd (omega (arith, inside))
+front_at zero before (x ∷ steps) s inside at = ap (λ (one : Step). one.after) (sym at)
+front_at (suc n) before (x ∷ steps) s inside at = front_at n x.after steps s (omega (arith, inside)) at
 
 module _ (flows : Flows) where
   pub steps_both : (before : PartState) (a b : List Step) → AreSteps flows before a → AreSteps flows (last_of before a) b → AreSteps flows before (a ++ b)

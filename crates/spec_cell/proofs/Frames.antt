@@ -4,6 +4,7 @@ use Rattle.std.specs.Prelude.{◌⊎◌, MatchOption, length, take}
 use Rattle.std.specs.List.{All}
 use Rattle.std.proofs.lemmas.Bool.Decides.{nat_tests}
 use Rattle.std.proofs.lemmas.List.{length-map, length-take-le}
+use Rattle.commit_gate.specs.declared.ledger.Sending.{Sending}
 use Rattle.dura_model.specs.Partition.{Partition}
 use Rattle.dura_value.specs.Dependencies.{named_by, Ready}
 use Rattle.dura_value.specs.Items.{Identity, Entry}
@@ -16,6 +17,7 @@ use Rattle.spec_tracker.specs.declared.marks.Marks.{Marks}
 use Rattle.spec_cell.specs.Depends.{identity_in, last_made, dependencies}
 use Rattle.spec_cell.specs.Picks.{AreReadyIn, identities, MayGo, HasPicked, CantPick}
 use Rattle.spec_cell.specs.Seats.{Slot}
+use Rattle.spec_cell.specs.Sends.{FrameSends}
 use Rattle.spec_cell.specs.Steps.{AreSteps, entries_in}
 use Rattle.spec_cell.specs.Views.{CellView, Stands, IsBase}
 use Rattle.spec_cell.specs.declared.live.Live.{Live}
@@ -86,11 +88,11 @@ module _ (flows : Flows) (count : ℕ) (begin : ℕ → Partition) (number : ℕ
   pub cant_first : (0 < length live.steps.items → (d : Entry) → All (Ready (length_in marks) (floors_of marks)) (named_by (get_or (entries_in live.steps.items) 0 d).items) → ⊥) → CantPick flows count (begin self.number) marks self self
   cant_first stop = record { base = base; is_base = is_base; cause = inr (in_self (not_first flows marks live.base stands.sound live.steps.items stands.steps stop)); same = refl }
 
-  pub has_picked : (n : ℕ) (frame : List Entry) → frame ≡ take n (entries_in live.steps.items) → (0 < out → ⊥) → 0 < n → n ≤ 64 → n ≤ length live.steps.items → MatchOption (last_made base) (Unit {0}) (Ready (length_in marks) (floors_of marks))
+  pub has_picked : (n : ℕ) (frame : List Entry) (sending : List Sending) → FrameSends flows count (begin self.number) self n sending → frame ≡ take n (entries_in live.steps.items) → (0 < out → ⊥) → 0 < n → n ≤ 64 → n ≤ length live.steps.items → MatchOption (last_made base) (Unit {0}) (Ready (length_in marks) (floors_of marks))
       → All (λ (e : Entry). All (Ready (length_in marks) (floors_of marks)) (named_by e.items)) (take n (entries_in live.steps.items))
       → (n < length live.steps.items → n < 64 → (d : Entry) → All (Ready (length_in marks) (floors_of marks)) (named_by (get_or (entries_in live.steps.items) n d).items) → ⊥)
-      → HasPicked flows count (begin self.number) marks self frame (view number slot (Some live) now n owner round)
-  has_picked n frame frame_is rests some few within first ready stop =
+      → HasPicked flows count (begin self.number) marks self frame sending (view number slot (Some live) now n owner round)
+  has_picked n frame sending sends frame_is rests some few within first ready stop =
       let long = length-map live.steps.items (λ (s : Step). entry_of s.entry) in
       let own : length frame ≡ n = ap length frame_is ∙ length-take-le n (entries_in live.steps.items) (omega (arith, within, long)) in
       let same = outs in
@@ -110,5 +112,6 @@ module _ (flows : Flows) (count : ℕ) (begin : ℕ → Partition) (number : ℕ
             stop here (omega (arith, less, own)) some_entry
             (goes_further marks base.number (last_made base) (entries_in live.steps.items) n some_entry (omega (arith, here, long)) (steps_apart flows live.base live.steps.items stands.sound stands.steps)
             (subst (λ (l : List Entry). All (AreReadyIn marks (identities base.number (take (suc n) l))) (take (suc n) (dependencies base.number (last_made base) l))) (sym entries) (subst (MayGo marks base self) (sym one) further)));
+        sends = subst (λ (k : ℕ). FrameSends flows count (begin self.number) self k sending) (sym own) sends;
         becomes = subst (λ (v : CellView). view number slot (Some live) now n owner round ≡ record v { out = length frame }) view_is (λ i. record (view number slot (Some live) now n owner round) { out = (sym own) i });
       }

@@ -11,3 +11,7 @@ pub mod Offering
 pub mod Losing
 pub mod FrontReady
 pub mod Frames
+pub mod SentByEntries
+pub mod StreamsTrimmed
+pub mod TasksGiven
+pub mod TasksOver

@@ -16,13 +16,17 @@ use Rattle.flow_syntax.specs.Syntax.{Flows}
 use Rattle.log_items.specs.Plain.{item_of, items_of}
 use Rattle.log_items.specs.declared.frames.Entry.{Entry as OwnEntry}
 use Rattle.log_items.specs.declared.items.Item.{Item as OwnItem}
+use Rattle.log_items.specs.declared.items.Packet.{Packet}
 use Rattle.part_items.specs.ItemFits.{FitsItem}
 use Rattle.part_steps.specs.Enabled.{NoneEnabled, stamp_at, is_at}
 use Rattle.part_steps.specs.States.{state_of, count_of}
 use Rattle.spec_cell.specs.Ahead.{LeavesWaits, HasStep, Rests, Ends, ahead_of, begun_of}
 use Rattle.spec_cell.specs.Fills.{IsFor, CantCome, Filled, LooksOn}
 use Rattle.spec_cell.specs.Fills.Filled.{nothing, puts, lets_go, goes_on}
+use Rattle.spec_cell.specs.Sends.{SendsAtOnce}
 use Rattle.spec_cell.specs.Turns.{waits_first}
+use Rattle.spec_cell.specs.declared.cell.Mode.{Mode}
+use Rattle.spec_cell.specs.declared.cell.Mode.TheVariants as modes
 use Rattle.spec_cell.specs.declared.filling.Filling.{Filling}
 use Rattle.spec_cell.specs.declared.live.Live.{Live}
 use Rattle.spec_cell.proofs.Filled.{filled_accepted, filled_given, filled_nothing}
@@ -33,6 +37,16 @@ empty_is (item ∷ items) n empty long is yes_is = absurd (grind (arith, nat_tes
 
 pub some_in : (items : List OwnItem) (n : ℕ) (empty : Bool) → n ≡ length items → empty ≡ (n == 0) → empty ≡ false → 0 < length items
 some_in items n empty long is not_is = grind (arith, nat_tests)
+
+-- one of two numbers, of which the first is this
+pub either_at : (one same other number : ℕ) → one ≡ same → (number ≡ one) ⊎ (number ≡ other) → (number ≡ same) ⊎ (number ≡ other)
+either_at one same other number same_is = subst (λ (n : ℕ). (number ≡ n) ⊎ (number ≡ other)) same_is
+
+-- what is sent behind a state is sent behind the same in the entry that is next
+pub sends_begun : (mode : Mode) (count incarnation : ℕ) (before after : Partition) (packets : List Packet) → SendsAtOnce mode count before after packets → SendsAtOnce mode count (enter incarnation before) after packets
+sends_begun modes.Global count incarnation before after packets sends = sends
+sends_begun modes.Local count incarnation before after packets sends = sends
+sends_begun modes.None count incarnation before after packets sends = sends
 
 -- what holds of all holds of the first
 all_front : {X : Type 0} (P : X → Type 0) (xs ys : List X) → All P (xs ++ ys) → All P xs
@@ -82,10 +96,11 @@ module _ (flows : Flows) (now limit : ℕ) (old : Live) (begun filled : Filling)
       (subst (λ (p : Partition). Filled flows (count_of (ahead_of old)) now p on.looked on.more (state_of filled.state)) begun_is
       (subst (λ (n : ℕ). Filled flows n now (state_of begun.state) on.looked on.more (state_of filled.state)) many on.on.filled))
 
-  leaves : (new : Live) → new.base ≡ old.base → new.incarnation ≡ old.incarnation → new.waits ≡ rest → IsIndexed rest → All MayWait (waits_of rest) → LeavesWaits old new on.looked
-  leaves new base incarnation waits indexed may = record {
+  leaves : (new : Live) → new.base ≡ old.base → new.incarnation ≡ old.incarnation → new.given ≡ old.given → new.waits ≡ rest → IsIndexed rest → All MayWait (waits_of rest) → LeavesWaits old new on.looked
+  leaves new base incarnation given waits indexed may = record {
     base = base;
     incarnation = incarnation;
+    given = given;
     left = on.left ∙ ap (λ (w : Waits). on.looked ++ waits_of w) (sym waits);
     indexed = subst IsIndexed (sym waits) indexed;
     waits = subst (λ (w : Waits). All MayWait (waits_of w)) (sym waits) may;
@@ -95,15 +110,15 @@ module _ (flows : Flows) (now limit : ℕ) (old : Live) (begun filled : Filling)
   none_behind none = subst (λ (n : ℕ). NoneEnabled flows n (state_of filled.state) (stamp_at (state_of filled.state) now)) many none
 
   -- where no item came in nothing is possible
-  pub rests : (new : Live) → new.base ≡ old.base → new.steps ≡ old.steps → new.incarnation ≡ old.incarnation → new.waits ≡ rest → IsIndexed rest → All MayWait (waits_of rest) → filled.items.items ≡ [] → waits_of rest ≡ []
+  pub rests : (new : Live) → new.base ≡ old.base → new.steps ≡ old.steps → new.incarnation ≡ old.incarnation → new.given ≡ old.given → new.waits ≡ rest → IsIndexed rest → All MayWait (waits_of rest) → filled.items.items ≡ [] → waits_of rest ≡ []
       → NoneEnabled flows (count_of begun.state) (state_of filled.state) (stamp_at (state_of filled.state) now) → Rests flows now old new
-  rests new base steps incarnation waits indexed may none gone behind =
+  rests new base steps incarnation given waits indexed may none gone behind =
       let still = filled_nothing flows (count_of (ahead_of old)) now filled_from (ap items_of none) in
       let all : waits_of old.waits ≡ on.looked = on.left ∙ ap (λ (l : List Waiting). on.looked ++ l) gone ∙ append-nil on.looked in
       record {
         steps = steps;
         looked = on.looked;
-        leaves = leaves new base incarnation waits indexed may;
+        leaves = leaves new base incarnation given waits indexed may;
         gone = ap waits_of waits ∙ gone;
         none = record {
           waits_not = subst (All (CantCome flows (count_of (ahead_of old)) (begun_of old))) (sym all) still.1;
@@ -112,12 +127,12 @@ module _ (flows : Flows) (now limit : ℕ) (old : Live) (begun filled : Filling)
       }
 
   -- where one came in something is
-  pub ends : (new : Live) (number : ℕ) → new.base ≡ old.base → new.steps ≡ old.steps → new.incarnation ≡ old.incarnation → new.waits ≡ rest → IsIndexed rest → All MayWait (waits_of rest) → 0 < length filled.items.items
+  pub ends : (new : Live) (number : ℕ) → new.base ≡ old.base → new.steps ≡ old.steps → new.incarnation ≡ old.incarnation → new.given ≡ old.given → new.waits ≡ rest → IsIndexed rest → All MayWait (waits_of rest) → 0 < length filled.items.items
       → (number ≡ (state_of (ahead_of old)).position) ⊎ (number ≡ old.incarnation) → 2 ^ 62 ≤ number → Ends flows now old new number
-  ends new number base steps incarnation waits indexed may some is past = record {
+  ends new number base steps incarnation given waits indexed may some is past = record {
     steps = steps;
     looked = on.looked;
-    leaves = leaves new base incarnation waits indexed may;
+    leaves = leaves new base incarnation given waits indexed may;
     some = λ possible.
         let cant = all_front (CantCome flows (count_of (ahead_of old)) (begun_of old)) on.looked (waits_of rest) (subst (All (CantCome flows (count_of (ahead_of old)) (begun_of old))) on.left possible.waits_not) in
         let none = (filled_stirs flows (count_of (ahead_of old)) now filled_from cant possible.none).0 in
@@ -127,12 +142,12 @@ module _ (flows : Flows) (now limit : ℕ) (old : Live) (begun filled : Filling)
     past = past;
   }
 
-  pub has_step : (new : Live) (round : ℕ) (entry : OwnEntry) → new.base ≡ old.base → new.incarnation ≡ old.incarnation → new.waits ≡ rest → IsIndexed rest → All MayWait (waits_of rest) → new.steps.items ≡ old.steps.items ++ (record { entry = entry; after = filled.state }) ∷ []
+  pub has_step : (new : Live) (mode : Mode) (packets : List Packet) (round : ℕ) (entry : OwnEntry) → SendsAtOnce mode (count_of (ahead_of old)) (begun_of old) (state_of filled.state) packets → new.base ≡ old.base → new.incarnation ≡ old.incarnation → new.given ≡ old.given → new.waits ≡ rest → IsIndexed rest → All MayWait (waits_of rest) → new.steps.items ≡ old.steps.items ++ (record { entry = entry; after = filled.state }) ∷ []
       → entry.position ≡ (state_of (ahead_of old)).position → entry.incarnation ≡ old.incarnation → entry.items ≡ filled.items.items → (state_of (ahead_of old)).incarnation ≤ old.incarnation → 0 < length filled.items.items → length filled.items.items ≤ limit → limit ≤ 64
       → All FitsItem (items_of filled.items.items) → entry.position < 2 ^ 62
       → (length filled.items.items < limit → waits_of rest ≡ []) → (length filled.items.items < limit → NoneEnabled flows (count_of begun.state) (state_of filled.state) (stamp_at (state_of filled.state) now))
-      → (waits_first round ≡ true → 0 < length (waits_of old.waits) → length (waits_of rest) < length (waits_of old.waits)) → HasStep flows now limit round old new
-  has_step new round entry base incarnation waits indexed may steps position own items younger some few most fit low gone none first =
+      → (waits_first round ≡ true → 0 < length (waits_of old.waits) → length (waits_of rest) < length (waits_of old.waits)) → HasStep flows mode now limit round old new packets
+  has_step new mode packets round entry sends base incarnation given waits indexed may steps position own items younger some few most fit low gone none first =
       let lengths = ap length items in
       let left = ap length on.left ∙ length-append on.looked (waits_of rest) in
       let entered : enter entry.incarnation (state_of (ahead_of old)) ≡ begun_of old = ap (λ (n : ℕ). enter n (state_of (ahead_of old))) own in
@@ -155,8 +170,9 @@ module _ (flows : Flows) (now limit : ℕ) (old : Live) (begun filled : Filling)
         low = low;
         few = omega (arith, few, lengths);
         looked = on.looked;
-        leaves = leaves new base incarnation waits indexed may;
+        leaves = leaves new base incarnation given waits indexed may;
         filled = filled_here;
+        sends = sends;
         full = λ less. (ap waits_of waits ∙ gone (omega (arith, less, lengths)), none_behind (none (omega (arith, less, lengths))));
         first = λ first_is have. let fewer = first first_is have in omega (arith, fewer, left);
       }

@@ -10,8 +10,11 @@ use Rattle.part_steps.specs.Enabled.{NoneEnabled, stamp_at}
 use Rattle.part_steps.specs.States.{IsSound, state_of, count_of}
 use Rattle.part_steps.specs.declared.state.PartState.{PartState}
 use Rattle.spec_cell.specs.Fills.{Filled}
+use Rattle.spec_cell.specs.Sends.{SendsAtOnce}
 use Rattle.spec_cell.specs.Steps.{Makes, last_of}
 use Rattle.spec_cell.specs.Turns.{NonePossible, waits_first}
+use Rattle.log_items.specs.declared.items.Packet.{Packet}
+use Rattle.spec_cell.specs.declared.cell.Mode.{Mode}
 use Rattle.spec_cell.specs.declared.live.Live.{Live}
 use Rattle.spec_cell.specs.declared.step.Step.{Step}
 use Rattle.spec_cell.specs.declared.turning.Turned.{Turned}
@@ -37,12 +40,13 @@ pub record MayTurn (live : Live) : Type 0 where
 pub record LeavesWaits (old new : Live) (looked : List Waiting) : Type 0 where
   pub base : new.base ≡ old.base
   pub incarnation : new.incarnation ≡ old.incarnation
+  pub given : new.given ≡ old.given
   pub left : waits_of old.waits ≡ looked ++ waits_of new.waits
   pub indexed : IsIndexed new.waits
   pub waits : All MayWait (waits_of new.waits)
 
--- One step more was made.
-pub record HasStep (flows : Flows) (now limit round : ℕ) (old new : Live) : Type 0 where
+-- One step more was made, and of what it sends this goes out at once.
+pub record HasStep (flows : Flows) (mode : Mode) (now limit round : ℕ) (old new : Live) (packets : List Packet) : Type 0 where
   pub step : Step
   pub steps : new.steps.items ≡ old.steps.items ++ step ∷ []
   pub makes : Makes flows (ahead_of old) step
@@ -53,6 +57,7 @@ pub record HasStep (flows : Flows) (now limit round : ℕ) (old new : Live) : Ty
   pub leaves : LeavesWaits old new looked
   pub filled : Filled flows (count_of (ahead_of old)) now (begun_of old) looked (items_of step.entry.items) (state_of step.after)
   pub full : length step.entry.items < limit → (waits_of new.waits ≡ []) × NoneEnabled flows (count_of (ahead_of old)) (state_of step.after) (stamp_at (state_of step.after) now)
+  pub sends : SendsAtOnce mode (count_of (ahead_of old)) (begun_of old) (state_of step.after) packets
   pub first : waits_first round ≡ true → 0 < length (waits_of old.waits) → 0 < length looked
 
 -- Nothing is possible.
@@ -72,7 +77,7 @@ pub record Ends (flows : Flows) (now : ℕ) (old new : Live) (number : ℕ) : Ty
   pub number_is : (number ≡ (state_of (ahead_of old)).position) ⊎ (number ≡ old.incarnation)
   pub past : 2 ^ 62 ≤ number
 
-abbrev pub Turns : Flows → (now limit round : ℕ) → (old : Live) → Turned → Type 0
-Turns flows now limit round old (turns.Made new) = HasStep flows now limit round old new
-Turns flows now limit round old (turns.Idle new) = Rests flows now old new
-Turns flows now limit round old (turns.Spent new number) = Ends flows now old new number
+abbrev pub Turns : Flows → Mode → (now limit round : ℕ) → (old : Live) → Turned → Type 0
+Turns flows mode now limit round old (turns.Made new packets) = HasStep flows mode now limit round old new packets.items
+Turns flows mode now limit round old (turns.Idle new) = Rests flows now old new
+Turns flows mode now limit round old (turns.Spent new number) = Ends flows now old new number

@@ -1,6 +1,8 @@
 -- What the calls that give entries up make of a cell.
-use Rattle.std.specs.Prelude.{◌≡◌, ℕ, ◌+◌, ◌<◌, ◌≤◌, ◌^◌, List, length, take, drop, filter}
+use Rattle.std.specs.Prelude.{◌≡◌, ℕ, ◌+◌, ◌<◌, ◌≤◌, ◌^◌, List, Option, length, take, drop, filter}
 use Rattle.std.specs.List.{All, HoldsAt}
+use Rattle.cell_tasks.specs.Tasks.{none_out}
+use Rattle.cell_tasks.specs.declared.given_out.GivenOut.{GivenOut}
 use Rattle.cell_waits.specs.Waits.{lasting, lost_by, without_lost}
 use Rattle.dura_model.specs.Partition.{Partition}
 use Rattle.dura_value.specs.Items.{Identity}
@@ -8,6 +10,7 @@ use Rattle.flow_syntax.specs.Syntax.{Flows}
 use Rattle.spec_tracker.specs.Marks.{identity_of, floors_of}
 use Rattle.spec_tracker.specs.declared.marks.Marks.{Marks}
 use Rattle.spec_cell.specs.Depends.{last_made, dependencies, AreKept, IsFirstLost}
+use Rattle.spec_cell.specs.Tasks.{given_by}
 use Rattle.spec_cell.specs.Views.{CellView, IsBase}
 use Rattle.spec_cell.specs.declared.moving.CellReset.{CellReset}
 use Rattle.spec_cell.specs.declared.moving.CellReset.TheVariants as resets
@@ -15,8 +18,8 @@ use Rattle.spec_cell.specs.declared.moving.CellRewind.{CellRewind}
 use Rattle.spec_cell.specs.declared.moving.CellRewind.TheVariants as rewinds
 
 -- All entries but the first so many were given up, and a later incarnation began. No packet waits, and no outcome.
-abbrev pub given_up : (kept out : ℕ) → CellView → CellView
-given_up kept out c = record c { entries = take kept c.entries; incarnation = c.incarnation + 1; waits = filter lasting c.waits; out = out }
+abbrev pub given_up : (kept out : ℕ) → Option GivenOut → CellView → CellView
+given_up kept out given c = record c { entries = take kept c.entries; incarnation = c.incarnation + 1; waits = filter lasting c.waits; given = given; out = out }
 
 -- what each of a cell's entries depends on, behind its settled state
 abbrev pub dependencies_in : CellView → (base : Partition) → List (List Identity)
@@ -30,7 +33,9 @@ pub record IsRewound (flows : Flows) (count : ℕ) (begin : Partition) (marks : 
   pub first : IsFirstLost marks (dependencies_in old base) old.out kept lost
   pub inside : kept < length old.entries
   pub floor_is : HoldsAt (λ e. e.position ≡ floor) old.entries kept
-  pub becomes : new ≡ given_up kept old.out old
+  pub becomes : new ≡ given_up kept old.out new.given old
+  -- and no task is out any more
+  pub none_given : given_by new.given ≡ none_out
 
 -- No entry behind those that are out depends on one which was given up. No packet waits that was sent by one, nor a later one of its stream.
 pub record IsKept (flows : Flows) (count : ℕ) (begin : Partition) (marks : Marks) (old new : CellView) : Type 0 where
@@ -53,7 +58,8 @@ pub record IsReset (floor : ℕ) (old new : CellView) : Type 0 where
   pub kept : ℕ
   pub before : All (λ e. e.position < floor) (take kept old.entries)
   pub behind : All (λ e. floor ≤ e.position) (drop kept old.entries)
-  pub becomes : new ≡ given_up kept 0 old
+  pub becomes : new ≡ given_up kept 0 new.given old
+  pub none_given : given_by new.given ≡ none_out
 
 abbrev pub CellResets : (floor : ℕ) → (old : CellView) → CellReset → (new : CellView) → Type 0
 CellResets floor old resets.Done new = IsReset floor old new

@@ -5,8 +5,10 @@ use Rattle.cell_waits.specs.Waits.{Waiting}
 use Rattle.dura_model.specs.Partition.{Partition, enter}
 use Rattle.dura_value.specs.Items.{Entry}
 use Rattle.flow_syntax.specs.Syntax.{Flows}
+use Rattle.log_items.specs.declared.items.Packet.{Packet}
 use Rattle.part_steps.specs.Enabled.{NoneEnabled, stamp_at}
 use Rattle.spec_cell.specs.Fills.{Filled, CantCome}
+use Rattle.spec_cell.specs.Sends.{SendsAtOnce}
 use Rattle.spec_cell.specs.Views.{CellView, IsAhead}
 use Rattle.spec_cell.specs.declared.cell.CellTurn.{CellTurn}
 use Rattle.spec_cell.specs.declared.cell.CellTurn.TheVariants as turns
@@ -37,8 +39,8 @@ pub record NonePossible (flows : Flows) (count now : ℕ) (p : Partition) (waits
   pub waits_not : All (CantCome flows count p) waits
   pub none : NoneEnabled flows count p (stamp_at p now)
 
--- One entry more, of 1 to so many items, is filled in the state ahead.
-pub record MakesEntry (flows : Flows) (count : ℕ) (begin : Partition) (limit : ℕ) (old new : CellView) (position : ℕ) : Type 0 where
+-- One entry more, of 1 to so many items, is filled in the state ahead, and of what it sends this goes out at once.
+pub record MakesEntry (flows : Flows) (count : ℕ) (begin : Partition) (mode : Mode) (limit : ℕ) (old new : CellView) (position : ℕ) (packets : List Packet) : Type 0 where
   pub begun : Partition
   pub is_begun : IsBegun flows count begin old begun
   pub entry : Entry
@@ -54,6 +56,7 @@ pub record MakesEntry (flows : Flows) (count : ℕ) (begin : Partition) (limit :
   pub filled : Filled flows count old.now begun looked entry.items after
   -- up to the limit, or until nothing is possible behind it
   pub full : length entry.items < limit → (rest ≡ []) × NoneEnabled flows count after (stamp_at after old.now)
+  pub sends : SendsAtOnce mode count begun after packets
   -- in every second turn what waited longest is looked at
   pub first : waits_first old.round ≡ true → 0 < length old.waits → 0 < length looked
   pub becomes : new ≡ record old { entries = old.entries ++ entry ∷ []; waits = rest; round = next_round old.round }
@@ -78,7 +81,7 @@ pub record IsSpent (flows : Flows) (count : ℕ) (begin : Partition) (old new : 
   pub becomes : new ≡ record old { waits = rest; round = next_round old.round }
 
 abbrev pub CellTurns : Flows → (count : ℕ) → (begin : Partition) → Mode → (limit : ℕ) → (old : CellView) → CellTurn → (new : CellView) → Type 0
-CellTurns flows count begin mode limit old (turns.Turned position) new = (IsHeld mode old.entries → ⊥) × MakesEntry flows count begin limit old new position
+CellTurns flows count begin mode limit old (turns.Turned position packets) new = (IsHeld mode old.entries → ⊥) × MakesEntry flows count begin mode limit old new position packets.items
 CellTurns flows count begin mode limit old turns.Held new = IsHeld mode old.entries × (new ≡ old)
 CellTurns flows count begin mode limit old turns.Idle new = (IsHeld mode old.entries → ⊥) × IsIdle flows count begin old new
 CellTurns flows count begin mode limit old (turns.Spent number) new = (IsHeld mode old.entries → ⊥) × IsSpent flows count begin old new number

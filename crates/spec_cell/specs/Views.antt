@@ -1,6 +1,8 @@
 -- A cell as its clauses see it.
-use Rattle.std.specs.Prelude.{◌≡◌, ◌≤◌, ℕ, ◌^◌, max, List, [], ◌++◌, length, drop, Option, Some, None, Ok}
+use Rattle.std.specs.Prelude.{◌≡◌, ◌≤◌, ℕ, Bool, true, ◌^◌, max, List, [], ◌++◌, length, take, drop, option_map, Option, Some, None, Ok}
 use Rattle.std.specs.List.{All}
+use Rattle.cell_tasks.specs.Tasks.{none_out}
+use Rattle.cell_tasks.specs.declared.given_out.GivenOut.{GivenOut}
 use Rattle.cell_waits.specs.Waits.{Waiting, MayWait, waits_of}
 use Rattle.cell_waits.specs.Indices.{IsIndexed}
 use Rattle.dura_model.specs.Entries.{placed, AllGiven}
@@ -11,18 +13,21 @@ use Rattle.part_items.specs.Numbered.{Next, IsNumbered}
 use Rattle.part_steps.specs.States.{IsSound, state_of, count_of}
 use Rattle.spec_cell.specs.Seats.{Slot}
 use Rattle.spec_cell.specs.Steps.{AreSteps, last_of, entries_in}
+use Rattle.spec_cell.specs.Tasks.{StandsAhead, given_by, without_settled}
 use Rattle.spec_cell.specs.declared.live.Live.{Live}
 use Rattle.spec_cell.specs.declared.step.Step.{Step}
 
--- Its partition, what its seat shows, the entries that aren't settled, the incarnation that makes entries, what waits, the greatest
--- moment that was handed in, how many of the first entries are in the frame that is out, the node that owns it, and which side of a
+-- Its partition, what its seat shows, whether it has a state (memory didn't run out), the entries that aren't settled, the incarnation that makes entries, what waits, which tasks
+-- were given out, the greatest moment that was handed in, how many of the first entries are in the frame that is out, the node that owns it, and which side of a
 -- turn is first next. Its settled state and the state ahead are what its entries make.
 pub record CellView : Type 0 where
   pub number : ℕ
   pub slot : Slot
+  pub going : Bool
   pub entries : List Entry
   pub incarnation : ℕ
   pub waits : List Waiting
+  pub given : Option GivenOut
   pub now : ℕ
   pub out : ℕ
   pub owner : ℕ
@@ -39,6 +44,9 @@ incarnation_of (Some live) = live.incarnation
 abbrev pub waits_of_live : Option Live → List Waiting
 waits_of_live None = []
 waits_of_live (Some live) = waits_of live.waits
+
+abbrev pub given_of_live : Option Live → Option GivenOut
+given_of_live = option_map (λ live. live.given)
 
 -- no state is of a later stamp than this
 abbrev pub AreBy : ℕ → List Step → Type 0
@@ -59,6 +67,7 @@ pub record Stands (flows : Flows) (count : ℕ) (begin : Partition) (mine : List
   pub within : out ≤ length live.steps.items
   pub indexed : IsIndexed live.waits
   pub waits : All MayWait (waits_of live.waits)
+  pub given : StandsAhead (state_of live.base) live.given
 
 -- a cell whose memory ran out has no state
 abbrev pub StandsIn : Flows → (count : ℕ) → (begin : Partition) → (mine : List Entry) → (now out : ℕ) → Option Live → Type 0
@@ -102,11 +111,14 @@ pub record HasFacts (flows : Flows) (count : ℕ) (begin : Partition) (c : CellV
 
 -- ---- how it begins, and goes on
 
--- nothing is unsettled, nothing waits, no moment was handed in, and no frame is out
+-- nothing is unsettled, nothing waits, no task is out, no moment was handed in, and no frame is out
 abbrev pub IsNew : (number : ℕ) → Slot → (owner incarnation : ℕ) → CellView → Type 0
 IsNew number slot owner incarnation c =
-    c ≡ record { number = number; slot = slot; entries = []; incarnation = incarnation; waits = []; now = 0; out = 0; owner = owner; round = 0 }
+    (c ≡ record { number = number; slot = slot; going = true; entries = []; incarnation = incarnation; waits = []; given = c.given; now = 0; out = 0; owner = owner; round = 0 })
+    × (given_by c.given ≡ none_out)
 
--- The settled state moved on by the first so many entries, which the seat has settled by now, and no frame is out.
+-- The settled state moved on by the first so many entries, which the seat has settled by now, and no frame is out. A task whose outcome
+-- they have isn't out any more.
 abbrev pub HasSettled : (n : ℕ) → Slot → (old new : CellView) → Type 0
-HasSettled n slot old new = new ≡ record old { slot = slot; entries = drop n old.entries; out = 0 }
+HasSettled n slot old new = (new ≡ record old { slot = slot; entries = drop n old.entries; given = new.given; out = 0 })
+    × (given_by new.given ≡ without_settled (given_by old.given) (take n old.entries))

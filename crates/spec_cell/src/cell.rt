@@ -1,12 +1,13 @@
 //! A cell: one partition that runs ahead of what is settled, with what waits for it.
 
-ghost use Rattle.std.specs.Prelude.{◌≡◌, ◌<◌, ◌≤◌, true, false, Some, IfOk};
+ghost use Rattle.std.specs.Prelude.{◌≡◌, ◌<◌, ◌≤◌, true, false, Some, IfOk, is_ok};
 ghost use Rattle.spec_cell.specs.Steps.{entries_in};
 ghost use Rattle.spec_cell.specs.Turns.{IsHeld, CellTurns, next_round};
 
 use crate::live::Live;
 use crate::mine::Mine;
 use crate::turning::{Turned, turn};
+use log_items::Packet;
 use part_rows::Reactions;
 use std::alloc::{AllocError, Global};
 use std::marker::Model;
@@ -24,8 +25,8 @@ pub enum Mode {
 
 /// What came of a turn.
 pub enum CellTurn {
-    /// An entry was made at this position.
-    Turned(u64),
+    /// An entry was made at this position, and these go out at once.
+    Turned(u64, Vec<Packet>),
     /// An entry isn't settled.
     Held,
     /// Nothing is possible.
@@ -52,16 +53,19 @@ pub struct Cell<S: Mine> {
 }
 
 impl<S: Mine> Model for Cell<S> {
-    ghost use Rattle.spec_cell.specs.Views.{CellView, StandsIn, entries_of_live, incarnation_of, waits_of_live};
+    ghost use Rattle.std.specs.Prelude.{is_some};
+    ghost use Rattle.spec_cell.specs.Views.{CellView, StandsIn, entries_of_live, incarnation_of, waits_of_live, given_of_live};
 
     ghost Value = { CellView };
 
     ghost view = { λ c. record {
       number = S.number c.seat;
       slot = S.slot c.seat;
+      going = is_some c.live;
       entries = entries_of_live c.live;
       incarnation = incarnation_of c.live;
       waits = waits_of_live c.live;
+      given = given_of_live c.live;
       now = c.now;
       out = c.out;
       owner = c.owner;
@@ -97,8 +101,8 @@ fn after_round(round: u8) -> u8
 }
 
 impl<S: Mine> Cell<S> {
-    /// One entry more: of 1 to so many items, of what waits and of the deliveries and timers that are possible, until nothing is. Else it
-    /// is held, or nothing is possible.
+    /// One entry more: of 1 to so many items, of what waits and of the deliveries and timers that are possible, until nothing is; with
+    /// what of it goes out at once. Else it is held, or nothing is possible.
     pub fn turn<R: Reactions>(
         &mut self,
         alloc: Global,
@@ -111,6 +115,7 @@ impl<S: Mine> Cell<S> {
         requires most { limit ≤ 64 }
         ensures turns { IfOk result (λ turned.
             CellTurns S.flows S.count (S.begin self.old.number) mode limit self.old turned self.new) }
+        ensures going { self.new.going ≡ is_ok result }
     {
         let Some(live) = self.live.take() else {
             return Err(AllocError);
@@ -120,12 +125,12 @@ impl<S: Mine> Cell<S> {
             return Ok(CellTurn::Held);
         }
         let position = live.ahead().position();
-        let turned = turn(alloc, reactions, live, self.now, limit, self.round)?;
+        let turned = turn(alloc, reactions, live, mode, self.now, limit, self.round)?;
         self.round = after_round(self.round);
         match turned {
-            Turned::Made(made) => {
+            Turned::Made(made, packets) => {
                 put(&mut self.live, made);
-                Ok(CellTurn::Turned(position))
+                Ok(CellTurn::Turned(position, packets))
             }
             Turned::Idle(same) => {
                 put(&mut self.live, same);

@@ -1,6 +1,6 @@
 //! What comes to a cell.
 
-ghost use Rattle.std.specs.Prelude.{◌≡◌, ◌++◌, ◌∷◌, [], true, IfOk, option_map};
+ghost use Rattle.std.specs.Prelude.{◌≡◌, ◌++◌, ◌∷◌, [], true, is_ok, IfOk, option_map};
 ghost use Rattle.activity_table.specs.Table.{may};
 ghost use Rattle.cell_waits.specs.Indices.{IsIndexed};
 ghost use Rattle.cell_waits.specs.Waits.{MayWait, wait_of, waits_of};
@@ -59,6 +59,7 @@ fn add_wait(alloc: Global, live: Live, wait: Wait) -> Result<Live, AllocError>
     ensures base { IfOk result (λ new. new.base ≡ live.base) }
     ensures steps { IfOk result (λ new. new.steps ≡ live.steps) }
     ensures incarnation { IfOk result (λ new. new.incarnation ≡ live.incarnation) }
+    ensures given { IfOk result (λ new. new.given ≡ live.given) }
     ensures waits { IfOk result (λ new. waits_of new.waits
         ≡ waits_of live.waits ++ wait_of wait ∷ []) }
     ensures indexed { IfOk result (λ new. IsIndexed new.waits) }
@@ -116,11 +117,12 @@ fn known_as(live: &Live, message: &Message) -> Result<Option<Offered>, AllocErro
 impl<S: Mine> Cell<S> {
     /// A packet comes. One that came before, or before which others are to come, is let go of.
     pub fn arrive(&mut self, alloc: Global, packet: Packet) -> Result<Arrived, AllocError>
-        ensures { IfOk result (λ arrived. (ahead : Partition)
+        ensures arrives { IfOk result (λ arrived. (ahead : Partition)
             × IsAhead S.flows S.count (S.begin self.old.number) self.old ahead
             × Arrives ahead
             (record { partition = packet.src; incarnation = packet.inc; position = packet.pos })
             packet.seq (message_of packet.message) self.old arrived self.new) }
+        ensures going { self.new.going ≡ is_ok result }
     {
         let Some(live) = self.live.take() else {
             drop(packet);
@@ -157,10 +159,11 @@ impl<S: Mine> Cell<S> {
     /// An outcome of an activity comes, which the activity may give.
     pub fn outcome(&mut self, alloc: Global, ended: Ended) -> Result<Recorded, AllocError>
         requires { may ended.activity.name ended.activity.argument ended.outcome ≡ true }
-        ensures { IfOk result (λ recorded. (ahead : Partition)
+        ensures records { IfOk result (λ recorded. (ahead : Partition)
             × IsAhead S.flows S.count (S.begin self.old.number) self.old ahead
             × Records ahead (id_of ended.id) ended.task (activity_of ended.activity) ended.outcome
             self.old recorded self.new) }
+        ensures going { self.new.going ≡ is_ok result }
     {
         let Some(live) = self.live.take() else {
             drop(ended);
@@ -186,10 +189,11 @@ impl<S: Mine> Cell<S> {
 
     /// A request of a client comes.
     pub fn offer(&mut self, alloc: Global, message: Message) -> Result<Offered, AllocError>
-        ensures { IfOk result (λ offered. (base : Partition)
+        ensures offers { IfOk result (λ offered. (base : Partition)
             × IsBase S.flows S.count (S.begin self.old.number) self.old base × (ahead : Partition)
             × IsAhead S.flows S.count (S.begin self.old.number) self.old ahead
             × Offers base ahead (message_of message) self.old offered self.new) }
+        ensures going { self.new.going ≡ is_ok result }
     {
         let Some(live) = self.live.take() else {
             drop(message);

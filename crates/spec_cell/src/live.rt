@@ -4,10 +4,11 @@ ghost use Rattle.std.specs.Prelude.{◌≡◌};
 ghost use Rattle.spec_cell.specs.Steps.{last_of};
 
 use crate::step::Step;
+use cell_tasks::GivenOut;
 use cell_waits::Waits;
 use part_steps::PartState;
 
-/// The state by what is settled, the entries behind it that aren't, each with the state after it, and what waits.
+/// The state by what is settled, the entries behind it that aren't, each with the state after it, what waits, and what was given out.
 #[derive(Drop)]
 pub struct Live {
     /// The state by what is settled.
@@ -18,6 +19,8 @@ pub struct Live {
     pub incarnation: u64,
     /// What waits.
     pub waits: Waits,
+    /// The tasks that were given out, of those that are pending in the settled state.
+    pub given: GivenOut,
 }
 
 impl Live {

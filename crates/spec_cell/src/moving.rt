@@ -1,21 +1,28 @@
 //! The settled state moves on, and entries are given up.
 
-ghost use Rattle.std.specs.Prelude.{◌≡◌, ◌<◌, ◌≤◌, ◌+◌, ◌-◌, ◌^◌, ◌++◌, min, take, drop, filter, length, IfOk, OnOk};
+ghost use Rattle.std.specs.Prelude.{◌≡◌, ℕ, Bool, ◌<◌, ◌≤◌, ◌+◌, ◌-◌, ◌^◌, ◌++◌, min, take, drop, filter, length, is_ok, IfOk, OnOk};
 ghost use Rattle.std.specs.List.{All};
+ghost use Rattle.cell_tasks.specs.Tasks.{is_out, none_out, IsAhead};
 ghost use Rattle.cell_waits.specs.Indices.{IsIndexed};
 ghost use Rattle.cell_waits.specs.Waits.{MayWait, waits_of, lasting, lost_by, without_lost};
-ghost use Rattle.part_steps.specs.States.{state_of};
+ghost use Rattle.dura_value.specs.Ids.{Id as PlainId};
+ghost use Rattle.part_steps.specs.States.{IsSound, state_of, count_of};
 ghost use Rattle.spec_cell.specs.Moves.{CellRewinds, CellResets};
+ghost use Rattle.spec_cell.specs.Sends.{SendsLater, SendsSettled};
 ghost use Rattle.spec_tracker.specs.Marks.{floors_of};
-ghost use Rattle.spec_cell.specs.Steps.{last_of};
+ghost use Rattle.spec_cell.specs.Steps.{last_of, entries_in};
+ghost use Rattle.spec_cell.specs.Tasks.{without_settled};
 ghost use Rattle.spec_cell.specs.Views.{HasSettled};
 
-use crate::cell::{Cell, put};
+use crate::cell::{Cell, Mode, put};
 use crate::depending::{first_lost, last_made};
 use crate::live::Live;
 use crate::mine::Mine;
+use crate::sending::packets_later;
 use crate::step::Step;
+use crate::tasks::forget_settled;
 use crate::turning::NUMBER_LIMIT;
+use log_items::Packet;
 use part_steps::PartState;
 use spec_tracker::{Dep, Marks};
 use std::alloc::{AllocError, Global};
@@ -55,6 +62,17 @@ fn state_behind(base: PartState, steps: Vec<Step>) -> PartState
     }
 }
 
+/// The state behind the first so many steps.
+pub(crate) fn state_at(live: &Live, count: usize) -> &PartState
+    requires { count ≤ length live.now.steps.items }
+    ensures { result.now ≡ last_of live.now.base (take count live.now.steps.items) }
+{
+    if count == 0 {
+        return &live.base;
+    }
+    &live.steps[count - 1].after
+}
+
 /// The settled state moves on by the first so many steps.
 fn settle(live: Live, count: usize) -> Result<Live, AllocError>
     requires { count ≤ length live.steps.items }
@@ -62,12 +80,14 @@ fn settle(live: Live, count: usize) -> Result<Live, AllocError>
     ensures steps { IfOk result (λ new. new.steps.items ≡ drop count live.steps.items) }
     ensures incarnation { IfOk result (λ new. new.incarnation ≡ live.incarnation) }
     ensures waits { IfOk result (λ new. new.waits ≡ live.waits) }
+    ensures given { IfOk result (λ new. new.given ≡ live.given) }
 {
     let Live {
         base,
         steps: mut first,
         incarnation,
         waits,
+        given,
     } = live;
     let steps = first.split_off(count)?;
     Ok(Live {
@@ -75,7 +95,41 @@ fn settle(live: Live, count: usize) -> Result<Live, AllocError>
         steps,
         incarnation,
         waits,
+        given,
     })
+}
+
+/// The same, with what goes out by then of what these steps sent.
+fn settle_and_send(
+    alloc: Global,
+    live: Live,
+    count: usize,
+    mode: Mode,
+) -> Result<(Live, Vec<Packet>), AllocError>
+    requires few { count ≤ length live.steps.items }
+    requires before { IsSound live.base }
+    requires after { IsSound (last_of live.base (take count live.steps.items)) }
+    ensures base { IfOk result (λ both. both.0.base ≡ last_of live.base (take count live.steps.items)) }
+    ensures steps { IfOk result (λ both. both.0.steps.items ≡ drop count live.steps.items) }
+    ensures incarnation { IfOk result (λ both. both.0.incarnation ≡ live.incarnation) }
+    ensures waits { IfOk result (λ both. both.0.waits ≡ live.waits) }
+    ensures given { IfOk result (λ both. is_out both.0.given
+        ≡ without_settled (is_out live.given) (take count (entries_in live.steps.items))) }
+    ensures anew { IfOk result (λ both. (there : PlainId → ℕ → Bool)
+        → IsAhead both.0.given there) }
+    ensures sends { IfOk result (λ both. SendsLater mode (count_of both.0.base)
+        (state_of live.base) (state_of both.0.base) both.1.items) }
+{
+    let packets = match packets_later(alloc, mode, &live.base, state_at(&live, count)) {
+        Ok(packets) => packets,
+        Err(error) => {
+            live.let_go();
+            return Err(error);
+        }
+    };
+    let forgotten = forget_settled(alloc, live, count)?;
+    let next = settle(forgotten, count)?;
+    Ok((next, packets))
 }
 
 /// All steps but the first so many are given up, with the packets and outcomes that wait, and a later incarnation begins.
@@ -86,6 +140,8 @@ fn give_up(alloc: Global, live: Live, kept: usize) -> Result<Live, AllocError>
     ensures steps { IfOk result (λ new. new.steps.items ≡ take kept live.steps.items) }
     ensures incarnation { IfOk result (λ new. new.incarnation ≡ live.incarnation + 1) }
     ensures waits { IfOk result (λ new. waits_of new.waits ≡ filter lasting (waits_of live.waits)) }
+    ensures given { IfOk result (λ new. is_out new.given ≡ none_out) }
+    ensures anew { IfOk result (λ new. (there : PlainId → ℕ → Bool) → IsAhead new.given there) }
     ensures indexed { IfOk result (λ new. IsIndexed new.waits) }
     ensures may { All MayWait (waits_of live.waits)
         → IfOk result (λ new. All MayWait (waits_of new.waits)) }
@@ -93,6 +149,7 @@ fn give_up(alloc: Global, live: Live, kept: usize) -> Result<Live, AllocError>
     let mut live = live;
     live.steps.truncate(kept);
     live.incarnation += 1;
+    live.given.clear(alloc);
     match live.waits.keep_lasting(alloc) {
         Ok(()) => Ok(live),
         Err(error) => {
@@ -107,6 +164,7 @@ fn cut_lost(alloc: Global, live: Live, marks: &Marks) -> Result<Live, AllocError
     ensures base { IfOk result (λ new. new.base ≡ live.base) }
     ensures steps { IfOk result (λ new. new.steps ≡ live.steps) }
     ensures incarnation { IfOk result (λ new. new.incarnation ≡ live.incarnation) }
+    ensures given { IfOk result (λ new. new.given ≡ live.given) }
     ensures waits { IfOk result (λ new. waits_of new.waits
         ≡ without_lost (lost_by (floors_of marks.now)) (waits_of live.waits)) }
     ensures indexed { IfOk result (λ new. IsIndexed new.waits) }
@@ -138,12 +196,21 @@ fn count_before(live: &Live, floor: u64) -> usize
 
 impl<S: Mine> Cell<S> {
     /// The settled state moves on by the first so many entries, which the seat that comes back has settled. What stood for it is given
-    /// back, and no frame is out.
-    pub fn settled(&mut self, count: usize, seat: S) -> (S, Result<(), AllocError>)
+    /// back with what goes out by now of what they sent, and no frame is out.
+    pub fn settled(
+        &mut self,
+        alloc: Global,
+        count: usize,
+        mode: Mode,
+        seat: S,
+    ) -> (S, Result<Vec<Packet>, AllocError>)
         requires few { count ≤ length self.old.entries }
         requires number { S.number seat ≡ self.old.number }
         requires mine { (S.slot seat).mine ≡ self.old.slot.mine ++ take count self.old.entries }
         ensures settled { OnOk result.1 (HasSettled count (S.slot seat) self.old self.new) }
+        ensures sends { IfOk result.1 (λ packets. SendsSettled S.flows S.count
+            (S.begin self.old.number) mode self.old self.new packets.items) }
+        ensures going { self.new.going ≡ is_ok result.1 }
         ensures number { S.number result.0 ≡ self.old.number }
         ensures slot { S.slot result.0 ≡ self.old.slot }
     {
@@ -153,10 +220,10 @@ impl<S: Mine> Cell<S> {
         let Some(live) = live else {
             return (stub, Err(AllocError));
         };
-        match settle(live, count) {
-            Ok(next) => {
+        match settle_and_send(alloc, live, count, mode) {
+            Ok((next, packets)) => {
                 put(&mut self.live, next);
-                (stub, Ok(()))
+                (stub, Ok(packets))
             }
             Err(error) => (stub, Err(error)),
         }
@@ -167,6 +234,7 @@ impl<S: Mine> Cell<S> {
     pub fn rewind(&mut self, alloc: Global, marks: &Marks) -> Result<CellRewind, AllocError>
         ensures rewinds { IfOk result (λ rewound. CellRewinds S.flows S.count
             (S.begin self.old.number) marks.now self.old rewound self.new) }
+        ensures going { self.new.going ≡ is_ok result }
     {
         let Some(live) = self.live.take() else {
             return Err(AllocError);
@@ -192,6 +260,7 @@ impl<S: Mine> Cell<S> {
     /// Gives up all entries from a position on, those in a frame that is out too.
     pub fn reset(&mut self, alloc: Global, floor: u64) -> Result<CellReset, AllocError>
         ensures resets { IfOk result (λ reset. CellResets floor self.old reset self.new) }
+        ensures going { self.new.going ≡ is_ok result }
     {
         let Some(live) = self.live.take() else {
             return Err(AllocError);

@@ -1,6 +1,6 @@
 //! A frame of the first entries.
 
-ghost use Rattle.std.specs.Prelude.{◌≡◌, ◌<◌, ◌≤◌, true, false, take, length, MatchOption, option_map, slice_index_or, IfOk};
+ghost use Rattle.std.specs.Prelude.{◌≡◌, ◌<◌, ◌≤◌, true, false, take, length, MatchOption, option_map, slice_index_or, IfOk, OnErr};
 ghost use Rattle.std.specs.List.{All};
 ghost use Rattle.dura_value.specs.Dependencies.{named_by, Ready};
 ghost use Rattle.dura_value.specs.Items.{Entry as PlainEntry};
@@ -12,7 +12,10 @@ ghost use Rattle.spec_tracker.specs.Marks.{identity_of, floors_of, length_in};
 use crate::cell::Cell;
 use crate::depending::last_made;
 use crate::mine::Mine;
+use crate::moving::state_at;
+use crate::sending::sending_between;
 use crate::step::Step;
+use commit_gate::Sending;
 use entry_verdicts::{are_ready, copy_entry};
 use log_items::{Entry, Frame};
 use spec_tracker::{Dep, Marks, Verdict};
@@ -72,10 +75,15 @@ fn copy_front(alloc: Global, steps: &[Step], count: usize) -> Result<Vec<Entry>,
 
 impl<S: Mine> Cell<S> {
     /// The first entries that depend only on what is ready or among them, as many as there are up to 64, unless a frame is out. They are
-    /// out from now on.
-    pub fn pick(&mut self, alloc: Global, marks: &Marks) -> Result<Option<Frame>, AllocError>
-        ensures { IfOk result (λ picked. Picks S.flows S.count (S.begin self.old.number) marks.now
+    /// out from now on, and come with what they send to other partitions.
+    pub fn pick(
+        &mut self,
+        alloc: Global,
+        marks: &Marks,
+    ) -> Result<Option<(Frame, Vec<Sending>)>, AllocError>
+        ensures picks { IfOk result (λ picked. Picks S.flows S.count (S.begin self.old.number) marks.now
             self.old picked self.new) }
+        ensures same { OnErr result (self.new ≡ self.old) }
     {
         let Some(live) = &self.live else {
             return Err(AllocError);
@@ -91,7 +99,8 @@ impl<S: Mine> Cell<S> {
             return Ok(None);
         }
         let entries = copy_front(alloc, &live.steps, count)?;
+        let sending = sending_between(alloc, &live.base, state_at(live, count))?;
         self.out = count;
-        Ok(Some(Frame::of(entries)))
+        Ok(Some((Frame::of(entries), sending)))
     }
 }

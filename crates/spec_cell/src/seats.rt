@@ -1,6 +1,6 @@
 //! A cell begins, its seat goes out and comes back, and moments are handed in.
 
-ghost use Rattle.std.specs.Prelude.{◌≡◌, ◌≤◌, ◌^◌, max, Ok, true, IfSome};
+ghost use Rattle.std.specs.Prelude.{◌≡◌, ◌≤◌, ◌^◌, max, Ok, true, is_some, IfSome};
 ghost use Rattle.dura_model.specs.Entries.{placed};
 ghost use Rattle.part_steps.specs.States.{IsSound, state_of, count_of};
 ghost use Rattle.spec_cell.specs.Views.{IsNew, IsBase, HasFacts};
@@ -8,6 +8,7 @@ ghost use Rattle.spec_cell.specs.Views.{IsNew, IsBase, HasFacts};
 use crate::cell::Cell;
 use crate::live::Live;
 use crate::mine::Mine;
+use cell_tasks::GivenOut;
 use cell_waits::Waits;
 use part_steps::PartState;
 use std::alloc::Global;
@@ -31,6 +32,7 @@ impl<S: Mine> Cell<S> {
             steps: Vec::new(alloc),
             incarnation,
             waits: Waits::new(alloc),
+            given: GivenOut::new(alloc),
         };
         Cell {
             live: Some(live),
@@ -44,7 +46,8 @@ impl<S: Mine> Cell<S> {
 
     /// Whether it has a state: memory didn't run out.
     pub fn is_going(&self) -> bool
-        ensures { result ≡ true
+        ensures going { result ≡ self.entry.now.going }
+        ensures facts { result ≡ true
             → HasFacts S.flows S.count (S.begin self.entry.now.number) self.entry.now }
     {
         self.live.is_some()
@@ -83,6 +86,7 @@ impl<S: Mine> Cell<S> {
 
     /// The settled state, unless memory ran out.
     pub fn base(&self) -> Option<&PartState>
+        ensures going { is_some result ≡ self.entry.now.going }
         ensures base { IfSome result (λ s. IsBase S.flows S.count
             (S.begin self.entry.now.number) self.entry.now (state_of s.now)) }
         ensures sound { IfSome result (λ s. IsSound s.now) }

@@ -1,6 +1,6 @@
 //! One entry more.
 
-ghost use Rattle.std.specs.Prelude.{◌≡◌, ◌<◌, ◌≤◌, ◌^◌, [], true, IfOk, OnOk, length};
+ghost use Rattle.std.specs.Prelude.{◌≡◌, ◌⊎◌, ◌<◌, ◌≤◌, ◌^◌, [], true, IfOk, OnOk, IfSome, IfNone, length};
 ghost use Rattle.std.specs.List.{All};
 ghost use Rattle.cell_waits.specs.Waits.{MayWait, waits_of};
 ghost use Rattle.cell_waits.specs.Indices.{IsIndexed};
@@ -10,12 +10,14 @@ ghost use Rattle.spec_cell.specs.Ahead.{MayTurn, Turns};
 ghost use Rattle.spec_cell.specs.Fills.{IsUnderWay, LooksOn};
 ghost use Rattle.spec_cell.specs.Turns.{waits_first};
 
+use crate::cell::Mode;
 use crate::filling::{Filling, all_fit, fill, fire_due};
 use crate::live::Live;
+use crate::sending::packets_at_once;
 use crate::step::Step;
 use crate::waiting::put_waits;
 use cell_waits::Waits;
-use log_items::{Entry, Items};
+use log_items::{Entry, Items, Packet};
 use part_rows::Reactions;
 use std::alloc::{AllocError, Global};
 
@@ -24,8 +26,8 @@ pub(crate) const NUMBER_LIMIT: u64 = 1 << 62;
 
 /// What came of a turn.
 pub(crate) enum Turned {
-    /// One entry more was made.
-    Made(Live),
+    /// One entry more was made, and these go out at once.
+    Made(Live, Vec<Packet>),
     /// Nothing is possible.
     Idle(Live),
     /// This number is used up.
@@ -66,6 +68,21 @@ impl Shares {
             own: half,
         }
     }
+}
+
+/// The one of an entry's position and its incarnation that is past those that there are, if one is.
+fn used_up(position: u64, incarnation: u64) -> Option<u64>
+    ensures one { IfSome result (λ number. (number ≡ position) ⊎ (number ≡ incarnation)) }
+    ensures past { IfSome result (λ number. 2 ^ 62 ≤ number) }
+    ensures none { IfNone result (position < 2 ^ 62) }
+{
+    if position >= NUMBER_LIMIT {
+        return Some(position);
+    }
+    if incarnation >= NUMBER_LIMIT {
+        return Some(incarnation);
+    }
+    None
 }
 
 /// Fills an entry that has begun: with what waits and with deliveries and timers, each side up to its share, and then with what is left of
@@ -112,6 +129,7 @@ pub(crate) fn turn<R: Reactions>(
     alloc: Global,
     reactions: &R,
     live: Live,
+    mode: Mode,
     now: u64,
     limit: u32,
     round: u8,
@@ -119,7 +137,7 @@ pub(crate) fn turn<R: Reactions>(
     requires may { MayTurn live }
     requires some { 0 < limit }
     requires most { limit ≤ 64 }
-    ensures { IfOk result (λ turned. Turns (R.flows reactions.now) now limit round live turned) }
+    ensures { IfOk result (λ turned. Turns (R.flows reactions.now) mode now limit round live turned) }
 {
     let mut live = live;
     let position = live.ahead().position();
@@ -133,19 +151,21 @@ pub(crate) fn turn<R: Reactions>(
         filled.let_go();
         return Ok(Turned::Idle(live));
     }
-    if position >= NUMBER_LIMIT {
+    if let Some(number) = used_up(position, live.incarnation) {
         filled.let_go();
-        return Ok(Turned::Spent(live, position));
-    }
-    if live.incarnation >= NUMBER_LIMIT {
-        filled.let_go();
-        let incarnation = live.incarnation;
-        return Ok(Turned::Spent(live, incarnation));
+        return Ok(Turned::Spent(live, number));
     }
     if !all_fit(&filled.items) {
         filled.let_go();
         return Err(AllocError);
     }
+    let packets = match packets_at_once(alloc, mode, live.ahead(), &filled.state) {
+        Ok(packets) => packets,
+        Err(error) => {
+            filled.let_go();
+            return Err(error);
+        }
+    };
     let Filling { state, items } = filled;
     live.steps.push(Step {
         entry: Entry {
@@ -155,5 +175,5 @@ pub(crate) fn turn<R: Reactions>(
         },
         after: state,
     })?;
-    Ok(Turned::Made(live))
+    Ok(Turned::Made(live, packets))
 }

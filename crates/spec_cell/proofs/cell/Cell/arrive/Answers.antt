@@ -12,8 +12,8 @@ use Rattle.log_items.specs.declared.items.Item.TheVariants.{Got}
 use Rattle.spec_cell.specs.Comes.{next_from}
 use Rattle.spec_cell.proofs.cell.Cell.arrive.Goals as goal
 
-pub returns-then-packet-next : goal.returns-then-packet-next
-returns-then-packet-next g c =
+pub returns-then-packet-next-clause-arrives : goal.returns-then-packet-next-clause-arrives
+returns-then-packet-next-clause-arrives g c =
     let flows = g.S.Mine.flows in
     let count = g.S.Mine.count in
     let inside = c.self.inside in
@@ -29,8 +29,8 @@ returns-then-packet-next g c =
     ∙ ap (λ (l : List Waiting). next_from (state_of (ahead_of live)) l c.args.packet.src) (waits_are flows count g.S.Mine.begin number slot inside.now inside.out inside.owner inside.round live stands c.args.self.now view_is) in
     (state_of (ahead_of live), ahead_of_self flows count g.S.Mine.begin number slot inside.now inside.out inside.owner inside.round live stands c.args.self.now view_is, (next, c.if-packet-next.true, same_view flows count g.S.Mine.begin number slot inside.now inside.out inside.owner inside.round live stands c.args.self.now view_is c.put.new.place c.put.ensures))
 
-pub returns-then-next-packet : goal.returns-then-next-packet
-returns-then-next-packet g c =
+pub returns-then-next-packet-clause-arrives : goal.returns-then-next-packet-clause-arrives
+returns-then-next-packet-clause-arrives g c =
     let flows = g.S.Mine.flows in
     let count = g.S.Mine.count in
     let inside = c.self.inside in
@@ -59,10 +59,10 @@ invariant_of-self-2 g c =
     let view_is : view number slot (Some live) inside.now inside.out inside.owner inside.round ≡ c.args.self.now =
     ap (λ (o : Option Live). view number slot o inside.now inside.out inside.owner inside.round) (sym live_is) ∙ c.self.view_is in
     let w : Wait = waiting.Outside (Got c.args.packet.src c.args.packet.inc c.args.packet.pos c.args.packet.seq c.args.packet.message) in
-    queued_stands flows count g.S.Mine.begin number slot inside.now inside.out inside.owner inside.round live stands c.args.self.now view_is c.in_ok-next.next c.put-2.new.place (wait_of w) c.put-2.ensures c.in_ok-next.ensures.base c.in_ok-next.ensures.steps c.in_ok-next.ensures.incarnation c.in_ok-next.ensures.waits c.in_ok-next.ensures.indexed tt
+    queued_stands flows count g.S.Mine.begin number slot inside.now inside.out inside.owner inside.round live stands c.args.self.now view_is c.in_ok-next.next c.put-2.new.place (wait_of w) c.put-2.ensures c.in_ok-next.ensures.base c.in_ok-next.ensures.steps c.in_ok-next.ensures.incarnation c.in_ok-next.ensures.given c.in_ok-next.ensures.waits c.in_ok-next.ensures.indexed tt
 
-pub returns : goal.returns
-returns g c =
+pub returns-clause-arrives : goal.returns-clause-arrives
+returns-clause-arrives g c =
     let flows = g.S.Mine.flows in
     let count = g.S.Mine.count in
     let inside = c.self.inside in
@@ -82,5 +82,5 @@ returns g c =
     let same : c.args.packet.seq ≡ c.in-Some-checked_add.next = omega (arith, not_below, not_above) in (
       state_of (ahead_of live),
       ahead_of_self flows count g.S.Mine.begin number slot inside.now inside.out inside.owner inside.round live stands c.args.self.now view_is,
-      (same ∙ next, queued_view flows count g.S.Mine.begin number slot inside.now inside.out inside.owner inside.round live stands c.args.self.now view_is c.in_ok-next.next c.put-2.new.place (wait_of w) c.put-2.ensures c.in_ok-next.ensures.steps c.in_ok-next.ensures.incarnation c.in_ok-next.ensures.waits),
+      (same ∙ next, queued_view flows count g.S.Mine.begin number slot inside.now inside.out inside.owner inside.round live stands c.args.self.now view_is c.in_ok-next.next c.put-2.new.place (wait_of w) c.put-2.ensures c.in_ok-next.ensures.steps c.in_ok-next.ensures.incarnation c.in_ok-next.ensures.given c.in_ok-next.ensures.waits),
     )

@@ -3,8 +3,8 @@ use Rattle.spec_cell.specs.Views.{CellView, HasFacts}
 use Rattle.spec_cell.proofs.CellFacts.{facts_in}
 use Rattle.spec_cell.proofs.cell.Cell.is_going.Goals as goal
 
-pub returns : goal.returns
-returns g c = λ going.
+pub returns-clause-facts : goal.returns-clause-facts
+returns-clause-facts g c = λ going.
     let inside = c.self.inside in
     let number = g.S.Mine.number inside.seat in
     let slot = g.S.Mine.slot inside.seat in

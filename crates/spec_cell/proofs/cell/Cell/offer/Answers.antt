@@ -13,8 +13,8 @@ use Rattle.spec_cell.specs.declared.coming.Offered.{Offered}
 use Rattle.spec_cell.proofs.Offering.{known_offer}
 use Rattle.spec_cell.proofs.cell.Cell.offer.Goals as goal
 
-pub returns-in-Some-known : goal.returns-in-Some-known
-returns-in-Some-known g c =
+pub returns-in-Some-known-clause-offers : goal.returns-in-Some-known-clause-offers
+returns-in-Some-known-clause-offers g c =
     let flows = g.S.Mine.flows in
     let count = g.S.Mine.count in
     let inside = c.self.inside in
@@ -46,10 +46,10 @@ invariant_of-self-2 g c =
     let stands : Stands flows count (g.S.Mine.begin number) slot.mine inside.now inside.out live = subst (λ (o : Option Live). StandsIn flows count (g.S.Mine.begin number) slot.mine inside.now inside.out o) live_is c.self.invariant in
     let view_is : view number slot (Some live) inside.now inside.out inside.owner inside.round ≡ c.args.self.now =
     ap (λ (o : Option Live). view number slot o inside.now inside.out inside.owner inside.round) (sym live_is) ∙ c.self.view_is in
-    queued_stands flows count g.S.Mine.begin number slot inside.now inside.out inside.owner inside.round live stands c.args.self.now view_is c.in_ok-next.next c.put-2.new.place (wait_of (waiting.Outside (Took c.args.message))) c.put-2.ensures c.in_ok-next.ensures.base c.in_ok-next.ensures.steps c.in_ok-next.ensures.incarnation c.in_ok-next.ensures.waits c.in_ok-next.ensures.indexed tt
+    queued_stands flows count g.S.Mine.begin number slot inside.now inside.out inside.owner inside.round live stands c.args.self.now view_is c.in_ok-next.next c.put-2.new.place (wait_of (waiting.Outside (Took c.args.message))) c.put-2.ensures c.in_ok-next.ensures.base c.in_ok-next.ensures.steps c.in_ok-next.ensures.incarnation c.in_ok-next.ensures.given c.in_ok-next.ensures.waits c.in_ok-next.ensures.indexed tt
 
-pub returns : goal.returns
-returns g c =
+pub returns-clause-offers : goal.returns-clause-offers
+returns-clause-offers g c =
     let flows = g.S.Mine.flows in
     let count = g.S.Mine.count in
     let inside = c.self.inside in
@@ -66,5 +66,5 @@ returns g c =
       base_of_self flows count g.S.Mine.begin number slot inside.now inside.out inside.owner inside.round live stands c.args.self.now view_is,
       state_of (ahead_of live),
       ahead_of_self flows count g.S.Mine.begin number slot inside.now inside.out inside.owner inside.round live stands c.args.self.now view_is,
-      (here, queued_view flows count g.S.Mine.begin number slot inside.now inside.out inside.owner inside.round live stands c.args.self.now view_is c.in_ok-next.next c.put-2.new.place (wait_of (waiting.Outside (Took c.args.message))) c.put-2.ensures c.in_ok-next.ensures.steps c.in_ok-next.ensures.incarnation c.in_ok-next.ensures.waits),
+      (here, queued_view flows count g.S.Mine.begin number slot inside.now inside.out inside.owner inside.round live stands c.args.self.now view_is c.in_ok-next.next c.put-2.new.place (wait_of (waiting.Outside (Took c.args.message))) c.put-2.ensures c.in_ok-next.ensures.steps c.in_ok-next.ensures.incarnation c.in_ok-next.ensures.given c.in_ok-next.ensures.waits),
     )

@@ -14,8 +14,8 @@ use Rattle.cell_waits.specs.Waits.{is_outcome_of}
 use Rattle.spec_cell.specs.Fills.{IsFor}
 use Rattle.spec_cell.proofs.cell.Cell.outcome.Goals as goal
 
-pub returns-then-not-is_pending : goal.returns-then-not-is_pending
-returns-then-not-is_pending g c =
+pub returns-then-not-is_pending-clause-records : goal.returns-then-not-is_pending-clause-records
+returns-then-not-is_pending-clause-records g c =
     let flows = g.S.Mine.flows in
     let count = g.S.Mine.count in
     let inside = c.self.inside in
@@ -32,8 +32,8 @@ returns-then-not-is_pending g c =
       (λ awaited. gone (subst (λ (s : PartState). IsFor (state_of s) (wait_of (waiting.Ended c.args.ended))) (sym c.ahead.ensures) awaited.0), same_view flows count g.S.Mine.begin number slot inside.now inside.out inside.owner inside.round live stands c.args.self.now view_is c.put.new.place c.put.ensures),
     )
 
-pub returns-then-has_outcome : goal.returns-then-has_outcome
-returns-then-has_outcome g c =
+pub returns-then-has_outcome-clause-records : goal.returns-then-has_outcome-clause-records
+returns-then-has_outcome-clause-records g c =
     let flows = g.S.Mine.flows in
     let count = g.S.Mine.count in
     let inside = c.self.inside in
@@ -63,10 +63,10 @@ invariant_of-self-2 g c =
     let stands : Stands flows count (g.S.Mine.begin number) slot.mine inside.now inside.out live = subst (λ (o : Option Live). StandsIn flows count (g.S.Mine.begin number) slot.mine inside.now inside.out o) live_is c.self.invariant in
     let view_is : view number slot (Some live) inside.now inside.out inside.owner inside.round ≡ c.args.self.now =
     ap (λ (o : Option Live). view number slot o inside.now inside.out inside.owner inside.round) (sym live_is) ∙ c.self.view_is in
-    queued_stands flows count g.S.Mine.begin number slot inside.now inside.out inside.owner inside.round live stands c.args.self.now view_is c.in_ok-next.next c.put-2.new.place (wait_of (waiting.Ended c.args.ended)) c.put-2.ensures c.in_ok-next.ensures.base c.in_ok-next.ensures.steps c.in_ok-next.ensures.incarnation c.in_ok-next.ensures.waits c.in_ok-next.ensures.indexed c.requires
+    queued_stands flows count g.S.Mine.begin number slot inside.now inside.out inside.owner inside.round live stands c.args.self.now view_is c.in_ok-next.next c.put-2.new.place (wait_of (waiting.Ended c.args.ended)) c.put-2.ensures c.in_ok-next.ensures.base c.in_ok-next.ensures.steps c.in_ok-next.ensures.incarnation c.in_ok-next.ensures.given c.in_ok-next.ensures.waits c.in_ok-next.ensures.indexed c.requires
 
-pub returns : goal.returns
-returns g c =
+pub returns-clause-records : goal.returns-clause-records
+returns-clause-records g c =
     let flows = g.S.Mine.flows in
     let count = g.S.Mine.count in
     let inside = c.self.inside in
@@ -84,6 +84,6 @@ returns g c =
       ahead_of_self flows count g.S.Mine.begin number slot inside.now inside.out inside.owner inside.round live stands c.args.self.now view_is,
       (
         (subst (λ (s : PartState). IsFor (state_of s) (wait_of (waiting.Ended c.args.ended))) c.ahead.ensures pending, none),
-        queued_view flows count g.S.Mine.begin number slot inside.now inside.out inside.owner inside.round live stands c.args.self.now view_is c.in_ok-next.next c.put-2.new.place (wait_of (waiting.Ended c.args.ended)) c.put-2.ensures c.in_ok-next.ensures.steps c.in_ok-next.ensures.incarnation c.in_ok-next.ensures.waits,
+        queued_view flows count g.S.Mine.begin number slot inside.now inside.out inside.owner inside.round live stands c.args.self.now view_is c.in_ok-next.next c.put-2.new.place (wait_of (waiting.Ended c.args.ended)) c.put-2.ensures c.in_ok-next.ensures.steps c.in_ok-next.ensures.incarnation c.in_ok-next.ensures.given c.in_ok-next.ensures.waits,
       ),
     )

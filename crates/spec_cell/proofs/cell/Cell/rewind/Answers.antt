@@ -2,6 +2,7 @@ use Rattle.std.proofs.Common.{◌≡◌, ◌∙◌, ℕ, List, Option, Some, opt
 use Rattle.std.specs.Prelude.{drop}
 use Rattle.std.specs.List.{All, HoldsAt}
 use Rattle.std.proofs.lemmas.List.{length-map}
+use Rattle.cell_waits.specs.Waits.{Waiting, lost_by, without_lost}
 use Rattle.dura_value.specs.Items.{Identity, Entry}
 use Rattle.log_items.specs.Plain.{entry_of}
 use Rattle.part_steps.specs.States.{state_of}
@@ -9,15 +10,15 @@ use Rattle.spec_tracker.specs.Marks.{identity_of, floors_of}
 use Rattle.spec_cell.specs.Depends.{last_made, dependencies, AreKept, IsFirstLost}
 use Rattle.spec_cell.specs.Moves.{given_up, dependencies_in}
 use Rattle.spec_cell.specs.Steps.{entries_in}
-use Rattle.spec_cell.specs.Views.{Stands, StandsIn}
+use Rattle.spec_cell.specs.Views.{Stands, StandsIn, given_of_live}
 use Rattle.spec_cell.specs.declared.live.Live.{Live}
 use Rattle.spec_cell.specs.declared.step.Step.{Step}
-use Rattle.spec_cell.proofs.CellFacts.{view, base_of_self, same_view, given_up_stands, given_up_view, cut_view, entries_are, out_is, incarnation_is}
+use Rattle.spec_cell.proofs.CellFacts.{view, base_of_self, same_view, given_up_stands, given_up_view, waits_are, waits_view, none_given, entries_are, out_is, incarnation_is}
 use Rattle.spec_cell.proofs.Losing.{floor_at}
 use Rattle.spec_cell.proofs.cell.Cell.rewind.Goals as goal
 
-pub returns-in_default-lost : goal.returns-in_default-lost
-returns-in_default-lost g c =
+pub returns-in_default-lost-clause-rewinds : goal.returns-in_default-lost-clause-rewinds
+returns-in_default-lost-clause-rewinds g c =
     let flows = g.S.Mine.flows in
     let count = g.S.Mine.count in
     let inside = c.self.inside in
@@ -38,16 +39,16 @@ returns-in_default-lost g c =
     ∙ ap (λ (l : List Entry). dependencies base.number (last_made base) l) (entries_are flows count g.S.Mine.begin number slot inside.now inside.out inside.owner inside.round live stands c.args.self.now view_is) in
     let none = subst (λ (ds : List (List Identity)). All (AreKept marks) (drop inside.out ds)) deps_are c.in_default-lost.ensures.none in
     record {
-      rewinds = record {
-        base = base;
-        is_base = base_of_self flows count g.S.Mine.begin number slot inside.now inside.out inside.owner inside.round live stands c.args.self.now view_is;
-        kept = subst (λ (n : ℕ). All (AreKept marks) (drop n (dependencies_in c.args.self.now base))) (out_is flows count g.S.Mine.begin number slot inside.now inside.out inside.owner inside.round live stands c.args.self.now view_is) none;
-        becomes = cut_view flows count g.S.Mine.begin number slot inside.now inside.out inside.owner inside.round live stands c.args.self.now view_is c.in_ok-next.next c.put.new.place (floors_of marks) c.put.ensures c.in_ok-next.ensures.steps c.in_ok-next.ensures.incarnation c.in_ok-next.ensures.waits;
-      };
+      base = base;
+      is_base = base_of_self flows count g.S.Mine.begin number slot inside.now inside.out inside.owner inside.round live stands c.args.self.now view_is;
+      kept = subst (λ (n : ℕ). All (AreKept marks) (drop n (dependencies_in c.args.self.now base))) (out_is flows count g.S.Mine.begin number slot inside.now inside.out inside.owner inside.round live stands c.args.self.now view_is) none;
+      becomes =
+          waits_view flows count g.S.Mine.begin number slot inside.now inside.out inside.owner inside.round live stands c.args.self.now view_is c.in_ok-next.next c.put.new.place (without_lost (lost_by (floors_of marks)) c.args.self.now.waits) c.put.ensures c.in_ok-next.ensures.steps c.in_ok-next.ensures.incarnation c.in_ok-next.ensures.given
+          (c.in_ok-next.ensures.waits ∙ ap (λ (l : List Waiting). without_lost (lost_by (floors_of marks)) l) (waits_are flows count g.S.Mine.begin number slot inside.now inside.out inside.owner inside.round live stands c.args.self.now view_is));
     }
 
-pub returns-then-incarnation-ge-NUMBER_LIMIT : goal.returns-then-incarnation-ge-NUMBER_LIMIT
-returns-then-incarnation-ge-NUMBER_LIMIT g c =
+pub returns-then-incarnation-ge-NUMBER_LIMIT-clause-rewinds : goal.returns-then-incarnation-ge-NUMBER_LIMIT-clause-rewinds
+returns-then-incarnation-ge-NUMBER_LIMIT-clause-rewinds g c =
     let flows = g.S.Mine.flows in
     let count = g.S.Mine.count in
     let inside = c.self.inside in
@@ -61,7 +62,7 @@ returns-then-incarnation-ge-NUMBER_LIMIT g c =
     let low = stands.low in
     let sum = c.saturating_add-incarnation.ensures in
     let own = incarnation_is flows count g.S.Mine.begin number slot inside.now inside.out inside.owner inside.round live stands c.args.self.now view_is in
-    record { rewinds = (same_view flows count g.S.Mine.begin number slot inside.now inside.out inside.owner inside.round live stands c.args.self.now view_is c.put-then-incarnation-ge-NUMBER_LIMIT.new.place c.put-then-incarnation-ge-NUMBER_LIMIT.ensures, omega (arith, sum, low, own), omega (arith, c.if-incarnation-ge-NUMBER_LIMIT.true)) }
+    (same_view flows count g.S.Mine.begin number slot inside.now inside.out inside.owner inside.round live stands c.args.self.now view_is c.put-then-incarnation-ge-NUMBER_LIMIT.new.place c.put-then-incarnation-ge-NUMBER_LIMIT.ensures, omega (arith, sum, low, own), omega (arith, c.if-incarnation-ge-NUMBER_LIMIT.true))
 
 pub invariant_of-self-2 : goal.invariant_of-self-2
 invariant_of-self-2 g c =
@@ -81,10 +82,10 @@ invariant_of-self-2 g c =
     let within = c.in-Some-lost.ensures.inside in
     let long = ap (λ (l : List Step). length l) c.deref.ensures.value in
     let up = c.in_ok-next-2.ensures.incarnation in
-    given_up_stands flows count g.S.Mine.begin number slot inside.now inside.out inside.owner inside.round live stands c.args.self.now view_is c.in_ok-next-2.next c.put-2.new.place c.in-Some-lost.kept inside.out c.put-2.ensures (omega (arith, within, long)) c.in-Some-lost.ensures.some.behind c.in_ok-next-2.ensures.base c.in_ok-next-2.ensures.steps up (omega (arith, up, sum, low, below)) c.in_ok-next-2.ensures.indexed (c.in_ok-next-2.ensures.may stands.waits)
+    given_up_stands flows count g.S.Mine.begin number slot inside.now inside.out inside.owner inside.round live stands c.args.self.now view_is c.in_ok-next-2.next c.put-2.new.place c.in-Some-lost.kept inside.out c.put-2.ensures (omega (arith, within, long)) c.in-Some-lost.ensures.some.behind c.in_ok-next-2.ensures.base c.in_ok-next-2.ensures.steps up (omega (arith, up, sum, low, below)) c.in_ok-next-2.ensures.indexed (c.in_ok-next-2.ensures.may stands.waits) c.in_ok-next-2.ensures.anew
 
-pub returns : goal.returns
-returns g c =
+pub returns-clause-rewinds : goal.returns-clause-rewinds
+returns-clause-rewinds g c =
     let flows = g.S.Mine.flows in
     let count = g.S.Mine.count in
     let inside = c.self.inside in
@@ -113,13 +114,12 @@ returns g c =
     let outs = out_is flows count g.S.Mine.begin number slot inside.now inside.out inside.owner inside.round live stands c.args.self.now view_is in
     let becomes = given_up_view flows count g.S.Mine.begin number slot inside.now inside.out inside.owner inside.round live stands c.args.self.now view_is c.in_ok-next-2.next c.put-2.new.place kept inside.out c.put-2.ensures c.in_ok-next-2.ensures.steps c.in_ok-next-2.ensures.incarnation c.in_ok-next-2.ensures.waits in
     record {
-      rewinds = record {
-        kept = kept;
-        base = base;
-        is_base = base_of_self flows count g.S.Mine.begin number slot inside.now inside.out inside.owner inside.round live stands c.args.self.now view_is;
-        first = subst (λ (n : ℕ). IsFirstLost marks (dependencies_in c.args.self.now base) n kept (identity_of c.in-Some-lost.dep)) outs first;
-        inside = omega (arith, within, long, longer, many);
-        floor_is = subst (λ (l : List Entry). HoldsAt (λ (e : Entry). e.position ≡ c.index.result.now.entry.position) l kept) entries (floor_at live.steps.items kept c.index.result.now (omega (arith, within, long)) c.index.ensures);
-        becomes = becomes ∙ ap (λ (n : ℕ). given_up kept n c.args.self.now) outs;
-      };
+      kept = kept;
+      base = base;
+      is_base = base_of_self flows count g.S.Mine.begin number slot inside.now inside.out inside.owner inside.round live stands c.args.self.now view_is;
+      first = subst (λ (n : ℕ). IsFirstLost marks (dependencies_in c.args.self.now base) n kept (identity_of c.in-Some-lost.dep)) outs first;
+      inside = omega (arith, within, long, longer, many);
+      floor_is = subst (λ (l : List Entry). HoldsAt (λ (e : Entry). e.position ≡ c.index.result.now.entry.position) l kept) entries (floor_at live.steps.items kept c.index.result.now (omega (arith, within, long)) c.index.ensures);
+      becomes = becomes ∙ ap (λ (n : ℕ). given_up kept n (given_of_live c.put-2.new.place) c.args.self.now) outs;
+      none_given = none_given flows count g.S.Mine.begin number slot inside.now inside.out inside.owner inside.round live stands c.args.self.now view_is c.in_ok-next-2.next c.put-2.new.place c.put-2.ensures c.in_ok-next-2.ensures.given;
     }
