@@ -21,16 +21,28 @@ use std::str::FromStr;
 /// A cell of a test.
 pub(crate) type TestCell<N> = Cell<TestSeat<N>>;
 
-fn id_of(rt: &impl Abort, alloc: Global, text: &str) -> Id {
+/// The id that is written so.
+pub(crate) fn id_of(rt: &impl Abort, alloc: Global, text: &str) -> Id {
     Id::read(alloc, text.as_bytes()).expect(rt, "an id")
 }
 
-fn number_of(rt: &impl Abort, text: &str) -> u64 {
+/// The number that is written so.
+pub(crate) fn number_of(rt: &impl Abort, text: &str) -> u64 {
     text.parse().expect(rt, "a number")
 }
 
-fn small_of(rt: &impl Abort, text: &str) -> u32 {
+/// The same of a partition, a request or a task.
+pub(crate) fn small_of(rt: &impl Abort, text: &str) -> u32 {
     text.parse().expect(rt, "a number")
+}
+
+/// The mode of this name.
+pub(crate) fn mode_of(text: &str) -> Mode {
+    match text {
+        "none" => Mode::None,
+        "local" => Mode::Local,
+        _ => Mode::Global,
+    }
 }
 
 /// The packet with this number of the stream from a partition. An answer that nobody waits for goes to a client of partition 0, which has
@@ -51,9 +63,13 @@ pub(crate) fn packet_of(rt: &impl Abort, alloc: Global, source: u32, number: u64
     }
 }
 
-fn arrive<N: Named>(rt: &impl Abort, alloc: Global, cell: &mut TestCell<N>, words: &str) -> String {
-    let (source, number) = words.split_once(' ').expect(rt, "a number");
-    let packet = packet_of(rt, alloc, small_of(rt, source), number_of(rt, number));
+/// A packet comes.
+pub(crate) fn arrive<N: Named>(
+    rt: &impl Abort,
+    alloc: Global,
+    cell: &mut TestCell<N>,
+    packet: Packet,
+) -> String {
     match cell.arrive(alloc, packet).expect(rt, "memory") {
         Arrived::Queued => String::from_str(alloc, "queued"),
         Arrived::Repeat(next) => format!(in alloc; "repeat, next is {next}"),
@@ -62,18 +78,40 @@ fn arrive<N: Named>(rt: &impl Abort, alloc: Global, cell: &mut TestCell<N>, word
     .expect(rt, "memory")
 }
 
-/// A request with this number of client b starts an instance.
-fn offer<N: Named>(
+fn arrive_by<N: Named>(
     rt: &impl Abort,
     alloc: Global,
     cell: &mut TestCell<N>,
     words: &str,
+) -> String {
+    let (source, number) = words.split_once(' ').expect(rt, "a number");
+    let packet = packet_of(rt, alloc, small_of(rt, source), number_of(rt, number));
+    arrive(rt, alloc, cell, packet)
+}
+
+/// What a request with this number asks of an id: an instance is started, and an entity is queried.
+fn asked_of(id: &Id, number: u32) -> Body {
+    match id {
+        Id::Flow(_, _) => Body::Start(Value::Null, Reply::Request(number)),
+        Id::Client(_) | Id::Entity(_, _) => Body::Query(number),
+    }
+}
+
+/// A request of a client comes, with its number and whom it asks.
+pub(crate) fn offer<N: Named>(
+    rt: &impl Abort,
+    alloc: Global,
+    cell: &mut TestCell<N>,
+    client: &str,
+    words: &str,
 ) -> &'static str {
-    let (number, instance) = words.split_once(' ').expect(rt, "an instance");
+    let (number, asked) = words.split_once(' ').expect(rt, "an id");
+    let to = id_of(rt, alloc, asked);
+    let body = asked_of(&to, small_of(rt, number));
     let message = Message {
-        from: id_of(rt, alloc, "#b"),
-        to: id_of(rt, alloc, instance),
-        body: Body::Start(Value::Null, Reply::Request(small_of(rt, number))),
+        from: id_of(rt, alloc, client),
+        to,
+        body,
     };
     match cell.offer(alloc, message).expect(rt, "memory") {
         Offered::Queued => "queued",
@@ -86,20 +124,50 @@ fn offer<N: Named>(
     }
 }
 
-/// What the activity of the flow comes to.
-fn ended_of(rt: &impl Abort, alloc: Global, id: Id, task: u32) -> Ended
+/// What an activity comes to by this word.
+pub(crate) fn ended_of(
+    rt: &impl Abort,
+    alloc: Global,
+    id: Id,
+    task: u32,
+    activity: Activity,
+    word: u64,
+) -> Ended
     ensures { may result.activity.name result.activity.argument result.outcome ≡ true }
 {
-    let parts = Scalars::pair(alloc, Scalar::Int(2), Scalar::Int(3)).expect(rt, "memory");
-    let argument = Value::List(parts);
-    let name = Name::of(alloc, b"add").expect(rt, "memory");
-    let text = str::from_utf8(name.as_bytes()).expect(rt, "a text");
-    let outcome = Table.run(alloc, text, &argument, 0).expect(rt, "memory");
+    let name = str::from_utf8(activity.name.as_bytes()).expect(rt, "a text");
+    let outcome = Table
+        .run(alloc, name, &activity.argument, word)
+        .expect(rt, "memory");
     Ended {
         id,
         task,
-        activity: Activity { name, argument },
+        activity,
         outcome,
+    }
+}
+
+/// The activity of the flow `Sum`.
+fn sum_of(rt: &impl Abort, alloc: Global) -> Activity {
+    let parts = Scalars::pair(alloc, Scalar::Int(2), Scalar::Int(3)).expect(rt, "memory");
+    Activity {
+        name: Name::of(alloc, b"add").expect(rt, "memory"),
+        argument: Value::List(parts),
+    }
+}
+
+/// An outcome comes.
+pub(crate) fn record<N: Named>(
+    rt: &impl Abort,
+    alloc: Global,
+    cell: &mut TestCell<N>,
+    ended: Ended,
+) -> &'static str
+    requires { may ended.activity.name ended.activity.argument ended.outcome ≡ true }
+{
+    match cell.outcome(alloc, ended).expect(rt, "memory") {
+        Recorded::Recorded => "recorded",
+        Recorded::NotPending => "not pending",
     }
 }
 
@@ -110,11 +178,9 @@ fn outcome<N: Named>(
     words: &str,
 ) -> &'static str {
     let (instance, task) = words.split_once(' ').expect(rt, "a task");
-    let ended = ended_of(rt, alloc, id_of(rt, alloc, instance), small_of(rt, task));
-    match cell.outcome(alloc, ended).expect(rt, "memory") {
-        Recorded::Recorded => "recorded",
-        Recorded::NotPending => "not pending",
-    }
+    let id = id_of(rt, alloc, instance);
+    let ended = ended_of(rt, alloc, id, small_of(rt, task), sum_of(rt, alloc), 0);
+    record(rt, alloc, cell, ended)
 }
 
 /// One entry more, of up to 64 items.
@@ -140,13 +206,11 @@ fn turn_by<N: Named>(
 ) -> String
     requires { flows_of flows.now ≡ N.flows }
 {
-    let mode = match mode {
-        "none" => Mode::None,
-        "local" => Mode::Local,
-        _ => Mode::Global,
-    };
-    match turn(rt, alloc, flows, cell, mode) {
-        CellTurn::Turned(position) => format!(in alloc; "entry {position}"),
+    match turn(rt, alloc, flows, cell, mode_of(mode)) {
+        CellTurn::Turned(position, packets) => {
+            drop(packets);
+            format!(in alloc; "entry {position}")
+        }
         CellTurn::Held => String::from_str(alloc, "held"),
         CellTurn::Idle => String::from_str(alloc, "idle"),
         CellTurn::Spent(number) => format!(in alloc; "spent {number}"),
@@ -154,23 +218,37 @@ fn turn_by<N: Named>(
     .expect(rt, "memory")
 }
 
-/// What is known where a partition gave up all from a position on, as incarnation 1 of it began.
-fn marks_of(rt: &impl Abort, alloc: Global, partition: u32, from: u64) -> Marks {
-    let floor = Floor {
-        partition,
+/// A partition gave up all from a position on, as incarnation 1 of it began.
+fn floor_of(rt: &impl Abort, words: &str) -> Floor {
+    let (partition, from) = words.split_once(' ').expect(rt, "a position");
+    Floor {
+        partition: small_of(rt, partition),
         incarnation: 1,
-        from,
-    };
+        from: number_of(rt, from),
+    }
+}
+
+/// What is known where partitions gave up all from these positions on.
+fn marks_of(rt: &impl Abort, alloc: Global, words: &str) -> Marks {
+    let mut floors = Vec::new(alloc);
+    for floor in words.split(", ") {
+        floors.push(floor_of(rt, floor)).expect(rt, "memory");
+    }
     Marks {
         lengths: Vec::new(alloc),
-        floors: vec![in alloc; floor].expect(rt, "memory"),
+        floors,
         reads: Vec::new(alloc),
     }
 }
 
-fn rewind<N: Named>(rt: &impl Abort, alloc: Global, cell: &mut TestCell<N>, words: &str) -> String {
-    let (partition, from) = words.split_once(' ').expect(rt, "a position");
-    let marks = marks_of(rt, alloc, small_of(rt, partition), number_of(rt, from));
+/// The entries that depend on what was given up are given up.
+pub(crate) fn rewind<N: Named>(
+    rt: &impl Abort,
+    alloc: Global,
+    cell: &mut TestCell<N>,
+    words: &str,
+) -> String {
+    let marks = marks_of(rt, alloc, words);
     let rewound = cell.rewind(alloc, &marks).expect(rt, "memory");
     drop(marks);
     match rewound {
@@ -184,7 +262,8 @@ fn rewind<N: Named>(rt: &impl Abort, alloc: Global, cell: &mut TestCell<N>, word
     .expect(rt, "memory")
 }
 
-fn reset<N: Named>(
+/// All entries from a position on are given up.
+pub(crate) fn reset<N: Named>(
     rt: &impl Abort,
     alloc: Global,
     cell: &mut TestCell<N>,
@@ -208,10 +287,10 @@ fn told<N: Named>(
 {
     let (kind, words) = call.split_once(' ').expect(rt, "words");
     let answer = match kind {
-        "packet" => return arrive(rt, alloc, cell, words),
+        "packet" => return arrive_by(rt, alloc, cell, words),
         "turn" => return turn_by(rt, alloc, flows, cell, words),
         "rewind" => return rewind(rt, alloc, cell, words),
-        "offer" => offer(rt, alloc, cell, words),
+        "offer" => offer(rt, alloc, cell, "#b", words),
         "outcome" => outcome(rt, alloc, cell, words),
         "reset" => reset(rt, alloc, cell, words),
         _ => panic!(rt; "no such call"),

@@ -26,7 +26,7 @@ fn play_named<N: Named, A: Abort>(rt: &A, alloc: Global, flows: &Flows, script: 
     requires flows { flows_of flows.now ≡ N.flows }
     requires count { 2 ≡ N.count }
 {
-    let mut cell = new_cell::<N>(alloc, 2);
+    let mut cell = new_cell::<N>(alloc, 2, 0);
     for line in script.lines.lines() {
         check_line(rt, alloc, flows, &mut cell, line);
     }

@@ -85,7 +85,11 @@ fn turn_all<N: Named>(rt: &impl Abort, alloc: Global, flows: &Flows, cell: &mut 
 {
     for made in 0..u64::from(ALL) {
         match turn(rt, alloc, flows, cell, Mode::Local) {
-            CellTurn::Turned(position) => assert!(rt; position == made),
+            CellTurn::Turned(position, packets) => {
+                assert!(rt; packets.is_empty());
+                drop(packets);
+                assert!(rt; position == made);
+            }
             CellTurn::Idle => return made,
             CellTurn::Held | CellTurn::Spent(_) => panic!(rt; "no such turn"),
         }
@@ -111,7 +115,7 @@ fn streams_named<N: Named, A: Abort>(rt: &A, alloc: Global, flows: &Flows)
     requires flows { flows_of flows.now ≡ N.flows }
     requires count { 32 ≡ N.count }
 {
-    let mut cell = new_cell::<N>(alloc, 32);
+    let mut cell = new_cell::<N>(alloc, 32, 0);
     let mut nexts = [0; 32];
     arrive_all(rt, alloc, &mut cell, &mut nexts);
     repeat_first(rt, alloc, &mut cell, &mut nexts);
