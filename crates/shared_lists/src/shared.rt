@@ -30,6 +30,13 @@ impl<T> Shared<T> {
         Ok(Shared { arc })
     }
 
+    /// What holds this, which is shared already.
+    pub(crate) fn of(arc: Arc<T>) -> Shared<T>
+        ensures { result ≡ arc_value arc }
+    {
+        Shared { arc }
+    }
+
     /// The same, shared.
     pub fn copy(&self) -> Result<Shared<T>, AllocError>
         ensures { IfOk result (λ copy. copy ≡ self.now) }
