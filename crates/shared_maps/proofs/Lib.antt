@@ -1,11 +1,9 @@
 pub mod Ids
 pub mod Orders
-pub mod Parts
-pub mod Forks
-pub mod Firsts
 pub mod Seen
 pub mod Numbers
 pub mod Tasks
 pub mod Clears
 pub mod Listing
 pub mod Times
+pub mod Passing

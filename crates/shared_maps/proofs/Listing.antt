@@ -1,26 +1,22 @@
 -- The ids that something is kept for, in their order.
-use Rattle.std.proofs.Common.{◌≡◌, ◌∙◌, ◌&&◌, ◌||◌, ◌==◌, ◌∷◌, Bool, true, false, cond, Option, Some, None, is_some, option_map, refl, ap, sym, eqb-true, Ordering, Less, Equal, Greater}
+use Rattle.std.proofs.Common.{◌≡◌, ◌∙◌, ◌<◌, ◌&&◌, ◌||◌, ◌==◌, inl, inr, Bool, true, false, not, cond, Option, Some, None, is_some, option_map, refl, ap, sym, eqb-true, Ordering, Less, Equal, Greater}
 use Rattle.std.proofs.lemmas.Bool.{and_parts}
-use Rattle.std.specs.Option.{option_or}
 use Rattle.std.specs.Ordering.{is_lt, is_le, nat_cmp, ordering_then}
-use Rattle.std.specs.declared.alloc.Global.{Global}
-use Rattle.std.specs.declared.sync.Arc.{Arc}
 use Rattle.dura_value.specs.declared.addresses.Id.{Id as Address}
 use Rattle.dura_value.specs.Ids.{Id, id_eq}
 use Rattle.dura_value.specs.Views.{id_of}
-use Rattle.shared_maps.specs.declared.tree.Fork.{Fork}
-use Rattle.shared_maps.specs.Digests.{hashed_place, task_place, is_task_place, is_id_place, behind_id}
-use Rattle.shared_maps.specs.Entries.{Entries, find, at_place, IsFirstFrom, NoneFrom}
-use Rattle.shared_maps.specs.Ids.{id_cmp, key_of}
+use Rattle.shared_maps.specs.Digests.{digest_of, hashed_place, next_place, task_place, is_task_place, is_id_place, behind_id}
+use Rattle.shared_trees.specs.Entries.{Entries, find, at_place, IsFirstFrom, NoneFrom}
+use Rattle.shared_trees.specs.Ids.{id_cmp, key_of}
 use Rattle.shared_maps.specs.IdOrder as by_ids
 use Rattle.shared_maps.specs.Order as by_tasks
-use Rattle.shared_maps.specs.Places.{Place, is_same, place_of}
-use Rattle.shared_maps.specs.Tree.{entries, fork_entries, kept_value}
-use Rattle.shared_maps.proofs.Ids.{plain_again}
-use Rattle.shared_maps.proofs.Orders.{same_place, same_itself}
-use Rattle.shared_maps.proofs.Parts.{find_append}
+use Rattle.shared_trees.specs.Places.{Place, is_before, is_same}
+use Rattle.shared_trees.proofs.Ids.{plain_again}
+use Rattle.shared_trees.proofs.Orders.{before_trans, in_order, never, same_place, same_itself}
+use Rattle.shared_maps.proofs.Passing.{before_next, count_at, fewer}
 use Rattle.shared_maps.proofs.Seen.{same_hashed, task_changes}
 use Rattle.shared_maps.proofs.Tasks.{task_alone, next_task, no_task}
+use Rattle.shared_maps.proofs.Times.{first_place, none_before}
 
 -- ---- the next id
 
@@ -87,33 +83,79 @@ id_added f g one key x id is key_is changed i =
     ∙ is_some_by (id_eq id i && 0 == 0) x (f (task_place i 0))
     ∙ ap (λ (b : Bool). b || is_some (f (task_place i 0))) (sym (ap (λ (p : Place). is_same p (hashed_place i 0)) key_is ∙ same_hashed id i 0 0))
 
--- ---- the ids of a fork
+-- ---- the ids of all entries
 
-some_or : {X : Type 0} (a b : Option X) → is_some (option_or a b) ≡ is_some a || is_some b
-some_or None b = refl
-some_or (Some x) b = refl
+-- Just the ids are there that something is kept for, by their digests, before this place.
+abbrev pub AreListed : {X : Type 0} → (Place → Option X) → (Id → Bool) → Place → Type 0
+AreListed kept has from = (id : Id) → has id ≡ is_some (kept (hashed_place id 0)) && is_before (hashed_place id 0) from
 
-or_true : (b : Bool) → b || true ≡ true
-or_true true = refl
-or_true false = refl
+-- whether a place comes no earlier than another
+abbrev pub is_left : Place → Place → Bool
+is_left from place = not (is_before place from)
 
-in_turn : (l m r o : Bool) → r || (m || (l || o)) ≡ (l || (m || r)) || o
-in_turn true m r o = ap (λ (b : Bool). r || b) (or_true m) ∙ or_true r
-in_turn false true r o = or_true r
-in_turn false false r o = refl
+and_false : (b : Bool) → b && false ≡ false
+and_false true = refl
+and_false false = refl
 
-pub fork_ids : {X : Type 0} {root : Option (Arc (Fork X) Global)} {d : Entries X} {arc : Arc (Fork X) Global} {fork : Fork X} (at : Place) (l m r o : Bool)
-    → entries root ≡ d → root ≡ Some arc → fork ≡ arc.value
-    → is_some (find fork.left at) ≡ l → is_some (cond (is_same (place_of fork.key) at) (kept_value fork.value) None) ≡ m → is_some (find fork.right at) ≡ r
-    → r || (m || (l || o)) ≡ is_some (find d at) || o
-fork_ids {X} {root} {d} {arc} {fork} at l m r o view is here left middle right =
-    let here_kept = cond (is_same (place_of fork.key) at) (kept_value fork.value) None in
-    in_turn l m r o
-    ∙ ap (λ (b : Bool). b || o) (sym (
-    ap (λ (es : Entries X). is_some (find es at)) (sym view ∙ ap entries is ∙ ap fork_entries (sym here))
-    ∙ ap is_some (find_append fork.left ((place_of fork.key, kept_value fork.value) ∷ fork.right) at)
-    ∙ some_or (find fork.left at) (option_or here_kept (find fork.right at))
-    ∙ ap (λ (b : Bool). is_some (find fork.left at) || b) (some_or here_kept (find fork.right at))
-    ∙ ap (λ (b : Bool). b || (is_some here_kept || is_some (find fork.right at))) left
-    ∙ ap (λ (b : Bool). l || (b || is_some (find fork.right at))) middle
-    ∙ ap (λ (b : Bool). l || (m || b)) right))
+and_true : (b : Bool) → b && true ≡ b
+and_true true = refl
+and_true false = refl
+
+module _ {X : Type 0} (kept : Place → Option X) where
+  pub none_listed : (has : Id → Bool) → ((id : Id) → has id ≡ false) → AreListed kept has first_place
+  none_listed has none id =
+      none id ∙ sym (ap (λ b. is_some (kept (hashed_place id 0)) && b) (none_before (digest_of id) id 0) ∙ and_false (is_some (kept (hashed_place id 0))))
+
+  pub all_listed : (from : Place) (has : Id → Bool) → NoneFrom kept from → AreListed kept has from → (id : Id) → has id ≡ is_some (kept (hashed_place id 0))
+  all_listed from has none are id = are id ∙ by (is_before at from) refl
+    where
+      at : Place
+      at = hashed_place id 0
+
+      by : (b : Bool) → is_before at from ≡ b → is_some (kept at) && b ≡ is_some (kept at)
+      by true is = and_true (is_some (kept at))
+      by false is = and_false (is_some (kept at)) ∙ sym (ap is_some (none at is))
+
+  module _ (from place : Place) (x : X) (first : IsFirstFrom kept from place x) where
+    -- what comes before where the search began isn't behind what it found
+    not_behind : (at : Place) → is_before at from ≡ true → is_before place at ≡ false
+    not_behind at before = not_by (is_before place at) (λ behind. cc (sym (before_trans place at from behind before) ∙ first.behind))
+
+    -- what is kept elsewhere, no earlier than where the search began, is behind what it found
+    is_behind : (at : Place) → is_same place at ≡ false → is_some (kept at) ≡ true → is_before at from ≡ false → is_before place at ≡ true
+    is_behind at off there left = elim (in_order place at) [
+      | inl here ↦ absurd (cc (sym off ∙ ap (is_same place) (sym here) ∙ same_itself place))
+      | inr other ↦ elim other [
+        | inl behind ↦ behind
+        | inr before ↦ absurd (cc (sym before ∙ first.first at there left))
+      ]
+    ]
+
+    moved_by : (at : Place) → is_same place at ≡ false → is_some (kept at) ≡ true → (b : Bool) → is_before at from ≡ b → b ≡ is_before at (next_place place)
+    moved_by at off there true before = sym (before_next at place ∙ ap not (not_behind at before))
+    moved_by at off there false left = sym (before_next at place ∙ ap not (is_behind at off there left))
+
+    listed_at : (at : Place) → is_same place at || (is_some (kept at) && is_before at from) ≡ is_some (kept at) && is_before at (next_place place)
+    listed_at at = by (is_same place at) refl (is_some (kept at)) refl
+      where
+        by : (b : Bool) → is_same place at ≡ b → (k : Bool) → is_some (kept at) ≡ k → b || (k && is_before at from) ≡ k && is_before at (next_place place)
+        by true here true there = sym (before_next at place ∙ ap not (ap (is_before place) (sym (same_place place at here)) ∙ never place))
+        by true here false none = absurd (cc (sym none ∙ ap (λ p. is_some (kept p)) (sym (same_place place at here)) ∙ ap is_some first.found))
+        by false off true there = moved_by at off there (is_before at from) refl
+        by false off false none = refl
+
+    pub next_listed : (old new : Id → Bool) → ((id : Id) → new id ≡ is_same place (hashed_place id 0) || old id) → AreListed kept old from → AreListed kept new (next_place place)
+    next_listed old new added are id = added id ∙ ap (λ b. is_same place (hashed_place id 0) || b) (are id) ∙ listed_at (hashed_place id 0)
+
+    left_before : (at : Place) → is_left (next_place place) at ≡ true → is_left from at ≡ true
+    left_before at left = by (is_before at from) refl
+      where
+        by : (b : Bool) → is_before at from ≡ b → not b ≡ true
+        by true before = absurd (cc (sym left ∙ ap not (before_next at place ∙ ap not (not_behind at before))))
+        by false is = refl
+
+-- one fewer is left
+pub fewer_left : {X : Type 0} (entries : Entries X) (from place : Place) (x : X) → IsFirstFrom (find entries) from place x → count_at (is_left (next_place place)) entries < count_at (is_left from) entries
+fewer_left entries from place x first =
+    fewer (is_left from) (is_left (next_place place)) place (left_before (find entries) from place x first) (ap not first.behind)
+    (ap not (before_next place place ∙ ap not (never place))) entries (ap is_some first.found)

@@ -6,10 +6,10 @@ use Rattle.std.specs.Ordering.{is_eq, is_lt, is_gt, nat_cmp, ordering_then}
 use Rattle.std.specs.Option.{option_cmp}
 use Rattle.dura_value.specs.declared.addresses.Id.{Id}
 use Rattle.dura_value.specs.contracts.addresses.IdOrd.TheImpl.Laws.{total-law}
-use Rattle.shared_maps.specs.Ids.{id_cmp}
-use Rattle.shared_maps.specs.Places.{Place, is_before, is_beside}
-use Rattle.shared_maps.specs.Entries.{IsFirstFrom, NoneFrom}
-use Rattle.shared_maps.proofs.Orders.{greater_is_behind, both_equal, same_number, same_optional}
+use Rattle.shared_trees.specs.Ids.{id_cmp}
+use Rattle.shared_trees.specs.Places.{Place, is_before, is_beside}
+use Rattle.shared_trees.specs.Entries.{IsFirstFrom, NoneFrom}
+use Rattle.shared_trees.proofs.Orders.{greater_is_behind, both_equal, same_number, same_optional}
 
 lt_by : (a b : Bool) → is_lt (cond a Less (cond b Equal Greater)) ≡ a
 lt_by true b = refl

@@ -5,13 +5,13 @@ use Rattle.std.specs.Ordering.{is_eq, nat_cmp, ordering_then}
 use Rattle.dura_value.specs.Ids.{Id, id_eq}
 use Rattle.dura_value.specs.ById.{at_id, at_number}
 use Rattle.dura_value.proofs.Ids.{id_same}
-use Rattle.shared_maps.specs.Ids.{id_cmp, key_of}
+use Rattle.shared_trees.specs.Ids.{id_cmp, key_of}
 use Rattle.shared_maps.specs.Digests.{digest_of, hashed_place, task_place, time_place}
 use Rattle.std.proofs.lemmas.Bool.{and_parts}
-use Rattle.shared_maps.specs.Places.{Place, is_same, key_place, is_key_place}
-use Rattle.shared_maps.specs.Entries.{at_place}
+use Rattle.shared_trees.specs.Places.{Place, is_same, key_place, is_key_place}
+use Rattle.shared_trees.specs.Entries.{at_place}
 use Rattle.shared_maps.specs.Maps.{at_key, at_time}
-use Rattle.shared_maps.proofs.Ids.{is_key, plain_again}
+use Rattle.shared_trees.proofs.Ids.{is_key, plain_again}
 
 both_eq : (r s : Ordering) → is_eq (ordering_then r s) ≡ is_eq r && is_eq s
 both_eq Less s = refl

@@ -1,5 +1,5 @@
 -- Ids with numbers, in order.
-use Rattle.std.proofs.Common.{◌≡◌, ◌∙◌, ◌≤◌, IfNone, ◌+◌, ℕ, Bool, true, false, not, Option, Some, None, is_some, refl, ap, sym, nat_lt, ◌==◌, eqb-true, Ordering, Less, Equal, Greater, arith}
+use Rattle.std.proofs.Common.{◌≡◌, ◌∙◌, ◌≤◌, IfNone, ℕ, Bool, true, false, not, Option, Some, None, is_some, refl, ap, sym, ◌==◌, eqb-true, Ordering, Less, Equal, Greater, arith}
 use Rattle.std.proofs.lemmas.Bool.{and_parts}
 use Rattle.std.proofs.lemmas.Bool.Decides.{nat_tests}
 use Rattle.std.specs.Cmp.{tied_itself}
@@ -8,35 +8,25 @@ use Rattle.dura_value.specs.declared.addresses.Id.{Id as Address}
 use Rattle.dura_value.specs.Ids.{Id}
 use Rattle.dura_value.specs.Views.{id_of}
 use Rattle.dura_value.specs.contracts.addresses.IdOrd.TheImpl.Laws.{total-law}
-use Rattle.shared_maps.specs.Ids.{id_cmp, key_of}
+use Rattle.shared_trees.specs.Ids.{id_cmp, key_of}
 use Rattle.shared_maps.specs.Digests.{task_place, behind_task, is_task_place}
 use Rattle.shared_maps.specs.Order.{task_cmp, is_behind, IsFirst, IsNextBehind, NoneBehind}
-use Rattle.shared_maps.specs.Places.{Place, is_before}
-use Rattle.shared_maps.specs.Entries.{IsFirstFrom, NoneFrom}
-use Rattle.shared_maps.proofs.Ids.{key_again}
-use Rattle.shared_maps.proofs.Numbers.{lt_cmp}
-use Rattle.shared_maps.proofs.Orders.{places_total}
-
-one_more : (m n : ℕ) → nat_lt n (m + 1) ≡ not (nat_lt m n)
-one_more m n = grind (arith, nat_tests)
-
-by_ids : (r : Ordering) (m n : ℕ) → is_lt (ordering_then (ordering_reverse r) (nat_cmp n (m + 1))) ≡ not (is_lt (ordering_then r (nat_cmp m n)))
-by_ids Less m n = refl
-by_ids Equal m n = lt_cmp n (m + 1) ∙ one_more m n ∙ ap not (sym (lt_cmp m n))
-by_ids Greater m n = refl
+use Rattle.shared_trees.specs.Places.{Place, is_before}
+use Rattle.shared_trees.specs.Entries.{IsFirstFrom, NoneFrom}
+use Rattle.shared_trees.proofs.Ids.{key_again}
+use Rattle.shared_maps.proofs.Passing.{before_next}
+use Rattle.shared_trees.proofs.Orders.{places_total}
 
 -- what is behind the last is what doesn't come before the place behind it
 pub behind_or_before : (last : Option (Id × ℕ)) (task : Id × ℕ) → is_before (task_place task.0 task.1) (behind_task last) ≡ not (is_behind last task)
 behind_or_before None task = refl
-behind_or_before (Some last) task =
-    ap (λ r. is_lt (ordering_then r (nat_cmp task.1 (last.1 + 1)))) (total-law.antisymm (key_of task.0) (key_of last.0))
-    ∙ by_ids (id_cmp (key_of last.0) (key_of task.0)) last.1 task.1
+behind_or_before (Some last) task = before_next (task_place task.0 task.1) (task_place last.0 last.1)
 
-not_true : (b : Bool) → b ≡ true → not b ≡ false
+pub not_true : (b : Bool) → b ≡ true → not b ≡ false
 not_true true is = refl
 not_true false is = absurd (cc is)
 
-not_false : (b : Bool) → not b ≡ false → b ≡ true
+pub not_false : (b : Bool) → not b ≡ false → b ≡ true
 not_false true is = refl
 not_false false is = absurd (cc is)
 
@@ -52,13 +42,13 @@ task_alone p id is found =
     let ids : p.id ≡ Some (key_of (id_of id)) = found ∙ ap Some (sym (key_again id)) in
     λ i. record { lead = lead i; id = ids i; number = p.number }
 
-some_id : (o : Option Address) → is_some o ≡ true → o ≡ None → ⊥
+pub some_id : (o : Option Address) → is_some o ≡ true → o ≡ None → ⊥
 some_id o is none = cc (sym is ∙ ap is_some none)
 
 pub never_alone : (p : Place) → is_task_place p ≡ true → p.id ≡ None → ⊥
 never_alone p is none = some_id p.id (and_parts (p.lead == 0) (is_some p.id) is).1 none
 
-there_by : {X : Type 0} (o : Option X) → is_some o ≡ true → o ≡ None → ⊥
+pub there_by : {X : Type 0} (o : Option X) → is_some o ≡ true → o ≡ None → ⊥
 there_by o is none = cc (sym is ∙ ap is_some none)
 
 module _ {X : Type 0} (kept : Place → Option X) (last : Option (Id × ℕ)) where

@@ -2,8 +2,8 @@
 use Rattle.std.specs.Prelude.{ℕ, ◌*◌, ◌%◌, ◌^◌, bit_xor, ◌+◌, ◌==◌, ◌&&◌, Bool, Option, Some, None, is_some, option_map}
 use Rattle.dura_value.specs.Digest.{fnv1a_64}
 use Rattle.dura_value.specs.Ids.{Id, orchestration, entity, client}
-use Rattle.shared_maps.specs.Ids.{key_of}
-use Rattle.shared_maps.specs.Places.{Place}
+use Rattle.shared_trees.specs.Ids.{key_of}
+use Rattle.shared_trees.specs.Places.{Place}
 
 -- a digest of an id
 abbrev pub digest_of : Id → ℕ
@@ -18,6 +18,10 @@ hashed_place id number = record { lead = digest_of id; id = Some (key_of id); nu
 -- where something is kept for an id and a number in the order of ids
 abbrev pub task_place : Id → ℕ → Place
 task_place id number = record { lead = 0; id = Some (key_of id); number = number }
+
+-- from where on places are behind this one
+abbrev pub next_place : Place → Place
+next_place place = record { lead = place.lead; id = place.id; number = place.number + 1 }
 
 -- from where on tasks are behind the last one
 abbrev pub behind_task : Option (Id × ℕ) → Place
@@ -43,3 +47,8 @@ time_place time id number = record { lead = time; id = Some (key_of id); number 
 -- whether something is kept for a stamp, an id and a number
 abbrev pub is_time_place : Place → Bool
 is_time_place place = is_some place.id
+
+-- from where on stamps, ids and numbers are behind the last ones
+abbrev pub behind_time : Option (ℕ × Id × ℕ) → Place
+behind_time None = record { lead = 0; id = None; number = 0 }
+behind_time (Some last) = time_place last.0 last.1 (last.2 + 1)

@@ -2,7 +2,7 @@
 use Rattle.std.specs.Prelude.{◌≡◌, Bool, true, Option, Some, None}
 use Rattle.std.specs.Ordering.{is_lt, is_le}
 use Rattle.dura_value.specs.Ids.{Id}
-use Rattle.shared_maps.specs.Ids.{id_cmp, key_of}
+use Rattle.shared_trees.specs.Ids.{id_cmp, key_of}
 
 -- whether an id comes before another
 abbrev pub is_before : Id → Id → Bool

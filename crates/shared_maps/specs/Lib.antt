@@ -2,7 +2,6 @@ pub mod Ids
 pub mod IdOrder
 pub mod Places
 pub mod Entries
-pub mod Tree
 pub mod Digests
 pub mod Maps
 pub mod Order

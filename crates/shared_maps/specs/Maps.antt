@@ -4,8 +4,8 @@ use Rattle.dura_value.specs.Ids.{Id, id_eq}
 use Rattle.shared_maps.specs.declared.id_map.IdMap.{IdMap}
 use Rattle.shared_maps.specs.declared.number_map.NumberMap.{NumberMap}
 use Rattle.shared_maps.specs.Digests.{hashed_place, task_place, time_place}
-use Rattle.shared_maps.specs.Entries.{Entries, find}
-use Rattle.shared_maps.specs.Places.{key_place}
+use Rattle.shared_trees.specs.Entries.{Entries, find}
+use Rattle.shared_trees.specs.Places.{key_place}
 
 -- what is kept under a number
 abbrev pub by_key : {X : Type 0} → Entries X → ℕ → Option X

@@ -3,7 +3,7 @@ use Rattle.std.specs.Prelude.{◌≡◌, ◌≤◌, ℕ, Bool, true, Option, Som
 use Rattle.std.specs.declared.cmp.Ordering.{Ordering}
 use Rattle.std.specs.Ordering.{is_lt, is_le, nat_cmp, ordering_then}
 use Rattle.dura_value.specs.Ids.{Id}
-use Rattle.shared_maps.specs.Ids.{id_cmp, key_of}
+use Rattle.shared_trees.specs.Ids.{id_cmp, key_of}
 
 -- whether an id comes before another or is it
 abbrev pub is_no_later : Id → Id → Bool
@@ -42,3 +42,18 @@ time_cmp a b = ordering_then (nat_cmp a.0 b.0) (task_cmp (a.1, a.2) (b.1, b.2))
 pub record IsFirstTime (there : ℕ → Id → ℕ → Bool) (time : ℕ) (id : Id) (number : ℕ) : Type 0 where
   pub found : there time id number ≡ true
   pub first : (other_time : ℕ) (other : Id) (other_number : ℕ) → there other_time other other_number ≡ true → is_le (time_cmp (time, id, number) (other_time, other, other_number)) ≡ true
+
+-- whether a stamp, id and number come behind the last ones, if there were any
+abbrev pub is_behind_time : Option (ℕ × Id × ℕ) → ℕ × Id × ℕ → Bool
+is_behind_time None at = true
+is_behind_time (Some last) at = is_lt (time_cmp last at)
+
+-- Something is there for this stamp, id and number, the first such behind the last ones.
+pub record IsNextTime (there : ℕ → Id → ℕ → Bool) (last : Option (ℕ × Id × ℕ)) (at : ℕ × Id × ℕ) : Type 0 where
+  pub found : there at.0 at.1 at.2 ≡ true
+  pub behind : is_behind_time last at ≡ true
+  pub first : (other : ℕ × Id × ℕ) → there other.0 other.1 other.2 ≡ true → is_behind_time last other ≡ true → is_le (time_cmp at other) ≡ true
+
+-- nothing is there for a stamp, an id and a number behind the last ones
+abbrev pub NoTimeBehind : (there : ℕ → Id → ℕ → Bool) → Option (ℕ × Id × ℕ) → Type 0
+NoTimeBehind there last = (at : ℕ × Id × ℕ) → there at.0 at.1 at.2 ≡ true → is_behind_time last at ≡ true → ⊥

@@ -3,10 +3,10 @@
 ghost use Rattle.std.specs.Prelude.{◌≡◌, IfOk};
 ghost use Rattle.dura_value.specs.Views.{id_of};
 ghost use Rattle.shared_maps.specs.Digests.{digest_of, hashed_place, task_place};
-ghost use Rattle.shared_maps.specs.Places.{place_of, place_sought};
+ghost use Rattle.shared_trees.specs.Places.{place_of, place_sought};
 
-use crate::keys::{Key, Sought};
 use dura_value::{Id, fnv1a_64};
+use shared_trees::{Key, Sought};
 use std::alloc::{AllocError, Global};
 use std::sync::Arc;
 

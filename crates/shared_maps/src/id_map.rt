@@ -3,13 +3,13 @@
 ghost use Rattle.std.specs.Prelude.{◌≡◌, Some, None, IfOk, OnOk, OnErr, is_some, option_map};
 ghost use Rattle.dura_value.specs.ById.{at_id};
 ghost use Rattle.dura_value.specs.Views.{id_of};
-ghost use Rattle.shared_maps.specs.Entries.{AreExact};
+ghost use Rattle.shared_trees.specs.Entries.{AreExact};
 ghost use Rattle.shared_maps.specs.Maps.{by_id, has_id, nothing};
 
 use crate::digests::{hashed_key, hashed_sought};
 use crate::ordered_ids::OrderedIds;
-use crate::sorted::Sorted;
 use dura_value::Id;
+use shared_trees::Sorted;
 use std::alloc::{AllocError, Global};
 
 /// What is kept for each id, which a contract sees as a function. Copies share what they hold.
@@ -47,9 +47,7 @@ impl<V> IdMap<V> {
     pub fn ids(&self, alloc: Global) -> Result<OrderedIds, AllocError>
         ensures { IfOk result (λ ids. has_id ids ≡ (λ id. is_some (by_id self.now id))) }
     {
-        let mut ids = OrderedIds::new();
-        self.entries.add_ids(alloc, &mut ids)?;
-        Ok(ids)
+        OrderedIds::of(alloc, &self.entries)
     }
 
     /// Keeps this for the id, in place of what was kept for it. Without memory an Err, and the map is as it was.

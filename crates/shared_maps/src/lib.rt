@@ -1,22 +1,17 @@
 //! Maps whose copies share structure: a copy costs a few pointers, whatever the map holds, and a change copies the path to it alone.
 //!
-//! - `keys`: what a tree keeps things under, and the order of that.
-//! - `tree`: the balanced tree that all maps stand on; `writing` puts into it, `turns` keeps it balanced.
+//! - Each map is a tree of `shared_trees`; `digests` says what it keeps things under.
+//! - `ordered_ids`: the ids of a map in their order.
 //! - `specs/Maps` says what a map holds, as a function.
 #![tactic(auto)]
 
 mod digests;
 mod id_map;
-mod keys;
 mod number_map;
 mod number_tree;
 mod ordered_ids;
-mod sorted;
 mod task_map;
 mod time_map;
-mod tree;
-mod turns;
-mod writing;
 
 pub use id_map::IdMap;
 pub use number_map::NumberMap;

@@ -3,12 +3,12 @@
 ghost use Rattle.std.specs.Prelude.{◌≡◌, ◌≤◌, ℕ, Some, None, IsSome, IfSome, IfNone, IfOk, OnOk, OnErr, option_map};
 ghost use Rattle.dura_value.specs.ById.{at_number, cleared};
 ghost use Rattle.dura_value.specs.Views.{id_of};
-ghost use Rattle.shared_maps.specs.Entries.{AreExact};
+ghost use Rattle.shared_trees.specs.Entries.{AreExact};
 ghost use Rattle.shared_maps.specs.Maps.{by_number, no_number};
 
 use crate::digests::{hashed_key, hashed_sought};
-use crate::sorted::Sorted;
 use dura_value::Id;
+use shared_trees::Sorted;
 use std::alloc::{AllocError, Global};
 
 /// What is kept for each id and number, which a contract sees as a function. Copies share what they hold.

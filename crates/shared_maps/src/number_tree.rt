@@ -1,12 +1,11 @@
 //! What is kept under each number.
 
 ghost use Rattle.std.specs.Prelude.{◌≡◌, ◌≤◌, ℕ, Some, None, IsSome, IfOk, IfSome, IfNone, OnOk, OnErr, option_map};
-ghost use Rattle.shared_maps.specs.Entries.{AreExact};
+ghost use Rattle.shared_trees.specs.Entries.{AreExact};
 ghost use Rattle.shared_maps.specs.Maps.{at_key, by_key, no_key};
-ghost use Rattle.shared_maps.specs.Places.{place_of, place_sought, key_place};
+ghost use Rattle.shared_trees.specs.Places.{place_of, place_sought, key_place};
 
-use crate::keys::{Key, Sought};
-use crate::sorted::Sorted;
+use shared_trees::{Key, Sorted, Sought};
 use std::alloc::{AllocError, Global};
 use std::marker::Model;
 
@@ -29,12 +28,12 @@ fn sought(key: u64) -> Sought<'static>
 
 impl<V> Model for NumberTree<V> {
     ghost use Rattle.std.specs.Prelude.{List, Option};
-    ghost use Rattle.shared_maps.specs.Places.{Place};
+    ghost use Rattle.shared_trees.specs.Places.{Place};
 
     ghost Value = { List (Place × Option V) };
 
-    ghost use Rattle.shared_maps.specs.Entries.{AllPlaces};
-    ghost use Rattle.shared_maps.specs.Places.{is_key_place};
+    ghost use Rattle.shared_trees.specs.Entries.{AllPlaces};
+    ghost use Rattle.shared_trees.specs.Places.{is_key_place};
 
     ghost view = { λ a. a.entries };
 

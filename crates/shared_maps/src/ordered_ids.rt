@@ -1,20 +1,17 @@
 //! Ids in their order.
 
-ghost use Rattle.std.specs.Prelude.{◌≡◌, ◌||◌, false, IfOk, IfSome, IfNone, OnOk, cond, is_some, option_map, None};
+ghost use Rattle.std.specs.Prelude.{◌≡◌, ◌||◌, false, IfOk, IfSome, IfNone, OnOk, is_some, option_map};
 ghost use Rattle.dura_value.specs.Ids.{Id as PlainId};
 ghost use Rattle.dura_value.specs.Views.{id_of};
-ghost use Rattle.shared_maps.specs.Digests.{behind_id, hashed_place, task_place};
-ghost use Rattle.shared_maps.specs.Entries.{find};
+ghost use Rattle.shared_maps.specs.Digests.{behind_id, hashed_place, next_place, task_place};
+ghost use Rattle.shared_trees.specs.Entries.{find};
 ghost use Rattle.shared_maps.specs.IdOrder.{IsNextBehind, NoneBehind};
 ghost use Rattle.shared_maps.specs.Maps.{has_id};
-ghost use Rattle.shared_maps.specs.Places.{is_same, place_of, place_sought};
-ghost use Rattle.shared_maps.specs.Tree.{kept_value};
+ghost use Rattle.shared_trees.specs.Places.{is_same, place_of, place_sought};
 
 use crate::digests::{hashed_sought, task_sought};
-use crate::keys::{Key, Sought};
-use crate::sorted::Sorted;
-use crate::tree::{Fork, Tree};
 use dura_value::Id;
+use shared_trees::{Key, Sorted, Sought};
 use std::alloc::{AllocError, Global};
 use std::marker::Model;
 use std::sync::Arc;
@@ -27,11 +24,11 @@ pub struct OrderedIds {
 
 impl Model for OrderedIds {
     ghost use Rattle.std.specs.Prelude.{List, Option};
-    ghost use Rattle.shared_maps.specs.Places.{Place};
+    ghost use Rattle.shared_trees.specs.Places.{Place};
 
     ghost Value = { List (Place × Option (Unit {0})) };
 
-    ghost use Rattle.shared_maps.specs.Entries.{AllPlaces};
+    ghost use Rattle.shared_trees.specs.Entries.{AllPlaces};
     ghost use Rattle.shared_maps.specs.Digests.{is_id_place};
 
     ghost view = { λ a. a.entries };
@@ -50,6 +47,17 @@ fn behind(last: Option<&Id>) -> Sought<'_>
             id: None,
             number: 0,
         },
+    }
+}
+
+/// What finds the first key behind this one.
+fn behind_key(key: &Key) -> Sought<'_>
+    ensures { place_sought result ≡ next_place (place_of key.now) }
+{
+    Sought {
+        lead: key.lead,
+        id: key.id(),
+        number: key.number as u64 + 1,
     }
 }
 
@@ -76,12 +84,26 @@ fn id_key(key: &Key) -> Result<Option<Key>, AllocError>
 
 impl OrderedIds {
     /// No ids.
-    pub(crate) fn new() -> OrderedIds
+    fn new() -> OrderedIds
         ensures { (id : PlainId) → has_id result id ≡ false }
     {
         OrderedIds {
             entries: Sorted::new(),
         }
+    }
+
+    /// The ids that something is kept for by their digests.
+    pub(crate) fn of<V>(alloc: Global, entries: &Sorted<V>) -> Result<OrderedIds, AllocError>
+        ensures { IfOk result (λ ids. (id : PlainId)
+            → has_id ids id ≡ is_some (find entries.now (hashed_place id 0))) }
+    {
+        let mut ids = OrderedIds::new();
+        let mut from = behind(None);
+        while let Some((key, _)) = entries.first_from(&from) {
+            ids.add(alloc, key)?;
+            from = behind_key(key);
+        }
+        Ok(ids)
     }
 
     /// The first id behind the last one, or of all.
@@ -110,38 +132,6 @@ impl OrderedIds {
             return Ok(());
         };
         self.entries.put(alloc, key, ())?;
-        Ok(())
-    }
-}
-
-impl<V> Fork<V> {
-    /// The id of the entry joins the others, where something is kept for it by its digest.
-    fn add_id(&self, alloc: Global, ids: &mut OrderedIds) -> Result<(), AllocError>
-        ensures { OnOk result ((id : PlainId)
-            → has_id ids.new id
-            ≡ (is_some (cond (is_same (place_of self.now.key) (hashed_place id 0)) (kept_value self.now.value) None)
-            || has_id ids.old id)) }
-    {
-        match &self.value {
-            Some(_) => ids.add(alloc, &self.key),
-            None => Ok(()),
-        }
-    }
-}
-
-impl<V> Tree<V> {
-    /// The ids that something is kept for by their digests join the others.
-    pub(crate) fn add_ids(&self, alloc: Global, ids: &mut OrderedIds) -> Result<(), AllocError>
-        ensures { OnOk result ((id : PlainId)
-            → has_id ids.new id ≡ (is_some (find self.now (hashed_place id 0)) || has_id ids.old id)) }
-    {
-        let Some(arc) = &self.root else {
-            return Ok(());
-        };
-        let fork: &Fork<V> = arc;
-        fork.left.add_ids(alloc, ids)?;
-        fork.add_id(alloc, ids)?;
-        fork.right.add_ids(alloc, ids)?;
         Ok(())
     }
 }

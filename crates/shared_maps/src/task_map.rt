@@ -5,15 +5,14 @@ ghost use Rattle.dura_value.specs.ById.{at_number, cleared};
 ghost use Rattle.dura_value.specs.Ids.{Id as PlainId};
 ghost use Rattle.dura_value.specs.Views.{id_of};
 ghost use Rattle.shared_maps.specs.Digests.{behind_task};
-ghost use Rattle.shared_maps.specs.Entries.{AreExact};
+ghost use Rattle.shared_trees.specs.Entries.{AreExact};
 ghost use Rattle.shared_maps.specs.Maps.{by_task, no_number};
 ghost use Rattle.shared_maps.specs.Order.{IsFirst, IsNextBehind, NoneBehind};
-ghost use Rattle.shared_maps.specs.Places.{place_sought};
+ghost use Rattle.shared_trees.specs.Places.{place_sought};
 
 use crate::digests::{task_key, task_sought};
-use crate::keys::Sought;
-use crate::sorted::Sorted;
 use dura_value::Id;
+use shared_trees::{Sorted, Sought};
 use std::alloc::{AllocError, Global};
 use std::marker::Model;
 
@@ -26,11 +25,11 @@ pub struct TaskMap<V> {
 
 impl<V> Model for TaskMap<V> {
     ghost use Rattle.std.specs.Prelude.{List, Option};
-    ghost use Rattle.shared_maps.specs.Places.{Place};
+    ghost use Rattle.shared_trees.specs.Places.{Place};
 
     ghost Value = { List (Place × Option V) };
 
-    ghost use Rattle.shared_maps.specs.Entries.{AllPlaces};
+    ghost use Rattle.shared_trees.specs.Entries.{AllPlaces};
     ghost use Rattle.shared_maps.specs.Digests.{is_task_place};
 
     ghost view = { λ a. a.entries };

@@ -1,17 +1,16 @@
 //! What is kept for each stamp, id and number.
 
-ghost use Rattle.std.specs.Prelude.{◌≡◌, ℕ, Some, None, is_some, IfSome, IfNone, IfOk, OnOk, OnErr};
+ghost use Rattle.std.specs.Prelude.{◌≡◌, ℕ, Some, None, is_some, IfSome, IfNone, IfOk, OnOk, OnErr, option_map};
 ghost use Rattle.dura_value.specs.Ids.{Id as PlainId};
 ghost use Rattle.dura_value.specs.Views.{id_of};
-ghost use Rattle.shared_maps.specs.Digests.{time_place};
-ghost use Rattle.shared_maps.specs.Entries.{AreExact};
+ghost use Rattle.shared_maps.specs.Digests.{behind_time, time_place};
+ghost use Rattle.shared_trees.specs.Entries.{AreExact};
 ghost use Rattle.shared_maps.specs.Maps.{at_time, by_time, no_time};
-ghost use Rattle.shared_maps.specs.Order.{IsFirstTime};
-ghost use Rattle.shared_maps.specs.Places.{place_of, place_sought};
+ghost use Rattle.shared_maps.specs.Order.{IsFirstTime, IsNextTime, NoTimeBehind};
+ghost use Rattle.shared_trees.specs.Places.{place_of, place_sought};
 
-use crate::keys::{Key, Sought};
-use crate::sorted::Sorted;
 use dura_value::Id;
+use shared_trees::{Key, Sorted, Sought};
 use std::alloc::{AllocError, Global};
 use std::marker::Model;
 use std::sync::Arc;
@@ -25,11 +24,11 @@ pub struct TimeMap<V> {
 
 impl<V> Model for TimeMap<V> {
     ghost use Rattle.std.specs.Prelude.{List, Option};
-    ghost use Rattle.shared_maps.specs.Places.{Place};
+    ghost use Rattle.shared_trees.specs.Places.{Place};
 
     ghost Value = { List (Place × Option V) };
 
-    ghost use Rattle.shared_maps.specs.Entries.{AllPlaces};
+    ghost use Rattle.shared_trees.specs.Entries.{AllPlaces};
     ghost use Rattle.shared_maps.specs.Digests.{is_time_place};
 
     ghost view = { λ a. a.entries };
@@ -50,13 +49,28 @@ fn time_key(alloc: Global, time: u64, id: Id, number: u32) -> Result<Key, AllocE
 }
 
 /// What finds an id and a number at a stamp.
-fn time_sought(time: u64, id: &Id, number: u32) -> Sought<'_>
+fn time_sought(time: u64, id: &Id, number: u64) -> Sought<'_>
     ensures { place_sought result ≡ time_place time (id_of id.now) number }
 {
     Sought {
         lead: time,
         id: Some(id),
-        number: number as u64,
+        number,
+    }
+}
+
+/// What finds the first behind the last.
+fn behind<'a>(last: Option<(u64, &'a Id, u32)>) -> Sought<'a>
+    ensures { place_sought result
+        ≡ behind_time (option_map (λ at. (at.0, id_of at.1.now, at.2)) last.entry) }
+{
+    match last {
+        Some((time, id, number)) => time_sought(time, id, number as u64 + 1),
+        None => Sought {
+            lead: 0,
+            id: None,
+            number: 0,
+        },
     }
 }
 
@@ -86,15 +100,31 @@ impl<V> TimeMap<V> {
         ensures none { IfNone result ((time : ℕ) (id : PlainId) (number : ℕ)
             → by_time self.now time id number ≡ None) }
     {
-        let from = Sought {
-            lead: 0,
-            id: None,
-            number: 0,
-        };
+        let from = behind(None);
         let Some((_, value)) = self.entries.first_from(&from) else {
             return None;
         };
         Some(value)
+    }
+
+    /// The first stamp, id and number behind the last ones, or of all, that something is kept for.
+    pub fn next(&self, last: Option<(u64, &Id, u32)>) -> Option<(u64, &Id, u32)>
+        ensures next { IfSome result (λ one.
+            IsNextTime (λ time id number. is_some (by_time self.now time id number))
+            (option_map (λ at. (at.0, id_of at.1.now, at.2)) last.entry)
+            (one.0, id_of one.1.now, one.2)) }
+        ensures none { IfNone result (NoTimeBehind
+            (λ time id number. is_some (by_time self.now time id number))
+            (option_map (λ at. (at.0, id_of at.1.now, at.2)) last.entry)) }
+    {
+        let from = behind(last);
+        let Some((key, _)) = self.entries.first_from(&from) else {
+            return None;
+        };
+        let Some(id) = key.id() else {
+            return None;
+        };
+        Some((key.lead, id, key.number))
     }
 
     /// Keeps this for the stamp, the id and the number, in place of what was kept for them. Without memory an Err, and the map is
@@ -134,7 +164,7 @@ impl<V> TimeMap<V> {
     {
         let gone = self
             .entries
-            .take(alloc, &time_sought(time, id, number), false)?;
+            .take(alloc, &time_sought(time, id, number as u64), false)?;
         drop(gone);
         Ok(())
     }

@@ -1,6 +1,6 @@
 use Rattle.std.proofs.Common.{◌≡◌, ◌∙◌, ap, sym, Some, false, rules}
 use Rattle.std.specs.Ordering.{is_eq}
-use Rattle.shared_maps.specs.Places.{place_cmp, place_of}
+use Rattle.shared_trees.specs.Places.{place_cmp, place_of}
 use Rattle.shared_maps.proofs.Listing.{not_hashed}
 use Rattle.shared_maps.proofs.ordered_ids.id_key.Goals as goal
 

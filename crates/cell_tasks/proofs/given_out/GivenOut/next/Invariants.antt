@@ -3,7 +3,8 @@ use Rattle.dura_value.specs.Views.{id_of}
 use Rattle.shared_maps.specs.Maps.{by_task}
 use Rattle.cell_tasks.specs.Tasks.{is_out}
 use Rattle.cell_tasks.proofs.Looking.{AllBefore}
-use Rattle.cell_tasks.proofs.Passing.{count_at, is_past}
+use Rattle.shared_maps.proofs.Passing.{count_at}
+use Rattle.cell_tasks.proofs.Passing.{is_past}
 use Rattle.cell_tasks.proofs.given_out.GivenOut.next.Given as goal
 
 -- what is there up to the last one is out

@@ -1,9 +1,9 @@
 use Rattle.std.proofs.Common.{◌∙◌, sym, ap, subst, Some}
 use Rattle.dura_value.specs.Views.{id_of}
-use Rattle.shared_maps.specs.Ids.{key_of}
+use Rattle.shared_trees.specs.Ids.{key_of}
 use Rattle.shared_maps.specs.Digests.{digest_of}
-use Rattle.shared_maps.specs.Entries.{find, IsFirstFrom, NoneFrom}
-use Rattle.shared_maps.specs.Places.{place_of, is_beside}
+use Rattle.shared_trees.specs.Entries.{find, IsFirstFrom, NoneFrom}
+use Rattle.shared_trees.specs.Places.{place_of, is_beside}
 use Rattle.shared_maps.proofs.Numbers.{number_there, number_behind, number_least, none_beside, none_at}
 use Rattle.shared_maps.proofs.number_map.NumberMap.next_of.Goals as goal
 

@@ -1,9 +1,9 @@
 use Rattle.std.proofs.Common.{Some}
 use Rattle.std.proofs.lemmas.Result.{on_ok_weaker, on_err_weaker}
 use Rattle.dura_value.specs.Views.{id_of}
-use Rattle.shared_maps.specs.Entries.{find}
+use Rattle.shared_trees.specs.Entries.{find}
 use Rattle.shared_maps.specs.Digests.{hashed_place}
-use Rattle.shared_maps.specs.Places.{place_of}
+use Rattle.shared_trees.specs.Places.{place_of}
 use Rattle.shared_maps.proofs.Seen.{number_changes}
 use Rattle.shared_maps.proofs.number_map.NumberMap.put.Goals as goal
 

@@ -1,7 +1,7 @@
 use Rattle.std.proofs.Common.{None}
 use Rattle.dura_value.specs.Views.{id_of}
-use Rattle.shared_maps.specs.Entries.{find}
-use Rattle.shared_maps.specs.Places.{place_sought}
+use Rattle.shared_trees.specs.Entries.{find}
+use Rattle.shared_trees.specs.Places.{place_sought}
 use Rattle.shared_maps.proofs.Seen.{number_changes}
 use Rattle.shared_maps.proofs.number_map.NumberMap.remove.Goals as goal
 

@@ -1,7 +1,7 @@
 use Rattle.std.proofs.Common.{ap, sym, ◌∙◌, is_some}
-use Rattle.shared_maps.specs.Entries.{find}
-use Rattle.shared_maps.specs.Places.{place_of, key_place, is_key_place}
-use Rattle.shared_maps.proofs.Firsts.{of_found}
+use Rattle.shared_trees.specs.Entries.{find}
+use Rattle.shared_trees.specs.Places.{place_of, key_place, is_key_place}
+use Rattle.shared_trees.proofs.Firsts.{of_found}
 use Rattle.shared_maps.proofs.Seen.{key_alone}
 use Rattle.shared_maps.proofs.number_tree.NumberTree.next.Goals as goal
 

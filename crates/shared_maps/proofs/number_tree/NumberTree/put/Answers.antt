@@ -1,7 +1,7 @@
 use Rattle.std.proofs.Common.{◌≡◌, ap, refl, ◌∙◌, Some, subst}
 use Rattle.std.proofs.lemmas.Result.{on_ok_weaker, on_err_weaker}
-use Rattle.shared_maps.specs.Entries.{find, at_place}
-use Rattle.shared_maps.specs.Places.{key_place, is_key_place}
+use Rattle.shared_trees.specs.Entries.{find, at_place}
+use Rattle.shared_trees.specs.Places.{key_place, is_key_place}
 use Rattle.shared_maps.proofs.Seen.{key_changes}
 use Rattle.shared_maps.proofs.number_tree.NumberTree.put.Goals as goal
 

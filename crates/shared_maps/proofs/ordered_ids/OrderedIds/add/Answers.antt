@@ -1,9 +1,9 @@
 use Rattle.std.proofs.Common.{◌≡◌, refl, sym, true, Some, subst, IfSome}
 use Rattle.dura_value.specs.Ids.{Id}
-use Rattle.shared_maps.specs.declared.keys.Key.{Key}
-use Rattle.shared_maps.specs.Entries.{find, at_place}
+use Rattle.shared_trees.specs.declared.keys.Key.{Key}
+use Rattle.shared_trees.specs.Entries.{find, at_place}
 use Rattle.shared_maps.specs.Digests.{hashed_place, is_id_place, task_place}
-use Rattle.shared_maps.specs.Places.{place_of}
+use Rattle.shared_trees.specs.Places.{place_of}
 use Rattle.shared_maps.proofs.Listing.{id_added}
 use Rattle.shared_maps.proofs.ordered_ids.OrderedIds.add.Goals as goal
 

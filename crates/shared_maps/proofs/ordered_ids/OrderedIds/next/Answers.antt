@@ -2,9 +2,9 @@ use Rattle.std.proofs.Common.{◌≡◌, ap, subst, Some, None, is_some, option_
 use Rattle.std.proofs.lemmas.Bool.{and_parts}
 use Rattle.dura_value.specs.Views.{id_of}
 use Rattle.shared_maps.specs.Digests.{is_id_place, is_task_place}
-use Rattle.shared_maps.specs.Entries.{find, IsFirstFrom, NoneFrom}
-use Rattle.shared_maps.specs.Places.{place_of, place_sought}
-use Rattle.shared_maps.proofs.Firsts.{of_found}
+use Rattle.shared_trees.specs.Entries.{find, IsFirstFrom, NoneFrom}
+use Rattle.shared_trees.specs.Places.{place_of, place_sought}
+use Rattle.shared_trees.proofs.Firsts.{of_found}
 use Rattle.shared_maps.proofs.Listing.{id_alone, next_id, no_id}
 use Rattle.shared_maps.proofs.Tasks.{never_alone}
 use Rattle.shared_maps.proofs.ordered_ids.OrderedIds.next.Goals as goal

@@ -1,9 +1,9 @@
 use Rattle.std.proofs.Common.{◌≡◌, ap, subst, Some, None, is_some, option_map, rules}
 use Rattle.dura_value.specs.Views.{id_of}
 use Rattle.shared_maps.specs.Digests.{is_task_place}
-use Rattle.shared_maps.specs.Entries.{find, IsFirstFrom, NoneFrom}
-use Rattle.shared_maps.specs.Places.{place_of, place_sought}
-use Rattle.shared_maps.proofs.Firsts.{of_found}
+use Rattle.shared_trees.specs.Entries.{find, IsFirstFrom, NoneFrom}
+use Rattle.shared_trees.specs.Places.{place_of, place_sought}
+use Rattle.shared_trees.proofs.Firsts.{of_found}
 use Rattle.shared_maps.proofs.Tasks.{task_alone, never_alone, next_task, no_task}
 use Rattle.shared_maps.proofs.task_map.TaskMap.next.Goals as goal
 

@@ -1,8 +1,8 @@
 use Rattle.std.proofs.Common.{◌≡◌, refl, None, subst, true, sym}
 use Rattle.dura_value.specs.Views.{id_of}
-use Rattle.shared_maps.specs.Entries.{find, at_place}
+use Rattle.shared_trees.specs.Entries.{find, at_place}
 use Rattle.shared_maps.specs.Digests.{is_task_place}
-use Rattle.shared_maps.specs.Places.{place_sought}
+use Rattle.shared_trees.specs.Places.{place_sought}
 use Rattle.shared_maps.proofs.Seen.{task_changes}
 use Rattle.shared_maps.proofs.task_map.TaskMap.remove.Goals as goal
 

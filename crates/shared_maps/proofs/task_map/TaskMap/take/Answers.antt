@@ -1,9 +1,9 @@
 use Rattle.std.proofs.Common.{◌≡◌, ap, refl, ◌∙◌, None, subst, true, sym}
 use Rattle.std.proofs.lemmas.Result.{on_ok_weaker, on_err_weaker}
 use Rattle.dura_value.specs.Views.{id_of}
-use Rattle.shared_maps.specs.Entries.{find, at_place}
+use Rattle.shared_trees.specs.Entries.{find, at_place}
 use Rattle.shared_maps.specs.Digests.{task_place, is_task_place}
-use Rattle.shared_maps.specs.Places.{place_sought}
+use Rattle.shared_trees.specs.Places.{place_sought}
 use Rattle.shared_maps.proofs.Seen.{task_changes}
 use Rattle.shared_maps.proofs.task_map.TaskMap.take.Goals as goal
 

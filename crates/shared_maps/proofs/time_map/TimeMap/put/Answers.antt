@@ -1,9 +1,9 @@
 use Rattle.std.proofs.Common.{◌≡◌, ap, refl, sym, true, ◌∙◌, Some, subst}
 use Rattle.std.proofs.lemmas.Result.{on_ok_weaker, on_err_weaker}
 use Rattle.dura_value.specs.Views.{id_of}
-use Rattle.shared_maps.specs.Entries.{find, at_place}
+use Rattle.shared_trees.specs.Entries.{find, at_place}
 use Rattle.shared_maps.specs.Digests.{time_place, is_time_place}
-use Rattle.shared_maps.specs.Places.{place_of}
+use Rattle.shared_trees.specs.Places.{place_of}
 use Rattle.shared_maps.proofs.Seen.{time_changes}
 use Rattle.shared_maps.proofs.time_map.TimeMap.put.Goals as goal
 

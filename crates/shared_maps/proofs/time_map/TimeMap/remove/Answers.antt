@@ -1,8 +1,8 @@
 use Rattle.std.proofs.Common.{◌≡◌, ap, refl, ◌∙◌, None, subst, true, sym}
 use Rattle.dura_value.specs.Views.{id_of}
-use Rattle.shared_maps.specs.Entries.{find, at_place}
+use Rattle.shared_trees.specs.Entries.{find, at_place}
 use Rattle.shared_maps.specs.Digests.{time_place, is_time_place}
-use Rattle.shared_maps.specs.Places.{place_sought}
+use Rattle.shared_trees.specs.Places.{place_sought}
 use Rattle.shared_maps.proofs.Seen.{time_changes}
 use Rattle.shared_maps.proofs.Times.{on_any_err}
 use Rattle.shared_maps.proofs.time_map.TimeMap.remove.Goals as goal

@@ -1,0 +1,5 @@
+pub mod Ids
+pub mod Orders
+pub mod Parts
+pub mod Forks
+pub mod Firsts

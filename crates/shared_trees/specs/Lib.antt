@@ -1,0 +1,4 @@
+pub mod Ids
+pub mod Places
+pub mod Entries
+pub mod Tree
