@@ -2,7 +2,7 @@
 use Rattle.std.proofs.Common.{◌≡◌, ◌∙◌, ◌+◌, ◌-◌, ◌==◌, ℕ, Bool, true, false, Option, Some, cond, refl, ap, sym, add-zero, eqb-true, arith}
 use Rattle.std.specs.Ordering.{nat_cmp}
 use Rattle.std.specs.BTreeMap.{BTreeMap, get, UpdatesBy}
-use Rattle.id_maps.proofs.Changes.{number_same}
+use Rattle.std.specs.Cmp.{unsigned_ties}
 use Rattle.cell_waits.specs.Keys.{counted, is_number}
 
 counted_by : (b : Bool) (w was : Option ℕ) → counted (cond b w was) ≡ cond b (counted w) (counted was)
@@ -13,7 +13,7 @@ abbrev of_map : BTreeMap ℕ ℕ → ℕ → ℕ
 of_map m q = counted (get nat_cmp m q)
 
 changes : (m n : BTreeMap ℕ ℕ) (number : ℕ) (w : Option ℕ) → UpdatesBy nat_cmp (nat_cmp number) m n w → (q : ℕ) → of_map n q ≡ cond (number == q) (counted w) (of_map m q)
-changes m n number w updates q = ap counted (updates.0 q ∙ ap (λ (b : Bool). cond b w (get nat_cmp m q)) (number_same number q)) ∙ counted_by (number == q) w (get nat_cmp m q)
+changes m n number w updates q = ap counted (updates.0 q ∙ ap (λ (b : Bool). cond b w (get nat_cmp m q)) (sym (unsigned_ties number q))) ∙ counted_by (number == q) w (get nat_cmp m q)
 
 more_by : (b : Bool) (number q count : ℕ) (f : ℕ → ℕ) → (b ≡ true → number ≡ q) → count ≡ f number + 1 → cond b count (f q) ≡ f q + cond b 1 0
 more_by true number q count f same is = is ∙ ap (λ (k : ℕ). f k + 1) (same refl)

@@ -1,11 +1,9 @@
 -- How many there are by number, and where by id and number.
 use Rattle.std.specs.Prelude.{ℕ, ◌==◌, ◌&&◌, Bool, false, List, [], Option, Some, None}
 use Rattle.std.specs.BTreeMap.{get}
-use Rattle.std.specs.declared.alloc.Global.{Global}
-use Rattle.std.specs.declared.collections.VecDeque.{VecDeque}
 use Rattle.std.specs.Ordering.{nat_cmp}
 use Rattle.dura_value.specs.Ids.{Id, id_eq}
-use Rattle.id_maps.specs.Maps.{by_number}
+use Rattle.shared_maps.specs.Maps.{by_number}
 use Rattle.cell_waits.specs.declared.counts.Counts.{Counts}
 use Rattle.cell_waits.specs.declared.places.Places.{Places}
 
@@ -35,9 +33,10 @@ counts_in counts number = counted (get nat_cmp counts.counts number)
 abbrev pub no_count : ℕ → ℕ
 no_count number = 0
 
-abbrev pub listed : Option (VecDeque ℕ Global) → List ℕ
+-- the places that stand there, if any do
+abbrev pub listed : Option (List ℕ) → List ℕ
 listed None = []
-listed (Some places) = places.items
+listed (Some line) = line
 
 -- the places for an id and a number
 abbrev pub places_in : Places → Id → ℕ → List ℕ

@@ -2,7 +2,7 @@
 //! outcomes of activities, in one queue, in the order in which they came.
 //!
 //! - `wait`: one of these, and what it is looked for by. `waits`: the queue, with what is looked for in it.
-//! - `indices`: how many wait and where, of `counts` by partitions and `places` by ids and numbers.
+//! - `indices`: how many wait and where, of `counts` by partitions and `places` by ids and numbers; `line`: places one behind another.
 //! - `cutting`: which packets are let go of where an entry that sent one is lost.
 //! - `specs/Waits` is the plain data that these stand for, and `specs/Indices` when the indices agree with the queue.
 #![tactic(auto)]
@@ -10,6 +10,7 @@
 mod counts;
 mod cutting;
 mod indices;
+mod line;
 mod places;
 mod wait;
 mod waits;

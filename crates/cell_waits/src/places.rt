@@ -1,24 +1,24 @@
 //! Where there is something for an id and a number.
 
-ghost use Rattle.std.specs.Prelude.{◌≡◌, ◌++◌, ◌∷◌, [], ℕ, Some, None, OnOk, option_map, drop, if◌then◌else◌, slice_get};
+ghost use Rattle.std.specs.Prelude.{◌≡◌, ◌++◌, ◌∷◌, [], ℕ, Some, None, IfOk, OnOk, option_map, drop, if◌then◌else◌, slice_get};
 ghost use Rattle.dura_value.specs.ById.{at_number};
 ghost use Rattle.dura_value.specs.Ids.{Id as PlainId};
 ghost use Rattle.dura_value.specs.Views.{id_of};
-ghost use Rattle.id_maps.specs.Maps.{by_number};
+ghost use Rattle.shared_maps.specs.Maps.{by_number};
 ghost use Rattle.cell_waits.specs.Keys.{places_in, no_place, is_same, is_key};
 
+use crate::line::Line;
 use dura_value::Id;
 use flow_messages::copy_id;
-use id_maps::NumberMap;
+use shared_maps::NumberMap;
 use std::alloc::{AllocError, Global};
-use std::collections::VecDeque;
 
 /// The places at which there is something for an id and a number, the first one first. A contract sees it as a function.
 ///
 /// After an Err, which is want of memory, they are only dropped.
 #[derive(Drop)]
 pub(crate) struct Places {
-    places: NumberMap<VecDeque<u64>>,
+    places: NumberMap<Line>,
 }
 
 impl Places {
@@ -36,20 +36,20 @@ impl Places {
         ensures { result ≡ slice_get (places_in self.now (id_of id.now) number) 0 }
     {
         match self.places.get(id, number) {
-            Some(places) => places.front().copied(),
+            Some(line) => line.first(),
             None => None,
         }
     }
 
     /// The places for this id and number, which are taken out.
-    fn lift(&mut self, alloc: Global, id: &Id, number: u32) -> VecDeque<u64>
-        ensures places { result.items ≡ places_in self.old (id_of id.now) number }
-        ensures lifted { by_number self.new.places
-            ≡ at_number (by_number self.old.places) (id_of id.now) number None }
+    fn lift(&mut self, alloc: Global, id: &Id, number: u32) -> Result<Line, AllocError>
+        ensures places { IfOk result (λ line. line ≡ places_in self.old (id_of id.now) number) }
+        ensures lifted { OnOk result (by_number self.new.places
+            ≡ at_number (by_number self.old.places) (id_of id.now) number None) }
     {
-        match self.places.take(id, number) {
-            Some(places) => places,
-            None => VecDeque::new(alloc),
+        match self.places.take(alloc, id, number)? {
+            Some(line) => Ok(line),
+            None => Ok(Line::new(alloc)),
         }
     }
 
@@ -59,9 +59,9 @@ impl Places {
             ≡ places_in self.old other q
             ++ (if is_same (id_of id.now) number other q then place ∷ [] else [])) }
     {
-        let mut places = self.lift(alloc, id, number);
-        places.push_back(place)?;
-        self.places.put(alloc, copy_id(id)?, number, places)
+        let mut line = self.lift(alloc, id, number)?;
+        line.push(place)?;
+        self.places.put(alloc, copy_id(id)?, number, line)
     }
 
     /// Nothing is at the first place for the id and the number any more.
@@ -70,12 +70,12 @@ impl Places {
             ≡ drop (if is_same (id_of id.now) number other q then 1 else 0)
             (places_in self.old other q)) }
     {
-        let mut places = self.lift(alloc, id, number);
-        drop(places.pop_front());
-        if places.is_empty() {
+        let mut line = self.lift(alloc, id, number)?;
+        line.pop();
+        if line.is_empty() {
             return Ok(());
         }
-        self.places.put(alloc, copy_id(id)?, number, places)
+        self.places.put(alloc, copy_id(id)?, number, line)
     }
 
     /// Something is at this place for an id and a number, behind all others, if they are given.

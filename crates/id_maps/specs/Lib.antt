@@ -1,4 +1,0 @@
-pub mod Copies
-pub mod Keys
-pub mod Maps
-pub mod Order
