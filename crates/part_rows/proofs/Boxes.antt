@@ -1,20 +1,21 @@
 -- A stream that changes changes as a function.
-use Rattle.std.proofs.Common.{◌≡◌, ◌∙◌, ◌<◌, ◌≤◌, ◌+◌, ◌-◌, ◌==◌, ◌++◌, ℕ, suc, List, [], ◌∷◌, length, drop, map, Bool, true, false, Option, Some, None, IsSome, nat_le, eqb-true, refl, ap, sym, subst, cond, arith}
+use Rattle.std.proofs.Common.{◌≡◌, ◌∙◌, ◌<◌, ◌≤◌, ◌+◌, ◌-◌, ◌==◌, ◌++◌, ℕ, suc, List, [], ◌∷◌, length, drop, map, Bool, true, false, Option, Some, None, IsSome, Result, Ok, Err, IfOk, nat_le, eqb-true, refl, ap, sym, subst, cond, arith}
 use Rattle.std.proofs.lemmas.Bool.{leb-true, lt-leb, le-leb, eqb-true}
 use Rattle.std.proofs.lemmas.List.{map-append, length-map}
 use Rattle.std.specs.Ordering.{nat_cmp}
-use Rattle.std.specs.BTreeMap.{BTreeMap, get, UpdatesBy}
-use Rattle.id_maps.specs.Copies.{AreCopied, AreNumbersCopied}
-use Rattle.id_maps.proofs.Changes.{number_same}
+use Rattle.std.specs.BTreeMap.{BTreeMap, get, is_at, UpdatesBy}
+use Rattle.std.specs.Cmp.{unsigned_ties}
 use Rattle.dura_model.specs.Partition as plain
 use Rattle.log_items.specs.Streams as streams
 use Rattle.dura_value.specs.Items.{Posted as PlainPosted}
 use Rattle.dura_value.specs.declared.identity.Posted.{Posted}
 use Rattle.part_rows.specs.declared.streams.Outbox.{Outbox}
-use Rattle.part_rows.specs.declared.streams.Outboxes.{Outboxes}
 use Rattle.part_rows.specs.declared.streams.Inbox.{Inbox}
 use Rattle.dura_value.specs.Views.{posted_of}
-use Rattle.part_rows.specs.Views.{outbox_of, inbox_of, outboxes_of, outbox_or_new, inbox_or_new}
+use Rattle.part_rows.specs.Views.{outbox_of, inbox_of, outbox_or_new, inbox_or_new}
+
+number_same : (a b : ℕ) → is_at (nat_cmp a) b ≡ (a == b)
+number_same a b = sym (unsigned_ties a b)
 
 inbox_at : (b : Bool) (box : Inbox) (was : Option Inbox) → inbox_or_new (cond b (Some box) was) ≡ cond b (inbox_of box) (inbox_or_new was)
 inbox_at true box was = refl
@@ -46,23 +47,23 @@ box_changes m n target box f updates is = λ i q.
 abbrev behind : Posted → Change
 behind posted box = record box { messages = box.messages ++ posted_of posted ∷ [] }
 
-grown : (was now : Outbox) (posted : Posted) → now.first ≡ was.first → now.messages.items ≡ was.messages.items ++ posted ∷ [] → outbox_of now ≡ behind posted (outbox_of was)
+grown : (was now : Outbox) (posted : Posted) → now.first ≡ was.first → now.messages ≡ was.messages ++ posted ∷ [] → outbox_of now ≡ behind posted (outbox_of was)
 grown was now posted first items =
-    ap (λ (n : ℕ). record { first = n; messages = map posted_of now.messages.items }) first
-    ∙ ap (λ (ps : List PlainPosted). record { first = was.first; messages = ps }) (ap (map posted_of) items ∙ map-append posted_of was.messages.items (posted ∷ []))
+    ap (λ (n : ℕ). record { first = n; messages = map posted_of now.messages }) first
+    ∙ ap (λ (ps : List PlainPosted). record { first = was.first; messages = ps }) (ap (map posted_of) items ∙ map-append posted_of was.messages (posted ∷ []))
 
 pub posted_written : (m n : BTreeMap ℕ Outbox) (target : ℕ) (was now : Outbox) (posted : Posted) → get nat_cmp m target ≡ Some was → (IsSome (get nat_cmp m target) → UpdatesBy nat_cmp (nat_cmp target) m n (Some now))
-    → now.first ≡ was.first → now.messages.items ≡ was.messages.items ++ posted ∷ []
+    → now.first ≡ was.first → now.messages ≡ was.messages ++ posted ∷ []
     → (λ (q : ℕ). outbox_or_new (get nat_cmp n q)) ≡ streams.with_posted (λ (q : ℕ). outbox_or_new (get nat_cmp m q)) target (posted_of posted)
 posted_written m n target was now posted found writes first items =
     box_changes m n target now (behind posted) (writes (subst IsSome (sym found) refl)) (grown was now posted first items ∙ ap (λ (o : Option Outbox). behind posted (outbox_or_new o)) (sym found))
 
 pub posted_begun : (m n : BTreeMap ℕ Outbox) (target : ℕ) (now : Outbox) (posted : Posted) → get nat_cmp m target ≡ None → UpdatesBy nat_cmp (nat_cmp target) m n (Some now)
-    → now.first ≡ 0 → now.messages.items ≡ posted ∷ []
+    → now.first ≡ 0 → now.messages ≡ posted ∷ []
     → (λ (q : ℕ). outbox_or_new (get nat_cmp n q)) ≡ streams.with_posted (λ (q : ℕ). outbox_or_new (get nat_cmp m q)) target (posted_of posted)
 posted_begun m n target now posted absent updates first items =
     box_changes m n target now (behind posted) updates
-    (ap (λ (k : ℕ). record { first = k; messages = map posted_of now.messages.items }) first
+    (ap (λ (k : ℕ). record { first = k; messages = map posted_of now.messages }) first
     ∙ ap (λ (ps : List Posted). record { first = 0; messages = map posted_of ps }) items
     ∙ ap (λ (o : Option Outbox). behind posted (outbox_or_new o)) (sym absent))
 
@@ -113,13 +114,20 @@ unchanged : (target : ℕ) (boxes : ℕ → streams.Outbox) → changed_at (λ (
 unchanged target boxes = λ i q. either (target == q) (boxes q) i
 
 -- a stream that was lent begins later, or stays
-pub begun_written : (m n : BTreeMap ℕ Outbox) (target number : ℕ) (was now : Outbox) (b : Bool) → get nat_cmp m target ≡ Some was → (IsSome (get nat_cmp m target) → UpdatesBy nat_cmp (nat_cmp target) m n (Some now))
+begun_written : (m n : BTreeMap ℕ Outbox) (target number : ℕ) (was now : Outbox) (b : Bool) → get nat_cmp m target ≡ Some was → (IsSome (get nat_cmp m target) → UpdatesBy nat_cmp (nat_cmp target) m n (Some now))
     → outbox_of now ≡ cond b (streams.begins_at number (outbox_of was)) (outbox_of was)
     → (λ (q : ℕ). outbox_or_new (get nat_cmp n q)) ≡ cond b (streams.with_first (λ (q : ℕ). outbox_or_new (get nat_cmp m q)) target number) (λ (q : ℕ). outbox_or_new (get nat_cmp m q))
 begun_written m n target number was now true found writes is =
     box_changes m n target now (streams.begins_at number) (writes (subst IsSome (sym found) refl)) (is ∙ ap (λ (o : Option Outbox). streams.begins_at number (outbox_or_new o)) (sym found))
 begun_written m n target number was now false found writes is =
     box_changes m n target now (λ (box : streams.Outbox). box) (writes (subst IsSome (sym found) refl)) (is ∙ ap outbox_or_new (sym found)) ∙ unchanged target (λ (q : ℕ). outbox_or_new (get nat_cmp m q))
+
+-- the same where it may be refused for want of memory
+pub begun_if_ok : {E : Type 0} (m n : BTreeMap ℕ Outbox) (target number : ℕ) (was now : Outbox) (r : Result Bool E) → get nat_cmp m target ≡ Some was
+    → (IsSome (get nat_cmp m target) → UpdatesBy nat_cmp (nat_cmp target) m n (Some now)) → IfOk r (λ b. outbox_of now ≡ cond b (streams.begins_at number (outbox_of was)) (outbox_of was))
+    → IfOk r (λ b. (λ (q : ℕ). outbox_or_new (get nat_cmp n q)) ≡ cond b (streams.with_first (λ (q : ℕ). outbox_or_new (get nat_cmp m q)) target number) (λ (q : ℕ). outbox_or_new (get nat_cmp m q)))
+begun_if_ok m n target number was now (Ok b) found writes is = begun_written m n target number was now b found writes is
+begun_if_ok m n target number was now (Err e) found writes is = tt
 
 at_zero : (box : streams.Outbox) → streams.begins_at 0 box ≡ box
 at_zero box = ap (λ (b : Bool). begins_by b 0 box) (le-leb 0 box.first (omega (arith)))
@@ -137,24 +145,6 @@ begun_nowhere m target number absent is =
 
 -- where a stream that is there ends
 pub end_found : (m : BTreeMap ℕ Outbox) (target : ℕ) (was : Outbox) → get nat_cmp m target ≡ Some was
-    → (outbox_or_new (get nat_cmp m target)).first + length (outbox_or_new (get nat_cmp m target)).messages ≡ was.first + length was.messages.items
+    → (outbox_or_new (get nat_cmp m target)).first + length (outbox_or_new (get nat_cmp m target)).messages ≡ was.first + length was.messages
 end_found m target was found =
-    ap (λ (o : Option Outbox). (outbox_or_new o).first + length (outbox_or_new o).messages) found ∙ ap (λ (n : ℕ). was.first + n) (length-map was.messages.items posted_of)
-
--- ---- copies
-
-pub same_outbox : (was now : Outbox) → now.first ≡ was.first → now.messages.items ≡ was.messages.items → outbox_of now ≡ outbox_of was
-same_outbox was now first items =
-    ap (λ (n : ℕ). record { first = n; messages = map posted_of now.messages.items }) first
-    ∙ ap (λ (ps : List Posted). record { first = was.first; messages = map posted_of ps }) items
-
-module _ (IsCopy : Outbox → Outbox → Type 0) (alike : (was now : Outbox) → IsCopy was now → outbox_of now ≡ outbox_of was) where
-  box_copied : (was now : Option Outbox) → AreCopied IsCopy was now → outbox_or_new now ≡ outbox_or_new was
-  box_copied None None copied = refl
-  box_copied None (Some now) copied = absurd copied
-  box_copied (Some was) None copied = absurd copied
-  box_copied (Some was) (Some now) copied = alike was now copied
-
-  -- streams that are copied one by one are the same
-  pub boxes_copied : (boxes copies : Outboxes) → AreNumbersCopied IsCopy boxes.boxes copies.boxes → outboxes_of copies ≡ outboxes_of boxes
-  boxes_copied boxes copies copied = λ i target. box_copied (get nat_cmp boxes.boxes target) (get nat_cmp copies.boxes target) (copied target) i
+    ap (λ (o : Option Outbox). (outbox_or_new o).first + length (outbox_or_new o).messages) found ∙ ap (λ (n : ℕ). was.first + n) (length-map was.messages posted_of)

@@ -1,9 +1,8 @@
 -- What is left of a stream, as it is seen.
-use Rattle.std.proofs.Common.{◌≡◌, ◌∙◌, ℕ, List, [], length, map, Option, Some, None, option_map, refl, ap, sym}
+use Rattle.std.proofs.Common.{◌≡◌, ◌∙◌, ℕ, List, length, map, Option, Some, None, option_map, ap, sym}
 use Rattle.std.specs.List.{slice_get}
 use Rattle.std.proofs.lemmas.List.{length-map}
 use Rattle.std.proofs.lemmas.Option.{slice_get-map}
-use Rattle.dura_value.specs.Items as items
 use Rattle.dura_value.specs.Views.{posted_of}
 use Rattle.dura_value.specs.declared.identity.Posted.{Posted}
 

@@ -1,5 +1,5 @@
 pub mod Boxes
-pub mod Copied
+pub mod Counting
 pub mod Left
 pub mod Links
 pub mod Opening

@@ -1,7 +1,10 @@
 -- The first message of a link, by its place.
-use Rattle.std.proofs.Common.{◌≡◌, ◌∙◌, ◌<◌, ◌≤◌, ◌+◌, ℕ, suc, List, [], ◌∷◌, length, Bool, true, false, not, Some, None, get_or, nat_lt, refl, ap, sym, subst, cond, arith}
-use Rattle.std.proofs.lemmas.Bool.{ltb-true, ltb-false}
-use Rattle.std.specs.List.{position, position_or_len, remove}
+use Rattle.std.proofs.Common.{◌≡◌, ◌∙◌, ◌<◌, ◌≤◌, ◌+◌, ℕ, suc, List, [], ◌∷◌, length, Bool, true, false, not, Some, None, get_or, nat_lt, refl, ap, sym, subst, drop, cond, arith}
+use Rattle.std.proofs.lemmas.Bool.{ltb-true, ltb-false, lt-ltb, le-ltb}
+use Rattle.std.specs.List.{position, position_or_len, remove, slice_get}
+use Rattle.std.proofs.lemmas.List.{drop_more}
+use Rattle.std.proofs.lemmas.Option.{slice_get_within, get_or_from_slice_get}
+use Rattle.std.proofs.Math.ListN.{drop_of_length-le}
 use Rattle.dura_value.specs.declared.messages.Message.{Message}
 use Rattle.dura_value.specs.Ids.{Id}
 use Rattle.dura_value.specs.Messages as said
@@ -91,17 +94,56 @@ place_found ms from to place is =
 pub place_inside : (ms : List Message) (from to : Id) (place : ℕ) → Some place ≡ position (is_of_link from to) ms → place < length ms
 place_inside ms from to place is = (place_found ms from to place is).0
 
-pub place_said : (ms : List Message) (from to : Id) (place : ℕ) (m : Message) → Some place ≡ position (is_of_link from to) ms → m ≡ get_or ms place m → first_in (messages_of ms) from to ≡ Some (body_of m.body)
-place_said ms from to place m is at = (place_found ms from to place is).1.said m ∙ ap (λ (d : Message). Some (body_of d.body)) (sym at)
+pub place_said : (ms : List Message) (from to : Id) (place : ℕ) (m : Message) → Some place ≡ position (is_of_link from to) ms → slice_get ms place ≡ Some m → first_in (messages_of ms) from to ≡ Some (body_of m.body)
+place_said ms from to place m is at = (place_found ms from to place is).1.said m ∙ ap (λ (d : Message). Some (body_of d.body)) (get_or_from_slice_get ms place m m at)
 
 pub place_gone : (ms : List Message) (from to : Id) (place : ℕ) → Some place ≡ position (is_of_link from to) ms → without_first (messages_of ms) from to ≡ messages_of (remove ms place)
 place_gone ms from to place is = (place_found ms from to place is).1.gone
 
-pub place_is_link : (ms : List Message) (from to : Id) (place : ℕ) (m : Message) → Some place ≡ position (is_of_link from to) ms → m ≡ get_or ms place m → is_of_link from to m ≡ true
-place_is_link ms from to place m is at = ap (is_of_link from to) at ∙ (place_found ms from to place is).1.link m
+pub place_is_link : (ms : List Message) (from to : Id) (place : ℕ) (m : Message) → Some place ≡ position (is_of_link from to) ms → slice_get ms place ≡ Some m → is_of_link from to m ≡ true
+place_is_link ms from to place m is at = ap (is_of_link from to) (sym (get_or_from_slice_get ms place m m at)) ∙ (place_found ms from to place is).1.link m
 
 pub no_place_said : (ms : List Message) (from to : Id) → None ≡ position (is_of_link from to) ms → first_in (messages_of ms) from to ≡ None
 no_place_said ms from to is = (missing ms from to (past_of (place_in from to ms) (length ms) (not_there (nat_lt (place_in from to ms) (length ms)) (place_in from to ms) (sym is)))).said
 
 pub no_place_gone : (ms : List Message) (from to : Id) → None ≡ position (is_of_link from to) ms → without_first (messages_of ms) from to ≡ messages_of ms
 no_place_gone ms from to is = (missing ms from to (past_of (place_in from to ms) (length ms) (not_there (nat_lt (place_in from to ms) (length ms)) (place_in from to ms) (sym is)))).gone
+
+-- ---- one place after the other
+
+module _ (p : Message → Bool) where
+  -- where the first of what is left from a place on is
+  abbrev pub place_from : List Message → ℕ → ℕ
+  place_from ms place = place + position_or_len p (drop place ms)
+
+  left : (ms : List Message) (place : ℕ) (m : Message) → slice_get ms place ≡ Some m → drop place ms ≡ m ∷ drop (place + 1) ms
+  left ms place m is = drop_more ms place m (slice_get_within ms place m is) ∙ ap (λ (x : Message). x ∷ drop (place + 1) ms) (get_or_from_slice_get ms place m m is)
+
+  one_on : (b : Bool) (place rest : ℕ) → b ≡ false → place + cond (not b) (1 + rest) 0 ≡ (place + 1) + rest
+  one_on true place rest is = absurd (cc is)
+  one_on false place rest is = omega (arith)
+
+  -- the one at this place is passed over
+  pub passed_over : (ms : List Message) (place : ℕ) (m : Message) → slice_get ms place ≡ Some m → p m ≡ false → place_from ms place ≡ place_from ms (place + 1)
+  passed_over ms place m is closed =
+      ap (λ (rest : List Message). place + position_or_len p rest) (left ms place m is) ∙ one_on (p m) place (position_or_len p (drop (place + 1) ms)) closed
+
+  stays : (b : Bool) (place rest : ℕ) → b ≡ true → place + cond (not b) (1 + rest) 0 ≡ place
+  stays true place rest is = omega (arith)
+  stays false place rest is = absurd (cc is)
+
+  lies : (n k : ℕ) → n < k → cond (nat_lt n k) (Some n) None ≡ Some n
+  lies n k inside = ap (λ (b : Bool). cond b (Some n) None) (lt-ltb n k inside)
+
+  -- the one at this place is the first
+  pub here_first : (ms : List Message) (place : ℕ) (m : Message) → position_or_len p ms ≡ place_from ms place → slice_get ms place ≡ Some m → p m ≡ true → Some place ≡ position p ms
+  here_first ms place m so_far is taken =
+      let at = so_far ∙ ap (λ (rest : List Message). place + position_or_len p rest) (left ms place m is) ∙ stays (p m) place (position_or_len p (drop (place + 1) ms)) taken in
+      sym (ap (λ (n : ℕ). cond (nat_lt n (length ms)) (Some n) None) at ∙ lies place (length ms) (slice_get_within ms place m is))
+
+  -- there is none up to the end
+  pub nowhere : (ms : List Message) (place : ℕ) → position_or_len p ms ≡ place_from ms place → length ms ≤ place → None ≡ position p ms
+  nowhere ms place so_far past =
+      let at : position_or_len p ms ≡ place + 0 = so_far ∙ ap (λ (rest : List Message). place + position_or_len p rest) (drop_of_length-le ms past) in
+      let outside : length ms ≤ position_or_len p ms = omega (arith, at, past) in
+      sym (ap (λ (b : Bool). cond b (Some (position_or_len p ms)) None) (le-ltb (position_or_len p ms) (length ms) outside))

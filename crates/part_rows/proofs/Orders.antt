@@ -91,7 +91,7 @@ put_same f id number x there = λ i other other_number. same_at (plain.id_eq id 
 pub is_at_itself : (due : ℕ) → is_at (Some due) due ≡ true
 is_at_itself due = number_self due
 
-is_at_true : (was : Option ℕ) (due : ℕ) → is_at was due ≡ true → was ≡ Some due
+pub is_at_true : (was : Option ℕ) (due : ℕ) → is_at was due ≡ true → was ≡ Some due
 is_at_true None due is = absurd (cc is)
 is_at_true (Some stamp) due is = ap Some (eqb-true stamp due is)
 

@@ -1,8 +1,10 @@
 -- The timers of a partition, and which is due first.
-use Rattle.std.specs.Prelude.{◌≡◌, ℕ, ◌≤◌, ◌<◌, ◌==◌, Bool, false, Option, Some, None, if◌then◌else◌}
+use Rattle.std.specs.Prelude.{◌≡◌, ℕ, ◌≤◌, ◌<◌, ◌==◌, ◌&&◌, Bool, false, not, nat_lt, List, Option, Some, None, if◌then◌else◌}
+use Rattle.std.specs.List.{IsDistinct}
+use Rattle.std.specs.Set.{is_member}
 use Rattle.std.specs.declared.cmp.Ordering.{Ordering}
 use Rattle.std.specs.Ordering.{is_gt}
-use Rattle.dura_value.specs.Ids.{Id}
+use Rattle.dura_value.specs.Ids.{Id, id_eq}
 use Rattle.shared_maps.specs.Ids.{key_of}
 use Rattle.shared_maps.specs.Maps.{by_number, by_time}
 use Rattle.part_rows.specs.declared.timer.Timer.{Timer}
@@ -51,3 +53,17 @@ pub record IsNext (timers : Id → ℕ → Option ℕ) (due : ℕ) : Type 0 wher
 -- there is none
 abbrev pub NoTimer : (Id → ℕ → Option ℕ) → Type 0
 NoTimer timers = (id : Id) (task : ℕ) → timers id task ≡ None
+
+-- whether a timer is due by now
+abbrev pub is_due : Option ℕ → ℕ → Bool
+is_due None now = false
+is_due (Some due) now = not (nat_lt now due)
+
+-- whether two are one task of one instance
+abbrev pub is_same_task : Id × ℕ → Id × ℕ → Bool
+is_same_task a b = id_eq a.0 b.0 && a.1 == b.1
+
+-- These are the tasks whose timers are due by now, each once.
+pub record AreDue (timers : Id → ℕ → Option ℕ) (now : ℕ) (due : List (Id × ℕ)) : Type 0 where
+  pub are : (task : Id × ℕ) → is_member is_same_task due task ≡ is_due (timers task.0 task.1) now
+  pub once : IsDistinct is_same_task due

@@ -27,7 +27,7 @@ abbrev pub activity_of : Activity → world.Activity
 activity_of one = record { name = one.name; argument = one.argument }
 
 abbrev pub outbox_of : Outbox → streams.Outbox
-outbox_of box = record { first = box.first; messages = map posted_of box.messages.items }
+outbox_of box = record { first = box.first; messages = map posted_of box.messages }
 
 abbrev pub inbox_of : Inbox → plain.Inbox
 inbox_of box = record { next = box.next; reader = identity_of box.reader }

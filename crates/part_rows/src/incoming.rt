@@ -10,7 +10,7 @@ ghost use Rattle.part_rows.specs.Accepts.{Accepts};
 use crate::parts::PartRows;
 use crate::streams::Inbox;
 use dura_value::{Identity, Message, home};
-use std::alloc::AllocError;
+use std::alloc::{AllocError, Global};
 
 impl PartRows {
     /// Whether a stream comes from another partition.
@@ -23,7 +23,13 @@ impl PartRows {
 
     /// The next message of a stream is taken in by the entry under way.
     #[tactic(auto, using(crate::proofs::Posting::joined))]
-    fn take_in(&mut self, source: u32, number: u64, message: Message) -> Result<(), AllocError>
+    fn take_in(
+        &mut self,
+        alloc: Global,
+        source: u32,
+        number: u64,
+        message: Message,
+    ) -> Result<(), AllocError>
         ensures taken { OnOk result (part_of self.new
             ≡ record (part_of self.old) {
               queue = (part_of self.old).queue ++ message_of message
@@ -39,7 +45,7 @@ impl PartRows {
             return Err(AllocError);
         };
         let reader = self.entry();
-        self.queue.push(message)?;
+        self.queue.push(alloc, message)?;
         self.inboxes.put(source, Inbox { next, reader })?;
         Ok(())
     }
@@ -60,6 +66,7 @@ impl PartRows {
     /// The next message of a stream from another partition joins the queue; any other is refused.
     pub fn got(
         &mut self,
+        alloc: Global,
         source: &Identity,
         number: u64,
         message: Message,
@@ -76,17 +83,27 @@ impl PartRows {
             drop(message);
             return Ok(false);
         }
-        self.take_in(source.partition, number, message)?;
+        self.take_in(alloc, source.partition, number, message)?;
         Ok(true)
     }
 
     /// The stream to another partition begins later, not past its end; else this is refused.
-    pub fn trim(&mut self, reader: &Identity, number: u64) -> bool
-        ensures accepts { Accepts result (part_of self.old) (part_of self.new)
-            (trim_in self.old.partitions (part_of self.old) (identity_of reader.now) number) }
+    pub fn trim(
+        &mut self,
+        alloc: Global,
+        reader: &Identity,
+        number: u64,
+    ) -> Result<bool, AllocError>
+        ensures accepts { IfOk result (λ yes.
+            Accepts yes (part_of self.old) (part_of self.new)
+            (trim_in self.old.partitions (part_of self.old) (identity_of reader.now) number)) }
         ensures timers { self.new.timers ≡ self.old.timers }
         ensures partitions { self.new.partitions ≡ self.old.partitions }
     {
-        self.is_other(reader.partition) && self.outboxes.begin_at(reader.partition, number)
+        if !self.is_other(reader.partition) {
+            return Ok(false);
+        }
+        let begins = self.outboxes.begin_at(alloc, reader.partition, number)?;
+        Ok(begins)
     }
 }

@@ -68,7 +68,7 @@ impl PartRows {
             entities: IdMap::new(alloc),
             activities: TaskMap::new(alloc),
             timers: TimerRow::new(alloc),
-            queue: Queue::new(alloc),
+            queue: Queue::new(),
             inboxes: Inboxes::new(alloc),
             outboxes: Outboxes::new(alloc),
         }
@@ -107,9 +107,9 @@ impl PartRows {
         self.entities = other.entities.copy()?;
         self.activities = other.activities.copy()?;
         self.timers = other.timers.copy()?;
-        self.queue = other.queue.copy(alloc)?;
+        self.queue = other.queue.copy()?;
         self.inboxes = other.inboxes.copy()?;
-        self.outboxes = other.outboxes.copy(alloc)?;
+        self.outboxes = other.outboxes.copy()?;
         Ok(())
     }
 
@@ -140,7 +140,7 @@ impl PartRows {
     {
         let target = home(&message.to, self.partitions);
         if target == self.number {
-            return self.queue.push(message);
+            return self.queue.push(alloc, message);
         }
         let entry = self.entry();
         self.outboxes.push(alloc, target, Posted { entry, message })

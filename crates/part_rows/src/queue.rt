@@ -6,31 +6,15 @@ ghost use Rattle.dura_value.specs.Views.{id_of, body_of, messages_of};
 ghost use Rattle.dura_model.specs.Partition.{first_in, without_first};
 ghost use Rattle.part_rows.specs.Queues.{is_of_link, said_in};
 
-use crate::copies::copy_message;
-use dura_value::{Id, Message, with};
+use dura_value::{Id, Message};
+use shared_lists::{Shared, SharedSequence};
 use std::alloc::{AllocError, Global};
-use std::collections::VecDeque;
 use std::marker::Model;
 
-/// Copies of these messages come behind the others.
-#[tactic(auto, using(crate::proofs::Copied::first_copied))]
-fn add_copies(
-    copies: &mut VecDeque<Message>,
-    messages: &VecDeque<Message>,
-) -> Result<(), AllocError>
-    ensures { OnOk result (copies.new.items ≡ copies.old.items ++ messages.now.items) }
-{
-    for message in messages.iter() {
-        let copy = copy_message(message)?;
-        copies.push_back(copy)?;
-    }
-    Ok(())
-}
-
-/// Messages in the order in which they came, which a contract sees as a list.
+/// Messages in the order in which they came, which a contract sees as a list. Copies share them.
 #[derive(Drop)]
 pub struct Queue {
-    messages: VecDeque<Message>,
+    messages: SharedSequence<Message>,
 }
 
 impl Model for Queue {
@@ -39,35 +23,49 @@ impl Model for Queue {
 
     ghost Value = { List Message };
 
-    ghost view = { λ q. q.messages.items };
+    ghost view = { λ q. q.messages };
+}
+
+/// Whether a message is from one to the other.
+#[tactic(auto, using(dura_value::proofs::Ids::derived_id_eq))]
+fn is_between(message: &Message, from: &Id, to: &Id) -> bool
+    ensures { result ≡ is_of_link (id_of from.now) (id_of to.now) message.now }
+{
+    *from == message.from && *to == message.to
 }
 
 impl Queue {
     /// A queue without messages.
-    pub fn new(alloc: Global) -> Queue
+    pub fn new() -> Queue
         ensures { result ≡ [] }
     {
         Queue {
-            messages: VecDeque::new(alloc),
+            messages: SharedSequence::new(),
         }
     }
 
     /// A message comes behind all others.
-    pub fn push(&mut self, message: Message) -> Result<(), AllocError>
+    pub fn push(&mut self, alloc: Global, message: Message) -> Result<(), AllocError>
         ensures { OnOk result (self.new ≡ self.old ++ message ∷ []) }
     {
-        self.messages.push_back(message)?;
-        Ok(())
+        self.messages.push(alloc, message)
     }
 
     /// Where the first message from one to the other is.
-    #[tactic(auto, using(dura_value::proofs::Ids::derived_id_eq))]
+    #[tactic(auto, using(crate::proofs::Links::nowhere))]
     fn place_of(&self, from: &Id, to: &Id) -> Option<usize>
         ensures { result ≡ position (is_of_link (id_of from.now) (id_of to.now)) self.now }
     {
-        self.messages
-            .iter()
-            .position(|message| *from == message.from && *to == message.to)
+        let length = self.messages.len();
+        let mut place = 0;
+        while place < length {
+            let message = self.messages.get(place)?;
+            if is_between(message, from, to) {
+                return Some(place);
+            }
+            place += 1;
+        }
+        None
     }
 
     /// How many messages there are.
@@ -86,27 +84,32 @@ impl Queue {
 
     /// The first message from one to the other is taken out.
     #[tactic(auto, using(crate::proofs::Links::place_is_link, crate::proofs::Links::place_inside, crate::proofs::Links::place_said, crate::proofs::Links::place_gone, crate::proofs::Links::no_place_said, crate::proofs::Links::no_place_gone))]
-    pub fn take_first(&mut self, from: &Id, to: &Id) -> Option<Message>
-        ensures first { said_in result ≡ first_in (messages_of self.old) (id_of from.now)
-            (id_of to.now) }
-        ensures rest { messages_of self.new
-            ≡ without_first (messages_of self.old) (id_of from.now) (id_of to.now) }
-        ensures link { IfSome result (λ m. is_of_link (id_of from.now) (id_of to.now) m ≡ true) }
-        ensures none { IfNone result (self.new ≡ self.old) }
+    pub fn take_first(
+        &mut self,
+        alloc: Global,
+        from: &Id,
+        to: &Id,
+    ) -> Result<Option<Shared<Message>>, AllocError>
+        ensures first { IfOk result (λ taken. said_in taken
+            ≡ first_in (messages_of self.old) (id_of from.now) (id_of to.now)) }
+        ensures rest { OnOk result (messages_of self.new
+            ≡ without_first (messages_of self.old) (id_of from.now) (id_of to.now)) }
+        ensures link { IfOk result (λ taken. IfSome taken (λ m.
+            is_of_link (id_of from.now) (id_of to.now) m ≡ true)) }
+        ensures none { IfOk result (λ taken. IfNone taken (self.new ≡ self.old)) }
     {
         match self.place_of(from, to) {
-            Some(place) => self.messages.remove(place),
-            None => None,
+            Some(place) => Ok(Some(self.messages.remove(alloc, place)?)),
+            None => Ok(None),
         }
     }
 
-    /// The same messages.
-    pub fn copy(&self, alloc: Global) -> Result<Queue, AllocError>
+    /// The same messages, which both share.
+    pub fn copy(&self) -> Result<Queue, AllocError>
         ensures { IfOk result (λ copy. copy ≡ self.now) }
     {
-        let mut messages = VecDeque::with_capacity(alloc, self.messages.len())?;
-        let copied = add_copies(&mut messages, &self.messages);
-        let (_, messages) = with(copied, messages)?;
-        Ok(Queue { messages })
+        Ok(Queue {
+            messages: self.messages.copy()?,
+        })
     }
 }

@@ -8,18 +8,18 @@ ghost use Rattle.dura_value.specs.Views.{posted_of, identity_of};
 ghost use Rattle.part_rows.specs.Views.{inbox_of, outbox_of, inboxes_of, outboxes_of, no_outbox, no_inbox};
 
 use crate::copies::copy_message;
-use dura_value::{Identity, Posted, with};
-use id_maps::copy_numbers;
+use dura_value::{Identity, Posted};
+use shared_lists::SharedSequence;
 use std::alloc::{AllocError, Global};
-use std::collections::{BTreeMap, VecDeque};
+use std::collections::BTreeMap;
 
-/// What is left of the stream to another partition.
+/// What is left of the stream to another partition. Copies share its messages.
 #[derive(Drop)]
 pub struct Outbox {
     /// The number of its first message.
     pub first: u64,
     /// The messages.
-    pub messages: VecDeque<Posted>,
+    pub messages: SharedSequence<Posted>,
 }
 
 /// How far the stream from another partition was taken in.
@@ -53,23 +53,22 @@ pub fn copy_posted(posted: &Posted) -> Result<Posted, AllocError>
     })
 }
 
-/// Copies of these messages come behind the others.
-#[tactic(auto, using(crate::proofs::Copied::first_copied))]
-fn add_copies(copies: &mut VecDeque<Posted>, messages: &VecDeque<Posted>) -> Result<(), AllocError>
-    ensures { OnOk result (copies.new.items ≡ copies.old.items ++ messages.now.items) }
-{
-    for posted in messages.iter() {
-        let copy = copy_posted(posted)?;
-        copies.push_back(copy)?;
-    }
-    Ok(())
-}
-
 /// The message at a place among these.
-fn message_at(messages: &VecDeque<Posted>, place: usize) -> Option<&Posted>
-    ensures { option_map (λ posted. posted.now) result ≡ slice_get messages.now.items place }
+fn message_at(messages: &SharedSequence<Posted>, place: usize) -> Option<&Posted>
+    ensures { option_map (λ posted. posted.now) result ≡ slice_get messages.now place }
 {
     messages.get(place)
+}
+
+impl Clone for Outbox {
+    ghost is_clone = { λ outbox copy. copy ≡ outbox };
+
+    fn clone(&self) -> Result<Self, AllocError> {
+        Ok(Outbox {
+            first: self.first,
+            messages: self.messages.copy()?,
+        })
+    }
 }
 
 impl Outbox {
@@ -90,45 +89,34 @@ impl Outbox {
         message_at(&self.messages, place as usize)
     }
 
-    /// The same stream.
-    fn copy(&self, alloc: Global) -> Result<Outbox, AllocError>
-        ensures { IfOk result (λ copy. outbox_of copy ≡ outbox_of self.now) }
-    {
-        let mut messages = VecDeque::with_capacity(alloc, self.messages.len())?;
-        let copied = add_copies(&mut messages, &self.messages);
-        let (_, messages) = with(copied, messages)?;
-        Ok(Outbox {
-            first: self.first,
-            messages,
-        })
-    }
-
     /// It begins at a later number; one that it has begun at stays. A number past its end is refused.
-    fn begin_at(&mut self, number: u64) -> bool
-        ensures refused { result ≡ nat_le number (self.old.first + length self.old.messages.items) }
-        ensures begins { outbox_of self.new ≡
-            (if result then begins_at number (outbox_of self.old) else outbox_of self.old) }
+    fn begin_at(&mut self, alloc: Global, number: u64) -> Result<bool, AllocError>
+        ensures refused { IfOk result (λ begins. begins
+            ≡ nat_le number (self.old.first + length self.old.messages)) }
+        ensures begins { IfOk result (λ begins. outbox_of self.new ≡
+            (if begins then begins_at number (outbox_of self.old) else outbox_of self.old)) }
     {
         if number <= self.first {
-            return true;
+            return Ok(true);
         }
         if (self.messages.len() as u64) < number - self.first {
-            return false;
+            return Ok(false);
         }
-        self.drop_to(number);
-        true
+        self.drop_to(alloc, number)?;
+        Ok(true)
     }
 
     /// It begins at a later number, which is not past its end.
-    fn drop_to(&mut self, number: u64)
+    fn drop_to(&mut self, alloc: Global, number: u64) -> Result<(), AllocError>
         requires later { self.old.first ≤ number }
-        requires inside { number ≤ self.old.first + length self.old.messages.items }
-        ensures { outbox_of self.new ≡ begins_at number (outbox_of self.old) }
+        requires inside { number ≤ self.old.first + length self.old.messages }
+        ensures { OnOk result (outbox_of self.new ≡ begins_at number (outbox_of self.old)) }
     {
         while self.first < number {
-            drop(self.messages.pop_front());
+            drop(self.messages.remove(alloc, 0)?);
             self.first += 1;
         }
+        Ok(())
     }
 }
 
@@ -149,10 +137,10 @@ impl Outboxes {
             ≡ with_posted (outboxes_of self.old) target (posted_of posted)) }
     {
         match self.boxes.get_mut(&target) {
-            Some(outbox) => outbox.messages.push_back(posted)?,
+            Some(outbox) => outbox.messages.push(alloc, posted)?,
             None => {
-                let mut messages = VecDeque::new(alloc);
-                messages.push_back(posted)?;
+                let mut messages = SharedSequence::new();
+                messages.push(alloc, posted)?;
                 self.boxes.insert(target, Outbox { first: 0, messages })?;
             }
         }
@@ -161,16 +149,16 @@ impl Outboxes {
 
     /// The stream to a partition begins at a later number; one that it has begun at stays. A number past its end is refused.
     #[tactic(auto, using(crate::proofs::Boxes::begun_nowhere))]
-    pub fn begin_at(&mut self, target: u32, number: u64) -> bool
-        ensures refused { result ≡ nat_le number
-            ((outboxes_of self.old target).first + length (outboxes_of self.old target).messages) }
-        ensures begins { outboxes_of self.new
-            ≡ (if result then with_first (outboxes_of self.old) target number else outboxes_of
-            self.old) }
+    pub fn begin_at(&mut self, alloc: Global, target: u32, number: u64) -> Result<bool, AllocError>
+        ensures refused { IfOk result (λ begins. begins ≡ nat_le number
+            ((outboxes_of self.old target).first + length (outboxes_of self.old target).messages)) }
+        ensures begins { IfOk result (λ begins. outboxes_of self.new
+            ≡ (if begins then with_first (outboxes_of self.old) target number else outboxes_of
+            self.old)) }
     {
         match self.boxes.get_mut(&target) {
-            Some(outbox) => outbox.begin_at(number),
-            None => number == 0,
+            Some(outbox) => outbox.begin_at(alloc, number),
+            None => Ok(number == 0),
         }
     }
 
@@ -205,12 +193,12 @@ impl Outboxes {
         }
     }
 
-    /// The same streams.
-    pub fn copy(&self, alloc: Global) -> Result<Outboxes, AllocError>
+    /// The same streams, which share their messages.
+    pub fn copy(&self) -> Result<Outboxes, AllocError>
         ensures { IfOk result (λ copy. outboxes_of copy ≡ outboxes_of self.now) }
     {
         Ok(Outboxes {
-            boxes: copy_numbers(alloc, &self.boxes, &|outbox| outbox.copy(alloc))?,
+            boxes: self.boxes.clone()?,
         })
     }
 }

@@ -1,10 +1,11 @@
 //! The timers of a partition.
 
-ghost use Rattle.std.specs.Prelude.{◌≡◌, Some, None, IfOk, OnOk, IfSome, IfNone};
+ghost use Rattle.std.specs.Prelude.{◌≡◌, ◌-◌, ◌^◌, ℕ, List, Some, None, IfOk, OnOk, IfSome, IfNone, length, min};
+ghost use Rattle.dura_value.specs.Ids.{Id as PlainId};
 ghost use Rattle.dura_value.specs.Views.{id_of};
 ghost use Rattle.dura_value.specs.ById.{at_number, cleared};
 ghost use Rattle.shared_maps.specs.Maps.{no_number};
-ghost use Rattle.part_rows.specs.Timers.{timers_in, InOrder, IsFirstDue, NoneDue, IsNext, NoTimer};
+ghost use Rattle.part_rows.specs.Timers.{timers_in, AreDue, InOrder, IsFirstDue, NoneDue, IsNext, NoTimer};
 
 use crate::timer::Timer;
 use dura_value::Id;
@@ -95,6 +96,25 @@ impl TimerRow {
             Some(first) => { if first.due <= now { Some(first) } else { None } }
             None => None,
         }
+    }
+
+    /// How many timers are due by now, counted up to the greatest number that there is. It takes no memory, and a step of the order
+    /// for each that is due.
+    pub fn due_count(&self, now: u64) -> usize
+        requires { InOrder self.now }
+        ensures { (due : List (PlainId × ℕ)) × AreDue (timers_in self.now) now due
+            × (result ≡ min (length due) (2 ^ 64 - 1)) }
+    {
+        let mut count: usize = 0;
+        let mut last = None;
+        while let Some((due, id, task)) = self.order.next(last) {
+            if due > now {
+                return count;
+            }
+            count = count.saturating_add(1);
+            last = Some((due, id, task));
+        }
+        count
     }
 
     /// The stamp at which the first timer is due.

@@ -83,24 +83,30 @@ fn get(
     ensures timers { rows.new.timers ≡ rows.old.timers }
     ensures partitions { rows.new.partitions ≡ rows.old.partitions }
 {
-    if !rows.got(&source, number, copy_message(message)?)? {
+    if !rows.got(alloc, &source, number, copy_message(message)?)? {
         return Ok(None);
     }
     Ok(Some(sent_alone(alloc, Vec::new(alloc))))
 }
 
 /// A stream is let go of.
-fn let_go(alloc: Global, rows: &mut PartRows, reader: Identity, number: u64) -> Option<Outputs>
-    ensures applied { Applied result (part_of rows.old) (part_of rows.new)
+fn let_go(
+    alloc: Global,
+    rows: &mut PartRows,
+    reader: Identity,
+    number: u64,
+) -> Result<Option<Outputs>, AllocError>
+    ensures applied { IfOk result (λ made.
+        Applied made (part_of rows.old) (part_of rows.new)
         (trim_in rows.old.partitions (part_of rows.old) (identity_of reader) number)
-        (record { sent = []; answers = [] }) }
+        (record { sent = []; answers = [] })) }
     ensures timers { rows.new.timers ≡ rows.old.timers }
     ensures partitions { rows.new.partitions ≡ rows.old.partitions }
 {
-    if !rows.trim(&reader, number) {
-        return None;
+    if !rows.trim(alloc, &reader, number)? {
+        return Ok(None);
     }
-    Some(sent_alone(alloc, Vec::new(alloc)))
+    Ok(Some(sent_alone(alloc, Vec::new(alloc))))
 }
 
 /// A message that left the queue reaches its receiver, who takes it.
@@ -156,10 +162,10 @@ fn run<R: Reactions>(
     if !takes_at(rows, from, to, stamp) {
         return Ok(None);
     }
-    let Some(message) = rows.queue.take_first(from, to) else {
+    let Some(message) = rows.queue.take_first(alloc, from, to)? else {
         return Ok(None);
     };
-    let made = reach_first(alloc, reactions, rows, &message, stamp);
+    let made = reach_first(alloc, reactions, rows, message.get(), stamp);
     drop(message);
     Ok(Some(made?))
 }
@@ -321,7 +327,7 @@ pub(crate) fn apply_item<R: Reactions>(
         Item::Fired(id, task, stamp) => fire(alloc, reactions, rows, id, *task, *stamp),
         Item::Trim(partition, number, incarnation, position) => {
             let reader = identity(*partition, *incarnation, *position);
-            Ok(let_go(alloc, rows, reader, *number))
+            let_go(alloc, rows, reader, *number)
         }
     }
 }

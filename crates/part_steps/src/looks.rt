@@ -1,12 +1,12 @@
 //! What the engine reads off the state of a partition.
 
-ghost use Rattle.std.specs.Prelude.{◌≡◌, ℕ, true, false, length, is_some, IsSome, IfSome, IfNone, option_map};
+ghost use Rattle.std.specs.Prelude.{◌≡◌, ◌-◌, ◌^◌, ℕ, List, true, false, length, min, is_some, IsSome, IfSome, IfNone, option_map};
 ghost use Rattle.dura_value.specs.Ids.{Id as PlainId};
 ghost use Rattle.dura_value.specs.Views.{id_of, answer_of, message_of, posted_of, identity_of};
 ghost use Rattle.std.specs.List.{slice_get};
 ghost use Rattle.shared_maps.specs.Maps.{by_task};
 ghost use Rattle.shared_maps.specs.Order.{IsFirst, IsNextBehind, NoneBehind};
-ghost use Rattle.part_rows.specs.Timers.{IsNext, NoTimer};
+ghost use Rattle.part_rows.specs.Timers.{AreDue, IsNext, NoTimer};
 ghost use Rattle.part_rows.specs.Views.{activity_of, outboxes_of, AreSentBy};
 ghost use Rattle.part_steps.specs.Quiet.{NoActivity, IsQuiet};
 ghost use Rattle.part_steps.specs.States.{IsSound, state_of, count_of};
@@ -169,6 +169,15 @@ impl PartState {
         ensures none { IfNone result (NoTimer (state_of self.now).timers) }
     {
         self.rows.timers.next()
+    }
+
+    /// How many timers are due by now, counted up to the greatest number that there is. It takes no memory.
+    pub fn due_count(&self, now: u64) -> usize
+        requires { IsSound self.now }
+        ensures { (due : List (PlainId × ℕ)) × AreDue (state_of self.now).timers now due
+            × (result ≡ min (length due) (2 ^ 64 - 1)) }
+    {
+        self.rows.timers.due_count(now)
     }
 
     /// Whether nothing is possible without a request: no message that its receiver takes, no activity and no timer.

@@ -8,4 +8,4 @@ pub loop-self-preserved : goal.loop-self-preserved
 loop-self-preserved c =
     let was = c.loop-self.self in
     let start = begins_at c.args.number (outbox_of c.args.self.now) in
-    subst (Goes c.args.number start (was.first + 1)) (sym c.pop_front.ensures.rest) (stepped c.args.number was.first was.messages.items start c.loop-self-test.true c.loop-self.invariant)
+    subst (Goes c.args.number start (was.first + 1)) (sym c.in_ok-remove.ensures.rest) (stepped c.args.number was.first was.messages start c.loop-self-test.true c.loop-self.invariant)
