@@ -1,6 +1,6 @@
 -- A cell by its view.
 use Rattle.std.proofs.Common.{◌≡◌, ◌≤◌, ◌<◌, ◌^◌, ◌+◌, inl, inr, ℕ, zero, suc, Bool, true, List, [], ◌∷◌, ◌++◌, Option, Some, None, Result, Ok, refl, sym, ◌∙◌, ap, subst, arith}
-use Rattle.std.specs.Prelude.{◌-◌, min, max, length, take, drop, filter, is_some}
+use Rattle.std.specs.Prelude.{◌-◌, min, max, length, take, drop, filter, is_some, false, IfSome, IfNone}
 use Rattle.std.specs.List.{All}
 use Rattle.std.proofs.lemmas.Bool.{cases_lt}
 use Rattle.std.proofs.lemmas.List.{length-append, length-map, map-append, take-map, drop-map, length-take-le}
@@ -18,25 +18,28 @@ use Rattle.flow_syntax.specs.Syntax.{Flows}
 use Rattle.log_items.specs.Plain.{entry_of, item_of}
 use Rattle.log_items.specs.declared.items.Packet.{Packet}
 use Rattle.part_items.specs.Numbered.{Next}
+use Rattle.part_rows.specs.Timers.{AreDue}
 use Rattle.part_steps.specs.Enabled.{NoneEnabled, stamp_at}
 use Rattle.part_steps.specs.States.{IsSound, state_of, count_of}
 use Rattle.part_steps.specs.declared.state.PartState.{PartState}
-use Rattle.spec_cell.specs.Ahead.{MayTurn, LeavesWaits, HasStep, Rests, Ends, ahead_of, begun_of}
+use Rattle.cell_steps.specs.Ahead.{MayTurn, LeavesWaits, HasStep, Rests, Ends, ahead_of, begun_of}
 use Rattle.spec_cell.specs.Comes.{with_wait}
-use Rattle.spec_cell.specs.Fills.{Filled}
+use Rattle.cell_steps.specs.Fills.{Filled}
 use Rattle.spec_cell.specs.Moves.{given_up}
 use Rattle.spec_cell.specs.Seats.{Slot}
-use Rattle.spec_cell.specs.Sends.{SendsAtOnce}
-use Rattle.spec_cell.specs.Steps.{AreSteps, last_of, entries_in}
+use Rattle.cell_steps.specs.Sent.{SendsAtOnce}
+use Rattle.cell_steps.specs.Steps.{AreSteps, last_of, entries_in}
 use Rattle.spec_cell.specs.Tasks.{StandsAhead, pending_in, given_by, without_settled}
-use Rattle.spec_cell.specs.Turns.{IsBegun, NonePossible, MakesEntry, IsIdle, IsSpent, CellTurns, next_round}
-use Rattle.spec_cell.specs.Views.{CellView, Stands, StandsIn, HasFacts, HasSettled, AreBy, IsAhead, IsBase, entries_of_live, incarnation_of, waits_of_live, given_of_live}
+use Rattle.spec_cell.specs.Turns.{IsBegun, MakesEntry, IsIdle, IsSpent, CellTurns}
+use Rattle.cell_steps.specs.Possible.{NonePossible, OwnFirst, next_round}
+use Rattle.spec_cell.specs.Views.{CellView, Stands, StandsIn, HasFacts, HasSettled, CountsDue, AreBy, IsAhead, IsBase, entries_of_live, incarnation_of, waits_of_live, given_of_live}
 use Rattle.spec_cell.specs.declared.cell.CellTurn.{CellTurn}
-use Rattle.spec_cell.specs.declared.cell.Mode.{Mode}
-use Rattle.spec_cell.specs.declared.live.Live.{Live}
-use Rattle.spec_cell.specs.declared.step.Step.{Step}
-use Rattle.spec_cell.proofs.Chains.{steps_both, steps_front, steps_back, last_both, last_many, last_sound, steps_placed, steps_given, steps_numbered, step_next, last_position}
-use Rattle.spec_cell.proofs.Filled.{filled_by}
+use Rattle.cell_steps.specs.declared.mode.Mode.{Mode}
+use Rattle.cell_steps.specs.declared.live.Live.{Live}
+use Rattle.cell_steps.specs.declared.step.Step.{Step}
+use Rattle.cell_steps.proofs.Chains.{steps_both, steps_front, steps_back, last_both, last_many, last_sound, steps_placed, steps_given, steps_numbered, step_next, last_position}
+use Rattle.cell_steps.proofs.Filled.{filled_by}
+use Rattle.cell_steps.specs.declared.round.Round.{Round}
 
 all_taken : {X : Type 0} (P : X → Type 0) (n : ℕ) (xs : List X) → All P xs → All P (take n xs)
 all_taken P zero xs all = λ k d inside. absurd (omega (arith, inside))
@@ -54,7 +57,7 @@ take-drop (suc n) [] = refl
 take-drop (suc n) (x ∷ xs) = ap (λ (l : List _). x ∷ l) (take-drop n xs)
 
 -- a cell's view, by what it has
-abbrev pub view : (number : ℕ) → Slot → Option Live → (now out owner round : ℕ) → CellView
+abbrev pub view : (number : ℕ) → Slot → Option Live → (now out owner : ℕ) (round : Round) → CellView
 view number slot live now out owner round = record { number = number; slot = slot; going = is_some live; entries = entries_of_live live; incarnation = incarnation_of live; waits = waits_of_live live; given = given_of_live live; now = now; out = out; owner = owner; round = round }
 
 last_by : (now : ℕ) (before : PartState) (steps : List Step) → (state_of before).stamp ≤ now → AreBy now steps → (state_of (last_of before steps)).stamp ≤ now
@@ -62,7 +65,7 @@ last_by now before [] low by = low
 last_by now before (s ∷ steps) low by =
     last_by now s.after steps (All-head (λ (one : Step). (state_of one.after).stamp ≤ now) s steps by) (All-tail (λ (one : Step). (state_of one.after).stamp ≤ now) s steps by)
 
-module _ (flows : Flows) (count : ℕ) (begin : Partition) (number : ℕ) (slot : Slot) (now out owner round : ℕ) (live : Live) (stands : Stands flows count begin slot.mine now out live) where
+module _ (flows : Flows) (count : ℕ) (begin : Partition) (number : ℕ) (slot : Slot) (now out owner : ℕ) (round : Round) (live : Live) (stands : Stands flows count begin slot.mine now out live) where
   abbrev old : CellView
   old = view number slot (Some live) now out owner round
 
@@ -152,6 +155,7 @@ module _ (flows : Flows) (count : ℕ) (begin : Partition) (number : ℕ) (slot 
         (both.0, subst (λ (n : ℕ). NoneEnabled flows n (state_of has.step.after) (stamp_at (state_of has.step.after) now)) many both.1);
     sends = subst (λ (n : ℕ). SendsAtOnce mode n (begun_of live) (state_of has.step.after) packets) many has.sends;
     first = has.first;
+    own = subst (λ (n : ℕ). OwnFirst flows n now round (begun_of live) (entry_of has.step.entry).items) many has.own;
     becomes =
         let entries : entries_in new.steps.items ≡ entries_in live.steps.items ++ entry_of has.step.entry ∷ [] = ap entries_in has.steps ∙ map-append (λ (s : Step). entry_of s.entry) live.steps.items (has.step ∷ []) in
         λ i. record old { entries = entries i; incarnation = has.leaves.incarnation i; waits = waits_of new.waits; given = (ap Some has.leaves.given) i; round = next_round round };
@@ -191,14 +195,14 @@ module _ (flows : Flows) (count : ℕ) (begin : Partition) (number : ℕ) (slot 
   }
 
 -- what a turn made, where the cell is kept so
-pub as_turn : (flows : Flows) (count : ℕ) (begin : ℕ → Partition) (mode : Mode) (limit number : ℕ) (slot : Slot) (now out owner round behind : ℕ) (live new : Live) (place : Option Live) (self : CellView) (turned : CellTurn)
+pub as_turn : (flows : Flows) (count : ℕ) (begin : ℕ → Partition) (mode : Mode) (limit number : ℕ) (slot : Slot) (now out owner : ℕ) (round behind : Round) (live new : Live) (place : Option Live) (self : CellView) (turned : CellTurn)
     → view number slot (Some live) now out owner round ≡ self → place ≡ Some new → behind ≡ next_round round
     → CellTurns flows count (begin number) mode limit (view number slot (Some live) now out owner round) turned (view number slot (Some new) now out owner (next_round round))
     → CellTurns flows count (begin self.number) mode limit self turned (view number slot place now out owner behind)
 as_turn flows count begin mode limit number slot now out owner round behind live new place self turned view_is place_is round_is fact =
     subst (λ (v : CellView). CellTurns flows count (begin v.number) mode limit v turned (view number slot place now out owner behind)) view_is
     (subst (λ (o : Option Live). CellTurns flows count (begin number) mode limit (view number slot (Some live) now out owner round) turned (view number slot o now out owner behind)) (sym place_is)
-    (subst (λ (n : ℕ). CellTurns flows count (begin number) mode limit (view number slot (Some live) now out owner round) turned (view number slot (Some new) now out owner n)) (sym round_is) fact))
+    (subst (λ (n : Round). CellTurns flows count (begin number) mode limit (view number slot (Some live) now out owner round) turned (view number slot (Some new) now out owner n)) (sym round_is) fact))
 
 -- a state that has no steps begins
 pub begins : (flows : Flows) (count : ℕ) (begin : Partition) (mine : List Entry) (live : Live) → live.steps.items ≡ [] → IsSound live.base → count_of live.base ≡ count → placed flows count begin mine ≡ Ok (state_of live.base) → (state_of live.base).stamp ≤ begin.stamp
@@ -220,7 +224,7 @@ begins flows count begin mine live none sound partitions made stamp younger room
 }
 
 -- what its type knows of a cell
-pub facts_in : (flows : Flows) (count : ℕ) (begin : Partition) (number : ℕ) (slot : Slot) (now out owner round : ℕ) (place : Option Live) → StandsIn flows count begin slot.mine now out place → is_some place ≡ true → HasFacts flows count begin (view number slot place now out owner round)
+pub facts_in : (flows : Flows) (count : ℕ) (begin : Partition) (number : ℕ) (slot : Slot) (now out owner : ℕ) (round : Round) (place : Option Live) → StandsIn flows count begin slot.mine now out place → is_some place ≡ true → HasFacts flows count begin (view number slot place now out owner round)
 facts_in flows count begin number slot now out owner round None stands there = absurd (cc there)
 facts_in flows count begin number slot now out owner round (Some live) stands there = record {
   base = state_of live.base;
@@ -273,7 +277,7 @@ move_seat flows count begin number other mine more now out place live number_is 
     (subst (λ (l : List Entry). StandsIn flows count (begin number) l now out place) (sym mine_is)
     (subst (λ (o : Option Live). StandsIn flows count (begin number) mine now out o) (sym place_is) stands))
 
-pub settled_view : (number other : ℕ) (slot its : Slot) (now out owner round n : ℕ) (live new : Live) (place : Option Live) (self : CellView) → view number slot (Some live) now out owner round ≡ self → other ≡ number → place ≡ Some new
+pub settled_view : (number other : ℕ) (slot its : Slot) (now out owner : ℕ) (round : Round) (n : ℕ) (live new : Live) (place : Option Live) (self : CellView) → view number slot (Some live) now out owner round ≡ self → other ≡ number → place ≡ Some new
     → new.steps.items ≡ drop n live.steps.items → new.incarnation ≡ live.incarnation → new.waits ≡ live.waits → is_out new.given ≡ without_settled (is_out live.given) (take n (entries_in live.steps.items)) → HasSettled n its self (view other its place now 0 owner round)
 settled_view number other slot its now out owner round n live new place self view_is number_is place_is steps incarnation waits given =
     subst (λ (v : CellView). HasSettled n its v (view other its place now 0 owner round)) view_is (
@@ -293,7 +297,7 @@ settled_view number other slot its now out owner round n live new place self vie
       ap (λ (o : Option Live). given_by (given_of_live o)) place_is ∙ given,
     )
 
-module _ (flows : Flows) (count : ℕ) (begin : ℕ → Partition) (number : ℕ) (slot : Slot) (now out owner round : ℕ) (live : Live) (stands : Stands flows count (begin number) slot.mine now out live)
+module _ (flows : Flows) (count : ℕ) (begin : ℕ → Partition) (number : ℕ) (slot : Slot) (now out owner : ℕ) (round : Round) (live : Live) (stands : Stands flows count (begin number) slot.mine now out live)
     (self : CellView) (view_is : view number slot (Some live) now out owner round ≡ self) where
   pub ahead_of_self : IsAhead flows count (begin self.number) self (state_of (ahead_of live))
   ahead_of_self = subst (λ (v : CellView). IsAhead flows count (begin v.number) v (state_of (ahead_of live))) view_is (ahead_is flows count (begin number) number slot now out owner round live stands)
@@ -353,7 +357,7 @@ rises flows before (s ∷ steps) sound are =
     let young = are.0.younger in
     omega (arith, rest, next, young)
 
-module _ (flows : Flows) (count : ℕ) (begin : ℕ → Partition) (number : ℕ) (slot : Slot) (now out owner round : ℕ) (live : Live) (stands : Stands flows count (begin number) slot.mine now out live)
+module _ (flows : Flows) (count : ℕ) (begin : ℕ → Partition) (number : ℕ) (slot : Slot) (now out owner : ℕ) (round : Round) (live : Live) (stands : Stands flows count (begin number) slot.mine now out live)
     (self : CellView) (view_is : view number slot (Some live) now out owner round ≡ self) where
   pub given_up_stands : (new : Live) (place : Option Live) (kept less : ℕ) → place ≡ Some new → kept ≤ length live.steps.items → less ≤ kept → new.base ≡ live.base → new.steps.items ≡ take kept live.steps.items → new.incarnation ≡ live.incarnation + 1 → new.incarnation ≤ 2 ^ 63
       → IsIndexed new.waits → All MayWait (waits_of new.waits) → ((there : Id → ℕ → Bool) → LooksFrom new.given there) → StandsIn flows count (begin number) slot.mine now less place
@@ -442,3 +446,37 @@ by_behind flows before steps floor kept sound are is = elim (cases_lt kept (leng
   | inl fewer ↦ behind_floor flows before steps floor kept sound are (omega (arith, fewer, is))
   | inr all ↦ let long = length-map steps (λ (s : Step). entry_of s.entry) in none_dropped (λ (e : Entry). floor ≤ e.position) kept (entries_in steps) (omega (arith, all, long))
 ]
+
+-- a state, if there is one, where its cell's seat is another of the same place
+pub exchanged : (flows : Flows) (count : ℕ) (begin : ℕ → Partition) (number other : ℕ) (mine more : List Entry) (now out : ℕ) (place : Option Live) → other ≡ number → more ≡ mine
+    → StandsIn flows count (begin number) mine now out place → StandsIn flows count (begin other) more now out place
+exchanged flows count begin number other mine more now out place number_is mine_is stands =
+    subst (λ (n : ℕ). StandsIn flows count (begin n) more now out place) (sym number_is) (subst (λ (l : List Entry). StandsIn flows count (begin number) l now out place) (sym mine_is) stands)
+
+pub exchanged_view : (number other : ℕ) (slot its : Slot) (now out owner : ℕ) (round : Round) (place : Option Live) (self : CellView) → view number slot place now out owner round ≡ self → other ≡ number
+    → view other its place now out owner round ≡ record self { slot = its }
+exchanged_view number other slot its now out owner round place self view_is number_is =
+    subst (λ (v : CellView). view other its place now out owner round ≡ record v { slot = its }) view_is (ap (λ (n : ℕ). view n its place now out owner round) number_is)
+
+-- the state ahead is sound, if there is one
+pub sound_ahead : (flows : Flows) (count : ℕ) (begin : Partition) (mine : List Entry) (now out : ℕ) (place : Option Live) → StandsIn flows count begin mine now out place → IfSome place (λ l. IsSound (ahead_of l))
+sound_ahead flows count begin mine now out None stands = tt
+sound_ahead flows count begin mine now out (Some live) stands = last_sound flows live.base live.steps.items stands.sound stands.steps
+
+-- what is counted of the state ahead is counted of its cell
+pub counts_due : (flows : Flows) (count : ℕ) (begin : ℕ → Partition) (number : ℕ) (slot : Slot) (now out owner : ℕ) (round : Round) (place : Option Live) (self : CellView) (later found : ℕ)
+    → StandsIn flows count (begin number) slot.mine now out place → view number slot place now out owner round ≡ self
+    → IfSome place (λ l. (due : List (Id × ℕ)) × AreDue (state_of (ahead_of l)).timers later due × (found ≡ min (length due) (2 ^ 64 - 1))) → self.going ≡ true → CountsDue flows count (begin self.number) self later found
+counts_due flows count begin number slot now out owner round None self later found stands view_is counted going = absurd (let same = ap (λ (v : CellView). v.going) view_is in cc (same, going))
+counts_due flows count begin number slot now out owner round (Some live) self later found stands view_is counted going = record {
+  ahead = state_of (ahead_of live);
+  is_ahead = ahead_of_self flows count begin number slot now out owner round live stands self view_is;
+  due = counted.0;
+  are_due = counted.1;
+  many = counted.2;
+}
+
+-- a cell without a state counts none
+pub counts_none : (number : ℕ) (slot : Slot) (now out owner : ℕ) (round : Round) (place : Option Live) (self : CellView) (found : ℕ) → view number slot place now out owner round ≡ self → IfNone place (found ≡ 0) → self.going ≡ false → found ≡ 0
+counts_none number slot now out owner round None self found view_is none gone = none
+counts_none number slot now out owner round (Some live) self found view_is none gone = absurd (let same = ap (λ (v : CellView). v.going) view_is in cc (same, gone))

@@ -14,16 +14,17 @@ use Rattle.part_steps.specs.States.{IsSound, state_of}
 use Rattle.part_steps.specs.declared.state.PartState.{PartState}
 use Rattle.spec_tracker.specs.Marks.{floors_of, length_in}
 use Rattle.spec_tracker.specs.declared.marks.Marks.{Marks}
-use Rattle.spec_cell.specs.Depends.{identity_in, last_made, dependencies}
+use Rattle.cell_steps.specs.Depends.{identity_in, last_made, dependencies}
 use Rattle.spec_cell.specs.Picks.{AreReadyIn, identities, MayGo, HasPicked, CantPick}
 use Rattle.spec_cell.specs.Seats.{Slot}
 use Rattle.spec_cell.specs.Sends.{FrameSends}
-use Rattle.spec_cell.specs.Steps.{AreSteps, entries_in}
+use Rattle.cell_steps.specs.Steps.{AreSteps, entries_in}
 use Rattle.spec_cell.specs.Views.{CellView, Stands, IsBase}
-use Rattle.spec_cell.specs.declared.live.Live.{Live}
-use Rattle.spec_cell.specs.declared.step.Step.{Step}
+use Rattle.cell_steps.specs.declared.live.Live.{Live}
+use Rattle.cell_steps.specs.declared.step.Step.{Step}
 use Rattle.spec_cell.proofs.CellFacts.{view, base_of_self, entries_are, out_is}
 use Rattle.spec_cell.proofs.FrontReady.{steps_apart, may_go, goes_further, before_ready}
+use Rattle.cell_steps.specs.declared.round.Round.{Round}
 
 -- the entry that made a state last isn't the one that comes next
 other_made : (p : Partition) (e : Entry) → e.position ≡ p.position → MatchOption (last_made p) (Unit {0}) (λ (b : Identity). b ≢ identity_in p.number e)
@@ -62,7 +63,7 @@ none_out (suc out) own same none = absurd (none (omega arith))
 some_entry : Entry
 some_entry = record { position = 0; incarnation = 0; items = [] }
 
-module _ (flows : Flows) (count : ℕ) (begin : ℕ → Partition) (number : ℕ) (slot : Slot) (now out owner round : ℕ) (live : Live) (stands : Stands flows count (begin number) slot.mine now out live)
+module _ (flows : Flows) (count : ℕ) (begin : ℕ → Partition) (number : ℕ) (slot : Slot) (now out owner : ℕ) (round : Round) (live : Live) (stands : Stands flows count (begin number) slot.mine now out live)
     (self : CellView) (view_is : view number slot (Some live) now out owner round ≡ self) (marks : Marks) where
   abbrev base : Partition
   base = state_of live.base

@@ -16,12 +16,12 @@ use Rattle.part_steps.specs.States.{IsSound, state_of, count_of}
 use Rattle.part_steps.specs.declared.state.PartState.{PartState}
 use Rattle.spec_tracker.specs.Marks.{floors_of, length_in}
 use Rattle.spec_tracker.specs.declared.marks.Marks.{Marks}
-use Rattle.spec_cell.specs.Depends.{identity_in, depends_on, dependencies}
+use Rattle.cell_steps.specs.Depends.{identity_in, depends_on, dependencies}
 use Rattle.spec_cell.specs.Picks.{identities, AreReadyIn}
-use Rattle.spec_cell.specs.Steps.{AreSteps, entries_in}
-use Rattle.spec_cell.specs.declared.step.Step.{Step}
-use Rattle.spec_cell.proofs.Staying.{item_stays, items_stay}
-use Rattle.spec_cell.proofs.Walks.{all_whole_shown}
+use Rattle.cell_steps.specs.Steps.{AreSteps, entries_in}
+use Rattle.cell_steps.specs.declared.step.Step.{Step}
+use Rattle.cell_steps.proofs.Staying.{item_stays, items_stay}
+use Rattle.cell_steps.proofs.Walks.{all_whole_shown}
 
 none_all : {X : Type 0} (P : X → Type 0) → All P []
 none_all P = λ k d inside. absurd (omega (arith, inside))

@@ -1,14 +1,5 @@
-pub mod Chains
-pub mod Filled
-pub mod Staying
-pub mod SameValues
-pub mod Stamps
-pub mod Walks
-pub mod Queueing
-pub mod Made
 pub mod CellFacts
 pub mod Offering
-pub mod Losing
 pub mod FrontReady
 pub mod Frames
 pub mod SentByEntries

@@ -18,18 +18,20 @@ use Rattle.log_items.specs.Plain.{entry_of}
 use Rattle.log_items.specs.declared.items.Packet.{Packet}
 use Rattle.part_steps.specs.States.{IsSound, state_of, count_of}
 use Rattle.part_steps.specs.declared.state.PartState.{PartState}
-use Rattle.spec_cell.specs.Ahead.{ahead_of}
+use Rattle.cell_steps.specs.Ahead.{ahead_of}
 use Rattle.spec_cell.specs.Seats.{Slot}
-use Rattle.spec_cell.specs.Sends.{SendsLater, SendsAgain, SendsSettled, Resends, FrameSends}
-use Rattle.spec_cell.specs.Steps.{last_of, entries_in}
+use Rattle.spec_cell.specs.Sends.{SendsSettled, Resends, FrameSends}
+use Rattle.cell_steps.specs.Sent.{SendsLater, SendsAgain}
+use Rattle.cell_steps.specs.Steps.{last_of, entries_in}
 use Rattle.spec_cell.specs.Views.{CellView, Stands}
-use Rattle.spec_cell.specs.declared.cell.Mode.{Mode}
-use Rattle.spec_cell.specs.declared.live.Live.{Live}
-use Rattle.spec_cell.specs.declared.step.Step.{Step}
+use Rattle.cell_steps.specs.declared.mode.Mode.{Mode}
+use Rattle.cell_steps.specs.declared.live.Live.{Live}
+use Rattle.cell_steps.specs.declared.step.Step.{Step}
 use Rattle.spec_cell.proofs.CellFacts.{view, base_of_self, ahead_of_self}
-use Rattle.spec_cell.proofs.Chains.{steps_front, last_many, last_sound, steps_placed}
+use Rattle.cell_steps.proofs.Chains.{steps_front, last_many, last_sound, steps_placed}
+use Rattle.cell_steps.specs.declared.round.Round.{Round}
 
-module _ (flows : Flows) (count : ℕ) (begin : ℕ → Partition) (number : ℕ) (slot : Slot) (now out owner round : ℕ) (live : Live) (stands : Stands flows count (begin number) slot.mine now out live)
+module _ (flows : Flows) (count : ℕ) (begin : ℕ → Partition) (number : ℕ) (slot : Slot) (now out owner : ℕ) (round : Round) (live : Live) (stands : Stands flows count (begin number) slot.mine now out live)
     (self : CellView) (view_is : view number slot (Some live) now out owner round ≡ self) where
   -- the state behind the first so many steps
   abbrev pub front : ℕ → PartState

@@ -11,12 +11,13 @@ use Rattle.dura_value.specs.Views.{id_of}
 use Rattle.shared_maps.specs.Order.{IsFirst}
 use Rattle.spec_cell.specs.GivesTask.{GivesTask}
 use Rattle.spec_cell.specs.Seats.{Slot}
-use Rattle.spec_cell.specs.Steps.{entries_in}
+use Rattle.cell_steps.specs.Steps.{entries_in}
 use Rattle.spec_cell.specs.Tasks.{pending_in, given_by, Gives}
 use Rattle.spec_cell.specs.Views.{CellView, entries_of_live, incarnation_of, waits_of_live, given_of_live}
-use Rattle.spec_cell.specs.declared.live.Live.{Live}
+use Rattle.cell_steps.specs.declared.live.Live.{Live}
 use Rattle.spec_cell.specs.declared.tasks.Task.{Task}
 use Rattle.spec_cell.proofs.CellFacts.{view}
+use Rattle.cell_steps.specs.declared.round.Round.{Round}
 
 none_to_run : (there out : Bool) → (there ≡ true → out ≡ true) → (there && not out) ≡ false
 none_to_run true true all = refl
@@ -24,7 +25,7 @@ none_to_run true false all = sym (all refl)
 none_to_run false true all = refl
 none_to_run false false all = refl
 
-module _ (number : ℕ) (slot : Slot) (now out owner round : ℕ) (live : Live) (self : CellView) (view_is : view number slot (Some live) now out owner round ≡ self) where
+module _ (number : ℕ) (slot : Slot) (now out owner : ℕ) (round : Round) (live : Live) (self : CellView) (view_is : view number slot (Some live) now out owner round ≡ self) where
   -- what was given out, by the view
   given_is : is_out live.given ≡ given_by self.given
   given_is = ap (λ (v : CellView). given_by v.given) view_is

@@ -6,9 +6,9 @@ use Rattle.dura_value.specs.Ids.{Id}
 use Rattle.dura_value.specs.Items.{Item, Entry, took, got, ran, ended, fired, trim}
 use Rattle.log_items.specs.Plain.{item_of, items_of, entry_of}
 use Rattle.log_items.specs.declared.items.Item.{Item as OwnItem}
-use Rattle.spec_cell.specs.Steps.{entries_in}
+use Rattle.cell_steps.specs.Steps.{entries_in}
 use Rattle.spec_cell.specs.Tasks.{without_ended, without_settled}
-use Rattle.spec_cell.specs.declared.step.Step.{Step}
+use Rattle.cell_steps.specs.declared.step.Step.{Step}
 
 ended_both : (out : Id → ℕ → Bool) (a b : List Item) → without_ended out (a ++ b) ≡ without_ended (without_ended out a) b
 ended_both out [] b = refl

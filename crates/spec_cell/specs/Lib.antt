@@ -1,13 +1,9 @@
-pub mod Ahead
 pub mod Comes
-pub mod Depends
-pub mod Fills
 pub mod GivesTask
 pub mod Moves
 pub mod Picks
 pub mod Seats
 pub mod Sends
-pub mod Steps
 pub mod Tasks
 pub mod Trims
 pub mod Turns

@@ -9,7 +9,7 @@ use Rattle.dura_value.specs.Items.{Identity}
 use Rattle.flow_syntax.specs.Syntax.{Flows}
 use Rattle.spec_tracker.specs.Marks.{identity_of, floors_of}
 use Rattle.spec_tracker.specs.declared.marks.Marks.{Marks}
-use Rattle.spec_cell.specs.Depends.{last_made, dependencies, AreKept, IsFirstLost}
+use Rattle.cell_steps.specs.Depends.{last_made, dependencies, AreKept, IsFirstLost}
 use Rattle.spec_cell.specs.Tasks.{given_by}
 use Rattle.spec_cell.specs.Views.{CellView, IsBase}
 use Rattle.spec_cell.specs.declared.moving.CellReset.{CellReset}

@@ -10,7 +10,7 @@ use Rattle.dura_value.specs.Items.{Identity, Entry}
 use Rattle.flow_syntax.specs.Syntax.{Flows}
 use Rattle.log_items.specs.Plain.{entries_of}
 use Rattle.log_items.specs.declared.frames.Entry.{Entry as OwnEntry}
-use Rattle.spec_cell.specs.Depends.{identity_in}
+use Rattle.cell_steps.specs.Depends.{identity_in}
 use Rattle.spec_cell.specs.Moves.{dependencies_in}
 use Rattle.spec_cell.specs.Sends.{FrameSends}
 use Rattle.spec_cell.specs.Views.{CellView, IsBase}

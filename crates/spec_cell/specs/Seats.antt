@@ -1,11 +1,12 @@
 -- What a partition's seat shows of its place in the store.
-use Rattle.std.specs.Prelude.{List, Option}
+use Rattle.std.specs.Prelude.{ℕ, List, Option}
 use Rattle.dura_value.specs.Items.{Entry, Floor}
 use Rattle.hub_store.specs.declared.way.Stage.{Stage}
 
--- The entries that the seat has settled, those of the frame under way, how far that has come, and where the partition's later
+-- Which seat it is (the store's own, or what stands for it while that is out), the entries that it has settled, those of the frame under way, how far that has come, and where the partition's later
 -- incarnations began.
 pub record Slot : Type 0 where
+  pub token : ℕ
   pub mine : List Entry
   pub under_way : Option (List Entry)
   pub stage : Stage

@@ -1,19 +1,19 @@
 -- What a turn makes of a cell.
-use Rattle.std.specs.Prelude.{◌≡◌, ◌≢◌, ◌⊎◌, ℕ, ◌+◌, ◌<◌, ◌≤◌, ◌^◌, ◌==◌, ◌||◌, Bool, true, List, [], ◌∷◌, ◌++◌, length, nat_le, if◌then◌else◌}
-use Rattle.std.specs.List.{All}
+use Rattle.std.specs.Prelude.{◌≡◌, ◌≢◌, ◌⊎◌, ℕ, ◌<◌, ◌≤◌, ◌^◌, true, List, [], ◌∷◌, ◌++◌, length}
 use Rattle.cell_waits.specs.Waits.{Waiting}
 use Rattle.dura_model.specs.Partition.{Partition, enter}
 use Rattle.dura_value.specs.Items.{Entry}
 use Rattle.flow_syntax.specs.Syntax.{Flows}
 use Rattle.log_items.specs.declared.items.Packet.{Packet}
 use Rattle.part_steps.specs.Enabled.{NoneEnabled, stamp_at}
-use Rattle.spec_cell.specs.Fills.{Filled, CantCome}
-use Rattle.spec_cell.specs.Sends.{SendsAtOnce}
+use Rattle.cell_steps.specs.Fills.{Filled}
+use Rattle.cell_steps.specs.Possible.{NonePossible, OwnFirst, waits_first, next_round}
+use Rattle.cell_steps.specs.Sent.{SendsAtOnce}
 use Rattle.spec_cell.specs.Views.{CellView, IsAhead}
 use Rattle.spec_cell.specs.declared.cell.CellTurn.{CellTurn}
 use Rattle.spec_cell.specs.declared.cell.CellTurn.TheVariants as turns
-use Rattle.spec_cell.specs.declared.cell.Mode.{Mode}
-use Rattle.spec_cell.specs.declared.cell.Mode.TheVariants as modes
+use Rattle.cell_steps.specs.declared.mode.Mode.{Mode}
+use Rattle.cell_steps.specs.declared.mode.Mode.TheVariants as modes
 
 -- in the mode without speculation an entry is settled before the next is made
 abbrev pub IsHeld : Mode → List Entry → Type 0
@@ -21,23 +21,11 @@ IsHeld modes.None entries = entries ≢ []
 IsHeld modes.Local entries = ⊥
 IsHeld modes.Global entries = ⊥
 
--- in every second turn what waits is first
-abbrev pub waits_first : ℕ → Bool
-waits_first round = (round == 0) || (round == 2)
-
-abbrev pub next_round : ℕ → ℕ
-next_round round = if nat_le 3 round then 0 else round + 1
-
 -- The state ahead, in the entry that is next.
 pub record IsBegun (flows : Flows) (count : ℕ) (begin : Partition) (c : CellView) (begun : Partition) : Type 0 where
   pub ahead : Partition
   pub is_ahead : IsAhead flows count begin c ahead
   pub entered : begun ≡ enter c.incarnation ahead
-
--- Nothing is possible in a state: of what waits nothing is, and no delivery and no timer.
-pub record NonePossible (flows : Flows) (count now : ℕ) (p : Partition) (waits : List Waiting) : Type 0 where
-  pub waits_not : All (CantCome flows count p) waits
-  pub none : NoneEnabled flows count p (stamp_at p now)
 
 -- One entry more, of 1 to so many items, is filled in the state ahead, and of what it sends this goes out at once.
 pub record MakesEntry (flows : Flows) (count : ℕ) (begin : Partition) (mode : Mode) (limit : ℕ) (old new : CellView) (position : ℕ) (packets : List Packet) : Type 0 where
@@ -59,6 +47,8 @@ pub record MakesEntry (flows : Flows) (count : ℕ) (begin : Partition) (mode : 
   pub sends : SendsAtOnce mode count begun after packets
   -- in every second turn what waited longest is looked at
   pub first : waits_first old.round ≡ true → 0 < length old.waits → 0 < length looked
+  -- in the others a delivery or a timer comes first, if one is possible, and in every fourth a timer, if one is due
+  pub own : OwnFirst flows count old.now old.round begun entry.items
   pub becomes : new ≡ record old { entries = old.entries ++ entry ∷ []; waits = rest; round = next_round old.round }
 
 -- Nothing is possible in the state ahead, and what waited in vain is let go of.

@@ -1,5 +1,5 @@
 -- A cell as its clauses see it.
-use Rattle.std.specs.Prelude.{◌≡◌, ◌≤◌, ℕ, Bool, true, ◌^◌, max, List, [], ◌++◌, length, take, drop, option_map, Option, Some, None, Ok}
+use Rattle.std.specs.Prelude.{◌≡◌, ◌≤◌, ℕ, Bool, true, ◌^◌, ◌-◌, max, min, List, [], ◌++◌, length, take, drop, option_map, Option, Some, None, Ok}
 use Rattle.std.specs.List.{All}
 use Rattle.cell_tasks.specs.Tasks.{none_out}
 use Rattle.cell_tasks.specs.declared.given_out.GivenOut.{GivenOut}
@@ -7,15 +7,19 @@ use Rattle.cell_waits.specs.Waits.{Waiting, MayWait, waits_of}
 use Rattle.cell_waits.specs.Indices.{IsIndexed}
 use Rattle.dura_model.specs.Entries.{placed, AllGiven}
 use Rattle.dura_model.specs.Partition.{Partition}
+use Rattle.dura_value.specs.Ids.{Id}
 use Rattle.dura_value.specs.Items.{Entry}
 use Rattle.flow_syntax.specs.Syntax.{Flows}
 use Rattle.part_items.specs.Numbered.{Next, IsNumbered}
+use Rattle.part_rows.specs.Timers.{AreDue}
 use Rattle.part_steps.specs.States.{IsSound, state_of, count_of}
 use Rattle.spec_cell.specs.Seats.{Slot}
-use Rattle.spec_cell.specs.Steps.{AreSteps, last_of, entries_in}
+use Rattle.cell_steps.specs.Steps.{AreSteps, last_of, entries_in}
 use Rattle.spec_cell.specs.Tasks.{StandsAhead, given_by, without_settled}
-use Rattle.spec_cell.specs.declared.live.Live.{Live}
-use Rattle.spec_cell.specs.declared.step.Step.{Step}
+use Rattle.cell_steps.specs.declared.live.Live.{Live}
+use Rattle.cell_steps.specs.declared.round.Round.{Round}
+use Rattle.cell_steps.specs.declared.round.Round.TheVariants as rounds
+use Rattle.cell_steps.specs.declared.step.Step.{Step}
 
 -- Its partition, what its seat shows, whether it has a state (memory didn't run out), the entries that aren't settled, the incarnation that makes entries, what waits, which tasks
 -- were given out, the greatest moment that was handed in, how many of the first entries are in the frame that is out, the node that owns it, and which side of a
@@ -31,7 +35,7 @@ pub record CellView : Type 0 where
   pub now : ℕ
   pub out : ℕ
   pub owner : ℕ
-  pub round : ℕ
+  pub round : Round
 
 abbrev pub entries_of_live : Option Live → List Entry
 entries_of_live None = []
@@ -84,6 +88,14 @@ IsBase flows count begin c base = placed flows count begin c.slot.mine ≡ Ok ba
 abbrev pub IsAhead : Flows → (count : ℕ) → (begin : Partition) → CellView → Partition → Type 0
 IsAhead flows count begin c ahead = placed flows count begin (c.slot.mine ++ c.entries) ≡ Ok ahead
 
+-- so many timers of the state ahead are due by a moment, counted up to the greatest number that there is
+pub record CountsDue (flows : Flows) (count : ℕ) (begin : Partition) (c : CellView) (now found : ℕ) : Type 0 where
+  pub ahead : Partition
+  pub is_ahead : IsAhead flows count begin c ahead
+  pub due : List (Id × ℕ)
+  pub are_due : AreDue ahead.timers now due
+  pub many : found ≡ min (length due) (2 ^ 64 - 1)
+
 -- where a state's log goes on
 abbrev pub next_at : Partition → Next
 next_at p = record { position = p.position; incarnation = p.incarnation }
@@ -114,7 +126,7 @@ pub record HasFacts (flows : Flows) (count : ℕ) (begin : Partition) (c : CellV
 -- nothing is unsettled, nothing waits, no task is out, no moment was handed in, and no frame is out
 abbrev pub IsNew : (number : ℕ) → Slot → (owner incarnation : ℕ) → CellView → Type 0
 IsNew number slot owner incarnation c =
-    (c ≡ record { number = number; slot = slot; going = true; entries = []; incarnation = incarnation; waits = []; given = c.given; now = 0; out = 0; owner = owner; round = 0 })
+    (c ≡ record { number = number; slot = slot; going = true; entries = []; incarnation = incarnation; waits = []; given = c.given; now = 0; out = 0; owner = owner; round = rounds.Waits })
     × (given_by c.given ≡ none_out)
 
 -- The settled state moved on by the first so many entries, which the seat has settled by now, and no frame is out. A task whose outcome

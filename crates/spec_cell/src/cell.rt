@@ -1,27 +1,15 @@
 //! A cell: one partition that runs ahead of what is settled, with what waits for it.
 
 ghost use Rattle.std.specs.Prelude.{◌≡◌, ◌<◌, ◌≤◌, true, false, Some, IfOk, is_ok};
-ghost use Rattle.spec_cell.specs.Steps.{entries_in};
-ghost use Rattle.spec_cell.specs.Turns.{IsHeld, CellTurns, next_round};
+ghost use Rattle.cell_steps.specs.Steps.{entries_in};
+ghost use Rattle.spec_cell.specs.Turns.{IsHeld, CellTurns};
 
-use crate::live::Live;
 use crate::mine::Mine;
-use crate::turning::{Turned, turn};
+use cell_steps::{Live, Mode, Round, Turned, turn};
 use log_items::Packet;
 use part_rows::Reactions;
 use std::alloc::{AllocError, Global};
 use std::marker::Model;
-
-/// How far entries may run ahead.
-#[derive(Clone, Copy)]
-pub enum Mode {
-    /// Not at all: an entry is settled before the next is made.
-    None,
-    /// Within the partition: messages to others go out once their entry is settled.
-    Local,
-    /// Everywhere: messages go out at once.
-    Global,
-}
 
 /// What came of a turn.
 pub enum CellTurn {
@@ -47,7 +35,7 @@ pub struct Cell<S: Mine> {
     /// The node that owns it.
     pub(crate) owner: u32,
     /// Which side of a turn is first next.
-    pub(crate) round: u8,
+    pub(crate) round: Round,
     /// The seat, or what stands for it while it is out.
     pub(crate) seat: S,
 }
@@ -93,13 +81,6 @@ pub(crate) fn put(place: &mut Option<Live>, live: Live)
     *place = Some(live);
 }
 
-/// The round behind this one.
-fn after_round(round: u8) -> u8
-    ensures { result ≡ next_round round }
-{
-    if round >= 3 { 0 } else { round + 1 }
-}
-
 impl<S: Mine> Cell<S> {
     /// One entry more: of 1 to so many items, of what waits and of the deliveries and timers that are possible, until nothing is; with
     /// what of it goes out at once. Else it is held, or nothing is possible.
@@ -126,7 +107,7 @@ impl<S: Mine> Cell<S> {
         }
         let position = live.ahead().position();
         let turned = turn(alloc, reactions, live, mode, self.now, limit, self.round)?;
-        self.round = after_round(self.round);
+        self.round = self.round.next();
         match turned {
             Turned::Made(made, packets) => {
                 put(&mut self.live, made);

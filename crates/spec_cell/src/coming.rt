@@ -9,14 +9,13 @@ ghost use Rattle.dura_value.specs.Same.{message_eq};
 ghost use Rattle.dura_value.specs.Views.{id_of, message_of};
 ghost use Rattle.part_rows.specs.Views.{activity_of};
 ghost use Rattle.part_steps.specs.States.{state_of};
-ghost use Rattle.spec_cell.specs.Ahead.{ahead_of};
+ghost use Rattle.cell_steps.specs.Ahead.{ahead_of};
 ghost use Rattle.spec_cell.specs.Comes.{Arrives, Records, IsKnownAs, Offers, known_in};
 ghost use Rattle.spec_cell.specs.Views.{IsAhead, IsBase};
 
 use crate::cell::{Cell, put};
-use crate::live::Live;
 use crate::mine::Mine;
-use crate::waiting::is_pending;
+use cell_steps::{Live, is_pending};
 use cell_waits::{Ended, Wait};
 use dura_value::{Answer, Message};
 use log_items::{Item, Packet};

@@ -20,6 +20,6 @@ pub trait Mine {
     /// The partition.
     ghost number: { Self → ℕ };
 
-    /// Its place in the store.
+    /// Which seat it is, the store's own or what stands for it while that is out, and its place in the store.
     ghost slot: { Self → Slot };
 }

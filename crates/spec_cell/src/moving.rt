@@ -8,20 +8,17 @@ ghost use Rattle.cell_waits.specs.Waits.{MayWait, waits_of, lasting, lost_by, wi
 ghost use Rattle.dura_value.specs.Ids.{Id as PlainId};
 ghost use Rattle.part_steps.specs.States.{IsSound, state_of, count_of};
 ghost use Rattle.spec_cell.specs.Moves.{CellRewinds, CellResets};
-ghost use Rattle.spec_cell.specs.Sends.{SendsLater, SendsSettled};
+ghost use Rattle.spec_cell.specs.Sends.{SendsSettled};
+ghost use Rattle.cell_steps.specs.Sent.{SendsLater};
 ghost use Rattle.spec_tracker.specs.Marks.{floors_of};
-ghost use Rattle.spec_cell.specs.Steps.{last_of, entries_in};
+ghost use Rattle.cell_steps.specs.Steps.{last_of, entries_in};
 ghost use Rattle.spec_cell.specs.Tasks.{without_settled};
 ghost use Rattle.spec_cell.specs.Views.{HasSettled};
 
-use crate::cell::{Cell, Mode, put};
-use crate::depending::{first_lost, last_made};
-use crate::live::Live;
+use crate::cell::{Cell, put};
 use crate::mine::Mine;
-use crate::sending::packets_later;
-use crate::step::Step;
 use crate::tasks::forget_settled;
-use crate::turning::NUMBER_LIMIT;
+use cell_steps::{Live, Mode, NUMBER_LIMIT, Step, first_lost, last_made, packets_later};
 use log_items::Packet;
 use part_steps::PartState;
 use spec_tracker::{Dep, Marks};

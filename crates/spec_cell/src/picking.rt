@@ -6,15 +6,13 @@ ghost use Rattle.dura_value.specs.Dependencies.{named_by, Ready};
 ghost use Rattle.dura_value.specs.Items.{Entry as PlainEntry};
 ghost use Rattle.log_items.specs.Plain.{entries_of};
 ghost use Rattle.spec_cell.specs.Picks.{Picks};
-ghost use Rattle.spec_cell.specs.Steps.{entries_in};
+ghost use Rattle.cell_steps.specs.Steps.{entries_in};
 ghost use Rattle.spec_tracker.specs.Marks.{identity_of, floors_of, length_in};
 
 use crate::cell::Cell;
-use crate::depending::last_made;
 use crate::mine::Mine;
 use crate::moving::state_at;
-use crate::sending::sending_between;
-use crate::step::Step;
+use cell_steps::{Step, last_made, sending_between};
 use commit_gate::Sending;
 use entry_verdicts::{are_ready, copy_entry};
 use log_items::{Entry, Frame};

@@ -1,18 +1,35 @@
 //! A cell begins, its seat goes out and comes back, and moments are handed in.
 
-ghost use Rattle.std.specs.Prelude.{◌≡◌, ◌≤◌, ◌^◌, max, Ok, true, is_some, IfSome};
+ghost use Rattle.std.specs.Prelude.{◌≡◌, ◌≤◌, ◌^◌, ◌-◌, ℕ, List, length, max, min, Ok, true, false, is_some, IfSome, IfNone};
+ghost use Rattle.cell_steps.specs.Ahead.{ahead_of};
+ghost use Rattle.dura_value.specs.Ids.{Id as PlainId};
+ghost use Rattle.part_rows.specs.Timers.{AreDue};
 ghost use Rattle.dura_model.specs.Entries.{placed};
 ghost use Rattle.part_steps.specs.States.{IsSound, state_of, count_of};
-ghost use Rattle.spec_cell.specs.Views.{IsNew, IsBase, HasFacts};
+ghost use Rattle.spec_cell.specs.Views.{IsNew, IsBase, HasFacts, CountsDue};
 
 use crate::cell::Cell;
-use crate::live::Live;
 use crate::mine::Mine;
+use cell_steps::{Live, Round};
 use cell_tasks::GivenOut;
 use cell_waits::Waits;
 use part_steps::PartState;
 use std::alloc::Global;
 use std::mem;
+
+/// How many timers of the state ahead are due by now, if there is a state.
+fn due_in(live: &Option<Live>, now: u64) -> usize
+    requires { IfSome live.now (λ l. IsSound (ahead_of l)) }
+    ensures due { IfSome live.now (λ l. (due : List (PlainId × ℕ))
+        × AreDue (state_of (ahead_of l)).timers now due
+        × (result ≡ min (length due) (2 ^ 64 - 1))) }
+    ensures none { IfNone live.now (result ≡ 0) }
+{
+    match live {
+        Some(live) => live.ahead().due_count(now),
+        None => 0,
+    }
+}
 
 impl<S: Mine> Cell<S> {
     /// A cell whose seat has settled all that made this state, where this incarnation makes entries, and which this node owns.
@@ -39,7 +56,7 @@ impl<S: Mine> Cell<S> {
             now: 0,
             out: 0,
             owner,
-            round: 0,
+            round: Round::Waits,
             seat,
         }
     }
@@ -98,18 +115,24 @@ impl<S: Mine> Cell<S> {
         }
     }
 
-    /// It is this moment, in milliseconds, or later: what the cell does from now on carries it.
-    pub fn at_moment(&mut self, now: u64)
-        ensures { self.new ≡ record self.old { now = max self.old.now now } }
+    /// It is this moment, in milliseconds, or later: what the cell does from now on carries it. It says how many timers of the state ahead
+    /// are due by the greatest moment that was handed in, and 0 where memory ran out.
+    pub fn fire(&mut self, now: u64) -> usize
+        ensures moment { self.new ≡ record self.old { now = max self.old.now now } }
+        ensures due { self.old.going ≡ true → CountsDue S.flows S.count (S.begin self.old.number)
+            self.old (max self.old.now now) result }
+        ensures none { self.old.going ≡ false → result ≡ 0 }
     {
         self.now = self.now.max(now);
+        due_in(&self.live, self.now)
     }
 
-    /// What stands for the seat while it is out comes in its place, or the seat in the place of that.
+    /// What stands for the seat while it is out comes in its place, or the seat in the place of that. Both are of one place in the
+    /// store.
     pub fn exchange_seat(&mut self, other: S) -> S
         requires number { S.number other ≡ self.old.number }
-        requires slot { S.slot other ≡ self.old.slot }
-        ensures same { self.new ≡ self.old }
+        requires slot { S.slot other ≡ record self.old.slot { token = (S.slot other).token } }
+        ensures taken { self.new ≡ record self.old { slot = S.slot other } }
         ensures number { S.number result ≡ self.old.number }
         ensures slot { S.slot result ≡ self.old.slot }
     {

@@ -10,14 +10,13 @@ ghost use Rattle.shared_maps.specs.Order.{IsFirst};
 ghost use Rattle.log_items.specs.Plain.{item_of, items_of};
 ghost use Rattle.part_steps.specs.States.{state_of};
 ghost use Rattle.spec_cell.specs.GivesTask.{GivesTask};
-ghost use Rattle.spec_cell.specs.Steps.{entries_in};
+ghost use Rattle.cell_steps.specs.Steps.{entries_in};
 ghost use Rattle.spec_cell.specs.Tasks.{StandsAhead, Finds, Gives, without_ended, without_settled};
 ghost use Rattle.spec_cell.specs.Views.{IsBase};
 
 use crate::cell::{Cell, put};
-use crate::live::Live;
 use crate::mine::Mine;
-use crate::step::Step;
+use cell_steps::{Live, Step};
 use cell_tasks::GivenOut;
 use dura_value::Id;
 use flow_messages::copy_id;

@@ -7,13 +7,13 @@ ghost use Rattle.cell_waits.specs.Waits.{MayWait, waits_of};
 ghost use Rattle.dura_model.specs.Partition.{Partition};
 ghost use Rattle.log_items.specs.Plain.{item_of, items_of};
 ghost use Rattle.part_steps.specs.States.{state_of};
-ghost use Rattle.spec_cell.specs.Ahead.{ahead_of};
+ghost use Rattle.cell_steps.specs.Ahead.{ahead_of};
 ghost use Rattle.spec_cell.specs.Trims.{has_before, trims_of, trims_by, has_trim, with_trims, Trims};
 ghost use Rattle.spec_cell.specs.Views.{IsAhead};
 
 use crate::cell::{Cell, put};
-use crate::live::Live;
 use crate::mine::Mine;
+use cell_steps::Live;
 use cell_waits::{Wait, Waits};
 use log_items::Item;
 use part_steps::PartState;

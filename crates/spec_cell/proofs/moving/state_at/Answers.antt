@@ -1,6 +1,6 @@
 use Rattle.std.proofs.Common.{◌≡◌, ◌∙◌, ◌-◌, ℕ, suc, take, sym, ap, arith}
-use Rattle.spec_cell.specs.Steps.{last_of}
-use Rattle.spec_cell.proofs.Chains.{front_at}
+use Rattle.cell_steps.specs.Steps.{last_of}
+use Rattle.cell_steps.proofs.Chains.{front_at}
 use Rattle.spec_cell.proofs.moving.state_at.Goals as goal
 
 pub returns : goal.returns

@@ -1,7 +1,7 @@
 use Rattle.std.proofs.Common.{◌≡◌, ◌∙◌, ◌∷◌, ◌++◌, [], List, Option, option_to_list, sym, ap}
-use Rattle.spec_cell.specs.Steps.{last_of}
-use Rattle.spec_cell.specs.declared.step.Step.{Step}
-use Rattle.spec_cell.proofs.Chains.{last_both}
+use Rattle.cell_steps.specs.Steps.{last_of}
+use Rattle.cell_steps.specs.declared.step.Step.{Step}
+use Rattle.cell_steps.proofs.Chains.{last_both}
 use Rattle.spec_cell.proofs.moving.state_behind.Goals as goal
 
 pub returns-in-Some : goal.returns-in-Some

@@ -1,8 +1,8 @@
 use Rattle.std.proofs.Common.{◌∙◌, ℕ, take, sym, ap, arith}
 use Rattle.std.proofs.lemmas.List.{take-map}
 use Rattle.log_items.specs.Plain.{entry_of}
-use Rattle.spec_cell.specs.declared.step.Step.{Step}
-use Rattle.spec_cell.specs.Steps.{entries_in}
+use Rattle.cell_steps.specs.declared.step.Step.{Step}
+use Rattle.cell_steps.specs.Steps.{entries_in}
 use Rattle.spec_cell.proofs.picking.copy_front.Goals as goal
 
 pub returns : goal.returns

@@ -4,8 +4,8 @@ use Rattle.dura_value.specs.Dependencies.{named_by, Ready}
 use Rattle.dura_value.specs.Items.{Entry}
 use Rattle.log_items.specs.Plain.{entry_of, items_of}
 use Rattle.spec_tracker.specs.Marks.{floors_of, length_in}
-use Rattle.spec_cell.specs.declared.step.Step.{Step}
-use Rattle.spec_cell.proofs.Walks.{all_next_shown}
+use Rattle.cell_steps.specs.declared.step.Step.{Step}
+use Rattle.cell_steps.proofs.Walks.{all_next_shown}
 use Rattle.spec_cell.proofs.FrontReady.{front_of, front_whole, at_step}
 use Rattle.spec_cell.proofs.picking.count_ready.Goals as goal
 

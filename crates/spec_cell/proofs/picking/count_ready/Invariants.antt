@@ -2,7 +2,7 @@ use Rattle.std.proofs.Common.{◌≤◌, take}
 use Rattle.std.specs.List.{All}
 use Rattle.dura_value.specs.Dependencies.{named_by, Ready}
 use Rattle.spec_tracker.specs.Marks.{floors_of, length_in}
-use Rattle.spec_cell.specs.Steps.{entries_in}
+use Rattle.cell_steps.specs.Steps.{entries_in}
 use Rattle.spec_cell.proofs.picking.count_ready.Given as goal
 
 -- those before name only what is ready

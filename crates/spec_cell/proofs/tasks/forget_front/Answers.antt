@@ -3,7 +3,7 @@ use Rattle.cell_tasks.specs.Tasks.{is_out}
 use Rattle.log_items.specs.Plain.{items_of}
 use Rattle.log_items.specs.declared.items.Item.{Item}
 use Rattle.spec_cell.specs.Tasks.{without_ended}
-use Rattle.spec_cell.specs.declared.step.Step.{Step}
+use Rattle.cell_steps.specs.declared.step.Step.{Step}
 use Rattle.spec_cell.proofs.TasksOver.{settled_next}
 use Rattle.spec_cell.proofs.tasks.forget_front.Goals as goal
 

@@ -1,6 +1,6 @@
 use Rattle.std.proofs.Common.{◌≡◌, take}
 use Rattle.cell_tasks.specs.Tasks.{is_out}
-use Rattle.spec_cell.specs.Steps.{entries_in}
+use Rattle.cell_steps.specs.Steps.{entries_in}
 use Rattle.spec_cell.specs.Tasks.{without_settled}
 use Rattle.spec_cell.proofs.tasks.forget_front.Given as goal
 

@@ -4,9 +4,9 @@ use Rattle.cell_waits.specs.declared.wait.Wait.{Wait}
 use Rattle.cell_waits.specs.declared.wait.Wait.TheVariants as waiting
 use Rattle.part_steps.specs.States.{state_of}
 use Rattle.part_steps.specs.declared.state.PartState.{PartState}
-use Rattle.spec_cell.specs.Ahead.{ahead_of}
+use Rattle.cell_steps.specs.Ahead.{ahead_of}
 use Rattle.spec_cell.specs.Views.{Stands, StandsIn}
-use Rattle.spec_cell.specs.declared.live.Live.{Live}
+use Rattle.cell_steps.specs.declared.live.Live.{Live}
 use Rattle.spec_cell.proofs.CellFacts.{view, ahead_of_self, same_view, waits_are, queued_view, queued_stands}
 use Rattle.log_items.specs.declared.items.Item.TheVariants.{Got}
 use Rattle.spec_cell.specs.Comes.{next_from}

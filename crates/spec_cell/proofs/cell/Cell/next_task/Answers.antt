@@ -1,7 +1,7 @@
 use Rattle.std.proofs.Common.{◌≡◌, ◌∙◌, Option, Some, sym, ap, subst}
 use Rattle.part_steps.specs.States.{state_of}
 use Rattle.spec_cell.specs.Views.{Stands, StandsIn}
-use Rattle.spec_cell.specs.declared.live.Live.{Live}
+use Rattle.cell_steps.specs.declared.live.Live.{Live}
 use Rattle.spec_cell.proofs.CellFacts.{view, base_of_self}
 use Rattle.spec_cell.proofs.TasksGiven.{gives_task}
 use Rattle.spec_cell.proofs.cell.Cell.next_task.Goals as goal

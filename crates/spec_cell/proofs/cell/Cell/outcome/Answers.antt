@@ -3,15 +3,15 @@ use Rattle.cell_waits.specs.Waits.{Waiting, wait_of}
 use Rattle.cell_waits.specs.declared.wait.Wait.TheVariants as waiting
 use Rattle.part_steps.specs.States.{state_of}
 use Rattle.part_steps.specs.declared.state.PartState.{PartState}
-use Rattle.spec_cell.specs.Ahead.{ahead_of}
+use Rattle.cell_steps.specs.Ahead.{ahead_of}
 use Rattle.spec_cell.specs.Views.{Stands, StandsIn}
-use Rattle.spec_cell.specs.declared.live.Live.{Live}
+use Rattle.cell_steps.specs.declared.live.Live.{Live}
 use Rattle.spec_cell.proofs.CellFacts.{view, ahead_of_self, same_view, waits_are, queued_view, queued_stands}
 use Rattle.dura_value.specs.Views.{id_of}
 use Rattle.part_rows.specs.Views.{activity_of}
 use Rattle.std.specs.List.{list_any}
 use Rattle.cell_waits.specs.Waits.{is_outcome_of}
-use Rattle.spec_cell.specs.Fills.{IsFor}
+use Rattle.cell_steps.specs.Fills.{IsFor}
 use Rattle.spec_cell.proofs.cell.Cell.outcome.Goals as goal
 
 pub returns-then-not-is_pending-clause-records : goal.returns-then-not-is_pending-clause-records

@@ -6,11 +6,11 @@ use Rattle.dura_value.specs.Items.{Identity, Entry}
 use Rattle.log_items.specs.Plain.{entries_of}
 use Rattle.log_items.specs.declared.frames.Entry.{Entry as OwnEntry}
 use Rattle.spec_tracker.specs.Marks.{floors_of, length_in}
-use Rattle.spec_cell.specs.Steps.{entries_in}
+use Rattle.cell_steps.specs.Steps.{entries_in}
 use Rattle.spec_cell.specs.Picks.{HasPicked}
 use Rattle.spec_cell.specs.Views.{Stands, StandsIn}
-use Rattle.spec_cell.specs.declared.live.Live.{Live}
-use Rattle.spec_cell.specs.declared.step.Step.{Step}
+use Rattle.cell_steps.specs.declared.live.Live.{Live}
+use Rattle.cell_steps.specs.declared.step.Step.{Step}
 use Rattle.spec_cell.proofs.CellFacts.{view}
 use Rattle.cell_packets.specs.Packets.{all_sent_from, ends_of}
 use Rattle.commit_gate.specs.Views.{all_sent}

@@ -1,9 +1,9 @@
 use Rattle.std.proofs.Common.{◌≡◌, ◌∙◌, IfOk, Option, Some, sym, ap, subst}
 use Rattle.part_steps.specs.States.{IsSound, state_of, count_of}
 use Rattle.part_steps.specs.declared.state.PartState.{PartState}
-use Rattle.spec_cell.specs.Sends.{SendsAgain}
+use Rattle.cell_steps.specs.Sent.{SendsAgain}
 use Rattle.spec_cell.specs.Views.{Stands, StandsIn}
-use Rattle.spec_cell.specs.declared.live.Live.{Live}
+use Rattle.cell_steps.specs.declared.live.Live.{Live}
 use Rattle.spec_cell.proofs.CellFacts.{view, may_turn, many}
 use Rattle.spec_cell.proofs.SentByEntries.{resends}
 use Rattle.spec_cell.proofs.cell.Cell.resend.Goals as goal

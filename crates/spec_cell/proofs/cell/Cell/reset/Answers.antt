@@ -3,7 +3,7 @@ use Rattle.std.specs.Prelude.{take, drop}
 use Rattle.std.specs.List.{All}
 use Rattle.dura_value.specs.Items.{Entry}
 use Rattle.spec_cell.specs.Views.{Stands, StandsIn}
-use Rattle.spec_cell.specs.declared.live.Live.{Live}
+use Rattle.cell_steps.specs.declared.live.Live.{Live}
 use Rattle.spec_cell.proofs.CellFacts.{view, same_view, given_up_stands, given_up_view, none_given, entries_are, incarnation_is, by_before, by_behind}
 use Rattle.spec_cell.proofs.cell.Cell.reset.Goals as goal
 

@@ -7,14 +7,14 @@ use Rattle.dura_value.specs.Items.{Identity, Entry}
 use Rattle.log_items.specs.Plain.{entry_of}
 use Rattle.part_steps.specs.States.{state_of}
 use Rattle.spec_tracker.specs.Marks.{identity_of, floors_of}
-use Rattle.spec_cell.specs.Depends.{last_made, dependencies, AreKept, IsFirstLost}
+use Rattle.cell_steps.specs.Depends.{last_made, dependencies, AreKept, IsFirstLost}
 use Rattle.spec_cell.specs.Moves.{given_up, dependencies_in}
-use Rattle.spec_cell.specs.Steps.{entries_in}
+use Rattle.cell_steps.specs.Steps.{entries_in}
 use Rattle.spec_cell.specs.Views.{Stands, StandsIn, given_of_live}
-use Rattle.spec_cell.specs.declared.live.Live.{Live}
-use Rattle.spec_cell.specs.declared.step.Step.{Step}
+use Rattle.cell_steps.specs.declared.live.Live.{Live}
+use Rattle.cell_steps.specs.declared.step.Step.{Step}
 use Rattle.spec_cell.proofs.CellFacts.{view, base_of_self, same_view, given_up_stands, given_up_view, waits_are, waits_view, none_given, entries_are, out_is, incarnation_is}
-use Rattle.spec_cell.proofs.Losing.{floor_at}
+use Rattle.cell_steps.proofs.Losing.{floor_at}
 use Rattle.spec_cell.proofs.cell.Cell.rewind.Goals as goal
 
 pub returns-in_default-lost-clause-rewinds : goal.returns-in_default-lost-clause-rewinds

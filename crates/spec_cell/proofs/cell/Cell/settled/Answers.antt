@@ -2,10 +2,10 @@ use Rattle.std.proofs.Common.{◌≡◌, ◌∙◌, ◌++◌, ◌≤◌, Option,
 use Rattle.std.proofs.lemmas.List.{length-map}
 use Rattle.log_items.specs.Plain.{entry_of}
 use Rattle.spec_cell.specs.Seats.{Slot}
-use Rattle.spec_cell.specs.Steps.{entries_in}
+use Rattle.cell_steps.specs.Steps.{entries_in}
 use Rattle.spec_cell.specs.Views.{CellView, Stands, StandsIn, HasSettled}
-use Rattle.spec_cell.specs.declared.live.Live.{Live}
-use Rattle.spec_cell.specs.declared.step.Step.{Step}
+use Rattle.cell_steps.specs.declared.live.Live.{Live}
+use Rattle.cell_steps.specs.declared.step.Step.{Step}
 use Rattle.spec_cell.proofs.CellFacts.{view, settles, move_seat, settled_view}
 use Rattle.spec_cell.proofs.SentByEntries.{front_sound, settled_sends}
 use Rattle.spec_cell.proofs.cell.Cell.settled.Goals as goal

@@ -2,10 +2,10 @@ use Rattle.std.proofs.Common.{◌≡◌, ◌∙◌, List, Option, Some, sym, ap,
 use Rattle.std.specs.List.{All}
 use Rattle.cell_waits.specs.Waits.{Waiting, MayWait, waits_of}
 use Rattle.part_steps.specs.States.{state_of}
-use Rattle.spec_cell.specs.Ahead.{ahead_of}
+use Rattle.cell_steps.specs.Ahead.{ahead_of}
 use Rattle.spec_cell.specs.Trims.{trims_by, with_trims}
 use Rattle.spec_cell.specs.Views.{Stands, StandsIn}
-use Rattle.spec_cell.specs.declared.live.Live.{Live}
+use Rattle.cell_steps.specs.declared.live.Live.{Live}
 use Rattle.spec_cell.proofs.CellFacts.{view, ahead_of_self, waits_are, waits_view, waits_stand}
 use Rattle.spec_cell.proofs.StreamsTrimmed.{all_trims, trims_may}
 use Rattle.spec_cell.proofs.cell.Cell.trim.Goals as goal

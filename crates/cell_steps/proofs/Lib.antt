@@ -1,0 +1,10 @@
+pub mod Chains
+pub mod Filled
+pub mod Staying
+pub mod SameValues
+pub mod Stamps
+pub mod Walks
+pub mod Queueing
+pub mod Made
+pub mod Losing
+pub mod Sides
