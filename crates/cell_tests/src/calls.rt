@@ -275,6 +275,12 @@ pub(crate) fn reset<N: Named>(
     }
 }
 
+/// A moment is handed in.
+fn fire<N: Named>(rt: &impl Abort, alloc: Global, cell: &mut TestCell<N>, now: &str) -> String {
+    let count = cell.fire(number_of(rt, now));
+    format!(in alloc; "{count} due").expect(rt, "memory")
+}
+
 /// What a call answers.
 fn told<N: Named>(
     rt: &impl Abort,
@@ -290,6 +296,7 @@ fn told<N: Named>(
         "packet" => return arrive_by(rt, alloc, cell, words),
         "turn" => return turn_by(rt, alloc, flows, cell, words),
         "rewind" => return rewind(rt, alloc, cell, words),
+        "fire" => return fire(rt, alloc, cell, words),
         "offer" => offer(rt, alloc, cell, "#b", words),
         "outcome" => outcome(rt, alloc, cell, words),
         "reset" => reset(rt, alloc, cell, words),

@@ -11,9 +11,10 @@ use std::alloc::Global;
 use std::marker::Brand;
 use std::process::Abort;
 
-/// An activity adds two numbers.
-const FLOWS: &[u8] =
-    br#"{"flows":{"Sum":[["call","s","add",{"list":[2,3]}],["return",{"v":"s"}]]}}"#;
+/// An activity adds two numbers, and a timer is waited for.
+pub(crate) const FLOWS: &[u8] = br#"{"flows":{
+    "Sum":[["call","s","add",{"list":[2,3]}],["return",{"v":"s"}]],
+    "Nap":[["timer","t",10],["await","r",{"v":"t"}],["return","up"]]}}"#;
 
 /// Calls of one cell, each with its answer.
 #[derive(Clone, Copy)]
@@ -150,6 +151,22 @@ reset 0: done
 offer 1 Sum/y: queued
 turn local: entry 0
 turn local: idle";
+
+/// Timers that are due are counted by the greatest moment that was handed in, and fire in a turn.
+const TIMERS: &str = "offer 1 Nap/y: queued
+fire 5: 0 due
+turn local: entry 0
+fire 14: 0 due
+fire 15: 1 due
+fire 3: 1 due
+turn local: entry 1
+fire 99: 0 due
+turn local: idle";
+
+#[test]
+fn timers(rt: HostRuntime) {
+    play(&rt, rt.alloc(), TIMERS);
+}
 
 #[test]
 fn packets(rt: HostRuntime) {

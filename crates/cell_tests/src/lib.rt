@@ -5,7 +5,7 @@
 //! - `stream_tests` has many packets of many streams come in no order.
 //! - `world` has four cells and what they sent one another, `said` what that says, and `world_calls` their calls. `draw_tests` are the
 //!   transcripts.
-//! - `settle_tests` has a cell settle what it made.
+//! - `settle_tests` has a cell settle what it made, and `task_tests` give out what is to be run then.
 #![tactic(auto)]
 
 #[cfg(test)]
@@ -22,6 +22,8 @@ mod seat;
 mod settle_tests;
 #[cfg(test)]
 mod stream_tests;
+#[cfg(test)]
+mod task_tests;
 #[cfg(test)]
 mod world;
 #[cfg(test)]

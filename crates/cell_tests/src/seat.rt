@@ -29,6 +29,7 @@ impl Named for Brand {
 /// A partition of which nothing was recovered, with the entries that are settled.
 pub(crate) struct TestSeat<N: Named> {
     number: u32,
+    token: u32,
     mine: Vec<Entry>,
     of: PhantomData<N>,
 }
@@ -48,6 +49,7 @@ impl<N: Named> Mine for TestSeat<N> {
     ghost number = { λ s. s.number };
 
     ghost slot = { λ s. record {
+      token = s.token;
       mine = entries_of s.mine.items;
       under_way = None;
       stage = stages.Resting;
@@ -74,6 +76,7 @@ pub(crate) fn seat_of<N: Named>(number: u32, mine: Vec<Entry>) -> TestSeat<N>
 {
     TestSeat {
         number,
+        token: 0,
         mine,
         of: PhantomData,
     }
@@ -88,6 +91,7 @@ pub(crate) fn leave<N: Named>(cell: Cell<TestSeat<N>>) {
 pub(crate) fn leave_seat<N: Named>(seat: TestSeat<N>) {
     let TestSeat {
         number: _,
+        token: _,
         mine,
         of: _,
     } = seat;

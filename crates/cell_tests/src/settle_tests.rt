@@ -18,14 +18,14 @@ use std::marker::Brand;
 use std::process::Abort;
 use std::str::FromStr;
 
-/// A request to start `Draw/x`, which lives in partition 0, comes for the first time.
-fn ask<N: Named>(rt: &impl Abort, alloc: Global, cell: &mut TestCell<N>)
+/// A request to start an instance comes for the first time.
+pub(crate) fn ask<N: Named>(rt: &impl Abort, alloc: Global, cell: &mut TestCell<N>, instance: &str)
     ensures number { cell.new.number ≡ cell.old.number }
     ensures slot { cell.new.slot ≡ cell.old.slot }
 {
     let message = Message {
         from: id_of(rt, alloc, "#a"),
-        to: id_of(rt, alloc, "Draw/x"),
+        to: id_of(rt, alloc, instance),
         body: Body::Start(Value::Null, Reply::Request(1)),
     };
     match cell.offer(alloc, message).expect(rt, "memory") {
@@ -35,7 +35,7 @@ fn ask<N: Named>(rt: &impl Abort, alloc: Global, cell: &mut TestCell<N>)
 }
 
 /// An entry is made. What goes out at once.
-fn turn_once<N: Named>(
+pub(crate) fn turn_once<N: Named>(
     rt: &impl Abort,
     alloc: Global,
     flows: &Flows,
@@ -72,24 +72,25 @@ fn pick_all<N: Named>(rt: &impl Abort, alloc: Global, cell: &mut TestCell<N>) ->
     frame.into_entries()
 }
 
-/// They are settled. What goes out by then.
-fn settle<N: Named>(
+/// They are settled in this partition. What goes out by then.
+pub(crate) fn settle<N: Named>(
     rt: &impl Abort,
     alloc: Global,
     cell: &mut TestCell<N>,
+    number: u32,
     mode: Mode,
 ) -> Vec<Packet>
-    requires number { cell.old.number ≡ 1 }
+    requires number { cell.old.number ≡ number }
     requires none { cell.old.slot.mine ≡ [] }
 {
     let entries = pick_all(rt, alloc, cell);
     let count = entries.len();
-    let (stub, packets) = cell.settled(alloc, count, mode, seat_of(1, entries));
+    let (stub, packets) = cell.settled(alloc, count, mode, seat_of(number, entries));
     leave_seat(stub);
     packets.expect(rt, "memory")
 }
 
-/// What goes out of a new cell of partition 1 by the entry that takes the request: at once, and once it is settled. The caller picks its
+/// What goes out of a new cell of partition 1 by the entry that takes a request for `Draw/x`, which lives in partition 0: at once, and once it is settled. The caller picks its
 /// flows.
 fn sends_named<N: Named, A: Abort>(
     rt: &A,
@@ -101,9 +102,9 @@ fn sends_named<N: Named, A: Abort>(
     requires count { 4 ≡ N.count }
 {
     let mut cell = new_cell::<N>(alloc, 4, 1);
-    ask(rt, alloc, &mut cell);
+    ask(rt, alloc, &mut cell, "Draw/x");
     let at_once = turn_once(rt, alloc, flows, &mut cell, mode);
-    let later = settle(rt, alloc, &mut cell, mode);
+    let later = settle(rt, alloc, &mut cell, 1, mode);
     leave(cell);
     (at_once, later)
 }
