@@ -29,7 +29,7 @@ ran_at_once : {commits : List Commit} → AllRan (rules_with sum_flows) commits 
 ran_at_once nothing_ran is = cc is
 ran_at_once (frame_more {settled = []} before states made partition going pending) is =
     let begins : states ≡ fresh = cc made in
-    in_front partition going (subst (λ (s : ℕ → Partition). EndPending (s partition) going) begins pending) is
+    in_front partition going (subst (λ (s : ℕ → Partition). EndPending (s partition) going) begins (pending refl)) is
 ran_at_once (frame_more {settled = first ∷ more} before states made partition going pending) is = ran_at_once before (single more (commits_at partition going) first at_once is)
 
 pub ended_at_once : AllRan (rules_with sum_flows) (at_once ∷ []) → ⊥

@@ -17,7 +17,7 @@ pub comes_in : (flows : Flows) → GoesFrom (rules_with flows) (first_entry 1 �
 comes_in flows = record {
   accepted = (_, refl);
   given = ((tt, λ next is. tt), λ next is. tt);
-  pending = All-from_recursion (λ (entry : Entry). All (EndsPending (fresh 0)) entry.items) ((coming_in 0).entry ∷ [])
+  pending = λ serves. All-from_recursion (λ (entry : Entry). All (EndsPending (fresh 0)) entry.items) ((coming_in 0).entry ∷ [])
       (All-from_recursion (EndsPending (fresh 0)) (coming_in 0).entry.items (tt, tt), tt);
   named = All-from_recursion (λ (entry : Entry). All (Contains (first_entry 1 ∷ [])) (named_by entry.items)) ((coming_in 0).entry ∷ [])
       (All-from_recursion (Contains (first_entry 1 ∷ [])) (first_entry 1 ∷ []) ((0, omega arith, refl), tt), tt);
@@ -28,7 +28,7 @@ pub takes : (flows : Flows) → GoesFrom (rules_with flows) [] fresh 1 (taking.e
 takes flows = record {
   accepted = (_, refl);
   given = ((tt, λ next is. tt), λ next is. tt);
-  pending = All-from_recursion (λ (entry : Entry). All (EndsPending (fresh 1)) entry.items) (taking.entry ∷ [])
+  pending = λ serves. All-from_recursion (λ (entry : Entry). All (EndsPending (fresh 1)) entry.items) (taking.entry ∷ [])
       (All-from_recursion (EndsPending (fresh 1)) taking.entry.items (tt, tt), tt);
   named = All-from_recursion (λ (entry : Entry). All (Contains []) (named_by entry.items)) (taking.entry ∷ []) (λ k d inside. absurd (omega (arith, inside)), tt);
 }

@@ -1,5 +1,5 @@
 -- Calls of two partitions, by example: client a lives in partition 1, and so does Sum/x; Sum/y lives in 0.
-use Rattle.std.specs.Prelude.{ℕ, List, [], ◌∷◌, ◌++◌, ◌==◌, codes, slice_set, if◌then◌else◌, Option, Some, None}
+use Rattle.std.specs.Prelude.{ℕ, true, false, List, [], ◌∷◌, ◌++◌, ◌==◌, codes, slice_set, if◌then◌else◌, Option, Some, None}
 use Rattle.dura_model.specs.Legal.{after}
 use Rattle.dura_model.specs.Partition.{Partition, fresh, with_part}
 use Rattle.dura_model.specs.World.{World, empty}
@@ -47,6 +47,7 @@ rules_with flows = record {
   begin = fresh;
   incarnations = λ partition. 0;
   requests = first_asked ∷ then_asked ∷ [];
+  serves = true;
 }
 
 -- one in which partition 0 is in one more incarnation, and one in which nobody asks
@@ -55,6 +56,10 @@ later_rules flows = record (rules_with flows) { incarnations = λ partition. if 
 
 abbrev pub silent_rules : Flows → Rules
 silent_rules flows = record (rules_with flows) { requests = [] }
+
+-- one that serves nobody
+abbrev pub free_rules : Flows → Rules
+free_rules flows = record (silent_rules flows) { serves = false }
 
 -- one whose logs keep this entry
 abbrev pub recovering : Flows → Commit → Rules
@@ -74,6 +79,10 @@ answering_rules flows partition = record (rules_with flows) { begin = answered_i
 -- one that finds an answer to the second request, though the first is still to be answered
 abbrev pub second_rules : Flows → Rules
 second_rules flows = record (rules_with flows) { begin = with_part fresh 1 (record (fresh 1) { answers = at_number (fresh 1).answers (client (codes "a")) 2 (Some was_started) }) }
+
+-- one that serves nobody, and finds the answer to the second request
+abbrev pub unserved_rules : Flows → Rules
+unserved_rules flows = record (second_rules flows) { serves = false }
 
 -- ---- what comes
 

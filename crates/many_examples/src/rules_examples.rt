@@ -13,11 +13,11 @@ ghost use Rattle.flow_syntax.specs.Syntax.{Flows};
 ghost use Rattle.hub_store.specs.Trail.{Said};
 ghost use Rattle.many_examples.specs.Pairs.{first_entry, taking, coming_in};
 ghost use Rattle.many_examples.specs.Placings.{states_of, asking_states, ending_sum, one_file, none_of, taken_of, taking_x, beyond};
-ghost use Rattle.many_examples.specs.RulesBy.{rules_with, later_rules, silent_rules, asking_rules, answering_rules, taken_once, settled, firing, first_said, second_said, second_rules, empty_origin, empty_log, unknown_rules, answering, answering_at, gate_written, starting_sum, at_once, letting_unknown, sum_done, sum_done_origin, sum_done_rules};
+ghost use Rattle.many_examples.specs.RulesBy.{rules_with, later_rules, silent_rules, asking_rules, answering_rules, taken_once, settled, firing, first_said, second_said, second_rules, empty_origin, empty_log, unknown_rules, answering, answering_at, gate_written, starting_sum, at_once, letting_unknown, sum_done, sum_done_origin, sum_done_rules, free_rules, unserved_rules};
 ghost use Rattle.many_logs.specs.Placing.{GoesThrough};
 ghost use Rattle.many_logs.specs.Stands.{asked_at, AreKept};
 ghost use Rattle.many_rules.specs.Leaves.{Begins, IsAnswered, AllAnswered, IsHalfSaid, IsOfCall, AllRan, StandsOn};
-ghost use Rattle.many_rules.specs.Rules.{rules_at, known_of, GoesFrom, Follows, Answers, Passes};
+ghost use Rattle.many_rules.specs.Rules.{known_of, GoesFrom, Follows, Answers, Passes};
 ghost use Rattle.part_items.specs.Examples.{digest};
 ghost use Rattle.part_items.specs.Logs.{logs_in, entries_in};
 ghost use Rattle.run_rules.specs.FieldExamples.{no_sum, sum_flows, starting, ending_first};
@@ -54,19 +54,22 @@ pub fn entries_following()
         ((coming_in 0).entry ∷ []) → ⊥ }
 {}
 
-/// An entry is of its own partition's incarnation, takes what was asked for, and is of no later stamp than the clock's.
+/// An entry is of its own partition's incarnation or a later one, takes what was asked for, unless nobody is served, and is of no later
+/// stamp than the clock's.
 pub fn entries_ours()
     ensures incarnation { (flows : Flows) → Follows (later_rules flows) 0 taken_once [] 0
         ((coming_in 0).entry ∷ []) → ⊥ }
     ensures other { (flows : Flows) → Follows (later_rules flows) 0 [] [] 1 (taking.entry ∷ []) }
     ensures asked { (flows : Flows) → Follows (silent_rules flows) 0 [] [] 1 (taking.entry ∷ [])
         → ⊥ }
+    ensures unserved { (flows : Flows) → Follows (free_rules flows) 0 [] [] 1
+        (taking.entry ∷ []) }
     ensures by_then { Follows unknown_rules 5 [] [] 1 ((answering_at 5).entry ∷ []) }
     ensures timely { Follows unknown_rules 4 [] [] 1 ((answering_at 5).entry ∷ []) → ⊥ }
 {}
 
 /// The line of the answer that the client's home has may be said, once, and no other line; not that of another partition, nor where the
-/// settled entries make no states, nor one that is there of another number than the client's next.
+/// settled entries make no states, nor, unless nobody is served, one that is there of another number than the client's next.
 pub fn lines_answering()
     ensures there { (flows : Flows) → Answers (answering_rules flows 1) [] [] first_said
         (line_of (codes "a") 1 was_started) }
@@ -79,6 +82,8 @@ pub fn lines_answering()
         → Answers (answering_rules flows 1) [] (first_said ∷ []) first_said line → ⊥ }
     ensures unmade { (flows : Flows) (line : List ℕ)
         → Answers (answering_rules flows 1) (settled (coming_in 0) ∷ []) [] first_said line → ⊥ }
+    ensures unserved { (flows : Flows) → Answers (unserved_rules flows) [] [] second_said
+        (line_of (codes "a") 2 was_started) }
     ensures number { (flows : Flows) (line : List ℕ)
         → Answers (second_rules flows) [] [] second_said line → ⊥ }
 {}
@@ -111,21 +116,23 @@ pub fn calls_begin()
         digest → ⊥ }
 {}
 
-/// An entry of this call is of its partition's incarnation, and of no later stamp than the clock's.
+/// An entry of this call is of its partition's incarnation or a later one, and of no later stamp than the clock's.
 pub fn entries_of_call()
     ensures coming { (flows : Flows)
-        → IsOfCall (rules_at (rules_with flows) 0) 0 (coming_in 0).entry }
-    ensures fired { (flows : Flows) → IsOfCall (rules_at (rules_with flows) 1) 5 (firing 5) }
+        → IsOfCall (rules_with flows) 0 0 (coming_in 0).entry }
+    ensures fired { (flows : Flows) → IsOfCall (rules_with flows) 5 1 (firing 5) }
     ensures incarnation { (flows : Flows)
-        → IsOfCall (rules_at (later_rules flows) 0) 0 (coming_in 0).entry → ⊥ }
-    ensures timely { (flows : Flows) → IsOfCall (rules_at (rules_with flows) 1) 4 (firing 5) → ⊥ }
+        → IsOfCall (later_rules flows) 0 0 (coming_in 0).entry → ⊥ }
+    ensures timely { (flows : Flows) → IsOfCall (rules_with flows) 4 1 (firing 5) → ⊥ }
 {}
 
 /// What is sent by one partition and comes in at another may come frame by frame; an activity that no settled entry asked for didn't
-/// run, nor one that is asked for and ends in one frame, though its entry is accepted.
+/// run, nor one that is asked for and ends in one frame, though its entry is accepted; where nobody is served it may have.
 pub fn activities_ran()
     ensures coming { (flows : Flows) → AllRan (rules_with flows) (taking ∷ coming_in 0 ∷ []) }
     ensures pending { (flows : Flows) → AllRan (asking_rules flows) (ending_sum no_sum ∷ []) }
+    ensures unserved { (flows : Flows) (outcome : Outcome)
+        → AllRan (free_rules flows) (ending_sum outcome ∷ []) }
     ensures early { (flows : Flows) (outcome : Outcome)
         → AllRan (rules_with flows) (ending_sum outcome ∷ []) → ⊥ }
     ensures accepted { GoesThrough sum_flows 2 fresh 1 (at_once.entry ∷ []) }

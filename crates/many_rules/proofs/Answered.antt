@@ -35,9 +35,7 @@ module _ (o : Origin) (rules : Rules) (latest digest : ℕ) (begins : Begins o r
   -- a line that may be said
   line_answered : (trail : List Settled) (told : List Said) (one : Said) (line : List ℕ) (behind : List Commit) → settled ≡ commits_of trail ++ behind → Goes rules latest trail → Answers rules trail told one line → IsAnswered rules settled told one line
   line_answered trail told one line behind front goes may = record {
-    request = may.request;
     next = may.next;
-    number_is = may.number_is;
     before = commits_of trail;
     behind = behind;
     front = front;

@@ -13,7 +13,7 @@ use Rattle.dura_model.specs.Partition.{nobody, fresh}
 use Rattle.dura_model.specs.Sends.{readers_in, IsOfOthers, Sends}
 use Rattle.dura_value.specs.Items.{Identity, Item, Entry, took, got, ran, ended, fired, trim}
 use Rattle.gated_store.specs.Kept.{AreRecovered}
-use Rattle.log_items.specs.Entries.{items_in, incarnations_in, identity_at, AreInTurn}
+use Rattle.log_items.specs.Entries.{items_in, incarnations_in, identity_at}
 use Rattle.log_items.specs.Readings.{with_reader, readers_after, readers_behind}
 use Rattle.many_logs.proofs.Frames.{of_none}
 use Rattle.many_logs.proofs.Names.{order_of}
@@ -23,15 +23,10 @@ use Rattle.many_logs.specs.Names.{identities_in}
 use Rattle.many_logs.specs.Placing.{states_after, of_partition, AllBelow, first_of, message_at}
 use Rattle.many_rules.proofs.Meeting.{first_drop, numbered_at, own_among, slice_of}
 use Rattle.many_rules.specs.Ledgers.{ledger_of, ledgers}
-use Rattle.many_rules.specs.Local.{ledger_is, outside}
+use Rattle.many_rules.specs.Local.{in_turn, ledger_is, outside}
 use Rattle.many_rules.specs.Rules.{Rules}
-use Rattle.part_items.specs.Numbered.{Next, behind, IsNumbered}
 
 -- ---- who took in the last messages
-
-in_turn : (next : Next) (entries : List Entry) → IsNumbered next entries → AreInTurn next.position entries
-in_turn next [] numbered = tt
-in_turn next (entry ∷ entries) numbered = (numbered.0, subst (λ (n : ℕ). AreInTurn (n + 1) entries) numbered.0 (in_turn (behind entry) entries numbered.2))
 
 -- items of others leave it to the streams from past the count
 module _ (count partition source : ℕ) (past : count ≤ source) where

@@ -1,46 +1,43 @@
 -- What a store whose gate compares commits, it commits by the rules, at every moment.
-use Rattle.std.proofs.Common.{◌≡◌, inl, inr, ◌≤◌, ◌==◌, ℕ, ◌+◌, Bool, true, false, cond, List, [], ◌∷◌, ◌++◌, length, Some, refl, sym, ap, subst, ◌∙◌, append_assoc, length-append, append-nil, arith}
-use Rattle.std.specs.List.{All}
+use Rattle.std.proofs.Common.{◌≡◌, inl, inr, ◌==◌, ℕ, ◌+◌, Bool, true, false, cond, List, [], ◌∷◌, ◌++◌, Some, Ok, refl, sym, ap, subst, ◌∙◌, append_assoc, append-nil, arith}
 use Rattle.std.proofs.lemmas.Bool.{eqb-true}
-use Rattle.std.proofs.lemmas.List.Elements.{All-head, All-tail, All-weaker}
-use Rattle.dura_model.specs.Partition.{fresh}
+use Rattle.dura_model.proofs.Appending.{both_placed}
+use Rattle.dura_model.specs.Entries.{placed, entry_accepted}
+use Rattle.dura_model.specs.Partition.{Partition, fresh}
 use Rattle.dura_value.specs.Items.{Entry}
 use Rattle.gated_store.specs.Follows.{Follows as GateFollows}
 use Rattle.hub_store.specs.Moments.{SaidSoFar, SaysNext, StandsWith, AtEveryMoment}
 use Rattle.hub_store.specs.Moments.SaidSoFar.{silent, settles, says}
 use Rattle.hub_store.specs.Origin.{Origin}
 use Rattle.hub_store.specs.Trail.{Settled, Said, of_part, settling}
-use Rattle.log_items.specs.Entries.{AreInTurn}
+use Rattle.flow_syntax.specs.Syntax.{Flows}
 use Rattle.many_logs.proofs.Frames.{of_both}
+use Rattle.many_logs.proofs.Moving.{entry_moves}
+use Rattle.many_logs.proofs.Own.{own_chain}
 use Rattle.many_logs.specs.Labels.{AreNumbered, state_next}
 use Rattle.many_logs.specs.Placing.{Commit, states_after, of_partition, commits_at}
 use Rattle.many_rules.proofs.Meeting.{gate_follows}
 use Rattle.many_rules.specs.Appended.{puts_both, puts_part, puts_settling}
 use Rattle.many_rules.specs.Ledgers.{ledgers}
 use Rattle.many_rules.specs.Makes.{Makes}
-use Rattle.many_rules.specs.Rules.{Rules, rules_at, commits_of, pairs_of, Follows, Answers}
+use Rattle.many_rules.specs.Rules.{Rules, commits_of, Follows, Answers}
 use Rattle.part_items.proofs.Behind.{behind_both, numbered_both}
 use Rattle.part_items.specs.Numbered.{Next, behind, behind_all, IsNumbered}
-use Rattle.run_rules.specs.Rules.{IsOurs}
 use Rattle.site_model.specs.History.{Step}
 
 -- ---- numbers
 
-places : (next : Next) (entries : List Entry) → IsNumbered next entries → (behind_all next entries).position ≡ next.position + length entries
-places next [] numbered = omega arith
-places next (entry ∷ entries) numbered = let rest = places (behind entry) entries numbered.2 in omega (arith, rest, numbered.0)
+same_next : (p : Partition) (entry : Entry) → p.position ≡ entry.position + 1 → p.incarnation ≡ entry.incarnation → state_next p ≡ behind entry
+same_next p entry position incarnation = λ i. record { position = position i; incarnation = incarnation i }
 
--- entries of one incarnation that go on from there
-pub record GoesOn (next : Next) (incarnation : ℕ) (going : List Entry) : Type 0 where
-  pub numbered : IsNumbered next going
-  pub ends : (behind_all next going).incarnation ≤ incarnation
-
-frame_goes : (next : Next) (incarnation : ℕ) (going : List Entry) → AreInTurn next.position going → next.incarnation ≤ incarnation → All (λ (e : Entry). e.incarnation ≡ incarnation) going → GoesOn next incarnation going
-frame_goes next incarnation [] turn low all = record { numbered = tt; ends = low }
-frame_goes next incarnation (entry ∷ going) turn low all =
-    let here : entry.incarnation ≡ incarnation = All-head (λ (e : Entry). e.incarnation ≡ incarnation) entry going all in
-    let rest = frame_goes (behind entry) incarnation going (subst (λ (n : ℕ). AreInTurn (n + 1) going) (sym turn.0) turn.1) (omega (arith, here)) (All-tail (λ (e : Entry). e.incarnation ≡ incarnation) entry going all) in
-    record { numbered = (turn.0, omega (arith, low, here), rest.numbered); ends = rest.ends }
+-- entries that stand where a partition goes on leave it where they end
+goes_behind : (flows : Flows) (count : ℕ) (entries : List Entry) (p q : Partition) → placed flows count p entries ≡ Ok q → IsNumbered (state_next p) entries → state_next q ≡ behind_all (state_next p) entries
+goes_behind flows count [] p q made numbered = let same : p ≡ q = cc made in ap state_next (sym same)
+goes_behind flows count (entry ∷ entries) p q made numbered =
+    let first = both_placed entry.position (entry_accepted flows count p entry) (λ next. placed flows count next entries) q made in
+    let moves = entry_moves flows count entry p first.0 first.1 in
+    let here : state_next first.0 ≡ behind entry = same_next first.0 entry (moves.position ∙ ap (λ (n : ℕ). n + 1) (sym numbered.0)) moves.incarnation in
+    goes_behind flows count entries first.0 q first.2 (subst (λ (n : Next). IsNumbered n entries) (sym here) numbered.2) ∙ ap (λ (n : Next). behind_all n entries) here
 
 -- a partition's entries among those of one
 own_at : (partition : ℕ) (going : List Entry) → of_partition partition (commits_at partition going) ≡ going
@@ -51,8 +48,7 @@ none_at : (partition other : ℕ) (going : List Entry) → (partition == other) 
 none_at partition other [] apart = refl
 none_at partition other (entry ∷ going) apart = ap (λ (b : Bool). cond b (entry ∷ of_partition other (commits_at partition going)) (of_partition other (commits_at partition going))) apart ∙ none_at partition other going apart
 
-module _ (rules : Rules) (made : states_after rules.flows rules.count fresh rules.recovered ≡ Some rules.begin) (first : AreNumbered fresh rules.recovered)
-    (later : (q : ℕ) → (behind_all (state_next (fresh q)) (of_partition q rules.recovered)).incarnation ≤ rules.incarnations q) (latest : ℕ) where
+module _ (rules : Rules) (made : states_after rules.flows rules.count fresh rules.recovered ≡ Some rules.begin) (first : AreNumbered fresh rules.recovered) (latest : ℕ) where
   abbrev Its : List Settled → List Said → ℕ → List Entry → Type 0
   Its = GateFollows (ledgers rules) (Makes rules) latest
 
@@ -62,17 +58,12 @@ module _ (rules : Rules) (made : states_after rules.flows rules.count fresh rule
   abbrev all_of : ℕ → List Settled → List Entry
   all_of q trail = of_partition q (rules.recovered ++ commits_of trail)
 
-  record IsInOrder (trail : List Settled) : Type 0 where
-    numbered : (q : ℕ) → IsNumbered (state_next (fresh q)) (all_of q trail)
-    ends : (q : ℕ) → (behind_all (state_next (fresh q)) (all_of q trail)).incarnation ≤ rules.incarnations q
+  -- all that was recovered and settled is numbered
+  abbrev IsInOrder : List Settled → Type 0
+  IsInOrder trail = AreNumbered fresh (rules.recovered ++ commits_of trail)
 
   order_first : IsInOrder []
-  order_first =
-      let same : (q : ℕ) → all_of q [] ≡ of_partition q rules.recovered = λ q. ap (of_partition q) (append-nil rules.recovered) in
-      record {
-        numbered = λ q. subst (IsNumbered (state_next (fresh q))) (sym (same q)) (first q);
-        ends = λ q. subst (λ (l : List Entry). (behind_all (state_next (fresh q)) l).incarnation ≤ rules.incarnations q) (sym (same q)) (later q);
-      }
+  order_first = λ q. subst (IsNumbered (state_next (fresh q))) (sym (ap (of_partition q) (append-nil rules.recovered))) (first q)
 
   more_of : (q : ℕ) (trail : List Settled) (partition at : ℕ) (going : List Entry) → all_of q (trail ++ settling partition at going) ≡ all_of q trail ++ of_partition q (commits_at partition going)
   more_of q trail partition at going =
@@ -80,11 +71,8 @@ module _ (rules : Rules) (made : states_after rules.flows rules.count fresh rule
       ∙ ap (of_partition q) (sym (append_assoc rules.recovered (commits_of trail) (commits_at partition going))) ∙ of_both q (rules.recovered ++ commits_of trail) (commits_at partition going)
 
   order_more : (trail : List Settled) (told : List Said) (partition at : ℕ) (going : List Entry) → IsInOrder trail → Its trail told partition going → IsInOrder (trail ++ settling partition at going)
-  order_more trail told partition at going order follows = record {
-    numbered = λ q. subst (IsNumbered (state_next (fresh q))) (sym (more_of q trail partition at going)) ((numbered_both (state_next (fresh q)) (all_of q trail) (of_partition q (commits_at partition going))).1 (order.numbered q, (goes q).numbered));
-    ends = λ q. subst (λ (l : List Entry). (behind_all (state_next (fresh q)) l).incarnation ≤ rules.incarnations q) (sym (more_of q trail partition at going))
-        (subst (λ (n : Next). n.incarnation ≤ rules.incarnations q) (sym (behind_both (state_next (fresh q)) (all_of q trail) (of_partition q (commits_at partition going)))) (goes q).ends);
-  }
+  order_more trail told partition at going order follows = λ q.
+      subst (IsNumbered (state_next (fresh q))) (sym (more_of q trail partition at going)) ((numbered_both (state_next (fresh q)) (all_of q trail) (of_partition q (commits_at partition going))).1 (order q, goes q))
     where
       makes : Makes rules latest (of_part partition trail) told partition going
       makes = follows.makes
@@ -92,24 +80,40 @@ module _ (rules : Rules) (made : states_after rules.flows rules.count fresh rule
       next_of : ℕ → Next
       next_of q = behind_all (state_next (fresh q)) (all_of q trail)
 
-      mine : GoesOn (next_of partition) (rules.incarnations partition) going
-      mine =
-          let long : length (all_of partition trail) ≡ length (of_partition partition rules.recovered) + length (of_part partition trail) =
-          ap length (of_both partition rules.recovered (commits_of trail) ∙ ap (λ (l : List Entry). of_partition partition rules.recovered ++ l) (puts_part partition trail)) ∙ length-append (of_partition partition rules.recovered) (of_part partition trail) in
-          let there : (next_of partition).position ≡ 0 + length (all_of partition trail) = places (state_next (fresh partition)) (all_of partition trail) (order.numbered partition) in
-          let position : makes.before.position ≡ (next_of partition).position = omega (arith, makes.position, long, there) in
-          frame_goes (next_of partition) (rules.incarnations partition) going (subst (λ (n : ℕ). AreInTurn n going) position makes.positions) (order.ends partition)
-          (All-weaker (IsOurs (rules_at rules partition) latest (pairs_of told)) (λ (e : Entry). e.incarnation ≡ rules.incarnations partition) (λ e ours. ours.incarnation) going makes.ours)
+      old : List Entry
+      old = of_partition partition rules.recovered
 
-      by : (q : ℕ) (test : Bool) → (partition == q) ≡ test → GoesOn (next_of q) (rules.incarnations q) (of_partition q (commits_at partition going))
-      by q true same = subst (λ (k : ℕ). GoesOn (next_of k) (rules.incarnations k) (of_partition k (commits_at partition going))) (eqb-true partition q same) (subst (GoesOn (next_of partition) (rules.incarnations partition)) (sym (own_at partition going)) mine)
-      by q false apart = subst (GoesOn (next_of q) (rules.incarnations q)) (sym (none_at partition q going apart)) (record { numbered = tt; ends = order.ends q })
+      own : List Entry
+      own = of_part partition trail
 
-      goes : (q : ℕ) → GoesOn (next_of q) (rules.incarnations q) (of_partition q (commits_at partition going))
+      theirs : all_of partition trail ≡ old ++ own
+      theirs = of_both partition rules.recovered (commits_of trail) ∙ ap (λ (l : List Entry). old ++ l) (puts_part partition trail)
+
+      halves : IsNumbered (state_next (fresh partition)) old × IsNumbered (behind_all (state_next (fresh partition)) old) own
+      halves = (numbered_both (state_next (fresh partition)) old own).0 (subst (IsNumbered (state_next (fresh partition))) theirs (order partition))
+
+      begun : state_next (rules.begin partition) ≡ behind_all (state_next (fresh partition)) old
+      begun = goes_behind rules.flows rules.count old (fresh partition) (rules.begin partition) (own_chain rules.flows rules.count rules.recovered fresh rules.begin partition made) halves.0
+
+      stands : state_next makes.before ≡ next_of partition
+      stands =
+          goes_behind rules.flows rules.count own (rules.begin partition) makes.before makes.made (subst (λ (n : Next). IsNumbered n own) (sym begun) halves.1)
+          ∙ ap (λ (n : Next). behind_all n own) begun
+          ∙ sym (behind_both (state_next (fresh partition)) old own)
+          ∙ ap (behind_all (state_next (fresh partition))) (sym theirs)
+
+      mine : IsNumbered (next_of partition) going
+      mine = subst (λ (n : Next). IsNumbered n going) stands makes.numbered
+
+      by : (q : ℕ) (test : Bool) → (partition == q) ≡ test → IsNumbered (next_of q) (of_partition q (commits_at partition going))
+      by q true same = subst (λ (k : ℕ). IsNumbered (next_of k) (of_partition k (commits_at partition going))) (eqb-true partition q same) (subst (IsNumbered (next_of partition)) (sym (own_at partition going)) mine)
+      by q false apart = subst (IsNumbered (next_of q)) (sym (none_at partition q going apart)) tt
+
+      goes : (q : ℕ) → IsNumbered (next_of q) (of_partition q (commits_at partition going))
       goes q = by q (partition == q) refl
 
   follows_too : (trail : List Settled) (told : List Said) (partition : ℕ) (going : List Entry) → IsInOrder trail → Its trail told partition going → Ours trail told partition going
-  follows_too trail told partition going order follows = gate_follows rules made latest trail told partition going order.numbered follows
+  follows_too trail told partition going order follows = gate_follows rules made latest trail told partition going order follows
 
   -- ---- all the way
 

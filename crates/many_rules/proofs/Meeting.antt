@@ -33,8 +33,7 @@ use Rattle.many_rules.proofs.Passing.{passes_goes}
 use Rattle.many_rules.specs.Appended.{puts_part, names_both}
 use Rattle.many_rules.specs.Ledgers.{ledger_of, all_entries, ledgers}
 use Rattle.many_rules.specs.Makes.{Makes}
-use Rattle.many_rules.specs.Rules.{Rules, commits_of, known_of, Follows}
-use Rattle.run_rules.specs.Rules.{EndPending}
+use Rattle.many_rules.specs.Rules.{Rules, commits_of, known_of, HaveRun, Follows}
 use Rattle.part_items.specs.Numbered.{Next, behind, IsNumbered}
 
 -- ---- lists
@@ -244,7 +243,7 @@ module _ (rules : Rules) (made : states_after rules.flows rules.count fresh rule
           after = m.after;
           made = subst (λ (s : Partition). alone.placed rules.flows rules.count s going ≡ Ok m.after) same m.accepted;
           given = subst (λ (s : Partition). alone.AllGiven rules.flows rules.count s going) same m.given;
-          pending = subst (λ (s : Partition). EndPending s going) same m.pending;
+          pending = subst (λ (s : Partition). HaveRun rules s going) same m.pending;
           passes = frame_passes_too trail numbered states all partition going follows.met;
           trims = trims_named trail numbered states all partition going follows.met;
         }) states all;

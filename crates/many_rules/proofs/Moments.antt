@@ -14,7 +14,7 @@ use Rattle.many_logs.specs.Labels.{labels_of_commits, AllGiven, AreNumbered}
 use Rattle.many_logs.specs.Stands.{asked_at, FilesStand}
 use Rattle.many_logs.proofs.Frames.{of_both, of_frames, below_both, below_frames, put_then, given_both, frames_go}
 use Rattle.many_logs.proofs.OrdersStand.{logs_numbered, orders_stand}
-use Rattle.many_rules.specs.Rules.{Rules, rules_at, commits_of, known_of, GoesFrom, Follows, Answers}
+use Rattle.many_rules.specs.Rules.{Rules, commits_of, known_of, GoesFrom, Follows, Answers}
 use Rattle.many_logs.specs.Names.{identities_in}
 use Rattle.many_rules.specs.Leaves.{header_at, Begins, IsOfCall, StandsOn}
 use Rattle.many_rules.specs.Appended.{puts_part}
@@ -65,7 +65,7 @@ module _ (rules : Rules) (latest : ℕ) where
   -- the frame of a partition that an image has, if it has one
   record Frame (o : Origin) (states : ℕ → Partition) (steps : List Step) (trail : List Settled) (files : ℕ → List ℕ) (partition : ℕ) (going : List Entry) : Type 0 where
     goes : GoesFrom rules (known_of rules trail) states partition going
-    own : All (IsOfCall (rules_at rules partition) latest) going
+    own : All (IsOfCall rules latest partition) going
     keeps_it : LogKeeps (o.logs partition) (of_part partition trail ++ going) (files (o.logs partition).file)
     writing : (going ≡ []) ⊎ WroteGate (o.logs partition) (of_part partition trail) (changes_of (o.logs partition).file steps)
 
@@ -101,7 +101,7 @@ module _ (rules : Rules) (latest : ℕ) where
         | inl kept ↦ (
           [],
           record {
-            goes = record { accepted = (goes_so.states, refl); given = tt; pending = λ k d inside. absurd (omega (arith, inside)); named = λ k d inside. absurd (omega (arith, inside)) };
+            goes = record { accepted = (goes_so.states, refl); given = tt; pending = λ serves k d inside. absurd (omega (arith, inside)); named = λ k d inside. absurd (omega (arith, inside)) };
             own = λ k d inside. absurd (omega (arith, inside));
             keeps_it = subst (λ (l : List Entry). LogKeeps (o.logs partition) l (files (o.logs partition).file)) (sym (append-nil (of_part partition trail))) kept;
             writing = inl refl;
@@ -182,7 +182,7 @@ module _ (rules : Rules) (latest : ℕ) where
               given = given;
             };
             ran = frames_ran rules latest (known_of rules trail) rules.count (commits_of trail) goes_so.states going_in goes_so.ran goes_so.made (λ partition low. (its partition low).goes);
-            own = λ partition low. All-append (IsOfCall (rules_at rules partition) latest) (of_part partition trail) (going_in partition) (goes_so.own partition) (its partition low).own;
+            own = λ partition low. All-append (IsOfCall rules latest partition) (of_part partition trail) (going_in partition) (goes_so.own partition) (its partition low).own;
             founded = all_founded rules.recovered (commits_of trail ++ frames_in_order rules.count going_in) numbered
                 (named_both (identities_in rules.recovered) (commits_of trail) (frames_in_order rules.count going_in) goes_so.named
                 (named_frames (identities_in rules.recovered ++ identities_in (commits_of trail)) rules.count going_in (λ partition low. (its partition low).goes.named)));

@@ -9,10 +9,10 @@ use Rattle.hub_store.proofs.Settling.{no_part}
 use Rattle.many_logs.specs.Placing.{Commit, states_after, of_partition}
 use Rattle.many_logs.proofs.Frames.{put_apart, run_grows, run_leaves, frame_still, given_still}
 use Rattle.many_rules.specs.Appended.{puts_both, puts_part, pairs_both, names_both}
-use Rattle.many_rules.specs.Rules.{Rules, rules_at, commits_of, pairs_of, known_of, GoesFrom, Follows}
+use Rattle.many_rules.specs.Rules.{Rules, IsOurs, commits_of, pairs_of, known_of, HaveRun, GoesFrom, Follows}
 use Rattle.many_logs.specs.Names.{identities_in, AreNamed}
-use Rattle.run_rules.specs.Rules.{Told, IsOurs, EndPending}
-use Rattle.run_rules.proofs.Going.{ours_still, ours_later}
+use Rattle.many_rules.specs.Ours.{ours_still, ours_later}
+use Rattle.run_rules.specs.Rules.{Told}
 
 -- what is named among some is named among more
 pub named_more : (known more : List Identity) (going : List Entry) → AreNamed known going → AreNamed (known ++ more) going
@@ -28,14 +28,14 @@ module _ (rules : Rules) where
       record {
         accepted = (_, frame_still rules.flows rules.count going before after own.0 partition grow same own.1);
         given = given_still rules.flows rules.count going before after own.0 partition grow same own.1 goes.given;
-        pending = subst (λ (s : Partition). EndPending s going) (sym same) goes.pending;
+        pending = subst (λ (s : Partition). HaveRun rules s going) (sym same) goes.pending;
         named = named_more known also going goes.named;
       }
 
   pub follows_still : (latest : ℕ) (trail more : List Settled) (told also : List Said) (partition : ℕ) (going : List Entry) → of_part partition more ≡ [] → Follows rules latest trail told partition going → Follows rules latest (trail ++ more) (told ++ also) partition going
   follows_still latest trail more told also partition going none follows = record {
     below = follows.below;
-    ours = λ k d inside. subst (λ (t : Told). IsOurs (rules_at rules partition) latest t (get_or going k d)) (sym (pairs_both told also)) (ours_still (rules_at rules partition) latest (pairs_of told) (pairs_of also) _ (follows.ours k d inside));
+    ours = λ k d inside. subst (λ (t : Told). IsOurs rules latest t partition (get_or going k d)) (sym (pairs_both told also)) (ours_still rules latest partition _ (pairs_of told) (pairs_of also) (follows.ours k d inside));
     goes = λ states all.
         let both = put_apart rules.flows rules.count rules.begin states (commits_of trail) (commits_of more) (ap (states_after rules.flows rules.count rules.begin) (sym (puts_both trail more)) ∙ all) in
         let longer : known_of rules trail ++ identities_in (commits_of more) ≡ known_of rules (trail ++ more) =
@@ -58,6 +58,6 @@ module _ (rules : Rules) where
   pub follows_later : (latest later : ℕ) (trail : List Settled) (told : List Said) (partition : ℕ) (going : List Entry) → latest ≤ later → Follows rules latest trail told partition going → Follows rules later trail told partition going
   follows_later latest later trail told partition going above follows = record {
     below = follows.below;
-    ours = λ k d inside. ours_later (rules_at rules partition) latest later (pairs_of told) above _ (follows.ours k d inside);
+    ours = λ k d inside. ours_later rules latest partition _ later (pairs_of told) above (follows.ours k d inside);
     goes = follows.goes;
   }

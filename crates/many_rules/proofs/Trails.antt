@@ -17,9 +17,8 @@ use Rattle.std.proofs.lemmas.Bool.{eqb-true}
 use Rattle.many_logs.specs.Placing.{Commit, states_after, of_partition, AllBelow, commits_at, frames_in_order}
 use Rattle.many_logs.specs.Labels.{labels_of_commits, AllGiven, AreNumbered, state_next}
 use Rattle.many_logs.proofs.Frames.{of_both, below_both, below_at, put_then, given_both, frames_go}
-use Rattle.many_rules.specs.Rules.{Rules, rules_at, commits_of, GoesFrom, Follows, Answers}
+use Rattle.many_rules.specs.Rules.{Rules, commits_of, HaveRun, GoesFrom, Follows, Answers}
 use Rattle.many_logs.specs.Names.{identities_in}
-use Rattle.run_rules.specs.Rules.{EndPending}
 use Rattle.many_rules.specs.Leaves.{IsOfCall, AllRan}
 use Rattle.many_rules.specs.Leaves.AllRan.{nothing_ran, frame_more}
 use Rattle.many_rules.specs.Appended.{puts_both, puts_settling}
@@ -42,25 +41,25 @@ pub record Goes (rules : Rules) (latest : ℕ) (trail : List Settled) : Type 0 w
   pub given : AllGiven rules.flows rules.count rules.begin (commits_of trail)
   pub below : AllBelow rules.count (commits_of trail)
   pub ran : AllRan rules (commits_of trail)
-  pub own : (partition : ℕ) → All (IsOfCall (rules_at rules partition) latest) (of_part partition trail)
+  pub own : (partition : ℕ) → All (IsOfCall rules latest partition) (of_part partition trail)
   pub named : AllNamed (identities_in rules.recovered) (commits_of trail)
 
 module _ (rules : Rules) (latest : ℕ) where
-  pub own_frame : (trail : List Settled) (told : List Said) (partition : ℕ) (going : List Entry) → Follows rules latest trail told partition going → All (IsOfCall (rules_at rules partition) latest) going
+  pub own_frame : (trail : List Settled) (told : List Said) (partition : ℕ) (going : List Entry) → Follows rules latest trail told partition going → All (IsOfCall rules latest partition) going
   own_frame trail told partition going follows = λ k d inside. let one = follows.ours k d inside in record { incarnation = one.incarnation; timely = one.timely }
 
-  own_more : (trail : List Settled) (told : List Said) (partition at : ℕ) (going : List Entry) → ((other : ℕ) → All (IsOfCall (rules_at rules other) latest) (of_part other trail)) → Follows rules latest trail told partition going
-      → (other : ℕ) → All (IsOfCall (rules_at rules other) latest) (of_part other (trail ++ settling partition at going))
+  own_more : (trail : List Settled) (told : List Said) (partition at : ℕ) (going : List Entry) → ((other : ℕ) → All (IsOfCall rules latest other) (of_part other trail)) → Follows rules latest trail told partition going
+      → (other : ℕ) → All (IsOfCall rules latest other) (of_part other (trail ++ settling partition at going))
   own_more trail told partition at going before follows other = subst (All Its) (sym (of_part-append other trail (settling partition at going))) (All-append Its (of_part other trail) (of_part other (settling partition at going)) (before other) (by (partition == other) refl))
     where
       Its : Entry → Type 0
-      Its = IsOfCall (rules_at rules other) latest
+      Its = IsOfCall rules latest other
 
       by : (test : Bool) → (partition == other) ≡ test → All Its (of_part other (settling partition at going))
       by true same = mine other (eqb-true partition other same)
         where
-          mine : (p : ℕ) → partition ≡ p → All (IsOfCall (rules_at rules p) latest) (of_part p (settling partition at going))
-          mine p is = subst (λ (q : ℕ). All (IsOfCall (rules_at rules q) latest) (of_part q (settling partition at going))) is (subst (All (IsOfCall (rules_at rules partition) latest)) (sym (own_part partition at going)) (own_frame trail told partition going follows))
+          mine : (p : ℕ) → partition ≡ p → All (IsOfCall rules latest p) (of_part p (settling partition at going))
+          mine p is = subst (λ (q : ℕ). All (IsOfCall rules latest q) (of_part q (settling partition at going))) is (subst (All (IsOfCall rules latest partition)) (sym (own_part partition at going)) (own_frame trail told partition going follows))
       by false apart = subst (All Its) (sym (no_part partition other at going (eqb_apart partition other apart))) (λ k d inside. absurd (omega (arith, inside)))
 
   pub trail_goes : {trail : List Settled} {told : List Said} {lines : List ℕ} → StoreTold (Follows rules latest) (Answers rules) trail told lines → Goes rules latest trail
@@ -91,4 +90,4 @@ module _ (rules : Rules) (latest : ℕ) where
       let all = put_then rules.flows rules.count rules.begin states they.after settled (frames_in_order most going) made they.all in
       let own = each most (omega arith) in
       subst (AllRan rules) (append_assoc settled (frames_in_order most going) (commits_at most (going most)))
-      (frame_more before they.after all most (going most) (subst (λ (s : Partition). EndPending s (going most)) (sym (they.there most (omega arith))) own.pending))
+      (frame_more before they.after all most (going most) (subst (λ (s : Partition). HaveRun rules s (going most)) (sym (they.there most (omega arith))) own.pending))

@@ -1,5 +1,5 @@
 -- What a crash leaves of a call of many partitions.
-use Rattle.std.specs.Prelude.{◌≡◌, ◌⊎◌, ◌<◌, ◌≤◌, ℕ, max, List, [], ◌∷◌, ◌++◌, Some}
+use Rattle.std.specs.Prelude.{◌≡◌, ◌⊎◌, ◌<◌, ◌≤◌, ℕ, max, true, List, [], ◌∷◌, ◌++◌, Some}
 use Rattle.std.specs.List.{All}
 use Rattle.client_port.specs.Lines.{line_of}
 use Rattle.commit_log.specs.declared.header.Header.{Header}
@@ -14,16 +14,13 @@ use Rattle.hub_store.specs.Moments.{WroteGate, IsPrefix, IsSpeaking}
 use Rattle.hub_store.specs.Origin.{Origin}
 use Rattle.hub_store.specs.Trail.{Settled, Said, of_part}
 use Rattle.many_logs.specs.Placing.{Commit, states_after, of_partition, AllBelow, commits_at, frames_in_order}
-use Rattle.many_logs.specs.Labels.{labels_of_commits, AllGiven, AreNumbered, state_next}
+use Rattle.many_logs.specs.Labels.{labels_of_commits, AllGiven}
 use Rattle.many_logs.specs.Stands.{FilesStand, AreKept}
-use Rattle.many_rules.specs.Rules.{Rules, rules_at, commits_of, pairs_of}
+use Rattle.many_rules.specs.Rules.{Rules, HaveRun, IsNext, commits_of}
 use Rattle.many_logs.specs.Names.{identities_in, committed_in}
 use Rattle.part_items.specs.Kept.{nothing, kept_in}
-use Rattle.part_items.specs.Numbered.{behind_all}
 use Rattle.part_items.specs.Logs.{first_log, second_log}
-use Rattle.request_reader.specs.Line.{Request}
-use Rattle.run_rules.specs.Rules as one
-use Rattle.run_rules.specs.Rules.{count_told, request_at, IsBy, EndPending}
+use Rattle.run_rules.specs.Rules.{IsBy}
 use Rattle.site_model.specs.History.{Step, changes_of, tape, Leaves}
 
 -- the header of a partition's log, from its first position on
@@ -43,18 +40,10 @@ pub record Begins (o : Origin) (rules : Rules) (digest : ℕ) : Type 0 where
   pub files : (partition : ℕ) → partition < rules.count → (((o.logs partition).file ≡ first_log partition) × (other partition ≡ second_log partition)) ⊎ (((o.logs partition).file ≡ second_log partition) × (other partition ≡ first_log partition))
   pub empty : (partition : ℕ) → partition < rules.count → (image : List ℕ) → Leaves (changes_of (other partition) o.steps) image → kept_in partition image ≡ nothing
 
--- The entries that were recovered stand one position after another in each partition, of incarnations that never fall, and of none
--- that is later than that of the entries that come.
-pub record BeginsBehind (rules : Rules) : Type 0 where
-  pub numbered : AreNumbered fresh rules.recovered
-  pub incarnations : (partition : ℕ) → (behind_all (state_next (fresh partition)) (of_partition partition rules.recovered)).incarnation ≤ rules.incarnations partition
-
 -- The line answers its client's next request, once these were answered, as the run has it from a moment on at which the first of
 -- these entries were settled.
 pub record IsAnswered (rules : Rules) (settled : List Commit) (told : List Said) (one : Said) (line : List ℕ) : Type 0 where
-  pub request : Request
-  pub next : request_at (rules_at rules 0) one.client (count_told (pairs_of told) one.client) ≡ Some request
-  pub number_is : request.number ≡ one.number
+  pub next : rules.serves ≡ true → IsNext rules told one
   pub before : List Commit
   pub behind : List Commit
   pub front : settled ≡ before ++ behind
@@ -78,16 +67,16 @@ pub record IsHalfSaid (rules : Rules) (settled : List Commit) (told : List Said)
   pub answered : IsAnswered rules settled told one line
   pub front : IsPrefix part line
 
--- An entry of this call: of its incarnation, and of no later stamp than both its log's entries at the beginning and the clock's latest.
-pub record IsOfCall (rules : one.Rules) (latest : ℕ) (entry : Entry) : Type 0 where
-  pub incarnation : entry.incarnation ≡ rules.incarnation
-  pub timely : All (IsBy (max rules.begin.stamp latest)) entry.items
+-- An entry of this call: of the incarnation with which it begins or of one that began in it, and of no later stamp than both its log's entries at the beginning and the clock's latest.
+pub record IsOfCall (rules : Rules) (latest : ℕ) (partition : ℕ) (entry : Entry) : Type 0 where
+  pub incarnation : rules.incarnations partition ≤ entry.incarnation
+  pub timely : All (IsBy (max (rules.begin partition).stamp latest)) entry.items
 
--- Activities ran only for tasks whose schedule was settled: what came did so frame by frame, and each outcome in a frame is that of an
+-- In a call that serves clients activities ran only for tasks whose schedule was settled: what came did so frame by frame, and each outcome in a frame is that of an
 -- activity which was pending already in the state of its partition that the frames before it make.
 pub data AllRan (rules : Rules) : List Commit → Type 0 where
   nothing_ran : AllRan rules []
-  frame_more : {settled : List Commit} → AllRan rules settled → (states : ℕ → Partition) → states_after rules.flows rules.count rules.begin settled ≡ Some states → (partition : ℕ) (going : List Entry) → EndPending (states partition) going
+  frame_more : {settled : List Commit} → AllRan rules settled → (states : ℕ → Partition) → states_after rules.flows rules.count rules.begin settled ≡ Some states → (partition : ℕ) (going : List Entry) → HaveRun rules (states partition) going
       → AllRan rules (settled ++ commits_at partition going)
 
 -- The files stand for the run at the start, then what was settled, in its order, then no more than one frame of each partition, whose
@@ -101,7 +90,7 @@ pub record StandsOn (rules : Rules) (latest digest : ℕ) (o : Origin) (steps : 
   pub writing : (partition : ℕ) → partition < rules.count → (going partition ≡ []) ⊎ WroteGate (o.logs partition) (of_part partition trail) (changes_of (o.logs partition).file steps)
   pub kept : AreKept rules.flows rules.count digest files (rules.recovered ++ (commits_of trail ++ frames_in_order rules.count going))
   pub ran : AllRan rules (commits_of trail ++ frames_in_order rules.count going)
-  pub own : (partition : ℕ) → partition < rules.count → All (IsOfCall (rules_at rules partition) latest) (of_part partition trail ++ going partition)
+  pub own : (partition : ℕ) → partition < rules.count → All (IsOfCall rules latest partition) (of_part partition trail ++ going partition)
   pub founded : Founded (identities_in rules.recovered) (committed_in (commits_of trail ++ frames_in_order rules.count going))
   pub told : List Said
   pub lines : List ℕ

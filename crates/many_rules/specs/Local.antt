@@ -1,6 +1,6 @@
 -- What a partition makes by its own state it makes still later, and goes on where its ledger stands; and what may be said of it is the
 -- line that answers.
-use Rattle.std.proofs.Common.{◌≡◌, ◌<◌, ◌≤◌, ℕ, Bool, cond, List, ◌++◌, Some, Result, Ok, sym, ap, subst, ◌∙◌, append_assoc, length-append, get_or}
+use Rattle.std.proofs.Common.{◌≡◌, ◌<◌, ◌≤◌, ℕ, ◌+◌, Bool, cond, List, [], ◌∷◌, ◌++◌, Some, Result, Ok, sym, ap, subst, ◌∙◌, append_assoc, length-append, get_or}
 use Rattle.std.specs.List.{Contains}
 use Rattle.std.specs.Option.{option_map}
 use Rattle.client_port.specs.Lines.{line_of}
@@ -23,14 +23,21 @@ use Rattle.log_items.specs.Entries.{items_in, incarnations_in, identities_at, Ar
 use Rattle.log_items.specs.Readings.{ReadOn}
 use Rattle.log_items.specs.Streams.{Sent}
 use Rattle.many_logs.proofs.Own.{own_chain}
+use Rattle.many_logs.specs.Labels.{state_next}
 use Rattle.many_logs.specs.Placing.{of_partition}
 use Rattle.many_rules.specs.Answering.{line_in, answer}
 use Rattle.many_rules.specs.Appended.{puts_part, pairs_both}
 use Rattle.many_rules.specs.Ledgers.{ledger_of, all_entries, ledger_made, ledgers}
 use Rattle.many_rules.specs.Makes.{Makes}
-use Rattle.many_rules.specs.Rules.{Rules, Answers, rules_at, commits_of, pairs_of}
-use Rattle.run_rules.proofs.Going.{ours_still, ours_later}
-use Rattle.run_rules.specs.Rules.{Told, IsOurs}
+use Rattle.many_rules.specs.Ours.{ours_still, ours_later}
+use Rattle.many_rules.specs.Rules.{Rules, IsOurs, Answers, commits_of, pairs_of}
+use Rattle.part_items.specs.Numbered.{Next, behind, IsNumbered}
+use Rattle.run_rules.specs.Rules.{Told}
+
+-- entries that are numbered stand one position after another
+pub in_turn : (next : Next) (going : List Entry) → IsNumbered next going → AreInTurn next.position going
+in_turn next [] numbered = tt
+in_turn next (entry ∷ going) numbered = (numbered.0, subst (λ (n : ℕ). AreInTurn (n + 1) going) numbered.0 (in_turn (behind entry) going numbered.2))
 
 module _ (rules : Rules) where
   -- where a state was made, and where there is no partition
@@ -49,12 +56,12 @@ module _ (rules : Rules) where
     made = makes.made;
     number = makes.number;
     position = makes.position;
-    positions = makes.positions;
+    numbered = makes.numbered;
     after = makes.after;
     accepted = makes.accepted;
     given = makes.given;
     pending = makes.pending;
-    ours = λ k d inside. subst (λ (t : Told). IsOurs (rules_at rules partition) latest t (get_or going k d)) (sym (pairs_both told also)) (ours_still (rules_at rules partition) latest (pairs_of told) (pairs_of also) _ (makes.ours k d inside));
+    ours = λ k d inside. subst (λ (t : Told). IsOurs rules latest t partition (get_or going k d)) (sym (pairs_both told also)) (ours_still rules latest partition _ (pairs_of told) (pairs_of also) (makes.ours k d inside));
   }
 
   pub later_makes : (latest later : ℕ) (mine : List Entry) (told : List Said) (partition : ℕ) (going : List Entry) → latest ≤ later → Makes rules latest mine told partition going → Makes rules later mine told partition going
@@ -64,17 +71,18 @@ module _ (rules : Rules) where
     made = makes.made;
     number = makes.number;
     position = makes.position;
-    positions = makes.positions;
+    numbered = makes.numbered;
     after = makes.after;
     accepted = makes.accepted;
     given = makes.given;
     pending = makes.pending;
-    ours = λ k d inside. ours_later (rules_at rules partition) latest later (pairs_of told) above _ (makes.ours k d inside);
+    ours = λ k d inside. ours_later rules latest partition _ later (pairs_of told) above (makes.ours k d inside);
   }
 
   pub goes_on : (latest : ℕ) (mine : List Entry) (told : List Said) (partition : ℕ) (going : List Entry) → Makes rules latest mine told partition going → GoesOnThere (ledgers rules) mine partition going
   goes_on latest mine told partition going makes =
-      let s : Sends rules.count partition makes.before going makes.after = entries_send rules.flows rules.count partition makes.below makes.before makes.after going makes.number makes.positions makes.accepted in
+      let turn : AreInTurn makes.before.position going = in_turn (state_next makes.before) going makes.numbered in
+      let s : Sends rules.count partition makes.before going makes.after = entries_send rules.flows rules.count partition makes.below makes.before makes.after going makes.number turn makes.accepted in
       let old = of_partition partition rules.recovered in
       let before : ledgers rules partition mine ≡ ledger_of (old ++ mine) makes.before = ledger_is partition mine makes.before makes.below makes.made in
       let both : placed rules.flows rules.count (rules.begin partition) (mine ++ going) ≡ Ok makes.after =
@@ -86,7 +94,7 @@ module _ (rules : Rules) where
       makes.position ∙ sym (length-append old mine) ∙ sym (length-map (old ++ mine) (λ (e : Entry). e.incarnation)) ∙ sym (ap log_length before) in (
         s.sent,
         record {
-          positions = subst (λ (n : ℕ). AreInTurn n going) long makes.positions;
+          positions = subst (λ (n : ℕ). AreInTurn n going) long turn;
           reads = subst (λ (l : Ledger). ReadOn l.nexts (items_in going)) (sym before) s.reads;
           senders = All-weaker (λ (one : Sent). (one.to < rules.count) × Contains (identities_at partition going) one.posted.entry) (λ (one : Sent). Contains (identities_at partition going) one.posted.entry) (λ one is. is.1) s.sent s.senders;
           makes = after ∙ same ∙ sym (ap (λ (l : Ledger). after_frame l going s.sent) before);

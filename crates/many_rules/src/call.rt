@@ -2,6 +2,7 @@
 
 ghost use Rattle.std.specs.Prelude.{◌≡◌, ◌≤◌, ◌<◌, ℕ, List, [], length};
 ghost use Rattle.commit_gate.specs.Ledgers.{log_length};
+ghost use Rattle.dura_model.specs.Partition.{fresh};
 ghost use Rattle.gated_store.specs.Causal.{Causal};
 ghost use Rattle.gated_store.specs.Follows.{ledgers_at};
 ghost use Rattle.gated_store.specs.Kept.{IsKept};
@@ -10,7 +11,8 @@ ghost use Rattle.hub_store.specs.Moments.{AtEveryMoment};
 ghost use Rattle.hub_store.specs.Origin.{Origin};
 ghost use Rattle.hub_store.specs.Short.{IsShort};
 ghost use Rattle.hub_store.specs.Trail.{of_part, settled_at};
-ghost use Rattle.many_rules.specs.Leaves.{Begins, BeginsBehind, StandsOn};
+ghost use Rattle.many_logs.specs.Labels.{AreNumbered};
+ghost use Rattle.many_rules.specs.Leaves.{Begins, StandsOn};
 ghost use Rattle.many_rules.specs.Ledgers.{ledgers, readers};
 ghost use Rattle.many_rules.specs.Makes.{Makes};
 ghost use Rattle.many_rules.specs.Rules.{Rules, Follows, Answers};
@@ -79,11 +81,11 @@ pub fn end_call<V: Site, M: Picked>(store: GatedStore<V, ByRules<M>>) -> Ended<V
         (λ trail partition. log_length (ledgers_at (ledgers M.rules) trail partition))
         (trail_in store.logs) }
     ensures every { (digest : ℕ) → V.tells store.logs.site → Begins M.origin M.rules digest
-        → BeginsBehind M.rules
+        → AreNumbered fresh M.rules.recovered
         → AtEveryMoment (Follows M.rules store.logs.latest) (Answers M.rules) M.origin
         (V.history store.logs.site) (trail_in store.logs) }
     ensures crash { (digest : ℕ) → V.tells store.logs.site → Begins M.origin M.rules digest
-        → BeginsBehind M.rules → (moment : ℕ) → length M.origin.steps ≤ moment
+        → AreNumbered fresh M.rules.recovered → (moment : ℕ) → length M.origin.steps ≤ moment
         → moment ≤ length (V.history store.logs.site) → (files : ℕ → List ℕ)
         → IsImage (back_to moment (V.history store.logs.site)) files
         → StandsOn M.rules store.logs.latest digest M.origin

@@ -9,7 +9,7 @@ ghost use Rattle.many_logs.specs.Placing.{states_after, of_partition, AllBelow};
 ghost use Rattle.many_rules.specs.Rules.{Rules, Follows, Answers, Passes, GoesFrom, commits_of, known_of};
 ghost use Rattle.dura_model.specs.Partition.{Partition, nobody, fresh};
 ghost use Rattle.many_logs.specs.Labels.{AreNumbered};
-ghost use Rattle.many_rules.specs.Leaves.{Begins, BeginsBehind, StandsOn};
+ghost use Rattle.many_rules.specs.Leaves.{Begins, StandsOn};
 ghost use Rattle.gated_store.specs.Follows.{Follows as GateFollows};
 ghost use Rattle.gated_store.specs.Kept.{AreRecovered};
 ghost use Rattle.many_rules.specs.Ledgers.{ledger_of, ledgers};
@@ -57,12 +57,12 @@ pub fn what_is_met_follows()
         → Follows rules latest trail told partition going }
 {}
 
-/// What a store whose gate compares tells of its moments, it tells by the rules, where the entries that come are of no earlier incarnation
-/// than those that were recovered: so what a crash leaves of it is what a crash leaves of a call that commits only what it may.
+/// What a store whose gate compares tells of its moments, it tells by the rules, where the entries that were recovered stand one position
+/// after another in each partition, of incarnations that never fall: so what a crash leaves of it is what a crash leaves of a call that commits only what it may.
 pub fn the_gate_keeps_the_rules()
     ensures { (o : Origin) (rules : Rules) (latest : ℕ) (now : List Step) (trail : List Settled)
         → states_after rules.flows rules.count fresh rules.recovered ≡ Some rules.begin
-        → BeginsBehind rules
+        → AreNumbered fresh rules.recovered
         → AtEveryMoment (GateFollows (ledgers rules) (Makes rules) latest) (Answers rules) o now
         trail → AtEveryMoment (Follows rules latest) (Answers rules) o now trail }
 {}

@@ -1,10 +1,10 @@
-use Rattle.std.proofs.Common.{◌≡◌, [], ◌∷◌, Ok, sym, subst, arith}
+use Rattle.std.proofs.Common.{◌≡◌, ◌≤◌, [], ◌∷◌, Ok, sym, subst, arith, refl}
 use Rattle.dura_model.specs.Entries.{placed}
 use Rattle.dura_model.specs.Partition.{Partition}
 use Rattle.dura_value.specs.Items.{took}
 use Rattle.many_examples.specs.Pairs.{request, taking, coming_in}
 use Rattle.many_examples.specs.Placings.{states_of}
-use Rattle.many_examples.proofs.MakesBy.{makes_coming, makes_taking, not_there}
+use Rattle.many_examples.proofs.MakesBy.{makes_coming, makes_later, makes_taking, not_there}
 use Rattle.many_examples.proofs.makes_examples.frames_made.Goals as goal
 
 pub returns-clause-coming : goal.returns-clause-coming
@@ -13,14 +13,20 @@ returns-clause-coming c = makes_coming
 pub returns-clause-first : goal.returns-clause-first
 returns-clause-first c = makes_taking
 
+pub returns-clause-later : goal.returns-clause-later
+returns-clause-later c = makes_later
+
+pub returns-clause-falling : goal.returns-clause-falling
+returns-clause-falling c = λ flows makes. let falls : 1 ≤ 0 = makes.numbered.2.1 in omega (arith, falls)
+
 pub returns-clause-positions : goal.returns-clause-positions
 returns-clause-positions c = λ flows makes. not_there flows [] makes
 
 pub returns-clause-incarnation : goal.returns-clause-incarnation
-returns-clause-incarnation c = λ flows makes. let incarnation : 0 ≡ 1 = (makes.ours 0 (coming_in 0).entry (omega arith)).incarnation in omega (arith, incarnation)
+returns-clause-incarnation c = λ flows makes. let incarnation : 1 ≤ 0 = (makes.ours 0 (coming_in 0).entry (omega arith)).incarnation in omega (arith, incarnation)
 
 pub returns-clause-asked : goal.returns-clause-asked
-returns-clause-asked c = λ flows makes. cc ((makes.ours 0 taking.entry (omega arith)).asked 0 (took (request 1)) (omega arith)).asked
+returns-clause-asked c = λ flows makes. cc ((makes.ours 0 taking.entry (omega arith)).asked refl 0 (took (request 1)) (omega arith)).asked
 
 pub returns-clause-accepted : goal.returns-clause-accepted
 returns-clause-accepted c = λ flows makes.

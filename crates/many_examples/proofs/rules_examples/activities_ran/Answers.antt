@@ -24,7 +24,7 @@ returns-clause-coming c = λ flows. frame_more (frame_more nothing_ran fresh ref
 
 pub returns-clause-pending : goal.returns-clause-pending
 returns-clause-pending c = λ flows. frame_more nothing_ran asking_states refl 1 ((ending_sum no_sum).entry ∷ [])
-    (All-from_recursion (λ (entry : Entry). All (EndsPending (asking_states 1)) entry.items) ((ending_sum no_sum).entry ∷ [])
+    (λ serves. All-from_recursion (λ (entry : Entry). All (EndsPending (asking_states 1)) entry.items) ((ending_sum no_sum).entry ∷ [])
     (All-from_recursion (EndsPending (asking_states 1)) (ending_sum no_sum).entry.items (refl, tt), tt))
 
 -- an outcome at the front of a frame
@@ -42,8 +42,11 @@ ran_early : (flows : Flows) (outcome : Outcome) {commits : List Commit} → AllR
 ran_early flows outcome nothing_ran is = cc is
 ran_early flows outcome (frame_more {settled = []} before states made partition going pending) is =
     let begins : states ≡ fresh = cc made in
-    in_front partition outcome going (subst (λ (s : ℕ → Partition). EndPending (s partition) going) begins pending) is
+    in_front partition outcome going (subst (λ (s : ℕ → Partition). EndPending (s partition) going) begins (pending refl)) is
 ran_early flows outcome (frame_more {settled = first ∷ more} before states made partition going pending) is = ran_early flows outcome before (single more (commits_at partition going) first (ending_sum outcome) is)
+
+pub returns-clause-unserved : goal.returns-clause-unserved
+returns-clause-unserved c = λ flows outcome. frame_more nothing_ran fresh refl 1 ((ending_sum outcome).entry ∷ []) (λ serves. cc serves)
 
 pub returns-clause-early : goal.returns-clause-early
 returns-clause-early c = λ flows outcome ran. ran_early flows outcome ran refl

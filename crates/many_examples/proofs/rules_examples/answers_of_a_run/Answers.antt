@@ -17,9 +17,7 @@ use Rattle.many_examples.proofs.rules_examples.answers_of_a_run.Goals as goal
 
 answered : IsAnswered unknown_rules (answering ∷ []) [] first_said (line_of (codes "a") 1 is_unknown)
 answered = record {
-  request = record { client = codes "a"; number = 1; message = asks (codes "a") (codes "x") 1 };
-  next = refl;
-  number_is = refl;
+  next = λ serves. record { request = record { client = codes "a"; number = 1; message = asks (codes "a") (codes "x") 1 }; asked = refl; number_is = refl };
   before = answering ∷ [];
   behind = [];
   front = refl;
@@ -95,4 +93,5 @@ no_line (first ∷ name) request number answer rest next is =
 pub returns-clause-part : goal.returns-clause-part
 returns-clause-part c = λ half.
     let it = half.answered in
-    no_line half.one.client it.request half.one.number it.answer half.front.0 it.next (sym it.line_is ∙ half.front.1)
+    let next = it.next refl in
+    no_line half.one.client next.request half.one.number it.answer half.front.0 next.asked (sym it.line_is ∙ half.front.1)

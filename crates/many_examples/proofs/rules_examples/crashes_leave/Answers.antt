@@ -1,4 +1,4 @@
-use Rattle.std.proofs.Common.{◌≡◌, inl, inr, ℕ, List, [], ◌∷◌, ◌++◌, Some, refl, sym, ◌∙◌, ap, subst, arith}
+use Rattle.std.proofs.Common.{◌≡◌, ◌≤◌, inl, inr, ℕ, List, [], ◌∷◌, ◌++◌, Some, refl, sym, ◌∙◌, ap, subst, arith}
 use Rattle.std.specs.List.{All}
 use Rattle.std.proofs.lemmas.List.Elements.{All-from_recursion}
 use Rattle.commit_log.specs.Segment.{header_at}
@@ -18,7 +18,6 @@ use Rattle.many_logs.specs.Placing.{Commit, of_partition, commits_at}
 use Rattle.many_rules.specs.Leaves.{IsOfCall, IsAnswered, AllAnswered}
 use Rattle.many_rules.specs.Leaves.AllAnswered.{nothing_said, one_more as one_said}
 use Rattle.many_rules.specs.Leaves.AllRan.{nothing_ran, frame_more}
-use Rattle.many_rules.specs.Rules.{rules_at}
 use Rattle.part_items.specs.Examples.{taking}
 use Rattle.run_rules.specs.Rules.{EndsPending, IsBy}
 use Rattle.many_examples.proofs.rules_examples.crashes_leave.Goals as goal
@@ -47,9 +46,9 @@ returns-clause-taken c = λ flows. record {
   writing = λ partition below. inl refl;
   kept = taken_are_kept flows;
   ran = frame_more nothing_ran fresh refl 1 (taking 0 ∷ [])
-      (All-from_recursion (λ (entry : Entry). All (EndsPending (fresh 1)) entry.items) (taking 0 ∷ []) (All-from_recursion (EndsPending (fresh 1)) (taking 0).items (tt, tt), tt));
+      (λ serves. All-from_recursion (λ (entry : Entry). All (EndsPending (fresh 1)) entry.items) (taking 0 ∷ []) (All-from_recursion (EndsPending (fresh 1)) (taking 0).items (tt, tt), tt));
   own = of_two _ (λ k d inside. absurd (omega (arith, inside)))
-      (All-from_recursion (IsOfCall (rules_at (rules_with flows) 1) 0) (taking 0 ∷ []) (record { incarnation = refl; timely = All-from_recursion (IsBy 0) (taking 0).items (tt, tt) }, tt));
+      (All-from_recursion (IsOfCall (rules_with flows) 0 1) (taking 0 ∷ []) (record { incarnation = omega arith; timely = All-from_recursion (IsBy 0) (taking 0).items (tt, tt) }, tt));
   founded = one_more _ none (record { follows = refl; named = λ k d inside. absurd (omega (arith, inside)) });
   told = [];
   lines = [];
@@ -70,7 +69,7 @@ unfolding header_at
 returns-clause-damaged c = λ flows left. cc (left.kept.kept 1 (omega arith))
 
 pub returns-clause-of_call : goal.returns-clause-of_call
-returns-clause-of_call c = λ flows left. let incarnation : 0 ≡ 1 = (left.own 1 (omega arith) 0 (taking 0) (omega arith)).incarnation in omega (arith, incarnation)
+returns-clause-of_call c = λ flows left. let incarnation : 1 ≤ 0 = (left.own 1 (omega arith) 0 (taking 0) (omega arith)).incarnation in omega (arith, incarnation)
 
 pub returns-clause-unwritten : goal.returns-clause-unwritten
 returns-clause-unwritten c = λ flows left.

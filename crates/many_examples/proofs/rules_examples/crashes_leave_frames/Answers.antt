@@ -1,4 +1,4 @@
-use Rattle.std.proofs.Common.{◌≡◌, inl, inr, List, [], ◌∷◌, ◌==◌, if◌then◌else◌, refl, subst, arith}
+use Rattle.std.proofs.Common.{◌≤◌, inl, inr, List, [], ◌∷◌, ◌==◌, if◌then◌else◌, refl, subst, arith}
 use Rattle.std.specs.List.{All}
 use Rattle.std.proofs.lemmas.List.Elements.{All-from_recursion}
 use Rattle.commit_log.specs.Segment.{header_at}
@@ -18,7 +18,6 @@ use Rattle.many_logs.specs.Placing.{Commit}
 use Rattle.many_rules.specs.Leaves.{IsOfCall, AllRan}
 use Rattle.many_rules.specs.Leaves.AllAnswered.{nothing_said}
 use Rattle.many_rules.specs.Leaves.AllRan.{nothing_ran, frame_more}
-use Rattle.many_rules.specs.Rules.{rules_at}
 use Rattle.part_items.specs.Examples.{taking}
 use Rattle.part_items.specs.Kept.{entries_from}
 use Rattle.run_rules.specs.FieldExamples.{sum_flows}
@@ -38,9 +37,9 @@ returns-clause-open c = λ flows. record {
   writing = of_two _ (inl refl) (inr gate_last);
   kept = taken_are_kept flows;
   ran = frame_more nothing_ran fresh refl 1 (taking 0 ∷ [])
-      (All-from_recursion (λ (entry : Entry). All (EndsPending (fresh 1)) entry.items) (taking 0 ∷ []) (All-from_recursion (EndsPending (fresh 1)) (taking 0).items (tt, tt), tt));
+      (λ serves. All-from_recursion (λ (entry : Entry). All (EndsPending (fresh 1)) entry.items) (taking 0 ∷ []) (All-from_recursion (EndsPending (fresh 1)) (taking 0).items (tt, tt), tt));
   own = of_two _ (λ k d inside. absurd (omega (arith, inside)))
-      (All-from_recursion (IsOfCall (rules_at (rules_with flows) 1) 0) (taking 0 ∷ []) (record { incarnation = refl; timely = All-from_recursion (IsBy 0) (taking 0).items (tt, tt) }, tt));
+      (All-from_recursion (IsOfCall (rules_with flows) 0 1) (taking 0 ∷ []) (record { incarnation = omega arith; timely = All-from_recursion (IsBy 0) (taking 0).items (tt, tt) }, tt));
   founded = one_more _ none (record { follows = refl; named = λ k d inside. absurd (omega (arith, inside)) });
   told = [];
   lines = [];
@@ -70,8 +69,8 @@ returns-clause-closed c = λ flows. record {
 pub returns-clause-of_call : goal.returns-clause-of_call
 returns-clause-of_call c = λ flows left.
     let going = kept_under_way left.going (taking 0) _ second_kept (left.kept.kept 1 (omega arith)) in
-    let own = subst (All (IsOfCall (rules_at (record (rules_with flows) { incarnations = λ partition. 1 }) 1) 0)) going (left.own 1 (omega arith)) in
-    let incarnation : 0 ≡ 1 = (own 0 (taking 0) (omega arith)).incarnation in
+    let own = subst (All (IsOfCall (record (rules_with flows) { incarnations = λ partition. 1 }) 0 1)) going (left.own 1 (omega arith)) in
+    let incarnation : 1 ≤ 0 = (own 0 (taking 0) (omega arith)).incarnation in
     omega (arith, incarnation)
 
 pub returns-clause-ran : goal.returns-clause-ran

@@ -1,4 +1,4 @@
-use Rattle.std.proofs.Common.{◌≡◌, ℕ, [], ◌∷◌, Option, Some, None, codes, refl, subst, arith}
+use Rattle.std.proofs.Common.{◌≡◌, ◌≤◌, ℕ, [], ◌∷◌, Option, Some, None, codes, refl, subst, arith}
 use Rattle.std.specs.List.{All, Contains}
 use Rattle.std.proofs.lemmas.List.Elements.{All-from_recursion}
 use Rattle.dura_model.specs.Entries.{AreGiven}
@@ -7,23 +7,23 @@ use Rattle.dura_value.specs.Dependencies.{named_by}
 use Rattle.dura_value.specs.Ids.{client}
 use Rattle.dura_value.specs.Items.{Item, Entry, took, ran}
 use Rattle.many_examples.specs.Pairs.{asks, request, taking, coming_in}
-use Rattle.many_examples.specs.RulesBy.{later_rules, first_asked, no_flows, unknown_rules, answering_at}
-use Rattle.many_rules.specs.Rules.{rules_at, GoesFrom}
+use Rattle.many_examples.specs.RulesBy.{later_rules, free_rules, first_asked, no_flows, unknown_rules, answering_at}
+use Rattle.many_rules.specs.Rules.{rules_at, GoesFrom, IsOurs}
 use Rattle.run_rules.specs.Examples.{summing}
-use Rattle.run_rules.specs.Rules.{IsAsked, IsBy, IsOurs, EndsPending}
+use Rattle.run_rules.specs.Rules.{IsAsked, IsBy, EndsPending}
 use Rattle.many_examples.proofs.RulesBy.{takes}
 use Rattle.many_examples.proofs.rules_examples.entries_ours.Goals as goal
 
 pub returns-clause-incarnation : goal.returns-clause-incarnation
-returns-clause-incarnation c = λ flows follows. let incarnation : 0 ≡ 1 = (follows.ours 0 (coming_in 0).entry (omega arith)).incarnation in omega (arith, incarnation)
+returns-clause-incarnation c = λ flows follows. let incarnation : 1 ≤ 0 = (follows.ours 0 (coming_in 0).entry (omega arith)).incarnation in omega (arith, incarnation)
 
 pub returns-clause-other : goal.returns-clause-other
 returns-clause-other c = λ flows. record {
   below = omega arith;
-  ours = All-from_recursion (IsOurs (rules_at (later_rules flows) 1) 0 []) (taking.entry ∷ []) (
+  ours = All-from_recursion (IsOurs (later_rules flows) 0 [] 1) (taking.entry ∷ []) (
     record {
-      incarnation = refl;
-      asked = All-from_recursion (IsAsked (rules_at (later_rules flows) 1) []) taking.entry.items
+      incarnation = omega arith;
+      asked = λ serves. All-from_recursion (IsAsked (rules_at (later_rules flows) 1) []) taking.entry.items
           (record { name = codes "a"; place = 0; request = first_asked; asked = refl; sends = refl; answered = omega arith }, tt);
       timely = All-from_recursion (IsBy 0) taking.entry.items (tt, tt);
     },
@@ -35,8 +35,25 @@ returns-clause-other c = λ flows. record {
       subst (λ (s : ℕ → Partition). GoesFrom (later_rules flows) [] s 1 (taking.entry ∷ [])) is (record { accepted = goes.accepted; given = goes.given; pending = goes.pending; named = goes.named });
 }
 
+pub returns-clause-unserved : goal.returns-clause-unserved
+returns-clause-unserved c = λ flows. record {
+  below = omega arith;
+  ours = All-from_recursion (IsOurs (free_rules flows) 0 [] 1) (taking.entry ∷ []) (
+    record {
+      incarnation = omega arith;
+      asked = λ serves. cc serves;
+      timely = All-from_recursion (IsBy 0) taking.entry.items (tt, tt);
+    },
+    tt,
+  );
+  goes = λ states all.
+      let is : fresh ≡ states = cc all in
+      let goes = takes flows in
+      subst (λ (s : ℕ → Partition). GoesFrom (free_rules flows) [] s 1 (taking.entry ∷ [])) is (record { accepted = goes.accepted; given = goes.given; pending = λ serves. cc serves; named = goes.named });
+}
+
 pub returns-clause-asked : goal.returns-clause-asked
-returns-clause-asked c = λ flows follows. cc ((follows.ours 0 taking.entry (omega arith)).asked 0 (took (request 1)) (omega arith)).asked
+returns-clause-asked c = λ flows follows. cc ((follows.ours 0 taking.entry (omega arith)).asked refl 0 (took (request 1)) (omega arith)).asked
 
 -- the state that an item makes, where it makes one
 abbrev made_by : Option Partition → Partition
@@ -73,7 +90,7 @@ goes_then = record {
     ),
     λ next is. tt,
   );
-  pending = All-from_recursion (λ (entry : Entry). All (EndsPending (fresh 1)) entry.items) ((answering_at 5).entry ∷ [])
+  pending = λ serves. All-from_recursion (λ (entry : Entry). All (EndsPending (fresh 1)) entry.items) ((answering_at 5).entry ∷ [])
       (All-from_recursion (EndsPending (fresh 1)) (answering_at 5).entry.items (tt, (tt, (tt, tt))), tt);
   named = All-from_recursion (λ (entry : Entry). All (Contains []) (named_by entry.items)) ((answering_at 5).entry ∷ []) (λ k d inside. absurd (omega (arith, inside)), tt);
 }
@@ -81,10 +98,10 @@ goes_then = record {
 pub returns-clause-by_then : goal.returns-clause-by_then
 returns-clause-by_then c = record {
   below = omega arith;
-  ours = All-from_recursion (IsOurs (rules_at unknown_rules 1) 5 []) ((answering_at 5).entry ∷ []) (
+  ours = All-from_recursion (IsOurs unknown_rules 5 [] 1) ((answering_at 5).entry ∷ []) (
     record {
-      incarnation = refl;
-      asked = All-from_recursion (IsAsked (rules_at unknown_rules 1) []) (answering_at 5).entry.items
+      incarnation = omega arith;
+      asked = λ serves. All-from_recursion (IsAsked (rules_at unknown_rules 1) []) (answering_at 5).entry.items
           (record { name = codes "a"; place = 0; request = record { client = codes "a"; number = 1; message = asks (codes "a") (codes "x") 1 }; asked = refl; sends = refl; answered = omega arith }, (tt, (tt, tt)));
       timely = All-from_recursion (IsBy 5) (answering_at 5).entry.items (tt, (omega arith, (omega arith, tt)));
     },

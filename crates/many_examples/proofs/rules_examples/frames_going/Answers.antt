@@ -25,7 +25,7 @@ pub returns-clause-failed : goal.returns-clause-failed
 returns-clause-failed c = λ flows. record {
   accepted = (_, refl);
   given = ((may_fail, λ next is. tt), λ next is. tt);
-  pending = All-from_recursion (λ (entry : Entry). All (EndsPending (asking_states 1)) entry.items) ((ending_sum no_sum).entry ∷ [])
+  pending = λ serves. All-from_recursion (λ (entry : Entry). All (EndsPending (asking_states 1)) entry.items) ((ending_sum no_sum).entry ∷ [])
       (All-from_recursion (EndsPending (asking_states 1)) (ending_sum no_sum).entry.items (refl, tt), tt);
   named = All-from_recursion (λ (entry : Entry). All (Contains []) (named_by entry.items)) ((ending_sum no_sum).entry ∷ []) (λ k d inside. absurd (omega (arith, inside)), tt);
 }
@@ -46,7 +46,7 @@ unfolding machine.go_on
 returns-clause-settled c = record {
   accepted = (_, refl);
   given = ((may_end, λ next is. tt), λ next is. tt);
-  pending = All-from_recursion (λ (entry : Entry). All (EndsPending started) entry.items) (ending_first ∷ [])
+  pending = λ serves. All-from_recursion (λ (entry : Entry). All (EndsPending started) entry.items) (ending_first ∷ [])
       (All-from_recursion (EndsPending started) ending_first.items (refl, tt), tt);
   named = All-from_recursion (λ (entry : Entry). All (Contains []) (named_by entry.items)) (ending_first ∷ []) (λ k d inside. absurd (omega (arith, inside)), tt);
 }
@@ -57,7 +57,7 @@ returns-clause-given c = λ flows goes.
     cc wrong
 
 pub returns-clause-pending : goal.returns-clause-pending
-returns-clause-pending c = λ goes. cc (goes.pending 1 ending_first (omega arith) 0 (ended summing 0 no_sum) (omega arith))
+returns-clause-pending c = λ goes. cc (goes.pending refl 1 ending_first (omega arith) 0 (ended summing 0 no_sum) (omega arith))
 
 pub returns-clause-named : goal.returns-clause-named
 returns-clause-named c = λ flows goes. none_in (first_entry 1) (goes.named 0 (coming_in 0).entry (omega arith) 0 (first_entry 1) (omega arith))

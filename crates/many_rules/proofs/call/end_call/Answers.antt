@@ -6,10 +6,10 @@ use Rattle.many_rules.proofs.Moments.{moment_stands}
 use Rattle.many_rules.proofs.call.end_call.Goals as goal
 
 pub returns-clause-every : goal.returns-clause-every
-returns-clause-every g c digest tells begins behind =
-    every_moment g.M.Picked.rules begins.made behind.numbered behind.incarnations c.args.store.logs.latest g.M.Picked.origin (g.V.Site.history c.args.store.logs.site) (trail_in c.args.store.logs) (c.end.ensures.every tells)
+returns-clause-every g c digest tells begins numbered =
+    every_moment g.M.Picked.rules begins.made numbered c.args.store.logs.latest g.M.Picked.origin (g.V.Site.history c.args.store.logs.site) (trail_in c.args.store.logs) (c.end.ensures.every tells)
 
 pub returns-clause-crash : goal.returns-clause-crash
-returns-clause-crash g c digest tells begins behind moment low high files image =
+returns-clause-crash g c digest tells begins numbered moment low high files image =
     let now = g.V.Site.history c.args.store.logs.site in
-    moment_stands g.M.Picked.rules c.args.store.logs.latest g.M.Picked.origin digest begins (back_to moment now) (settled_at moment (trail_in c.args.store.logs)) files (returns-clause-every g c digest tells begins behind moment low high) image
+    moment_stands g.M.Picked.rules c.args.store.logs.latest g.M.Picked.origin digest begins (back_to moment now) (settled_at moment (trail_in c.args.store.logs)) files (returns-clause-every g c digest tells begins numbered moment low high) image
