@@ -1,0 +1,5 @@
+pub mod Frames
+pub mod Holding
+pub mod Joined
+pub mod Ledgers
+pub mod LetGo
