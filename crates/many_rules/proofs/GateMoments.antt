@@ -31,7 +31,7 @@ same_next : (p : Partition) (entry : Entry) → p.position ≡ entry.position + 
 same_next p entry position incarnation = λ i. record { position = position i; incarnation = incarnation i }
 
 -- entries that stand where a partition goes on leave it where they end
-goes_behind : (flows : Flows) (count : ℕ) (entries : List Entry) (p q : Partition) → placed flows count p entries ≡ Ok q → IsNumbered (state_next p) entries → state_next q ≡ behind_all (state_next p) entries
+pub goes_behind : (flows : Flows) (count : ℕ) (entries : List Entry) (p q : Partition) → placed flows count p entries ≡ Ok q → IsNumbered (state_next p) entries → state_next q ≡ behind_all (state_next p) entries
 goes_behind flows count [] p q made numbered = let same : p ≡ q = cc made in ap state_next (sym same)
 goes_behind flows count (entry ∷ entries) p q made numbered =
     let first = both_placed entry.position (entry_accepted flows count p entry) (λ next. placed flows count next entries) q made in
