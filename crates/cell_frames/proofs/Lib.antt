@@ -1,5 +1,7 @@
 pub mod Behind
+pub mod Coming
 pub mod Frames
+pub mod GivenUp
 pub mod Holding
 pub mod Joined
 pub mod Ledgers
