@@ -1,8 +1,6 @@
 -- What a frame sends by its cell makes of its partition's ledger what its entries do.
-use Rattle.std.proofs.Common.{◌≡◌, ◌⊎◌, inl, inr, ◌<◌, ◌≤◌, ℕ, Bool, true, false, List, ◌++◌, map, Some, Ok, Result, refl, sym, ap, subst, ◌∙◌, append_assoc, arith}
-use Rattle.std.proofs.Math.Dec.{ltb}
+use Rattle.std.proofs.Common.{◌≡◌, inl, inr, ◌<◌, ◌≤◌, ℕ, List, ◌++◌, map, Some, Ok, Result, sym, ap, subst, ◌∙◌, append_assoc, arith}
 use Rattle.std.specs.List.{All, Contains, flat_map, range_with_len}
-use Rattle.std.proofs.lemmas.Bool.{ltb-true, ltb-false}
 use Rattle.std.proofs.lemmas.List.{map-append}
 use Rattle.std.proofs.lemmas.List.Elements.{All-weaker}
 use Rattle.cell_frames.specs.LetGo.{LetGoBefore}
@@ -24,6 +22,7 @@ use Rattle.log_items.specs.Entries.{items_in, identities_at, incarnations_in}
 use Rattle.log_items.specs.Streams.{Outbox, Sent, with_sent, boxes_after}
 use Rattle.many_logs.specs.Labels.{state_next}
 use Rattle.many_logs.specs.Placing.{of_partition}
+use Rattle.many_rules.proofs.Meeting.{below_or}
 use Rattle.many_rules.specs.Ledgers.{ledger_of, ledgers}
 use Rattle.many_rules.specs.Local.{in_turn, ledger_is}
 use Rattle.many_rules.specs.Makes.{Makes}
@@ -31,13 +30,6 @@ use Rattle.many_rules.specs.Rules.{Rules}
 use Rattle.spec_cell.specs.Picks.{HasPicked}
 use Rattle.spec_cell.specs.Views.{CellView, IsBase}
 use Rattle.spec_tracker.specs.declared.marks.Marks.{Marks}
-
-either : (a b : ℕ) → (a < b) ⊎ (b ≤ a)
-either a b = by (ltb a b) refl
-  where
-    by : (test : Bool) → ltb a b ≡ test → (a < b) ⊎ (b ≤ a)
-    by true is = inl (ltb-true a b is)
-    by false is = inr (ltb-false a b is)
 
 -- streams that these messages join are those that what lies beyond their old ends joins
 module _ (count : ℕ) (boxes after : ℕ → Outbox) (sent : List Sent) (inside : All (λ one. one.to < count) sent) (beyond : (target : ℕ) → sent_from target (end_of (boxes target)) (after target) ≡ map (sent_to target) (posts_to target sent)) where
@@ -48,7 +40,7 @@ module _ (count : ℕ) (boxes after : ℕ → Outbox) (sent : List Sent) (inside
   found_is = ap (λ (f : ℕ → List Sent). flat_map f (range_with_len 0 count)) (λ i target. (beyond target) i)
 
   same_posts : (target : ℕ) → posts_to target found ≡ posts_to target sent
-  same_posts target = ap (posts_to target) found_is ∙ elim (either target count) [
+  same_posts target = ap (posts_to target) found_is ∙ elim (below_or target count) [
     | inl low ↦ posts_among (λ other. posts_to other sent) target 0 count (omega arith) (omega (arith, low))
     | inr past ↦ posts_beyond (λ other. posts_to other sent) target 0 count (omega (arith, past)) ∙ sym (posts_none count target sent past inside)
   ]

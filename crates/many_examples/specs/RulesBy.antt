@@ -57,6 +57,10 @@ later_rules flows = record (rules_with flows) { incarnations = λ partition. if 
 abbrev pub silent_rules : Flows → Rules
 silent_rules flows = record (rules_with flows) { requests = [] }
 
+-- one whose partitions' states are of a later incarnation than its first entries may be
+abbrev pub aged_rules : Flows → Rules
+aged_rules flows = record (rules_with flows) { begin = λ partition. record (fresh partition) { incarnation = 1 } }
+
 -- one that serves nobody
 abbrev pub free_rules : Flows → Rules
 free_rules flows = record (silent_rules flows) { serves = false }

@@ -7,15 +7,15 @@ ghost use Rattle.dura_value.specs.Items.{trim};
 ghost use Rattle.flow_syntax.specs.Syntax.{Flows};
 ghost use Rattle.gated_store.specs.Follows.{Follows as GateFollows};
 ghost use Rattle.many_examples.specs.Pairs.{taking, coming_in, commit_at, first_entry};
-ghost use Rattle.many_examples.specs.RulesBy.{rules_with, later_rules, silent_rules, recovering, taken_once};
+ghost use Rattle.many_examples.specs.RulesBy.{rules_with, later_rules, aged_rules, silent_rules, recovering, taken_once};
 ghost use Rattle.many_logs.specs.Labels.{AreNumbered};
 ghost use Rattle.many_logs.specs.Placing.{Commit};
 ghost use Rattle.many_rules.specs.Ledgers.{ledgers};
 ghost use Rattle.many_rules.specs.Makes.{Makes};
 
 /// By its own state a partition may take in a message, be it sent or not, and may take a request, in the call's incarnation or a later one;
-/// not where its log doesn't go on, in an earlier incarnation than the call's or than that of an entry before, what nobody asks, nor the
-/// same message again. A partition that isn't there may nothing.
+/// not where its log doesn't go on, in an earlier incarnation than the call's or than that of its state, what nobody asks, nor the same
+/// message again. A partition that isn't there may nothing.
 pub fn frames_made()
     ensures coming { (flows : Flows) → Makes (rules_with flows) 0 [] [] 0
         ((coming_in 0).entry ∷ []) }
@@ -26,8 +26,8 @@ pub fn frames_made()
         ((coming_in 1).entry ∷ []) → ⊥ }
     ensures incarnation { (flows : Flows) → Makes (later_rules flows) 0 [] [] 0
         ((coming_in 0).entry ∷ []) → ⊥ }
-    ensures falling { (flows : Flows) → Makes (rules_with flows) 0 [] [] 0
-        (record (coming_in 0).entry { incarnation = 1 } ∷ (coming_in 1).entry ∷ []) → ⊥ }
+    ensures earlier { (flows : Flows) → Makes (aged_rules flows) 0 [] [] 0
+        ((coming_in 0).entry ∷ []) → ⊥ }
     ensures asked { (flows : Flows) → Makes (silent_rules flows) 0 [] [] 1 (taking.entry ∷ [])
         → ⊥ }
     ensures accepted { (flows : Flows) → Makes (rules_with flows) 0 ((coming_in 0).entry ∷ []) []

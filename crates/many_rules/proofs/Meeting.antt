@@ -82,7 +82,7 @@ own_among (one ∷ run) e (suc k) is =
     by true same (i, entry, at, is_e) = (suc i, entry, at, is_e)
     by false same rest = rest
 
-below_or : (a b : ℕ) → (a < b) ⊎ (b ≤ a)
+pub below_or : (a b : ℕ) → (a < b) ⊎ (b ≤ a)
 below_or a b = by (ltb a b) refl
   where
     by : (test : Bool) → ltb a b ≡ test → (a < b) ⊎ (b ≤ a)

@@ -67,13 +67,14 @@ pub record IsHalfSaid (rules : Rules) (settled : List Commit) (told : List Said)
   pub answered : IsAnswered rules settled told one line
   pub front : IsPrefix part line
 
--- An entry of this call: of the incarnation with which it begins or of one that began in it, and of no later stamp than both its log's entries at the beginning and the clock's latest.
+-- An entry of this call: of the incarnation with which it begins or of one that began in it, and of no later stamp than both its log's
+-- entries at the beginning and the clock's latest.
 pub record IsOfCall (rules : Rules) (latest : ℕ) (partition : ℕ) (entry : Entry) : Type 0 where
   pub incarnation : rules.incarnations partition ≤ entry.incarnation
   pub timely : All (IsBy (max (rules.begin partition).stamp latest)) entry.items
 
--- In a call that serves clients activities ran only for tasks whose schedule was settled: what came did so frame by frame, and each outcome in a frame is that of an
--- activity which was pending already in the state of its partition that the frames before it make.
+-- In a call that serves clients activities ran only for tasks whose schedule was settled: what came did so frame by frame, and each
+-- outcome in a frame is that of an activity which was pending already in the state of its partition that the frames before it make.
 pub data AllRan (rules : Rules) : List Commit → Type 0 where
   nothing_ran : AllRan rules []
   frame_more : {settled : List Commit} → AllRan rules settled → (states : ℕ → Partition) → states_after rules.flows rules.count rules.begin settled ≡ Some states → (partition : ℕ) (going : List Entry) → HaveRun rules (states partition) going

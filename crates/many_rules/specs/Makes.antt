@@ -11,8 +11,9 @@ use Rattle.many_rules.specs.Rules.{Rules, IsOurs, HaveRun, pairs_of}
 use Rattle.part_items.specs.Numbered.{IsNumbered}
 
 -- Entries of a partition that may be committed behind these of its own, by its own state, where the clock gave no later stamp than this:
--- they stand behind all that it has and are of no earlier incarnation, each is accepted in the state that those before it make, each outcome is one that its activity may
--- give, and one of an activity that is pending already where all is settled, and they are this call's.
+-- they stand behind all that it has and are of no earlier incarnation, each is accepted in the state that those before it make, each
+-- outcome is one that its activity may give, and, where the call serves clients, one of an activity that is pending already where all is
+-- settled, and they are this call's.
 pub record Makes (rules : Rules) (latest : ℕ) (mine : List Entry) (told : List Said) (partition : ℕ) (going : List Entry) : Type 0 where
   pub below : partition < rules.count
   pub before : Partition

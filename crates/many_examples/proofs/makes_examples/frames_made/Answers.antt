@@ -4,6 +4,9 @@ use Rattle.dura_model.specs.Partition.{Partition}
 use Rattle.dura_value.specs.Items.{took}
 use Rattle.many_examples.specs.Pairs.{request, taking, coming_in}
 use Rattle.many_examples.specs.Placings.{states_of}
+use Rattle.many_examples.specs.RulesBy.{aged_rules}
+use Rattle.many_logs.specs.Labels.{state_next}
+use Rattle.part_items.specs.Numbered.{IsNumbered}
 use Rattle.many_examples.proofs.MakesBy.{makes_coming, makes_later, makes_taking, not_there}
 use Rattle.many_examples.proofs.makes_examples.frames_made.Goals as goal
 
@@ -16,8 +19,12 @@ returns-clause-first c = makes_taking
 pub returns-clause-later : goal.returns-clause-later
 returns-clause-later c = makes_later
 
-pub returns-clause-falling : goal.returns-clause-falling
-returns-clause-falling c = λ flows makes. let falls : 1 ≤ 0 = makes.numbered.2.1 in omega (arith, falls)
+pub returns-clause-earlier : goal.returns-clause-earlier
+returns-clause-earlier c = λ flows makes.
+    let same : (aged_rules flows).begin 0 ≡ makes.before = cc makes.made in
+    let here : IsNumbered (state_next ((aged_rules flows).begin 0)) ((coming_in 0).entry ∷ []) = subst (λ (p : Partition). IsNumbered (state_next p) ((coming_in 0).entry ∷ [])) (sym same) makes.numbered in
+    let low : 1 ≤ 0 = here.1 in
+    omega (arith, low)
 
 pub returns-clause-positions : goal.returns-clause-positions
 returns-clause-positions c = λ flows makes. not_there flows [] makes
