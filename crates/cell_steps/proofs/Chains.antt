@@ -1,11 +1,15 @@
 -- Steps, cut in two and joined.
 use Rattle.std.proofs.Common.{◌≡◌, ◌+◌, ◌<◌, ℕ, zero, suc, List, [], ◌∷◌, ◌++◌, Option, Some, Ok, get_or, refl, sym, ◌∙◌, ap, subst, arith}
 use Rattle.std.specs.Prelude.{◌-◌, length, take, drop, slice_get}
+use Rattle.std.specs.List.{All}
+use Rattle.std.proofs.lemmas.List.{length-map}
+use Rattle.std.proofs.lemmas.List.Elements.{All-nil, All-cons}
 use Rattle.dura_model.specs.Entries.{entry_accepted, or_place, placed, AllGiven, AreGiven}
 use Rattle.dura_model.specs.Partition.{Partition, enter}
 use Rattle.dura_value.specs.Reading.{◌>>=◌}
 use Rattle.flow_syntax.specs.Syntax.{Flows}
-use Rattle.log_items.specs.Plain.{entry_of, items_of}
+use Rattle.log_items.specs.Plain.{entry_of, item_of, items_of}
+use Rattle.part_items.specs.ItemFits.{FitsEntry}
 use Rattle.part_items.specs.Numbered.{Next, IsNumbered, behind}
 use Rattle.part_steps.specs.States.{IsSound, state_of, count_of}
 use Rattle.part_steps.specs.declared.state.PartState.{PartState}
@@ -96,6 +100,20 @@ module _ (flows : Flows) where
     are.0.younger,
     subst (λ (next : Next). IsNumbered next (entries_in steps)) (step_next before s sound are.0) (steps_numbered s.after steps are.0.sound are.1),
   )
+
+  -- each entry can be written
+  step_fits : (before : PartState) (s : Step) → Makes flows before s → FitsEntry (entry_of s.entry)
+  step_fits before s makes =
+      let long = length-map s.entry.items item_of in
+      let low = makes.low in
+      let early = makes.early in
+      let some = makes.some in
+      let few = makes.few in
+      record { position_fits = omega (arith, low); incarnation_fits = omega (arith, early); some = omega (arith, some, long); few = omega (arith, few, long); each = makes.fit }
+
+  pub steps_fit : (before : PartState) (steps : List Step) → AreSteps flows before steps → All FitsEntry (entries_in steps)
+  steps_fit before [] are = All-nil FitsEntry
+  steps_fit before (s ∷ steps) are = All-cons FitsEntry (entry_of s.entry) (entries_in steps) (step_fits before s are.0) (steps_fit s.after steps are.1)
 
   -- the last state stands so many positions later
   pub last_position : (before : PartState) (steps : List Step) → IsSound before → AreSteps flows before steps → (state_of (last_of before steps)).position ≡ (state_of before).position + length steps

@@ -145,7 +145,7 @@ module _ (flows : Flows) (now limit : ℕ) (old : Live) (begun filled : Filling)
 
   pub has_step : (new : Live) (mode : Mode) (packets : List Packet) (round : Round) (entry : OwnEntry) → SendsAtOnce mode (count_of (ahead_of old)) (begun_of old) (state_of filled.state) packets → new.base ≡ old.base → new.incarnation ≡ old.incarnation → new.given ≡ old.given → new.waits ≡ rest → IsIndexed rest → All MayWait (waits_of rest) → new.steps.items ≡ old.steps.items ++ (record { entry = entry; after = filled.state }) ∷ []
       → entry.position ≡ (state_of (ahead_of old)).position → entry.incarnation ≡ old.incarnation → entry.items ≡ filled.items.items → (state_of (ahead_of old)).incarnation ≤ old.incarnation → 0 < length filled.items.items → length filled.items.items ≤ limit → limit ≤ 64
-      → All FitsItem (items_of filled.items.items) → entry.position < 2 ^ 62
+      → All FitsItem (items_of filled.items.items) → (entry.position < 2 ^ 62) × (entry.incarnation < 2 ^ 62)
       → (length filled.items.items < limit → waits_of rest ≡ []) → (length filled.items.items < limit → NoneEnabled flows (count_of begun.state) (state_of filled.state) (stamp_at (state_of filled.state) now))
       → (waits_first round ≡ true → 0 < length (waits_of old.waits) → length (waits_of rest) < length (waits_of old.waits))
       → OwnFirst flows (count_of begun.state) now round (state_of begun.state) (items_of filled.items.items) → HasStep flows mode now limit round old new packets
@@ -160,6 +160,8 @@ module _ (flows : Flows) (now limit : ℕ) (old : Live) (begun filled : Filling)
         makes = record {
           position = position;
           younger = omega (arith, younger, own);
+          low = low.0;
+          early = low.1;
           accepted = ap (λ (p : Partition). all_accepted flows (count_of (ahead_of old)) p (items_of entry.items)) entered ∙ filled_accepted flows (count_of (ahead_of old)) now filled_here;
           given = subst (λ (p : Partition). AreGiven flows (count_of (ahead_of old)) p (items_of entry.items)) (sym entered) (filled_given flows (count_of (ahead_of old)) now filled_here);
           some = omega (arith, some, lengths);
@@ -169,7 +171,6 @@ module _ (flows : Flows) (now limit : ℕ) (old : Live) (begun filled : Filling)
           partitions = on.on.count ∙ many;
         };
         incarnation = own;
-        low = low;
         few = omega (arith, few, lengths);
         looked = on.looked;
         leaves = leaves new base incarnation given waits indexed may;

@@ -52,7 +52,6 @@ pub record HasStep (flows : Flows) (mode : Mode) (now limit : ℕ) (round : Roun
   pub steps : new.steps.items ≡ old.steps.items ++ step ∷ []
   pub makes : Makes flows (ahead_of old) step
   pub incarnation : step.entry.incarnation ≡ old.incarnation
-  pub low : step.entry.position < 2 ^ 62
   pub few : length step.entry.items ≤ limit
   pub looked : List Waiting
   pub leaves : LeavesWaits old new looked

@@ -1,5 +1,5 @@
 -- Entries that aren't settled, each with the state after it.
-use Rattle.std.specs.Prelude.{◌≡◌, ◌<◌, ◌≤◌, List, [], ◌∷◌, length, map, Some}
+use Rattle.std.specs.Prelude.{◌≡◌, ◌<◌, ◌≤◌, ◌^◌, List, [], ◌∷◌, length, map, Some}
 use Rattle.std.specs.List.{All}
 use Rattle.dura_model.specs.Entries.{entry_accepted, AreGiven}
 use Rattle.dura_model.specs.Partition.{enter}
@@ -11,11 +11,13 @@ use Rattle.part_steps.specs.States.{IsSound, state_of, count_of}
 use Rattle.part_steps.specs.declared.state.PartState.{PartState}
 use Rattle.cell_steps.specs.declared.step.Step.{Step}
 
--- An entry stands where a state goes on. It has 1 to 64 items that can be written, it is accepted there, each outcome in it is one that
--- its activity may give, and it makes the state after it.
+-- An entry stands where a state goes on. Its numbers are below 2^62, it has 1 to 64 items that can be written, it is accepted there, each
+-- outcome in it is one that its activity may give, and it makes the state after it.
 pub record Makes (flows : Flows) (before : PartState) (s : Step) : Type 0 where
   pub position : s.entry.position ≡ (state_of before).position
   pub younger : (state_of before).incarnation ≤ s.entry.incarnation
+  pub low : s.entry.position < 2 ^ 62
+  pub early : s.entry.incarnation < 2 ^ 62
   pub accepted : entry_accepted flows (count_of before) (state_of before) (entry_of s.entry) ≡ Some (state_of s.after)
   pub given : AreGiven flows (count_of before) (enter s.entry.incarnation (state_of before)) (items_of s.entry.items)
   pub some : 0 < length s.entry.items

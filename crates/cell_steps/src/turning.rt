@@ -41,7 +41,7 @@ pub enum Turned {
 fn used_up(position: u64, incarnation: u64) -> Option<u64>
     ensures one { IfSome result (λ number. (number ≡ position) ⊎ (number ≡ incarnation)) }
     ensures past { IfSome result (λ number. 2 ^ 62 ≤ number) }
-    ensures none { IfNone result (position < 2 ^ 62) }
+    ensures none { IfNone result ((position < 2 ^ 62) × (incarnation < 2 ^ 62)) }
 {
     if position >= NUMBER_LIMIT {
         return Some(position);

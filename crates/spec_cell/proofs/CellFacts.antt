@@ -37,7 +37,7 @@ use Rattle.spec_cell.specs.declared.cell.CellTurn.{CellTurn}
 use Rattle.cell_steps.specs.declared.mode.Mode.{Mode}
 use Rattle.cell_steps.specs.declared.live.Live.{Live}
 use Rattle.cell_steps.specs.declared.step.Step.{Step}
-use Rattle.cell_steps.proofs.Chains.{steps_both, steps_front, steps_back, last_both, last_many, last_sound, steps_placed, steps_given, steps_numbered, step_next, last_position}
+use Rattle.cell_steps.proofs.Chains.{steps_both, steps_front, steps_back, last_both, last_many, last_sound, steps_placed, steps_given, steps_numbered, steps_fit, step_next, last_position}
 use Rattle.cell_steps.proofs.Filled.{filled_by}
 use Rattle.cell_steps.specs.declared.round.Round.{Round}
 
@@ -123,7 +123,7 @@ module _ (flows : Flows) (count : ℕ) (begin : Partition) (number : ℕ) (slot 
       let incarnation = ap (λ (s : PartState). (state_of s).incarnation) last_is ∙ ap (λ (n : Next). n.incarnation) next in
       let own = has.incarnation in
       let same = has.leaves.incarnation in
-      let low = has.low in
+      let low = has.makes.low in
       let ahead_by = last_by (max begin.stamp now) live.base live.steps.items stands.base_by stands.by in
       let by = filled_by flows (count_of (ahead_of live)) now has.filled in
       let within = stands.within in
@@ -234,6 +234,8 @@ facts_in flows count begin number slot now out owner round (Some live) stands th
   given = steps_given flows count live.base live.steps.items stands.partitions stands.steps;
   numbered = steps_numbered flows live.base live.steps.items stands.sound stands.steps;
   younger = stands.younger;
+  fit = steps_fit flows live.base live.steps.items stands.steps;
+  room = stands.room;
   by = last_by (max begin.stamp now) live.base live.steps.items stands.base_by stands.by;
   within = let within = stands.within in let long = length-map live.steps.items (λ (s : Step). entry_of s.entry) in omega (arith, within, long);
   waits = stands.waits;

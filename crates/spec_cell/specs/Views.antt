@@ -10,6 +10,7 @@ use Rattle.dura_model.specs.Partition.{Partition}
 use Rattle.dura_value.specs.Ids.{Id}
 use Rattle.dura_value.specs.Items.{Entry}
 use Rattle.flow_syntax.specs.Syntax.{Flows}
+use Rattle.part_items.specs.ItemFits.{FitsEntry}
 use Rattle.part_items.specs.Numbered.{Next, IsNumbered}
 use Rattle.part_rows.specs.Timers.{AreDue}
 use Rattle.part_steps.specs.States.{IsSound, state_of, count_of}
@@ -114,6 +115,9 @@ pub record HasFacts (flows : Flows) (count : ℕ) (begin : Partition) (c : CellV
   pub numbered : IsNumbered (next_at base) c.entries
   -- and are of no later incarnation than the cell
   pub younger : ahead.incarnation ≤ c.incarnation
+  -- each of them can be written, and there is room behind them for the number of the next
+  pub fit : All FitsEntry c.entries
+  pub room : ahead.position ≤ 2 ^ 62
   -- no stamp is later than both the recovered one and the greatest moment that was handed in
   pub by : ahead.stamp ≤ max begin.stamp c.now
   -- those that are out are among them

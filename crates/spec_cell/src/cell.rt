@@ -5,7 +5,7 @@ ghost use Rattle.cell_steps.specs.Steps.{entries_in};
 ghost use Rattle.spec_cell.specs.Turns.{IsHeld, CellTurns};
 
 use crate::mine::Mine;
-use cell_steps::{Live, Mode, Round, Turned, turn};
+use cell_steps::{Live, Mode, Round, Step, Turned, turn};
 use log_items::Packet;
 use part_rows::Reactions;
 use std::alloc::{AllocError, Global};
@@ -36,6 +36,9 @@ pub struct Cell<S: Mine> {
     pub(crate) owner: u32,
     /// Which side of a turn is first next.
     pub(crate) round: Round,
+    /// Entries that were given up and aren't let go of yet. Each call that makes or settles entries lets go of one, so that giving entries
+    /// up costs the same however much the states have that they made, and no more of them stand here than were ahead at once.
+    pub(crate) cut_off: Vec<Step>,
     /// The seat, or what stands for it while it is out.
     pub(crate) seat: S,
 }
@@ -74,6 +77,13 @@ fn is_held(mode: Mode, live: &Live) -> bool
     }
 }
 
+/// One of the entries that were given up is let go of, if there is one.
+pub(crate) fn let_one_go(cut_off: &mut Vec<Step>) {
+    if let Some(step) = cut_off.pop() {
+        step.let_go();
+    }
+}
+
 /// A state comes to its place.
 pub(crate) fn put(place: &mut Option<Live>, live: Live)
     ensures { place.new ≡ Some live }
@@ -98,6 +108,7 @@ impl<S: Mine> Cell<S> {
             CellTurns S.flows S.count (S.begin self.old.number) mode limit self.old turned self.new) }
         ensures going { self.new.going ≡ is_ok result }
     {
+        let_one_go(&mut self.cut_off);
         let Some(live) = self.live.take() else {
             return Err(AllocError);
         };

@@ -15,7 +15,7 @@ ghost use Rattle.cell_steps.specs.Steps.{last_of, entries_in};
 ghost use Rattle.spec_cell.specs.Tasks.{without_settled};
 ghost use Rattle.spec_cell.specs.Views.{HasSettled};
 
-use crate::cell::{Cell, put};
+use crate::cell::{Cell, let_one_go, put};
 use crate::mine::Mine;
 use crate::tasks::forget_settled;
 use cell_steps::{Live, Mode, NUMBER_LIMIT, Step, first_lost, last_made, packets_later};
@@ -129,8 +129,22 @@ fn settle_and_send(
     Ok((next, packets))
 }
 
+/// All steps but the first so many come behind those that were cut off before.
+fn cut(steps: &mut Vec<Step>, kept: usize, cut_off: &mut Vec<Step>) -> Result<(), AllocError>
+    requires { kept ≤ length steps.old.items }
+    ensures { OnOk result (steps.new.items ≡ take kept steps.old.items) }
+{
+    let mut behind = steps.split_off(kept)?;
+    cut_off.append(&mut behind)
+}
+
 /// All steps but the first so many are given up, with the packets and outcomes that wait, and a later incarnation begins.
-fn give_up(alloc: Global, live: Live, kept: usize) -> Result<Live, AllocError>
+fn give_up(
+    alloc: Global,
+    live: Live,
+    kept: usize,
+    cut_off: &mut Vec<Step>,
+) -> Result<Live, AllocError>
     requires few { kept ≤ length live.steps.items }
     requires room { live.incarnation < 2 ^ 62 }
     ensures base { IfOk result (λ new. new.base ≡ live.base) }
@@ -144,7 +158,10 @@ fn give_up(alloc: Global, live: Live, kept: usize) -> Result<Live, AllocError>
         → IfOk result (λ new. All MayWait (waits_of new.waits)) }
 {
     let mut live = live;
-    live.steps.truncate(kept);
+    if let Err(error) = cut(&mut live.steps, kept, cut_off) {
+        live.let_go();
+        return Err(error);
+    }
     live.incarnation += 1;
     live.given.clear(alloc);
     match live.waits.keep_lasting(alloc) {
@@ -211,6 +228,7 @@ impl<S: Mine> Cell<S> {
         ensures number { S.number result.0 ≡ self.old.number }
         ensures slot { S.slot result.0 ≡ self.old.slot }
     {
+        let_one_go(&mut self.cut_off);
         let live = self.live.take();
         let stub = mem::replace(&mut self.seat, seat);
         self.out = 0;
@@ -249,7 +267,7 @@ impl<S: Mine> Cell<S> {
             return Ok(CellRewind::Spent(incarnation));
         }
         let floor = live.steps[kept].entry.position;
-        let next = give_up(alloc, live, kept)?;
+        let next = give_up(alloc, live, kept, &mut self.cut_off)?;
         put(&mut self.live, next);
         Ok(CellRewind::Rewound(floor, dep))
     }
@@ -268,7 +286,7 @@ impl<S: Mine> Cell<S> {
             return Ok(CellReset::Spent(incarnation));
         }
         let kept = count_before(&live, floor);
-        let next = give_up(alloc, live, kept)?;
+        let next = give_up(alloc, live, kept, &mut self.cut_off)?;
         self.out = 0;
         put(&mut self.live, next);
         Ok(CellReset::Done)

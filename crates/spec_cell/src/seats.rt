@@ -57,6 +57,7 @@ impl<S: Mine> Cell<S> {
             out: 0,
             owner,
             round: Round::Waits,
+            cut_off: Vec::new(alloc),
             seat,
         }
     }
@@ -70,6 +71,23 @@ impl<S: Mine> Cell<S> {
         self.live.is_some()
     }
 
+    /// How many of the first entries are in the frame that is out.
+    pub fn out(&self) -> usize
+        ensures { result ≡ self.entry.now.out }
+    {
+        self.out
+    }
+
+    /// The incarnation that makes entries, or 0 where memory ran out.
+    pub fn incarnation(&self) -> u64
+        ensures { result ≡ self.entry.now.incarnation }
+    {
+        match &self.live {
+            Some(live) => live.incarnation,
+            None => 0,
+        }
+    }
+
     /// Lets go of its state, and gives its seat back.
     pub fn end(self) -> S
         ensures number { S.number result ≡ self.number }
@@ -81,9 +99,11 @@ impl<S: Mine> Cell<S> {
             out: _,
             owner: _,
             round: _,
+            cut_off,
             seat,
         } = self;
         drop(live);
+        drop(cut_off);
         seat
     }
 
