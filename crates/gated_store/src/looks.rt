@@ -1,9 +1,12 @@
 //! What can be looked at.
 
 ghost use Rattle.std.specs.Prelude.{◌≡◌};
+ghost use Rattle.hub_store.specs.Changes.{trail_in};
+ghost use Rattle.hub_store.specs.Plain.{trail_of};
 
 use crate::local::Local;
 use crate::store::GatedStore;
+use hub_store::Settled;
 use site_model::Site;
 
 impl<V: Site, L: Local> GatedStore<V, L> {
@@ -12,6 +15,13 @@ impl<V: Site, L: Local> GatedStore<V, L> {
         ensures { result ≡ self.now.turns }
     {
         self.turns
+    }
+
+    /// What was settled, where it lies.
+    pub fn settled(&self) -> &[Settled]
+        ensures { trail_of result.now ≡ trail_in self.now.logs }
+    {
+        self.logs.settled_from(0)
     }
 
     /// Whether a device call failed.
