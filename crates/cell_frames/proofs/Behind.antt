@@ -21,9 +21,9 @@ use Rattle.log_items.specs.Entries.{items_in}
 use Rattle.log_items.specs.Streams.{Outbox, Sent}
 use Rattle.many_logs.proofs.Own.{own_chain}
 use Rattle.many_logs.specs.Labels.{state_next}
-use Rattle.many_logs.specs.Placing.{of_partition}
+use Rattle.many_logs.specs.Placing.{of_partition, states_after}
 use Rattle.many_rules.proofs.GateMoments.{goes_behind}
-use Rattle.many_rules.specs.Leaves.{Begins}
+use Rattle.many_rules.specs.Leaves.{header_at}
 use Rattle.many_rules.specs.Local.{in_turn}
 use Rattle.many_rules.specs.Makes.{Makes}
 use Rattle.many_rules.specs.Rules.{Rules}
@@ -40,7 +40,9 @@ use Rattle.spec_tracker.specs.declared.marks.Marks.{Marks}
 
 -- ---- where it goes
 
-module _ (o : Origin) (rules : Rules) (digest : ℕ) (begins : Begins o rules digest) (latest : ℕ) (mine : List Entry) (told : List Said) (partition : ℕ) (going : List Entry) (makes : Makes rules latest mine told partition going) where
+module _ (o : Origin) (rules : Rules) (digest : ℕ) (headers : (partition : ℕ) → partition < rules.count → (o.logs partition).header ≡ header_at rules.count digest partition)
+    (theirs : (partition : ℕ) → partition < rules.count → of_partition partition rules.recovered ≡ (o.logs partition).entries) (begun_by : states_after rules.flows rules.count fresh rules.recovered ≡ Some rules.begin)
+    (latest : ℕ) (mine : List Entry) (told : List Said) (partition : ℕ) (going : List Entry) (makes : Makes rules latest mine told partition going) where
   abbrev old : List Entry
   old = of_partition partition rules.recovered
 
@@ -50,15 +52,15 @@ module _ (o : Origin) (rules : Rules) (digest : ℕ) (begins : Begins o rules di
   stands : IsNumbered first (old ++ mine) → state_next makes.before ≡ behind_all first (old ++ mine)
   stands numbered =
       let halves = (numbered_both first old mine).0 numbered in
-      let begun : state_next (rules.begin partition) ≡ behind_all first old = goes_behind rules.flows rules.count old (fresh partition) (rules.begin partition) (own_chain rules.flows rules.count rules.recovered fresh rules.begin partition begins.made) halves.0 in
+      let begun : state_next (rules.begin partition) ≡ behind_all first old = goes_behind rules.flows rules.count old (fresh partition) (rules.begin partition) (own_chain rules.flows rules.count rules.recovered fresh rules.begin partition begun_by) halves.0 in
       goes_behind rules.flows rules.count mine (rules.begin partition) makes.before makes.made (subst (λ (n : Next). IsNumbered n mine) (sym begun) halves.1)
       ∙ ap (λ (n : Next). behind_all n mine) begun
       ∙ sym (behind_both first old mine)
 
   there : goes_on (o.logs partition) mine ≡ behind_all first (old ++ mine)
   there =
-      ap (λ (h : Header). behind_all (first_of h) ((o.logs partition).entries ++ mine)) (begins.headers partition makes.below)
-      ∙ ap (λ (l : List Entry). behind_all first (l ++ mine)) (sym (begins.theirs partition makes.below))
+      ap (λ (h : Header). behind_all (first_of h) ((o.logs partition).entries ++ mine)) (headers partition makes.below)
+      ∙ ap (λ (l : List Entry). behind_all first (l ++ mine)) (sym (theirs partition makes.below))
 
   pub goes_there : IsNumbered first (old ++ mine) → FitsFrame going → GoesBehind (goes_on (o.logs partition) mine) going
   goes_there numbered fits =

@@ -35,7 +35,7 @@ module _ (P : Waiting → Type 0) where
   before_all lost w (fired id task stamp) rest one all = All-cons P w rest one all
   before_all lost w (trim reader number) rest one all = All-cons P w rest one all
 
-  all_unlost : (lost : Identity → Bool) (waits : List Waiting) → All P waits → All P (without_lost lost waits)
+  pub all_unlost : (lost : Identity → Bool) (waits : List Waiting) → All P waits → All P (without_lost lost waits)
   all_unlost lost [] all = All-nil P
   all_unlost lost (w ∷ waits) all = before_all lost w w.item (without_lost lost waits) (All-head P w waits all) (all_unlost lost waits (All-tail P w waits all))
 

@@ -1,4 +1,7 @@
 pub mod Behind
+pub mod ByItself
+pub mod Calls
+pub mod Cells
 pub mod Coming
 pub mod Frames
 pub mod GivenUp
@@ -6,4 +9,7 @@ pub mod Holding
 pub mod Joined
 pub mod Ledgers
 pub mod LetGo
+pub mod Reading
+pub mod Stays
 pub mod Unlost
+pub mod Written

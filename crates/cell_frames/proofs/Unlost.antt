@@ -45,7 +45,7 @@ get_pushed [] y (suc k) x is = absurd (cc is)
 get_pushed (z ∷ zs) y zero x is = inl is
 get_pushed (z ∷ zs) y (suc k) x is = get_pushed zs y k x is
 
-numbered_index : (next : Next) (entries : List Entry) (i : ℕ) (d : Entry) → IsNumbered next entries → i < length entries → (slice_index_or entries i d).position ≡ next.position + i
+pub numbered_index : (next : Next) (entries : List Entry) (i : ℕ) (d : Entry) → IsNumbered next entries → i < length entries → (slice_index_or entries i d).position ≡ next.position + i
 numbered_index next [] i d numbered inside = absurd (omega (arith, inside))
 numbered_index next (entry ∷ entries) zero d numbered inside = let here : entry.position ≡ next.position + 0 = omega (arith, numbered.0) in here
 numbered_index next (entry ∷ entries) (suc i) d numbered inside = let rest = numbered_index (behind entry) entries i d numbered.2 (omega (arith, inside)) in omega (arith, rest, numbered.0)

@@ -1,3 +1,10 @@
-pub mod Ours
+pub mod Begun
+pub mod Joined
+pub mod Judges
 pub mod LetGo
+pub mod Ours
+pub mod Owns
+pub mod Settles
+pub mod TrimsRead
 pub mod Unlost
+pub mod Writes
