@@ -30,7 +30,8 @@ pub fn what_turns_make_stays_joined()
         (old new : CellView) (position : ℕ) (packets : List Packet)
         → HasFacts rules.flows rules.count (rules.begin old.number) old
         → Joined rules s partition old
-        → MakesEntry rules.flows rules.count (rules.begin old.number) mode limit old new position packets
+        → MakesEntry rules.flows rules.count (rules.begin old.number) mode limit old new position
+        packets
         → Joined rules s partition new }
     ensures idle { (rules : Rules) (s : StoreView) (partition : ℕ) (old new : CellView)
         → Joined rules s partition old

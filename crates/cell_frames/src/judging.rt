@@ -27,14 +27,17 @@ pub fn judge_cell<V: Site, M: Picked>(
     marks: &Marks,
 ) -> Result<CellRewind, AllocError>
     requires begun { HasBegun M.origin M.rules }
-    requires kept { IsKept M.origin.count (ledgers M.rules) (readers M.rules) (Makes M.rules) store.old }
+    requires kept { IsKept M.origin.count (ledgers M.rules) (readers M.rules) (Makes M.rules)
+        store.old }
     requires place { part < M.rules.count }
     requires going { cell.old.going ≡ true }
     requires joined { Joined M.rules (view_of store.old) part cell.old }
-    ensures kept { IsKept M.origin.count (ledgers M.rules) (readers M.rules) (Makes M.rules) store.new }
+    ensures kept { IsKept M.origin.count (ledgers M.rules) (readers M.rules) (Makes M.rules)
+        store.new }
     ensures joined { OnOk result (Joined M.rules (view_of store.new) part cell.new) }
     ensures others { KeepsOthers M.rules part (view_of store.old) (view_of store.new) }
-    ensures judges { IfOk result (λ judged. Judges M.rules part marks.now (view_of store.old) (view_of store.new) cell.old judged cell.new) }
+    ensures judges { IfOk result (λ judged. Judges M.rules part marks.now (view_of store.old)
+        (view_of store.new) cell.old judged cell.new) }
     ensures going { OnOk result (cell.new.going ≡ true) }
     ensures logs { store.new.logs ≡ store.old.logs }
 {

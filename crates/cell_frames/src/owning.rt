@@ -45,15 +45,18 @@ pub fn reopen_cell<V: Site, M: Picked>(
     mode: Mode,
 ) -> Result<Reopened, SettleRefusal>
     requires begun { HasBegun M.origin M.rules }
-    requires kept { IsKept M.origin.count (ledgers M.rules) (readers M.rules) (Makes M.rules) store.old }
+    requires kept { IsKept M.origin.count (ledgers M.rules) (readers M.rules) (Makes M.rules)
+        store.old }
     requires whole { store.old.logs.cut ≡ false }
     requires place { part < M.rules.count }
     requires going { cell.old.going ≡ true }
     requires joined { Joined M.rules (view_of store.old) part cell.old }
-    ensures kept { IsKept M.origin.count (ledgers M.rules) (readers M.rules) (Makes M.rules) store.new }
+    ensures kept { IsKept M.origin.count (ledgers M.rules) (readers M.rules) (Makes M.rules)
+        store.new }
     ensures joined { cell.new.going ≡ true → Joined M.rules (view_of store.new) part cell.new }
     ensures others { KeepsOthers M.rules part (view_of store.old) (view_of store.new) }
-    ensures opens { Opens M.rules part mode (view_of store.old) (view_of store.new) cell.old result cell.new }
+    ensures opens { Opens M.rules part mode (view_of store.old) (view_of store.new) cell.old result
+        cell.new }
     ensures going { cell.new.going ≡ false → result ≡ Err SettleRefusal.Memory }
     ensures tried { (packets : _) → result ≡ Ok (Reopened.Settled packets)
         → is_tried (stage_at store.old.logs part) ≡ true }
@@ -101,12 +104,14 @@ pub fn reset_cell<V: Site, M: Picked>(
     part: u32,
 ) -> Result<CellReset, AllocError>
     requires begun { HasBegun M.origin M.rules }
-    requires kept { IsKept M.origin.count (ledgers M.rules) (readers M.rules) (Makes M.rules) store.old }
+    requires kept { IsKept M.origin.count (ledgers M.rules) (readers M.rules) (Makes M.rules)
+        store.old }
     requires place { part < M.rules.count }
     requires going { cell.old.going ≡ true }
     requires joined { Joined M.rules (view_of store.old) part cell.old }
     requires rests { cell.old.out ≡ 0 }
-    ensures kept { IsKept M.origin.count (ledgers M.rules) (readers M.rules) (Makes M.rules) store.new }
+    ensures kept { IsKept M.origin.count (ledgers M.rules) (readers M.rules) (Makes M.rules)
+        store.new }
     ensures joined { OnOk result (Joined M.rules (view_of store.new) part cell.new) }
     ensures others { KeepsOthers M.rules part (view_of store.old) (view_of store.new) }
     ensures gives_up { IfOk result (λ reset. GivesUp part

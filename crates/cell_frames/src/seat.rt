@@ -12,8 +12,8 @@ use std::marker::PhantomData;
 
 /// A partition's place in a store by the rules of a call: which partition it is, and what it has settled.
 pub struct Seat<M: Picked> {
-    pub(crate) number: u32,
-    pub(crate) mark: SettledMark,
+    number: u32,
+    mark: SettledMark,
     of: PhantomData<M>,
 }
 
@@ -41,8 +41,8 @@ impl<M: Picked> Mine for Seat<M> {
 impl<M: Picked> Seat<M> {
     /// The seat of a partition that has settled what this trail has of it. It holds no memory.
     pub fn of(part: u32, trail: &[Settled]) -> Seat<M>
-        ensures number { result.number ≡ part }
-        ensures mine { result.mark.mine ≡ of_part part (trail_of trail.now) }
+        ensures number { ⟦<Seat<M> as Mine>⟧.number result ≡ part }
+        ensures mine { (⟦<Seat<M> as Mine>⟧.slot result).mine ≡ of_part part (trail_of trail.now) }
     {
         Seat {
             number: part,

@@ -43,15 +43,18 @@ pub fn settle_frame<V: Site, M: Picked>(
     mode: Mode,
 ) -> Result<Vec<Packet>, SettleRefusal>
     requires begun { HasBegun M.origin M.rules }
-    requires kept { IsKept M.origin.count (ledgers M.rules) (readers M.rules) (Makes M.rules) store.old }
+    requires kept { IsKept M.origin.count (ledgers M.rules) (readers M.rules) (Makes M.rules)
+        store.old }
     requires still { store.old.logs.halted ≡ false }
     requires place { part < M.rules.count }
     requires going { cell.old.going ≡ true }
     requires joined { Joined M.rules (view_of store.old) part cell.old }
-    ensures kept { IsKept M.origin.count (ledgers M.rules) (readers M.rules) (Makes M.rules) store.new }
+    ensures kept { IsKept M.origin.count (ledgers M.rules) (readers M.rules) (Makes M.rules)
+        store.new }
     ensures joined { cell.new.going ≡ true → Joined M.rules (view_of store.new) part cell.new }
     ensures others { KeepsOthers M.rules part (view_of store.old) (view_of store.new) }
-    ensures settles { SettlesFrame M.rules part mode (view_of store.old) (view_of store.new) cell.old cell.new result }
+    ensures settles { SettlesFrame M.rules part mode (view_of store.old) (view_of store.new)
+        cell.old cell.new result }
     ensures going { cell.new.going ≡ false → result ≡ Err SettleRefusal.Memory }
     ensures no_frame { result ≡ Err SettleRefusal.NoFrame
         ↔ is_open (stage_at store.old.logs part) ≡ false }

@@ -30,15 +30,18 @@ pub fn write_frame<V: Site, M: Picked>(
     marks: &Marks,
 ) -> Result<bool, BodyRefusal>
     requires begun { HasBegun M.origin M.rules }
-    requires kept { IsKept M.origin.count (ledgers M.rules) (readers M.rules) (Makes M.rules) store.old }
+    requires kept { IsKept M.origin.count (ledgers M.rules) (readers M.rules) (Makes M.rules)
+        store.old }
     requires still { store.old.logs.halted ≡ false }
     requires place { part < M.rules.count }
     requires going { cell.old.going ≡ true }
     requires joined { Joined M.rules (view_of store.old) part cell.old }
-    ensures kept { IsKept M.origin.count (ledgers M.rules) (readers M.rules) (Makes M.rules) store.new }
+    ensures kept { IsKept M.origin.count (ledgers M.rules) (readers M.rules) (Makes M.rules)
+        store.new }
     ensures joined { Joined M.rules (view_of store.new) part cell.new }
     ensures others { KeepsOthers M.rules part (view_of store.old) (view_of store.new) }
-    ensures writes { Writes M.rules part marks.now (view_of store.old) (view_of store.new) cell.old cell.new result }
+    ensures writes { Writes M.rules part marks.now (view_of store.old) (view_of store.new) cell.old
+        cell.new result }
     ensures full { (at length : ℕ) → result ≡ Err (BodyRefusal.Full at length)
         → IsFull M.rules part marks.now cell.old store.old.logs.segment
         (way_of store.old.logs.ways.items part) length }
